@@ -162,11 +162,11 @@ class Place:
         self.folder = Path(folder)
         self.counts = {'databases': 0, 'rows': 0, 'faults': 0}
 
-    def run(self, *words, **how):
-        """The status of the words, and what they print. Nothing goes to standard error."""
+    def run(self, *words, errors='', **how):
+        """The status of the words, and what they print; on standard error this."""
         how = {'stdin': subprocess.DEVNULL, 'timeout': 300, 'cwd': self.folder, **how}
         ran = subprocess.run(called(*words), stdout=subprocess.PIPE, stderr=subprocess.PIPE, **how)
-        ensure(not ran.stderr, f'{words} writes to standard error: {ran.stderr[:500]!r}')
+        ensure(ran.stderr.decode('utf-8') == errors, f'{words} writes to standard error: {ran.stderr[:500]!r}')
         return ran.returncode, ran.stdout.decode('utf-8')
 
     def done(self, *words, **how):
@@ -325,7 +325,8 @@ def volume_rows(place, image, has_digests):
     status, text = place.run('volumes', image)
     rows = []
     for line in text.splitlines() if status == 0 else []:
-        number, how, first, length, name = line.split('\t')[:5]
+        number, how, first, length, name, *told_sum = line.split('\t')
+        how += ', sum wrong' if told_sum == ['sum wrong'] else ''
         status, told = place.run('ls', image, '--volume', number)
         if status == 0:
             facts = facts_of(place, image, number)
@@ -509,7 +510,7 @@ def rows_beside_words(place):
     names = [*sorted(path.name for path in VOLUMES.glob('*.img')), 'named.img', *wrapped_volumes(place)]
     for database, words in (('c.db', []), ('n.db', ['--no-digest'])):
         rows = [image_rows(place, name, not words) for name in names]
-        place.wants(0, ''.join(map(line_of, rows)), 'collect', database, *names, *words)
+        place.wants(0, ''.join(map(line_of, rows)), 'collect', database, *names, *words, errors='wrong-sum.img: the sum of the disk copy is wrong\n')
         holds(place, rows, database)
         ensure(schema_of(place.folder / database) == TABLES, 'the text of the tables')
     place.wants(0, ''.join(f'same\t{name}\n' for name in sorted(names)), 'collect', 'c.db', '--compare')
@@ -909,6 +910,31 @@ def full_devices(place, left_out):
         left_out.append('a full device')
 
 
+def few_files(place):
+    """Few files that may be open: the database is made and closed, or nothing is left of it; one that is there stays as it is."""
+    content = small_volume(place)
+    place.done('collect', 'there.db', 'p6.img')
+    kept, rows = (place.folder / 'there.db').read_bytes(), image_rows(place, 'p6.img')
+    place.file('more.img', content)
+    made = set()
+    for most in range(3, 14):
+        how = {'preexec_fn': lambda: resource.setrlimit(resource.RLIMIT_NOFILE, (most, most))}
+        status, text = place.run('collect', 'new.db', 'p6.img', **how)
+        names = sorted(it for it in place.names() if it.startswith('new.db'))
+        if text.startswith('cannot open'):
+            ensure((status, text, names) == (4, 'cannot open new.db\n', []), f'{most} open files: {status}, {text!r}, {names}')
+        else:
+            ensure((status, text) in ((0, line_of(rows)), (4, 'cannot read p6.img\n')) and names == ['new.db'], f'{most} open files: {status}, {text!r}, {names}')
+            holds(place, [rows] if status == 0 else [], 'new.db')
+            made.add(most)
+            (place.folder / 'new.db').unlink()
+        status, text = place.run('collect', 'there.db', 'none.img', **how)
+        ensure(status == 4 and text in ('cannot open there.db\n', 'cannot read none.img\n'), f'{most} open files: {status}, {text!r}')
+        ensure(sorted(it for it in place.names() if it.startswith('there.db')) == ['there.db'], f'{most} open files leave {place.names()}')
+        ensure(text != 'cannot open there.db\n' or (place.folder / 'there.db').read_bytes() == kept, f'{most} open files change a database')
+    ensure(3 not in made and 13 in made, f'databases with these numbers of open files: {sorted(made)}')
+
+
 def unread_images(place):
     """Images that can't be read: their rows stay, and the next image comes."""
     content = small_volume(place)
@@ -949,6 +975,14 @@ def broken_reads(place, library):
         place.wants(4, f'cannot read {name}\n' + line_of(rows[1]), 'collect', 'c.db', name, 'p6.img', **how)
         place.wants(3, f'missing\t{name}\nsame\tp6.img\n', 'collect', 'c.db', '--compare', **how)
         holds(place, rows)
+    # One that the database has no digest of, or no row, is missing where it can't be read.
+    place.file('other.img', content)
+    place.done('collect', 'n.db', name, '--no-digest')
+    for other in (name, 'other.img'):
+        found = os.stat(place.folder / other).st_ino
+        how = {'env': {**os.environ, 'LD_PRELOAD': str(library), 'REFUSED_FILE': str(found), 'REFUSED_BLOCK': '0'}}
+        place.wants(3, f'missing\t{other}\n', 'collect', 'n.db', '--compare', other, **how)
+    place.wants(0, f'same length\t{name}\nnew\tother.img\n', 'collect', 'n.db', '--compare', name, 'other.img')
     # A volume that is refused is read whole, without digests too.
     place.file('lost.img', with_bytes(content, (1024, bytes(512))))
     place.done('collect', 'c.db', 'lost.img')
@@ -1117,7 +1151,7 @@ def main():
         else:
             left_out.append('reads and memory that are refused, for want of a C compiler')
         parts = [worked_example, cut_dumps, rows_beside_words, damaged_disks, odd_paths, comparisons, refused_words, made_by_sqlite, other_tables, damaged_databases, other_programs, read_only,
-                 unread_images, full_output, terminal]
+                 few_files, unread_images, full_output, terminal]
         parts = [(part.__name__, part) for part in parts]
         parts.append(('full_devices', lambda place: full_devices(place, left_out)))
         if library:

@@ -22,6 +22,7 @@ import io
 import os
 import pty
 import re
+import resource
 import shutil
 import signal
 import struct
@@ -112,11 +113,11 @@ def ensure_same(found, wanted, what):
     ensure(len(found) == len(wanted), f'{what}: {len(found)} in place of {len(wanted)}')
 
 
-def told(*words, given=None, cwd=None, **how):
-    """The status of the words, and what they print."""
+def told(*words, given=None, cwd=None, errors='', **how):
+    """The status of the words, and what they print; on standard error this."""
     source = {'stdin': subprocess.DEVNULL} if given is None else {'input': given}
     run = subprocess.run([TOOL, *map(str, words)], stdout=subprocess.PIPE, stderr=subprocess.PIPE, timeout=600, cwd=cwd, **source, **how)
-    ensure(not run.stderr, f'{words} writes to standard error: {run.stderr[:300]!r}')
+    ensure(run.stderr.decode('utf-8') == errors, f'{words} writes to standard error: {run.stderr[:300]!r}')
     return run.returncode, run.stdout.decode('utf-8')
 
 
@@ -233,8 +234,8 @@ class Bags:
         info, check = told('info', source, *volume, given=given)[1], told('check', source, *volume, given=given)[1]
         ensure((bag / 'volume.txt').read_text('utf-8') == info + check, f'{bag.name}: volume.txt')
         labels = [label for label, _ in tags]
-        wanted = ['External-Identifier', 'Bag-Software-Agent', 'Source-Image', *(['Source-Volume'] if volume else []), 'Source-Bytes',
-                  *([] if '--no-digest' in words else ['Source-SHA256']), 'Payload-Oxum']
+        wanted = ['External-Identifier', 'Bag-Software-Agent', 'Source-Image', *(['Source-Volume', 'Source-Volume-Bytes'] if volume else ['Source-Bytes']),
+                  *([] if '--no-digest' in words else ['Source-Volume-SHA256' if volume else 'Source-SHA256']), 'Payload-Oxum']
         ensure(labels == wanted, f'{bag.name}: bag-info.txt has {labels}')
         found = dict(tags)
         ensure(found['Bag-Software-Agent'] == 'hfs_tool 1.0.0', found['Bag-Software-Agent'])
@@ -358,10 +359,25 @@ def compare_volumes(bags):
     file = parted(bags, new)
     bag = bags.taken(file, 'inside', '--volume', '1', '--no-digest')
     lines = (bag / 'bag-info.txt').read_text().splitlines()
-    ensure_same(lines, ['External-Identifier: D', 'Bag-Software-Agent: hfs_tool 1.0.0', 'Source-Image: F', 'Source-Volume: 1 partition 2048 32768 D', 'Source-Bytes: 32768',
+    ensure_same(lines, ['External-Identifier: D', 'Bag-Software-Agent: hfs_tool 1.0.0', 'Source-Image: F', 'Source-Volume: 1 partition 2048 32768 D', 'Source-Volume-Bytes: 32768',
                         'Payload-Oxum: 0.0'], 'bag-info.txt of a volume inside')
     bag = bags.taken(file, 'inside', '--volume', '1')
-    ensure(f'Source-SHA256: {hashlib.sha256(new.read_bytes()).hexdigest()}\n' in (bag / 'bag-info.txt').read_text(), 'the digest of a volume inside')
+    ensure(f'Source-Volume-SHA256: {hashlib.sha256(new.read_bytes()).hexdigest()}\n' in (bag / 'bag-info.txt').read_text(), 'the digest of a volume inside')
+    # the only volume inside is taken without a number, and told with it
+    chosen = bags.place('chosen')
+    ensure(told('take', file, chosen) == (0, 'taken\nfiles 0\nfolders 0\nbytes 0\n'), 'the only volume inside')
+    ensure(subprocess.run(['diff', '-r', bag, chosen], capture_output=True).returncode == 0, 'the only volume inside, with a number and without')
+    for total, word in (('e9841951', 'right'), ('e9841950', 'wrong')):
+        copy = bags.folder / 'copy.dc42'
+        copy.write_bytes(b'\1D' + bytes(62) + bytes.fromhex(f'0000800000000000{total}0000000003220100') + new.read_bytes())
+        for words in ((), ('--volume', '1')):
+            place = bags.place('copied')
+            run = subprocess.run([TOOL, 'take', copy, place, '--no-digest', *words], stdin=subprocess.DEVNULL, capture_output=True, text=True)
+            ensure(run.returncode == 0 and run.stdout == 'taken\nfiles 0\nfolders 0\nbytes 0\n', f'a disk copy is not taken: {run.stdout}')
+            ensure(run.stderr == ('' if word == 'right' else f'{copy}: the sum of the disk copy is wrong\n'), f'sum {word}: {run.stderr!r}')
+            ensure_same((place / 'bag-info.txt').read_text().splitlines(),
+                        ['External-Identifier: D', 'Bag-Software-Agent: hfs_tool 1.0.0', 'Source-Image: copy.dc42', f'Source-Volume: 1 disk copy 84 32768 D sum {word}',
+                         'Source-Volume-Bytes: 32768', 'Payload-Oxum: 0.0'], 'bag-info.txt of a disk copy')
     full = bags.folder / 'full.img'
     alone, inside = bags.taken(full, 'alone'), bags.taken(parted(bags, full), 'inside', '--volume', '1')
     ensure(subprocess.run(['diff', '-r', '-x', 'bag-info.txt', '-x', 'tagmanifest-sha256.txt', alone, inside], capture_output=True).returncode == 0, 'a volume inside')
@@ -388,9 +404,10 @@ def compare_refused(bags):
     content[BLOCK * 2 + 87] = 1
     (here / 'miscounted').write_bytes(content)
 
-    def wants(status, text, *words, left=()):
+    def wants(status, text, *words, errors=''):
         before = sorted(path.name for path in here.iterdir())
-        ensure(told('take', *words, cwd=here) == (status, text), f'take {words}: {told("take", *words, cwd=here)} in place of {(status, text)}')
+        found = told('take', *words, cwd=here, errors=errors)
+        ensure(found == (status, text), f'take {words}: {found} in place of {(status, text)}')
         ensure(sorted(path.name for path in here.iterdir()) == before, f'take {words} leaves something')
 
     (here / 'folder').mkdir()
@@ -402,7 +419,6 @@ def compare_refused(bags):
         wants(4, f'{name} is there already\n', 'P', f'{name}//')
         wants(2, 'check C10 at 3\n', 'miscounted', name)
         wants(2, 'no volume 2\n', 'P', name, '--volume', '2')
-    wants(2, 'no volume 0\n', 'P', 'bag', '--volume', '0')
     wants(4, '/ is there already\n', 'P', '///')
     wants(4, 'cannot write none/bag.0.new\n', 'P', 'none/bag')
     wants(4, 'cannot write file/bag.0.new\n', 'P', 'file/bag')
@@ -415,11 +431,13 @@ def compare_refused(bags):
     ensure((here / 'file').read_bytes() == b'kept' and os.readlink(here / 'link') == 'nothing' and not list((here / 'folder').iterdir()), 'what was there is kept')
     (here / 'bag.0.new').mkdir()
     (here / 'bag.0.new' / 'kept').write_bytes(b'')
-    ensure(told('take', 'P', 'bag', cwd=here)[0] == 0 and (here / 'bag.0.new' / 'kept').exists() and not (here / 'bag.1.new').exists(), 'a name that is taken')
+    left = '{}.0.new is there, left by a run that was stopped\n'
+    wants(2, 'check C10 at 3\n', 'miscounted', 'bag', errors=left.format('bag'))
+    ensure(told('take', 'P', 'bag', cwd=here, errors=left.format('bag'))[0] == 0 and (here / 'bag.0.new' / 'kept').exists() and not (here / 'bag.1.new').exists(), 'a name that is taken')
     for n in range(1, 100):
         (here / f'no.{n}.new').mkdir()
     (here / 'no.0.new').write_bytes(b'')
-    wants(4, 'cannot write no\n', 'P', 'no')
+    wants(4, 'cannot write no\n', 'P', 'no', errors=left.format('no'))
     compare_faults(bags, here)
 
 
@@ -460,10 +478,28 @@ volume.write({str(large)!r})
         status = subprocess.run([TOOL, 'take', full, here / 'unheard'], stdout=nobody, stderr=subprocess.DEVNULL, timeout=60).returncode
     ensure(status == 4, f'output that nobody takes: {status}')
     read_bag(here / 'unheard')
+    compare_few_files(bags, full, here)
     compare_unread(bags, here)
     compare_changed(bags, here)
     compare_timeless(bags, here)
     compare_killed(bags, large, here)
+
+
+def compare_few_files(bags, image, here):
+    """Few files that may be open: the bag is whole, or nothing is left of it."""
+    whole = set()
+    for most in range(3, 12):
+        for word in ('take', 'rescue'):
+            bag = here / f'few-{word}-{most}'
+            run = subprocess.run([TOOL, word, image, bag], stdin=subprocess.DEVNULL, capture_output=True, text=True, timeout=60,
+                                 preexec_fn=lambda: resource.setrlimit(resource.RLIMIT_NOFILE, (most, most)))
+            ensure(run.returncode in (0, 4), f'{word} with {most} files ends with {run.returncode}: {run.stdout} {run.stderr}')
+            ensure(not list(here.glob('few-*.new')), f'{word} with {most} files leaves something: {run.stdout}')
+            ensure(bag.exists() == (run.returncode == 0), f'{word} with {most} files: {run.stdout}')
+            if bag.exists():
+                whole.add(most)
+                read_bag(bag)
+    ensure(3 not in whole and 11 in whole, f'bags with these numbers of open files: {sorted(whole)}')
 
 
 def compare_unread(bags, here):
@@ -675,6 +711,71 @@ def compare_too_deep(bags):
     ensure(not bag.exists() and not list(bag.parent.glob('too-deep.*.new')), 'paths that are too long leave something')
 
 
+COUNT_OPENED = r'''
+#define _GNU_SOURCE
+#include <dlfcn.h>
+#include <fcntl.h>
+#include <stdio.h>
+#include <stdarg.h>
+#include <stdlib.h>
+
+static unsigned long opened;
+
+int open(const char *path, int how, ...) {
+    va_list rest;
+    va_start(rest, how);
+    mode_t mode = va_arg(rest, int);
+    va_end(rest);
+    int (*next)(const char *, int, ...) = dlsym(RTLD_NEXT, "open");
+    opened++;
+    return next(path, how, mode);
+}
+
+int openat(int folder, const char *path, int how, ...) {
+    va_list rest;
+    va_start(rest, how);
+    mode_t mode = va_arg(rest, int);
+    va_end(rest);
+    int (*next)(int, const char *, int, ...) = dlsym(RTLD_NEXT, "openat");
+    opened++;
+    return next(folder, path, how, mode);
+}
+
+__attribute__((destructor)) static void tell(void) {
+    FILE *file = fopen(getenv("OPENED_FILES"), "w");
+    if (file) {
+        fprintf(file, "%lu", opened);
+        fclose(file);
+    }
+}
+'''
+
+
+def compare_half_removed(bags):
+    """Half a bag of folders in one another goes in as many steps as it has folders and files."""
+    calls, above = [], 2
+    for n in range(2100):
+        calls += [f'mkdir\t{above}\tm'] + ([f'create\t{above}\ta'] if n % 100 == 0 else [])
+        above = 16 + n + (n + 99) // 100
+    image = bags.new('half', 8000, 4000, 4, '\n'.join(calls))
+    bag, how = bags.place('half'), {}
+    counted = bags.folder / 'opened.txt'
+    if shutil.which('cc'):
+        source, library = bags.folder / 'opened.c', bags.folder / 'opened.so'
+        source.write_text(COUNT_OPENED)
+        subprocess.run(['cc', '-shared', '-fPIC', '-O1', '-o', library, source, '-ldl'], check=True)
+        how = {'env': {**os.environ, 'LD_PRELOAD': str(library), 'OPENED_FILES': str(counted)}}
+    else:
+        bags.skipped.append('how many files are opened')
+    status, text = told('take', image, bag, '--no-digest', **how)
+    ensure(status == 4 and text.startswith(f'cannot write {bag}.0.new/data/m/m/'), f'folders too deep in one another: {status} {text[:80]!r}')
+    ensure(not bag.exists() and not list(bag.parent.glob('half.*.new')), 'folders too deep in one another leave something')
+    depth = text.count('/m')
+    if how:
+        number = int(counted.read_text())
+        ensure(depth < number < 8 * depth, f'{number} files are opened for {depth} folders')
+
+
 def compare_many(bags, items):
     """A volume of 20 MB or more with so many files in folders, laid by a program of its own."""
     image = bags.folder / 'many.img'
@@ -731,6 +832,7 @@ def main():
             compare_names(bags)
             compare_deep(bags, words.deep)
             compare_too_deep(bags)
+            compare_half_removed(bags)
             image = compare_many(bags, words.items)
             if words.kept:
                 shutil.copy(image, words.kept)

@@ -7,6 +7,7 @@ pipe. What lies in a file is found here once more, by none of the project's code
 
 tests/volumes.py [SEED]      runs $HFS_TOOL, or the program as it is built in crates/hfs_tool/out
 """
+import gzip
 import hashlib
 import os
 import random
@@ -159,10 +160,10 @@ WRAPPINGS = [
 
 # ---- what the program tells
 
-def told(words, given=None):
+def told(words, given=None, errors=False):
     run = subprocess.run([TOOL, *words], input=given, stdin=None if given is not None else subprocess.DEVNULL, stdout=subprocess.PIPE,
                          stderr=subprocess.PIPE, timeout=300)
-    if run.stderr:
+    if run.stderr and not errors:
         fail(f'{words} writes {run.stderr[:200]}')
     return run.returncode, run.stdout
 
@@ -224,9 +225,10 @@ def same_on_cut(folder, what, data):
             if before != ['info']:
                 wants(f'{what}: {before} {behind}, piped', told([*before, '/dev/stdin', *behind, '--volume', str(k)], data), wanted)
     path = folder.file('file', data)
-    for n in (0, len(found(data)) + 1, 2 ** 64 - 1):
-        for words in (['info', path], ['check', path], ['ls', path], ['cat', path, '2', 'f']):
+    for words in (['info', path], ['check', path], ['ls', path], ['cat', path, '2', 'f']):
+        for n in (len(found(data)) + 1, 2 ** 32 - 1):
             wants(f'{what}: {words[0]}', told([*words, '--volume', str(n)]), (2, f'no volume {n}\n'.encode()))
+        wants(f'{what}: {words[0]} as it is', told([*words, '--volume', '0']), told([words[0], '/dev/stdin', *words[2:]], data))
 
 
 # ---- rows by hand
@@ -240,7 +242,8 @@ def rows(folder, p6):
     wants('a partition without a volume', told(['check', path, '--volume', '2']), (2, b'refused not an HFS volume (-57)\n'))
     wants('ls of it', told(['ls', path, '--volume', '2']), (2, b'not an HFS volume (-57)\n'))
     wants('a third', told(['check', path, '--volume', '3']), (2, b'no volume 3\n'))
-    wants('volume 0', told(['ls', path, '--volume', '0']), (2, b'no volume 0\n'))
+    wants('volume 0', told(['ls', path, '--volume', '0']), (2, b'not an HFS volume (-57)\n'))
+    wants('the only volume', told(['ls', path]), told(['ls', folder.file('p6', p6)]))
     other = bytearray(disk)
     other[1536:1538] = b'PN'
     folder.lists('a block that is no entry', bytes(other), volume_lines(b'1\tpartition\t2048\t32768\tD'))
@@ -343,9 +346,78 @@ def faults(folder, p6):
     wants('a volume of no file', told(['check', missing, '--volume', '1']), (4, f'cannot read {missing}\n'.encode()))
     wants('no bytes', told(['volumes', '/dev/null']), (2, b'no HFS volume\n'))
     for words in (['repair', folder.file('p6', p6), 'out', '--volume', '1'], ['run', folder.file('p6', p6), 'script', '--volume', '1'], ['volumes'],
-                  ['ls', folder.file('p6', p6), '--volume', '-1'], ['ls', folder.file('p6', p6), '--volume', 'x']):
+                  ['ls', folder.file('p6', p6), '--volume', '-1'], ['ls', folder.file('p6', p6), '--volume', 'x'],
+                  *([word, folder.file('p6', p6), *behind, '--volume', n] for n in ('4294967296', '18446744073709551615', '18446744073709551616')
+                    for word, behind in (('ls', []), ('info', []), ('take', ['bag']), ('rescue', ['--list'])))):
         if subprocess.run([TOOL, *words], stdin=subprocess.DEVNULL, capture_output=True).returncode != 1:
             fail(f'{words} are not refused')
+
+
+# ---- which volume is taken without a number
+
+def same_as(folder, what, path, wanted):
+    """Wants that each word answers of a file what it answers of these bytes."""
+    cut = folder.file('cut', wanted)
+    for words in (['check'], ['ls'], ['items'], ['page'], ['items', '--format', 'json']):
+        wants(f'{what}: {words}', told([words[0], path, *words[1:]]), told([words[0], cut, *words[1:]]))
+    for behind in (['2', 'f'], ['2', 'f', '--macbinary'], ['--path', ':f'], ['--path', ':f', '--macbinary']):
+        wants(f'{what}: cat {behind}', told(['cat', path, *behind]), told(['cat', cut, *behind]))
+    wants(f'{what}: ls by a path', told(['ls', path, '--path', ':']), told(['ls', cut, '--path', ':']))
+
+
+def refused(folder, what, path, count, words):
+    """Wants that these words take none of so many volumes, and write nothing."""
+    for before, behind in words:
+        wants(f'{what}: {before}', told([before, path, *behind]), (2, f'{count} volumes lie inside; name one by --volume\n'.encode()))
+    for name in ('bag', 'bag.0.new'):
+        if os.path.exists(os.path.join(folder.path, name)):
+            fail(f'{what}: {name} was made')
+
+
+def chosen(folder, p6):
+    """Without a number: a bare volume as it is, else the only one inside, else none."""
+    with gzip.open(os.path.join(VOLUMES, 'small', 'one-file.img.gz')) as file:
+        laid = file.read()
+    bag = os.path.join(folder.path, 'bag')
+    reads = [('check', []), ('ls', []), ('items', []), ('page', []), ('cat', ['2', 'f']), ('cat', ['2', 'f', '--macbinary']), ('cat', ['--path', ':f']),
+             ('ls', ['--path', ':']), ('take', [bag]), ('take', [bag, '--no-digest'])]
+    rescues = [('rescue', [bag]), ('rescue', ['--list'])]
+    map_of = lambda *parts: b''.ljust(512, b'\0') + b''.join(entry(len(parts), 8 + sum(len(part) for part in parts[:n]) // 512, len(parts[n]) // 512, b'Apple_HFS')
+                                                           for n in range(len(parts))).ljust(7 * 512, b'\0') + b''.join(parts)
+    empty = bytes(2048)
+    one = folder.file('one', map_of(empty, laid))
+    same_as(folder, 'one volume of two ranges', one, laid)
+    refused(folder, 'rescue of two ranges', one, 2, rescues)
+    for number in ('0', '2'):
+        raw = folder.file('raw', map_of(empty, laid) if number == '0' else laid)
+        status, text = told(['rescue', one, '--list', '--volume', number])
+        wants(f'rescue of range {number}', (status, text), told(['rescue', '/dev/stdin', '--list'], open(raw, 'rb').read()))
+    two = folder.file('two', map_of(laid, p6))
+    refused(folder, 'two volumes', two, 2, reads + rescues)
+    three = folder.file('three', map_of(laid, p6, empty, laid))
+    refused(folder, 'three volumes', three, 3, reads)
+    refused(folder, 'three volumes and a range', three, 4, rescues)
+    for words in (['check'], ['ls'], ['items']):
+        answer = (2, b'refused not an HFS volume (-57)\n' if words == ['check'] else b'not an HFS volume (-57)\n')
+        wants(f'{words} as it is', told([*words, two, '--volume', '0']), answer)
+        wants(f'{words} of a pipe', told([*words, '/dev/stdin'], map_of(laid, p6)), answer)
+        wants(f'{words} of a pipe with one volume', told([*words, '/dev/stdin'], map_of(laid)), answer)
+    for data in (map_of(laid, p6), map_of(laid)):
+        wants('info never chooses', told(['info', folder.file('raw', data)]), (2, b'not an HFS volume (-57)\n'))
+    for what, wrap in WRAPPINGS:
+        same_as(folder, what, folder.file('wrapped', wrap(laid)), laid)
+        wants(f'rescue {what}', told(['rescue', folder.file('wrapped', wrap(laid)), '--list'], errors=True)[:2], told(['rescue', folder.file('raw', laid), '--list']))
+    both = bytearray(laid)
+    both[512:1024] = entry(1, 8, 56, b'Apple_HFS')
+    same_as(folder, 'a bare volume with a map', folder.file('both', bytes(both)), bytes(both))
+    wants('its range', told(['volumes', folder.file('both', bytes(both))])[1].splitlines()[1:], [b'2\tpartition\t4096\t28672\t\tno volume'])
+    none = folder.file('none', map_of(empty))
+    wants('a range without a volume', told(['ls', none]), (2, b'not an HFS volume (-57)\n'))
+    wants('check of it', told(['check', none]), (2, b'refused not an HFS volume (-57)\n'))
+    # the only range is what rescue looks at, and not the file around it
+    lost = bytearray(laid)
+    lost[1024:1536] = bytes(512)
+    wants('rescue of the only range', told(['rescue', folder.file('lost', map_of(bytes(lost))), '--list']), told(['rescue', folder.file('cut', bytes(lost)), '--list']))
 
 
 # ---- other programs
@@ -416,6 +488,7 @@ def main():
             fail('the small volume')
         rows(folder, p6)
         edges(folder, p6)
+        chosen(folder, p6)
         faults(folder, p6)
         by_chance(folder, p6, seed, 300)
         large(folder, p6)

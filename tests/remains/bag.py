@@ -189,12 +189,20 @@ class Remains:
         """A line for each item."""
         return ''.join('\t'.join([it.path, str(it.number), str(it.id), *self.verdicts(it)]) + '\n' for it in self.items)
 
+    @cached_property
+    def unsure(self) -> str:
+        """What is said of a directory by which neither tree begins."""
+        return '' if self.directory.catalog_begins or self.directory.extents_begin else ' unsure'
+
     def tags(self, source: Source) -> list[Written]:
         """The tag files behind the payload."""
-        digest = [f'Source-SHA256: {self.digest}'] if source.has_digest else []
+        inner = '' if source.volume is None else 'Volume-'
+        digest = [f'Source-{inner}SHA256: {self.digest}'] if source.has_digest else []
+        where = f'{self.directory.block}{self.unsure}'
+        directory = [] if where == '2' else [f'Source-Directory: {where}']
         volume = [] if source.volume is None else [f'Source-Volume: {source.volume}']
         about = [f'External-Identifier: {plain(self.directory.name)}', f'Bag-Software-Agent: {PROGRAM}', f'Source-Image: {source.name}', *volume,
-                 f'Source-Bytes: {len(self.image)}', *digest, f'Payload-Oxum: {self.payload.bytes}.{len(self.payload.files)}']
+                 *directory, f'Source-{inner}Bytes: {len(self.image)}', *digest, f'Payload-Oxum: {self.payload.bytes}.{len(self.payload.files)}']
         table = ','.join(COLUMNS) + '\r\n' + ''.join(map(row_of, self.items))
         tags = {'manifest-sha256.txt': self.sums, 'items.csv': table.encode(), 'rescue.tsv': self.lines.encode(),
                 'volume.txt': (info_lines(self.directory.content) + source.checked).encode(), 'bag-info.txt': ''.join(f'{it}\n' for it in about).encode(),
@@ -211,8 +219,7 @@ class Remains:
         folders = sum(it.is_folder and not it.is_root for it in self.items)
         files = [it for it in self.items if not it.is_folder]
         whole = sum(self.verdicts(it) == ['whole', 'whole'] for it in files)
-        unsure = '' if self.directory.catalog_begins or self.directory.extents_begin else ' unsure'
-        told = [fault, f'directory {self.directory.block}{unsure}', f'files {len(files)}', f'folders {folders}', f'bytes {self.payload.bytes}',
+        told = [fault, f'directory {self.directory.block}{self.unsure}', f'files {len(files)}', f'folders {folders}', f'bytes {self.payload.bytes}',
                 f'whole {whole}', f'damaged {len(files) - whole}']
         status = 0 if whole == len(files) and self.trees.catalog_passes else NOT_WHOLE
         return Rescued(status, ''.join(f'{it}\n' for it in told), self.lines, self.payload.written + self.tags(source))

@@ -30,15 +30,15 @@ def ensure(holds: bool, what: str) -> None:
         raise Differs(what)
 
 
-def told(*words, given: Optional[bytes] = None, cwd=None) -> tuple[int, bytes]:
-    """The status of the words, and what they print. A run that ends by a signal, runs on or writes to standard error differs."""
+def told(*words, given: Optional[bytes] = None, cwd=None, errors: str = '') -> tuple[int, bytes]:
+    """The status of the words, and what they print. A run that ends by a signal, runs on or writes anything else to standard error differs."""
     how = {'stdin': subprocess.DEVNULL} if given is None else {'input': given}
     try:
         run = subprocess.run([TOOL, *map(str, words)], stdout=subprocess.PIPE, stderr=subprocess.PIPE, timeout=PATIENCE, cwd=cwd, **how)
     except subprocess.TimeoutExpired:
         raise Differs(f'{words} runs on') from None
     ensure(run.returncode >= 0, f'{words} ends by the signal {-run.returncode}')
-    ensure(not run.stderr, f'{words} writes to standard error: {run.stderr[:300]!r}')
+    ensure(run.stderr == errors.encode(), f'{words} writes to standard error: {run.stderr[:300]!r}')
     return run.returncode, run.stdout
 
 

@@ -92,7 +92,11 @@ fn taking_one<'a>(argument: Arg<'a>, takes: Takes) -> Arg<'a> {
         .required(takes.is_required())
         .allow_hyphen_values(takes.is_any());
     match takes {
-        Takes::Number | Takes::NumberOr(_) | Takes::MaybeNumber | Takes::NumberOption { .. } => {
+        Takes::Number
+        | Takes::NumberOr(_)
+        | Takes::MaybeNumber
+        | Takes::NumberOption { .. }
+        | Takes::GivenNumberOption { .. } => {
             one.value_parser(value_parser!(u32).range(0..=4294967295))
         }
         Takes::CountOption { .. } => one.value_parser(value_parser!(u64)),

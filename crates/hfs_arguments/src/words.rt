@@ -70,6 +70,10 @@ pub enum Takes {
         value: &'static str,
         default: &'static str,
     },
+    /// An option with a number from 0 to 4,294,967,295.
+    GivenNumberOption {
+        value: &'static str,
+    },
     /// An option with a number of 64 bits.
     CountOption {
         value: &'static str,
@@ -96,6 +100,7 @@ impl Takes {
             | Takes::AnyTextOption { value }
             | Takes::ChoiceOption { value, .. }
             | Takes::NumberOption { value, .. }
+            | Takes::GivenNumberOption { value }
             | Takes::CountOption { value } => Some(value),
             Takes::Text
             | Takes::AnyText
@@ -120,6 +125,7 @@ impl Takes {
             | Takes::MaybeNumber
             | Takes::TextOption { .. }
             | Takes::AnyTextOption { .. }
+            | Takes::GivenNumberOption { .. }
             | Takes::CountOption { .. }
             | Takes::Flag => None,
         }

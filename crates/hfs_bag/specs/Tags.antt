@@ -19,18 +19,33 @@ abbrev pub volume_line : Option (Bor (List ℕ)) → List ℕ
 volume_line (Some told) = line (codes "Source-Volume:") told.now
 volume_line None = []
 
--- the line of the image's digest
-abbrev pub image_digest_line : Option (List ℕ) → List ℕ
-image_digest_line (Some digest) = line (codes "Source-SHA256:") (encode_lower digest)
-image_digest_line None = []
+-- the line of the block of the volume's directory
+abbrev pub directory_line : Option (Bor (List ℕ)) → List ℕ
+directory_line (Some told) = line (codes "Source-Directory:") told.now
+directory_line None = []
+
+-- the bytes and the digest that are told are those of the range of a volume that lies inside the image's file, or else of the file
+abbrev pub bytes_key : Option (Bor (List ℕ)) → List ℕ
+bytes_key (Some told) = codes "Source-Volume-Bytes:"
+bytes_key None = codes "Source-Bytes:"
+
+abbrev pub digest_key : Option (Bor (List ℕ)) → List ℕ
+digest_key (Some told) = codes "Source-Volume-SHA256:"
+digest_key None = codes "Source-SHA256:"
+
+-- the line of the digest
+abbrev pub source_digest_line : Option (Bor (List ℕ)) → Option (List ℕ) → List ℕ
+source_digest_line volume (Some digest) = line (digest_key volume) (encode_lower digest)
+source_digest_line volume None = []
 
 unfoldable pub info_text : BagFacts → ℕ → ℕ → List ℕ
 info_text facts bytes files = line (codes "External-Identifier:") facts.identifier.now
     ++ line (codes "Bag-Software-Agent:") facts.program.now
     ++ line (codes "Source-Image:") facts.image.now
     ++ volume_line facts.volume
-    ++ line (codes "Source-Bytes:") (decimal facts.bytes)
-    ++ image_digest_line facts.digest
+    ++ directory_line facts.directory
+    ++ line (bytes_key facts.volume) (decimal facts.bytes)
+    ++ source_digest_line facts.volume facts.digest
     ++ line (codes "Payload-Oxum:") (oxum_text bytes files)
 
 abbrev pub declaration_text : List ℕ

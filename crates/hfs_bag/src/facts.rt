@@ -11,7 +11,9 @@ pub struct BagFacts<'a> {
     pub image: &'a str,
     /// Where the volume lies in the image's file, if it was looked for there.
     pub volume: Option<&'a str>,
-    /// How many bytes hold the volume.
+    /// The block of the volume's directory, where that is to be told.
+    pub directory: Option<&'a str>,
+    /// How many bytes hold the volume: those of the image's file, or of the range in it in which the volume lies.
     pub bytes: u64,
     /// Their SHA-256 digest, where it is to be told.
     pub digest: Option<[u8; 32]>,

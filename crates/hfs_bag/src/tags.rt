@@ -1,6 +1,8 @@
 //! The tag files of a bag.
 ghost use Rattle.std.specs.Prelude.{◌≡◌, ◌++◌, codes, map, option_map, IfErr, IfOk, OnErr, OnOk, string_bytes};
 ghost use Rattle.sha2.specs.Sha256.{sha256};
+ghost use Rattle.std.specs.Fmt.{decimal};
+ghost use Rattle.hfs_texts.specs.Lines.{line};
 ghost use Rattle.hfs_texts.specs.Texts.{Gains};
 ghost use Rattle.hfs_shelves.specs.Entries.{IsBeginning};
 ghost use Rattle.hfs_bag.specs.Items.{item_digests};
@@ -9,7 +11,7 @@ ghost use Rattle.hfs_bag.specs.Bags.{bytes_in, files_in, manifest, payload};
 ghost use Rattle.hfs_bag.specs.Faults.{HasFailed, IsOfShelf, IsPassedOn};
 ghost use Rattle.hfs_bag.specs.Filling.{with_whole_file};
 ghost use Rattle.hfs_bag.specs.TagParts.{first_tags, remains_line, second_tags, tag_lines};
-ghost use Rattle.hfs_bag.specs.Tags.{declaration_text, image_digest_line, info_text, oxum_text, remains_files, tag_files, volume_line};
+ghost use Rattle.hfs_bag.specs.Tags.{bytes_key, declaration_text, directory_line, info_text, oxum_text, remains_files, source_digest_line, tag_files, volume_line};
 
 use crate::facts::BagFacts;
 use crate::fault::BagFault;
@@ -61,20 +63,42 @@ fn push_volume(text: &mut String, volume: Option<&str>) -> Result<(), AllocError
     }
 }
 
-/// Appends the line of the image's digest.
-fn push_image_digest(
+/// Appends the line of the block of the volume's directory.
+fn push_directory(text: &mut String, directory: Option<&str>) -> Result<(), AllocError>
+    ensures { OnOk result (Gains text.old text.new (directory_line directory.entry)) }
+{
+    match directory {
+        Some(told) => push_line(text, "Source-Directory:", Text(told)),
+        None => Ok(()),
+    }
+}
+
+/// Appends the line of the bytes: those of a volume that lies inside the image's file, or of the file.
+fn push_source_bytes(text: &mut String, volume: Option<&str>, bytes: u64) -> Result<(), AllocError>
+    ensures { OnOk result (Gains text.old text.new (line (bytes_key volume.entry) (decimal bytes))) }
+{
+    match volume {
+        Some(_) => push_line(text, "Source-Volume-Bytes:", bytes),
+        None => push_line(text, "Source-Bytes:", bytes),
+    }
+}
+
+/// Appends the line of their digest, where it is to be told.
+fn push_source_digest(
     alloc: Global,
     text: &mut String,
+    volume: Option<&str>,
     digest: Option<[u8; 32]>,
 ) -> Result<(), AllocError>
-    ensures { OnOk result (Gains text.old text.new (image_digest_line digest)) }
+    ensures { OnOk result (Gains text.old text.new (source_digest_line volume.entry digest)) }
 {
-    match digest {
-        Some(digest) => {
-            let digits = hex::encode(alloc, digest.as_slice())?;
-            push_line(text, "Source-SHA256:", Text(digits.as_str()))
-        }
-        None => Ok(()),
+    let Some(digest) = digest else {
+        return Ok(());
+    };
+    let digits = hex::encode(alloc, digest.as_slice())?;
+    match volume {
+        Some(_) => push_line(text, "Source-Volume-SHA256:", Text(digits.as_str())),
+        None => push_line(text, "Source-SHA256:", Text(digits.as_str())),
     }
 }
 
@@ -93,8 +117,9 @@ fn info_text(
     push_line(&mut text, "Bag-Software-Agent:", Text(facts.program))?;
     push_line(&mut text, "Source-Image:", Text(facts.image))?;
     push_volume(&mut text, facts.volume)?;
-    push_line(&mut text, "Source-Bytes:", facts.bytes)?;
-    push_image_digest(alloc, &mut text, facts.digest)?;
+    push_directory(&mut text, facts.directory)?;
+    push_source_bytes(&mut text, facts.volume, facts.bytes)?;
+    push_source_digest(alloc, &mut text, facts.volume, facts.digest)?;
     push_line(&mut text, "Payload-Oxum:", Oxum { bytes, files })?;
     Ok(text)
 }

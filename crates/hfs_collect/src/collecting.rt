@@ -5,9 +5,9 @@ use crate::reading::CollectWords;
 use crate::telling::{tell_found, tell_obstacle};
 use hfs_collection::ImageFacts;
 use hfs_commands::{Fault, ShownPath, Status};
-use hfs_console::{print_lines, tell_unread};
+use hfs_console::{print_lines, tell_sum, tell_unread};
 use hfs_word_collect::{
-    Collection, Comparison, DatabaseFiles, FileCollection, ImageCounts, Obstacle, RunFault,
+    Collection, Comparison, DatabaseFiles, FileCollection, ImageCounts, Obstacle, RunFault, can_open_database,
     collect_image, compare_image, comparison_line, image_line, next_path,
 };
 
@@ -74,6 +74,9 @@ fn open_database(
     files: &DatabaseFiles,
     makes_tables: bool,
 ) -> Result<FileCollection, RunFault> {
+    if !can_open_database(rt) {
+        return Err(RunFault::CannotOpen);
+    }
     match Collection::open(rt, files, makes_tables) {
         Ok(database) => Ok(database),
         Err(fault) => Err(RunFault::from(fault)),
@@ -156,6 +159,7 @@ fn collect_one(
     }
     match put_one(rt, database, words, i, path)? {
         Some(counts) => {
+            tell_sum(rt, path, counts.wrong_sums != 0);
             let Ok(line) = image_line(rt.alloc(), path, &counts) else {
                 return Err(Stopped::Running(RunFault::NoMemory));
             };

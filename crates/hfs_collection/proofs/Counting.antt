@@ -2,7 +2,6 @@
 use Rattle.std.proofs.Common.{◌≡◌, ◌∙◌, ℕ, ◌+◌, ◌<◌, ◌≤◌, Bool, ◌&&◌, List, [], ◌∷◌, length, drop, get_or, slice_index_or, Option, Some, None, refl, ap, sym, arith}
 use Rattle.std.proofs.lemmas.List.{drop_all, drop_more}
 use Rattle.hfs_containers.specs.declared.ranges.FoundRange.{FoundRange}
-use Rattle.hfs_containers.specs.Ranges.{bytes_in}
 use Rattle.hfs_check.specs.VolumeOf.{volume_of}
 use Rattle.hfs_inventory.specs.Told.{ToldRow, told_rows}
 use Rattle.hfs_model.specs.Children.{entries_of}
@@ -17,7 +16,7 @@ use Rattle.hfs_finds.specs.Images.{FoundImage}
 use Rattle.hfs_collection.specs.declared.counts.FileCounts.{FileCounts}
 use Rattle.hfs_collection.specs.declared.counts.ImageCounts.{ImageCounts}
 use Rattle.hfs_collection.specs.declared.remains.ForkTold.{ForkTold}
-use Rattle.hfs_collection.specs.Counts.{both_files, both_volumes, file_number, file_total, is_fork_whole, item_files, no_files, no_volumes, remains_files, remains_files_from, volume_counts, volume_counts_from}
+use Rattle.hfs_collection.specs.Counts.{both_files, both_volumes, file_number, file_total, is_fork_whole, item_files, no_files, no_volumes, range_counts, remains_files, remains_files_from, volume_counts_from}
 use Rattle.hfs_collection.specs.Remains.{told_fork}
 
 -- ---- the files of a sound volume
@@ -110,7 +109,8 @@ sum-volumes a b c =
     let refused : a.refused + b.refused + c.refused ≡ a.refused + (b.refused + c.refused) = omega arith in
     let files : a.files + b.files + c.files ≡ a.files + (b.files + c.files) = omega arith in
     let damaged : a.damaged + b.damaged + c.damaged ≡ a.damaged + (b.damaged + c.damaged) = omega arith in
-    λ i. record { volumes = volumes i; refused = refused i; files = files i; damaged = damaged i }
+    let wrong : a.wrong_sums + b.wrong_sums + c.wrong_sums ≡ a.wrong_sums + (b.wrong_sums + c.wrong_sums) = omega arith in
+    λ i. record { volumes = volumes i; refused = refused i; files = files i; damaged = damaged i; wrong_sums = wrong i }
 
 no-volume-before : (a : ImageCounts) → both_volumes no_volumes a ≡ a
 no-volume-before a =
@@ -118,7 +118,8 @@ no-volume-before a =
     let refused : 0 + a.refused ≡ a.refused = omega arith in
     let files : 0 + a.files ≡ a.files = omega arith in
     let damaged : 0 + a.damaged ≡ a.damaged = omega arith in
-    λ i. record { volumes = volumes i; refused = refused i; files = files i; damaged = damaged i }
+    let wrong : 0 + a.wrong_sums ≡ a.wrong_sums = omega arith in
+    λ i. record { volumes = volumes i; refused = refused i; files = files i; damaged = damaged i; wrong_sums = wrong i }
 
 no-volume-behind : (a : ImageCounts) → both_volumes a no_volumes ≡ a
 no-volume-behind a =
@@ -126,7 +127,8 @@ no-volume-behind a =
     let refused : a.refused + 0 ≡ a.refused = omega arith in
     let files : a.files + 0 ≡ a.files = omega arith in
     let damaged : a.damaged + 0 ≡ a.damaged = omega arith in
-    λ i. record { volumes = volumes i; refused = refused i; files = files i; damaged = damaged i }
+    let wrong : a.wrong_sums + 0 ≡ a.wrong_sums = omega arith in
+    λ i. record { volumes = volumes i; refused = refused i; files = files i; damaged = damaged i; wrong_sums = wrong i }
 
 -- those so far, and those of the ranges that are still to come, are all
 abbrev pub VolumesToCount : Option (List ℕ) → ℕ → ℕ → List FoundRange → ImageCounts → Type 0
@@ -137,7 +139,7 @@ volumes_counted_first None len ranges = tt
 volumes_counted_first (Some file) len ranges = λ whole. no-volume-before (volume_counts_from ranges file)
 
 pub volumes_counted_next : (known : Option (List ℕ)) (len i : ℕ) (ranges : List FoundRange) (d : FoundRange) (counts more sum : ImageCounts) → i < length ranges → VolumesToCount known len i ranges counts
-    → OfKnown known len (λ file. more ≡ volume_counts (bytes_in (get_or ranges i d).range file)) → sum ≡ both_volumes counts more → VolumesToCount known len (i + 1) ranges sum
+    → OfKnown known len (λ file. more ≡ range_counts (get_or ranges i d) file) → sum ≡ both_volumes counts more → VolumesToCount known len (i + 1) ranges sum
 volumes_counted_next None len i ranges d counts more sum within so is added = tt
 volumes_counted_next (Some file) len i ranges d counts more sum within so is added = λ whole.
     let rest = volume_counts_from (drop (i + 1) ranges) file in

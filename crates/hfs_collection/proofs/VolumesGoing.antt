@@ -2,37 +2,37 @@
 use Rattle.std.proofs.Common.{◌≡◌, ◌∙◌, ℕ, ◌+◌, ◌<◌, ◌≤◌, Bool, List, [], ◌∷◌, ◌++◌, length, drop, get_or, append-nil, append_assoc, Option, Some, None, refl, ap, sym, subst}
 use Rattle.std.proofs.lemmas.List.{drop_more, drop_all}
 use Rattle.hfs_containers.specs.declared.ranges.FoundRange.{FoundRange}
-use Rattle.hfs_containers.specs.Ranges.{bytes_in}
+use Rattle.hfs_containers.specs.Reading.{IsTold}
 use Rattle.hfs_needed.specs.Known.{OfKnown}
+use Rattle.hfs_collection.specs.declared.counts.ImageCounts.{ImageCounts}
+use Rattle.hfs_collection.specs.declared.places.VolumePlace.{VolumePlace}
+use Rattle.hfs_collection.specs.declared.places.Way.{Way}
+use Rattle.hfs_collection.specs.Counts.{lying}
 use Rattle.hfs_rows.specs.Taken.{TakenRow, IsBeginning}
 use Rattle.hfs_check.specs.Faults.{fault_of}
-use Rattle.hfs_collection.specs.Volumes.{all_volume_rows, lost_place, lost_rows, place_of, volume_rows, volume_rows_from}
+use Rattle.hfs_collection.specs.Volumes.{all_volume_rows, lost_place, lost_rows, place_in, range_rows, volume_rows_from}
 
 -- what was given, and the rows that are still to come, make the whole
 abbrev pub VolumesLeft : Option (List ℕ) → ℕ → Bool → ℕ → List FoundRange → List TakenRow → List TakenRow → Type 0
 VolumesLeft known len taken i ranges start given =
     OfKnown known len (λ file. given ++ volume_rows_from taken (i + 1) (drop i ranges) file ≡ start ++ volume_rows_from taken 1 ranges file)
 
--- the rows of one volume of a file
-abbrev pub rows_of_range : Bool → ℕ → FoundRange → List ℕ → List TakenRow
-rows_of_range taken number found file = volume_rows taken (place_of number found) (bytes_in found.range file)
-
 pub volumes_first : (known : Option (List ℕ)) (len : ℕ) (taken : Bool) (ranges : List FoundRange) (given : List TakenRow) → VolumesLeft known len taken 0 ranges given given
 volumes_first None len taken ranges given = tt
 volumes_first (Some file) len taken ranges given = λ whole. refl
 
 step : (taken : Bool) (i : ℕ) (ranges : List FoundRange) (d : FoundRange) (file : List ℕ) → i < length ranges
-    → volume_rows_from taken (i + 1) (drop i ranges) file ≡ rows_of_range taken (i + 1) (get_or ranges i d) file ++ volume_rows_from taken (i + 1 + 1) (drop (i + 1) ranges) file
+    → volume_rows_from taken (i + 1) (drop i ranges) file ≡ range_rows taken (i + 1) (get_or ranges i d) file ++ volume_rows_from taken (i + 1 + 1) (drop (i + 1) ranges) file
 step taken i ranges d file lt = ap (λ (rest : List FoundRange). volume_rows_from taken (i + 1) rest file) (drop_more ranges i d lt)
 
 pub volumes_next : (known now : Option (List ℕ)) → now ≡ known → (len : ℕ) (taken : Bool) (i : ℕ) (ranges : List FoundRange) (d : FoundRange) → i < length ranges
     → (start given new : List TakenRow) → VolumesLeft known len taken i ranges start given
-    → OfKnown now len (λ file. new ≡ given ++ rows_of_range taken (i + 1) (get_or ranges i d) file) → VolumesLeft known len taken (i + 1) ranges start new
+    → OfKnown now len (λ file. new ≡ given ++ range_rows taken (i + 1) (get_or ranges i d) file) → VolumesLeft known len taken (i + 1) ranges start new
 volumes_next None now same len taken i ranges d lt start given new left own = tt
 volumes_next (Some file) now same len taken i ranges d lt start given new left own = λ whole.
-    let one = subst (λ (k : Option (List ℕ)). OfKnown k len (λ file. new ≡ given ++ rows_of_range taken (i + 1) (get_or ranges i d) file)) same own in
+    let one = subst (λ (k : Option (List ℕ)). OfKnown k len (λ file. new ≡ given ++ range_rows taken (i + 1) (get_or ranges i d) file)) same own in
     ap (λ (front : List TakenRow). front ++ volume_rows_from taken (i + 1 + 1) (drop (i + 1) ranges) file) (one whole)
-    ∙ append_assoc given (rows_of_range taken (i + 1) (get_or ranges i d) file) (volume_rows_from taken (i + 1 + 1) (drop (i + 1) ranges) file)
+    ∙ append_assoc given (range_rows taken (i + 1) (get_or ranges i d) file) (volume_rows_from taken (i + 1 + 1) (drop (i + 1) ranges) file)
     ∙ ap (λ (rows : List TakenRow). given ++ rows) (sym (step taken i ranges d file lt)) ∙ left whole
 
 pub volumes_last : (known : Option (List ℕ)) (len : ℕ) (taken : Bool) (i : ℕ) (ranges : List FoundRange) → length ranges ≤ i → (start given : List TakenRow)
@@ -56,14 +56,34 @@ longer some front rest all begins is = record {
 -- a beginning of the next one was given
 pub volumes_within : (known now : Option (List ℕ)) → now ≡ known → (len : ℕ) (taken : Bool) (i : ℕ) (ranges : List FoundRange) (d : FoundRange) → i < length ranges
     → (start given new : List TakenRow) → VolumesLeft known len taken i ranges start given
-    → OfKnown now len (λ file. IsBeginning new (given ++ rows_of_range taken (i + 1) (get_or ranges i d) file))
+    → OfKnown now len (λ file. IsBeginning new (given ++ range_rows taken (i + 1) (get_or ranges i d) file))
     → OfKnown known len (λ file. IsBeginning new (start ++ volume_rows_from taken 1 ranges file))
 volumes_within None now same len taken i ranges d lt start given new left own = tt
 volumes_within (Some file) now same len taken i ranges d lt start given new left own = λ whole.
-    let part = subst (λ (k : Option (List ℕ)). OfKnown k len (λ file. IsBeginning new (given ++ rows_of_range taken (i + 1) (get_or ranges i d) file))) same own in
-    longer new (given ++ rows_of_range taken (i + 1) (get_or ranges i d) file) (volume_rows_from taken (i + 1 + 1) (drop (i + 1) ranges) file) (start ++ volume_rows_from taken 1 ranges file) (part whole)
-    (append_assoc given (rows_of_range taken (i + 1) (get_or ranges i d) file) (volume_rows_from taken (i + 1 + 1) (drop (i + 1) ranges) file)
+    let part = subst (λ (k : Option (List ℕ)). OfKnown k len (λ file. IsBeginning new (given ++ range_rows taken (i + 1) (get_or ranges i d) file))) same own in
+    longer new (given ++ range_rows taken (i + 1) (get_or ranges i d) file) (volume_rows_from taken (i + 1 + 1) (drop (i + 1) ranges) file) (start ++ volume_rows_from taken 1 ranges file) (part whole)
+    (append_assoc given (range_rows taken (i + 1) (get_or ranges i d) file) (volume_rows_from taken (i + 1 + 1) (drop (i + 1) ranges) file)
     ∙ ap (λ (rows : List TakenRow). given ++ rows) (sym (step taken i ranges d file lt)) ∙ left whole)
+
+-- ---- one volume
+
+-- where it lies is told of the file
+pub placed : (known : Option (List ℕ)) (len : ℕ) (number : ℕ) (found : FoundRange) (place : VolumePlace) → IsTold known (place_in number found) place
+    → (Fact : VolumePlace → List ℕ → Type 0) → OfKnown known len (Fact place) → OfKnown known len (λ file. Fact (place_in number found file) file)
+placed None len number found place told Fact given = tt
+placed (Some file) len number found place told Fact given = λ whole. subst (λ (p : VolumePlace). Fact p file) told (given whole)
+
+-- and by how it lies how much that is
+pub lying_known : (known : Option (List ℕ)) (len : ℕ) (way : Way) (counts result : ImageCounts) (all : List ℕ → ImageCounts) → result ≡ lying way counts
+    → OfKnown known len (λ file. counts ≡ all file) → OfKnown known len (λ file. result ≡ lying way (all file))
+lying_known None len way counts result all is given = tt
+lying_known (Some file) len way counts result all is given = λ whole. is ∙ ap (lying way) (given whole)
+
+-- nothing was given yet
+pub none_given : (known : Option (List ℕ)) (len : ℕ) (taken : Bool) (number : ℕ) (found : FoundRange) (given : List TakenRow)
+    → OfKnown known len (λ file. IsBeginning given (given ++ range_rows taken number found file))
+none_given None len taken number found given = tt
+none_given (Some file) len taken number found given = λ whole. record { rest = range_rows taken number found file; all_is = refl }
 
 -- ---- all volumes
 

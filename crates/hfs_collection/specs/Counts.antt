@@ -23,6 +23,9 @@ use Rattle.hfs_finds.specs.Finds.{found_directory, found_items}
 use Rattle.hfs_finds.specs.Images.{FoundImage, found_image, said_of}
 use Rattle.hfs_collection.specs.declared.counts.FileCounts.{FileCounts}
 use Rattle.hfs_collection.specs.declared.counts.ImageCounts.{ImageCounts}
+use Rattle.hfs_collection.specs.declared.places.Way.{Way}
+use Rattle.hfs_collection.specs.declared.places.Way.TheVariants.{Found, WrongSum, Lost}
+use Rattle.hfs_collection.specs.Volumes.{way_in}
 
 -- ---- sums
 
@@ -37,16 +40,25 @@ abbrev pub both_files : FileCounts → FileCounts → FileCounts
 both_files a b = record { files = a.files + b.files; damaged = a.damaged + b.damaged }
 
 abbrev pub no_volumes : ImageCounts
-no_volumes = record { volumes = 0; refused = 0; files = 0; damaged = 0 }
+no_volumes = record { volumes = 0; refused = 0; files = 0; damaged = 0; wrong_sums = 0 }
 
 abbrev pub sound_volume : ℕ → ImageCounts
-sound_volume files = record { volumes = 1; refused = 0; files = files; damaged = 0 }
+sound_volume files = record { volumes = 1; refused = 0; files = files; damaged = 0; wrong_sums = 0 }
 
 abbrev pub refused_volume : FileCounts → ImageCounts
-refused_volume counts = record { volumes = 1; refused = 1; files = counts.files; damaged = counts.damaged }
+refused_volume counts = record { volumes = 1; refused = 1; files = counts.files; damaged = counts.damaged; wrong_sums = 0 }
 
 abbrev pub both_volumes : ImageCounts → ImageCounts → ImageCounts
-both_volumes a b = record { volumes = a.volumes + b.volumes; refused = a.refused + b.refused; files = a.files + b.files; damaged = a.damaged + b.damaged }
+both_volumes a b = record { volumes = a.volumes + b.volumes; refused = a.refused + b.refused; files = a.files + b.files; damaged = a.damaged + b.damaged; wrong_sums = a.wrong_sums + b.wrong_sums }
+
+-- a volume that lies in its file this way
+abbrev pub wrong_sum : Way → ℕ
+wrong_sum (Found container) = 0
+wrong_sum WrongSum = 1
+wrong_sum Lost = 0
+
+abbrev pub lying : Way → ImageCounts → ImageCounts
+lying way counts = record { volumes = counts.volumes; refused = counts.refused; files = counts.files; damaged = counts.damaged; wrong_sums = wrong_sum way }
 
 -- ---- the files of a volume
 
@@ -89,10 +101,14 @@ fault_counts (Some why) bytes = refused_volume (files_by bytes (found_directory 
 unfoldable pub volume_counts : List ℕ → ImageCounts
 volume_counts bytes = fault_counts (fault_of bytes) bytes
 
+-- the volume in a range of a file
+abbrev pub range_counts : FoundRange → List ℕ → ImageCounts
+range_counts found file = lying (way_in found file) (volume_counts (bytes_in found.range file))
+
 -- the volumes in these ranges of a file
 abbrev pub volume_counts_from : List FoundRange → List ℕ → ImageCounts
 volume_counts_from [] file = no_volumes
-volume_counts_from (found ∷ ranges) file = both_volumes (volume_counts (bytes_in found.range file)) (volume_counts_from ranges file)
+volume_counts_from (found ∷ ranges) file = both_volumes (range_counts found file) (volume_counts_from ranges file)
 
 -- the volume that is lost in a file, where there is a directory
 abbrev pub counts_by_directory : Option Mdb → List ℕ → ImageCounts

@@ -1,5 +1,5 @@
 -- The rows of the volumes in a file.
-use Rattle.std.specs.Prelude.{ℕ, ◌+◌, Bool, List, [], ◌∷◌, ◌++◌, codes, length, Option, Some, None}
+use Rattle.std.specs.Prelude.{ℕ, ◌+◌, Bool, true, false, List, [], ◌∷◌, ◌++◌, codes, length, Option, Some, None}
 use Rattle.hfs_fields.specs.declared.mdb.Mdb.{Mdb}
 use Rattle.hfs_blocks.specs.Blocks.{block_at}
 use Rattle.hfs_check.specs.declared.mount_fault.MountFault.{MountFault}
@@ -11,14 +11,15 @@ use Rattle.hfs_table.specs.Columns.{moment_cell}
 use Rattle.hfs_model.specs.Children.{entries_of}
 use Rattle.hfs_check.specs.VolumeOf.{volume_of}
 use Rattle.hfs_refusals.specs.Refusals.{refusal_text}
-use Rattle.hfs_commands.specs.Volumes.{container_text, name_text}
+use Rattle.hfs_commands.specs.Volumes.{container_text, name_text, sum_told}
+use Rattle.hfs_containers.specs.declared.ranges.Container.{Container}
 use Rattle.hfs_finds.specs.Finds.{found_directory}
 use Rattle.hfs_rows.specs.declared.value.RowValue.{RowValue}
 use Rattle.hfs_rows.specs.declared.value.RowValue.TheVariants.{Empty, Number, Text}
 use Rattle.hfs_rows.specs.declared.value.Table.TheVariants.{Volume}
 use Rattle.hfs_rows.specs.Taken.{TakenRow, row_of}
 use Rattle.hfs_collection.specs.declared.places.Way.{Way}
-use Rattle.hfs_collection.specs.declared.places.Way.TheVariants.{Found, Lost}
+use Rattle.hfs_collection.specs.declared.places.Way.TheVariants.{Found, WrongSum, Lost}
 use Rattle.hfs_collection.specs.declared.places.VolumePlace.{VolumePlace}
 use Rattle.hfs_collection.specs.Values.{cell_value, text_value}
 use Rattle.hfs_collection.specs.Items.{item_rows}
@@ -26,9 +27,23 @@ use Rattle.hfs_collection.specs.Remains.{remains_rows}
 
 -- ---- places
 
--- a volume that was found, with this number
-abbrev pub place_of : ℕ → FoundRange → VolumePlace
-place_of number found = record { number = number; way = Found found.container; range = found.range }
+-- how a volume lies that was found, by what is told of its sum
+abbrev pub way_of : Container → Option Bool → Way
+way_of container None = Found container
+way_of container (Some true) = Found container
+way_of container (Some false) = WrongSum
+
+-- a volume that was found, with this number and what is told of its sum
+abbrev pub place_of : ℕ → FoundRange → Option Bool → VolumePlace
+place_of number found sum = record { number = number; way = way_of found.container sum; range = found.range }
+
+-- how a volume lies that was found in a file
+abbrev pub way_in : FoundRange → List ℕ → Way
+way_in found file = way_of found.container (sum_told found.container (bytes_in found.range file))
+
+-- a volume that was found in a file
+abbrev pub place_in : ℕ → FoundRange → List ℕ → VolumePlace
+place_in number found file = place_of number found (sum_told found.container (bytes_in found.range file))
 
 -- the whole file of so many bytes, where its volume is lost
 abbrev pub lost_place : ℕ → VolumePlace
@@ -37,6 +52,7 @@ lost_place len = record { number = 0; way = Lost; range = range_of 0 len }
 -- how a volume lies in its file
 abbrev pub way_text : Way → List ℕ
 way_text (Found container) = container_text container
+way_text WrongSum = codes "disk copy, sum wrong"
 way_text Lost = codes "lost"
 
 -- ---- the values of a row
@@ -92,11 +108,15 @@ volume_rows taken place bytes = fault_rows taken place (fault_of bytes) bytes
 
 -- ---- the rows of a file
 
+-- those of the volume in this range of a file
+abbrev pub range_rows : Bool → ℕ → FoundRange → List ℕ → List TakenRow
+range_rows taken number found file = volume_rows taken (place_in number found file) (bytes_in found.range file)
+
 -- those of the volumes in these ranges of a file, with numbers from this one on
 abbrev pub volume_rows_from : Bool → ℕ → List FoundRange → List ℕ → List TakenRow
 volume_rows_from taken number [] file = []
 volume_rows_from taken number (found ∷ ranges) file =
-    volume_rows taken (place_of number found) (bytes_in found.range file) ++ volume_rows_from taken (number + 1) ranges file
+    range_rows taken number found file ++ volume_rows_from taken (number + 1) ranges file
 
 -- those of a refused file in which a directory is found: none where there is none
 unfoldable pub rows_by_directory : Bool → VolumePlace → MountFault → Option Mdb → List ℕ → List TakenRow

@@ -2,6 +2,7 @@
 ghost use Rattle.std.specs.Prelude.{◌≡◌, IfSome};
 ghost use Rattle.hfs_collection.specs.Counts as spec;
 
+use crate::places::Way;
 use hfs_model::ItemKind;
 
 /// How much an image holds.
@@ -15,6 +16,8 @@ pub struct ImageCounts {
     pub files: u64,
     /// How many of them have a fork that isn't whole.
     pub damaged: u64,
+    /// How many of the volumes are disk copies whose sum is wrong.
+    pub wrong_sums: u64,
 }
 
 /// How many files have a row, and how many of them have a fork that isn't whole.
@@ -59,6 +62,16 @@ impl FileCounts {
     }
 }
 
+/// How many wrong sums a volume has that lies in its file this way.
+fn wrong_sum(way: Way) -> u64
+    ensures { result ≡ spec.wrong_sum way }
+{
+    match way {
+        Way::WrongSum => 1,
+        Way::Found(_) | Way::Lost => 0,
+    }
+}
+
 impl ImageCounts {
     /// No volume.
     pub(crate) fn none() -> ImageCounts
@@ -69,6 +82,7 @@ impl ImageCounts {
             refused: 0,
             files: 0,
             damaged: 0,
+            wrong_sums: 0,
         }
     }
 
@@ -81,6 +95,7 @@ impl ImageCounts {
             refused: 0,
             files,
             damaged: 0,
+            wrong_sums: 0,
         }
     }
 
@@ -93,6 +108,20 @@ impl ImageCounts {
             refused: 1,
             files: counts.files,
             damaged: counts.damaged,
+            wrong_sums: 0,
+        }
+    }
+
+    /// A volume that lies in its file this way.
+    pub(crate) fn lying(self, way: Way) -> ImageCounts
+        ensures { result ≡ spec.lying way self }
+    {
+        ImageCounts {
+            volumes: self.volumes,
+            refused: self.refused,
+            files: self.files,
+            damaged: self.damaged,
+            wrong_sums: wrong_sum(way),
         }
     }
 
@@ -105,6 +134,7 @@ impl ImageCounts {
             refused: self.refused.checked_add(more.refused)?,
             files: self.files.checked_add(more.files)?,
             damaged: self.damaged.checked_add(more.damaged)?,
+            wrong_sums: self.wrong_sums.checked_add(more.wrong_sums)?,
         })
     }
 }

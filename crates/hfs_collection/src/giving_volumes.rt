@@ -12,9 +12,9 @@ ghost use Rattle.hfs_needed.specs.Known.{OfKnown};
 ghost use Rattle.hfs_rows.specs.declared.value.Table.TheVariants as table;
 ghost use Rattle.hfs_rows.specs.Taken.{IsBeginning, row_of};
 ghost use Rattle.hfs_collection.specs.Items.{item_rows};
-ghost use Rattle.hfs_collection.specs.Volumes.{lost_place, lost_rows, volume_rows, volume_values};
+ghost use Rattle.hfs_collection.specs.Volumes.{lost_place, lost_rows, place_in, range_rows, volume_rows, volume_values};
 ghost use Rattle.hfs_inventory.specs.Told.{told_rows};
-ghost use Rattle.hfs_collection.specs.Counts.{file_total, lost_counts, volume_counts};
+ghost use Rattle.hfs_collection.specs.Counts.{file_total, lost_counts, range_counts, volume_counts};
 ghost use Rattle.hfs_collection.specs.Giving.{IsDirectory};
 
 use crate::counts::ImageCounts;
@@ -23,7 +23,8 @@ use crate::giving::give_items;
 use crate::giving_remains::{give_refused, give_volume_row, give_where_found};
 use crate::places::VolumePlace;
 use crate::source::ImageFile;
-use hfs_containers::{ByteRange, ReadAt, Window};
+use hfs_commands::sum_told;
+use hfs_containers::{ByteRange, FoundRange, ReadAt, Window};
 use hfs_fields::Mdb;
 use hfs_needed::{NeededFault, OpenedImage};
 use hfs_rows::RowTaker;
@@ -102,7 +103,7 @@ fn open_window<S: ReadAt, F: ImageFile<S>>(
 
 /// Gives the row of the volume that lies in a range of a file of `len` bytes, and those of its items, or of what remains of them where it
 /// is refused. Answers how much that is.
-pub(crate) fn give_volume<S: ReadAt + Drop, F: ImageFile<S>, T: RowTaker>(
+fn give_volume<S: ReadAt + Drop, F: ImageFile<S>, T: RowTaker>(
     alloc: Global,
     taker: &mut T,
     file: &F,
@@ -137,6 +138,45 @@ pub(crate) fn give_volume<S: ReadAt + Drop, F: ImageFile<S>, T: RowTaker>(
         Err(NeededFault::ReadFailed) => Err(CollectFault::ReadFailed),
         Err(NeededFault::Memory) => Err(CollectFault::NoMemory),
     }
+}
+
+/// Where a volume lies that was found in a file, with this number; of a disk copy all bytes are read, to tell whether its sum is right.
+fn place_in<S: ReadAt + Drop, F: ImageFile<S>>(
+    file: &F,
+    number: u64,
+    found: &FoundRange,
+) -> Result<VolumePlace, CollectFault>
+    ensures place { IfOk result (IsTold (F.known file.now) (place_in number found.now)) }
+    ensures range { IfOk result (λ place. place.range ≡ found.now.range) }
+{
+    let mut source = file.open()?;
+    let sum = sum_told(&mut source, found)?;
+    Ok(VolumePlace::of(number, found, sum))
+}
+
+/// Gives the row of the volume in a range of a file of `len` bytes, with this number, and those of its items, or of what remains of them where it is
+/// refused. Answers how much that is.
+pub(crate) fn give_range<S: ReadAt + Drop, F: ImageFile<S>, T: RowTaker>(
+    alloc: Global,
+    taker: &mut T,
+    file: &F,
+    len: u64,
+    number: u64,
+    found: &FoundRange,
+    taken: bool,
+) -> Result<ImageCounts, CollectFault>
+    ensures whole { OnOk result (OfKnown (F.known file.now) len (λ file. T.given taker.new
+        ≡ T.given taker.old ++ range_rows taken number found.now file)) }
+    ensures part { OnErr result (OfKnown (F.known file.now) len (λ file. IsBeginning
+        (T.given taker.new) (T.given taker.old ++ range_rows taken number found.now file))) }
+    ensures counted { IfOk result (λ counts. OfKnown (F.known file.now) len (λ file.
+        counts ≡ range_counts found.now file)) }
+    ensures reference { T.reference taker.new ≡ T.reference taker.old }
+    ensures place { T.place taker.new ≡ T.place taker.old }
+{
+    let place = place_in(file, number, found)?;
+    let counts = give_volume(alloc, taker, file, len, &place, taken)?;
+    Ok(counts.lying(place.way))
 }
 
 /// Gives the row of the volume that is lost in a file of `len` bytes, and those of what remains of it, where a directory is found in the

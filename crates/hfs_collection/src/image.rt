@@ -11,8 +11,7 @@ ghost use Rattle.hfs_collection.specs.Volumes.{all_volume_rows, volume_rows_from
 use crate::counts::ImageCounts;
 use crate::digests::{digest_text, file_digest};
 use crate::fault::CollectFault;
-use crate::giving_volumes::{give_lost, give_volume};
-use crate::places::VolumePlace;
+use crate::giving_volumes::{give_lost, give_range};
 use crate::source::ImageFile;
 use crate::values::{push_number, push_value, push_whole_text};
 use hfs_containers::{FoundRange, ReadAt, find_ranges};
@@ -89,8 +88,7 @@ fn give_volumes<S: ReadAt + Drop, F: ImageFile<S>, T: RowTaker>(
 {
     let mut counts = ImageCounts::none();
     for i in 0..ranges.len() {
-        let place = VolumePlace::of(i as u64 + 1, &ranges[i]);
-        let more = give_volume(alloc, taker, file, len, &place, taken)?;
+        let more = give_range(alloc, taker, file, len, i as u64 + 1, &ranges[i], taken)?;
         let Some(sum) = counts.with(more) else {
             return Err(CollectFault::NoMemory);
         };

@@ -1,6 +1,6 @@
 //! The volumes of a file, as their rows tell them.
 ghost use Rattle.std.specs.Prelude.{◌≡◌};
-ghost use Rattle.hfs_collection.specs.Volumes.{lost_place, place_of};
+ghost use Rattle.hfs_collection.specs.Volumes.{lost_place, place_of, way_of};
 
 use hfs_containers::{ByteRange, Container, FoundRange};
 
@@ -9,6 +9,8 @@ use hfs_containers::{ByteRange, Container, FoundRange};
 pub(crate) enum Way {
     /// It was found there.
     Found(Container),
+    /// It was found as the data of a disk copy, whose sum is wrong.
+    WrongSum,
     /// It is the whole file, in which no volume was found, but a directory.
     Lost,
 }
@@ -22,14 +24,24 @@ pub(crate) struct VolumePlace {
     pub(crate) range: ByteRange,
 }
 
+/// How a volume lies that was found, by whether its sum is right.
+fn way_of(container: Container, sum: Option<bool>) -> Way
+    ensures { result ≡ way_of container sum }
+{
+    match sum {
+        Some(true) | None => Way::Found(container),
+        Some(false) => Way::WrongSum,
+    }
+}
+
 impl VolumePlace {
-    /// That of a volume that was found, with this number.
-    pub(crate) fn of(number: u64, found: &FoundRange) -> VolumePlace
-        ensures { result ≡ place_of number found.now }
+    /// That of a volume that was found, with this number and what is told of its sum.
+    pub(crate) fn of(number: u64, found: &FoundRange, sum: Option<bool>) -> VolumePlace
+        ensures { result ≡ place_of number found.now sum }
     {
         VolumePlace {
             number,
-            way: Way::Found(found.container),
+            way: way_of(found.container, sum),
             range: found.range,
         }
     }

@@ -35,6 +35,7 @@ fn way_word(way: Way) -> &'static str
 {
     match way {
         Way::Found(container) => container_word(container),
+        Way::WrongSum => "disk copy, sum wrong",
         Way::Lost => "lost",
     }
 }

@@ -35,6 +35,7 @@ status_of fault.WordsNotText = status.WordsRefused
 status_of (fault.Refused why) = status.ImageRefused
 status_of (fault.NoVolume n) = status.ImageRefused
 status_of fault.NoVolumes = status.ImageRefused
+status_of (fault.SeveralVolumes n) = status.ImageRefused
 status_of fault.BadName = status.ImageRefused
 status_of fault.BadSize = status.ImageRefused
 status_of fault.BadNodeCount = status.ImageRefused
@@ -54,6 +55,7 @@ fault_text fault.WordsNotText = codes "the words are not text"
 fault_text (fault.Refused why) = refusal_text why
 fault_text (fault.NoVolume n) = codes "no volume " ++ decimal n
 fault_text fault.NoVolumes = codes "no HFS volume"
+fault_text (fault.SeveralVolumes n) = decimal n ++ codes " volumes lie inside; name one by --volume"
 fault_text fault.BadName = codes "bad name"
 fault_text fault.BadSize = codes "bad size"
 fault_text fault.BadNodeCount = codes "bad node count"
@@ -79,14 +81,18 @@ fault_of_run run.Memory = fault.NoMemory
 abbrev pub IsTooMuch : Fault → Type 0
 IsTooMuch why = (why ≡ fault.Refused mount.TooLarge) ⊎ (why ≡ fault.NoMemory)
 
--- there is no volume with the number that is asked for
-abbrev pub IsNoVolume : Option ℕ → Fault → Type 0
-IsNoVolume None why = ⊥
-IsNoVolume (Some n) why = why ≡ fault.NoVolume n
+-- there is no volume with the number that is asked for; or none is named, and several lie inside
+abbrev pub IsUnnamed : Option ℕ → Fault → Type 0
+IsUnnamed None why = (n : ℕ) × (why ≡ fault.SeveralVolumes n)
+IsUnnamed (Some n) why = why ≡ fault.NoVolume n
 
--- a file, or the volume with this number in it, was not opened
+-- a file can't be read, or it is too much
+abbrev pub IsUnreadFile : Bor (List ℕ) → Fault → Type 0
+IsUnreadFile path why = (why ≡ fault.CannotRead path) ⊎ IsTooMuch why
+
+-- a file, or the volume in it that is asked for, was not opened
 abbrev pub IsUnopened : Bor (List ℕ) → Option ℕ → Fault → Type 0
-IsUnopened path volume why = (why ≡ fault.CannotRead path) ⊎ (IsTooMuch why ⊎ IsNoVolume volume why)
+IsUnopened path volume why = (why ≡ fault.CannotRead path) ⊎ (IsTooMuch why ⊎ IsUnnamed volume why)
 
 -- a script has too many bytes, or more than there is memory for
 abbrev pub IsTooMuchScript : Fault → Type 0

@@ -81,6 +81,8 @@ pub enum Fault<'a> {
     NoVolume(u64),
     /// A file has no volume.
     NoVolumes,
+    /// So many volumes lie inside a file, and none of them is named.
+    SeveralVolumes(u64),
     /// A new volume can't have this name.
     BadName,
     /// A new volume can't have so few or so many blocks.
@@ -115,6 +117,7 @@ impl Fault<'_> {
         match self {
             Fault::WordsNotText => Status::WordsRefused,
             Fault::Refused(_) | Fault::NoVolume(_) | Fault::NoVolumes => Status::ImageRefused,
+            Fault::SeveralVolumes(_) => Status::ImageRefused,
             Fault::BadName | Fault::BadSize | Fault::BadNodeCount | Fault::NoRoom => {
                 Status::ImageRefused
             }
@@ -262,6 +265,9 @@ impl fmt::Display for Fault<'_> {
             Fault::Refused(why) => write!(f, "{}", Refusal(*why)),
             Fault::NoVolume(n) => write!(f, "no volume {n}"),
             Fault::NoVolumes => write!(f, "no HFS volume"),
+            Fault::SeveralVolumes(n) => {
+                write!(f, "{n} volumes lie inside; name one by --volume")
+            }
             Fault::BadName => write!(f, "bad name"),
             Fault::BadSize => write!(f, "bad size"),
             Fault::BadNodeCount => write!(f, "bad node count"),

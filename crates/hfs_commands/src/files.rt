@@ -5,24 +5,11 @@ ghost use Rattle.hfs_commands.specs.Faults.{IsTooMuch, IsUnreadScript};
 use crate::fault::Fault;
 use crate::watched::WatchedFile;
 use hfs_check::MountFault;
-use hfs_sparse::{FileReader, SeekSource};
 use hfs_texts::{IMAGE_LIMIT, LoadFault, load, load_within};
 use std::alloc::Global;
 use std::fs::{File, OpenFile};
 use std::io::{Read, Seek};
 use std::rt::Files;
-
-/// An image that was opened.
-#[derive(Drop)]
-pub enum ImageFile<F: Read + Seek> {
-    /// A file of so many bytes, to be read where it is needed.
-    Seekable {
-        source: SeekSource<FileReader<F>>,
-        len: u64,
-    },
-    /// All bytes of anything else, such as a pipe.
-    Whole(Vec<u8>),
-}
 
 /// All bytes of what was opened by this path, at most 2,147,483,648. Faults: `CannotRead` where a read fails, `Refused(TooLarge)`
 /// where there are more, `NoMemory`.
@@ -61,27 +48,6 @@ pub(crate) fn regular_len<F: OpenFile>(file: &F) -> Option<u64> {
         return None;
     }
     Some(metadata.len())
-}
-
-/// Opens an image by its path: a regular file is left to be read where it is needed, and of anything else all bytes are read. Faults:
-/// as [`load_file`] has them, but that of a file's length, which its checks tell.
-pub fn open_image<'a, R: Files + AllocGlobal>(
-    rt: &R,
-    path: &'a str,
-) -> Result<ImageFile<R::File>, Fault<'a>>
-    ensures { IfErr result (λ why. (why ≡ Fault.CannotRead path.entry) ⊎ IsTooMuch why) }
-{
-    let Ok(mut file) = File::open(rt, path) else {
-        return Err(Fault::CannotRead(path));
-    };
-    let Some(len) = regular_len(&file) else {
-        let bytes = load_opened(rt.alloc(), &mut file, path)?;
-        return Ok(ImageFile::Whole(bytes));
-    };
-    Ok(ImageFile::Seekable {
-        source: SeekSource::new(FileReader(file)),
-        len,
-    })
 }
 
 /// An image that was opened to be changed.

@@ -1,11 +1,16 @@
 //! A file that volumes lie in, by its path.
-ghost use Rattle.std.specs.Prelude.{◌≡◌, ◌⊎◌, IfErr};
-ghost use Rattle.hfs_commands.specs.Faults.{IsTooMuch, IsUnopened};
+ghost use Rattle.std.specs.Prelude.{◌≡◌, IfErr, IfOk, IfSome, None};
+ghost use Rattle.std.specs.Option.{is_some};
+ghost use Rattle.hfs_containers.specs.Asking.{IsAnswerTo, asked_in};
+ghost use Rattle.hfs_containers.specs.Reading.{IsToldOf};
+ghost use Rattle.hfs_commands.specs.Faults.{IsUnopened, IsUnreadFile};
+ghost use Rattle.hfs_commands.specs.OpenedFiles.{known_bytes};
+ghost use Rattle.hfs_commands.specs.Parts.{IsRangeAt, asked_at};
 
 use crate::fault::Fault;
 use crate::files::{load_opened, regular_len};
 use crate::opened_file::OpenedFile;
-use hfs_containers::{ByteRange, PlacedFile, Window, nth_range};
+use hfs_containers::{Asked, ByteRange, Counted, NumberedRange, PlacedFile, Window, find_asked};
 use hfs_sparse::FileReader;
 use std::alloc::Global;
 use std::fs::{File, OpenFile};
@@ -34,7 +39,7 @@ fn loaded<'a, F: Read + Seek + Drop>(
     mut file: F,
     path: &'a str,
 ) -> Result<Window<OpenedFile<F>>, Fault<'a>>
-    ensures { IfErr result (λ why. (why ≡ Fault.CannotRead path.entry) ⊎ IsTooMuch why) }
+    ensures { IfErr result (IsUnreadFile path.entry) }
 {
     let bytes = load_opened(alloc, &mut file, path)?;
     let len = bytes.len() as u64;
@@ -51,7 +56,7 @@ pub fn open_file<'a, R: Files + AllocGlobal>(
     rt: &R,
     path: &'a str,
 ) -> Result<Window<OpenedFile<R::File>>, Fault<'a>>
-    ensures { IfErr result (λ why. (why ≡ Fault.CannotRead path.entry) ⊎ IsTooMuch why) }
+    ensures { IfErr result (IsUnreadFile path.entry) }
 {
     let Ok(mut file) = File::open(rt, path) else {
         return Err(Fault::CannotRead(path));
@@ -65,29 +70,144 @@ pub fn open_file<'a, R: Files + AllocGlobal>(
     }
 }
 
-/// Opens the `n`-th volume that lies in a file, counted from 1. Faults: as [`open_file`] has them; `NoVolume` where there are fewer, and for 0.
-pub fn open_volume<'a, R: Files + AllocGlobal>(
-    rt: &R,
-    path: &'a str,
-    n: u64,
-) -> Result<Window<OpenedFile<R::File>>, Fault<'a>>
-    ensures { IfErr result (λ why. (why ≡ Fault.CannotRead path.entry) ⊎ IsTooMuch why
-        ⊎ (why ≡ Fault.NoVolume n)) }
+/// A part of a file: the file as it is, or a range that lies inside.
+#[derive(Drop)]
+pub struct FilePart<F: Read + Seek> {
+    /// Its bytes.
+    pub bytes: Window<OpenedFile<F>>,
+    /// Where it lies in the file, if it is a range inside.
+    pub place: Option<NumberedRange>,
+}
+
+/// A file as it is.
+fn whole_part<F: Read + Seek>(bytes: Window<OpenedFile<F>>) -> FilePart<F>
+    ensures bytes { result.bytes ≡ bytes }
+    ensures place { result.place ≡ None }
 {
-    let mut file = open_file(rt, path)?;
-    let len = file.len();
-    match nth_range(rt.alloc(), &mut file, len, n) {
-        Ok(Some(found)) => Ok(Window {
-            source: file.source,
-            range: found.range,
+    FilePart { bytes, place: None }
+}
+
+/// What is asked for of a file that was opened, by the number of a range in it or without one, as [`find_asked`] says. Faults: `NoVolume` where there
+/// is no such range; `SeveralVolumes` where no number is given and several count; a read failed, memory was refused.
+#[tactic(auto, using(crate::proofs::PartLemmas::several_unnamed, crate::proofs::PartLemmas::missing_unnamed))]
+pub fn part_of<'a, F: Read + Seek + Drop>(
+    alloc: Global,
+    file: Window<OpenedFile<F>>,
+    path: &'a str,
+    counted: Counted,
+    volume: Option<u64>,
+) -> Result<FilePart<F>, Fault<'a>>
+    ensures asked { IfOk result (λ part. IsToldOf (known_bytes file.source) file.range.len
+        (asked_in counted volume) (asked_at part.place)) }
+    ensures answer { IfOk result (λ part. IsAnswerTo volume (asked_at part.place)) }
+    ensures range { IfOk result (λ part. IsRangeAt part.place part.bytes.range) }
+    ensures whole { IfOk result (λ part. part.place ≡ None → part.bytes.range ≡ file.range) }
+    ensures known { IfOk result (λ part. known_bytes part.bytes.source ≡ known_bytes file.source) }
+    ensures fault { IfErr result (IsUnopened path.entry volume) }
+{
+    let Window { mut source, range } = file;
+    match find_asked(alloc, &mut source, range.len, counted, volume) {
+        Ok(Asked::WholeFile) => Ok(whole_part(Window { source, range })),
+        Ok(Asked::Inside(place)) => Ok(FilePart {
+            bytes: Window {
+                source,
+                range: place.found.range,
+            },
+            place: Some(place),
         }),
-        Ok(None) => Err(Fault::NoVolume(n)),
+        Ok(Asked::Several(n)) => Err(Fault::SeveralVolumes(n)),
+        Ok(Asked::Missing(n)) => Err(Fault::NoVolume(n)),
         Err(fault) => Err(Fault::of_sparse(fault, path)),
     }
 }
 
-/// Opens an image, or the volume with this number that lies in it, as bytes and blocks that are read where they are needed. An image is taken as it is: a
-/// regular file is read where it is needed, and of anything else all bytes are read. Faults: as [`open_volume`] has them.
+/// How many bytes a file has that can be sought in, where it has any: a regular file or a device. A folder has none.
+fn sought_len<F: OpenFile + Seek>(file: &mut F) -> Option<u64> {
+    if let Some(len) = regular_len(file) {
+        return Some(len);
+    }
+    if is_folder(file) {
+        return None;
+    }
+    match file.seek(SeekFrom::End(0)) {
+        Ok(0) | Err(_) => None,
+        Ok(len) => Some(len),
+    }
+}
+
+/// Opens an image as it is: what can be sought in is read where it is needed, and of anything else all bytes are read. Faults: as [`open_file`] has them.
+fn open_image_bytes<'a, R: Files + AllocGlobal>(
+    rt: &R,
+    path: &'a str,
+) -> Result<Window<OpenedFile<R::File>>, Fault<'a>>
+    ensures { IfErr result (IsUnreadFile path.entry) }
+{
+    let Ok(mut file) = File::open(rt, path) else {
+        return Err(Fault::CannotRead(path));
+    };
+    match sought_len(&mut file) {
+        Some(len) => Ok(sought(file, len)),
+        None => loaded(rt.alloc(), file, path),
+    }
+}
+
+/// Whether all bytes of a file are held.
+fn is_held<F: Read + Seek>(file: &OpenedFile<F>) -> bool
+    ensures { result ≡ is_some (known_bytes file.now) }
+{
+    match file {
+        OpenedFile::Whole(_) => true,
+        OpenedFile::Seekable(_) => false,
+    }
+}
+
+/// What is taken of an image of which no volume is named. What can't be sought in, such as a pipe, is taken as it is.
+fn chosen_part<'a, F: Read + Seek + Drop>(
+    alloc: Global,
+    bytes: Window<OpenedFile<F>>,
+    path: &'a str,
+    counted: Counted,
+) -> Result<FilePart<F>, Fault<'a>>
+    ensures pipe { IfSome (known_bytes bytes.source) (λ _. IfOk result (λ part. part.place ≡ None)) }
+    ensures range { IfOk result (λ part. IsRangeAt part.place part.bytes.range) }
+    ensures fault { IfErr result (IsUnopened path.entry None) }
+{
+    if is_held(&bytes.source) {
+        return Ok(whole_part(bytes));
+    }
+    part_of(alloc, bytes, path, counted, None)
+}
+
+/// Opens what is asked for of an image: the volume with this number that lies in it, 0 being the image as it is; without a number what
+/// [`find_asked`] chooses, where the image can be sought in, and else the image as it is. What can be sought in is read where it is needed. Faults: as
+/// [`open_file`] and [`part_of`] have them.
+pub fn open_asked<'a, R: Files + AllocGlobal>(
+    rt: &R,
+    path: &'a str,
+    counted: Counted,
+    volume: Option<u64>,
+) -> Result<FilePart<R::File>, Fault<'a>>
+    ensures answer { IfOk result (λ part. IsAnswerTo volume (asked_at part.place)) }
+    ensures range { IfOk result (λ part. IsRangeAt part.place part.bytes.range) }
+    ensures fault { IfErr result (IsUnopened path.entry volume) }
+{
+    match volume {
+        None => {
+            let bytes = open_image_bytes(rt, path)?;
+            chosen_part(rt.alloc(), bytes, path, counted)
+        }
+        Some(0) => {
+            let bytes = open_image_bytes(rt, path)?;
+            Ok(whole_part(bytes))
+        }
+        Some(_) => {
+            let file = open_file(rt, path)?;
+            part_of(rt.alloc(), file, path, counted, volume)
+        }
+    }
+}
+
+/// Opens what is asked for of an image, as [`open_asked`] does, where the ranges count that hold a volume.
 pub fn open_part<'a, R: Files + AllocGlobal>(
     rt: &R,
     path: &'a str,
@@ -95,24 +215,6 @@ pub fn open_part<'a, R: Files + AllocGlobal>(
 ) -> Result<Window<OpenedFile<R::File>>, Fault<'a>>
     ensures { IfErr result (IsUnopened path.entry volume) }
 {
-    match volume {
-        Some(n) => open_volume(rt, path, n),
-        None => open_image_bytes(rt, path),
-    }
-}
-
-/// Opens an image as it is.
-fn open_image_bytes<'a, R: Files + AllocGlobal>(
-    rt: &R,
-    path: &'a str,
-) -> Result<Window<OpenedFile<R::File>>, Fault<'a>>
-    ensures { IfErr result (λ why. (why ≡ Fault.CannotRead path.entry) ⊎ IsTooMuch why) }
-{
-    let Ok(file) = File::open(rt, path) else {
-        return Err(Fault::CannotRead(path));
-    };
-    match regular_len(&file) {
-        Some(len) => Ok(sought(file, len)),
-        None => loaded(rt.alloc(), file, path),
-    }
+    let part = open_asked(rt, path, Counted::Volumes, volume)?;
+    Ok(part.bytes)
 }

@@ -1,7 +1,7 @@
 //! What a refusal means, for who reads it at a terminal.
 
 use hfs_check::MountFault;
-use hfs_commands::Hint;
+use hfs_commands::{Hint, ShownPath};
 use std::io::IsTerminal;
 
 /// Tells on standard error what a refusal means and which word helps, where that is a terminal. Where
@@ -12,5 +12,13 @@ pub fn tell_hint(rt: &HostRuntime, why: MountFault) {
     }
     if let Some(hint) = Hint::of(why) {
         let _printed = eprintln!(rt; "{hint}");
+    }
+}
+
+/// Tells on standard error that the sum of the disk copy in this file is wrong, where it is. Where nothing
+/// can be written there, the program goes on.
+pub fn tell_sum(rt: &HostRuntime, path: &str, is_wrong: bool) {
+    if is_wrong {
+        let _printed = eprintln!(rt; "{}: the sum of the disk copy is wrong", ShownPath(path));
     }
 }

@@ -8,7 +8,7 @@ mod printing;
 mod reasons;
 mod refusing;
 
-pub use crate::hints::tell_hint;
+pub use crate::hints::{tell_hint, tell_sum};
 pub use crate::kinds::tell_kind;
 pub use crate::line::Line;
 pub use crate::printing::{VERSION, print_lines};

@@ -1,5 +1,6 @@
 pub mod Told
 pub mod Shorter
 mod Entries
+mod Counting
 mod SumLemmas
 mod Windows

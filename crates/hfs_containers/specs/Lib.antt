@@ -4,4 +4,5 @@ pub mod MacBinary
 pub mod DiskCopy
 pub mod PartitionMap
 pub mod Found
+pub mod Asking
 pub mod Sums

@@ -2,6 +2,7 @@
 //! it were the file.
 #![tactic(auto)]
 
+mod asking;
 mod disk_copy;
 mod finding;
 mod macbinary;
@@ -14,6 +15,7 @@ mod sums;
 mod volumes;
 mod window;
 
+pub use crate::asking::{Asked, Counted, NumberedRange, find_asked};
 pub use crate::finding::{find_ranges, nth_range};
 pub use crate::placed::PlacedFile;
 pub use crate::ranges::{ByteRange, Container, FoundRange};

@@ -1,6 +1,7 @@
 -- What is given of what was found is given of the image.
 use Rattle.std.proofs.Common.{◌≡◌, ◌∙◌, ℕ, List, [], ◌++◌, map, Option, None, Some, refl, sym, ap, subst}
 use Rattle.std.specs.Prelude.{string_bytes, unwrap_or}
+use Rattle.std.specs.Option.{option_map}
 use Rattle.hfs_bag.specs.declared.facts.BagFacts.{BagFacts}
 use Rattle.hfs_bag.specs.Items.{BagItem}
 use Rattle.hfs_bag.specs.Tags.{bag_of}
@@ -71,13 +72,14 @@ answer_known (Some image) len words fault finds found answer is check finds_are 
 -- a bag tells what was told of the image before
 pub tells_known : (known : Option (List ℕ)) (len : ℕ) (mdb : Mdb) (line : Option (List ℕ)) (words : BagWords) (told : Told) (facts : BagFacts) → IsToldOf known len mdb words told
     → facts.identifier.now ≡ string_bytes told.identifier → facts.program.now ≡ words.program.now → facts.image.now ≡ string_bytes told.name → text_in facts.volume ≡ line
-    → facts.bytes ≡ len → facts.digest ≡ told.digest → facts.report.now ≡ string_bytes told.report → OfKnown known len (λ image. TellsOf image mdb line words facts)
-tells_known None len mdb line words told facts is identifier program name volume bytes digest report = tt
-tells_known (Some image) len mdb line words told facts is identifier program name volume bytes digest report = λ same. record {
+    → text_in facts.directory ≡ option_map string_bytes told.directory → facts.bytes ≡ len → facts.digest ≡ told.digest → facts.report.now ≡ string_bytes told.report → OfKnown known len (λ image. TellsOf image mdb line words facts)
+tells_known None len mdb line words told facts is identifier program name volume directory bytes digest report = tt
+tells_known (Some image) len mdb line words told facts is identifier program name volume directory bytes digest report = λ same. record {
   identifier_is = identifier ∙ is.identifier_is;
   program_is = program;
   image_is = name ∙ is.name_is;
   volume_is = volume;
+  directory_is = directory ∙ is.directory_is same;
   bytes_are = bytes ∙ sym same;
   digest_is = digest ∙ is.digest_is same;
   report_is = report ∙ is.report_is same;

@@ -1,30 +1,30 @@
 -- Facts that tell the same make the same bag.
 use Rattle.std.proofs.Common.{◌≡◌, ◌∙◌, ℕ, ◌*◌, List, [], ◌∷◌, ◌++◌, drop, length, replicate, take, Option, None, Some, sym, ap}
 use Rattle.std.proofs.lemmas.List.{drop_at, length-replicate}
-use Rattle.std.specs.Option.{option_map}
+use Rattle.std.specs.Option.{option_and_then, option_map}
 use Rattle.std.specs.Prelude.{codes}
 use Rattle.hfs_bag.specs.declared.facts.BagFacts.{BagFacts}
 use Rattle.hfs_bag.specs.Bags.{bytes_in, files_in, manifest, payload}
 use Rattle.hfs_bag.specs.Items.{BagItem}
 use Rattle.hfs_bag.specs.Sources.{BagTables}
-use Rattle.hfs_bag.specs.Tags.{bag_of, declaration_file, manifest_file, remains_files, table_file, volume_line}
+use Rattle.hfs_bag.specs.Tags.{bag_of, declaration_file, manifest_file, remains_files, table_file}
 use Rattle.hfs_blocks.specs.Blocks.{block_at}
 use Rattle.hfs_check.specs.Report.{report_of}
 use Rattle.hfs_commands.specs.Checks.{check_lines}
 use Rattle.hfs_fields.specs.declared.mdb.Mdb.{Mdb}
 use Rattle.hfs_fields.specs.Mdb.{mdb_in_block, mdb_of}
 use Rattle.hfs_finds.specs.declared.finds.Finds.{Finds}
-use Rattle.hfs_finds.specs.Finds.{IsFoundIn, found_directory}
+use Rattle.hfs_finds.specs.Finds.{IsFoundIn, found_directory, is_unsure}
 use Rattle.hfs_names.specs.PlainTexts.{plain_text}
 use Rattle.hfs_needed.specs.Known.{OfKnown}
 use Rattle.hfs_rescue.specs.Directory.{directory_of}
 use Rattle.hfs_shelves.specs.Entries.{ShelfEntry, file}
 use Rattle.hfs_sparse.specs.Sparse.{HoldsFrom}
-use Rattle.hfs_take.proofs.BagLemmas.{info_same, line_told, volume_line_is}
+use Rattle.hfs_take.proofs.BagLemmas.{info_same}
 use Rattle.hfs_texts.specs.Info.{info_lines}
 use Rattle.hfs_texts.specs.Reading.{info_text as head_lines}
 use Rattle.hfs_salvage.specs.declared.words.BagWords.{BagWords}
-use Rattle.hfs_salvage.specs.Bags.{IsReportTold, TellsOf, field_name, report_text}
+use Rattle.hfs_salvage.specs.Bags.{IsDirectoryTold, IsReportTold, TellsOf, directory_text, field_name, report_text, told_directory}
 
 -- a bag by the texts of its report and of its facts
 abbrev bag-with : List BagItem → BagTables → List ℕ → List ℕ → List ShelfEntry
@@ -38,8 +38,8 @@ pub facts_same : (image : List ℕ) (mdb other : Mdb) (told : Option (List ℕ))
 facts_same image mdb other told words f g same a b items tables =
     let identifier = a.identifier_is ∙ ap (λ (m : Mdb). plain_text (field_name m.volume_name)) same ∙ sym b.identifier_is in
     let report = a.report_is ∙ ap (report_text image) same ∙ sym b.report_is in
-    let volume : volume_line f.volume ≡ volume_line g.volume = volume_line_is f.volume ∙ ap line_told (a.volume_is ∙ sym b.volume_is) ∙ sym (volume_line_is g.volume) in
-    let info = info_same f g identifier (a.program_is ∙ sym b.program_is) (a.image_is ∙ sym b.image_is) volume
+    let directory = a.directory_is ∙ ap (told_directory image) same ∙ sym b.directory_is in
+    let info = info_same f g identifier (a.program_is ∙ sym b.program_is) (a.image_is ∙ sym b.image_is) (a.volume_is ∙ sym b.volume_is) directory
     (a.bytes_are ∙ sym b.bytes_are) (a.digest_is ∙ sym b.digest_is) (bytes_in (payload items)) (files_in (payload items)) in
     λ i. bag-with items tables (report i) (info i)
 
@@ -72,3 +72,12 @@ report_known None len finds block head lines told text long held head_is lines_a
 report_known (Some image) len finds block head lines told text long held head_is lines_are check found is = λ same.
     report-is image finds.directory finds.mdb block head lines text (found same).0 (found same).1.directory_is
     (held ∙ ap (λ (n : ℕ). take n (drop (512 * finds.directory) image)) long) head_is (lines_are ∙ check same) is
+
+-- where the image's bytes are known, the block that was found is told
+pub directory_known : (known : Option (List ℕ)) (len : ℕ) (finds : Finds) (told : Option (List ℕ)) → OfKnown known len (λ image. IsFoundIn image (Some finds))
+    → told ≡ directory_text finds.directory finds.is_unsure → IsDirectoryTold known len finds.mdb told
+directory_known None len finds told found is = tt
+directory_known (Some image) len finds told found is = λ same.
+    let by = (found same).1 in
+    is ∙ ap (directory_text finds.directory) by.unsure_is
+    ∙ ap (λ (d : Option ℕ). option_and_then (λ n. directory_text n (is_unsure image finds.mdb)) d) (sym by.directory_is)

@@ -1,5 +1,7 @@
 -- The bag of what remains of an image.
-use Rattle.std.specs.Prelude.{◌≡◌, ⊤, ℕ, List, [], ◌∷◌, ◌++◌, length, map, take, Option, string_bytes}
+use Rattle.std.specs.Prelude.{◌≡◌, ⊤, ℕ, ◌==◌, Bool, true, false, if◌then◌else◌, List, [], ◌∷◌, ◌++◌, codes, length, map, take, Option, None, Some, string_bytes}
+use Rattle.std.specs.Fmt.{decimal}
+use Rattle.std.specs.Option.{option_and_then, option_map}
 use Rattle.hfs_bag.specs.declared.facts.BagFacts.{BagFacts}
 use Rattle.hfs_bag.specs.declared.fault.BagFault.{BagFault}
 use Rattle.hfs_bag.specs.Bags.{bytes_in}
@@ -9,8 +11,10 @@ use Rattle.hfs_bag.specs.Tags.{bag_of}
 use Rattle.hfs_check.specs.Report.{report_of}
 use Rattle.hfs_commands.specs.Checks.{check_lines}
 use Rattle.hfs_fields.specs.declared.mdb.Mdb.{Mdb}
+use Rattle.hfs_finds.specs.Finds.{is_unsure}
 use Rattle.hfs_names.specs.PlainTexts.{plain_text}
 use Rattle.hfs_needed.specs.Known.{OfKnown}
+use Rattle.hfs_rescue.specs.Directory.{directory_of}
 use Rattle.hfs_rescue_items.specs.declared.found.Found.{Found}
 use Rattle.hfs_rescue_items.specs.Plan.{whole_plan}
 use Rattle.hfs_rescue_items.specs.Sources.{planned_item, rescued_tables}
@@ -33,12 +37,22 @@ field_name (len ∷ characters) = take len characters
 abbrev pub report_text : List ℕ → Mdb → List ℕ
 report_text image mdb = info_lines mdb ++ check_lines (report_of image)
 
+-- a block that is taken for the directory, and whether it is a guess; nothing of block 2, where the directory belongs, unless it is a guess
+abbrev pub directory_text : ℕ → Bool → Option (List ℕ)
+directory_text block true = Some (decimal block ++ codes " unsure")
+directory_text block false = if block == 2 then None else Some (decimal block)
+
+-- what is told of the block of an image that is taken for this directory
+abbrev pub told_directory : List ℕ → Mdb → Option (List ℕ)
+told_directory image mdb = option_and_then (λ n. directory_text n (is_unsure image mdb)) (directory_of image)
+
 -- a bag tells this of an image with these bytes and this directory, for these words; `line` is where the volume lies in its file, where it was looked for there
 pub record TellsOf (image : List ℕ) (mdb : Mdb) (line : Option (List ℕ)) (words : BagWords) (facts : BagFacts) : Type 0 where
   pub identifier_is : facts.identifier.now ≡ plain_text (field_name mdb.volume_name)
   pub program_is : facts.program.now ≡ words.program.now
   pub image_is : facts.image.now ≡ image_name words.words.image.now
   pub volume_is : text_in facts.volume ≡ line
+  pub directory_is : text_in facts.directory ≡ told_directory image mdb
   pub bytes_are : facts.bytes ≡ length image
   pub digest_is : facts.digest ≡ digest_told words.is_digested image
   pub report_is : facts.report.now ≡ report_text image mdb
@@ -70,9 +84,14 @@ IsUnfilled ShelfGave known len line words = IsBagFault (λ _. ⊤) ShelfGave (Of
 abbrev pub IsReportTold : Option (List ℕ) → ℕ → Mdb → List ℕ → Type 0
 IsReportTold known len mdb text = OfKnown known len (λ image. text ≡ report_text image mdb)
 
+-- where the image's bytes are known, and are so many, this is told of the block of this directory
+abbrev pub IsDirectoryTold : Option (List ℕ) → ℕ → Mdb → Option (List ℕ) → Type 0
+IsDirectoryTold known len mdb told = OfKnown known len (λ image. told ≡ told_directory image mdb)
+
 -- this is told of an image with this directory
 pub record IsToldOf (known : Option (List ℕ)) (len : ℕ) (mdb : Mdb) (words : BagWords) (told : Told) : Type 0 where
   pub identifier_is : string_bytes told.identifier ≡ plain_text (field_name mdb.volume_name)
   pub name_is : string_bytes told.name ≡ image_name words.words.image.now
+  pub directory_is : IsDirectoryTold known len mdb (option_map string_bytes told.directory)
   pub digest_is : IsDigestTold known len words.is_digested told.digest
   pub report_is : IsReportTold known len mdb (string_bytes told.report)

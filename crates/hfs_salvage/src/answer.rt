@@ -22,6 +22,14 @@ pub struct RescueAnswer {
     pub lines: String,
 }
 
+/// What was taken or listed of an image.
+#[derive(Drop)]
+pub struct Rescued {
+    pub answer: RescueAnswer,
+    /// Whether the sum of the disk copy is right in which it lies, if it does.
+    pub sum: Option<bool>,
+}
+
 /// Appends the first line of an image's check.
 fn push_check(text: &mut String, fault: &Option<MountFault>) -> Result<(), AllocError>
     ensures { OnOk result (Gains text.old text.new (check_line fault.now)) }

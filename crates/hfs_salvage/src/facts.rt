@@ -1,11 +1,12 @@
 //! What a bag tells of the image from which it was rescued.
 ghost use Rattle.std.specs.Prelude.{◌≡◌, ◌*◌, ◌++◌, Some, replicate, IfOk, string_bytes};
+ghost use Rattle.std.specs.Option.{option_map};
 ghost use Rattle.hfs_commands.specs.Checks.{HasCheckLines};
 ghost use Rattle.hfs_finds.specs.Finds.{IsFoundIn};
 ghost use Rattle.hfs_needed.specs.Known.{OfKnown};
 ghost use Rattle.hfs_sparse.specs.Sparse.{HoldsFrom};
 ghost use Rattle.hfs_take.specs.Bags.{IsDigestTold};
-ghost use Rattle.hfs_salvage.specs.Bags.{IsReportTold, IsToldOf, field_name};
+ghost use Rattle.hfs_salvage.specs.Bags.{IsDirectoryTold, IsReportTold, IsToldOf, directory_text, field_name};
 
 use crate::words::BagWords;
 use hfs_bag::SourceFault;
@@ -13,7 +14,7 @@ use hfs_commands::CheckAnswer;
 use hfs_finds::Finds;
 use hfs_sparse::BlockSource;
 use hfs_take::{SourceBlocks, image_digest, image_name, plain_name, report_text};
-use std::alloc::Global;
+use std::alloc::{AllocError, Global};
 
 /// What a bag tells of an image before its items are read.
 #[derive(Drop)]
@@ -22,6 +23,8 @@ pub(crate) struct Told {
     pub(crate) identifier: String,
     /// The last part of its path.
     pub(crate) name: String,
+    /// The block of its directory, where that is to be told.
+    pub(crate) directory: Option<String>,
     /// Its digest, where it is to be told.
     pub(crate) digest: Option<[u8; 32]>,
     /// The lines of its directory, and those of its check.
@@ -82,6 +85,39 @@ fn report_of<S: BlockSource>(
     Ok(text)
 }
 
+/// A block that is taken for the directory, and whether it is a guess; None of block 2, where the directory belongs, unless it is a guess.
+fn directory_text(alloc: Global, block: u32, is_unsure: bool) -> Result<Option<String>, AllocError>
+    ensures { IfOk result (λ text. option_map string_bytes text ≡ directory_text block is_unsure) }
+{
+    if is_unsure {
+        let text = format!(in alloc; "{block} unsure")?;
+        return Ok(Some(text));
+    }
+    if block == 2 {
+        return Ok(None);
+    }
+    let text = format!(in alloc; "{block}")?;
+    Ok(Some(text))
+}
+
+/// What is told of the block of an image that was taken for its directory.
+#[tactic(auto, using(crate::proofs::FactLemmas::directory_known))]
+fn directory_of<S: BlockSource>(
+    alloc: Global,
+    source: &S,
+    len: u64,
+    finds: &Finds,
+) -> Result<Option<String>, SourceFault>
+    requires { OfKnown (S.image source.now) len (λ image. IsFoundIn image (Some finds.now)) }
+    ensures { IfOk result (λ told. IsDirectoryTold (S.image source.now) len finds.now.mdb
+        (option_map string_bytes told)) }
+{
+    match directory_text(alloc, finds.directory, finds.is_unsure) {
+        Ok(told) => Ok(told),
+        Err(_) => Err(SourceFault::Memory),
+    }
+}
+
 /// The digest of an image, where it is to be told, and the source of its blocks back.
 fn digest_of<S: BlockSource + Drop>(
     alloc: Global,
@@ -122,10 +158,12 @@ pub(crate) fn told_of<S: BlockSource + Drop>(
     let Ok(name) = image_name(alloc, words.words.image) else {
         return Err(SourceFault::Memory);
     };
+    let directory = directory_of(alloc, &source, len, finds)?;
     let (digest, source) = digest_of(alloc, source, len, words.is_digested)?;
     let told = Told {
         identifier,
         name,
+        directory,
         digest,
         report,
     };

@@ -10,11 +10,11 @@ ghost use Rattle.hfs_salvage.specs.Bags.{IsToldOf, IsUnfilled, OfKnownBag};
 ghost use Rattle.hfs_salvage.specs.Found.{IsFoundOf};
 ghost use Rattle.hfs_salvage.specs.Words.{as_take_words, limit_of};
 
-use crate::answer::RescueAnswer;
+use crate::answer::{RescueAnswer, Rescued};
 use crate::facts::{Told, told_of};
 use crate::found::found_in;
 use crate::image::RescuedImage;
-use crate::loading::{Loaded, load_image};
+use crate::loading::{Loaded, LoadedImage, load_image};
 use crate::watched::Watched;
 use crate::words::BagWords;
 use hfs_bag::{BagFacts, BagFault, give_bag};
@@ -64,6 +64,7 @@ fn give_found<S: BlockSource + Drop, T: Shelf, W: Watch>(
         program: words.program,
         image: told.name.as_str(),
         volume: line,
+        directory: text_in(&told.directory),
         bytes: len,
         digest: told.digest,
         report: told.report.as_str(),
@@ -139,24 +140,26 @@ fn write_bag<'a, R: Files + AllocGlobal, S: BlockSource + Drop, W: Watch>(
 }
 
 /// Makes a folder the bag of what remains of an image, and answers what is told of it. Faults, the first that holds: the image can't be read;
-/// `NoVolume`; the image's own, where there is no directory in it; `IsThere`; `CannotWrite` of the path that isn't written, the image can't be read in
-/// the middle, memory was refused. At a fault the folder isn't there, and what was written is taken away, as far as the system and memory allow.
+/// `NoVolume`, `SeveralVolumes`; the image's own, where there is no directory in it; `IsThere`; `CannotWrite` of the path that isn't written, the image
+/// can't be read in the middle, memory was refused. At a fault the folder isn't there, and what was written is taken away, as far as the system and memory
+/// allow.
 pub fn rescue<'a, R: Files + AllocGlobal, W: Watch>(
     rt: &R,
     words: &BagWords<'a>,
     watch: &W,
-) -> Result<RescueAnswer, TakeFault<'a>>
+) -> Result<Rescued, TakeFault<'a>>
     ensures { IfErr result (IsTakeFault (as_take_words words.now)) }
 {
-    let image = match load_image(rt, &words.words) {
-        Ok(image) => image,
+    let LoadedImage { image, sum } = match load_image(rt, &words.words) {
+        Ok(loaded) => loaded,
         Err(fault) => return Err(TakeFault::Image(fault)),
     };
     if is_there(rt, words.folder) {
         return Err(TakeFault::IsThere(words.folder));
     }
-    match image {
-        Loaded::Held(image) => write_bag(rt, image, words, watch),
-        Loaded::Opened(image) => write_bag(rt, image, words, watch),
-    }
+    let answer = match image {
+        Loaded::Held(image) => write_bag(rt, image, words, watch)?,
+        Loaded::Opened(image) => write_bag(rt, image, words, watch)?,
+    };
+    Ok(Rescued { answer, sum })
 }

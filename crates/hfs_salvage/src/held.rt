@@ -1,5 +1,5 @@
 //! Bytes that are held as a whole.
-ghost use Rattle.std.specs.Prelude.{◌≡◌, IfSome, Some};
+ghost use Rattle.std.specs.Prelude.{◌≡◌, ◌<◌, IfSome, IsNone, Some};
 ghost use Rattle.hfs_containers.specs.Ranges.{bytes_in};
 
 use hfs_containers::ByteRange;
@@ -27,10 +27,18 @@ impl Model for HeldBytes {
 }
 
 impl HeldBytes {
-    /// The bytes of a range of these; None where it doesn't lie in them.
+    /// The bytes of a range of these; None where it has some and doesn't lie in them.
     pub fn of(all: Vec<u8>, range: ByteRange) -> Option<HeldBytes>
-        ensures { IfSome result (λ held. held ≡ bytes_in range all.items) }
+        ensures bytes { IfSome result (λ held. held ≡ bytes_in range all.items) }
+        ensures none { IsNone result → 0 < range.len }
     {
+        if range.len == 0 {
+            return Some(HeldBytes {
+                all,
+                from: 0,
+                len: 0,
+            });
+        }
         let len = all.len() as u64;
         if len < range.start || len - range.start < range.len {
             return None;

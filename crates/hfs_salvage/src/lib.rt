@@ -14,7 +14,7 @@ mod looking;
 mod watched;
 mod words;
 
-pub use crate::answer::RescueAnswer;
+pub use crate::answer::{RescueAnswer, Rescued};
 pub use crate::filling::{give_remains, rescue};
 pub use crate::held::HeldBytes;
 pub use crate::image::{HoldFault, RescuedImage};

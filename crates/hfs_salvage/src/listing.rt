@@ -8,10 +8,10 @@ ghost use Rattle.hfs_salvage.specs.Answers.{IsKnownAnswer};
 ghost use Rattle.hfs_salvage.specs.Faults.{IsUnlisted};
 ghost use Rattle.hfs_salvage.specs.Lists.{Gathers, TellsRemains, TellsRemainsFront};
 
-use crate::answer::RescueAnswer;
+use crate::answer::{RescueAnswer, Rescued};
 use crate::found::found_in;
 use crate::image::RescuedImage;
-use crate::loading::{Loaded, load_image};
+use crate::loading::{Loaded, LoadedImage, load_image};
 use crate::words::RescueWords;
 use hfs_commands::Fault;
 use hfs_finds::salvage_of;
@@ -114,17 +114,19 @@ pub fn write_remains<S: BlockSource, W: Write>(
 }
 
 /// Writes a line for each item that remains of an image, and answers what is told of it behind these. Faults, the first that holds: the image can't
-/// be read; `NoVolume`; the image's own, where there is no directory in it; memory was refused, `OutputFailed`: a part of the lines may have gone
-/// out then.
+/// be read; `NoVolume`, `SeveralVolumes`; the image's own, where there is no directory in it; memory was refused, `OutputFailed`: a part of the lines may
+/// have gone out then.
 pub fn list_rescue<'a, R: Files + AllocGlobal, W: Write>(
     rt: &R,
     writer: &mut W,
     words: &RescueWords<'a>,
-) -> Result<RescueAnswer, Fault<'a>>
+) -> Result<Rescued, Fault<'a>>
     ensures { IfErr result (IsUnlisted words.now) }
 {
-    match load_image(rt, words)? {
-        Loaded::Held(image) => write_remains(rt.alloc(), writer, &image, words),
-        Loaded::Opened(image) => write_remains(rt.alloc(), writer, &image, words),
-    }
+    let LoadedImage { image, sum } = load_image(rt, words)?;
+    let answer = match image {
+        Loaded::Held(image) => write_remains(rt.alloc(), writer, &image, words)?,
+        Loaded::Opened(image) => write_remains(rt.alloc(), writer, &image, words)?,
+    };
+    Ok(Rescued { answer, sum })
 }

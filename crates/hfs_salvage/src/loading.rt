@@ -1,8 +1,8 @@
 //! An image that is asked for, held or opened.
-ghost use Rattle.std.specs.Prelude.{◌≡◌, ◌≤◌, None, IfErr, IfOk, IfSome};
-ghost use Rattle.hfs_commands.specs.Faults.{IsUnopened};
+ghost use Rattle.std.specs.Prelude.{◌≡◌, ◌≤◌, IfErr, IfOk, IfSome};
+ghost use Rattle.hfs_commands.specs.Faults.{IsUnreadFile};
+ghost use Rattle.hfs_commands.specs.OpenedFiles.{known_in};
 ghost use Rattle.hfs_containers.specs.Ranges.{bytes_in};
-ghost use Rattle.hfs_take.specs.Opening.{known_in};
 ghost use Rattle.hfs_salvage.specs.Faults.{IsUnread};
 
 use crate::held::HeldBytes;
@@ -10,7 +10,7 @@ use crate::image::{HoldFault, RescuedImage};
 use crate::looking::{Look, look_at};
 use crate::words::RescueWords;
 use hfs_check::MountFault;
-use hfs_commands::{Fault, OpenedFile, Window};
+use hfs_commands::{Counted, Fault, OpenedFile, Window};
 use hfs_containers::{ByteRange, ReadAt};
 use hfs_sparse::BlockSource;
 use hfs_take::{FoundPart, find_part};
@@ -30,6 +30,13 @@ pub(crate) enum Loaded<S: BlockSource> {
     Opened(RescuedImage<S>),
 }
 
+/// What is asked for, and whether the sum of a disk copy is right in which it lies.
+#[derive(Drop)]
+pub(crate) struct LoadedImage<S: BlockSource> {
+    pub(crate) image: Loaded<S>,
+    pub(crate) sum: Option<bool>,
+}
+
 /// All bytes of a range of a file, which are read at once.
 fn read_range<'a, S: ReadAt>(
     alloc: Global,
@@ -37,7 +44,7 @@ fn read_range<'a, S: ReadAt>(
     range: ByteRange,
     path: &'a str,
 ) -> Result<HeldBytes, Fault<'a>>
-    ensures { IfErr result (IsUnopened path.entry None) }
+    ensures { IfErr result (IsUnreadFile path.entry) }
 {
     let Ok(mut all) = vec![in alloc; 0u8; range.len as usize] else {
         return Err(Fault::NoMemory);
@@ -58,7 +65,7 @@ fn read_range<'a, S: ReadAt>(
 /// All bytes of a range of what is held as a whole already. Error: it doesn't lie there.
 fn hold_range<'a>(all: Vec<u8>, range: ByteRange, path: &'a str) -> Result<HeldBytes, Fault<'a>>
     ensures held { IfOk result (λ held. held ≡ bytes_in range all.items) }
-    ensures fault { IfErr result (IsUnopened path.entry None) }
+    ensures fault { IfErr result (IsUnreadFile path.entry) }
 {
     match HeldBytes::of(all, range) {
         Some(held) => Ok(held),
@@ -73,7 +80,7 @@ fn hold<'a, F: Read + Seek + Drop>(
     path: &'a str,
 ) -> Result<HeldBytes, Fault<'a>>
     ensures held { IfOk result (λ held. IfSome (known_in bytes) (λ all. held ≡ all)) }
-    ensures fault { IfErr result (IsUnopened path.entry None) }
+    ensures fault { IfErr result (IsUnreadFile path.entry) }
 {
     let Window { source, range } = bytes;
     match source {
@@ -142,21 +149,34 @@ fn is_held<F: Read + Seek>(bytes: &Window<OpenedFile<F>>) -> bool {
     }
 }
 
-/// The image that is asked for, and what is found of it: by the blocks that are needed, or by all of them where its bytes are held already, and where all
-/// must be looked at. Faults, the first that holds: it can't be read; `NoVolume`; the image's own, where there is no directory in it; memory was
-/// refused.
-pub(crate) fn load_image<'a, R: Files + AllocGlobal>(
-    rt: &R,
+/// What is found of the bytes that are asked for: by the blocks that are needed, or by all of them where they are held already, and where all must be
+/// looked at.
+fn load_part<'a, F: Read + Seek + Drop>(
+    alloc: Global,
+    bytes: Window<OpenedFile<F>>,
+    line: Option<String>,
     words: &RescueWords<'a>,
-) -> Result<Loaded<Window<OpenedFile<R::File>>>, Fault<'a>>
+) -> Result<Loaded<Window<OpenedFile<F>>>, Fault<'a>>
     ensures { IfErr result (IsUnread words.now) }
 {
-    let FoundPart { bytes, line } = find_part(rt, words.image, words.volume)?;
     if bytes.len() > LONGEST {
         return Err(Fault::Refused(MountFault::TooLarge));
     }
     if is_held(&bytes) {
-        return hold_image(rt.alloc(), bytes, line, words);
+        return hold_image(alloc, bytes, line, words);
     }
-    open_image(rt.alloc(), bytes, line, words)
+    open_image(alloc, bytes, line, words)
+}
+
+/// The image that is asked for, or the range in it, also one without a volume, and what is found of it. Faults, the first that holds: it can't be read;
+/// `NoVolume`, `SeveralVolumes`; the image's own, where there is no directory in it; memory was refused.
+pub(crate) fn load_image<'a, R: Files + AllocGlobal>(
+    rt: &R,
+    words: &RescueWords<'a>,
+) -> Result<LoadedImage<Window<OpenedFile<R::File>>>, Fault<'a>>
+    ensures { IfErr result (IsUnread words.now) }
+{
+    let FoundPart { bytes, line, sum } = find_part(rt, words.image, Counted::Ranges, words.volume)?;
+    let image = load_part(rt.alloc(), bytes, line, words)?;
+    Ok(LoadedImage { image, sum })
 }

@@ -2,3 +2,4 @@ pub mod DigestLemmas
 pub mod ToldLemmas
 pub mod BagLemmas
 pub mod FaultLemmas
+mod PartLines

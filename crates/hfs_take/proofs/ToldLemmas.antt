@@ -42,14 +42,15 @@ report-known (Some image) len head lines text report holds long told checked is 
 pub tells-known : (known : Option (List ℕ)) (len : ℕ) (line : Option (List ℕ)) (words : TakeWords) (facts : BagFacts) (root : Info)
     → (is_known_so known len ≡ true → BeginsWith root (told_rows (entries_in (unwrap_or known []))))
     → facts.identifier.now ≡ plain_text root.name → facts.program.now ≡ words.program.now → facts.image.now ≡ image_name words.image.now → text_in facts.volume ≡ line
-    → facts.bytes ≡ len → IsDigestTold known len words.is_digested facts.digest → IsReportText known len facts.report.now
+    → text_in facts.directory ≡ None → facts.bytes ≡ len → IsDigestTold known len words.is_digested facts.digest → IsReportText known len facts.report.now
     → OfKnown known len (λ image. TellsOf image line words facts)
-tells-known None len line words facts root begins identifier program name volume bytes digest report = tt
-tells-known (Some image) len line words facts root begins identifier program name volume bytes digest report = λ same. record {
+tells-known None len line words facts root begins identifier program name volume directory bytes digest report = tt
+tells-known (Some image) len line words facts root begins identifier program name volume directory bytes digest report = λ same. record {
   identifier_is = identifier ∙ ap plain_text (root-named root _ (begins (eq-eqb (length image) len same)));
   program_is = program;
   image_is = name;
   volume_is = volume;
+  directory_is = directory;
   bytes_are = bytes ∙ sym same;
   digest_is = digest same;
   report_is = report same;
@@ -59,9 +60,9 @@ tells-known (Some image) len line words facts root begins identifier program nam
 pub tells-items : (opened : OpenedValue) (len : ℕ) (line : Option (List ℕ)) (words : TakeWords) (facts : BagFacts) (root : Info) → len ≡ opened.len
     → (is_known opened ≡ true → BeginsWith root (told_rows (entries_in (image_in opened))))
     → facts.identifier.now ≡ plain_text root.name → facts.program.now ≡ words.program.now → facts.image.now ≡ image_name words.image.now → text_in facts.volume ≡ line
-    → facts.bytes ≡ len → IsDigestTold opened.known len words.is_digested facts.digest → IsReportText opened.known len facts.report.now
+    → text_in facts.directory ≡ None → facts.bytes ≡ len → IsDigestTold opened.known len words.is_digested facts.digest → IsReportText opened.known len facts.report.now
     → OfKnown opened.known opened.len (λ image. TellsOf image line words facts)
-tells-items opened len line words facts root at begins identifier program name volume bytes digest report =
+tells-items opened len line words facts root at begins identifier program name volume directory bytes digest report =
     subst (λ (n : ℕ). OfKnown opened.known n (λ image. TellsOf image line words facts)) at
-    (tells-known opened.known len line words facts root (λ known. begins (ap (λ (n : ℕ). is_known_so opened.known n) (sym at) ∙ known)) identifier program name volume bytes digest
+    (tells-known opened.known len line words facts root (λ known. begins (ap (λ (n : ℕ). is_known_so opened.known n) (sym at) ∙ known)) identifier program name volume directory bytes digest
     report)

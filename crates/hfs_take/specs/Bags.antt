@@ -41,6 +41,7 @@ pub record TellsOf (image : List ℕ) (line : Option (List ℕ)) (words : TakeWo
   pub program_is : facts.program.now ≡ words.program.now
   pub image_is : facts.image.now ≡ image_name words.image.now
   pub volume_is : text_in facts.volume ≡ line
+  pub directory_is : text_in facts.directory ≡ None
   pub bytes_are : facts.bytes ≡ length image
   pub digest_is : facts.digest ≡ digest_told words.is_digested image
   pub report_is : facts.report.now ≡ report_text image

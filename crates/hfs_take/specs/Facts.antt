@@ -1,5 +1,5 @@
 -- What a bag tells of its image.
-use Rattle.std.specs.Prelude.{ℕ, List, ◌++◌, codes, Option, None, Some, unwrap_or}
+use Rattle.std.specs.Prelude.{ℕ, Bool, true, false, List, [], ◌++◌, codes, Option, None, Some, unwrap_or}
 use Rattle.std.specs.Fmt.{decimal}
 use Rattle.std.specs.Path.{path_file_name}
 use Rattle.hfs_commands.specs.Paths.{path_text}
@@ -10,13 +10,24 @@ use Rattle.hfs_containers.specs.declared.ranges.FoundRange.{FoundRange}
 abbrev pub image_name : List ℕ → List ℕ
 image_name path = path_text (unwrap_or (path_file_name path) path)
 
--- the name of a volume, or that there is none
+-- the name of a volume, if there is one
 abbrev pub told_name : Option (List ℕ) → List ℕ
-told_name None = codes " no volume"
+told_name None = []
 told_name (Some name) = name_text name
 
--- where the volume lies: number, how it lies, first byte, bytes, name
-unfoldable pub volume_text : ℕ → FoundRange → Option (List ℕ) → List ℕ
-volume_text number found name =
+-- whether the sum of a disk copy is right
+abbrev pub told_sum : Option Bool → List ℕ
+told_sum None = []
+told_sum (Some true) = codes " sum right"
+told_sum (Some false) = codes " sum wrong"
+
+-- what is told where there is no volume
+abbrev pub told_missing : Option (List ℕ) → List ℕ
+told_missing None = codes " no volume"
+told_missing (Some name) = []
+
+-- where the volume lies: number, how it lies, first byte, bytes, name, what is told of its sum
+unfoldable pub volume_text : ℕ → FoundRange → Option (List ℕ) → Option Bool → List ℕ
+volume_text number found name sum =
     decimal number ++ codes " " ++ container_text found.container ++ codes " " ++ decimal found.range.start ++ codes " " ++ decimal found.range.len ++ codes " "
-    ++ told_name name
+    ++ told_name name ++ told_sum sum ++ told_missing name

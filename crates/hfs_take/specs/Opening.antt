@@ -1,33 +1,34 @@
 -- What is known of what was opened.
-use Rattle.std.specs.Prelude.{◌≡◌, ℕ, List, Option, None, Some}
-use Rattle.std.specs.Option.{option_map}
-use Rattle.hfs_commands.specs.OpenedFiles.{known_bytes}
-use Rattle.hfs_commands.specs.declared.opened_file.OpenedFile.{OpenedFile}
-use Rattle.hfs_containers.specs.Found.{nth_found_in}
+use Rattle.std.specs.Prelude.{◌≡◌, ℕ, Bool, List, Option, None, Some}
+use Rattle.hfs_commands.specs.Parts.{asked_at}
+use Rattle.hfs_commands.specs.Volumes.{sum_told}
+use Rattle.hfs_containers.specs.Asking.{IsAnswerTo}
 use Rattle.hfs_containers.specs.Ranges.{bytes_in, volume_name_in}
-use Rattle.hfs_containers.specs.Reading.{IsTold, IsToldOf}
+use Rattle.hfs_containers.specs.Reading.{IsTold}
+use Rattle.hfs_containers.specs.declared.asking.NumberedRange.{NumberedRange}
 use Rattle.hfs_containers.specs.declared.ranges.ByteRange.{ByteRange}
-use Rattle.hfs_containers.specs.declared.ranges.FoundRange.{FoundRange}
-use Rattle.hfs_containers.specs.declared.window.Window.{Window}
 use Rattle.hfs_take.specs.Facts.{volume_text}
 
--- the bytes of a range of a file, where these are known
-abbrev pub known_in : {F : Type 0} → Window (OpenedFile F) → Option (List ℕ)
-known_in window = option_map (bytes_in window.range) (known_bytes window.source)
-
--- this range is the one with this number in a file of so many bytes, and the line tells it with the name of its volume; both are known where the file's bytes are
-pub record IsNumbered (file : Option (List ℕ)) (len number : ℕ) (range : ByteRange) (line : Option (List ℕ)) : Type 0 where
-  pub found : FoundRange
+-- the line tells a range with its number, the name of its volume and whether its sum is right; both are known where the file's bytes are
+pub record IsToldLine (file : Option (List ℕ)) (place : NumberedRange) (line : List ℕ) (sum : Option Bool) : Type 0 where
   pub name : Option (List ℕ)
-  pub found_is : IsToldOf file len (nth_found_in number) (Some found)
-  pub name_is : IsTold file (volume_name_in found.range) name
-  pub range_is : range ≡ found.range
-  pub line_is : line ≡ Some (volume_text number found name)
+  pub name_is : IsTold file (volume_name_in place.found.range) name
+  pub sum_is : IsTold file (λ bytes. sum_told place.found.container (bytes_in place.found.range bytes)) sum
+  pub line_is : line ≡ volume_text place.number place.found name sum
 
--- the line tells the volume with this number, which lies at this range of its file, and there is none where an image is taken as it is
+-- there is a line of a range inside, and none of a file as it is
+abbrev pub IsToldPart : Option (List ℕ) → Option NumberedRange → Option (List ℕ) → Option Bool → Type 0
+IsToldPart file None line sum = (line ≡ None) × (sum ≡ None)
+IsToldPart file (Some place) line sum = (text : List ℕ) × (line ≡ Some text) × IsToldLine file place text sum
+
+-- the line tells this range of a file with its number, and there is none of a file as it is
+abbrev pub IsLineAt : ByteRange → Option NumberedRange → Option (List ℕ) → Type 0
+IsLineAt range None line = line ≡ None
+IsLineAt range (Some place) line = (name : Option (List ℕ)) × (sum : Option Bool) × (range ≡ place.found.range) × (line ≡ Some (volume_text place.number place.found name sum))
+
+-- the line tells this range, which is what is asked for
 abbrev pub IsLineOf : Option ℕ → ByteRange → Option (List ℕ) → Type 0
-IsLineOf None range line = line ≡ None
-IsLineOf (Some number) range line = (found : FoundRange) × (name : Option (List ℕ)) × (range ≡ found.range) × (line ≡ Some (volume_text number found name))
+IsLineOf volume range line = (place : Option NumberedRange) × IsAnswerTo volume (asked_at place) × IsLineAt range place line
 
 -- the line tells the volume that is asked for, which has so many bytes
 abbrev pub TellsVolume : Option ℕ → ℕ → Option (List ℕ) → Type 0

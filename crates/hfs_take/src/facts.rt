@@ -5,7 +5,7 @@ ghost use Rattle.hfs_image_items.specs.Faults.{WantsMemory};
 ghost use Rattle.hfs_names.specs.PlainTexts.{plain_text};
 ghost use Rattle.hfs_texts.specs.Reading.{info_text};
 ghost use Rattle.hfs_texts.specs.Texts.{Gains};
-ghost use Rattle.hfs_take.specs.Facts.{image_name, told_name, volume_text};
+ghost use Rattle.hfs_take.specs.Facts.{image_name, told_missing, told_name, told_sum, volume_text};
 
 use hfs_bag::SourceFault;
 use hfs_commands::ShownPath;
@@ -49,25 +49,47 @@ fn push_name(text: &mut String, name: &[u8]) -> Result<(), AllocError>
     }
 }
 
-/// Appends the name of a volume, or that there is none.
+/// Appends the name of a volume, where there is one.
 fn push_told_name(text: &mut String, name: &Option<[u8; 28]>) -> Result<(), AllocError>
     ensures { OnOk result (Gains text.old text.new (told_name name.now)) }
 {
     match name {
         Some(name) => push_name(text, name),
+        None => Ok(()),
+    }
+}
+
+/// Appends whether the sum is right, where there is one.
+fn push_told_sum(text: &mut String, sum: Option<bool>) -> Result<(), AllocError>
+    ensures { OnOk result (Gains text.old text.new (told_sum sum)) }
+{
+    match sum {
+        Some(true) => text.push_str(" sum right"),
+        Some(false) => text.push_str(" sum wrong"),
+        None => Ok(()),
+    }
+}
+
+/// Appends that there is no volume, where there is none.
+fn push_told_missing(text: &mut String, name: &Option<[u8; 28]>) -> Result<(), AllocError>
+    ensures { OnOk result (Gains text.old text.new (told_missing name.now)) }
+{
+    match name {
+        Some(_) => Ok(()),
         None => text.push_str(" no volume"),
     }
 }
 
-/// The line of a volume in its file: number, how it lies, first byte, bytes, and the plain text of its name, with spaces between.
+/// The line of a volume in its file: number, how it lies, first byte, bytes, the plain text of its name, and what is told of its sum, with spaces between.
 #[tactic(auto, unfolding(crate::specs::Facts::volume_text))]
 pub(crate) fn volume_text(
     alloc: Global,
     number: u64,
     found: &FoundRange,
     name: &Option<[u8; 28]>,
+    sum: Option<bool>,
 ) -> Result<String, AllocError>
-    ensures { IfOk result (λ text. string_bytes text ≡ volume_text number found.now name.now) }
+    ensures { IfOk result (λ text. string_bytes text ≡ volume_text number found.now name.now sum) }
 {
     let mut text = String::new(alloc);
     write!(text, "{}", number)?;
@@ -79,6 +101,8 @@ pub(crate) fn volume_text(
     write!(text, "{}", found.range.len)?;
     text.push(' ')?;
     push_told_name(&mut text, name)?;
+    push_told_sum(&mut text, sum)?;
+    push_told_missing(&mut text, name)?;
     Ok(text)
 }
 

@@ -137,6 +137,7 @@ fn give_items<R: Threads, S: BlockSource + Drop + Send, T: Shelf, W: Watch>(
         program: words.program,
         image: name.as_str(),
         volume: line,
+        directory: None,
         bytes: len,
         digest: first.1,
         report: report.as_str(),

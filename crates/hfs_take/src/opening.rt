@@ -1,17 +1,20 @@
 //! What is taken apart, by its path.
-ghost use Rattle.std.specs.Prelude.{◌≡◌, IfErr, IfOk, IfSome, None, Some, string_bytes};
+ghost use Rattle.std.specs.Prelude.{◌≡◌, IfErr, IfOk, IfSome, None, string_bytes};
 ghost use Rattle.std.specs.Option.{option_map};
-ghost use Rattle.hfs_commands.specs.Faults.{IsUnopened};
+ghost use Rattle.hfs_commands.specs.Faults.{IsUnopened, IsUnreadFile};
+ghost use Rattle.hfs_commands.specs.OpenedFiles.{known_bytes, known_in};
 ghost use Rattle.hfs_take.specs.Digests.{TellsSame};
 ghost use Rattle.hfs_take.specs.Faults.{IsImageFault};
-ghost use Rattle.hfs_take.specs.Opening.{IsLineOf, IsNumbered, TellsVolume, known_in};
+ghost use Rattle.hfs_take.specs.Opening.{IsLineOf, IsToldLine, IsToldPart, TellsVolume};
 
 use crate::facts::volume_text;
 use crate::image::TakenImage;
 use crate::words::TakeWords;
-use hfs_commands::{Fault, OpenedFile, Window, open_file, open_part};
-use hfs_containers::{ByteRange, PlacedFile, nth_range, volume_name};
-use hfs_sparse::FileReader;
+use hfs_commands::{
+    Counted, Fault, FilePart, NumberedRange, OpenedFile, Window, open_asked, sum_told,
+};
+use hfs_containers::{ByteRange, PlacedFile, volume_name};
+use hfs_sparse::{BlockSource, FileReader};
 use std::alloc::Global;
 use std::fs::{File, Metadata, OpenFile};
 use std::io::{Read, Seek};
@@ -19,66 +22,86 @@ use std::os::unix::fs::MetadataExt;
 use std::rt::Files;
 use std::{fs, io};
 
-/// Bytes that may hold a volume, and the line of where they lie in their file, where they were looked for there.
+/// Bytes that may hold a volume, and what is told of where they lie in their file, where they are a range inside.
 #[derive(Drop)]
 pub struct FoundPart<F: Read + Seek> {
     pub bytes: Window<OpenedFile<F>>,
+    /// The range's line.
     pub line: Option<String>,
+    /// Whether the sum of a disk copy is right.
+    pub sum: Option<bool>,
 }
 
-/// The range with this number that lies in a file, with its line. Faults: `NoVolume`; a read failed, memory was refused.
-fn numbered_part<'a, F: Read + Seek + Drop>(
+/// The line of a range of a file, and whether its sum is right, where it has one: it is taken of all its bytes. Faults: a read failed, memory was refused.
+fn line_of<'a, F: Read + Seek>(
     alloc: Global,
-    mut file: Window<OpenedFile<F>>,
+    file: &mut OpenedFile<F>,
+    place: &NumberedRange,
     path: &'a str,
-    n: u64,
-) -> Result<FoundPart<F>, Fault<'a>>
-    ensures line { IfOk result (λ part. IsNumbered (known_in file) file.range.len n part.bytes.range
-        (option_map string_bytes part.line)) }
-    ensures fault { IfErr result (IsUnopened path.entry (Some n)) }
+) -> Result<(String, Option<bool>), Fault<'a>>
+    ensures line { IfOk result (λ told. IsToldLine (known_bytes file.old) place.now (string_bytes told.0) told.1) }
+    ensures known { known_bytes file.new ≡ known_bytes file.old }
+    ensures fault { IfErr result (IsUnreadFile path.entry) }
 {
-    let len = file.len();
-    let found = match nth_range(alloc, &mut file, len, n) {
-        Ok(Some(found)) => found,
-        Ok(None) => return Err(Fault::NoVolume(n)),
-        Err(fault) => return Err(Fault::of_sparse(fault, path)),
-    };
-    let name = match volume_name(&mut file, found.range) {
+    let name = match volume_name(file, place.found.range) {
         Ok(name) => name,
         Err(fault) => return Err(Fault::of_sparse(fault, path)),
     };
-    let Ok(line) = volume_text(alloc, n, &found, &name) else {
-        return Err(Fault::NoMemory);
+    let sum = match sum_told(file, &place.found) {
+        Ok(sum) => sum,
+        Err(fault) => return Err(Fault::of_sparse(fault, path)),
     };
+    match volume_text(alloc, place.number, &place.found, &name, sum) {
+        Ok(line) => Ok((line, sum)),
+        Err(_) => Err(Fault::NoMemory),
+    }
+}
+
+/// A part of a file, and what is told of where it lies. Faults: a read failed, memory was refused.
+fn told_part<'a, F: Read + Seek + Drop>(
+    alloc: Global,
+    part: FilePart<F>,
+    path: &'a str,
+) -> Result<FoundPart<F>, Fault<'a>>
+    ensures range { IfOk result (λ found. found.bytes.range ≡ part.bytes.range) }
+    ensures line { IfOk result (λ found. IsToldPart (known_bytes part.bytes.source) part.place
+        (option_map string_bytes found.line) found.sum) }
+    ensures known { IfOk result (λ found. known_bytes found.bytes.source
+        ≡ known_bytes part.bytes.source) }
+    ensures fault { IfErr result (IsUnreadFile path.entry) }
+{
+    let FilePart { mut bytes, place } = part;
+    let Some(place) = place else {
+        return Ok(FoundPart {
+            bytes,
+            line: None,
+            sum: None,
+        });
+    };
+    let told = line_of(alloc, &mut bytes.source, &place, path)?;
     Ok(FoundPart {
-        bytes: Window {
-            source: file.source,
-            range: found.range,
-        },
-        line: Some(line),
+        bytes,
+        line: Some(told.0),
+        sum: told.1,
     })
 }
 
-/// An image as it is, or the volume with this number that lies in it. Faults: as [`open_part`] has them.
+/// What is asked for of an image, by the number of a volume that lies in it or without one, as [`open_asked`] opens it, and what is told of where it lies.
+/// Faults: as [`open_asked`] has them.
+#[tactic(auto, using(crate::proofs::PartLines::line_of_part))]
 pub fn find_part<'a, R: Files + AllocGlobal>(
     rt: &R,
     path: &'a str,
+    counted: Counted,
     volume: Option<u64>,
 ) -> Result<FoundPart<R::File>, Fault<'a>>
     ensures line { IfOk result (λ part. IsLineOf volume part.bytes.range
         (option_map string_bytes part.line)) }
     ensures fault { IfErr result (IsUnopened path.entry volume) }
 {
-    match volume {
-        Some(n) => {
-            let file = open_file(rt, path)?;
-            numbered_part(rt.alloc(), file, path, n)
-        }
-        None => {
-            let bytes = open_part(rt, path, None)?;
-            Ok(FoundPart { bytes, line: None })
-        }
-    }
+    let part = open_asked(rt, path, counted, volume)?;
+    let found = told_part(rt.alloc(), part, path)?;
+    Ok(found)
 }
 
 /// Whether both are one file of the system.
@@ -131,18 +154,30 @@ fn open_beside<R: Files>(
     }
 }
 
+/// What is to be taken apart, and whether the sum of a disk copy is right in which it lies.
+#[derive(Drop)]
+pub(crate) struct OpenedTake<S: BlockSource> {
+    pub(crate) image: TakenImage<S>,
+    pub(crate) sum: Option<bool>,
+}
+
 /// Opens what is to be taken apart, once more where its digest is to be made beside it, and makes all checks. Faults, the first that holds: the image can't be
-/// read; `NoVolume`; the image's own; memory was refused.
+/// read; `NoVolume`, `SeveralVolumes`; the image's own; memory was refused.
 pub(crate) fn open_image<'a, R: Files + AllocGlobal>(
     rt: &R,
     words: &TakeWords<'a>,
-) -> Result<TakenImage<Window<OpenedFile<R::File>>>, Fault<'a>>
-    ensures line { IfOk result (λ image. TellsVolume words.now.volume image.len
-        (option_map string_bytes image.volume)) }
+) -> Result<OpenedTake<Window<OpenedFile<R::File>>>, Fault<'a>>
+    ensures line { IfOk result (λ opened. TellsVolume words.now.volume opened.image.len
+        (option_map string_bytes opened.image.volume)) }
     ensures fault { IfErr result (IsImageFault words.now) }
 {
     let was = fs::metadata(rt, words.image);
-    let FoundPart { bytes, line } = find_part(rt, words.image, words.volume)?;
+    let FoundPart { bytes, line, sum } = find_part(
+        rt,
+        words.image,
+        Counted::Volumes,
+        words.volume,
+    )?;
     let beside = if words.is_digested {
         open_beside(rt, words.image, was, &bytes)
     } else {
@@ -150,7 +185,7 @@ pub(crate) fn open_image<'a, R: Files + AllocGlobal>(
     };
     let len = bytes.len();
     match TakenImage::open(rt.alloc(), bytes, beside, len, line) {
-        Ok(image) => Ok(image),
+        Ok(image) => Ok(OpenedTake { image, sum }),
         Err(fault) => Err(Fault::of_needed(fault, words.image)),
     }
 }

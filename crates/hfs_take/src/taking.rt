@@ -9,7 +9,7 @@ ghost use Rattle.hfs_take.specs.Folders.{IsFolderPath};
 use crate::fault::TakeFault;
 use crate::giving::give_image;
 use crate::image::TakenImage;
-use crate::opening::open_image;
+use crate::opening::{OpenedTake, open_image};
 use crate::words::TakeWords;
 use hfs_bag::BagSums;
 use hfs_image_items::Watch;
@@ -19,6 +19,15 @@ use hfs_texts::push_line;
 use std::alloc::{AllocError, Global};
 use std::rt::Files;
 use std::thread::Threads;
+
+/// A disk that was taken apart.
+#[derive(Drop)]
+pub struct Taken {
+    /// How much its bag has.
+    pub sums: BagSums,
+    /// Whether the sum of the disk copy is right that it was taken out of, if it was.
+    pub sum: Option<bool>,
+}
 
 /// Gives a whole bag its place.
 fn place_bag<'a, R: Files + AllocGlobal>(
@@ -60,7 +69,7 @@ fn write_bag<'a, R: Files + AllocGlobal, H: Threads, S: BlockSource + Drop + Sen
     }
 }
 
-/// Takes the volume of an image apart: makes the folder a bag of all its items. Faults, the first that holds: the image can't be read; `NoVolume`;
+/// Takes the volume of an image apart: makes the folder a bag of all its items. Faults, the first that holds: the image can't be read; `NoVolume`, `SeveralVolumes`;
 /// the image's own; `IsThere`; `CannotWrite` of the path that isn't written, the image can't be read in the middle, memory was refused. At a fault
 /// the folder isn't there, and what was written is taken away, as far as the system and memory allow.
 pub fn take<'a, R: Files + AllocGlobal, H: Threads, W: Watch>(
@@ -68,19 +77,20 @@ pub fn take<'a, R: Files + AllocGlobal, H: Threads, W: Watch>(
     threads: &H,
     words: &TakeWords<'a>,
     watch: &W,
-) -> Result<BagSums, TakeFault<'a>>
+) -> Result<Taken, TakeFault<'a>>
 where
     R::File: Send,
     ensures { IfErr result (IsTakeFault words.now) }
 {
-    let image = match open_image(rt, words) {
-        Ok(image) => image,
+    let OpenedTake { image, sum } = match open_image(rt, words) {
+        Ok(opened) => opened,
         Err(fault) => return Err(TakeFault::Image(fault)),
     };
     if is_there(rt, words.folder) {
         return Err(TakeFault::IsThere(words.folder));
     }
-    write_bag(rt, threads, image, words, watch)
+    let sums = write_bag(rt, threads, image, words, watch)?;
+    Ok(Taken { sums, sum })
 }
 
 /// A folder's path without slashes at its end; a slash alone stays.

@@ -1,36 +1,38 @@
-//! What the words do on an image, or on the volume in it that is asked for.
+//! What the words do on an image, or on the volume in it that is asked for or lies alone in it.
 
 use crate::commands::{
-    print_check, print_fork, print_info_of, print_items, print_list, print_macbinary,
+    print_info_of, print_items_of, print_needed_check, print_needed_fork, print_needed_list,
+    print_needed_macbinary, print_refused,
 };
-use crate::volumes::{
-    print_volume_check, print_volume_fork, print_volume_info, print_volume_items,
-    print_volume_list, print_volume_macbinary,
-};
+use crate::volumes::print_volume_info;
 use crate::words::{FileWords, ForkWords};
-use hfs_commands::{Fault, Format};
+use hfs_commands::{Fault, Format, open_part};
 
-/// Prints the master directory block.
+/// Prints the master directory block. Without a number it is that of the image as it is.
 pub fn tell_info<'a>(
     rt: &HostRuntime,
     image: &'a str,
     volume: Option<u64>,
 ) -> Result<u8, Fault<'a>> {
     match volume {
+        Some(0) | None => print_info_of(rt, image),
         Some(n) => print_volume_info(rt, image, n),
-        None => print_info_of(rt, image),
     }
 }
 
-/// Prints what is told of it.
+/// Prints what is told of it. Each fault of the image is told behind `refused`.
 pub fn tell_check<'a>(
     rt: &HostRuntime,
     image: &'a str,
     volume: Option<u64>,
 ) -> Result<u8, Fault<'a>> {
-    match volume {
-        Some(n) => print_volume_check(rt, image, n),
-        None => print_check(rt, image),
+    match open_part(rt, image, volume) {
+        Ok(part) => {
+            let len = part.len();
+            print_needed_check(rt, image, part, len)
+        }
+        Err(Fault::Refused(why)) => print_refused(rt, why),
+        Err(fault) => Err(fault),
     }
 }
 
@@ -41,10 +43,9 @@ pub fn tell_list<'a>(
     volume: Option<u64>,
     dir: u32,
 ) -> Result<u8, Fault<'a>> {
-    match volume {
-        Some(n) => print_volume_list(rt, image, n, dir),
-        None => print_list(rt, image, dir),
-    }
+    let part = open_part(rt, image, volume)?;
+    let len = part.len();
+    print_needed_list(rt, image, part, len, dir)
 }
 
 /// Prints the table of its items.
@@ -54,24 +55,21 @@ pub fn tell_items<'a>(
     volume: Option<u64>,
     format: Format,
 ) -> Result<u8, Fault<'a>> {
-    match volume {
-        Some(n) => print_volume_items(rt, image, n, format),
-        None => print_items(rt, image, format),
-    }
+    let part = open_part(rt, image, volume)?;
+    let len = part.len();
+    print_items_of(rt, image, part, len, format)
 }
 
 /// Prints the bytes of a file's fork.
 pub fn tell_fork<'a>(rt: &HostRuntime, file: &ForkWords<'a>) -> Result<u8, Fault<'a>> {
-    match file.volume {
-        Some(n) => print_volume_fork(rt, file, n),
-        None => print_fork(rt, file),
-    }
+    let part = open_part(rt, file.image, file.volume)?;
+    let len = part.len();
+    print_needed_fork(rt, file, part, len)
 }
 
 /// Prints a file with both forks.
 pub fn tell_macbinary<'a>(rt: &HostRuntime, file: &FileWords<'a>) -> Result<u8, Fault<'a>> {
-    match file.volume {
-        Some(n) => print_volume_macbinary(rt, file, n),
-        None => print_macbinary(rt, file),
-    }
+    let mut part = open_part(rt, file.image, file.volume)?;
+    let len = part.len();
+    print_needed_macbinary(rt, file, &mut part, len)
 }

@@ -11,16 +11,14 @@ use crate::volumes::print_volumes;
 use crate::words::{FileWords, ForkWords, NewVolume, Words};
 use hfs_check::MountFault;
 use hfs_commands::{
-    BlockSource, ByteSource, CheckAnswer, Fault, Format, ImageFile, NeededFile, NeededRepair,
-    OpenedImage, RepairAnswer, Status, WatchedFile, WatchedImage, check_answer, code_text,
-    list_text, needed_check_answer, needed_file, needed_repair_answer, open_image, open_watched,
-    opened_list_text, put_macbinary, refused_text, repair_answer, run_info, write_fork,
-    write_items, write_macbinary,
+    BlockSource, CheckAnswer, Fault, Format, NeededFile, NeededRepair, OpenedImage, RepairAnswer,
+    Status, WatchedFile, WatchedImage, code_text, needed_check_answer, needed_file,
+    needed_repair_answer, open_watched, opened_list_text, put_macbinary, refused_text,
+    repair_answer, run_info, write_items,
 };
 use hfs_console::{print_lines, tell_hint};
 use hfs_format::{FormatPlan, format};
 use hfs_model::Reply;
-use hfs_volume::{Volume, mount};
 use std::alloc::AllocError;
 use std::fs::File;
 use std::io::{Read, Write};
@@ -113,50 +111,6 @@ pub fn print_needed_check<'a, S: BlockSource + Drop>(
     }
 }
 
-/// Prints what a check of an image tells whose bytes are all there.
-fn print_whole_check(rt: &HostRuntime, image: &[u8]) -> Result<u8, Fault<'static>> {
-    match check_answer(rt.alloc(), image) {
-        Ok(told) => print_checked(rt, &told),
-        Err(_) => Err(Fault::NoMemory),
-    }
-}
-
-/// Prints what a check of an image tells that can be read.
-fn print_read_check<'a>(rt: &HostRuntime, path: &'a str) -> Result<u8, Fault<'a>> {
-    match open_image(rt, path)? {
-        ImageFile::Seekable { source, len } => print_needed_check(rt, path, source, len),
-        ImageFile::Whole(image) => print_whole_check(rt, image.as_slice()),
-    }
-}
-
-/// Prints what is told of an image by its path. Each fault of the image is told behind `refused`.
-pub fn print_check<'a>(rt: &HostRuntime, path: &'a str) -> Result<u8, Fault<'a>> {
-    match print_read_check(rt, path) {
-        Ok(status) => Ok(status),
-        Err(Fault::Refused(why)) => print_refused(rt, why),
-        Err(fault) => Err(fault),
-    }
-}
-
-/// The volume of an image whose bytes are all there.
-fn mounted(rt: &HostRuntime, image: Vec<u8>) -> Result<Volume, Fault<'static>> {
-    match mount(rt.alloc(), image) {
-        Ok(volume) => Ok(volume),
-        Err(refused) => Err(Fault::of_mount(refused.fault)),
-    }
-}
-
-/// Prints the children of a folder by its ID.
-pub fn print_list<'a>(rt: &HostRuntime, path: &'a str, dir: u32) -> Result<u8, Fault<'a>> {
-    match open_image(rt, path)? {
-        ImageFile::Seekable { source, len } => print_needed_list(rt, path, source, len, dir),
-        ImageFile::Whole(image) => {
-            let volume = mounted(rt, image)?;
-            print_told(rt, list_text(rt.alloc(), &volume, dir))
-        }
-    }
-}
-
 /// Prints the children of a folder, of which the blocks are read that are needed.
 pub fn print_needed_list<'a, S: BlockSource + Drop>(
     rt: &HostRuntime,
@@ -169,25 +123,6 @@ pub fn print_needed_list<'a, S: BlockSource + Drop>(
         Ok(image) => print_told(rt, opened_list_text(rt.alloc(), &image, dir)),
         Err(fault) => Err(Fault::of_needed(fault, path)),
     }
-}
-
-/// Prints the table of an image's items.
-pub fn print_items<'a>(rt: &HostRuntime, path: &'a str, format: Format) -> Result<u8, Fault<'a>> {
-    match open_image(rt, path)? {
-        ImageFile::Seekable { source, len } => print_items_of(rt, path, source, len, format),
-        ImageFile::Whole(image) => print_whole_items(rt, path, &image, format),
-    }
-}
-
-/// Prints the table of the items of an image whose bytes are all there.
-fn print_whole_items<'a>(
-    rt: &HostRuntime,
-    path: &'a str,
-    image: &[u8],
-    format: Format,
-) -> Result<u8, Fault<'a>> {
-    let source = ByteSource { bytes: image };
-    print_items_of(rt, path, source, image.len() as u64, format)
 }
 
 /// Prints the table of the items of an image of so many bytes.
@@ -212,47 +147,6 @@ fn print_table<S: BlockSource + Drop>(
 ) -> Result<u8, Fault<'static>> {
     write_items(rt.alloc(), &mut rt.stdout(), opened, format)?;
     Ok(Status::Done.number())
-}
-
-/// Prints the bytes of a file's fork, or the code of the call that was refused.
-pub fn print_fork<'a>(rt: &HostRuntime, file: &ForkWords<'a>) -> Result<u8, Fault<'a>> {
-    match open_image(rt, file.image)? {
-        ImageFile::Seekable { source, len } => print_needed_fork(rt, file, source, len),
-        ImageFile::Whole(image) => print_whole_fork(rt, file, image),
-    }
-}
-
-/// Prints the bytes of a file's fork, out of a whole image.
-fn print_whole_fork<'a>(
-    rt: &HostRuntime,
-    file: &ForkWords<'a>,
-    image: Vec<u8>,
-) -> Result<u8, Fault<'a>> {
-    let volume = mounted(rt, image)?;
-    print_fork_of(rt, file, &volume)
-}
-
-/// Prints the bytes of a file's fork, out of a mounted volume.
-fn print_fork_of<'a>(
-    rt: &HostRuntime,
-    file: &ForkWords<'a>,
-    volume: &Volume,
-) -> Result<u8, Fault<'a>> {
-    let (name, fork) = (file.name.as_bytes(), file.fork);
-    match write_fork(rt.alloc(), &mut rt.stdout(), volume, file.dir, name, fork) {
-        Ok(reply) => print_end(rt, &reply),
-        Err(fault) => Err(fault),
-    }
-}
-
-/// Prints a file with both forks as one MacBinary file, or the code of the call that was refused.
-pub fn print_macbinary<'a>(rt: &HostRuntime, file: &FileWords<'a>) -> Result<u8, Fault<'a>> {
-    match open_image(rt, file.image)? {
-        ImageFile::Seekable { mut source, len } => {
-            print_needed_macbinary(rt, file, &mut source, len)
-        }
-        ImageFile::Whole(image) => print_whole_macbinary(rt, file, image),
-    }
 }
 
 /// Prints a file with both forks, of which the blocks are read where they are needed.
@@ -286,38 +180,6 @@ fn print_file(rt: &HostRuntime, file: &NeededFile) -> Result<u8, Fault<'static>>
         Ok(Status::Done.number())
     } else {
         print_code(rt, &file.told)
-    }
-}
-
-/// Prints a file with both forks, out of a whole image.
-fn print_whole_macbinary<'a>(
-    rt: &HostRuntime,
-    file: &FileWords<'a>,
-    image: Vec<u8>,
-) -> Result<u8, Fault<'a>> {
-    let volume = mounted(rt, image)?;
-    print_macbinary_of(rt, file, &volume)
-}
-
-/// Prints a file with both forks, out of a mounted volume.
-fn print_macbinary_of<'a>(
-    rt: &HostRuntime,
-    file: &FileWords<'a>,
-    volume: &Volume,
-) -> Result<u8, Fault<'a>> {
-    let name = file.name.as_bytes();
-    match write_macbinary(rt.alloc(), &mut rt.stdout(), volume, file.dir, name) {
-        Ok(reply) => print_end(rt, &reply),
-        Err(fault) => Err(fault),
-    }
-}
-
-/// Prints the code of a call that was refused, and nothing where it was done.
-fn print_end(rt: &HostRuntime, reply: &Reply) -> Result<u8, Fault<'static>> {
-    if reply.code == 0 {
-        Ok(Status::Done.number())
-    } else {
-        print_code(rt, reply)
     }
 }
 
@@ -455,7 +317,7 @@ fn write_answer<'a>(
 }
 
 /// Prints why an image is refused, and what that means.
-fn print_refused<'a>(rt: &HostRuntime, why: MountFault) -> Result<u8, Fault<'a>> {
+pub fn print_refused<'a>(rt: &HostRuntime, why: MountFault) -> Result<u8, Fault<'a>> {
     let status = print_told(rt, refused_text(rt.alloc(), why))?;
     tell_hint(rt, why);
     Ok(status)

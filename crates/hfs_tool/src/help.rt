@@ -29,7 +29,11 @@ A disk copy or a partition without a volume is listed, too, with
 'no volume' at the line's end.
 
 The words info, check, ls, items, page, cat, take and rescue read the
-N-th of them by --volume N; run and repair know no --volume.
+N-th of them by --volume N, and by --volume 0 the file as it is.
+Without --volume they take a bare volume as it is, else the only
+volume inside, and rescue the only line, also one with 'no volume'; of
+several none. info, run and repair, and what comes out of a pipe, are
+taken as they are; run and repair know no --volume.
 
 Not looked for: a map within a map or within a disk copy, Disk Copy 6
 and other compressed forms, images with sectors of 2,352 bytes, MFS,

@@ -1,39 +1,34 @@
 //! What remains of a damaged volume, as it is shown.
 
 use crate::progress::ItemProgress;
+use crate::saving::{left_beside, tell};
 use crate::taking::print_fault;
 use hfs_commands::Fault;
-use hfs_console::print_lines;
-use hfs_salvage::{BagWords, RescueAnswer, RescueWords, list_rescue, rescue};
-use hfs_take::TakeFault;
+use hfs_console::{print_lines, tell_sum};
+use hfs_salvage::{BagWords, RescueWords, Rescued, list_rescue, rescue};
 
 /// Prints what is told of an image of which something remains, and answers the exit status.
-fn print_answer(rt: &HostRuntime, answer: &RescueAnswer) -> Result<u8, Fault<'static>> {
-    print_lines(rt, answer.lines.as_str())?;
-    Ok(answer.status)
+fn print_answer(rt: &HostRuntime, image: &str, rescued: &Rescued) -> Result<u8, Fault<'static>> {
+    tell_sum(rt, image, rescued.sum == Some(false));
+    print_lines(rt, rescued.answer.lines.as_str())?;
+    Ok(rescued.answer.status)
 }
 
-/// Prints what the folder has, or why it was not made. Faults: those of the image, which aren't printed here.
-fn print_rescued<'a>(
-    rt: &HostRuntime,
-    rescued: Result<RescueAnswer, TakeFault<'a>>,
-) -> Result<u8, Fault<'a>> {
+/// Takes what remains off a volume, and prints what is told of it, or why the folder was not made. Faults: those of the image, which aren't printed here.
+pub fn rescue_volume<'a>(rt: &HostRuntime, words: &BagWords<'a>) -> Result<u8, Fault<'a>> {
+    let left = left_beside(rt, words.folder)?;
+    let progress = ItemProgress::on(rt);
+    let rescued = rescue(rt, words, &progress);
+    progress.end();
+    tell(rt, &left);
     match rescued {
-        Ok(answer) => print_answer(rt, &answer),
+        Ok(rescued) => print_answer(rt, words.words.image, &rescued),
         Err(fault) => print_fault(rt, fault),
     }
 }
 
-/// Takes what remains off a volume, and prints what is told of it.
-pub fn rescue_volume<'a>(rt: &HostRuntime, words: &BagWords<'a>) -> Result<u8, Fault<'a>> {
-    let progress = ItemProgress::on(rt);
-    let rescued = rescue(rt, words, &progress);
-    progress.end();
-    print_rescued(rt, rescued)
-}
-
 /// Prints a line for each item that remains of a volume, and what is told of it.
 pub fn list_remains<'a>(rt: &HostRuntime, words: &RescueWords<'a>) -> Result<u8, Fault<'a>> {
-    let answer = list_rescue(rt, &mut rt.stdout(), words)?;
-    print_answer(rt, &answer)
+    let rescued = list_rescue(rt, &mut rt.stdout(), words)?;
+    print_answer(rt, words.image, &rescued)
 }

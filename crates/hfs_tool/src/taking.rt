@@ -1,9 +1,10 @@
 //! What a volume that is taken apart shows.
 
 use crate::progress::ItemProgress;
+use crate::saving::{left_beside, tell};
 use hfs_commands::{Fault, Status};
-use hfs_console::print_lines;
-use hfs_take::{BagSums, TakeFault, TakeWords, take, taken_text};
+use hfs_console::{print_lines, tell_sum};
+use hfs_take::{BagSums, TakeFault, TakeWords, Taken, take, taken_text};
 use std::thread::Threads;
 
 /// Takes a volume apart, and prints what the folder has then.
@@ -12,19 +13,25 @@ pub fn take_volume<'a, T: Threads>(
     threads: &T,
     words: &TakeWords<'a>,
 ) -> Result<u8, Fault<'a>> {
+    let left = left_beside(rt, words.folder)?;
     let progress = ItemProgress::on(rt);
     let taken = take(rt, threads, words, &progress);
     progress.end();
-    print_taken(rt, taken)
+    tell(rt, &left);
+    print_taken(rt, words.image, taken)
 }
 
 /// Prints what the folder has, or why it was not made. Faults: those of the image, which aren't printed here.
 fn print_taken<'a>(
     rt: &HostRuntime,
-    taken: Result<BagSums, TakeFault<'a>>,
+    image: &str,
+    taken: Result<Taken, TakeFault<'a>>,
 ) -> Result<u8, Fault<'a>> {
     match taken {
-        Ok(sums) => print_sums(rt, &sums),
+        Ok(taken) => {
+            tell_sum(rt, image, taken.sum == Some(false));
+            print_sums(rt, &taken.sums)
+        }
         Err(fault) => print_fault(rt, fault),
     }
 }

@@ -100,8 +100,8 @@ impl<'a> Words<'a> {
             Words::Info { image, volume }
             | Words::Check { image, volume }
             | Words::List { image, volume, .. }
-            | Words::Items { image, volume, .. }
-            | Words::Page(words) => (words.image, words.volume),
+            | Words::Items { image, volume, .. } => (*image, *volume),
+            Words::Page(words) => (words.image, words.volume),
             Words::ListAt(place) | Words::MacBinaryAt(place) => (place.image, place.volume),
             Words::Cat(file) => (file.image, file.volume),
             Words::MacBinary(file) => (file.image, file.volume),

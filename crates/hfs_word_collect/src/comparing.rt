@@ -52,6 +52,11 @@ pub fn compare_known<S: ReadAt>(
     }
 }
 
+/// Whether the first byte of a file of `len` bytes can be read, where it has any.
+fn is_readable<S: ReadAt>(source: &mut S, len: u64) -> bool {
+    len == 0 || source.read_at(0, &mut [0; 1]).is_ok()
+}
+
 /// How an image stands to what the database has of it: `Missing` where it can't be read, `New` where the database has no row of its
 /// path, else by its length and its digest. Faults: `CannotWrite` where the database can't be read, `NoMemory`.
 pub fn compare_image<S: Alter + Drop, R: Files + AllocGlobal, W: ReadWatch>(
@@ -65,6 +70,9 @@ pub fn compare_image<S: Alter + Drop, R: Files + AllocGlobal, W: ReadWatch>(
         return Ok(Comparison::Missing);
     };
     let len = source.file.len();
+    if !is_readable(&mut source, len) {
+        return Ok(Comparison::Missing);
+    }
     watch.opened(len);
     match known_image(collection, path)? {
         Some(known) => compare_known(rt.alloc(), &mut source, len, &known),

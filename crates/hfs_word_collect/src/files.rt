@@ -27,6 +27,13 @@ impl<'a, R: Files + AllocGlobal, W: ReadWatch> FileByPath<'a, R, W> {
     }
 }
 
+/// Whether so many files can be opened at once as a database wants: itself, its log, and the folder that
+/// holds both. Where fewer can be, opening it would leave a file without bytes.
+pub fn can_open_database<R: Files>(rt: &R) -> bool {
+    let opened = (rt.open_dir("/"), rt.open_dir("/"), rt.open_dir("/"));
+    opened.0.is_ok() && opened.1.is_ok() && opened.2.is_ok()
+}
+
 /// A file that can be sought in. Error: it can't be.
 fn sought<F: Read + Seek + Drop>(source: OpenedFile<F>) -> Result<OpenedFile<F>, SparseFault>
     ensures { IfOk result (λ source. known_bytes source ≡ None) }

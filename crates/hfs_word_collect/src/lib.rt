@@ -12,7 +12,7 @@ mod writing;
 pub use crate::collecting::{collect_image, put_image};
 pub use crate::comparing::{compare_image, compare_known};
 pub use crate::fault::RunFault;
-pub use crate::files::FileByPath;
+pub use crate::files::{FileByPath, can_open_database};
 pub use crate::lines::{comparison_line, image_line};
 pub use crate::watched::{ReadWatch, WatchedFile};
 pub use crate::writing::{write_image, write_image_at};

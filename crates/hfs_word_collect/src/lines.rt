@@ -17,6 +17,7 @@ pub fn image_line(alloc: Global, path: &str, counts: &ImageCounts) -> Result<Str
         refused,
         files,
         damaged,
+        wrong_sums: _,
     } = *counts;
     let path = ShownPath(path);
     let line = format!(in alloc;

@@ -1,6 +1,6 @@
 //! The word `cat`.
 
-use super::places::{IMAGE, PATH, VOLUME, path_words};
+use super::places::{IMAGE, PATH, VOLUME, path_words, volume_of};
 use crate::words::{FileWords, ForkPathWords, ForkWords, PathWords, Words};
 use clap::{ArgMatches, Command};
 use hfs_arguments::{Argument, NoValue, Takes, Word};
@@ -83,7 +83,7 @@ fn words_at<'a>(matches: &ArgMatches<'a>, place: PathWords<'a>) -> Result<Words<
 fn words_by_name<'a>(matches: &ArgMatches<'a>) -> Result<Words<'a>, NoValue> {
     let file = FileWords {
         image: IMAGE.text(matches)?,
-        volume: VOLUME.given_count(matches)?,
+        volume: volume_of(matches)?,
         dir: DIR.number(matches)?,
         name: NAME.text(matches)?,
     };

@@ -1,6 +1,6 @@
 //! The word `check`.
 
-use super::places::{IMAGE, VOLUME};
+use super::places::{IMAGE, VOLUME, volume_of};
 use crate::help::CHECKS;
 use crate::words::Words;
 use clap::{ArgMatches, Command};
@@ -23,6 +23,6 @@ pub fn check_command<'a>(alloc: Global) -> Result<Command<'a>, AllocError> {
 pub fn check_words<'a>(matches: &ArgMatches<'a>) -> Result<Words<'a>, NoValue> {
     Ok(Words::Check {
         image: IMAGE.text(matches)?,
-        volume: VOLUME.given_count(matches)?,
+        volume: volume_of(matches)?,
     })
 }

@@ -1,6 +1,6 @@
 //! The word `info`.
 
-use super::places::{IMAGE, VOLUME};
+use super::places::{IMAGE, VOLUME, volume_of};
 use crate::words::Words;
 use clap::{ArgMatches, Command};
 use hfs_arguments::{NoValue, Word};
@@ -22,6 +22,6 @@ pub fn info_command<'a>(alloc: Global) -> Result<Command<'a>, AllocError> {
 pub fn info_words<'a>(matches: &ArgMatches<'a>) -> Result<Words<'a>, NoValue> {
     Ok(Words::Info {
         image: IMAGE.text(matches)?,
-        volume: VOLUME.given_count(matches)?,
+        volume: volume_of(matches)?,
     })
 }

@@ -1,6 +1,6 @@
 //! The word `items`.
 
-use super::places::{IMAGE, VOLUME};
+use super::places::{IMAGE, VOLUME, volume_of};
 use crate::help::COLUMNS;
 use crate::words::Words;
 use clap::{ArgMatches, Command};
@@ -36,7 +36,7 @@ pub fn items_command<'a>(alloc: Global) -> Result<Command<'a>, AllocError> {
 pub fn items_words<'a>(matches: &ArgMatches<'a>) -> Result<Words<'a>, NoValue> {
     Ok(Words::Items {
         image: IMAGE.text(matches)?,
-        volume: VOLUME.given_count(matches)?,
+        volume: volume_of(matches)?,
         format: format_of(matches)?,
     })
 }

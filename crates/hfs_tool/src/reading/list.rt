@@ -1,6 +1,6 @@
 //! The word `ls`.
 
-use super::places::{IMAGE, PATH, VOLUME, path_words};
+use super::places::{IMAGE, PATH, VOLUME, path_words, volume_of};
 use crate::words::Words;
 use clap::{ArgMatches, Command};
 use hfs_arguments::{Argument, NoValue, Takes, Word};
@@ -35,7 +35,7 @@ pub fn list_words<'a>(matches: &ArgMatches<'a>) -> Result<Words<'a>, NoValue> {
         Some(place) => Ok(Words::ListAt(place)),
         None => Ok(Words::List {
             image: IMAGE.text(matches)?,
-            volume: VOLUME.given_count(matches)?,
+            volume: volume_of(matches)?,
             dir: DIR.number(matches)?,
         }),
     }

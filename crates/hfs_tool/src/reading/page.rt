@@ -1,6 +1,6 @@
 //! The word `page`.
 
-use super::places::{IMAGE, VOLUME};
+use super::places::{IMAGE, VOLUME, volume_of};
 use crate::help::PAGES;
 use crate::words::{PageWords, Words};
 use clap::{ArgMatches, Command};
@@ -39,7 +39,7 @@ pub fn page_command<'a>(alloc: Global) -> Result<Command<'a>, AllocError> {
 pub fn page_words<'a>(matches: &ArgMatches<'a>) -> Result<Words<'a>, NoValue> {
     Ok(Words::Page(PageWords {
         image: IMAGE.text(matches)?,
-        volume: VOLUME.given_count(matches)?,
+        volume: volume_of(matches)?,
         base: BASE.given_text(matches),
         is_digested: DIGEST.is_given(matches)?,
     }))

@@ -15,8 +15,8 @@ pub const IMAGE: Argument = Argument {
 /// The number of the volume in an image.
 pub const VOLUME: Argument = Argument {
     name: "volume",
-    takes: Takes::CountOption { value: "N" },
-    help: "The N-th of the volumes that volumes IMAGE lists, in place of the image's own bytes",
+    takes: Takes::GivenNumberOption { value: "N" },
+    help: "The N-th of the volumes that volumes IMAGE lists; 0 is the image as it is",
     excludes: &[],
 };
 
@@ -55,6 +55,14 @@ pub const NOW: Argument = Argument {
     excludes: &[],
 };
 
+/// The number of the volume in an image, where one is given.
+pub fn volume_of(matches: &ArgMatches<'_>) -> Result<Option<u64>, NoValue> {
+    match VOLUME.given_number(matches)? {
+        Some(number) => Ok(Some(u64::from(number))),
+        None => Ok(None),
+    }
+}
+
 /// The item that a path leads to, where a path is given.
 pub fn path_words<'a>(matches: &ArgMatches<'a>) -> Result<Option<PathWords<'a>>, NoValue> {
     let Some(path) = PATH.given_text(matches) else {
@@ -62,7 +70,7 @@ pub fn path_words<'a>(matches: &ArgMatches<'a>) -> Result<Option<PathWords<'a>>,
     };
     Ok(Some(PathWords {
         image: IMAGE.text(matches)?,
-        volume: VOLUME.given_count(matches)?,
+        volume: volume_of(matches)?,
         path,
     }))
 }

@@ -1,6 +1,6 @@
 //! The word `rescue`.
 
-use super::places::{FOLDER, IMAGE, NO_DIGEST, VOLUME};
+use super::places::{FOLDER, IMAGE, NO_DIGEST, VOLUME, volume_of};
 use crate::help::{PROGRAM, RESCUES};
 use crate::words::Words;
 use clap::{ArgMatches, Command};
@@ -44,7 +44,7 @@ pub fn rescue_command<'a>(alloc: Global) -> Result<Command<'a>, AllocError> {
 pub fn rescue_words<'a>(matches: &ArgMatches<'a>) -> Result<Words<'a>, NoValue> {
     let words = RescueWords {
         image: IMAGE.text(matches)?,
-        volume: VOLUME.given_count(matches)?,
+        volume: volume_of(matches)?,
         limit: LIMIT.given_count(matches)?,
     };
     if LIST.is_given(matches)? {

@@ -1,6 +1,6 @@
 //! The word `take`.
 
-use super::places::{FOLDER, IMAGE, NO_DIGEST, VOLUME};
+use super::places::{FOLDER, IMAGE, NO_DIGEST, VOLUME, volume_of};
 use crate::help::{PROGRAM, TAKES};
 use crate::words::Words;
 use clap::{ArgMatches, Command};
@@ -24,7 +24,7 @@ pub fn take_command<'a>(alloc: Global) -> Result<Command<'a>, AllocError> {
 pub fn take_words<'a>(matches: &ArgMatches<'a>) -> Result<Words<'a>, NoValue> {
     Ok(Words::Take(TakeWords {
         image: IMAGE.text(matches)?,
-        volume: VOLUME.given_count(matches)?,
+        volume: volume_of(matches)?,
         folder: folder_path(FOLDER.text(matches)?),
         is_digested: !NO_DIGEST.is_given(matches)?,
         program: PROGRAM,

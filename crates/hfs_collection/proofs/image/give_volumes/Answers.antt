@@ -1,12 +1,6 @@
 -- A beginning of the next volume's rows, or all of them.
 use Rattle.std.proofs.Common.{◌≡◌, ◌∙◌, ◌+◌, ◌++◌, refl, sym, subst, arith}
 use Rattle.hfs_sparse.proofs.Written.{on-err as on_err}
-use Rattle.hfs_containers.specs.Ranges.{bytes_in}
-use Rattle.hfs_needed.specs.Known.{OfKnown}
-use Rattle.hfs_rows.specs.Taken.{IsBeginning}
-use Rattle.hfs_collection.specs.declared.places.VolumePlace.{VolumePlace}
-use Rattle.hfs_collection.specs.Counts.{volume_counts}
-use Rattle.hfs_collection.specs.Volumes.{volume_rows}
 use Rattle.hfs_collection.proofs.Counting.{VolumesToCount, volumes_counted_first, volumes_counted_last, volumes_counted_next}
 use Rattle.hfs_collection.proofs.VolumesGoing.{volumes_first, volumes_last, volumes_next, volumes_part, volumes_within}
 use Rattle.hfs_collection.proofs.image.give_volumes.Goals as goal
@@ -15,31 +9,31 @@ pub returns-in_err-more-clause-part : goal.returns-in_err-more-clause-part
 returns-in_err-more-clause-part g c =
     let known = g.F.ImageFile.known c.args.file.now in
     let given = g.T.RowTaker.given c.loop-i.taker in
-    let new = g.T.RowTaker.given c.give_volume.new.taker in
+    let new = g.T.RowTaker.given c.give_range.new.taker in
     on_err _ _ (volumes_within known known refl c.args.len c.args.taken c.loop-i.i c.args.ranges.now _ c.loop-i-test.true (g.T.RowTaker.given c.args.taker.now) given new c.loop-i.invariant.rows
-    (subst (λ (place : VolumePlace). OfKnown known c.args.len (λ file. IsBeginning new (given ++ volume_rows c.args.taken place (bytes_in place.range file)))) c.of-place.ensures c.in_err-more.ensures.part))
+    c.in_err-more.ensures.part)
 
 pub returns-in_default-clause-part : goal.returns-in_default-clause-part
 returns-in_default-clause-part g c =
     let known = g.F.ImageFile.known c.args.file.now in
     let given = g.T.RowTaker.given c.loop-i.taker in
-    let new = g.T.RowTaker.given c.give_volume.new.taker in
+    let new = g.T.RowTaker.given c.give_range.new.taker in
     volumes_part known c.args.len c.args.taken (c.loop-i.i + 1) c.args.ranges.now (g.T.RowTaker.given c.args.taker.now) new
     (volumes_next known known refl c.args.len c.args.taken c.loop-i.i c.args.ranges.now _ c.loop-i-test.true (g.T.RowTaker.given c.args.taker.now) given new c.loop-i.invariant.rows
-    (subst (λ (place : VolumePlace). OfKnown known c.args.len (λ file. new ≡ given ++ volume_rows c.args.taken place (bytes_in place.range file))) c.of-place.ensures c.in_ok-more.ensures.whole))
+    c.in_ok-more.ensures.whole)
 
 pub loop-i-preserved : goal.loop-i-preserved
 loop-i-preserved g c =
     let known = g.F.ImageFile.known c.args.file.now in
     let given = g.T.RowTaker.given c.loop-i.taker in
-    let new = g.T.RowTaker.given c.give_volume.new.taker in
+    let new = g.T.RowTaker.given c.give_range.new.taker in
     record {
       rows = volumes_next known known refl c.args.len c.args.taken c.loop-i.i c.args.ranges.now _ c.loop-i-test.true (g.T.RowTaker.given c.args.taker.now) given new c.loop-i.invariant.rows
-          (subst (λ (place : VolumePlace). OfKnown known c.args.len (λ file. new ≡ given ++ volume_rows c.args.taken place (bytes_in place.range file))) c.of-place.ensures c.in_ok-more.ensures.whole);
-      reference = c.give_volume.ensures.reference ∙ c.loop-i.invariant.reference;
-      place = c.give_volume.ensures.place ∙ c.loop-i.invariant.place;
+          c.in_ok-more.ensures.whole;
+      reference = c.give_range.ensures.reference ∙ c.loop-i.invariant.reference;
+      place = c.give_range.ensures.place ∙ c.loop-i.invariant.place;
       counted = volumes_counted_next known c.args.len c.loop-i.i c.args.ranges.now _ c.loop-i.counts c.in_ok-more.more c.in-Some.sum c.loop-i-test.true c.loop-i.invariant.counted
-          (subst (λ (place : VolumePlace). OfKnown known c.args.len (λ file. c.in_ok-more.more ≡ volume_counts (bytes_in place.range file))) c.of-place.ensures c.in_ok-more.ensures.counted)
+          c.in_ok-more.ensures.counted
           c.in-Some.ensures;
     }
 

@@ -35,11 +35,12 @@ returns-in_err-give_bag-clause-part g c =
       program = c.args.words.now.program;
       image = c.as_str-2.result;
       volume = c.args.line;
+      directory = c.text_in.result;
       bytes = c.args.len;
       digest = c.args.told.now.digest;
       report = c.as_str-3.result;
     } in
-    let tells = tells_known known c.args.len found.mdb.now (text_in c.args.line) words c.args.told.now facts c.requires.told c.as_str.ensures.value refl c.as_str-2.ensures.value refl refl refl
+    let tells = tells_known known c.args.len found.mdb.now (text_in c.args.line) words c.args.told.now facts c.requires.told c.as_str.ensures.value refl c.as_str-2.ensures.value refl c.text_in.ensures refl refl
     c.as_str-3.ensures.value in
     let source_is : source ≡ known =
     ap (λ (items : RescueItems g.row.S.Denot). g.S.BlockSource.image items.source) c.new-watched.ensures ∙ c.in_ok-items.ensures.source in
@@ -64,11 +65,12 @@ returns-clause-whole g c =
       program = c.args.words.now.program;
       image = c.as_str-2.result;
       volume = c.args.line;
+      directory = c.text_in.result;
       bytes = c.args.len;
       digest = c.args.told.now.digest;
       report = c.as_str-3.result;
     } in
-    let tells = tells_known known c.args.len found.mdb.now (text_in c.args.line) words c.args.told.now facts c.requires.told c.as_str.ensures.value refl c.as_str-2.ensures.value refl refl refl
+    let tells = tells_known known c.args.len found.mdb.now (text_in c.args.line) words c.args.told.now facts c.requires.told c.as_str.ensures.value refl c.as_str-2.ensures.value refl c.text_in.ensures refl refl
     c.as_str-3.ensures.value in
     let source_is : source ≡ known =
     ap (λ (items : RescueItems g.row.S.Denot). g.S.BlockSource.image items.source) c.new-watched.ensures ∙ c.in_ok-items.ensures.source in
@@ -91,11 +93,12 @@ returns-in_err-give_bag-clause-fault g c =
       program = c.args.words.now.program;
       image = c.as_str-2.result;
       volume = c.args.line;
+      directory = c.text_in.result;
       bytes = c.args.len;
       digest = c.args.told.now.digest;
       report = c.as_str-3.result;
     } in
-    let tells = tells_known known c.args.len found.mdb.now (text_in c.args.line) words c.args.told.now facts c.requires.told c.as_str.ensures.value refl c.as_str-2.ensures.value refl refl refl
+    let tells = tells_known known c.args.len found.mdb.now (text_in c.args.line) words c.args.told.now facts c.requires.told c.as_str.ensures.value refl c.as_str-2.ensures.value refl c.text_in.ensures refl refl
     c.as_str-3.ensures.value in
     let source_is : source ≡ known =
     ap (λ (items : RescueItems g.row.S.Denot). g.S.BlockSource.image items.source) c.new-watched.ensures ∙ c.in_ok-items.ensures.source in

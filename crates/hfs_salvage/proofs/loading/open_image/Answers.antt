@@ -1,6 +1,6 @@
 -- What was found by a look at an image is found of the source that it leaves.
 use Rattle.std.proofs.Common.{ℕ, List, Option, sym, subst, arith}
-use Rattle.hfs_take.specs.Opening.{known_in}
+use Rattle.hfs_commands.specs.OpenedFiles.{known_in}
 use Rattle.hfs_salvage.specs.declared.looking.Look.TheVariants as look
 use Rattle.hfs_salvage.specs.Looks.{IsLookAt}
 use Rattle.hfs_salvage.proofs.loading.open_image.Goals as goal

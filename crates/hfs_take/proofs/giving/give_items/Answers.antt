@@ -1,5 +1,5 @@
 -- What is given is the bag of the image.
-use Rattle.std.proofs.Common.{◌≡◌, List, ◌++◌, ap, refl, sym, subst, rules, ◌∙◌}
+use Rattle.std.proofs.Common.{◌≡◌, List, ◌++◌, None, ap, refl, sym, subst, rules, ◌∙◌}
 use Rattle.std.specs.Prelude.{⊤}
 use Rattle.hfs_bag.proofs.FaultLemmas.{any-source, larger}
 use Rattle.hfs_bag.proofs.Growing.{on_err}
@@ -46,12 +46,13 @@ returns-in_err-sums-clause-part g c =
       program = c.args.words.now.program;
       image = c.as_str-2.result;
       volume = c.args.line;
+      directory = None;
       bytes = c.args.len;
       digest = c.in_ok-first.first.1;
       report = c.as_str-3.result;
     } in
     let tells = tells-items items.image c.args.len (text_in c.args.line) c.args.words.now facts items.root c.requires.len c.requires.root
-    (c.as_str.ensures.value ∙ c.in_ok-identifier.ensures ∙ ap plain_text c.bytes.ensures.bytes) refl (c.as_str-2.ensures.value ∙ c.requires.told.name_is) refl refl
+    (c.as_str.ensures.value ∙ c.in_ok-identifier.ensures ∙ ap plain_text c.bytes.ensures.bytes) refl (c.as_str-2.ensures.value ∙ c.requires.told.name_is) refl refl refl
     (made-told g.S.BlockSource.image items.image.known c.args.len c.args.words.now.is_digested told.digest c.in_ok-first.first.1 c.requires.told.digest_is c.in_ok-first.ensures.digest)
     (subst (IsReportText items.image.known c.args.len) (sym c.as_str-3.ensures.value) c.requires.told.report_is) in
     on_err _ (of-known items.image.known items.image.len (text_in c.args.line) c.args.words.now facts items.rows.left items.came items.reading
@@ -72,12 +73,13 @@ returns-clause-whole g c =
       program = c.args.words.now.program;
       image = c.as_str-2.result;
       volume = c.args.line;
+      directory = None;
       bytes = c.args.len;
       digest = c.in_ok-first.first.1;
       report = c.as_str-3.result;
     } in
     let tells = tells-items items.image c.args.len (text_in c.args.line) c.args.words.now facts items.root c.requires.len c.requires.root
-    (c.as_str.ensures.value ∙ c.in_ok-identifier.ensures ∙ ap plain_text c.bytes.ensures.bytes) refl (c.as_str-2.ensures.value ∙ c.requires.told.name_is) refl refl
+    (c.as_str.ensures.value ∙ c.in_ok-identifier.ensures ∙ ap plain_text c.bytes.ensures.bytes) refl (c.as_str-2.ensures.value ∙ c.requires.told.name_is) refl refl refl
     (made-told g.S.BlockSource.image items.image.known c.args.len c.args.words.now.is_digested told.digest c.in_ok-first.first.1 c.requires.told.digest_is c.in_ok-first.ensures.digest)
     (subst (IsReportText items.image.known c.args.len) (sym c.as_str-3.ensures.value) c.requires.told.report_is) in
     of-known items.image.known items.image.len (text_in c.args.line) c.args.words.now facts items.rows.left items.came items.reading

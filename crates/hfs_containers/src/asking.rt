@@ -1,0 +1,173 @@
+//! Which volume of a file is taken.
+ghost use Rattle.std.specs.Prelude.{◌≡◌, ◌++◌, IfOk, None, OnOk};
+ghost use Rattle.std.specs.Option.{option_to_list};
+ghost use Rattle.hfs_containers.specs.Reading.{IsTold, IsToldOf};
+ghost use Rattle.hfs_containers.specs.Asking.{IsAnswerTo, asked_in, chosen_of, counted_at, counted_from, is_bare, is_counted, is_whole_file, only_one};
+
+use crate::finding::{find_ranges, nth_range};
+use crate::ranges::{Container, FoundRange};
+use crate::source::ReadAt;
+use crate::volumes::volume_name;
+use hfs_sparse::SparseFault;
+use std::alloc::Global;
+
+/// A range that was found in a file, with its number among these, counted from 1.
+#[derive(Clone, Copy, Debug, PartialEq, Eq)]
+pub struct NumberedRange {
+    pub number: u64,
+    pub found: FoundRange,
+}
+
+/// Which ranges count where no number is given.
+#[derive(Clone, Copy, Debug, PartialEq, Eq)]
+pub enum Counted {
+    /// Those that hold a volume.
+    Volumes,
+    /// All, also those that hold none.
+    Ranges,
+}
+
+/// What is taken of a file.
+#[derive(Clone, Copy, Debug, PartialEq, Eq)]
+pub enum Asked {
+    /// The file as it is.
+    WholeFile,
+    /// A range inside.
+    Inside(NumberedRange),
+    /// Nothing, since no number was given and so many ranges count.
+    Several(u64),
+    /// Nothing, since there is no range with this number.
+    Missing(u64),
+}
+
+/// Whether a range of a file counts.
+fn is_counted<S: ReadAt>(
+    source: &mut S,
+    counted: Counted,
+    found: &FoundRange,
+) -> Result<bool, SparseFault>
+    ensures is { IfOk result (IsTold (S.known source.old) (is_counted counted found.now)) }
+    ensures known { S.known source.new ≡ S.known source.old }
+{
+    match counted {
+        Counted::Volumes => {
+            let name = volume_name(source, found.range)?;
+            Ok(name.is_some())
+        }
+        Counted::Ranges => Ok(true),
+    }
+}
+
+/// Appends a range of a file with its number, where it counts.
+#[tactic(auto, unfolding(crate::specs::Asking::counted_at))]
+fn push_counted<S: ReadAt>(
+    inside: &mut Vec<NumberedRange>,
+    source: &mut S,
+    counted: Counted,
+    number: u64,
+    found: &FoundRange,
+) -> Result<(), SparseFault>
+    ensures pushed { OnOk result (IsTold (S.known source.old)
+        (λ file. inside.old.items ++ option_to_list (counted_at counted number found.now file)) inside.new.items) }
+    ensures known { S.known source.new ≡ S.known source.old }
+{
+    if !is_counted(source, counted, found)? {
+        return Ok(());
+    }
+    match inside.push(NumberedRange {
+        number,
+        found: *found,
+    }) {
+        Ok(()) => Ok(()),
+        Err(_) => Err(SparseFault::Memory),
+    }
+}
+
+/// Those of these ranges of a file that count, with their numbers.
+fn counted_among<S: ReadAt>(
+    alloc: Global,
+    source: &mut S,
+    counted: Counted,
+    ranges: &[FoundRange],
+) -> Result<Vec<NumberedRange>, SparseFault>
+    ensures inside { IfOk result (λ inside. IsTold (S.known source.old) (counted_from counted 1 ranges.now) inside.items) }
+    ensures known { S.known source.new ≡ S.known source.old }
+{
+    let mut inside = Vec::new(alloc);
+    for i in 0..ranges.len() {
+        push_counted(&mut inside, source, counted, i as u64 + 1, &ranges[i])?;
+    }
+    Ok(inside)
+}
+
+/// Whether the first of these ranges is the whole file.
+fn is_bare(ranges: &[FoundRange]) -> bool
+    ensures { result ≡ is_bare ranges.now }
+{
+    match ranges {
+        [] => false,
+        [found, ..] => match found.container {
+            Container::Bare => true,
+            Container::MacBinary | Container::DiskCopy { .. } | Container::Partition => false,
+        },
+    }
+}
+
+/// The only one of these ranges, or the file as it is where there is none.
+fn only_one(inside: &[NumberedRange]) -> Asked
+    ensures is { result ≡ only_one inside.now }
+    ensures answers { IsAnswerTo None result }
+{
+    match inside {
+        [] => Asked::WholeFile,
+        [one] => Asked::Inside(*one),
+        [_, _, ..] => Asked::Several(inside.len() as u64),
+    }
+}
+
+/// What is taken of a file without a number, in which these ranges are found.
+#[tactic(auto, unfolding(crate::specs::Asking::chosen_of))]
+fn chosen_of<S: ReadAt>(
+    alloc: Global,
+    source: &mut S,
+    counted: Counted,
+    ranges: &[FoundRange],
+) -> Result<Asked, SparseFault>
+    ensures chosen { IfOk result (IsTold (S.known source.old) (chosen_of counted ranges.now)) }
+    ensures answers { IfOk result (IsAnswerTo None) }
+    ensures known { S.known source.new ≡ S.known source.old }
+{
+    if is_bare(ranges) {
+        return Ok(Asked::WholeFile);
+    }
+    let inside = counted_among(alloc, source, counted, ranges)?;
+    Ok(only_one(&inside))
+}
+
+/// What is taken of a file of `len` bytes, by the number of a range in it or without one: 0 is the file as it is. Without a number a bare
+/// volume is taken as it is, else the only range inside that counts; where none does the file as it is, and of several none. Errors as [`find_ranges`]
+/// has them.
+#[tactic(auto, unfolding(crate::specs::Asking::asked_in))]
+pub fn find_asked<S: ReadAt>(
+    alloc: Global,
+    source: &mut S,
+    len: u64,
+    counted: Counted,
+    number: Option<u64>,
+) -> Result<Asked, SparseFault>
+    ensures asked { IfOk result (IsToldOf (S.known source.old) len (asked_in counted number)) }
+    ensures answers { IfOk result (IsAnswerTo number) }
+    ensures known { S.known source.new ≡ S.known source.old }
+{
+    match number {
+        None => {
+            let ranges = find_ranges(alloc, source, len)?;
+            chosen_of(alloc, source, counted, &ranges)
+        }
+        Some(0) => Ok(Asked::WholeFile),
+        Some(n) => match nth_range(alloc, source, len, n)? {
+            Some(found) => Ok(Asked::Inside(NumberedRange { number: n, found })),
+            None => Ok(Asked::Missing(n)),
+        },
+    }
+}
