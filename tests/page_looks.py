@@ -63,6 +63,7 @@ class Browser:
         self.session = self.ask('Target.attachToTarget', targetId=target['targetId'], flatten=True)['sessionId']
         for part in ('Page', 'Network', 'Runtime', 'Performance'):
             self.ask(f'{part}.enable')
+        self.ask('Emulation.setFocusEmulationEnabled', enabled=True)
 
     def message(self):
         while b'\0' not in self.rest:
@@ -304,7 +305,7 @@ def read_many(browser, page, kept):
     ordered, _ = taken(lambda: browser.value('[...document.querySelectorAll("#heads button")].find(it => it.textContent === "Size").click()'))
     opened, _ = taken(lambda: browser.value('document.querySelector("#items details").open = true'))
     ensure(max(searched, ordered) < LIMIT and opened < 2 * LIMIT, f'a search takes {searched} ms, sorting {ordered}, a folder opens in {opened}')
-    print(f'{page.name}: {count} items, a search in {searched} ms of the processor, sorted in {ordered}, all in one folder opened in {opened}')
+    print(f'{page.name}: {count} items, a search in {searched} ms of the processor, sorted in {ordered}, its root opened in {opened}')
 
 
 def look_at_own(browser, folder, kept, items):

@@ -18,8 +18,6 @@ pub enum WordsFault {
     Clap(Error),
     /// Clap took words that lack what is read of them, under this name: the program's own fault.
     NoValue(&'static str),
-    /// The URL that links are to begin with has another scheme than http: and https:.
-    BadBase,
     /// The first word is no longer one of the program's: the program of this name has it.
     Moved {
         word: &'static str,
@@ -51,9 +49,6 @@ pub fn refused_words(rt: &HostRuntime, fault: &WordsFault) -> u8 {
         WordsFault::Clap(error) => told_by_clap(rt, error),
         WordsFault::NoValue(name) => Status::WordsRefused.after(println!(rt;
             "no value for {name}"
-        )),
-        WordsFault::BadBase => Status::WordsRefused.after(println!(rt;
-            "--base wants a URL that begins with http: or https:, or is relative"
         )),
         WordsFault::Moved { word, program } => {
             Status::WordsRefused.after(println!(rt; "{word} is a program of its own: {program}"))

@@ -89,6 +89,7 @@ button{padding:0;margin:0}
 grid-template-columns:minmax(8rem,1fr) 4.75rem 6rem 9.5rem}
 #heads,#items li{padding-left:.8rem}
 #items ul{margin-left:-.4rem;padding-left:.35rem}
+#items ul ul ul ul ul ul ul ul{margin-left:-.8rem}
 #items details{grid-column:1/-1;min-width:0}
 #items b{margin:0;grid-column:1}
 #items span,#items .picked span{display:block;margin:0;max-width:none;max-height:1.5em;white-space:pre;grid-row:1}

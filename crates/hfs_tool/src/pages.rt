@@ -6,13 +6,29 @@ use hfs_check::MountFault;
 use hfs_commands::{BlockSource, Fault, NeededFault, OpenedImage, Status, open_part};
 use hfs_console::VERSION;
 use hfs_pages::{
-    PageFault, PageImage, PageTexts, standard_texts, write_image_page, write_refused_page,
+    PageFault, PageImage, PageTexts, is_base, standard_texts, write_image_page, write_refused_page,
 };
 use hfs_take::{SourceBlocks, image_digest, image_name};
 use std::alloc::Global;
 
-/// Prints the page of an image, or of the volume with this number that lies in it.
+/// Prints the page of an image, or of the volume with this number that lies in it. Links that no URL
+/// of a server or of a page may begin are refused, as words are.
 pub fn print_page<'a>(rt: &HostRuntime, words: &PageWords<'a>) -> Result<u8, Fault<'a>> {
+    match words.base {
+        Some(base) if !is_base(base.as_bytes()) => Ok(print_refused_base(rt)),
+        Some(_) | None => print_page_by(rt, words),
+    }
+}
+
+/// Prints which URLs links may begin with, and answers the exit status.
+fn print_refused_base(rt: &HostRuntime) -> u8 {
+    Status::WordsRefused.after(println!(rt;
+        "--base wants a URL that begins with http: or https:, or is relative"
+    ))
+}
+
+/// Prints the page that the words ask for.
+fn print_page_by<'a>(rt: &HostRuntime, words: &PageWords<'a>) -> Result<u8, Fault<'a>> {
     let Ok(name) = image_name(rt.alloc(), words.image) else {
         return Err(Fault::NoMemory);
     };

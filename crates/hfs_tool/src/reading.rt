@@ -15,14 +15,13 @@ mod take;
 mod volumes;
 
 use crate::help::AFTER_HELP;
-use crate::words::{PageWords, Words};
+use crate::words::Words;
 use cat::{cat_command, cat_words};
 use check::{check_command, check_words};
 use clap::{ArgMatches, Command, Error};
 use hfs_arguments::{NoValue, Program, Word, with_word};
 use hfs_commands::Status;
 use hfs_console::{VERSION, WordsFault, refused_words};
-use hfs_pages::is_base;
 use info::{info_command, info_words};
 use items::{items_command, items_words};
 use list::{list_command, list_words};
@@ -76,24 +75,7 @@ pub fn read_words<'a>(alloc: Global, words: &'a [String]) -> Result<Words<'a>, W
         });
     }
     let matches = matches_of(alloc, words)?;
-    let words = words_of(&matches)?;
-    if has_bad_base(&words) {
-        return Err(WordsFault::BadBase);
-    }
-    Ok(words)
-}
-
-/// Whether a page is asked for whose links no URL of a server or of a page begins.
-fn has_bad_base(words: &Words<'_>) -> bool {
-    match words {
-        Words::Page(
-            PageWords {
-                base: Some(base),
-                ..
-            },
-        ) => !is_base(base.as_bytes()),
-        _ => false,
-    }
+    Ok(words_of(&matches)?)
 }
 
 /// What the program's command finds in the words.
