@@ -4,3 +4,8 @@ mod Puts
 mod JoinedLemmas
 mod NumberLemmas
 mod ForkLemmas
+mod ZeroLemmas
+mod ZeroSteps
+mod CoverLemmas
+mod FromLemmas
+mod WholeLemmas

@@ -1,7 +1,6 @@
 -- The numbers of a fork's logical blocks.
-use Rattle.std.proofs.Common.{◌≡◌, ◌≢◌, ℕ, zero, suc, ◌+◌, ◌-◌, ◌*◌, ◌/◌, ◌<◌, ◌≤◌, ◌⊎◌, inl, inr, Bool, cond, eqb, List, [], ◌∷◌, ◌++◌, length, get_or, refl, sym, ap, ◌∙◌, subst, arith}
-use Rattle.std.specs.Prelude.{map}
-use Rattle.std.specs.List.{All, range_with_len, flat_map}
+use Rattle.std.proofs.Common.{◌≡◌, ℕ, zero, suc, ◌+◌, ◌-◌, ◌*◌, ◌/◌, ◌<◌, ◌≤◌, ◌⊎◌, inl, inr, Bool, cond, eqb, List, [], ◌∷◌, ◌++◌, length, get_or, refl, sym, ap, ◌∙◌, subst, arith}
+use Rattle.std.specs.List.{range_with_len}
 use Rattle.std.proofs.Math.Nat.{add-mul}
 use Rattle.std.proofs.lemmas.Nat.{le-div, div_below}
 use Rattle.std.proofs.lemmas.List.{length-append, get_or_append_left, get_or-append_right}
@@ -44,7 +43,7 @@ different-once (n ∷ ns) once zero (suc j) less lt same =
 different-once (n ∷ ns) once (suc i) (suc j) less lt same =
     different-once ns (λ b. (let most = once b in let e = owners-cons n ns b in omega (arith, most, e))) i j (omega (arith, less)) (omega (arith, lt)) same
 
-outside : (a n b : ℕ) → (b < a) ⊎ (a + n ≤ b) → owners (range_with_len a n) b ≡ 0
+pub outside : (a n b : ℕ) → (b < a) ⊎ (a + n ≤ b) → owners (range_with_len a n) b ≡ 0
 outside a zero b apart = refl
 outside a (suc n) b apart =
     let ne : a ≡ b → ⊥ = λ same. elim apart [ inl low ↦ omega (arith, low, same) | inr high ↦ omega (arith, high, same) ] in
@@ -53,7 +52,7 @@ outside a (suc n) b apart =
     let parts = owners-cons a (range_with_len (a + 1) n) b in
     omega (arith, here, rest, parts)
 
-inside : (a n b : ℕ) → a ≤ b → b < a + n → owners (range_with_len a n) b ≡ 1
+pub inside : (a n b : ℕ) → a ≤ b → b < a + n → owners (range_with_len a n) b ≡ 1
 inside a zero b low high = absurd (omega (arith, low, high))
 inside a (suc n) b low high =
     elim (cases_lt a b) [
@@ -129,11 +128,14 @@ module _ (mdb : Mdb) where
       add-two all a b whole c d p q r s = omega (arith, p, q, r, s)
 
   -- where no allocation block stands twice, no logical block does
-  pub numbers-different : (es : List Extent) → ((b : ℕ) → owners (extent_blocks es) b ≤ 1) → AreDifferent (block_numbers mdb es)
-  numbers-different es once = different-once (block_numbers mdb es) (λ n. le-one _ _ (numbers-owners es n) (once ((n - mdb.allocation_start) / blocks_each mdb)))
+  pub numbers-once : (es : List Extent) → ((b : ℕ) → owners (extent_blocks es) b ≤ 1) → (n : ℕ) → owners (block_numbers mdb es) n ≤ 1
+  numbers-once es once n = le-one _ _ (numbers-owners es n) (once ((n - mdb.allocation_start) / blocks_each mdb))
     where
       le-one : (a b : ℕ) → a ≤ b → b ≤ 1 → a ≤ 1
       le-one a b p q = omega (arith, p, q)
+
+  pub numbers-different : (es : List Extent) → ((b : ℕ) → owners (extent_blocks es) b ≤ 1) → AreDifferent (block_numbers mdb es)
+  numbers-different es once = different-once (block_numbers mdb es) (numbers-once es once)
 
   -- the numbers are those of the volume's blocks
   pub numbers-within : (total : ℕ) → HasArea mdb total → (es : List Extent) → AreExtentsWithin mdb.allocation_blocks es → (i : ℕ) → i < length (block_numbers mdb es) → get_or (block_numbers mdb es) i 0 < total

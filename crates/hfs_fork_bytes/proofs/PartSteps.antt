@@ -1,11 +1,11 @@
 -- Parts that are written one after the other.
-use Rattle.std.proofs.Common.{◌≡◌, ◌≢◌, ℕ, zero, suc, ◌+◌, ◌-◌, ◌*◌, ◌/◌, ◌%◌, ◌<◌, ◌≤◌, ◌⊎◌, inl, inr, ⊎_elim, List, [], ◌∷◌, ◌++◌, length, get_or, take, drop, sym, ap, ◌∙◌, subst, arith, refl}
+use Rattle.std.proofs.Common.{◌≡◌, ◌≢◌, ℕ, zero, suc, ◌+◌, ◌-◌, ◌*◌, ◌/◌, ◌%◌, ◌<◌, ◌≤◌, ◌⊎◌, inl, inr, ⊎_elim, List, ◌++◌, length, get_or, take, drop, sym, ap, ◌∙◌, subst, arith, refl}
 use Rattle.std.proofs.lemmas.Bool.{cases_lt, cases_eq, cases_order}
 use Rattle.std.proofs.Math.Seq.{take-add}
 use Rattle.std.proofs.lemmas.List.{length-append, length-take, length-take-le, length-replicate, take-replicate, replicate-append-replicate, get_or_append_left, get_or-append_right, get_or-take}
 use Rattle.hfs_fork_bytes.specs.Parts.{with_part, zeros}
 use Rattle.hfs_blocks.specs.Layers.{Numbered, changes, AreWhole}
-use Rattle.hfs_fork_bytes.specs.Written.{byte_of, HasByteOf, KeepsBeside, HasPart, AreDifferent, AreBothWhole}
+use Rattle.hfs_fork_bytes.specs.Written.{byte_of, KeepsBeside, HasPart, AreDifferent, AreBothWhole}
 use Rattle.hfs_fork_bytes.proofs.PartLemmas.{with_part-before, with_part-inside, with_part-after}
 
 pub different-apart : (ns : List ℕ) → AreDifferent ns → (i j : ℕ) → i < length ns → j < length ns → (i ≡ j → ⊥) → get_or ns i 0 ≢ get_or ns j 0

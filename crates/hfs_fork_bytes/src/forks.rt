@@ -53,16 +53,8 @@ pub fn write_fork<B: Blocks>(
     Ok(())
 }
 
-/// Writes zeros over `count` bytes of the blocks of a fork that has these extents, from its byte `offset` on, into the patch
-/// over the volume's blocks: over those of blocks that come to it, or over those that it gets where it is lengthened. The
-/// fork's other bytes stay, and so do all blocks that have none of these bytes.
-///
-/// The patch holds each of the blocks. The work is that of `write_fork`.
-///
-/// Errors: `AllocError` where memory was refused. Then some of the bytes may not be zeros.
-///
-/// Source: Inside Macintosh: Files, chapter 2, 'Extents overflow file'.
-pub fn clear_fork<B: Blocks>(
+/// Writes zeros as `write_fork` writes bytes: `count` of them. The patch holds each of the blocks.
+pub(crate) fn clear_part<B: Blocks>(
     alloc: Global,
     blocks: &B,
     patch: &mut Patch,

@@ -1,10 +1,8 @@
 -- What is written over the runs is written over the fork.
-use Rattle.std.proofs.Common.{◌≡◌, ℕ, ◌+◌, ◌*◌, ◌≤◌, length, refl, ap, ◌∙◌, subst, arith}
+use Rattle.std.proofs.Common.{ℕ, ◌+◌, length, refl, ap, ◌∙◌, subst, arith}
 use Rattle.std.specs.List.{flat_map}
 use Rattle.hfs_blocks.specs.Blocks.{run_of}
 use Rattle.hfs_blocks.specs.Layers.{changes, over, length-over}
-use Rattle.hfs_space.specs.ForkLaws.{block_numbers}
-use Rattle.hfs_space.specs.TreeFiles.{tree_blocks}
 use Rattle.hfs_fork_bytes.specs.Written.{KeepsBeside, HasPart}
 use Rattle.hfs_fork_bytes.proofs.ForkLemmas.{runs-different, runs-reach, fork-beside, fork-written}
 use Rattle.hfs_fork_bytes.proofs.forks.write_fork.Goals as goal

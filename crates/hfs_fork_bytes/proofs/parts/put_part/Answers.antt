@@ -1,5 +1,5 @@
 -- The block that was read, with the part in it, is put.
-use Rattle.std.proofs.Common.{◌≡◌, ℕ, ◌+◌, ◌-◌, List, length, sym, subst, ap, ◌∙◌, arith}
+use Rattle.std.proofs.Common.{◌≡◌, ◌+◌, ◌-◌, length, sym, subst, ◌∙◌, arith}
 use Rattle.hfs_blocks.specs.Layers.{Numbered, Changes, changes, over, AreWhole, AreWithin}
 use Rattle.hfs_blocks.proofs.LayerLemmas.{AreWithin-with_change}
 use Rattle.hfs_fork_bytes.proofs.Puts.{AreWhole-with_change, put-here, put-other, written-part, written-length}

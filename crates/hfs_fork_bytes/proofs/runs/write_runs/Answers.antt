@@ -2,7 +2,7 @@
 use Rattle.std.proofs.Common.{◌+◌, ◌≤◌, length, arith}
 use Rattle.std.specs.List.{flat_map}
 use Rattle.hfs_blocks.specs.Blocks.{run_of}
-use Rattle.hfs_blocks.specs.Layers.{Numbered, changes, over}
+use Rattle.hfs_blocks.specs.Layers.{changes, over}
 use Rattle.hfs_fork_bytes.proofs.Puts.{runs-length}
 use Rattle.hfs_fork_bytes.proofs.PartSteps.{HasPart-next, KeepsBeside-more, slice-fits, whole-next}
 use Rattle.hfs_fork_bytes.proofs.runs.write_runs.Goals as goal

@@ -1,15 +1,14 @@
 -- What is cleared in the runs is cleared in the fork.
-use Rattle.std.proofs.Common.{◌≡◌, ℕ, ◌+◌, ◌*◌, ◌≤◌, List, length, sym, ap, ◌∙◌, subst, arith}
+use Rattle.std.proofs.Common.{◌≡◌, ℕ, ◌+◌, List, length, sym, ap, ◌∙◌, subst, arith}
 use Rattle.std.specs.List.{flat_map}
 use Rattle.hfs_blocks.specs.Blocks.{run_of}
 use Rattle.hfs_blocks.specs.Layers.{changes, over, length-over}
 use Rattle.hfs_space.specs.ForkLaws.{block_numbers}
-use Rattle.hfs_space.specs.TreeFiles.{tree_blocks}
 use Rattle.std.proofs.lemmas.List.{length-replicate}
 use Rattle.hfs_fork_bytes.specs.Parts.{zeros}
 use Rattle.hfs_fork_bytes.specs.Written.{KeepsBeside, HasPart}
 use Rattle.hfs_fork_bytes.proofs.ForkLemmas.{runs-different, runs-reach, fork-beside, fork-written}
-use Rattle.hfs_fork_bytes.proofs.forks.clear_fork.Goals as goal
+use Rattle.hfs_fork_bytes.proofs.forks.clear_part.Goals as goal
 
 length-zeros : (n : ℕ) → length (zeros n) ≡ n
 length-zeros n = let zero_byte : ℕ = 0 in length-replicate n zero_byte
