@@ -1,16 +1,20 @@
 //! The nodes that a new volume's trees get where nobody names them.
-ghost use Rattle.std.specs.Prelude.{◌≡◌};
+ghost use Rattle.std.specs.Prelude.{◌≡◌, ◌≤◌, ◌<◌, ◌/◌};
 ghost use Rattle.hfs_format.specs.Plan as plan;
 ghost use Rattle.hfs_sizes.specs.Sizes.{chosen_nodes};
 
 /// How many blocks an allocation block has.
+#[tactic(auto, using(crate::proofs::PlanNumbers::factor_is))]
 fn block_factor(blocks: u32) -> u32
-    ensures { result ≡ plan.block_factor blocks }
+    ensures value { result ≡ plan.block_factor blocks }
+    ensures some { 1 ≤ result }
+    ensures enough { blocks / result < 65536 }
 {
     blocks / 65_536 + 1
 }
 
 /// How many allocation blocks a volume of so many blocks has.
+#[tactic(auto, using(crate::proofs::PlanNumbers::allocation_blocks_is))]
 fn allocation_blocks(blocks: u32) -> u32
     ensures { result ≡ plan.allocation_blocks blocks }
 {

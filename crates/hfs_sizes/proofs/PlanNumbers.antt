@@ -1,0 +1,11 @@
+-- The numbers of a new volume, as they are computed.
+use Rattle.std.specs.Prelude.{ℕ, ◌≡◌, ◌+◌, ◌-◌, ◌/◌, refl}
+use Rattle.hfs_format.specs.Plan.{allocation_blocks, allocation_start, bitmap_blocks, block_factor}
+
+pub factor_is : (blocks : ℕ) → blocks / 65536 + 1 ≡ block_factor blocks
+unfolding block_factor
+factor_is blocks = refl
+
+pub allocation_blocks_is : (blocks : ℕ) → (blocks - 2 - (3 + (blocks / block_factor blocks + 4095) / 4096)) / block_factor blocks ≡ allocation_blocks blocks
+unfolding allocation_blocks allocation_start bitmap_blocks
+allocation_blocks_is blocks = refl
