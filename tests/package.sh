@@ -56,6 +56,7 @@ offered() {
 [ "$(offered hfs_tool re)" = 'repair rescue ' ] || fail 'the completion of a word'
 [ "$(offered hfs_tool run --)" = '--help --now --out ' ] || fail 'the completion of an option'
 [ "$(offered hfs_collect --)" = '--compare --help --no-digest --version ' ] || fail 'the completion of an option of hfs_collect'
+[ "$(offered hfs_collect rows --)" = '--format --help --no-digest --table ' ] || fail 'the completion of an option of hfs_collect rows'
 for program in 'hfs_tool check' hfs_collect; do
     [ -n "$(offered $program tests/vol)" ] || fail "the completion of a path behind $program"
 done
