@@ -1,8 +1,9 @@
 # Completion of hfs_collect's options and paths, for bash.
 _hfs_collect() {
-    local word=${COMP_WORDS[COMP_CWORD]}
+    local word=${COMP_WORDS[COMP_CWORD]} options='--compare --no-digest --help --version'
+    [ "${COMP_WORDS[1]}" != rows ] || options='--format --no-digest --table --help'
     case $word in
-        -*) mapfile -t COMPREPLY < <(compgen -W '--compare --no-digest --help --version' -- "$word") ;;
+        -*) mapfile -t COMPREPLY < <(compgen -W "$options" -- "$word") ;;
         *) mapfile -t COMPREPLY < <(compgen -f -- "$word") && compopt -o filenames 2> /dev/null ;;
     esac
 }
