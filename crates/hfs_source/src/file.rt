@@ -1,6 +1,9 @@
 //! A file that is read by its places.
-ghost use Rattle.std.specs.Prelude.{◌≡◌, ◌+◌, ⊤, [], ◌∷◌, length, Some, IfOk, IfSome, OnErr, OnOk};
+ghost use Rattle.std.specs.Prelude.{◌≡◌, ◌+◌, ⊤, [], ◌∷◌, length, pos, Some, IfOk, IfSome, OnErr, OnOk};
 ghost use Rattle.std.specs.Option.{option_map};
+ghost use Rattle.std.specs.Io.KnownBytes.{Consumes};
+ghost use Rattle.std.specs.Io.Seek.{MovesTo, SeekMoves};
+ghost use Rattle.std.specs.declared.io.traits.SeekFrom.TheVariants.{End};
 ghost use Rattle.hfs_source.specs.Images.{HasAt, HasLength, OfEach};
 ghost use Rattle.hfs_source.specs.Steps.{IsReadFrom, place_after, came, ended, lost, went};
 
@@ -9,8 +12,9 @@ use crate::reader::PlacedReader;
 use std::io;
 use std::io::{Read, Seek, SeekFrom};
 
-/// What can be read and sought in, as a file, with the list of what was done with it. Each step does one thing and notes it: that the
-/// system goes where it is told, tells where the end is, and gives the bytes from there on, is trusted, and nothing else.
+/// What can be read and sought in, as a file, with the list of what was done with it. Each step does one thing and notes it. A file tells
+/// nothing of its bytes: that the system goes where it is told, tells where the end is, and gives the bytes from there on, is trusted,
+/// and nothing else. Of a reader that tells its place and its bytes each step is proved.
 #[derive(Drop)]
 pub struct TrustedFile<F> {
     file: F,
@@ -44,6 +48,8 @@ impl<F: Read + Seek> PlacedReader for TrustedFile<F> {
     fn go_to(&mut self, target: u64) -> io::Result<()>
         ensures place { OnOk result (place_after self.new.log.steps ≡ Some target) }
         ensures held { OfEach (IsReadFrom self.new.log.steps) (IsReadFrom self.old.log.steps) }
+        ensures moves { MovesTo (F.stream_position self.old.file)
+            (F.stream_position self.new.file) target result }
         ensures noted { OnOk result (self.new.log.steps ≡ went target ∷ self.old.log.steps) }
         ensures lost { OnErr result (self.new.log.steps ≡ lost ∷ self.old.log.steps) }
     {
@@ -63,6 +69,8 @@ impl<F: Read + Seek> PlacedReader for TrustedFile<F> {
         ensures end { IfOk result (λ end. OfEach (IsReadFrom self.new.log.steps) (HasLength end)) }
         ensures place { IfOk result (λ end. place_after self.new.log.steps ≡ Some end) }
         ensures held { OfEach (IsReadFrom self.new.log.steps) (IsReadFrom self.old.log.steps) }
+        ensures moves { SeekMoves (F.stream_position self.old.file)
+            (F.stream_position self.new.file) (F.stream_bytes self.old.file) (End (pos 0)) result }
         ensures noted { IfOk result (λ end. self.new.log.steps ≡ ended end ∷ self.old.log.steps) }
         ensures lost { OnErr result (self.new.log.steps ≡ lost ∷ self.old.log.steps) }
     {
@@ -84,6 +92,8 @@ impl<F: Read + Seek> PlacedReader for TrustedFile<F> {
         ensures place { OnOk result (place_after self.new.log.steps
             ≡ option_map (λ from. from + length into.new) (place_after self.old.log.steps)) }
         ensures held { OfEach (IsReadFrom self.new.log.steps) (IsReadFrom self.old.log.steps) }
+        ensures given { OnOk result (Consumes (F.remaining self.old.file)
+            (F.remaining self.new.file) into.new) }
         ensures noted { OnOk result (self.new.log.steps ≡ came into.new ∷ self.old.log.steps) }
         ensures lost { OnErr result (self.new.log.steps ≡ lost ∷ self.old.log.steps) }
     {
