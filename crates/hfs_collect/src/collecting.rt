@@ -7,8 +7,8 @@ use hfs_collection::ImageFacts;
 use hfs_commands::{Fault, ShownPath, Status};
 use hfs_console::{print_lines, tell_sum, tell_unread};
 use hfs_word_collect::{
-    Collection, Comparison, DatabaseFiles, FileCollection, ImageCounts, Obstacle, RunFault, can_open_database,
-    collect_image, compare_image, comparison_line, image_line, next_path,
+    Collection, Comparison, DatabaseFiles, FileCollection, ImageCounts, Obstacle, RunFault,
+    can_open_database, collect_image, compare_image, comparison_line, image_line, next_path,
 };
 
 /// What a row tells of the program that read an image.
@@ -75,7 +75,7 @@ fn open_database(
     makes_tables: bool,
 ) -> Result<FileCollection, RunFault> {
     if !can_open_database(rt) {
-        return Err(RunFault::CannotOpen);
+        return Err(RunFault::CannotOpen(Obstacle::System));
     }
     match Collection::open(rt, files, makes_tables) {
         Ok(database) => Ok(database),

@@ -1,6 +1,7 @@
 //! What the word `rows` does: one image after the other, as text on standard output.
 
 use crate::collecting::PROGRAM;
+use crate::progress::ReadProgress;
 use crate::reading_rows::RowsWords;
 use hfs_collection::ImageFacts;
 use hfs_commands::{Fault, ShownPath, Status};
@@ -15,7 +16,7 @@ pub fn rows(rt: &HostRuntime, words: &RowsWords<'_>) -> u8 {
             let _printed = eprintln!(rt; "{}", Fault::NoMemory);
             Status::NoMemory.number()
         }
-        Err(RunFault::CannotOpen | RunFault::CannotWrite) => Status::DeviceFailed.number(),
+        Err(RunFault::CannotOpen(_) | RunFault::CannotWrite) => Status::DeviceFailed.number(),
     }
 }
 
@@ -25,26 +26,33 @@ fn print_rows(rt: &HostRuntime, words: &RowsWords<'_>) -> Result<Status, RunFaul
     let mut taker = TextTaker::new(rt.alloc(), rt.stdout(), words.form);
     let mut status = Status::Done;
     for i in 0..words.images.len() {
-        if !print_image(rt, &mut taker, words.images[i], words.takes_digests)? {
+        if !print_image(rt, &mut taker, words, i)? {
             status = Status::DeviceFailed;
         }
     }
     Ok(status)
 }
 
-/// Prints the rows of an image, and answers whether all of them came; where they don't, this is told on standard error.
+/// Prints the rows of the image at this place of the words, and answers whether all of them came; where they don't, this is told on standard error.
 fn print_image(
     rt: &HostRuntime,
     taker: &mut TextTaker<Stdout>,
-    path: &str,
-    takes_digests: bool,
+    words: &RowsWords<'_>,
+    i: usize,
 ) -> Result<bool, RunFault> {
+    let Some(path) = words.images.get(i).copied() else {
+        return Ok(true);
+    };
     let facts = ImageFacts {
         path,
         program: PROGRAM,
-        takes_digests,
+        takes_digests: words.takes_digests,
     };
-    let is_whole = write_image_at(rt, taker, &facts)?;
+    let all = words.images.len() as u64;
+    let progress = ReadProgress::on(rt, (i as u64).saturating_add(1), Some(all), path);
+    let written = write_image_at(rt, taker, &facts, &progress);
+    progress.end();
+    let is_whole = written?;
     if !is_whole {
         // Where standard error takes nothing, the run goes on.
         let _printed = eprintln!(rt; "cannot read {}", ShownPath(path));

@@ -23,6 +23,7 @@ fn range_of(fault: &Fault<'_>) -> Option<&'static str>
         | Fault::Refused(_)
         | Fault::NoVolume(_)
         | Fault::NoVolumes
+        | Fault::SeveralVolumes(_)
         | Fault::NoRoom
         | Fault::ScriptLine(_)
         | Fault::ScriptTooLarge

@@ -6,6 +6,7 @@ ghost use Rattle.hfs_word_collect.specs.Writing.{WritesPart, WritesSome, WritesW
 
 use crate::fault::RunFault;
 use crate::files::FileByPath;
+use crate::watched::ReadWatch;
 use hfs_collection::{ImageFacts, ImageFile, give_image};
 use hfs_containers::ReadAt;
 use hfs_rows::TakerFault;
@@ -54,17 +55,19 @@ pub fn write_image<W: Write + Drop, S: ReadAt + Drop, F: ImageFile<S>>(
 
 /// Writes the rows of an image by its path, and its end, and answers whether all of them came: none come where it can't be opened.
 /// Faults: as of [`write_image`].
-pub fn write_image_at<W: Write + Drop, R: Files + AllocGlobal>(
+pub fn write_image_at<W: Write + Drop, R: Files + AllocGlobal, H: ReadWatch>(
     rt: &R,
     taker: &mut TextTaker<W>,
     facts: &ImageFacts<'_>,
+    watch: &H,
 ) -> Result<bool, RunFault> {
     let file = FileByPath {
         rt,
         path: facts.path,
+        watch,
     };
-    let len = match file.open() {
-        Ok(source) => source.len(),
+    let len = match file.len() {
+        Ok(len) => len,
         Err(SparseFault::ReadFailed) => return Ok(false),
         Err(SparseFault::Memory) => return Err(RunFault::NoMemory),
     };
