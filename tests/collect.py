@@ -917,7 +917,7 @@ def few_files(place):
     kept, rows = (place.folder / 'there.db').read_bytes(), image_rows(place, 'p6.img')
     place.file('more.img', content)
     made = set()
-    for most in range(3, 14):
+    for most in range(4, 14):
         how = {'preexec_fn': lambda: resource.setrlimit(resource.RLIMIT_NOFILE, (most, most))}
         status, text = place.run('collect', 'new.db', 'p6.img', **how)
         names = sorted(it for it in place.names() if it.startswith('new.db'))
@@ -932,7 +932,7 @@ def few_files(place):
         ensure(status == 4 and text in ('cannot open there.db\n', 'cannot read none.img\n'), f'{most} open files: {status}, {text!r}')
         ensure(sorted(it for it in place.names() if it.startswith('there.db')) == ['there.db'], f'{most} open files leave {place.names()}')
         ensure(text != 'cannot open there.db\n' or (place.folder / 'there.db').read_bytes() == kept, f'{most} open files change a database')
-    ensure(3 not in made and 13 in made, f'databases with these numbers of open files: {sorted(made)}')
+    ensure(4 not in made and 13 in made, f'databases with these numbers of open files: {sorted(made)}')
 
 
 def unread_images(place):

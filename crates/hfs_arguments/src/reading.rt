@@ -69,7 +69,7 @@ impl Argument {
             → IfOk result (λ n. n ≡ Some (digits_value 10 (without_leading_plus text))) }
     {
         match matches.try_get_one::<u32>(self.name) {
-            Ok(number) => Ok(number),
+            Ok(found) => Ok(found),
             Err(_) => Err(NoValue(self.name)),
         }
     }
