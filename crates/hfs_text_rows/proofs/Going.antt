@@ -1,6 +1,9 @@
 -- Rows on their way to a writer.
 use Rattle.std.proofs.Common.{◌≡◌, ◌∙◌, refl, sym, ap, subst, ℕ, ◌+◌, Bool, true, false, List, [], ◌∷◌, ◌++◌, append_assoc, append-nil, length, take, drop, take-append-drop, true≢false}
 use lib.Seq.{take-append_seam}
+use mathlib.Core.HLevel.{⊥_prop}
+use denote.Struct.Props.{≡_prop}
+use Rattle.std.specs.Coded.{coded_list, coded_ℕ}
 use Rattle.std.specs.Prelude.{Option, None, Some}
 use Rattle.std.specs.Io.KnownBytes.{Appends}
 use Rattle.std.proofs.KnownBytes.{Appends-nil, Appends-trans}
@@ -13,6 +16,12 @@ use Rattle.hfs_text_rows.specs.declared.keys.Keys.{Keys}
 use Rattle.hfs_text_rows.specs.Keys.{keys_after, keys_behind, no_keys}
 use Rattle.hfs_text_rows.specs.Texts.{end_text, image_text, row_text, rows_text}
 use Rattle.hfs_text_rows.specs.UnderWay.{IsUnderWay, Moves, PutsLine}
+
+-- that known bytes grow so is a proposition
+pub Appends_prop : (a b : Option (List ℕ)) (bytes : List ℕ) → IsProp (Appends a b bytes)
+Appends_prop None b bytes = λ _ _. refl
+Appends_prop (Some x) None bytes = ⊥_prop
+Appends_prop (Some x) (Some y) bytes = ≡_prop (coded_list coded_ℕ) y (x ++ bytes)
 
 -- ---- one row more
 
@@ -30,7 +39,7 @@ keys_more keys (first ∷ rest) row = keys_more (keys_after keys first.table fir
 
 -- ---- what went out
 
-has_not : {X : Type 0} → true ≡ false → X
+pub has_not : {X : Type 0} → true ≡ false → X
 has_not is = absurd (true≢false is)
 
 -- a beginning that went out

@@ -2,6 +2,7 @@
 use Rattle.std.specs.Prelude.{◌≡◌, ℕ, Bool, false, List, ◌++◌, Option}
 use Rattle.std.specs.Io.KnownBytes.{Appends}
 use Rattle.hfs_rows.specs.Taken.{TakenRow}
+use Rattle.hfs_texts.specs.Writing.{AppendsFront}
 use Rattle.hfs_text_rows.specs.declared.form.Form.{Form}
 use Rattle.hfs_text_rows.specs.declared.keys.Keys.{Keys}
 use Rattle.hfs_text_rows.specs.Keys.{keys_behind, no_keys}
@@ -16,6 +17,10 @@ pub record IsUnderWay (start now : Option (List ℕ)) (text : List ℕ) (form : 
   pub written : Appends start now front
   pub waits : failed ≡ false → rest ≡ text
   pub known : failed ≡ false → keys ≡ keys_behind no_keys rows
+
+-- known bytes grow by a part of these, from the first on
+abbrev pub WritesFront : Option (List ℕ) → Option (List ℕ) → List ℕ → Type 0
+WritesFront old new bytes = ∥ AppendsFront old new bytes ∥₁
 
 -- a first part of a text went out, and the rest of it is left
 pub record Moves (old new : Option (List ℕ)) (text left : List ℕ) : Type 0 where

@@ -122,14 +122,12 @@ pub(crate) fn push_csv_line(
     ensures { OnOk result (text.new.items ≡ text.old.items
         ++ csv_line (map told_column columns.now) keys.now values.now) }
 {
-    match columns {
-        [] => text.extend_from_slice(b"\r\n"),
-        [first, others @ ..] => {
-            push_field(text, first, keys, values)?;
-            push_fields(text, others, keys, values)?;
-            text.extend_from_slice(b"\r\n")
-        }
-    }
+    let Some((first, others)) = columns.split_first() else {
+        return text.extend_from_slice(b"\r\n");
+    };
+    push_field(text, first, keys, values)?;
+    push_fields(text, others, keys, values)?;
+    text.extend_from_slice(b"\r\n")
 }
 
 /// Appends the names of columns, each behind a comma.
@@ -148,12 +146,10 @@ fn push_names(text: &mut Vec<u8>, columns: &[Column]) -> Result<(), AllocError>
 pub(crate) fn push_csv_head(text: &mut Vec<u8>, columns: &[Column]) -> Result<(), AllocError>
     ensures { OnOk result (text.new.items ≡ text.old.items ++ csv_head (map told_column columns.now)) }
 {
-    match columns {
-        [] => text.extend_from_slice(b"\r\n"),
-        [first, others @ ..] => {
-            text.extend_from_slice(first.name.as_bytes())?;
-            push_names(text, others)?;
-            text.extend_from_slice(b"\r\n")
-        }
-    }
+    let Some((first, others)) = columns.split_first() else {
+        return text.extend_from_slice(b"\r\n");
+    };
+    text.extend_from_slice(first.name.as_bytes())?;
+    push_names(text, others)?;
+    text.extend_from_slice(b"\r\n")
 }

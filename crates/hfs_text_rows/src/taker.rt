@@ -1,10 +1,9 @@
 //! The taker that writes text.
 ghost use Rattle.std.specs.Prelude.{◌≡◌, [], List, Option, OnErr, OnOk, ℕ};
 ghost use Rattle.std.specs.Io.KnownBytes.{Appends};
-ghost use Rattle.hfs_texts.specs.Writing.{AppendsFront};
 ghost use Rattle.hfs_text_rows.specs.declared.form.Form.{Form};
 ghost use Rattle.hfs_text_rows.specs.Texts.{image_text};
-ghost use Rattle.hfs_text_rows.specs.UnderWay.{IsUnderWay};
+ghost use Rattle.hfs_text_rows.specs.UnderWay.{IsUnderWay, WritesFront};
 
 use crate::form::Form;
 use crate::keys::Keys;
@@ -57,7 +56,7 @@ impl<W: Write + Drop> TextTaker<W> {
         ensures form { self.new.form ≡ self.old.form }
         ensures written { OnOk result (Appends (W.contents self.old.start.value)
             (W.contents self.new.writer) (image_text self.old.form self.old.given.rows is_whole)) }
-        ensures part { OnErr result (AppendsFront (W.contents self.old.start.value)
+        ensures part { OnErr result (WritesFront (W.contents self.old.start.value)
             (W.contents self.new.writer) (image_text self.old.form self.old.given.rows is_whole)) }
         ensures nothing { OnOk result (self.new.given.rows ≡ []) }
         ensures start { OnOk result (W.contents self.new.start.value ≡ W.contents self.new.writer) }
