@@ -124,9 +124,12 @@ fn head_of(info: &Info, runs: &Option<FileRuns>) -> BagHead
     }
 }
 
-/// How many bytes both forks of an item have.
-fn bytes_of(head: &BagHead) -> u64 {
-    u64::from(head.data_length) + u64::from(head.resource_length)
+/// How many bytes both forks have that lie there.
+fn bytes_of(runs: &Option<FileRuns>) -> u64 {
+    match runs {
+        Some(runs) => u64::from(runs.data.length) + u64::from(runs.resource.length),
+        None => 0,
+    }
 }
 
 /// An item with its host path. Error: memory was refused.
@@ -306,9 +309,8 @@ impl<S: BlockSource + Drop, W: Watch> BagSource for ImageItems<'_, S, W> {
             return Err(SourceFault::Memory);
         };
         self.count = self.count.saturating_add(1);
-        let head = head_of(&info, &runs);
-        self.watch.item_came(self.count, self.all, bytes_of(&head));
-        Ok(Some(head))
+        self.watch.item_came(self.count, self.all, bytes_of(&runs));
+        Ok(Some(head_of(&info, &runs)))
     }
 
     fn push_above(&self, text: &mut String) -> Result<(), AllocError> {
