@@ -357,7 +357,11 @@ def faults(folder, p6):
 
 def same_as(folder, what, path, wanted):
     """Wants that each word answers of a file what it answers of these bytes."""
-    cut = folder.file('cut', wanted)
+    # A page has its file's name, so both files have one.
+    os.makedirs(os.path.join(folder.path, 'cut'), exist_ok=True)
+    cut = os.path.join(folder.path, 'cut', os.path.basename(path))
+    with open(cut, 'wb') as file:
+        file.write(wanted)
     for words in (['check'], ['ls'], ['items'], ['page'], ['items', '--format', 'json']):
         wants(f'{what}: {words}', told([words[0], path, *words[1:]]), told([words[0], cut, *words[1:]]))
     for behind in (['2', 'f'], ['2', 'f', '--macbinary'], ['--path', ':f'], ['--path', ':f', '--macbinary']):
