@@ -358,8 +358,8 @@ def faults(folder, p6):
 def same_as(folder, what, path, wanted):
     """Wants that each word answers of a file what it answers of these bytes."""
     # A page has its file's name, so both files have one.
-    os.makedirs(os.path.join(folder.path, 'cut'), exist_ok=True)
-    cut = os.path.join(folder.path, 'cut', os.path.basename(path))
+    os.makedirs(os.path.join(folder.path, 'same'), exist_ok=True)
+    cut = os.path.join(folder.path, 'same', os.path.basename(path))
     with open(cut, 'wb') as file:
         file.write(wanted)
     for words in (['check'], ['ls'], ['items'], ['page'], ['items', '--format', 'json']):
