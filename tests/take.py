@@ -795,7 +795,7 @@ def compare_many(bags, items):
 
 
 def compare_progress(bags, image, items):
-    """At a terminal a line behind each thousand items."""
+    """At a terminal one line, written over after each hundred items, and taken away at the end."""
     terminal, line = pty.openpty()
     run = subprocess.Popen([TOOL, 'take', image, bags.place('seen'), '--no-digest'], stdin=subprocess.DEVNULL, stdout=subprocess.PIPE, stderr=line)
     os.close(line)
@@ -809,7 +809,8 @@ def compare_progress(bags, image, items):
         pass
     os.close(terminal)
     ensure(run.wait() == 0, 'a run at a terminal')
-    ensure_same(said.decode().splitlines(), [f'{n} of {items} items' for n in range(1000, items + 1, 1000)], 'what is told at a terminal')
+    shown = re.findall(r'\r(?:(\d+) of (\d+) items; of the last 0 of \d+ bytes)?\x1b\[K', said.decode())
+    ensure_same(shown, [(str(n), str(items)) for n in range(100, items + 1, 100)] + [('', '')], 'what is told at a terminal')
 
 
 def main():

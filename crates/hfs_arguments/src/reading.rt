@@ -90,10 +90,10 @@ impl Argument {
     pub fn is_given(&self, matches: &ArgMatches<'_>) -> Result<bool, NoValue>
         ensures { MatchResult result
             (λ is_given. MatchBool is_given
-                (one_text (found_of matches.now) self.now.name.now ≡ Some true_text)
-                (one_text (found_of matches.now) self.now.name.now ≡ Some false_text))
+            (one_text (found_of matches.now) self.now.name.now ≡ Some true_text)
+            (one_text (found_of matches.now) self.now.name.now ≡ Some false_text))
             (λ missing. (one_text (found_of matches.now) self.now.name.now ≢ Some true_text)
-                × (one_text (found_of matches.now) self.now.name.now ≢ Some false_text)) }
+            × (one_text (found_of matches.now) self.now.name.now ≢ Some false_text)) }
     {
         match matches.get_one::<bool>(self.name) {
             Some(is_given) => Ok(is_given),
