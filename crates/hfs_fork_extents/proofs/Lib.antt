@@ -1,2 +1,3 @@
 mod CutLemmas
 mod AddLemmas
+mod RecordLemmas

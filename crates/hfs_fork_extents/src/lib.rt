@@ -3,6 +3,8 @@
 
 mod cuts;
 mod lengthening;
+mod records;
 
 pub use cuts::{cut_extents, surplus};
 pub use lengthening::lengthen;
+pub use records::cut_records;
