@@ -1,13 +1,15 @@
 //! The shelf of files: a folder of the system's own files.
-ghost use Rattle.std.specs.Prelude.{◌≡◌, [], List, IfErr, IfOk, OnErr, OnOk, string_bytes};
-ghost use Rattle.hfs_shelves.specs.ShelfPaths.{IsNewFolder, path_within};
+ghost use Rattle.std.specs.Prelude.{◌≡◌, [], List, IfErr, IfOk, IfSome, OnErr, OnOk, string_bytes};
+ghost use Rattle.hfs_shelves.specs.ShelfPaths.{IsNewFolder, new_folder_path, path_within};
 ghost use Rattle.hfs_shelves.specs.Told.{Tells, TellsNewFolder, TellsWithin};
 ghost use Rattle.hfs_shelves.specs.Entries.{IsBeginning, with_folder, with_file, with_piece};
 
 use crate::fault::ShelfFault;
 use crate::given::{Given, Step};
 use crate::paths::{new_folder_path, path_within};
+use crate::removal::remove_folder;
 use crate::shelf::Shelf;
+use std::alloc::AllocError;
 use std::fs::{File, FileTimes, OpenFile, OpenOptions};
 use std::io::{ErrorKind, Write};
 use std::rt::Files;
@@ -33,14 +35,17 @@ pub struct FileShelf<'a, R: Files + AllocGlobal> {
     /// The path of the folder that is written.
     pub folder: String,
     made: Option<MadeFile<R::File>>,
+    /// The folder, opened and never read: it keeps a descriptor, so that there is one for taking away
+    /// what was written.
+    kept: Option<R::Dir>,
     /// What it was given; that the files hold it is the system's doing.
     pub given: Given,
 }
 
 impl<'a, R: Files + AllocGlobal> FileShelf<'a, R> {
     /// Makes the folder in which a folder at this path is to be written: `PATH.0.new` to
-    /// `PATH.99.new`, the first whose name is free. Faults: `CannotWrite` of that name, or of the
-    /// path itself where no name is free; `NoMemory`.
+    /// `PATH.99.new`, the first whose name is free. Faults: `CannotWrite` of that name, also where
+    /// the folder can't be opened, or of the path itself where no name is free; `NoMemory`.
     pub fn create(rt: &'a R, path: &str) -> Result<FileShelf<'a, R>, ShelfFault>
         ensures empty { IfOk result (λ shelf. shelf.given.entries ≡ []) }
         ensures beside { IfOk result (λ shelf. IsNewFolder path.now (string_bytes shelf.folder)) }
@@ -51,14 +56,7 @@ impl<'a, R: Files + AllocGlobal> FileShelf<'a, R> {
                 return Err(ShelfFault::NoMemory);
             };
             match fs::create_dir(rt, folder.as_str()) {
-                Ok(()) => {
-                    return Ok(FileShelf {
-                        rt,
-                        folder,
-                        made: None,
-                        given: Given::new(),
-                    });
-                }
+                Ok(()) => return FileShelf::over(rt, folder),
                 Err(error) => {
                     if error.kind() != ErrorKind::AlreadyExists {
                         return Err(ShelfFault::CannotWrite(folder));
@@ -67,6 +65,27 @@ impl<'a, R: Files + AllocGlobal> FileShelf<'a, R> {
             }
         }
         Err(cannot_write(rt, path))
+    }
+
+    /// The shelf of a new folder. Where that can't be opened, it is removed.
+    fn over(rt: &'a R, folder: String) -> Result<FileShelf<'a, R>, ShelfFault>
+        ensures empty { IfOk result (λ shelf. shelf.given.entries ≡ []) }
+        ensures folder { IfOk result (λ shelf. shelf.folder ≡ folder) }
+        ensures told { IfErr result (Tells (string_bytes folder)) }
+    {
+        match rt.open_dir(folder.as_str()) {
+            Ok(kept) => Ok(FileShelf {
+                rt,
+                folder,
+                made: None,
+                kept: Some(kept),
+                given: Given::new(),
+            }),
+            Err(_) => {
+                let _removed = fs::remove_dir(rt, folder.as_str());
+                Err(ShelfFault::CannotWrite(folder))
+            }
+        }
     }
 
     /// Gives the folder its place. Fault: `CannotWrite` of that place, and then what was written is
@@ -88,7 +107,8 @@ impl<'a, R: Files + AllocGlobal> FileShelf<'a, R> {
     /// Takes away all that was written, as far as the system and memory allow.
     pub fn take_away(mut self) {
         self.close();
-        let _removed = fs::remove_dir_all(self.rt, self.folder.as_str());
+        self.kept = None;
+        let _removed = remove_folder(self.rt, self.folder.as_str());
     }
 
     /// Lets go of the file that was made last, and sets its time, where it is to have one. That the
@@ -131,6 +151,20 @@ fn cannot_write_within<R: AllocGlobal>(rt: &R, folder: &str, path: &str) -> Shel
     match path_within(rt.alloc(), folder, path) {
         Ok(whole) => ShelfFault::CannotWrite(whole),
         Err(_) => ShelfFault::NoMemory,
+    }
+}
+
+/// The first of the names under which a folder at this path is written, `PATH.0.new`, where anything
+/// has it: a run that was stopped left it. The only error is want of memory.
+pub fn left_folder<R: Files + AllocGlobal>(rt: &R, path: &str) -> Result<Option<String>, AllocError>
+    ensures { IfOk result (λ left. IfSome left
+        (λ name. string_bytes name ≡ new_folder_path path.now 0)) }
+{
+    let folder = new_folder_path(rt.alloc(), path, 0)?;
+    if is_there(rt, folder.as_str()) {
+        Ok(Some(folder))
+    } else {
+        Ok(None)
     }
 }
 

@@ -6,10 +6,11 @@ mod files;
 mod given;
 mod memory;
 mod paths;
+mod removal;
 mod shelf;
 
 pub use crate::fault::ShelfFault;
-pub use crate::files::{FileShelf, is_there};
+pub use crate::files::{FileShelf, is_there, left_folder};
 pub use crate::given::{Given, Step};
 pub use crate::memory::{MemoryShelf, Stored};
 pub use crate::shelf::Shelf;

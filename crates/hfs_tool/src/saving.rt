@@ -1,6 +1,7 @@
-//! Files that are written, and what is told of those beside them.
+//! Files and folders that are written, and what is told of those beside them.
 
 use hfs_commands::{Contents, Fault, Leftover, ReadContents, Saved, save_file, save_read};
+use hfs_take::left_folder;
 
 /// Writes a file, and answers which file beside it was left by a run that was stopped, if any was
 /// there. Where the write fails, that one is told before the fault.
@@ -23,6 +24,15 @@ pub fn save_as_read<'a, C: ReadContents>(
     written(rt, save_read(rt, file, source, contents))
 }
 
+/// The folder beside this one that a run left that was stopped, if any is there.
+pub fn left_beside(rt: &HostRuntime, folder: &str) -> Result<Option<Leftover>, Fault<'static>> {
+    match left_folder(rt, folder) {
+        Ok(Some(path)) => Ok(Some(Leftover { path })),
+        Ok(None) => Ok(None),
+        Err(_) => Err(Fault::NoMemory),
+    }
+}
+
 /// What is told of how a file was written.
 fn written<'a>(rt: &HostRuntime, saved: Saved<'a>) -> Result<Option<Leftover>, Fault<'a>> {
     match saved.written {
@@ -34,7 +44,7 @@ fn written<'a>(rt: &HostRuntime, saved: Saved<'a>) -> Result<Option<Leftover>, F
     }
 }
 
-/// Tells on standard error of a file that a run left that was stopped. Where nothing more can be
+/// Tells on standard error of a file or a folder that a run left that was stopped. Where nothing more can be
 /// written there, the program goes on.
 pub fn tell(rt: &HostRuntime, leftover: &Option<Leftover>) {
     if let Some(leftover) = leftover {
