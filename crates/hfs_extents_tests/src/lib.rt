@@ -4,6 +4,8 @@
 #[cfg(test)]
 mod coming;
 #[cfg(test)]
+mod forks;
+#[cfg(test)]
 mod leaving;
 #[cfg(test)]
 mod trees;
