@@ -113,7 +113,7 @@ class Engines:
 
     def ask(self, place, name, loaded, collected, image):
         """Wants the same answers of PostgreSQL, of SQLite with the same tables, and of the database of `collect`."""
-        theirs, ours = sqlite3.connect(loaded), sqlite3.connect(f'file:{collected}?mode=ro&immutable=1', uri=True)
+        theirs, ours = sqlite3.connect(loaded), collect.opened(collected)
         for question, asked in zip(self.questions, self.asked):
             question, asked = (re.sub(r' LIMIT \d+', '', it).replace('images/m0.img', image.replace("'", "''")) for it in (question, asked))
             wanted = told(ours.execute(asked).fetchall())
@@ -186,7 +186,7 @@ def side_by_side(engines, place):
     """Runs by xargs, each into a file of its own, beside one run."""
     names = []
     for n in range(40):
-        named_volume(place, f'{n:02}.img', f'Disk {n}', [f'create\t2\tfile {k}' for k in range(20 + n)], nodes=30)
+        named_volume(place, f'{n:02}.img', f'Disk {n}', [f'create\t2\tfile {k}' for k in range(10 + n % 10)], nodes=30)
         names.append(f'{n:02}.img')
     place.file('gone', b'')
     wanted = whole_images(done(place, *names))

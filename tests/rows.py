@@ -138,7 +138,9 @@ def compare(place, rows):
             ensure_same([row for row, _ in found[it[0][0]][1]], [row for row, _ in it[1]], f'the volumes of {it[0][0]}')
             for n, ((_, items), (_, wanted)) in enumerate(zip(found[it[0][0]][1], it[1]), 1):
                 ensure_same(items, wanted, f'the items of volume {n} of {it[0][0]}')
-        for table, wanted in lists_of(some).items():
+        tables = lists_of(some)
+        for table in tables if len(names) <= 100 else ['item']:
+            wanted = tables[table]
             text = done(place, '--table', table, *words)
             ensure([[name for name, _ in row] for row in objects(text)] == [COLUMNS[table]] * len(wanted), f'the members of {table}')
             ensure_same([tuple(value for _, value in row) for row in objects(text)], wanted, f'the table {table} in JSON')
@@ -331,7 +333,7 @@ def main():
     parser = argparse.ArgumentParser(description=__doc__, formatter_class=argparse.RawDescriptionHelpFormatter)
     parser.add_argument('--kills', type=int, default=20, help='how many runs are killed')
     parser.add_argument('--seed', type=int, default=1)
-    parser.add_argument('--memory-step', type=int, default=97, help='each so many-th call for memory is refused')
+    parser.add_argument('--memory-step', type=int, default=7, help='each so many-th call for memory is refused')
     parser.add_argument('--only', help='only the part of this name')
     words = parser.parse_args()
     left_out, told, counts = [], [], {}

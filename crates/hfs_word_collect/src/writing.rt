@@ -9,7 +9,6 @@ use crate::files::FileByPath;
 use crate::watched::ReadWatch;
 use hfs_collection::{ImageFacts, ImageFile, give_image};
 use hfs_containers::ReadAt;
-use hfs_rows::TakerFault;
 use hfs_sparse::SparseFault;
 use hfs_text_rows::TextTaker;
 use std::alloc::Global;

@@ -19,7 +19,7 @@ carried start now mid form went Written given is_whole same is out =
 -- bytes that went out, or a beginning of them
 either_front : {E : Type 0} (old new : Option (List ℕ)) (text : List ℕ) (r : Result (Unit {0}) E) → OnOk r (Appends old new text) → OnErr r (AppendsFront old new text) → AppendsFront old new text
 either_front old new text (Ok x) out part =
-    (length text, subst (Appends old new) (sym (ap (take (length text)) (sym (append-nil text))) ∙ take-append_seam text []) out)
+    (length text, subst (Appends old new) (sym (ap (take (length text)) (sym (append-nil text)) ∙ take-append_seam text [])) out)
 either_front old new text (Err e) out part = part
 
 module _ (known : Option (List ℕ)) (len : ℕ) (start now mid : Option (List ℕ)) (form went : Form) (old given : List TakenRow) (rows : List ℕ → List TakenRow) where
@@ -38,7 +38,7 @@ module _ (known : Option (List ℕ)) (len : ℕ) (start now mid : Option (List �
   wrote_some same is gave out = some_of known gave where
     some_of : (k : Option (List ℕ)) → OfKnown k len (λ file. IsBeginning given (old ++ rows file)) → OfKnown k len (λ file. WritesSome start now form (old ++ rows file))
     some_of None gave = tt
-    some_of (Some file) gave = λ whole. ∣ (given, (gave whole, carried start now mid form went Appends given false same is out)) ∣₁
+    some_of (Some file) gave = λ whole. ∣ (given, gave whole, carried start now mid form went Appends given false same is out) ∣₁
 
   -- a part of the text was written, of all rows or of some
   pub wrote_part : mid ≡ start → went ≡ form → (is_whole : Bool) → OfKnown known len (λ file. IsBeginning given (old ++ rows file))
@@ -46,7 +46,7 @@ module _ (known : Option (List ℕ)) (len : ℕ) (start now mid : Option (List �
   wrote_part same is is_whole gave part = part_of known gave where
     part_of : (k : Option (List ℕ)) → OfKnown k len (λ file. IsBeginning given (old ++ rows file)) → OfKnown k len (λ file. WritesPart start now form (old ++ rows file))
     part_of None gave = tt
-    part_of (Some file) gave = λ whole. ∣ (given, (gave whole, (is_whole, carried start now mid form went AppendsFront given is_whole same is part))) ∣₁
+    part_of (Some file) gave = λ whole. ∣ (given, gave whole, is_whole, carried start now mid form went AppendsFront given is_whole same is part) ∣₁
 
   -- all rows were given, and a part of the text was written
   pub wrote_part_of_all : mid ≡ start → went ≡ form → OfKnown known len (λ file. given ≡ old ++ rows file)
