@@ -23,4 +23,3 @@ pub use crate::taking::{Taken, folder_path, take, taken_text};
 pub use crate::words::TakeWords;
 pub use hfs_bag::BagSums;
 pub use hfs_image_items::Watch;
-pub use hfs_shelves::left_folder;

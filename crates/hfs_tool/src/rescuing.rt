@@ -1,7 +1,6 @@
 //! What remains of a damaged volume, as it is shown.
 
 use crate::progress::ItemProgress;
-use crate::saving::{left_beside, tell};
 use crate::taking::print_fault;
 use hfs_commands::Fault;
 use hfs_console::{print_lines, tell_sum};
@@ -16,10 +15,8 @@ fn print_answer(rt: &HostRuntime, image: &str, rescued: &Rescued) -> Result<u8, 
 
 /// Takes what remains off a volume, and prints what is told of it, or why the folder was not made. Faults: those of the image, which aren't printed here.
 pub fn rescue_volume<'a>(rt: &HostRuntime, words: &BagWords<'a>) -> Result<u8, Fault<'a>> {
-    let left = left_beside(rt, words.folder)?;
     let progress = ItemProgress::on(rt);
     let rescued = rescue(rt, words, &progress);
-    tell(rt, &left);
     match rescued {
         Ok(rescued) => print_answer(rt, words.words.image, &rescued),
         Err(fault) => print_fault(rt, fault),

@@ -1,7 +1,6 @@
 //! What a volume that is taken apart shows.
 
 use crate::progress::ItemProgress;
-use crate::saving::{left_beside, tell};
 use hfs_commands::{Fault, Status};
 use hfs_console::{print_lines, tell_sum};
 use hfs_take::{BagSums, TakeFault, TakeWords, Taken, take, taken_text};
@@ -13,10 +12,8 @@ pub fn take_volume<'a, T: Threads>(
     threads: &T,
     words: &TakeWords<'a>,
 ) -> Result<u8, Fault<'a>> {
-    let left = left_beside(rt, words.folder)?;
     let progress = ItemProgress::on(rt);
     let taken = take(rt, threads, words, &progress);
-    tell(rt, &left);
     print_taken(rt, words.image, taken)
 }
 
