@@ -1,5 +1,5 @@
 -- A beginning of the next volume's rows, or all of them.
-use Rattle.std.proofs.Common.{◌≡◌, ◌∙◌, ◌+◌, ◌++◌, refl, sym, subst, arith}
+use Rattle.std.proofs.Common.{◌∙◌, ◌+◌, refl, sym, subst, arith}
 use Rattle.hfs_sparse.proofs.Written.{on-err as on_err}
 use Rattle.hfs_collection.proofs.Counting.{VolumesToCount, volumes_counted_first, volumes_counted_last, volumes_counted_next}
 use Rattle.hfs_collection.proofs.VolumesGoing.{volumes_first, volumes_last, volumes_next, volumes_part, volumes_within}
