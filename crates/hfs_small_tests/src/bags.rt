@@ -109,6 +109,7 @@ fn bag_without_items(rt: HostRuntime) {
         program: "hfs_tool 1.0.0",
         image: "p6.img",
         volume: None,
+        directory: None,
         bytes: 32_768,
         digest: Some(DIGEST),
         report: "sound\n",
