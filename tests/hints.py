@@ -264,15 +264,15 @@ def progress(folder):
     status, _, said = told(['rescue', str(path), str(folder / 'large')])
     parts = re.findall(r'\r([^\r]*)\x1b\[K', said)
     shown = [it for it in parts if it]
-    if status != 0 or shown != [f'1 of 1 items; of the last {n} of 10485760 bytes' for n in (4194304, 8388608)] or parts[-1] != '' or re.sub(r'\r[^\r]*\x1b\[K', '', said):
+    if status != 0 or shown != [f'1 of 2 items; of the last {n} of 10485760 bytes' for n in (4194304, 8388608)] or parts[-1] != '' or re.sub(r'\r[^\r]*\x1b\[K', '', said):
         sys.exit(f'hints: the progress within a file: {status}, {said!r}')
     script.write_text(''.join(f'1\tcreate\t2\tf{n}\n' for n in range(250)))
     subprocess.run([TOOL, 'new', str(path), 'D', '3000', '300', '2'], check=True)
     subprocess.run([TOOL, 'run', str(path), str(script), '--out', str(path)], check=True, stdout=subprocess.DEVNULL)
-    for words, text in ((['take', str(path), str(folder / 'many')], 'taken\nfiles 250\n'), (['rescue', str(path), str(folder / 'more')], 'sound\n')):
+    for words, text, count in ((['take', str(path), str(folder / 'many')], 'taken\nfiles 250\n', 250), (['rescue', str(path), str(folder / 'more')], 'sound\n', 251)):
         status, printed, said = told(words)
         shown = [it for it in re.findall(r'\r([^\r]*)\x1b\[K', said) if it]
-        if status != 0 or not printed.startswith(text) or shown != [f'{n} of 250 items; of the last 0 of 0 bytes' for n in (100, 200)]:
+        if status != 0 or not printed.startswith(text) or shown != [f'{n} of {count} items; of the last 0 of 0 bytes' for n in (100, 200)]:
             sys.exit(f'hints: the progress of {words}: {status}, {printed!r}, {said!r}')
         if untold([*words[:2], words[2] + '-again'])[2]:
             sys.exit(f'hints: {words} shows progress where standard error is no terminal')

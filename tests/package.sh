@@ -53,7 +53,7 @@ if command -v ldd > /dev/null; then
 fi
 if command -v readelf > /dev/null; then
     for name in "$tool" "$collect"; do
-        ! readelf -S -W "$name" | grep -q ' \.symtab ' || fail "$name is not stripped"
+        [ "$(readelf -S -W "$name" | grep -c ' \.symtab ')" = 0 ] || fail "$name is not stripped"
     done
 fi
 
@@ -66,15 +66,16 @@ if command -v man > /dev/null; then
     for name in hfs_tool hfs_collect; do
         page=$(man_page "$name" 80)
         for part in NAME SYNOPSIS DESCRIPTION OPTIONS 'EXIT STATUS' EXAMPLES 'SEE ALSO'; do grep -qx "$part" <<< "$page" || fail "$name.1 has no $part"; done
-        grep -A 1 -x NAME <<< "$page" | grep -q 'HFS' || fail "the NAME of $name.1 has no HFS"
-        grep -A 2 -x NAME <<< "$page" | grep -q 'Macintosh' || fail "the NAME of $name.1 has no Macintosh"
+        for word in HFS Macintosh; do [[ $(grep -A 2 -x NAME <<< "$page") == *$word* ]] || fail "the NAME of $name.1 has no $word"; done
         [ "$(awk 'length($0) > 80' <<< "$page" | wc -l)" = 0 ] || fail "$name.1 has lines of more than 80 columns"
         cmp -s <(tail -n +2 <<< "$page" | sed '$d' | tr -s ' \n' '\n') <(man_page "$name" 400 | tail -n +2 | sed '$d' | tr -s ' \n' '\n') ||
             fail "$name.1 at 80 columns breaks a word"
     done
-    man_page hfs_tool 80 | grep -qx COMMANDS || fail 'hfs_tool.1 has no COMMANDS'
-    man_page hfs_tool 80 | grep -q '^ *hfs_tool repair$' || fail 'hfs_tool.1 says nothing of repair'
-    man_page hfs_collect 80 | grep -q 'With --compare a line for each image' || fail 'the man page of hfs_collect'
+    page=$(man_page hfs_tool 80)
+    grep -qx COMMANDS <<< "$page" || fail 'hfs_tool.1 has no COMMANDS'
+    grep -q '^ *hfs_tool repair$' <<< "$page" || fail 'hfs_tool.1 says nothing of repair'
+    page=$(man_page hfs_collect 80)
+    grep -q 'With --compare a line for each image' <<< "$page" || fail 'the man page of hfs_collect'
 else
     echo 'the package: its man page was not read, since man is missing'
 fi
