@@ -1,8 +1,10 @@
 #!/usr/bin/env python3
 """How long hfs_collect takes, and how much memory.
 
-measure/collection_times.py floppies [COUNT]   so many floppies of 800 KB with 60 files each, 100 where none are named: hfs_collect
-                                               beside `items` and sha256sum of each image and of each fork of its files
+measure/collection_times.py floppies [COUNT]   so many floppies of 800 KB with 60 files each, 100 where none are named: hfs_collect, and its
+                                               word `rows`, beside `items` and sha256sum of each image and of each fork of its files
+measure/collection_times.py processes [COUNT]  as many floppies, 400 where none are named: `rows` by four processes beside one, five
+                                               times in turn, and the middle one is told
 measure/collection_times.py items [COUNT]      one volume of so many items, 60,000 where none are named: time and memory
 measure/collection_times.py rows [COUNT]       a database of so many rows, 1,000,000 where none are named: hfs_collect --compare of
                                                one image beside sqlite3's PRAGMA quick_check
@@ -57,7 +59,8 @@ def volume(path, files, folders, blocks, nodes):
     script.unlink()
 
 
-def floppies(folder, count):
+def disks(folder, count):
+    """So many images of floppies."""
     shutil.copyfile(ROOT / 'tests/volumes/hfsutils-800k.img', folder / 'first.img')
     volume(folder / 'second.img', 57, 1, 1600, 80)
     images = []
@@ -65,6 +68,11 @@ def floppies(folder, count):
         image = folder / f'{n:03}.img'
         shutil.copyfile(folder / ('first.img', 'second.img')[n % 2], image)
         images.append(image)
+    return images
+
+
+def floppies(folder, count):
+    images = disks(folder, count)
     forks = [folder / f'fork {n}' for n in range(7 * count // 2 * 2)]
     content = os.urandom(4_000)
     for fork in forks:
@@ -78,8 +86,23 @@ def floppies(folder, count):
         for image in images:
             done('items', image)
         subprocess.run(['sha256sum', *images, *forks], stdout=subprocess.DEVNULL, check=True)
-    one, other = best(collected, apart)
-    print(f'{count} floppies: collect {one:.2f} s, items and sha256sum {other:.2f} s, {one / other:.2f} times')
+    one, text, other = best(collected, lambda: collect('rows', *images), apart)
+    print(f'{count} floppies: collect {one:.2f} s, rows {text:.2f} s, items and sha256sum {other:.2f} s, {one / other:.2f} and {text / other:.2f} times')
+
+
+def processes(folder, count):
+    images = disks(folder, count)
+    (folder / 'images').write_bytes(b'\0'.join(os.fsencode(it) for it in images))
+
+    def took(processes, each):
+        began = time.time()
+        subprocess.run(f'xargs -0 -n {each} -P {processes} -a images sh -c \'"$0" rows "$@" > "rows.$$.jsonl"\' {COLLECT}', shell=True, cwd=folder, check=True)
+        for path in folder.glob('rows.*'):
+            path.unlink()
+        return time.time() - began
+    both = sorted((took(1, count), took(4, max(1, count // 16))) for _ in range(5))
+    middle = sorted(one / four for one, four in both)[2]
+    print(f'{count} floppies: one process {sorted(one for one, _ in both)[2]:.2f} s, four {sorted(four for _, four in both)[2]:.2f} s, {middle:.2f} times as fast')
 
 
 def items(folder, count):
@@ -108,7 +131,7 @@ def rows(folder, count):
 
 
 def main():
-    kinds = {'floppies': (floppies, 100), 'items': (items, 60_000), 'rows': (rows, 1_000_000)}
+    kinds = {'floppies': (floppies, 100), 'processes': (processes, 400), 'items': (items, 60_000), 'rows': (rows, 1_000_000)}
     measure, count = kinds[sys.argv[1]]
     with tempfile.TemporaryDirectory() as folder:
         measure(Path(folder), int(sys.argv[2]) if len(sys.argv) > 2 else count)

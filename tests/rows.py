@@ -12,6 +12,7 @@ import argparse
 import json
 import os
 import random
+import resource
 import shutil
 import signal
 import subprocess
@@ -300,6 +301,12 @@ def killed(place, count, seed):
     return seen
 
 
+def limited(count):
+    """Before the program: files may have so many bytes, and what writes more is told."""
+    signal.signal(signal.SIGXFSZ, signal.SIG_IGN)
+    resource.setrlimit(resource.RLIMIT_FSIZE, (count, count))
+
+
 def full_output(place):
     small_volume(place)
     for words in (['p6.img'], ['p6.img', '--table', 'item', '--format', 'csv']):
@@ -313,6 +320,14 @@ def full_output(place):
     ran.stdout.close()
     told = ran.stderr.read()
     ensure((ran.wait(timeout=600), told) in ((4, b''), (-signal.SIGPIPE, b'')), f'a reader that goes: {ran.returncode}, {told!r}')
+    # A file that may have so many bytes: what went out is a beginning of the rows, to the byte.
+    for words in (['big.img', 'p6.img'], ['--table', 'item', '--format', 'csv', 'big.img']):
+        whole = done(place, *words)
+        for limit in (0, 1, 1000, 65_535, 65_536, 66_000, 100_000, len(whole) - 1, len(whole)):
+            with open(place.folder / 'out', 'wb') as out:
+                ran = subprocess.run([COLLECT, 'rows', *words], stdout=out, stderr=subprocess.PIPE, cwd=place.folder, timeout=600, preexec_fn=lambda: limited(limit))
+            found = (place.folder / 'out').read_bytes()
+            ensure((ran.returncode, found, ran.stderr) == (0 if limit >= len(whole) else 4, whole[:limit], b''), f'a file of {limit} bytes: {ran.returncode}, {len(found)} bytes')
 
 
 def many_volumes(place):
