@@ -6,8 +6,6 @@
 #[cfg(test)]
 mod fixture;
 #[cfg(test)]
-mod forks;
-#[cfg(test)]
 mod names;
 #[cfg(test)]
 mod nodes;

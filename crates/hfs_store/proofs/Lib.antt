@@ -5,4 +5,3 @@ pub mod Kept
 pub mod Outcomes
 pub mod Runs
 pub mod Laid
-pub mod ForkOutcomes
