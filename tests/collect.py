@@ -534,8 +534,8 @@ def listed_images(bases):
             yield f'line {number}', edited(bases[about.split(' ')[-1]], edits)
 
 
-def damaged_disks(place):
-    """Rows of refused volumes: those that a hand wrote, and each damage of tests/damaged.sh and tests/volumes/images.txt, beside what `rescue` lists and writes."""
+def damaged_images(place):
+    """Images of refused volumes, each damage of tests/damaged.sh and tests/volumes/images.txt among them: what each is, by its file's name; and the rows that a hand wrote."""
     bench = Bench(place.folder / 'bench')
     bench.folder.mkdir(exist_ok=True)
     images, by_hand = {}, {}
@@ -557,6 +557,13 @@ def damaged_disks(place):
         names[f'{n:04}.img'] = what
         place.file(f'{n:04}.img', content)
     shutil.rmtree(bench.folder)
+    return names, by_hand
+
+
+def damaged_disks(place):
+    """Rows of refused volumes: those that a hand wrote, and each damage of tests/damaged.sh and tests/volumes/images.txt, beside what `rescue` lists and writes."""
+    names, by_hand = damaged_images(place)
+    floppy, lost = (VOLUMES / 'hfsutils-800k.img').read_bytes(), with_bytes(small_file('OneFile'), (1024, bytes(512)))
     for database, words in (('c.db', []), ('n.db', ['--no-digest'])):
         rows = [image_rows(place, name, not words) for name in names]
         found = place.done('collect', database, *names, *words)

@@ -201,6 +201,14 @@ def side_by_side(engines, place):
     ensure(found == wanted, 'rows of runs side by side')
 
 
+def damaged_images(engines, place):
+    """The damaged images of tests/collect.py."""
+    names = list(collect.damaged_images(place)[0])
+    place.done('collect', 'c.db', *names)
+    found = held(place)
+    engines.compare(place, [found[name] for name in names], place.folder / 'c.db')
+
+
 def half_read(engines, place):
     """Images that aren't whole don't come, and an image that comes again has its new rows alone."""
     for name in ('a.img', 'b.img'):
@@ -282,9 +290,9 @@ def main():
         try:
             engines = Engines(cluster)
             parts = [('hostile_names', lambda place: beside_collect(engines, place, hostile_names)), ('side_by_side', lambda place: side_by_side(engines, place)),
-                     ('half_read', lambda place: half_read(engines, place))]
+                     ('half_read', lambda place: half_read(engines, place)), ('damaged_images', lambda place: damaged_images(engines, place))]
             parts += [(part.__name__, lambda place, part=part: beside_collect(engines, place, part))
-                      for part in (collect.cut_dumps, collect.rows_beside_words, collect.odd_paths, collect.damaged_disks)]
+                      for part in (collect.cut_dumps, collect.rows_beside_words, collect.odd_paths)]
             for name, part in parts:
                 folder = Path(top) / 'images' / name
                 folder.mkdir()

@@ -194,6 +194,15 @@ def beside_collect(place, part):
         collect.holds = holds
 
 
+def damaged_images(place):
+    """The damaged images of tests/collect.py, which looks itself at what a database has of them."""
+    names = list(collect.damaged_images(place)[0])
+    for database, words in (('c.db', []), ('n.db', ['--no-digest'])):
+        place.done('collect', database, *names, *words)
+        found = held(place, database)
+        compare(place, [found[name] for name in names])
+
+
 def refused_words(place):
     small_volume(place)
     for words in ([], ['--format', 'csv', 'p6.img'], ['p6.img', '--format', 'csv'], ['p6.img', '--table', 'end'], ['p6.img', '--format', 'json'], ['--no-digest'], ['--table', 'item'],
@@ -363,8 +372,9 @@ def main():
             left_out.append('reads and memory that are refused, for want of a C compiler')
         parts = [('worked_example', worked_example), ('refused_words', refused_words), ('full_output', full_output)]
         parts += [(part.__name__, lambda place, part=part: beside_collect(place, part))
-                  for part in (collect.worked_example, collect.cut_dumps, collect.rows_beside_words, collect.damaged_disks, collect.odd_paths)]
+                  for part in (collect.worked_example, collect.cut_dumps, collect.rows_beside_words, collect.odd_paths)]
         parts[3] = ('worked_example_beside_collect', parts[3][1])
+        parts.append(('damaged_images', damaged_images))
         parts.append(('unread_images', lambda place: unread_images(place, library)))
         parts.append(('many_volumes', lambda place: told.append('{} KB for one image, {} KB for 40'.format(*many_volumes(place)))))
         if library:

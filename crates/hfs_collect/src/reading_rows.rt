@@ -52,13 +52,16 @@ const NO_DIGEST: Argument = Argument {
 };
 
 /// What the help says behind the arguments.
-const ROWS_HELP: &str =
-    "The rows are those that the database would have, with keys that hold without one: image_path and image_sha256
-of volumes and items, and volume_number of items. Without --table an image's lines come together, each with its table first,
-and behind them one of the table end, whose whole is 1, or 0 where reading the image failed on the way: load what has an end
-that is whole. What is NULL in the database is null, and in CSV an empty field; an empty text is \"\".
+const ROWS_HELP: &str = "The rows are those that the database would have, with keys that hold
+without one: image_path and image_sha256 of volumes and items, and
+volume_number of items. Without --table an image's lines come together,
+each with its table first, and behind them one of the table end: whole
+is 1, or 0 where reading the image failed on the way. So load what has
+an end that is whole. What is NULL in the database is null, and in CSV
+an empty field; an empty text is \"\".
 
-An image that can't be read is told on standard error, the next one comes, and the status is 4 at the end.";
+An image that can't be read is reported on standard error, the next one
+comes, and the status is 4 at the end.";
 
 /// The word `rows`.
 const ROWS: Word = Word {
