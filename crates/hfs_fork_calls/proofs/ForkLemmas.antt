@@ -1,5 +1,5 @@
 -- Lemmas about the definitions of specs/Forks.antt.
-use Rattle.std.proofs.Common.{◌≡◌, ℕ, ◌+◌, ◌-◌, ◌<◌, ◌≤◌, Bool, true, false, cond, ltb, List, ◌++◌, length, take, drop, replicate, refl, ◌∙◌, ap, arith, append-nil, length-append, length-take}
+use Rattle.std.proofs.Common.{◌≡◌, ℕ, ◌+◌, ◌-◌, ◌^◌, ◌<◌, ◌≤◌, Bool, true, false, cond, ltb, List, ◌++◌, length, take, drop, replicate, refl, ◌∙◌, ap, arith, append-nil, length-append, length-take}
 use Rattle.std.specs.Prelude.{max}
 use Rattle.std.proofs.lemmas.List.{take_all, take_at, drop_at, length-replicate}
 use Rattle.std.proofs.lemmas.Bool.{ltb-true}
@@ -20,6 +20,23 @@ use Rattle.hfs_fork_calls.specs.Forks.{resized, laid_over, written, fork_bytes, 
 pub length-resized : (n : ℕ) (bytes : List ℕ) → length (resized n bytes) ≡ n
 unfolding resized
 length-resized n bytes = omega (arith, length-append (take n bytes) (replicate (n - length bytes) 0), length-take n bytes, length-replicate {A = ℕ} (n - length bytes) 0)
+
+-- new bytes leave the length, where they lie within the old ones
+pub length-laid_over : (offset : ℕ) (new old : List ℕ) → offset + length new ≤ length old → length (laid_over offset new old) ≡ length old
+length-laid_over offset new old within =
+    omega (arith, length-append (take offset old) (new ++ drop (offset + length new) old), length-append new (drop (offset + length new) old), length-take offset old, length-drop (offset + length new) old)
+
+pub length-written : (offset : ℕ) (new old : List ℕ) → length (written offset new old) ≡ max (length old) (offset + length new)
+unfolding written
+length-written offset new old =
+    let n = max (length old) (offset + length new) in
+    let whole = length-resized n old in
+    let within : offset + length new ≤ length (resized n old) = omega (arith, whole) in
+    length-laid_over offset new (resized n old) within ∙ whole
+
+-- what was written of short bytes, and laid into short ones, is short
+pub written_is_short : (offset : ℕ) (new old made : List ℕ) → length old < 2 ^ 32 → offset + length new < 2 ^ 32 → made ≡ written offset new old → length made < 2 ^ 32
+written_is_short offset new old made few end is = omega (arith, ap (λ (l : List ℕ). length l) is, length-written offset new old)
 
 -- to the length that there is
 pub resized-same : (bytes : List ℕ) → resized (length bytes) bytes ≡ bytes

@@ -16,7 +16,7 @@ use Rattle.hfs_model.proofs.KeepsCalls.{edit_keeps, Edits}
 use Rattle.hfs_model.specs.Children.{is_child_named}
 use Rattle.hfs_fork_calls.specs.Forks.{resized, written, fork_bytes, item_with_fork}
 use Rattle.hfs_fork_calls.specs.ForkCalls.{to_set_eof, to_write_fork, set_eof, write_fork}
-use Rattle.hfs_fork_calls.specs.Laws.{IsChangeOf, SetEofIsChange, WriteForkIsChange, fork_named, HasChangedFork, SetEofResizes, SetEofToItsLength, WriteForkIsSetEofAndBytes, WrittenIsRead}
+use Rattle.hfs_fork_calls.specs.Laws.{IsLawfulChange, SetEofIsLawful, WriteForkIsLawful, fork_named, HasChangedFork, SetEofResizes, SetEofToItsLength, WriteForkIsSetEofAndBytes, WrittenIsRead}
 use Rattle.hfs_fork_calls.proofs.ForkLemmas.{resized-same, written-part, same-sort, file-part}
 use Rattle.hfs_fork_calls.proofs.Refusals.{IsTold, set_eof_told, write_fork_told, accepted, leaves, never_full}
 use Rattle.hfs_fork_calls.proofs.Tested.{IsFileNamed, set_eof_tested, write_fork_tested}
@@ -35,8 +35,8 @@ is_edit size fork make now = (λ i. refl, λ i. refl, λ i. same-sort size fork 
 -- ---- both calls
 
 module _ (size : ℕ) (v : Volume) (dir : ℕ) (name : List ℕ) (fork : Fork) (chosen : Result Entry ℤ) (make : List ℕ → List ℕ) (now : ℕ) (told : IsTold chosen) (tested : (e : Entry) → chosen ≡ Ok e → IsFileNamed v dir name e) where
-  is_change : IsChangeOf v (change v chosen (edits size fork make now) now)
-  is_change = record {
+  is_lawful : IsLawfulChange v (change v chosen (edits size fork make now) now)
+  is_lawful = record {
     lawful = edit_keeps v chosen (edited size fork make now) now (is_edit size fork make now) (λ e is. (found_has v.items (is_child_named dir name) e (tested e is).item.child).0);
     refused = leaves v chosen (edits size fork make now) now;
     never_full = never_full v chosen (edits size fork make now) now told;
@@ -52,15 +52,15 @@ module _ (size : ℕ) (v : Volume) (dir : ℕ) (name : List ℕ) (fork : Fork) (
       subst (λ (w : Volume). HasChangedFork v dir name fork (make (fork_named v dir name fork)) w) (sym after)
       (subst (λ (l : List ℕ). HasChangedFork v dir name fork l (changed_to v (edits size fork make now e v.items) now)) (sym before) here)
 
-pub set_eof_is_change : SetEofIsChange
+pub set_eof_is_lawful : SetEofIsLawful
 unfolding set_eof
-set_eof_is_change size v dir name fork length now =
-    is_change size v dir name fork (to_set_eof v dir name length) (resized length) now (set_eof_told v dir name length) (set_eof_tested v dir name length)
+set_eof_is_lawful size v dir name fork length now =
+    is_lawful size v dir name fork (to_set_eof v dir name length) (resized length) now (set_eof_told v dir name length) (set_eof_tested v dir name length)
 
-pub write_fork_is_change : WriteForkIsChange
+pub write_fork_is_lawful : WriteForkIsLawful
 unfolding write_fork
-write_fork_is_change size v dir name fork offset bytes now =
-    is_change size v dir name fork (to_write_fork v dir name fork offset bytes) (written offset bytes) now (write_fork_told v dir name fork offset bytes) (λ e is. (write_fork_tested v dir name fork offset bytes e is).file)
+write_fork_is_lawful size v dir name fork offset bytes now =
+    is_lawful size v dir name fork (to_write_fork v dir name fork offset bytes) (written offset bytes) now (write_fork_told v dir name fork offset bytes) (λ e is. (write_fork_tested v dir name fork offset bytes e is).file)
 
 -- ---- forks afterwards
 

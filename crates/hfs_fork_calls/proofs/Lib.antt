@@ -1,5 +1,5 @@
 mod Tested
 mod Refusals
 mod Afterwards
-mod ForkLemmas
+pub mod ForkLemmas
 mod LawsProved

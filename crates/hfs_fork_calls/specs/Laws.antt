@@ -16,16 +16,16 @@ use Rattle.hfs_fork_calls.specs.ForkCalls.{set_eof, write_fork}
 -- ---- both calls
 
 -- a lawful volume stays lawful; a code other than 0 leaves any volume; -34 is none of the codes
-pub record IsChangeOf (v : Volume) (made : Outcome) : Type 0 where
+pub record IsLawfulChange (v : Volume) (made : Outcome) : Type 0 where
   pub lawful : IsLawful v → IsLawful made.0
   pub refused : made.1.code ≢ pos 0 → made.0 ≡ v
   pub never_full : made.1.code ≢ DISK_FULL
 
-abbrev pub SetEofIsChange : Type 0
-SetEofIsChange = (size : ℕ) (v : Volume) (dir : ℕ) (name : List ℕ) (fork : Fork) (length now : ℕ) → IsChangeOf v (set_eof size v dir name fork length now)
+abbrev pub SetEofIsLawful : Type 0
+SetEofIsLawful = (size : ℕ) (v : Volume) (dir : ℕ) (name : List ℕ) (fork : Fork) (length now : ℕ) → IsLawfulChange v (set_eof size v dir name fork length now)
 
-abbrev pub WriteForkIsChange : Type 0
-WriteForkIsChange = (size : ℕ) (v : Volume) (dir : ℕ) (name : List ℕ) (fork : Fork) (offset : ℕ) (bytes : List ℕ) (now : ℕ) → IsChangeOf v (write_fork size v dir name fork offset bytes now)
+abbrev pub WriteForkIsLawful : Type 0
+WriteForkIsLawful = (size : ℕ) (v : Volume) (dir : ℕ) (name : List ℕ) (fork : Fork) (offset : ℕ) (bytes : List ℕ) (now : ℕ) → IsLawfulChange v (write_fork size v dir name fork offset bytes now)
 
 -- ---- forks afterwards
 

@@ -1,14 +1,14 @@
 //! What holds of the calls that write forks, each as the contract of a function that does nothing.
-ghost use Rattle.hfs_fork_calls.specs.Laws.{SetEofIsChange, WriteForkIsChange, SetEofResizes, SetEofToItsLength, WriteForkIsSetEofAndBytes, WrittenIsRead};
+ghost use Rattle.hfs_fork_calls.specs.Laws.{SetEofIsLawful, WriteForkIsLawful, SetEofResizes, SetEofToItsLength, WriteForkIsSetEofAndBytes, WrittenIsRead};
 
 /// SetEof keeps a volume lawful, leaves it where it is refused, and is never answered -34.
-pub fn set_eof_is_change()
-    ensures { SetEofIsChange }
+pub fn set_eof_is_lawful()
+    ensures { SetEofIsLawful }
 {}
 
 /// So does WriteFork.
-pub fn write_fork_is_change()
-    ensures { WriteForkIsChange }
+pub fn write_fork_is_lawful()
+    ensures { WriteForkIsLawful }
 {}
 
 /// An accepted SetEof makes the fork its first bytes, with zeros after them where it was shorter, and leaves the other fork.

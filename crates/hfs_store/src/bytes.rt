@@ -31,15 +31,17 @@ pub fn resized(alloc: Global, bytes: &[u8], count: usize) -> Result<Vec<u8>, All
 }
 
 /// New bytes from `offset` on, also past the end of the old ones.
-#[tactic(auto, unfolding(hfs_fork_calls::specs::Forks::written))]
+#[tactic(auto, unfolding(hfs_fork_calls::specs::Forks::written), using(hfs_fork_calls::proofs::ForkLemmas::written_is_short))]
 pub fn written(
     alloc: Global,
     bytes: &[u8],
     offset: usize,
     new: &[u8],
 ) -> Result<Vec<u8>, AllocError>
-    requires { offset + length new.now < 2 ^ 32 }
-    ensures { IfOk result (λ made. made.items ≡ written offset new.now bytes.now) }
+    requires old { length bytes.now < 2 ^ 32 }
+    requires new { offset + length new.now < 2 ^ 32 }
+    ensures bytes { IfOk result (λ made. made.items ≡ written offset new.now bytes.now) }
+    ensures short { IfOk result (λ made. length made.items < 2 ^ 32) }
 {
     let end = offset + new.len();
     let mut made = resized(alloc, bytes, bytes.len().max(end))?;

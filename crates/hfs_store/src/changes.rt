@@ -125,19 +125,19 @@ pub fn set_thread(items: &mut Vec<(u32, Item)>, at: usize, there: bool)
     }
 }
 
-/// Writes a number into four of a file's kept bytes.
-fn put_number(kept: &mut [u8; 102], at: usize, number: u32)
+/// Writes the four lowest bytes of a number over a file's kept bytes, the highest first.
+fn put_number(kept: &mut [u8; 102], at: usize, number: u64)
     requires { at ≤ 98 }
     ensures { kept.new ≡ laid_over at (big_bytes 4 number) kept.old }
 {
-    let mut bytes = [0; 4];
-    BigEndian::write_u32(&mut bytes, number);
-    kept[at..at + 4].copy_from_slice(&bytes);
+    let mut bytes = [0; 8];
+    BigEndian::write_u64(&mut bytes, number);
+    kept[at..at + 4].copy_from_slice(&bytes[4..]);
 }
 
 /// Sets the physical length of a fork among a file's kept bytes.
 #[tactic(auto, unfolding(hfs_fork_calls::specs::Forks::with_physical_length))]
-fn set_physical_length(kept: &mut [u8; 102], fork: Fork, bytes: u32)
+fn set_physical_length(kept: &mut [u8; 102], fork: Fork, bytes: u64)
     ensures { kept.new ≡ with_physical_length fork bytes kept.old }
 {
     match fork {
@@ -148,11 +148,11 @@ fn set_physical_length(kept: &mut [u8; 102], fork: Fork, bytes: u32)
 
 /// Gives a fork of a file these bytes, and the physical length of the blocks that they take.
 fn set_bytes(file: &mut File, block_size: BlockSize, fork: Fork, bytes: Vec<u8>)
-    requires { length bytes.items ≤ 2147483647 }
+    requires { length bytes.items < 2 ^ 32 }
     ensures { file.new ≡ with_fork block_size fork bytes.items file.old }
 {
     let physical = block_size.physical_length(bytes.len() as u32);
-    set_physical_length(&mut file.kept, fork, physical as u32);
+    set_physical_length(&mut file.kept, fork, physical);
     match fork {
         Fork::DataFork => file.data = Content::new(bytes),
         Fork::ResFork => file.resource = Content::new(bytes),
@@ -169,7 +169,7 @@ pub fn set_fork(
     now: u32,
 )
     requires within { at < length items.old.items }
-    requires short { length bytes.items ≤ 2147483647 }
+    requires short { length bytes.items < 2 ^ 32 }
     ensures { ItemBecomes items.old.items items.new.items at
         (item_with_fork block_size fork bytes.items now) }
 {
