@@ -1,5 +1,5 @@
 -- Lemmas about the definitions of specs/Forks.antt.
-use Rattle.std.proofs.Common.{◌≡◌, ℕ, ◌+◌, ◌-◌, ◌^◌, ◌<◌, ◌≤◌, Bool, true, false, cond, ltb, List, ◌++◌, length, take, drop, replicate, refl, ◌∙◌, ap, arith, append-nil, length-append, length-take}
+use Rattle.std.proofs.Common.{◌≡◌, ℕ, ◌+◌, ◌-◌, ◌^◌, ◌<◌, ◌≤◌, Bool, true, false, cond, ltb, List, ◌++◌, length, take, drop, replicate, refl, ◌∙◌, ap, arith, append-nil, length-append, length-drop, length-take}
 use Rattle.std.specs.Prelude.{max}
 use Rattle.std.proofs.lemmas.List.{take_all, take_at, drop_at, length-replicate}
 use Rattle.std.proofs.lemmas.Bool.{ltb-true}
