@@ -1,5 +1,5 @@
 //! What holds of the checks of an image, each as the contract of a function that does nothing.
-ghost use Rattle.hfs_check.specs.Laws.{NoImageFault, SoundImagesAreLawful, BytesStay};
+ghost use Rattle.hfs_check.specs.Laws.{NoImageFault, SoundImagesAreLawful, BytesStay, AgreementsJoin};
 
 /// The checks of an image find no fault exactly where it is sound.
 pub fn no_image_fault()
@@ -15,4 +15,10 @@ pub fn sound_images_are_lawful()
 /// block.
 pub fn bytes_stay()
     ensures { BytesStay }
+{}
+
+/// What agrees but for some blocks with an image that agrees but for others with a base, agrees with the base but for the blocks of
+/// both lists.
+pub fn agreements_join()
+    ensures { AgreementsJoin }
 {}
