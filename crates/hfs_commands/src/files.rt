@@ -5,21 +5,22 @@ ghost use Rattle.hfs_commands.specs.Faults.{IsTooMuch, IsUnreadScript};
 use crate::fault::Fault;
 use crate::watched::WatchedFile;
 use hfs_check::MountFault;
-use hfs_sparse::{FileReader, SeekSource};
+use hfs_source::{BlocksOf, SeekableBytes, TrustedFile};
+use hfs_sparse::SeenBlocks;
 use hfs_texts::{IMAGE_LIMIT, LoadFault, load, load_within};
 use std::alloc::Global;
 use std::fs::{File, OpenFile};
 use std::io::{Read, Seek};
 use std::rt::Files;
 
+/// The blocks of a file, known by what was read of it.
+pub type FileBlocks<F> = SeenBlocks<BlocksOf<SeekableBytes<TrustedFile<F>>>>;
+
 /// An image that was opened.
 #[derive(Drop)]
 pub enum ImageFile<F: Read + Seek> {
     /// A file of so many bytes, to be read where it is needed.
-    Seekable {
-        source: SeekSource<FileReader<F>>,
-        len: u64,
-    },
+    Seekable { source: FileBlocks<F>, len: u64 },
     /// All bytes of anything else, such as a pipe.
     Whole(Vec<u8>),
 }
@@ -78,10 +79,15 @@ pub fn open_image<'a, R: Files + AllocGlobal>(
         let bytes = load_opened(rt.alloc(), &mut file, path)?;
         return Ok(ImageFile::Whole(bytes));
     };
-    Ok(ImageFile::Seekable {
-        source: SeekSource::new(FileReader(file)),
-        len,
-    })
+    match SeekableBytes::open(TrustedFile::new(file)) {
+        Ok(bytes) => Ok(ImageFile::Seekable {
+            source: SeenBlocks {
+                blocks: BlocksOf { bytes },
+            },
+            len,
+        }),
+        Err(_) => Err(Fault::CannotRead(path)),
+    }
 }
 
 /// An image that was opened to be changed.

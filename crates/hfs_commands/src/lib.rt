@@ -30,10 +30,12 @@ pub use by_path::{file_path_reply, path_reply};
 pub use checking::{CheckAnswer, check_answer, needed_check_answer, refused_text, report_answer};
 pub use contents::{Contents, ReadContents, UnwrittenFault};
 pub use fault::{Fault, Status};
-pub use files::{ImageFile, WatchedImage, load_file, load_script, open_image, open_watched};
+pub use files::{
+    FileBlocks, ImageFile, WatchedImage, load_file, load_script, open_image, open_watched,
+};
 pub use forks::write_fork;
 pub use hfs_containers::{ByteRange, ReadAt, Window};
-pub use hfs_needed::{NeededFault, NeededFile, OpenedImage, needed_file};
+pub use hfs_needed::{NeededFault, NeededFile, OpenedImage, SeenImage, Unopened, needed_file};
 pub use hfs_refusals::{Hint, Refusal};
 pub use hfs_runs::{Answers, Gate, Ran, ScriptFault, run_script, run_script_at};
 pub use hfs_sparse::{BlockSource, ByteSource, CopyFault, SparseFault};
@@ -43,7 +45,7 @@ pub use hfs_texts::{
 };
 pub use holes::{HoleWriter, HoledFile, NewFileBytes};
 pub use items::write_items;
-pub use listing::{children_text, code_text, list_text, opened_list_text};
+pub use listing::{children_text, code_text, list_text, opened_list_text, seen_list_text};
 pub use macbinary::{put_macbinary, write_macbinary};
 pub use opened_file::OpenedFile;
 pub use patched_image::PatchedImage;

@@ -12,10 +12,10 @@ use crate::words::{FileWords, ForkWords, NewVolume, Words};
 use hfs_check::MountFault;
 use hfs_commands::{
     BlockSource, ByteSource, CheckAnswer, Fault, Format, ImageFile, NeededFile, NeededRepair,
-    OpenedImage, RepairAnswer, Status, WatchedFile, WatchedImage, check_answer, code_text,
-    list_text, needed_check_answer, needed_file, needed_repair_answer, open_image, open_watched,
-    opened_list_text, put_macbinary, refused_text, repair_answer, run_info, write_fork,
-    write_items, write_macbinary,
+    OpenedImage, RepairAnswer, SeenImage, Status, Unopened, WatchedFile, WatchedImage,
+    check_answer, code_text, list_text, needed_check_answer, needed_file, needed_repair_answer,
+    open_image, open_watched, put_macbinary, refused_text, repair_answer, run_info, seen_list_text,
+    write_fork, write_items, write_macbinary,
 };
 use hfs_console::{print_lines, tell_hint};
 use hfs_format::{FormatPlan, format};
@@ -165,9 +165,9 @@ pub fn print_needed_list<'a, S: BlockSource + Drop>(
     len: u64,
     dir: u32,
 ) -> Result<u8, Fault<'a>> {
-    match OpenedImage::open(rt.alloc(), source, len) {
-        Ok(image) => print_told(rt, opened_list_text(rt.alloc(), &image, dir)),
-        Err(fault) => Err(Fault::of_needed(fault, path)),
+    match SeenImage::open(rt.alloc(), source, len) {
+        Ok(image) => print_told(rt, seen_list_text(rt.alloc(), &image, dir)),
+        Err(Unopened { fault, source: _ }) => Err(Fault::of_needed(fault, path)),
     }
 }
 
