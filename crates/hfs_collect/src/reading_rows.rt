@@ -72,9 +72,14 @@ const ROWS: Word = Word {
 };
 
 /// The images as an argument.
-fn images_argument<'a>(alloc: Global) -> Arg<'a> {
-    Arg::new(alloc, IMAGES.name)
-        .help(IMAGES.help)
+fn images_argument<'a>(alloc: Global) -> Result<Arg<'a>, AllocError> {
+    let bare = Arg::new(alloc, IMAGES.name).help(IMAGES.help);
+    Ok(several(bare))
+}
+
+/// An argument that takes values, of which there has to be one.
+fn several<'a>(argument: Arg<'a>) -> Arg<'a> {
+    argument
         .action(ArgAction::Append)
         .num_args(1..)
         .required(true)
@@ -92,7 +97,7 @@ fn table_argument<'a>(alloc: Global) -> Result<Arg<'a>, AllocError> {
 
 /// The command of `rows`.
 pub fn rows_command<'a>(alloc: Global) -> Result<Command<'a>, AllocError> {
-    let with_images = ROWS.command(alloc)?.arg(images_argument(alloc))?;
+    let with_images = ROWS.command(alloc)?.arg(images_argument(alloc)?)?;
     with_images.arg(table_argument(alloc)?)
 }
 
