@@ -37,19 +37,20 @@ fn print_page_by<'a>(rt: &HostRuntime, words: &PageWords<'a>) -> Result<u8, Faul
             let len = part.len();
             print_page_of(rt, words, name.as_str(), part, len)
         }
-        Err(Fault::Refused(why)) => print_refused_image(rt, words, name.as_str(), why),
+        Err(Fault::Refused(why)) => print_refused_image(rt, words, name.as_str(), None, why),
         Err(fault) => Err(fault),
     }
 }
 
-/// Prints the page of an image that is refused before it is read.
-fn print_refused_image(
+/// Prints the page of an image that is refused before it is opened.
+fn print_refused_image<'a>(
     rt: &HostRuntime,
-    words: &PageWords<'_>,
+    words: &PageWords<'a>,
     name: &str,
+    digest: Option<&str>,
     why: MountFault,
-) -> Result<u8, Fault<'static>> {
-    print_refused_page(rt, &texts_of(words, name, None), why)
+) -> Result<u8, Fault<'a>> {
+    print_refused_page(rt, &texts_of(words, name, digest), why)
 }
 
 /// What the page says of the image beside its volume.
