@@ -30,14 +30,14 @@ opened-each known total volume opened seen = λ image h. record {
 }
 
 -- an image that is refused by its blocks is refused by its length and its blocks
-pub errs-each : {A : Type 0} {Holds : List ℕ → Type 0} (len : ℕ) → length_fault len ≡ None → (r : Result A NeededFault)
+pub errs-each : {A : Type 0} (Holds : List ℕ → Type 0) (len : ℕ) → length_fault len ≡ None → (r : Result A NeededFault)
     → IfErr r (λ f. EachKnown Holds (λ known. AreRefusedFor known (len / 512) f)) → IfErr r (λ f. EachKnown Holds (λ known. IsRefusedFor known len f))
-errs-each len right (Ok a) h = tt
-errs-each len right (Err f) h = λ image holds. err-so (Some image) len right (Err f) (h image holds)
+errs-each {A = A} Holds len right (Ok a) h = tt
+errs-each {A = A} Holds len right (Err f) h = λ image holds. err-so {A = A} (Some image) len right (Err f) (h image holds)
 
 -- and one that is opened has no fault
-pub sound-each : NoBlocksFault → GatheredIsEnough → {Holds : List ℕ → Type 0} (len : ℕ) → length_fault len ≡ None → (known : Option (List ℕ)) (r : Result NeededVolume NeededFault)
+pub sound-each : NoBlocksFault → GatheredIsEnough → (Holds : List ℕ → Type 0) (len : ℕ) → length_fault len ≡ None → (known : Option (List ℕ)) (r : Result NeededVolume NeededFault)
     → IfOk r (IsOpenedOf known (len / 512)) → IfOk r (λ volume. IsSeen Holds volume.read) → IfOk r (λ volume. EachKnown Holds (λ some. IsSoundOf some len))
-sound-each law enough len right known (Err f) opened seen = tt
-sound-each law enough len right known (Ok volume) opened seen = λ image holds.
+sound-each law enough Holds len right known (Err f) opened seen = tt
+sound-each law enough Holds len right known (Ok volume) opened seen = λ image holds.
     opened-sound law enough (Some image) len right volume (opened-each known (len / 512) volume opened seen image holds)

@@ -40,9 +40,9 @@ returns-then-len-lt1536-clause-each_refused g c = λ image h.
 
 pub returns-clause-each_refused : goal.returns-clause-each_refused
 returns-clause-each_refused g c =
-    errs-each c.args.len (length-right c.args.len (search rules) (search rules)) c.open_blocks.result c.open_blocks.ensures.each_refused
+    errs-each (g.S.BlockSource.Holds c.open_blocks.new.source) c.args.len (length-right c.args.len (search rules) (search rules)) c.open_blocks.result c.open_blocks.ensures.each_refused
 
 pub returns-clause-each_sound : goal.returns-clause-each_sound
 returns-clause-each_sound g c =
-    sound-each no_blocks_fault gathered_is_enough c.args.len (length-right c.args.len (search rules) (search rules)) (g.S.BlockSource.image c.args.source.now)
+    sound-each no_blocks_fault gathered_is_enough (g.S.BlockSource.Holds c.open_blocks.new.source) c.args.len (length-right c.args.len (search rules) (search rules)) (g.S.BlockSource.image c.args.source.now)
     c.open_blocks.result c.open_blocks.ensures.opened c.open_blocks.ensures.seen
