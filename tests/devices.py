@@ -283,16 +283,17 @@ def want_blocks(bench, what, image, words, blocks):
 
 
 def needed_blocks(bench, image):
-    """`check` reads what the checks need, and nothing behind what is wrong; `ls` and `cat` no more than that and the fork; `run` the free
-    nodes, too."""
-    nothing = bench.lay('nothing', b'')
-    want_blocks(bench, 'sound', image, ['check'], NEEDED)
-    want_blocks(bench, 'sound', image, ['ls'], NEEDED)
-    want_blocks(bench, 'sound', image, ['cat', 2, 'f'], sorted(NEEDED + FORK_BLOCKS))
+    """`check` reads what the checks need, and nothing behind what is wrong, and before that the file's first three blocks, where it sees
+    whether the file is a bare volume; `ls` and `cat` no more than that and the fork; `run`, which looks for none, the free nodes, too."""
+    nothing, looked = bench.lay('nothing', b''), [0, 1]
+    want_blocks(bench, 'sound', image, ['check'], looked + NEEDED)
+    want_blocks(bench, 'sound', image, ['ls'], looked + NEEDED)
+    want_blocks(bench, 'sound', image, ['check', '--volume', 0], NEEDED)
+    want_blocks(bench, 'sound', image, ['cat', 2, 'f'], sorted(looked + NEEDED + FORK_BLOCKS))
     want_blocks(bench, 'sound', image, ['run', nothing], WORKING)
     # the nodes 2 to 5 of the catalog, in blocks 8 to 11, are not marked: each sixteenth byte of them is changed once
     def unmarked(at):
-        want_blocks(bench, f'byte {at}', edited(image, (at, 255 - image[at])), ['check'], NEEDED)
+        want_blocks(bench, f'byte {at}', edited(image, (at, 255 - image[at])), ['check'], looked + NEEDED)
 
     bench.want_all(lambda at=at: unmarked(at) for at in range(8 * BLOCK, 12 * BLOCK, 16))
     # the header node of the catalog leads to block 11, which is no map node, and then one that leads to itself: it is read once, and
@@ -300,10 +301,12 @@ def needed_blocks(bench, image):
     no_map = edited(image, (3_075, 5))
     ring = edited(no_map, (5_635, 5), (5_640, 2), (5_643, 1), (6_141, 250), (6_140, 1), (6_143, 14))
     for what, content in (('no map node', no_map), ('a ring of map nodes', ring)):
-        want_blocks(bench, what, content, ['check'], [2, 3, 4, 5, 6, 11, 62])
+        want_blocks(bench, what, content, ['check'], looked + [2, 3, 4, 5, 6, 11, 62])
     # behind a wrong header node no other node of its tree, and no catalog behind a wrong extents tree; and nothing behind a wrong signature
-    want_blocks(bench, 'a wrong header node', edited(image, (2_056, 9)), ['check'], [2, 3, 4, 62])
-    want_blocks(bench, 'a wrong signature', edited(image, (1_024, 0)), ['check'], [2])
+    want_blocks(bench, 'a wrong header node', edited(image, (2_056, 9)), ['check'], looked + [2, 3, 4, 62])
+    # what is no bare volume may have a map of partitions, in block 1, or behind 2,048 bytes in block 4
+    want_blocks(bench, 'a wrong signature', edited(image, (1_024, 0)), ['check'], looked + [2, 4])
+    want_blocks(bench, 'a wrong signature', edited(image, (1_024, 0)), ['check', '--volume', 0], [2])
 
 
 def failing_reads(bench, image):
