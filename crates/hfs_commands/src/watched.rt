@@ -86,14 +86,18 @@ impl<F: OpenFile + Drop> WatchedFile<F> {
 }
 
 impl<F: Read + Seek> BlockSource for WatchedFile<F> {
-    ghost use Rattle.std.specs.Prelude.{None};
+    ghost use Rattle.std.specs.Prelude.{◌≡◌, None, Some};
 
     ghost image = { λ _. None };
+
+    ghost Holds = { λ _ image. None ≡ Some image };
 
     fn read_blocks(&mut self, first: u32, into: &mut [u8]) -> io::Result<()> {
         self.file.seek(SeekFrom::Start(u64::from(first) * 512))?;
         self.file.read_exact(into)
     }
+
+    ghost known_holds = { λ _ bytes e. e };
 }
 
 impl<F: OpenFile> Watched for WatchedFile<F> {

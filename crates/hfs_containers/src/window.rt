@@ -1,5 +1,5 @@
 //! A range of a file, as if it were the file.
-ghost use Rattle.std.specs.Prelude.{◌≡◌, ◌+◌, ◌≤◌, IfSome, length};
+ghost use Rattle.std.specs.Prelude.{◌≡◌, ◌+◌, ◌≤◌, Some, IfSome, length};
 ghost use Rattle.std.specs.Option.{option_map};
 ghost use Rattle.hfs_containers.specs.Ranges.{bytes_in};
 
@@ -50,7 +50,11 @@ impl<S: ReadAt> ReadAt for Window<S> {
 impl<S: ReadAt> BlockSource for Window<S> {
     ghost image = { λ window. option_map (bytes_in window.range) (S.known window.source) };
 
+    ghost Holds = { λ window image. option_map (bytes_in window.range) (S.known window.source) ≡ Some image };
+
     fn read_blocks(&mut self, first: u32, into: &mut [u8]) -> io::Result<()> {
         self.read_at(u64::from(first) * 512, into)
     }
+
+    ghost known_holds = { λ window bytes e. e };
 }

@@ -18,3 +18,4 @@ pub mod ToldFiles
 pub mod SoundTrees
 pub mod LawsProved
 pub mod GatheredLaws
+pub mod SeenStart

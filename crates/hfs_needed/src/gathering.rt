@@ -4,6 +4,8 @@ ghost use Rattle.hfs_blocks.specs.Layers.{changes, AreWithin};
 ghost use Rattle.hfs_check.specs.Faults as faults;
 ghost use Rattle.hfs_check.specs.Parts.{mdb_in, extents_blocks};
 ghost use Rattle.hfs_check.specs.Sound.{IsMdbSound};
+ghost use Rattle.hfs_source.specs.Images.{OfEach};
+ghost use Rattle.hfs_sparse.specs.Seen.{IsSeen, SeesMore};
 ghost use Rattle.hfs_sparse.specs.Sparse.{sparse, HasEach};
 ghost use Rattle.hfs_needed.specs.Gathered.{LieAt, HasRead, HasNeeded, IsOfKnown};
 ghost use Rattle.hfs_needed.specs.Needed.{has_extents_file, needed_of_extents, needed_of_catalog, needed_of_trees};
@@ -17,6 +19,7 @@ use hfs_sparse::{BlockSource, SparseBlocks, SparseFault, fetch, fetch_range};
 use std::alloc::Global;
 
 /// Reads what is needed of the catalog, where what is needed of the extents tree was read, which lies in these runs.
+#[tactic(auto, using(hfs_sparse::proofs::Seen::sees_itself))]
 fn gather_catalog<S: BlockSource>(
     alloc: Global,
     source: &mut S,
@@ -34,6 +37,7 @@ fn gather_catalog<S: BlockSource>(
     ensures has { OnOk result (HasEach read.new (needed_of_catalog (sparse read.new))) }
     ensures reads { HasRead (S.image source.old) count read.old read.new }
     ensures image { S.image source.new ≡ S.image source.old }
+    ensures sees { SeesMore (S.Holds source.old) (S.Holds source.new) read.old read.new }
 {
     let Ok(found) = catalog_runs(alloc, &read.volume(count), mdb, extents_tree) else {
         return Err(SparseFault::Memory);
@@ -46,6 +50,7 @@ fn gather_catalog<S: BlockSource>(
 }
 
 /// Reads what is needed of both trees, where the master directory block was read.
+#[tactic(auto, using(hfs_sparse::proofs::Seen::sees_itself))]
 fn gather_trees<S: BlockSource>(
     alloc: Global,
     source: &mut S,
@@ -59,6 +64,7 @@ fn gather_trees<S: BlockSource>(
     ensures has { OnOk result (HasEach read.new (needed_of_trees (sparse read.new))) }
     ensures reads { HasRead (S.image source.old) count read.old read.new }
     ensures image { S.image source.new ≡ S.image source.old }
+    ensures sees { SeesMore (S.Holds source.old) (S.Holds source.new) read.old read.new }
 {
     let Ok(found) = extents_runs(alloc, &read.volume(count), mdb) else {
         return Err(SparseFault::Memory);
@@ -86,6 +92,7 @@ fn gather_rest<S: BlockSource>(
     ensures has { OnOk result (HasNeeded count read.new) }
     ensures reads { HasRead (S.image source.old) count read.old read.new }
     ensures image { S.image source.new ≡ S.image source.old }
+    ensures sees { SeesMore (S.Holds source.old) (S.Holds source.new) read.old read.new }
 {
     fetch(source, read, count - 2)?;
     let first = u32::from(mdb.bitmap_start);
@@ -110,6 +117,8 @@ pub fn gather_needed<S: BlockSource>(
     ensures told { IfOk result (λ read. IsOfKnown (S.image source.old) read) }
     ensures within { IfOk result (λ read. AreWithin (changes read) count) }
     ensures image { S.image source.new ≡ S.image source.old }
+    ensures seen { IfOk result (λ read. IsSeen (S.Holds source.new) read) }
+    ensures narrows { OfEach (S.Holds source.new) (S.Holds source.old) }
 {
     let mut read = SparseBlocks::new(alloc);
     fetch(source, &mut read, 2)?;

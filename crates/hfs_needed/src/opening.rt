@@ -1,6 +1,8 @@
 //! Volumes of which only the needed blocks are read.
 ghost use Rattle.std.specs.Prelude.{◌≡◌, ◌≢◌, ◌≤◌, ◌/◌, IfOk, IfErr};
 ghost use Rattle.hfs_check.specs.declared.mount_fault.MountFault.{MountFault};
+ghost use Rattle.hfs_source.specs.Images.{OfEach};
+ghost use Rattle.hfs_sparse.specs.Seen.{EachKnown, IsSeen};
 ghost use Rattle.hfs_needed.specs.Opened.{IsOpenedOf, IsSoundOf, AreRefusedFor, IsRefusedFor};
 
 use crate::gathering::gather_needed;
@@ -52,6 +54,10 @@ fn open_blocks<S: BlockSource>(
     ensures opened { IfOk result (IsOpenedOf (S.image source.old) count) }
     ensures refused { IfErr result (λ fault. AreRefusedFor (S.image source.old) count fault) }
     ensures image { S.image source.new ≡ S.image source.old }
+    ensures seen { IfOk result (λ volume. IsSeen (S.Holds source.new) volume.read) }
+    ensures each_refused { IfErr result (λ fault. EachKnown (S.Holds source.new)
+        (λ known. AreRefusedFor known count fault)) }
+    ensures narrows { OfEach (S.Holds source.new) (S.Holds source.old) }
 {
     let read = match gather_needed(alloc, source, count) {
         Ok(read) => read,
@@ -75,6 +81,12 @@ pub(crate) fn open_needed<S: BlockSource>(
     ensures sound { IfOk result (λ volume. IsSoundOf (S.image source.old) len) }
     ensures refused { IfErr result (λ fault. IsRefusedFor (S.image source.old) len fault) }
     ensures image { S.image source.new ≡ S.image source.old }
+    ensures seen { IfOk result (λ volume. IsSeen (S.Holds source.new) volume.read) }
+    ensures each_refused { IfErr result (λ fault. EachKnown (S.Holds source.new)
+        (λ known. IsRefusedFor known len fault)) }
+    ensures narrows { OfEach (S.Holds source.new) (S.Holds source.old) }
+    ensures each_sound { IfOk result (λ volume. EachKnown (S.Holds source.new)
+        (λ known. IsSoundOf known len)) }
 {
     if len > 2_147_483_648 {
         return Err(NeededFault::Refused(MountFault::TooLarge));

@@ -8,6 +8,7 @@ ghost use Rattle.hfs_btree.specs.Header.{header_in, bit_of};
 ghost use Rattle.hfs_btree_checks.specs.Shape.{is_map_value};
 ghost use Rattle.hfs_needed.specs.Marked.{needed_of_tree};
 ghost use Rattle.hfs_needed.specs.TreeReads.{nodes_of, HasNode, ReadsRuns, IsHeadOf, FindsHead, FindsMapNode, HasChain, TellsChain, FindsMap, HasMapChain, HasMarked, HasMarkedFrom, LieBeside, block_for};
+ghost use Rattle.hfs_sparse.specs.Seen.{SeesMore};
 ghost use Rattle.hfs_sparse.specs.Sparse.{HasEach};
 
 use crate::tree_header::{TreeHead, read_head};
@@ -31,6 +32,7 @@ fn fetch_node<S: BlockSource>(
     ensures has { OnOk result (HasNode read.new runs.now n) }
     ensures reads { ReadsRuns (S.image source.old) runs.now read.old read.new }
     ensures image { S.image source.new ≡ S.image source.old }
+    ensures sees { SeesMore (S.Holds source.old) (S.Holds source.new) read.old read.new }
 {
     let place = block_of(runs, n);
     fetch(source, read, place)?;
@@ -53,6 +55,7 @@ fn fetch_head<K: Key, S: BlockSource>(
     ensures has { OnOk result (HasNode read.new runs.now 0) }
     ensures reads { ReadsRuns (S.image source.old) runs.now read.old read.new }
     ensures image { S.image source.new ≡ S.image source.old }
+    ensures sees { SeesMore (S.Holds source.old) (S.Holds source.new) read.old read.new }
 {
     let mut block = [0; 512];
     fetch_node(source, read, runs, 0, &mut block)?;
@@ -88,6 +91,7 @@ fn fetch_map_node<S: BlockSource>(
     ensures has { OnOk result (HasNode read.new runs.now n) }
     ensures reads { ReadsRuns (S.image source.old) runs.now read.old read.new }
     ensures image { S.image source.new ≡ S.image source.old }
+    ensures sees { SeesMore (S.Holds source.old) (S.Holds source.new) read.old read.new }
 {
     let mut block = [0; 512];
     fetch_node(source, read, runs, n, &mut block)?;
@@ -106,6 +110,7 @@ fn fetch_map_node<S: BlockSource>(
 /// Reads the chain of map nodes from node `first` on, 0 where there is none, of a tree of `count` nodes, as far as it is one: up to the
 /// first that is no map node, none of the tree's, or was met before. Marks each as met, and adds their parts of the node map to `map`.
 /// Whether the chain is one.
+#[tactic(auto, using(hfs_sparse::proofs::Seen::sees_itself))]
 fn fetch_chain<S: BlockSource>(
     source: &mut S,
     read: &mut SparseBlocks,
@@ -125,6 +130,7 @@ fn fetch_chain<S: BlockSource>(
         (TellsChain (nodes_of read.new runs.now) count first met.old map.old map.new) }
     ensures reads { ReadsRuns (S.image source.old) runs.now read.old read.new }
     ensures image { S.image source.new ≡ S.image source.old }
+    ensures sees { SeesMore (S.Holds source.old) (S.Holds source.new) read.old read.new }
 {
     let mut n = first;
     let mut most = count;
@@ -146,6 +152,7 @@ fn fetch_chain<S: BlockSource>(
 }
 
 /// Reads the map nodes of a tree whose header node tells this, as far as they are a chain. The node map; None only where it is wrong.
+#[tactic(auto, using(hfs_sparse::proofs::Seen::sees_itself))]
 fn fetch_map<S: BlockSource>(
     alloc: Global,
     source: &mut S,
@@ -161,6 +168,7 @@ fn fetch_map<S: BlockSource>(
     ensures found { IfOk result (FindsMap (nodes_of read.new runs.now) head.nodes) }
     ensures reads { ReadsRuns (S.image source.old) runs.now read.old read.new }
     ensures image { S.image source.new ≡ S.image source.old }
+    ensures sees { SeesMore (S.Holds source.old) (S.Holds source.new) read.old read.new }
 {
     let TreeHead {
         nodes,
@@ -201,6 +209,7 @@ fn marked_beside(runs: &[Run], map: &[u8], n: u32, end: u32) -> u32
 }
 
 /// Reads node `n`, if the map marks it, and with it the marked nodes right behind it, up to node `end`. How many nodes it looked at.
+#[tactic(auto, using(hfs_sparse::proofs::Seen::sees_itself))]
 fn fetch_marked_from<S: BlockSource>(
     source: &mut S,
     read: &mut SparseBlocks,
@@ -217,6 +226,7 @@ fn fetch_marked_from<S: BlockSource>(
     ensures has { IfOk result (HasMarkedFrom read.new runs.now map.now n) }
     ensures reads { ReadsRuns (S.image source.old) runs.now read.old read.new }
     ensures image { S.image source.new ≡ S.image source.old }
+    ensures sees { SeesMore (S.Holds source.old) (S.Holds source.new) read.old read.new }
 {
     if !bit_at(map, n as usize) {
         return Ok(1);
@@ -227,6 +237,7 @@ fn fetch_marked_from<S: BlockSource>(
 }
 
 /// Reads those of the first `count` nodes that the map marks, those that lie side by side together.
+#[tactic(auto, using(hfs_sparse::proofs::Seen::sees_itself))]
 fn fetch_marked<S: BlockSource>(
     source: &mut S,
     read: &mut SparseBlocks,
@@ -240,6 +251,7 @@ fn fetch_marked<S: BlockSource>(
     ensures has { OnOk result (HasMarked read.new runs.now map.now count) }
     ensures reads { ReadsRuns (S.image source.old) runs.now read.old read.new }
     ensures image { S.image source.new ≡ S.image source.old }
+    ensures sees { SeesMore (S.Holds source.old) (S.Holds source.new) read.old read.new }
 {
     let mut n = 0;
     while n < count {
@@ -264,6 +276,7 @@ pub(crate) fn gather_tree<K: Key, S: BlockSource>(
         (needed_of_tree K.Key size (nodes_of read.new runs.now) (flat_map run_of runs.now))) }
     ensures reads { ReadsRuns (S.image source.old) runs.now read.old read.new }
     ensures image { S.image source.new ≡ S.image source.old }
+    ensures sees { SeesMore (S.Holds source.old) (S.Holds source.new) read.old read.new }
 {
     let Some(head) = fetch_head::<K, S>(alloc, source, read, runs, size)? else {
         return Ok(());

@@ -1,5 +1,5 @@
 //! What is found of an image by the blocks that are needed, and how many are read.
-ghost use Rattle.std.specs.Prelude.{None};
+ghost use Rattle.std.specs.Prelude.{◌≡◌, None, Some};
 
 use crate::finding::wipe;
 use hfs_finds::{Finds, NeededFinds, needed_finds};
@@ -25,6 +25,8 @@ struct CountingSource<'a> {
 impl BlockSource for CountingSource<'_> {
     ghost image = { λ _. None };
 
+    ghost Holds = { λ _ image. None ≡ Some image };
+
     fn read_blocks(&mut self, first: u32, into: &mut [u8]) -> io::Result<()> {
         if self.left == 0 {
             return Err(io::Error::from(ErrorKind::Other));
@@ -34,6 +36,8 @@ impl BlockSource for CountingSource<'_> {
         self.bytes = self.bytes.wrapping_add(into.len());
         self.source.read_blocks(first, into)
     }
+
+    ghost known_holds = { λ _ bytes e. e };
 }
 
 /// What is told: the block of the directory, how many items there are, and whether the catalog is right.

@@ -61,10 +61,14 @@ impl HeldBytes {
 impl BlockSource for HeldBytes {
     ghost image = { λ held. Some held };
 
+    ghost Holds = { λ held image. Some held ≡ Some image };
+
     fn read_blocks(&mut self, first: u32, into: &mut [u8]) -> io::Result<()> {
         let mut blocks = ByteSource {
             bytes: self.bytes(),
         };
         blocks.read_blocks(first, into)
     }
+
+    ghost known_holds = { λ held bytes e. e };
 }

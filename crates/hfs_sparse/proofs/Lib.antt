@@ -1,4 +1,5 @@
 pub mod Fetched
+pub mod Seen
 pub mod Copied
 pub mod SparseLemmas
 pub mod BlockBytes

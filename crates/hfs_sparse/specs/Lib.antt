@@ -1,3 +1,4 @@
 pub mod Sparse
 pub mod Held
+pub mod Seen
 pub mod Writing

@@ -3,6 +3,7 @@ ghost use Rattle.std.specs.Prelude.{◌≡◌, ℕ, ◌+◌, ◌<◌, ◌≤◌,
 ghost use Rattle.std.specs.List.{range_with_len};
 ghost use Rattle.hfs_blocks.specs.Layers.{changes, numbers, KeepsWithin};
 ghost use Rattle.hfs_sparse.specs.Held.{HasNone};
+ghost use Rattle.hfs_sparse.specs.Seen.{SeesMore};
 ghost use Rattle.hfs_sparse.specs.Sparse.{sparse, HasEach, HasGrown, StaysOf};
 
 use crate::fetching::SparseFault;
@@ -105,6 +106,7 @@ impl SparseBlocks {
         ensures stays { StaysOf (S.image source.old) self.old self.new }
         ensures within { (total : ℕ) → first + count ≤ total → KeepsWithin self.old self.new total }
         ensures image { S.image source.new ≡ S.image source.old }
+        ensures sees { SeesMore (S.Holds source.old) (S.Holds source.new) self.old self.new }
     {
         self.held.read_in(source, first, count)
     }

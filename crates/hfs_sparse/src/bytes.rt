@@ -1,5 +1,5 @@
 //! Blocks of bytes in memory.
-ghost use Rattle.std.specs.Prelude.{Some};
+ghost use Rattle.std.specs.Prelude.{◌≡◌, Some};
 
 use crate::source::BlockSource;
 use std::io;
@@ -15,6 +15,8 @@ pub struct ByteSource<'a> {
 impl BlockSource for ByteSource<'_> {
     ghost image = { λ s. Some s.bytes.now };
 
+    ghost Holds = { λ s image. Some s.bytes.now ≡ Some image };
+
     fn read_blocks(&mut self, first: u32, into: &mut [u8]) -> io::Result<()> {
         let from = first as usize * 512;
         if self.bytes.len() < from || self.bytes.len() - from < into.len() {
@@ -23,4 +25,6 @@ impl BlockSource for ByteSource<'_> {
         into.copy_from_slice(&self.bytes[from..from + into.len()]);
         Ok(())
     }
+
+    ghost known_holds = { λ s bytes e. e };
 }

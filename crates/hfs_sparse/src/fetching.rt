@@ -3,6 +3,7 @@ ghost use Rattle.std.specs.Prelude.{◌≡◌, ℕ, ◌+◌, ◌<◌, ◌≤◌,
 ghost use Rattle.std.specs.List.{flat_map, range_with_len};
 ghost use Rattle.hfs_blocks.specs.Blocks.{run_of, AreRunsWithin};
 ghost use Rattle.hfs_blocks.specs.Layers.{changes, KeepsWithin};
+ghost use Rattle.hfs_sparse.specs.Seen.{SeesMore};
 ghost use Rattle.hfs_sparse.specs.Sparse.{HasEach, HasGrown, HasSome, StaysOf};
 
 use crate::blocks::SparseBlocks;
@@ -23,6 +24,7 @@ pub enum SparseFault {
 
 /// Reads some of the first of `most` blocks from number `first` on, those that were not read before by one read. How many they are, at least
 /// one. At an error what was read before stays.
+#[tactic(auto, using(crate::proofs::Seen::sees_itself))]
 fn fetch_some<S: BlockSource>(
     source: &mut S,
     read: &mut SparseBlocks,
@@ -36,6 +38,7 @@ fn fetch_some<S: BlockSource>(
     ensures stays { StaysOf (S.image source.old) read.old read.new }
     ensures within { (total : ℕ) → first + most ≤ total → KeepsWithin read.old read.new total }
     ensures image { S.image source.new ≡ S.image source.old }
+    ensures sees { SeesMore (S.Holds source.old) (S.Holds source.new) read.old read.new }
 {
     let unread = read.unread(first, most.min(MOST_AT_ONCE));
     if unread == 0 {
@@ -56,12 +59,14 @@ pub fn fetch<S: BlockSource>(
     ensures stays { StaysOf (S.image source.old) read.old read.new }
     ensures within { (total : ℕ) → n < total → KeepsWithin read.old read.new total }
     ensures image { S.image source.new ≡ S.image source.old }
+    ensures sees { SeesMore (S.Holds source.old) (S.Holds source.new) read.old read.new }
 {
     fetch_some(source, read, n, 1)?;
     Ok(())
 }
 
 /// Reads `count` blocks from number `first` on, each unless it was read before, and up to 128 that stand side by side by one read.
+#[tactic(auto, using(crate::proofs::Seen::sees_itself))]
 pub fn fetch_range<S: BlockSource>(
     source: &mut S,
     read: &mut SparseBlocks,
@@ -74,6 +79,7 @@ pub fn fetch_range<S: BlockSource>(
     ensures stays { StaysOf (S.image source.old) read.old read.new }
     ensures within { (total : ℕ) → first + count ≤ total → KeepsWithin read.old read.new total }
     ensures image { S.image source.new ≡ S.image source.old }
+    ensures sees { SeesMore (S.Holds source.old) (S.Holds source.new) read.old read.new }
 {
     let mut left = count;
     while left > 0 {
@@ -83,6 +89,7 @@ pub fn fetch_range<S: BlockSource>(
 }
 
 /// Reads the blocks of these runs, each unless it was read before.
+#[tactic(auto, using(crate::proofs::Seen::sees_itself))]
 pub fn fetch_runs<S: BlockSource>(
     source: &mut S,
     read: &mut SparseBlocks,
@@ -95,6 +102,7 @@ pub fn fetch_runs<S: BlockSource>(
     ensures within { (total : ℕ) → AreRunsWithin runs.now total
         → KeepsWithin read.old read.new total }
     ensures image { S.image source.new ≡ S.image source.old }
+    ensures sees { SeesMore (S.Holds source.old) (S.Holds source.new) read.old read.new }
 {
     for run in runs {
         fetch_range(source, read, run.first, run.count)?;

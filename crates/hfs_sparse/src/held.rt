@@ -4,6 +4,8 @@ ghost use Rattle.std.specs.List.{range_with_len};
 ghost use Rattle.hfs_blocks.specs.Blocks.{block_at};
 ghost use Rattle.hfs_blocks.specs.Layers.{changes, with_change, KeepsWithin};
 ghost use Rattle.hfs_sparse.specs.Sparse.{zero_block, sparse, HasEach, HasGrown, StaysOf};
+ghost use Rattle.hfs_source.specs.Images.{OfEach};
+ghost use Rattle.hfs_sparse.specs.Seen.{SeesBlocks, SeesMore};
 ghost use Rattle.hfs_sparse.specs.Held.{AreHeld, HasNone, HasSame, HoldsBlocks, PutsInAll, PutsInOnly, SameBehind, held_block, held_blocks};
 
 use crate::fetching::SparseFault;
@@ -103,6 +105,9 @@ impl Held {
         ensures read { OnOk result (HoldsBlocks (S.image source.old) first count self.new.count
             self.new.bytes.items) }
         ensures image { S.image source.new ≡ S.image source.old }
+        ensures seen { OnOk result (SeesBlocks (S.Holds source.new) first count self.new.count
+            self.new.bytes.items) }
+        ensures narrows { OfEach (S.Holds source.new) (S.Holds source.old) }
     {
         let from = self.count * 512;
         let to = from + count as usize * 512;
@@ -144,6 +149,8 @@ impl Held {
             → KeepsWithin (held_blocks self.old) (held_blocks self.new) total }
         ensures held { AreHeld self.new }
         ensures image { S.image source.new ≡ S.image source.old }
+        ensures sees { SeesMore (S.Holds source.old) (S.Holds source.new) (held_blocks self.old)
+            (held_blocks self.new) }
     {
         self.read_behind(source, first, count)?;
         let put_in = self.put_in_all(first, count);

@@ -1,5 +1,5 @@
 //! Blocks of what can be sought in, as files can.
-ghost use Rattle.std.specs.Prelude.{◌≡◌};
+ghost use Rattle.std.specs.Prelude.{◌≡◌, Some};
 
 use crate::placed::PlacedReader;
 use crate::source::BlockSource;
@@ -40,6 +40,8 @@ impl<P: PlacedReader> SeekSource<P> {
 impl<P: PlacedReader> BlockSource for SeekSource<P> {
     ghost image = { λ s. s };
 
+    ghost Holds = { λ s image. s ≡ Some image };
+
     fn read_blocks(&mut self, first: u32, into: &mut [u8]) -> io::Result<()> {
         let place = u64::from(first) * 512;
         let is_there = self.place == Some(place);
@@ -51,4 +53,6 @@ impl<P: PlacedReader> BlockSource for SeekSource<P> {
         self.place = place.checked_add(into.len() as u64);
         Ok(())
     }
+
+    ghost known_holds = { λ s bytes e. e };
 }

@@ -1,5 +1,6 @@
 //! Where blocks are read from.
-ghost use Rattle.std.specs.Prelude.{◌≡◌, ◌*◌, List, ℕ, Option, OnOk};
+ghost use Rattle.std.specs.Prelude.{◌≡◌, ◌*◌, List, ℕ, Option, Some, OnOk};
+ghost use Rattle.hfs_source.specs.Images.{HasAt, OfEach};
 ghost use Rattle.hfs_sparse.specs.Sparse.{HoldsFrom};
 
 use std::io;
@@ -9,9 +10,17 @@ pub trait BlockSource {
     /// The bytes of the whole image, where they are known. A file doesn't tell them.
     ghost image: { Self → Option (List ℕ) };
 
+    /// The images that have the bytes which were read so far: over memory one, over a file each that it may be.
+    ghost Holds: { Self → List ℕ → Type 0 };
+
     /// Reads the blocks from number `first` on, counted from 0, as many as there is room for in `into`, by one read. Error: the read failed,
     /// or the image ends before the room is full; what stands there then is not told.
     fn read_blocks(&mut self, first: u32, into: &mut [u8]) -> io::Result<()>
         ensures read { OnOk result (HoldsFrom (image self.old) (512 * first) into.new) }
-        ensures image { image self.new ≡ image self.old };
+        ensures image { image self.new ≡ image self.old }
+        ensures seen { OnOk result (OfEach (Holds self.new) (HasAt (512 * first) into.new)) }
+        ensures narrows { OfEach (Holds self.new) (Holds self.old) };
+
+    /// Where the bytes are known, their image is one that has the bytes which were read.
+    ghost known_holds: { (source : Self) (bytes : List ℕ) → image source ≡ Some bytes → Holds source bytes };
 }

@@ -5,6 +5,8 @@ use Rattle.hfs_check.specs.Faults as faults
 use Rattle.hfs_check.specs.Parts.{mdb_in}
 use Rattle.hfs_sparse.specs.Sparse.{sparse}
 use Rattle.hfs_needed.proofs.Gathered.{reads-block, reads-on, reads-start, needs_two}
+use Rattle.hfs_sparse.proofs.Seen.{sees_on}
+use Rattle.hfs_needed.proofs.SeenStart.{seen-start}
 use Rattle.hfs_needed.proofs.gathering.gather_needed.Goals as goal
 
 pub returns-then-is_some-clause-needed : goal.returns-then-is_some-clause-needed
@@ -45,3 +47,21 @@ returns-clause-within g c =
     (reads-block (g.S.BlockSource.image c.args.source.now) c.args.count c.new-read.result c.fetch.new.read 2 lt
     c.in_ok-fetch.ensures.grown c.in_ok-fetch.ensures.stays c.in_ok-fetch.ensures.within)
     c.in_ok-gather_rest.ensures.reads)).1
+
+pub returns-in_err-fetch-clause-narrows : goal.returns-in_err-fetch-clause-narrows
+returns-in_err-fetch-clause-narrows g c = c.in_err-fetch.ensures.sees.held
+
+pub returns-then-is_some-clause-narrows : goal.returns-then-is_some-clause-narrows
+returns-then-is_some-clause-narrows g c = c.in_ok-fetch.ensures.sees.held
+
+pub returns-then-is_some-clause-seen : goal.returns-then-is_some-clause-seen
+returns-then-is_some-clause-seen g c = seen-start c.new-read.ensures c.in_ok-fetch.ensures.sees
+
+pub returns-in_err-gather_rest-clause-narrows : goal.returns-in_err-gather_rest-clause-narrows
+returns-in_err-gather_rest-clause-narrows g c = (sees_on c.in_ok-fetch.ensures.sees c.in_err-gather_rest.ensures.sees).held
+
+pub returns-clause-narrows : goal.returns-clause-narrows
+returns-clause-narrows g c = (sees_on c.in_ok-fetch.ensures.sees c.in_ok-gather_rest.ensures.sees).held
+
+pub returns-clause-seen : goal.returns-clause-seen
+returns-clause-seen g c = seen-start c.new-read.ensures (sees_on c.in_ok-fetch.ensures.sees c.in_ok-gather_rest.ensures.sees)

@@ -6,6 +6,7 @@ use Rattle.hfs_space.specs.Bitmap.{bitmap_len}
 use Rattle.hfs_check.specs.Agree.{bitmap_blocks}
 use Rattle.hfs_sparse.proofs.SparseLemmas.{grown-on}
 use Rattle.hfs_needed.proofs.Gathered.{reads-block, reads-range, reads-on, mdb-stays, needs_all}
+use Rattle.hfs_sparse.proofs.Seen.{sees_on}
 use Rattle.hfs_needed.proofs.gathering.gather_rest.Goals as goal
 
 pub returns-in_err-fetch-clause-reads : goal.returns-in_err-fetch-clause-reads
@@ -67,3 +68,12 @@ returns-clause-has g c =
     (range_with_len c.from-first.result c.div_ceil-blocks.result) (is ∙ ap (λ (m : Mdb). bitmap_blocks m) c.requires.is)
     c.in_ok-fetch.ensures.grown c.in_ok-fetch_range.ensures.grown c.in_ok-gather_trees.ensures.reads.grown c.requires.has_mdb c.in_ok-fetch.ensures.has
     c.in_ok-fetch_range.ensures.has c.in_ok-gather_trees.ensures.has
+
+pub returns-in_err-fetch_range-clause-sees : goal.returns-in_err-fetch_range-clause-sees
+returns-in_err-fetch_range-clause-sees g c = sees_on c.in_ok-fetch.ensures.sees c.in_err-fetch_range.ensures.sees
+
+pub returns-in_err-gather_trees-clause-sees : goal.returns-in_err-gather_trees-clause-sees
+returns-in_err-gather_trees-clause-sees g c = sees_on (sees_on c.in_ok-fetch.ensures.sees c.in_ok-fetch_range.ensures.sees) c.in_err-gather_trees.ensures.sees
+
+pub returns-clause-sees : goal.returns-clause-sees
+returns-clause-sees g c = sees_on (sees_on c.in_ok-fetch.ensures.sees c.in_ok-fetch_range.ensures.sees) c.in_ok-gather_trees.ensures.sees

@@ -9,6 +9,7 @@ use Rattle.hfs_needed.specs.Gathered.{LieAt}
 use Rattle.hfs_needed.specs.Needed.{has_extents_file}
 use Rattle.hfs_needed.proofs.Gathered.{lie-at, lie-later, reads-on, mdb-stays, extents-room, has_extents-stays, has_extents-now, has_extents-later, needs_none, needs_both}
 use Rattle.hfs_space.proofs.LawsProved.{no_tree_file_fault}
+use Rattle.hfs_sparse.proofs.Seen.{sees_on}
 use Rattle.hfs_needed.proofs.gathering.gather_trees.Goals as goal
 
 pub returns-in_default-found-clause-has : goal.returns-in_default-found-clause-has
@@ -126,3 +127,9 @@ returns-clause-reads g c =
     reads-on (g.S.BlockSource.image c.args.source.now) (g.S.BlockSource.image c.gather_tree.new.source) c.args.count c.args.read.now c.gather_tree.new.read
     c.gather_catalog.new.read c.in_ok-gather_tree.ensures.image (c.in_ok-gather_tree.ensures.reads c.args.count lie.within)
     c.in_ok-gather_catalog.ensures.reads
+
+pub returns-in_err-gather_catalog-clause-sees : goal.returns-in_err-gather_catalog-clause-sees
+returns-in_err-gather_catalog-clause-sees g c = sees_on c.in_ok-gather_tree.ensures.sees c.in_err-gather_catalog.ensures.sees
+
+pub returns-clause-sees : goal.returns-clause-sees
+returns-clause-sees g c = sees_on c.in_ok-gather_tree.ensures.sees c.in_ok-gather_catalog.ensures.sees

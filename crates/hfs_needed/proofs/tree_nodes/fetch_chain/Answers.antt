@@ -12,6 +12,7 @@ use Rattle.hfs_needed.specs.TreeReads.{nodes_of, block_for, record_at, IsMapLink
 use Rattle.hfs_needed.proofs.Gathered.{reads-runs-on}
 use Rattle.hfs_needed.proofs.TreeNodes.{node-stays, count-stays, goes-on, done-has, done-is, done-parts, outside-has, outside-is, wrong-has, wrong-is, out-past, out-again, no-chain-from}
 use Rattle.hfs_needed.proofs.tree_nodes.fetch_chain.Goals as goal
+use Rattle.hfs_sparse.proofs.Seen.{sees_on}
 use Rattle.hfs_needed.proofs.tree_nodes.fetch_chain.Goals.{then-n-count-via-then-n-count, then-n-count-via-else-n-count+then-index}
 
 pub returns-then-n-eq0-clause-has : goal.returns-then-n-eq0-clause-has
@@ -136,5 +137,12 @@ loop-most-preserved g c =
       reads = reads-runs-on (g.S.BlockSource.image c.args.source.now) (g.S.BlockSource.image c.loop-most.source) runs c.args.read.now c.loop-most.read here
           c.loop-most.invariant.image c.loop-most.invariant.reads c.in_ok-next.ensures.reads;
       image = c.in_ok-next.ensures.image ∙ c.loop-most.invariant.image;
+      sees = sees_on c.loop-most.invariant.sees c.in_ok-next.ensures.sees;
       len = c.loop-most.invariant.len;
     }
+
+pub returns-in_err-next-clause-sees : goal.returns-in_err-next-clause-sees
+returns-in_err-next-clause-sees g c = sees_on c.loop-most.invariant.sees c.in_err-next.ensures.sees
+
+pub returns-in_default-clause-sees : goal.returns-in_default-clause-sees
+returns-in_default-clause-sees g c = sees_on c.loop-most.invariant.sees c.in_ok-next.ensures.sees

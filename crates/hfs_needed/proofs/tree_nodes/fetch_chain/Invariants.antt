@@ -4,6 +4,7 @@ use Rattle.hfs_blocks.specs.Layers.{Numbered}
 use Rattle.hfs_sparse.specs.Sparse.{HasGrown}
 use Rattle.hfs_needed.specs.TreeReads.{ReadsRuns}
 use Rattle.hfs_needed.proofs.TreeNodes.{GoesOn}
+use Rattle.hfs_sparse.specs.Seen.{SeesMore}
 use Rattle.hfs_needed.proofs.tree_nodes.fetch_chain.Given as goal
 
 abbrev pub invariant-loop-most : goal.invariant-loop-most
@@ -11,6 +12,7 @@ invariant-loop-most g l = record {
   goes : (fin : Numbered) → HasGrown l.read fin → GoesOn fin l.runs l.count l.first l.initial.met.items l.initial.map.items l.most l.n l.met.items l.map.items;
   reads : ReadsRuns (g.S.BlockSource.image l.initial.source) l.runs l.initial.read l.read;
   image : g.S.BlockSource.image l.source ≡ g.S.BlockSource.image l.initial.source;
+  sees : SeesMore (g.S.BlockSource.Holds l.initial.source) (g.S.BlockSource.Holds l.source) l.initial.read l.read;
   len : vec_len l.met ≡ l.count;
 }
 

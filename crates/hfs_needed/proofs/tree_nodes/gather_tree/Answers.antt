@@ -7,6 +7,7 @@ use Rattle.hfs_needed.specs.TreeReads.{nodes_of, block_for, IsHeadOf, FindsHead,
 use Rattle.hfs_needed.specs.declared.tree_header.TreeHead.{TreeHead}
 use Rattle.hfs_needed.proofs.Gathered.{reads-runs-on}
 use Rattle.hfs_needed.proofs.TreeNodes.{on-ok, count-stays, needs-head, needs-chain, needs-marked}
+use Rattle.hfs_sparse.proofs.Seen.{sees_on}
 use Rattle.hfs_needed.proofs.tree_nodes.gather_tree.Goals as goal
 
 pub returns-in_default-clause-has : goal.returns-in_default-clause-has
@@ -60,3 +61,12 @@ returns-clause-reads g c =
     c.fetch_marked.new.read (c.in_ok-map.ensures.image ∙ c.in_ok-head.ensures.image)
     (reads-runs-on (g.S.BlockSource.image c.args.source.now) (g.S.BlockSource.image c.fetch_head.new.source) c.args.runs.now c.args.read.now c.fetch_head.new.read
     c.fetch_map.new.read c.in_ok-head.ensures.image c.in_ok-head.ensures.reads c.in_ok-map.ensures.reads) c.fetch_marked.ensures.reads
+
+pub returns-in_err-map-clause-sees : goal.returns-in_err-map-clause-sees
+returns-in_err-map-clause-sees g c = sees_on c.in_ok-head.ensures.sees c.in_err-map.ensures.sees
+
+pub returns-in_default-2-clause-sees : goal.returns-in_default-2-clause-sees
+returns-in_default-2-clause-sees g c = sees_on c.in_ok-head.ensures.sees c.in_ok-map.ensures.sees
+
+pub returns-clause-sees : goal.returns-clause-sees
+returns-clause-sees g c = sees_on (sees_on c.in_ok-head.ensures.sees c.in_ok-map.ensures.sees) c.fetch_marked.ensures.sees

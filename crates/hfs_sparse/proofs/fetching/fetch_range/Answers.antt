@@ -3,6 +3,7 @@ use Rattle.std.proofs.Common.{◌-◌, ◌∙◌, IsSome, arith}
 use Rattle.hfs_blocks.specs.Layers.{changes}
 use Rattle.hfs_sparse.proofs.SparseLemmas.{grown-on}
 use Rattle.hfs_sparse.proofs.Fetched.{some-more, each-range, stays-later}
+use Rattle.hfs_sparse.proofs.Seen.{sees_on}
 use Rattle.hfs_sparse.proofs.fetching.fetch_range.Goals as goal
 
 pub returns-in_err-left-clause-stays : goal.returns-in_err-left-clause-stays
@@ -28,9 +29,13 @@ loop-left-preserved g c =
       within = λ total le within.
           c.in_ok-left.ensures.within total (omega (arith, le, c.loop-left.invariant.few)) (c.loop-left.invariant.within total le within);
       image = c.in_ok-left.ensures.image ∙ c.loop-left.invariant.image;
+      sees = sees_on c.loop-left.invariant.sees c.in_ok-left.ensures.sees;
     }
 
 pub returns-clause-has : goal.returns-clause-has
 returns-clause-has g c =
     each-range (λ n. IsSome (changes c.loop-left.read n)) c.args.first c.args.count
     (λ k lt. c.loop-left.invariant.has k (omega (arith, lt, c.loop-left-test.false)))
+
+pub returns-in_err-left-clause-sees : goal.returns-in_err-left-clause-sees
+returns-in_err-left-clause-sees g c = sees_on c.loop-left.invariant.sees c.in_err-left.ensures.sees

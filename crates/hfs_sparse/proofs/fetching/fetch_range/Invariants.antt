@@ -2,6 +2,7 @@
 use Rattle.std.specs.Prelude.{◌≡◌, ℕ, ◌+◌, ◌-◌, ◌<◌, ◌≤◌, IsSome}
 use Rattle.hfs_blocks.specs.Layers.{changes, AreWithin}
 use Rattle.hfs_sparse.specs.Sparse.{HasGrown, StaysOf}
+use Rattle.hfs_sparse.specs.Seen.{SeesMore}
 use Rattle.hfs_sparse.proofs.fetching.fetch_range.Given as goal
 
 abbrev pub invariant-loop-left : goal.invariant-loop-left
@@ -12,6 +13,7 @@ invariant-loop-left g l = record {
   stays : StaysOf (g.S.BlockSource.image l.initial.source) l.initial.read l.read;
   within : (total : ℕ) → l.first + l.count ≤ total → AreWithin (changes l.initial.read) total → AreWithin (changes l.read) total;
   image : g.S.BlockSource.image l.source ≡ g.S.BlockSource.image l.initial.source;
+  sees : SeesMore (g.S.BlockSource.Holds l.initial.source) (g.S.BlockSource.Holds l.source) l.initial.read l.read;
 }
 
 abbrev pub decreases-loop-left : goal.decreases-loop-left

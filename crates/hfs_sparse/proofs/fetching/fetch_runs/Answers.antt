@@ -4,6 +4,7 @@ use Rattle.hfs_blocks.specs.declared.run.Run.{Run}
 use Rattle.hfs_blocks.specs.Layers.{changes}
 use Rattle.hfs_sparse.proofs.SparseLemmas.{grown-on}
 use Rattle.hfs_sparse.proofs.Fetched.{one-run-more, each-runs, stays-later}
+use Rattle.hfs_sparse.proofs.Seen.{sees_on}
 use Rattle.hfs_sparse.proofs.fetching.fetch_runs.Goals as goal
 
 -- what a list answers behind its end
@@ -29,9 +30,13 @@ loop-run-preserved g c = record {
   within = λ total lie within.
       c.in_ok-fetch_range.ensures.within total (lie.within c.loop-run.run-index none c.loop-run-test.true) (c.loop-run.invariant.within total lie within);
   image = c.in_ok-fetch_range.ensures.image ∙ c.loop-run.invariant.image;
+  sees = sees_on c.loop-run.invariant.sees c.in_ok-fetch_range.ensures.sees;
 }
 
 pub returns-clause-has : goal.returns-clause-has
 returns-clause-has g c =
     each-runs (λ n. IsSome (changes c.loop-run.read n)) c.args.runs.now none
     (λ i lt. c.loop-run.invariant.has i none (omega (arith, lt, c.loop-run-test.false)))
+
+pub returns-in_err-fetch_range-clause-sees : goal.returns-in_err-fetch_range-clause-sees
+returns-in_err-fetch_range-clause-sees g c = sees_on c.loop-run.invariant.sees c.in_err-fetch_range.ensures.sees

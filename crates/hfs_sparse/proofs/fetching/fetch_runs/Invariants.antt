@@ -4,6 +4,7 @@ use Rattle.hfs_blocks.specs.declared.run.Run.{Run}
 use Rattle.hfs_blocks.specs.Blocks.{run_of, AreRunsWithin}
 use Rattle.hfs_blocks.specs.Layers.{changes, AreWithin}
 use Rattle.hfs_sparse.specs.Sparse.{HasEach, HasGrown, StaysOf}
+use Rattle.hfs_sparse.specs.Seen.{SeesMore}
 use Rattle.hfs_sparse.proofs.fetching.fetch_runs.Given as goal
 
 abbrev pub invariant-loop-run : goal.invariant-loop-run
@@ -13,4 +14,5 @@ invariant-loop-run g l = record {
   stays : StaysOf (g.S.BlockSource.image l.initial.source) l.initial.read l.read;
   within : (total : ℕ) → AreRunsWithin l.runs total → AreWithin (changes l.initial.read) total → AreWithin (changes l.read) total;
   image : g.S.BlockSource.image l.source ≡ g.S.BlockSource.image l.initial.source;
+  sees : SeesMore (g.S.BlockSource.Holds l.initial.source) (g.S.BlockSource.Holds l.source) l.initial.read l.read;
 }

@@ -1,4 +1,5 @@
 -- The blocks that were held stay, and those that were read come to them.
+use Rattle.std.proofs.Common.{Some}
 use Rattle.hfs_sparse.specs.Held.{held_blocks}
 use Rattle.hfs_sparse.proofs.ReadingIn.{same-grown, same-stays, same-within, same-none, read-grown, read-stays, read-within, read-has}
 use Rattle.hfs_sparse.proofs.held.Held.read_in.Goals as goal
@@ -58,3 +59,29 @@ returns-clause-within g c =
     read-within c.args.first c.args.count c.read_behind.new.self.count c.read_behind.new.self.bytes.items (held_blocks c.args.self.now)
     (held_blocks c.read_behind.new.self) (held_blocks c.put_in_all-put_in.new.self) (held_blocks c.trim.new.self) c.in_ok-read_behind.ensures.same
     c.in-Ok.ensures.only c.trim.ensures.same c.in_ok-read_behind.ensures.there
+
+pub returns-in_err-read_behind-clause-sees : goal.returns-in_err-read_behind-clause-sees
+returns-in_err-read_behind-clause-sees g c = record {
+  held = c.in_err-read_behind.ensures.narrows;
+  stays = λ image h. same-stays (held_blocks c.args.self.now) (held_blocks c.read_behind.new.self) c.in_err-read_behind.ensures.same (Some image);
+}
+
+pub returns-in_default-clause-sees : goal.returns-in_default-clause-sees
+returns-in_default-clause-sees g c =
+    record {
+      held = c.in_ok-read_behind.ensures.narrows;
+      stays = λ image h.
+          read-stays c.args.first c.args.count c.read_behind.new.self.count c.read_behind.new.self.bytes.items (held_blocks c.args.self.now)
+          (held_blocks c.read_behind.new.self) (held_blocks c.put_in_all-put_in.new.self) (held_blocks c.trim.new.self) c.in_ok-read_behind.ensures.same
+          c.in_default.ensures.only c.trim.ensures.same (Some image) (c.in_ok-read_behind.ensures.seen image h);
+    }
+
+pub returns-clause-sees : goal.returns-clause-sees
+returns-clause-sees g c =
+    record {
+      held = c.in_ok-read_behind.ensures.narrows;
+      stays = λ image h.
+          read-stays c.args.first c.args.count c.read_behind.new.self.count c.read_behind.new.self.bytes.items (held_blocks c.args.self.now)
+          (held_blocks c.read_behind.new.self) (held_blocks c.put_in_all-put_in.new.self) (held_blocks c.trim.new.self) c.in_ok-read_behind.ensures.same
+          c.in-Ok.ensures.only c.trim.ensures.same (Some image) (c.in_ok-read_behind.ensures.seen image h);
+    }

@@ -1,0 +1,43 @@
+-- What was opened is of each image that has the bytes which were read.
+use Rattle.std.proofs.Common.{◌≡◌, ℕ, List, [], Option, Some, subst}
+use Rattle.hfs_blocks.specs.Layers.{Numbered}
+use Rattle.hfs_sparse.specs.Sparse.{StaysOf}
+use Rattle.hfs_sparse.specs.Seen.{EachKnown, IsSeen, SeesMore}
+use Rattle.std.specs.Prelude.{IfOk, IfErr, ◌/◌, None, Result, Ok, Err}
+use Rattle.hfs_check.specs.Faults.{length_fault}
+use Rattle.hfs_check.proofs.LawTypes.{NoBlocksFault}
+use Rattle.hfs_needed.specs.declared.opening.NeededFault.{NeededFault}
+use Rattle.hfs_needed.specs.declared.opening.NeededVolume.{NeededVolume}
+use Rattle.hfs_needed.specs.Opened.{AreRefusedFor, IsOpenedOf, IsRefusedFor, IsSoundOf}
+use Rattle.hfs_needed.proofs.Gathered.{of-start}
+use Rattle.hfs_needed.proofs.GatheredLaws.{GatheredIsEnough}
+use Rattle.hfs_needed.proofs.Refused.{err-so, opened-sound}
+
+-- where nothing was read before, all that was read is
+pub seen-start : {first last : List ℕ → Type 0} {start read : Numbered} → start ≡ [] → SeesMore first last start read → IsSeen last read
+seen-start {read = read} e sees = λ image h. of-start (Some image) read (subst (λ (s : Numbered). StaysOf (Some image) s read) e (sees.stays image h))
+
+-- so it is opened for each
+pub opened-each : {Holds : List ℕ → Type 0} (known : Option (List ℕ)) (total : ℕ) (volume : NeededVolume) → IsOpenedOf known total volume → IsSeen Holds volume.read
+    → EachKnown Holds (λ some. IsOpenedOf some total volume)
+opened-each known total volume opened seen = λ image h. record {
+  whole = opened.whole;
+  needed = opened.needed;
+  of = seen image h;
+  sound = opened.sound;
+  directory = opened.directory;
+  trees = opened.trees;
+}
+
+-- an image that is refused by its blocks is refused by its length and its blocks
+pub errs-each : {A : Type 0} (Holds : List ℕ → Type 0) (len : ℕ) → length_fault len ≡ None → (r : Result A NeededFault)
+    → IfErr r (λ f. EachKnown Holds (λ known. AreRefusedFor known (len / 512) f)) → IfErr r (λ f. EachKnown Holds (λ known. IsRefusedFor known len f))
+errs-each {A = A} Holds len right (Ok a) h = tt
+errs-each {A = A} Holds len right (Err f) h = λ image holds. err-so {A = A} (Some image) len right (Err f) (h image holds)
+
+-- and one that is opened has no fault
+pub sound-each : NoBlocksFault → GatheredIsEnough → (Holds : List ℕ → Type 0) (len : ℕ) → length_fault len ≡ None → (known : Option (List ℕ)) (r : Result NeededVolume NeededFault)
+    → IfOk r (IsOpenedOf known (len / 512)) → IfOk r (λ volume. IsSeen Holds volume.read) → IfOk r (λ volume. EachKnown Holds (λ some. IsSoundOf some len))
+sound-each law enough Holds len right known (Err f) opened seen = tt
+sound-each law enough Holds len right known (Ok volume) opened seen = λ image holds.
+    opened-sound law enough (Some image) len right volume (opened-each known (len / 512) volume opened seen image holds)
