@@ -1,3 +1,12 @@
 mod CutLemmas
 mod AddLemmas
-mod RecordLemmas
+pub mod RecordLemmas
+mod TreeEdits
+mod OwnRecords
+mod Threes
+mod Chains
+mod NeedOne
+mod GrowLemmas
+mod LastRecord
+mod AddedRecords
+mod ShortLemmas
