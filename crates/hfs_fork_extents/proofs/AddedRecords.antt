@@ -10,7 +10,7 @@ use Rattle.hfs_extents_edits.specs.Need.{HasNodesFor}
 use Rattle.hfs_fork_extents.specs.Threes.{AreThrees}
 use Rattle.hfs_fork_extents.specs.Whole.{HasExtents, EditsFork, HasRecordBehind, AreBefore}
 use Rattle.hfs_fork_extents.proofs.NeedOne.{has-one, free-small}
-use Rattle.hfs_fork_extents.proofs.Threes.{three-at, total-more, total-front, take-more}
+use Rattle.hfs_fork_extents.proofs.ThreeLemmas.{three-at, total-more, total-front, take-more}
 use Rattle.hfs_fork_extents.proofs.LastRecord.{all-before, comes-behind}
 use Rattle.hfs_fork_extents.proofs.TreeEdits.{edits-then}
 

@@ -19,7 +19,7 @@ use Rattle.hfs_fork_extents.specs.Threes.{AreThrees}
 use Rattle.hfs_fork_extents.specs.Whole.{HasExtents}
 use Rattle.hfs_fork_extents.proofs.RecordLemmas.{run_on-of_fork}
 use Rattle.hfs_fork_extents.proofs.OwnRecords.{both-true}
-use Rattle.hfs_fork_extents.proofs.Threes.{total-append, take-more}
+use Rattle.hfs_fork_extents.proofs.ThreeLemmas.{total-append, take-more}
 
 -- the blocks of a record, and the extents of several
 abbrev pub blocks_in : Record → ℕ

@@ -8,7 +8,7 @@ use Rattle.hfs_space.specs.Extents.{block_total, extent_blocks}
 use Rattle.hfs_fork_extents.specs.Lengthened.{none, used_places, last_used, joins, longer, with_place, with_piece, used_with, lengthened}
 use Rattle.hfs_fork_extents.specs.Threes.{AreThrees}
 use Rattle.hfs_fork_extents.proofs.AddLemmas.{AreUsedTo, HaveBlocks, used_places-used, piece-used, rest-blocks, lengthened-blocks}
-use Rattle.hfs_fork_extents.proofs.Threes.{length-blocks, threes-set_behind, threes-put_behind, total-append}
+use Rattle.hfs_fork_extents.proofs.ThreeLemmas.{length-blocks, threes-set_behind, threes-put_behind, total-append}
 
 -- ---- one piece
 

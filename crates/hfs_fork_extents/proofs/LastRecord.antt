@@ -20,7 +20,7 @@ use Rattle.hfs_space.proofs.RunSteps.{Record}
 use Rattle.hfs_fork_extents.specs.Records.{of_fork}
 use Rattle.hfs_fork_extents.specs.Whole.{HasExtents, LastMayChange, HasRecordBehind, HasRecordSet, IsRecordAt, AreBefore, key_at}
 use Rattle.hfs_fork_extents.proofs.OwnRecords.{set-last, last-there}
-use Rattle.hfs_fork_extents.proofs.Threes.{total-append, take-more}
+use Rattle.hfs_fork_extents.proofs.ThreeLemmas.{total-append, take-more}
 use Rattle.hfs_fork_extents.proofs.Chains.{blocks_in, extents_of, IsLink, IsChain, ends, IsForkChain, has-chain, chain-has, own-each, ends-total, chain-left, chain-right, chain-append, chain-before, three-of, chain-length, HasLast, last-of}
 
 pub drop-at : {X : Type 0} → (p q : List X) (n : ℕ) → length p ≡ n → drop n (p ++ q) ≡ q

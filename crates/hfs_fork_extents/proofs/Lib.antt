@@ -3,10 +3,12 @@ mod AddLemmas
 pub mod RecordLemmas
 mod TreeEdits
 mod OwnRecords
-mod Threes
+mod ThreeLemmas
 mod Chains
 mod NeedOne
 mod GrowLemmas
 mod LastRecord
 mod AddedRecords
+mod WholeLemmas
+mod RoomLemmas
 mod ShortLemmas

@@ -15,7 +15,7 @@ use Rattle.hfs_fork_extents.specs.Shortening.{IsCutTo, HasShortened}
 use Rattle.hfs_fork_extents.specs.declared.shortening.ShortFork.{ShortFork}
 use Rattle.hfs_fork_extents.proofs.AddLemmas.{blocks-append}
 use Rattle.hfs_fork_extents.proofs.CutLemmas.{cut-whole, gt-all, blocks-cut}
-use Rattle.hfs_fork_extents.proofs.Threes.{total-cons, total-front, none-blocks, drop-more, HasThreeAt, three-at}
+use Rattle.hfs_fork_extents.proofs.ThreeLemmas.{total-cons, total-front, none-blocks, drop-more, HasThreeAt, three-at}
 use Rattle.hfs_fork_extents.proofs.Chains.{extents_of, IsForkChain, has-chain, chain-has, ends, take-chain, chain-threes, filter-chain, prefix, prefix-total}
 use Rattle.hfs_fork_extents.proofs.LastRecord.{own, count-records, drop-at}
 

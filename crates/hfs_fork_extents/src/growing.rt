@@ -36,7 +36,9 @@ fn nodes_wanted<N: Nodes>(nodes: &N, coming: u32) -> Option<NodesWanted>
         (IsWantOfNodes coming (N.nodes nodes.now)) }
 {
     let header = read_header(nodes);
-    if u64::from(header.free_nodes) < extents_need(coming, header.depth, header.records) {
+    let need = extents_need(coming, header.depth, header.records);
+    let free = u64::from(header.free_nodes);
+    if free < need {
         return Some(NodesWanted {
             free: header.free_nodes,
             depth: header.depth,

@@ -1,7 +1,7 @@
 -- One more extent.
 use Rattle.std.proofs.Common.{arith}
 use Rattle.hfs_fork_extents.specs.Lengthened.{none}
-use Rattle.hfs_fork_extents.proofs.Threes.{part-more, part-most}
+use Rattle.hfs_fork_extents.proofs.ThreeLemmas.{part-more, part-most}
 use Rattle.hfs_fork_extents.proofs.threes.blocks_at.Goals as goal
 
 pub overflow_add-total : goal.overflow_add-total

@@ -1,5 +1,5 @@
 -- The three extents are read back.
-use Rattle.hfs_fork_extents.proofs.Threes.{body-back}
+use Rattle.hfs_fork_extents.proofs.ThreeLemmas.{body-back}
 use Rattle.hfs_fork_extents.proofs.threes.record_body.Goals as goal
 
 pub returns-clause-back : goal.returns-clause-back

@@ -1,6 +1,6 @@
 -- The threes so far begin before the block.
 use Rattle.std.proofs.Common.{length, ◌-◌}
-use Rattle.hfs_fork_extents.proofs.Threes.{IsLeftTo}
+use Rattle.hfs_fork_extents.proofs.ThreeLemmas.{IsLeftTo}
 use Rattle.hfs_fork_extents.proofs.threes.threes_left.Given as goal
 
 abbrev pub invariant-loop-left : goal.invariant-loop-left
