@@ -1,6 +1,6 @@
 -- A fork's records as a chain: each begins where the one before it ends, and has a block.
 use Rattle.std.proofs.Common.{◌≡◌, ℕ, zero, suc, ◌+◌, ◌-◌, ◌*◌, ◌<◌, ◌≤◌, inl, inr, Bool, true, false, cond, ◌&&◌, eqb, leb, ltb, List, [], ◌∷◌, ◌++◌, length, take, drop, refl, sym, ap, ◌∙◌, subst, arith}
-use Rattle.std.specs.Prelude.{filter}
+use Rattle.std.specs.Prelude.{filter, ⊤}
 use Rattle.std.specs.List.{flat_map}
 use Rattle.std.proofs.lemmas.Bool.{eqb-true, eq-eqb, lt-ltb, ltb-true, le-leb, leb-true, cases_Bool, cases_lt, and_parts, true≢false}
 use Rattle.std.proofs.lemmas.List.{append-nil, append_assoc, length-append, take-append-drop, take_all}
@@ -159,7 +159,7 @@ chain-threes block (r ∷ rs) chain =
 pub chain-length : (block : ℕ) (rs : Overflow) → IsChain block rs → length (extents_of rs) ≡ 3 * length rs
 chain-length block [] chain = refl
 chain-length block (r ∷ rs) chain =
-    let three = ap (λ (es : List Extent). length (es ++ extents_of rs)) (three-of r chain.0.some) in
+    let three : length (record_extents r.1 ++ extents_of rs) ≡ suc (suc (suc (length (extents_of rs)))) = ap (λ (es : List Extent). length (es ++ extents_of rs)) (three-of r chain.0.some) in
     let rest = chain-length (block + blocks_in r) rs chain.1 in
     omega (arith, three, rest)
 

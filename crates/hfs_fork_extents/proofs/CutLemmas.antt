@@ -4,7 +4,7 @@ use Rattle.std.specs.Prelude.{min}
 use Rattle.std.specs.List.{range_with_len}
 use Rattle.std.proofs.Math.Seq.{take-append-add, drop-append-add, drop-append_seam}
 use Rattle.std.proofs.lemmas.Bool.{cases_lt, cases_Bool, le-leb, leb-true, ne_eqb}
-use Rattle.std.proofs.lemmas.List.{append-nil, append_assoc, take_more_set, take-append-le, drop-append-le, take_all, drop_all, drop_more}
+use Rattle.std.proofs.lemmas.List.{append-nil, append_assoc, take_more_set, drop-set-lt, take-append-le, drop-append-le, take_all, drop_all, drop_more}
 use Rattle.std.proofs.lemmas.List.Elements.{All-head, All-tail}
 use Rattle.std.proofs.lemmas.List.FromFn.{length-range_with_len}
 use Rattle.hfs_fields.specs.declared.extent.Extent.{Extent}
@@ -141,7 +141,7 @@ cut-three (a ∷ b ∷ c ∷ d ∷ es) n rest last x y z long r l p q s = absurd
 pub cut-step : (es : List Extent) (i stay : ℕ) (d y : Extent) (next : ℕ) → i < length es → y ≡ cut_extent stay (get_or es i d) → next ≡ stay - (get_or es i d).count
     → take (i + 1) (set es i y) ++ cut next (drop (i + 1) (set es i y)) ≡ take i es ++ cut stay (drop i es)
 cut-step es i stay d y next lt is less =
-    (λ t. take_more_set es i y lt t ++ cut (less t) (drop-set es i y lt t))
+    (λ t. take_more_set es i y lt t ++ cut (less t) (drop-set-lt (i + 1) es i y (omega arith) t))
     ∙ append_assoc (take i es) (y ∷ []) (cut (stay - (get_or es i d).count) (drop (i + 1) es))
     ∙ ap (λ (x : Extent). take i es ++ x ∷ cut (stay - (get_or es i d).count) (drop (i + 1) es)) is
     ∙ ap (λ (l : List Extent). take i es ++ cut stay l) (sym (drop_more es i d lt))

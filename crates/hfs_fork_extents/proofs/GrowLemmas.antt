@@ -89,7 +89,7 @@ used-behind es k some = elim (cases_lt k (used_places es)) [
   | inr past ↦
       absurd
       (let to = used_places-used es in
-      let empty = ap (λ (l : List ℕ). length l) (rest-blocks es k (λ i d ge lt. to.rest i d (omega (arith, ge, past)) lt)) in
+      let empty : length (extent_blocks (drop k es)) ≡ 0 = ap (λ (l : List ℕ). length l) (rest-blocks es k (λ i d ge lt. to.rest i d (omega (arith, ge, past)) lt)) in
       let count = length-blocks (drop k es) in
       omega (arith, some, empty, count))
 ]

@@ -24,7 +24,7 @@ use Rattle.hfs_fork_extents.proofs.ThreeLemmas.{total-append, take-more}
 use Rattle.hfs_fork_extents.proofs.Chains.{blocks_in, extents_of, IsLink, IsChain, ends, IsForkChain, has-chain, chain-has, own-each, ends-total, chain-left, chain-right, chain-append, chain-before, three-of, chain-length, HasLast, last-of}
 
 pub drop-at : {X : Type 0} → (p q : List X) (n : ℕ) → length p ≡ n → drop n (p ++ q) ≡ q
-drop-at p q n long = ap (λ (k : ℕ). drop k (p ++ q)) (sym long) ∙ by p
+drop-at {X = X} p q n long = ap (λ (k : ℕ). drop k (p ++ q)) (sym long) ∙ by p
   where
     by : (p : List X) → drop (length p) (p ++ q) ≡ q
     by [] = refl
@@ -41,7 +41,7 @@ one-more : (others : Overflow) (r : Record) → extents_of (others ++ r ∷ []) 
 one-more others r = flat_map-append (λ (x : Record). record_extents x.1) others (r ∷ []) ∙ ap (λ (l : List Extent). extents_of others ++ l) (append-nil (record_extents r.1))
 
 module _ (file fork : ℕ) where
-  abbrev own : Store → Overflow
+  abbrev pub own : Store → Overflow
   own nodes = of_fork file fork (overflow_of nodes)
 
   -- how many records there are
@@ -78,7 +78,7 @@ module _ (file fork : ℕ) where
       let is : all ≡ front ++ record_extents l.last.1 =
       sym h.extents ∙ ap (λ (rs : Overflow). first ++ extents_of rs) l.is ∙ ap (λ (es : List Extent). first ++ es) (one-more l.others l.last) ∙ sym (append_assoc first (extents_of l.others) (record_extents l.last.1)) in
       let parts = length-append front (record_extents l.last.1) in
-      let tail = ap (λ (es : List Extent). length es) (three-of l.last link.0.some) in
+      let tail : length (record_extents l.last.1) ≡ 3 = ap (λ (es : List Extent). length es) (three-of l.last link.0.some) in
       let whole = ap (λ (es : List Extent). length es) is in
       let long : length front ≡ length all - 3 = omega (arith, parts, tail, whole) in
       record {

@@ -65,6 +65,6 @@ pub free-small : (nodes : Store) → 512 * (header_in nodes).nodes < 4294967296 
 unfolding free_nodes marks
 free-small nodes small =
     let most = count_by-le-length not (marks nodes) in
-    let long = length-map (bit_of (map_bytes nodes)) (range_with_len 0 (header_in nodes).nodes) in
+    let long = length-map (range_with_len 0 (header_in nodes).nodes) (bit_of (map_bytes nodes)) in
     let count = length-range_with_len 0 (header_in nodes).nodes in
     omega (arith, most, long, count, small)

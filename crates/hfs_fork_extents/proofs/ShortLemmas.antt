@@ -23,11 +23,11 @@ use Rattle.hfs_fork_extents.proofs.LastRecord.{own, count-records, drop-at}
 
 part-count : (n : ℕ) (e : Extent) → n < e.count → (cut_extent n e).count ≡ n
 part-count n e lt =
-    ap (λ (b : Bool). (cond b e (cond (eqb n 0) (record { first = 0; count = 0 }) (record { first = e.first; count = n }))).count) (gt-all n e lt) ∙ by n
+    ap (λ (b : Bool). let x : Extent = cond b e (cond (eqb n 0) (record { first = 0; count = 0 }) (record { first = e.first; count = n })) in x.count) (gt-all n e lt) ∙ by n
   where
-    by : (n : ℕ) → (cond (eqb n 0) (record { first = 0; count = 0 }) (record { first = e.first; count = n })).count ≡ n
+    by : (n : ℕ) → (let x : Extent = cond (eqb n 0) (record { first = 0; count = 0 }) (record { first = e.first; count = n }) in x.count) ≡ n
     by zero = refl
-    by (suc n) = ap (λ (b : Bool). (cond b (record { first = 0; count = 0 }) (record { first = e.first; count = suc n })).count) (ne_eqb (suc n) 0 (λ same. omega (arith, same)))
+    by (suc n) = ap (λ (b : Bool). let x : Extent = cond b (record { first = 0; count = 0 }) (record { first = e.first; count = suc n }) in x.count) (ne_eqb (suc n) 0 (λ same. omega (arith, same)))
 
 pub take-cut : (k n : ℕ) (es : List Extent) → take k (cut n es) ≡ cut n (take k es)
 take-cut zero n es = refl
@@ -76,15 +76,16 @@ cut-some n (e ∷ es) some more =
           ])
     ]
 
+threes-past : (k : ℕ) (es : List Extent) → ((l : List Extent) → AreThrees l → AreThrees (drop k l)) → AreThrees es → AreThrees (drop (suc (suc (suc k))) es)
+threes-past k [] next h = tt
+threes-past k (a ∷ []) next h = absurd h
+threes-past k (a ∷ b ∷ []) next h = absurd h
+threes-past k (a ∷ b ∷ c ∷ es) next h = next es h.1
+
 threes-drop : (i : ℕ) (es : List Extent) → AreThrees es → AreThrees (drop (3 * i) es)
 threes-drop zero es h = h
-threes-drop (suc i) es h = subst (λ (k : ℕ). AreThrees (drop k es)) (let e : suc (suc (suc (3 * i))) ≡ 3 * suc i = omega arith in e) (by es h)
-  where
-    by : (es : List Extent) → AreThrees es → AreThrees (drop (suc (suc (suc (3 * i)))) es)
-    by [] h = tt
-    by (a ∷ []) h = absurd h
-    by (a ∷ b ∷ []) h = absurd h
-    by (a ∷ b ∷ c ∷ es) h = threes-drop i es h.1
+threes-drop (suc i) es h =
+    subst (λ (k : ℕ). AreThrees (drop k es)) (let e : suc (suc (suc (3 * i))) ≡ 3 * suc i = omega arith in e) (threes-past (3 * i) es (λ l three. threes-drop i l three) h)
 
 -- ---- the records that are left
 

@@ -7,6 +7,8 @@ use Rattle.std.proofs.lemmas.List.FromFn.{length-range_with_len}
 use Rattle.std.specs.List.{range_with_len}
 use Rattle.hfs_fields.specs.declared.extent.Extent.{Extent}
 use Rattle.hfs_fields.specs.Mdb.{extents_at}
+use Rattle.hfs_fields.specs.RecordForms.{extents_bytes}
+use Rattle.hfs_fields.proofs.RecordFormLemmas.{length-extents_bytes}
 use Rattle.hfs_space.specs.Extents.{block_total, extent_blocks, record_extents}
 use Rattle.hfs_fork_extents.specs.Lengthened.{none}
 use Rattle.hfs_fork_extents.specs.Threes.{AreThrees, AreLeft}
@@ -45,8 +47,12 @@ none-blocks es none = by (extent_blocks es) (length-blocks es ∙ none)
 -- ---- three of them
 
 -- a record's bytes that are read as these extents hold them
-pub body-back : (bytes : List ℕ) (es : List Extent) → length bytes ≡ 12 → extents_at 0 bytes ≡ es → record_extents bytes ≡ es
-body-back bytes es long back = ap (λ (b : Bool). cond b (extents_at 0 bytes) []) (le-leb 12 (length bytes) (omega (arith, long))) ∙ back
+pub body-back : (bytes rest : List ℕ) (es : List Extent) → length es ≡ 3 → bytes ≡ extents_bytes es ++ rest → extents_at 0 bytes ≡ es → record_extents bytes ≡ es
+body-back bytes rest es three is back =
+    let long = length-extents_bytes es three in
+    let parts = length-append (extents_bytes es) rest in
+    let whole = ap (λ (l : List ℕ). length l) is in
+    ap (λ (b : Bool). cond b (extents_at 0 bytes) []) (le-leb 12 (length bytes) (omega (arith, long, parts, whole))) ∙ back
 
 -- those at one place
 pub three-there : (es : List Extent) (at : ℕ) (d : Extent) → at + 3 ≤ length es → get_or es at d ∷ get_or es (at + 1) d ∷ get_or es (at + 2) d ∷ [] ≡ take 3 (drop at es)
@@ -56,23 +62,31 @@ three-there es at d within =
     ∙ ap (λ (k : ℕ). get_or es at d ∷ get_or es (at + 1) d ∷ take 1 (drop k es)) (let e : at + 1 + 1 ≡ at + 2 = omega arith in e)
     ∙ ap (λ (l : List Extent). get_or es at d ∷ get_or es (at + 1) d ∷ take 1 l) (drop_more es (at + 2) d (omega (arith, within))))
 
-drop-past : (es : List Extent) (k m : ℕ) → drop m (drop k es) ≡ drop (m + k) es
-drop-past es zero m = refl
-drop-past [] (suc k) zero = refl
-drop-past [] (suc k) (suc m) = refl
-drop-past (e ∷ es) (suc k) m = drop-past es k m
+drop-nil : (n : ℕ) → drop {A = Extent} n [] ≡ []
+drop-nil zero = refl
+drop-nil (suc n) = refl
+
+take-nil : (n : ℕ) → take {A = Extent} n [] ≡ []
+take-nil zero = refl
+take-nil (suc n) = refl
+
+drop-past : (es : List Extent) (k m n : ℕ) → n ≡ k + m → drop m (drop k es) ≡ drop n es
+drop-past es zero m n e = ap (λ (j : ℕ). drop j es) (let s : m ≡ n = omega (arith, e) in s)
+drop-past [] (suc k) m n e = drop-nil m ∙ sym (drop-nil n)
+drop-past (x ∷ es) (suc k) m zero e = absurd (omega (arith, e))
+drop-past (x ∷ es) (suc k) m (suc n) e = drop-past es k m n (omega (arith, e))
 
 pub drop-more : (es : List Extent) (k m : ℕ) → drop m (drop k es) ≡ drop (k + m) es
-drop-more es k m = drop-past es k m ∙ ap (λ (n : ℕ). drop n es) (let e : m + k ≡ k + m = omega arith in e)
+drop-more es k m = drop-past es k m (k + m) refl
 
-take-past : (es : List Extent) (k m : ℕ) → take (m + k) es ≡ take k es ++ take m (drop k es)
-take-past es zero m = refl
-take-past [] (suc k) zero = refl
-take-past [] (suc k) (suc m) = refl
-take-past (e ∷ es) (suc k) m = ap (λ (l : List Extent). e ∷ l) (take-past es k m)
+take-past : (es : List Extent) (k m n : ℕ) → n ≡ k + m → take n es ≡ take k es ++ take m (drop k es)
+take-past es zero m n e = ap (λ (j : ℕ). take j es) (let s : n ≡ m = omega (arith, e) in s)
+take-past [] (suc k) m n e = take-nil n ∙ sym (take-nil m)
+take-past (x ∷ es) (suc k) m zero e = absurd (omega (arith, e))
+take-past (x ∷ es) (suc k) m (suc n) e = ap (λ (l : List Extent). x ∷ l) (take-past es k m n (omega (arith, e)))
 
 pub take-more : (es : List Extent) (k m : ℕ) → take (k + m) es ≡ take k es ++ take m (drop k es)
-take-more es k m = ap (λ (n : ℕ). take n es) (let e : k + m ≡ m + k = omega arith in e) ∙ take-past es k m
+take-more es k m = take-past es k m (k + m) refl
 
 pub total-more : (es : List Extent) (k m : ℕ) → block_total (take (k + m) es) ≡ block_total (take k es) + block_total (take m (drop k es))
 total-more es k m = ap block_total (take-more es k m) ∙ total-append (take k es) (take m (drop k es))
@@ -137,7 +151,7 @@ total-three : (a b c : Extent) → block_total (a ∷ b ∷ c ∷ []) ≡ a.coun
 total-three a b c =
     let one = total-cons a (b ∷ c ∷ []) in
     let two = total-cons b (c ∷ []) in
-    let three = total-cons c [] in
+    let three : block_total (c ∷ []) ≡ c.count = (let last = total-cons c [] in let empty : block_total [] ≡ 0 = refl in omega (arith, last, empty)) in
     omega (arith, one, two, three)
 
 pub threes-set : (es : List Extent) (i : ℕ) (y : Extent) → AreThrees es → 0 < y.count → AreThrees (set es i y)

@@ -109,3 +109,30 @@ has-grown file fork first now pieces old last whole some edits has enough =
       blocks = ap (λ (es : List Extent). extent_blocks es) has.extents ∙ lengthened-blocks pieces all (used_places all) (used_places-used all) some;
       enough = enough;
     }
+
+-- ---- the same, by what the code has of them
+
+module _ (file fork : ℕ) (first pieces all es : List Extent) (places : ℕ) (old : Store) (three : length first ≡ 3) (whole : HasExtents file fork first all old) (some : HaveBlocks pieces) (room : HasRoomFor all pieces)
+    (is : es ≡ grown all pieces) (so : places ≡ length all) where
+  pub es-long : places ≤ length es
+  es-long = (let long = ap (λ (l : List Extent). length l) is in let within = grown-within file fork first pieces all old three whole some room in omega (arith, long, within, so))
+
+  pub es-some : 3 ≤ places
+  es-some = (let least = grown-some file fork first pieces all old three whole some room in omega (arith, least, so))
+
+  pub es-few : block_total es ≤ 65535
+  es-few = (let same = ap block_total is in let few = grown-few file fork first pieces all old three whole some room in omega (arith, same, few))
+
+  pub es-threes : AreThrees (drop places es)
+  es-threes = subst (λ (l : List Extent). AreThrees l) (sym (λ i. drop (so i) (is i))) (grown-rest file fork first pieces all old three whole some room)
+
+  pub es-last : LastMayChange file fork first es places old
+  es-last =
+      subst (λ (l : List Extent). LastMayChange file fork first l places old) (sym is)
+      (subst (λ (n : ℕ). LastMayChange file fork first (grown all pieces) n old) (sym so) (may-grow file fork first pieces all old three whole some room))
+
+  pub es-coming : (length es - places) / 3 ≡ records_coming all pieces
+  es-coming = λ i. (length (is i) - so i) / 3
+
+  pub es-small : (length es - places) / 3 < 4294967296
+  es-small = (let same = es-coming in let small = coming-small file fork first pieces all old three whole some room in omega (arith, same, small))
