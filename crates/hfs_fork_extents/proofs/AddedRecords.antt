@@ -1,11 +1,10 @@
 -- Records that come behind one another.
-use Rattle.std.proofs.Common.{◌≡◌, ℕ, suc, ◌+◌, ◌-◌, ◌*◌, ◌/◌, ◌<◌, ◌≤◌, List, length, take, drop, refl, sym, ap, ◌∙◌, subst, arith}
+use Rattle.std.proofs.Common.{◌≡◌, ℕ, suc, ◌+◌, ◌*◌, ◌/◌, ◌<◌, ◌≤◌, List, length, take, drop, sym, subst, arith}
 use Rattle.std.proofs.lemmas.List.{length-drop, take_all}
 use Rattle.hfs_fields.specs.declared.extent.Extent.{Extent}
 use Rattle.hfs_btree.specs.Tree.{Store}
 use Rattle.hfs_btree.specs.Header.{header_in}
 use Rattle.hfs_space.specs.Extents.{block_total}
-use Rattle.hfs_space.specs.TreeKeys.{ext_keys, IsExtentsTree}
 use Rattle.hfs_extents_edits.specs.Need.{HasNodesFor}
 use Rattle.hfs_fork_extents.specs.Threes.{AreThrees}
 use Rattle.hfs_fork_extents.specs.Whole.{HasExtents, EditsFork, HasRecordBehind, AreBefore}

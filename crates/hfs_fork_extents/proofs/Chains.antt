@@ -1,14 +1,11 @@
 -- A fork's records as a chain: each begins where the one before it ends, and has a block.
-use Rattle.std.proofs.Common.{◌≡◌, ℕ, zero, suc, ◌+◌, ◌-◌, ◌*◌, ◌<◌, ◌≤◌, inl, inr, Bool, true, false, cond, ◌&&◌, eqb, leb, ltb, List, [], ◌∷◌, ◌++◌, length, take, drop, refl, sym, ap, ◌∙◌, subst, arith}
+use Rattle.std.proofs.Common.{◌≡◌, ℕ, zero, suc, ◌+◌, ◌*◌, ◌<◌, ◌≤◌, inl, inr, Bool, true, false, cond, ◌&&◌, eqb, leb, ltb, List, [], ◌∷◌, ◌++◌, length, take, refl, sym, ap, ◌∙◌, subst, arith}
 use Rattle.std.specs.Prelude.{filter, ⊤}
 use Rattle.std.specs.List.{flat_map}
-use Rattle.std.proofs.lemmas.Bool.{eqb-true, eq-eqb, lt-ltb, ltb-true, le-leb, leb-true, cases_Bool, cases_lt, and_parts, true≢false}
-use Rattle.std.proofs.lemmas.List.{append-nil, append_assoc, length-append, take-append-drop, take_all}
-use Rattle.std.proofs.lemmas.List.Concat.{flat_map-append}
+use Rattle.std.proofs.lemmas.Bool.{eqb-true, eq-eqb, lt-ltb, ltb-true, cases_Bool, and_parts}
 use Rattle.hfs_fields.specs.Mdb.{extents_at}
 use Rattle.hfs_fields.specs.declared.extent.Extent.{Extent}
 use Rattle.hfs_scans.specs.Each.{Each}
-use Rattle.hfs_scans.proofs.ElementLemmas.{each-mono}
 use Rattle.hfs_btree.specs.Tree.{Store}
 use Rattle.hfs_space.specs.Extents.{Overflow, block_total, record_extents, goes_on, run_on, fork_extents}
 use Rattle.hfs_space.specs.Runs.{is_of_fork}
@@ -19,7 +16,7 @@ use Rattle.hfs_fork_extents.specs.Threes.{AreThrees}
 use Rattle.hfs_fork_extents.specs.Whole.{HasExtents}
 use Rattle.hfs_fork_extents.proofs.RecordLemmas.{run_on-of_fork}
 use Rattle.hfs_fork_extents.proofs.OwnRecords.{both-true}
-use Rattle.hfs_fork_extents.proofs.ThreeLemmas.{total-append, take-more}
+use Rattle.hfs_fork_extents.proofs.ThreeLemmas.{total-append}
 
 -- the blocks of a record, and the extents of several
 abbrev pub blocks_in : Record → ℕ

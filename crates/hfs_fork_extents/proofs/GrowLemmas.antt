@@ -1,5 +1,5 @@
 -- The places of a fork's extents to which pieces come.
-use Rattle.std.proofs.Common.{◌≡◌, ℕ, zero, suc, ◌+◌, ◌-◌, ◌<◌, ◌≤◌, inl, inr, Bool, true, false, cond, ltb, List, [], ◌∷◌, ◌++◌, length, take, drop, set, refl, sym, ap, ◌∙◌, subst, arith}
+use Rattle.std.proofs.Common.{◌≡◌, ℕ, ◌+◌, ◌-◌, ◌<◌, ◌≤◌, inl, inr, Bool, true, false, cond, ltb, List, [], ◌∷◌, ◌++◌, length, take, drop, set, refl, ap, ◌∙◌, arith}
 use Rattle.std.proofs.lemmas.Bool.{cases_lt}
 use Rattle.std.proofs.lemmas.List.{length-append, length-set, take-set-le, take-append-le}
 use Rattle.std.proofs.lemmas.List.Elements.{All-head, All-tail}
@@ -8,7 +8,7 @@ use Rattle.hfs_space.specs.Extents.{block_total, extent_blocks}
 use Rattle.hfs_fork_extents.specs.Lengthened.{none, used_places, last_used, joins, longer, with_place, with_piece, used_with, lengthened}
 use Rattle.hfs_fork_extents.specs.Threes.{AreThrees}
 use Rattle.hfs_fork_extents.proofs.AddLemmas.{AreUsedTo, HaveBlocks, used_places-used, piece-used, rest-blocks, lengthened-blocks}
-use Rattle.hfs_fork_extents.proofs.ThreeLemmas.{length-blocks, threes-set_behind, threes-put_behind, total-append}
+use Rattle.hfs_fork_extents.proofs.ThreeLemmas.{length-blocks, threes-set_behind, threes-put_behind}
 
 -- ---- one piece
 

@@ -1,11 +1,9 @@
 -- The last record of a fork, and one that comes behind it.
-use Rattle.std.proofs.Common.{◌≡◌, ℕ, zero, suc, ◌+◌, ◌-◌, ◌*◌, ◌<◌, ◌≤◌, Bool, true, eqb, List, [], ◌∷◌, ◌++◌, length, take, drop, refl, sym, ap, ◌∙◌, subst, arith}
+use Rattle.std.proofs.Common.{◌≡◌, ℕ, ◌+◌, ◌-◌, ◌*◌, ◌<◌, true, eqb, List, [], ◌∷◌, ◌++◌, length, take, drop, refl, sym, ap, ◌∙◌, subst, arith}
 use Rattle.std.proofs.lemmas.Bool.{eqb-true, and_parts}
-use Rattle.std.proofs.lemmas.List.{append-nil, append_assoc, length-append, take_at, take-take, length-take-le}
+use Rattle.std.proofs.lemmas.List.{append-nil, append_assoc, length-append, take_at, take-take}
 use Rattle.std.proofs.lemmas.List.Concat.{flat_map-append}
-use Rattle.hfs_fields.specs.Mdb.{extents_at}
 use Rattle.hfs_fields.specs.declared.extent.Extent.{Extent}
-use Rattle.hfs_fields.specs.declared.key.ExtKey.{ExtKey}
 use Rattle.hfs_fields.specs.Keys.{ext_cmp}
 use Rattle.hfs_scans.specs.Each.{Each}
 use Rattle.hfs_scans.proofs.ElementLemmas.{each-left, each-right}
@@ -21,7 +19,7 @@ use Rattle.hfs_fork_extents.specs.Records.{of_fork}
 use Rattle.hfs_fork_extents.specs.Whole.{HasExtents, LastMayChange, HasRecordBehind, HasRecordSet, IsRecordAt, AreBefore, key_at}
 use Rattle.hfs_fork_extents.proofs.OwnRecords.{set-last, last-there}
 use Rattle.hfs_fork_extents.proofs.ThreeLemmas.{total-append, take-more}
-use Rattle.hfs_fork_extents.proofs.Chains.{blocks_in, extents_of, IsLink, IsChain, ends, IsForkChain, has-chain, chain-has, own-each, ends-total, chain-left, chain-right, chain-append, chain-before, three-of, chain-length, HasLast, last-of}
+use Rattle.hfs_fork_extents.proofs.Chains.{extents_of, IsLink, IsChain, ends, IsForkChain, has-chain, chain-has, own-each, ends-total, chain-left, chain-right, chain-append, chain-before, three-of, chain-length, last-of}
 
 pub drop-at : {X : Type 0} → (p q : List X) (n : ℕ) → length p ≡ n → drop n (p ++ q) ≡ q
 drop-at {X = X} p q n long = ap (λ (k : ℕ). drop k (p ++ q)) (sym long) ∙ by p

@@ -1,9 +1,8 @@
 -- How many nodes a tree has for records that come, by what its header says.
-use Rattle.std.proofs.Common.{◌≡◌, ℕ, length, sym, ap, ◌∙◌, subst, arith}
+use Rattle.std.proofs.Common.{◌≡◌, ℕ, length, ap, ◌∙◌, arith}
 use Rattle.hfs_btree.specs.declared.header.Header.{Header}
 use Rattle.hfs_btree.specs.Tree.{Store}
 use Rattle.hfs_btree.specs.Header.{header_in, depth_of, free_nodes}
-use Rattle.hfs_space.specs.Extents.{Overflow}
 use Rattle.hfs_space.specs.TreeKeys.{IsExtentsTree, overflow_of}
 use Rattle.hfs_extents_edits.specs.Need.{extents_need, HasNodesFor}
 use Rattle.hfs_fork_extents.specs.Whole.{HasSameRoom}

@@ -1,5 +1,5 @@
 -- A fork of which only the first blocks stay: its records, and its extents.
-use Rattle.std.proofs.Common.{◌≡◌, ℕ, zero, suc, ◌+◌, ◌-◌, ◌*◌, ◌<◌, ◌≤◌, inl, inr, Bool, true, false, cond, eqb, leb, List, [], ◌∷◌, ◌++◌, length, take, drop, refl, sym, ap, ◌∙◌, subst, arith}
+use Rattle.std.proofs.Common.{◌≡◌, ℕ, zero, suc, ◌+◌, ◌-◌, ◌*◌, ◌<◌, ◌≤◌, inl, inr, Bool, cond, eqb, List, [], ◌∷◌, ◌++◌, length, take, drop, refl, sym, ap, ◌∙◌, subst, arith}
 use Rattle.std.proofs.lemmas.Bool.{cases_lt, cases_eq, ne_eqb}
 use Rattle.std.proofs.lemmas.List.{append-nil, take-append-drop, take-take, length-take-le, drop_all}
 use Rattle.hfs_fields.specs.declared.extent.Extent.{Extent}
@@ -8,14 +8,14 @@ use Rattle.hfs_btree.specs.Header.{free_nodes}
 use Rattle.hfs_space.specs.Extents.{Overflow, block_total, extent_blocks, AreExtentsWithin, fork_extents}
 use Rattle.hfs_space.specs.TreeKeys.{overflow_of}
 use Rattle.hfs_fork_extents.specs.Cuts.{cut_extent, cut, surplus}
-use Rattle.hfs_fork_extents.specs.Records.{of_fork, HasRecordsBefore}
+use Rattle.hfs_fork_extents.specs.Records.{HasRecordsBefore}
 use Rattle.hfs_fork_extents.specs.Threes.{AreThrees, AreLeft}
 use Rattle.hfs_fork_extents.specs.Whole.{HasExtents, LastMayChange, EditsFork}
 use Rattle.hfs_fork_extents.specs.Shortening.{IsCutTo, HasShortened}
 use Rattle.hfs_fork_extents.specs.declared.shortening.ShortFork.{ShortFork}
 use Rattle.hfs_fork_extents.proofs.AddLemmas.{blocks-append}
 use Rattle.hfs_fork_extents.proofs.CutLemmas.{cut-whole, gt-all, blocks-cut}
-use Rattle.hfs_fork_extents.proofs.ThreeLemmas.{total-cons, total-front, none-blocks, drop-more, HasThreeAt, three-at}
+use Rattle.hfs_fork_extents.proofs.ThreeLemmas.{total-cons, total-front, none-blocks, drop-more, three-at}
 use Rattle.hfs_fork_extents.proofs.Chains.{extents_of, IsForkChain, has-chain, chain-has, ends, take-chain, chain-threes, filter-chain, prefix, prefix-total}
 use Rattle.hfs_fork_extents.proofs.LastRecord.{own, count-records, drop-at}
 

@@ -1,11 +1,10 @@
 -- What edits of a fork's records keep of the tree, one after the other.
-use Rattle.std.proofs.Common.{◌≡◌, ◌⊎◌, ℕ, ◌+◌, List, ◌++◌, length, drop, refl, sym, ap, ◌∙◌, subst, inl, inr}
-use Rattle.hfs_fields.specs.declared.extent.Extent.{Extent}
+use Rattle.std.proofs.Common.{◌≡◌, ℕ, ◌++◌, drop, refl, ap, ◌∙◌, subst, inl, inr}
 use Rattle.hfs_fields.specs.declared.key.ExtKey.{ExtKey}
 use Rattle.hfs_scans.specs.Members.{In}
 use Rattle.hfs_scans.proofs.ElementLemmas.{each-append, each-left, each-right}
 use Rattle.hfs_btree.specs.Tree.{Store}
-use Rattle.hfs_btree.specs.Header.{header_in, free_nodes, own_nodes, tree_nodes}
+use Rattle.hfs_btree.specs.Header.{own_nodes, tree_nodes}
 use Rattle.hfs_btree.specs.Sound.{IsOther, IsStray}
 use Rattle.hfs_btree_edits.specs.Edits.{KeepsTree}
 use Rattle.hfs_btree_edits.specs.KeptKeys.{tree_keys, EachKey, IsKeyOr}

@@ -1,14 +1,13 @@
 -- A whole fork to which pieces come, and what its extents are by threes.
-use Rattle.std.proofs.Common.{◌≡◌, ℕ, zero, suc, ◌+◌, ◌-◌, ◌*◌, ◌/◌, ◌<◌, ◌≤◌, inl, inr, List, [], ◌∷◌, ◌++◌, length, take, drop, refl, sym, ap, ◌∙◌, subst, arith}
+use Rattle.std.proofs.Common.{◌≡◌, ℕ, ◌-◌, ◌/◌, ◌<◌, ◌≤◌, inl, inr, List, [], length, take, drop, refl, sym, ap, ◌∙◌, subst, arith}
 use Rattle.std.proofs.lemmas.Bool.{cases_lt}
 use Rattle.std.proofs.lemmas.List.{length-drop, drop_all}
-use Rattle.hfs_fields.specs.Mdb.{extents_at}
 use Rattle.hfs_fields.specs.declared.extent.Extent.{Extent}
 use Rattle.hfs_btree.specs.Tree.{Store}
 use Rattle.hfs_space.specs.Extents.{block_total, extent_blocks, fork_extents}
 use Rattle.hfs_space.specs.TreeKeys.{overflow_of}
 use Rattle.hfs_extents_edits.specs.Need.{HasNodesFor}
-use Rattle.hfs_fork_extents.specs.Lengthened.{used_places, lengthened}
+use Rattle.hfs_fork_extents.specs.Lengthened.{used_places}
 use Rattle.hfs_fork_extents.specs.Threes.{AreThrees}
 use Rattle.hfs_fork_extents.specs.Whole.{IsWhole, HasExtents, EditsFork, LastMayChange}
 use Rattle.hfs_fork_extents.specs.Growing.{grown, records_coming, HasRoomFor, HasGrown}

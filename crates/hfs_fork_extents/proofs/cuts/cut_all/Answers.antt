@@ -1,5 +1,5 @@
 -- One more extent is cut.
-use Rattle.std.proofs.Common.{ℕ, ◌-◌, ◌∙◌, sym, ap, length, arith}
+use Rattle.std.proofs.Common.{ℕ, ◌-◌, ◌∙◌, sym, ap, arith}
 use Rattle.std.proofs.lemmas.List.{length-set}
 use Rattle.hfs_fields.specs.declared.extent.Extent.{Extent}
 use Rattle.hfs_fork_extents.specs.Cuts.{cut_extent}

@@ -1,5 +1,5 @@
 -- A record of its fork that changes.
-use Rattle.std.proofs.Common.{ℕ, List, [], length, refl, ap, sym, ◌∙◌, subst}
+use Rattle.std.proofs.Common.{ℕ, [], length, refl, ap, sym, ◌∙◌, subst}
 use Rattle.hfs_space.specs.Extents.{Overflow}
 use Rattle.hfs_space.specs.TreeKeys.{overflow_of}
 use Rattle.hfs_fork_extents.specs.Records.{of_fork}

@@ -5,7 +5,7 @@ use Rattle.hfs_space.specs.Extents.{fork_byte, fork_extents}
 use Rattle.hfs_space.specs.TreeKeys.{overflow_of}
 use Rattle.hfs_extents_edits.specs.Need.{HasNodesFor}
 use Rattle.hfs_fork_extents.specs.Whole.{HasExtents}
-use Rattle.hfs_fork_extents.specs.Growing.{grown, records_coming}
+use Rattle.hfs_fork_extents.specs.Growing.{grown}
 use Rattle.hfs_fork_extents.proofs.TreeEdits.{edits-then}
 use Rattle.hfs_fork_extents.proofs.WholeLemmas.{es-long, es-some, es-few, es-threes, es-last, es-coming, es-small, has-grown}
 use Rattle.hfs_fork_extents.proofs.growing.lengthen_fork.Goals as goal
