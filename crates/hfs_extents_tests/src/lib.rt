@@ -6,8 +6,6 @@ mod coming;
 #[cfg(test)]
 mod forks;
 #[cfg(test)]
-mod growing;
-#[cfg(test)]
 mod leaving;
 #[cfg(test)]
 mod trees;
