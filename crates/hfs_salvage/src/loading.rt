@@ -85,7 +85,9 @@ fn hold<'a, F: Read + Seek + Drop>(
     let Window { source, range } = bytes;
     match source {
         OpenedFile::Whole(all) => hold_range(all, range, path),
-        OpenedFile::Seekable(mut file) => read_range(alloc, &mut file, range, path),
+        OpenedFile::Seekable(file) => {
+            read_range(alloc, &mut OpenedFile::Seekable(file), range, path)
+        }
     }
 }
 

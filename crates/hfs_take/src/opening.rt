@@ -13,8 +13,8 @@ use crate::words::TakeWords;
 use hfs_commands::{
     Counted, Fault, FilePart, NumberedRange, OpenedFile, Window, open_asked, sum_told,
 };
-use hfs_containers::{ByteRange, PlacedFile, volume_name};
-use hfs_sparse::{BlockSource, FileReader};
+use hfs_containers::{ByteRange, volume_name};
+use hfs_sparse::BlockSource;
 use std::alloc::Global;
 use std::fs::{File, Metadata, OpenFile};
 use std::io::{Read, Seek};
@@ -128,10 +128,10 @@ fn open_again<R: Files>(
     if !is_same(was, &found) {
         return None;
     }
-    Some(Window {
-        source: OpenedFile::Seekable(PlacedFile::new(FileReader(file))),
-        range,
-    })
+    match OpenedFile::sought(file) {
+        Ok(source) => Some(Window { source, range }),
+        Err(_) => None,
+    }
 }
 
 /// The same bytes once more, to be read beside what was found at this path. None where that is no file that can be opened once more: its bytes are held,
