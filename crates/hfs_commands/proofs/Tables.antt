@@ -1,14 +1,14 @@
 -- What is written of a table while its rows come.
-use Rattle.std.proofs.Common.{◌≡◌, ◌∙◌, refl, sym, ap, subst, arith, ℕ, ◌+◌, ◌≤◌, Bool, true, false, Some, None, List, [], ◌∷◌, ◌++◌, length, take, min, Option, append_assoc, append-nil}
+use Rattle.std.proofs.Common.{◌≡◌, ◌∙◌, refl, sym, ap, subst, arith, ℕ, ◌+◌, ◌≤◌, Bool, true, false, List, [], ◌∷◌, ◌++◌, length, take, min, Option, append_assoc, append-nil}
 use Rattle.std.specs.Io.KnownBytes.{Appends}
 use Rattle.std.proofs.KnownBytes.{Appends-nil, Appends-trans}
-use Rattle.hfs_inventory.specs.Told.{ToldRow}
+use Rattle.hfs_inventory.specs.Told.{ToldRow, told_rows}
 use Rattle.hfs_table.specs.Lines.{head_text}
 use Rattle.hfs_table.specs.declared.format.Format.{Format}
 use Rattle.hfs_texts.specs.Writing.{AppendsFront}
-use Rattle.hfs_needed.specs.Known.{OfKnown}
-use Rattle.hfs_needed.specs.Listing.{HoldsTable}
 use Rattle.hfs_inventory.specs.Levels.{Going}
+use Rattle.hfs_source.specs.Images.{OfEach}
+use Rattle.hfs_commands.specs.Entries.{entries_in}
 use Rattle.hfs_commands.specs.Items.{MovesRow, items_text, rows_text, table_text}
 use Rattle.hfs_commands.proofs.Rows.{front_first, front_next, whole_next}
 
@@ -57,8 +57,7 @@ pub begins : (format : Format) (start : Option (List ℕ)) (text : List ℕ) (le
 unfolding table_text
 begins format start text left head = record { out = []; written = Appends-nil start; rest = ap (λ (l : List ℕ). l ++ rows_text format left) (sym head) }
 
--- the table of the rows to come is that of an image whose rows they are
-pub known-text : (P : List ℕ → Type 0) (format : Format) (known : Option (List ℕ)) (len : ℕ) (inventory : Going) → HoldsTable known len inventory → P (table_text format inventory.left)
-    → OfKnown known len (λ image. P (items_text format image))
-known-text P format None len inventory holds p = tt
-known-text P format (Some bytes) len inventory holds p = λ same. subst P (ap (table_text format) (holds same)) p
+-- the table of the rows to come is that of each image whose rows they are
+pub table-each : (P : List ℕ → Type 0) (format : Format) (Holds : List ℕ → Type 0) (inventory : Going)
+    → OfEach Holds (λ image. inventory.left ≡ told_rows (entries_in image)) → P (table_text format inventory.left) → OfEach Holds (λ image. P (items_text format image))
+table-each P format Holds inventory rows p = λ image h. subst P (ap (table_text format) (rows image h)) p

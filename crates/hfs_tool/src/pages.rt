@@ -11,8 +11,8 @@ use hfs_console::VERSION;
 use hfs_pages::{
     PageFault, PageImage, PageTexts, is_base, standard_texts, write_image_page, write_refused_page,
 };
-use hfs_take::{SourceBlocks, image_digest, image_name};
 use hfs_source::PlacedBlocks;
+use hfs_take::{SourceBlocks, image_digest, image_name};
 use std::alloc::Global;
 use std::io::{Read, Seek};
 
@@ -118,11 +118,21 @@ fn print_told_page<'a, F: Read + Seek + Drop>(
 ) -> Result<u8, Fault<'a>> {
     match SeenImage::open(rt.alloc(), source) {
         Ok(image) => print_opened_page(rt, &texts_of(words, name, digest), &image),
-        Err(Unopened {
-            fault: NeededFault::Refused(why),
-            source: _,
-        }) => print_refused_page(rt, &texts_of(words, name, digest), why),
-        Err(Unopened { fault, source: _ }) => Err(Fault::of_needed(fault, words.image)),
+        Err(Unopened { fault, source: _ }) => print_unopened_page(rt, words, name, digest, fault),
+    }
+}
+
+/// Prints the page of an image that was not opened, where it is refused.
+fn print_unopened_page<'a>(
+    rt: &HostRuntime,
+    words: &PageWords<'a>,
+    name: &str,
+    digest: Option<&str>,
+    fault: NeededFault,
+) -> Result<u8, Fault<'a>> {
+    match fault {
+        NeededFault::Refused(why) => print_refused_page(rt, &texts_of(words, name, digest), why),
+        NeededFault::ReadFailed | NeededFault::Memory => Err(Fault::of_needed(fault, words.image)),
     }
 }
 
