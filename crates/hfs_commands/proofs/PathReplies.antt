@@ -5,7 +5,6 @@ use Rattle.hfs_model.specs.declared.codes.TheConstants.{NOT_FOUND}
 use Rattle.hfs_model.specs.declared.reply.Reply.{Reply}
 use Rattle.hfs_model.specs.Replies.{refusal}
 use Rattle.hfs_needed.specs.Known.{OfKnown}
-use Rattle.hfs_source.specs.Images.{OfEach}
 use Rattle.hfs_needed.specs.Paths.{path_told, IsToldAt}
 use Rattle.hfs_paths.specs.Paths.{path_names}
 use Rattle.hfs_commands.specs.ByPath.{IsFilePathReply, IsPathReply, file_reply}
@@ -31,16 +30,15 @@ pub of_file : (known : Option (List ℕ)) (len : ℕ) (path : List ℕ) (reply f
 of_file None len path reply found h e = tt
 of_file (Some image) len path reply found h e = λ same. e ∙ ap file_reply (h same)
 
--- ---- of each image that has the bytes which were read
+-- ---- of one image
 
-seen-found : (Holds : List ℕ → Type 0) (path : List ℕ) (reply : Reply) (found : Option (List (List ℕ))) → found ≡ path_names path
-    → OfEach Holds (λ image. reply ≡ option_map_or (path_told (entries_in image)) found (refusal NOT_FOUND)) → OfEach Holds (IsPathReply path reply)
-seen-found Holds path reply found e h = λ image holds.
-    subst (λ (f : Option (List (List ℕ))). reply ≡ option_map_or (path_told (entries_in image)) f (refusal NOT_FOUND)) e (h image holds)
+seen-found : (image path : List ℕ) (reply : Reply) (found : Option (List (List ℕ))) → found ≡ path_names path
+    → reply ≡ option_map_or (path_told (entries_in image)) found (refusal NOT_FOUND) → IsPathReply path reply image
+seen-found image path reply found e h = subst (λ (f : Option (List (List ℕ))). reply ≡ option_map_or (path_told (entries_in image)) f (refusal NOT_FOUND)) e h
 
-pub seen_names : (Holds : List ℕ → Type 0) (path : List ℕ) (reply : Reply) (names : List (List ℕ)) → Some names ≡ path_names path
-    → OfEach Holds (λ image. reply ≡ path_told (entries_in image) names) → OfEach Holds (IsPathReply path reply)
-seen_names Holds path reply names e h = seen-found Holds path reply (Some names) e h
+pub seen_names : (image path : List ℕ) (reply : Reply) (names : List (List ℕ)) → Some names ≡ path_names path
+    → reply ≡ path_told (entries_in image) names → IsPathReply path reply image
+seen_names image path reply names e h = seen-found image path reply (Some names) e h
 
-pub seen_none : (Holds : List ℕ → Type 0) (path : List ℕ) (reply : Reply) → None ≡ path_names path → reply ≡ refusal NOT_FOUND → OfEach Holds (IsPathReply path reply)
-seen_none Holds path reply e h = seen-found Holds path reply None e (λ image holds. h)
+pub seen_none : (image path : List ℕ) (reply : Reply) → None ≡ path_names path → reply ≡ refusal NOT_FOUND → IsPathReply path reply image
+seen_none image path reply e h = seen-found image path reply None e h
