@@ -35,16 +35,16 @@ impl<F: Read + Seek> PlacedBytes for OpenedFile<F> {
 
     fn len(&self) -> u64 {
         match self {
-            OpenedFile::Seekable(file) => file.len(),
-            OpenedFile::Whole(bytes) => bytes.len() as u64,
+            OpenedFile::Seekable(bytes) => bytes.len(),
+            OpenedFile::Whole(all) => all.len() as u64,
         }
     }
 
     fn read_at(&mut self, place: u64, into: &mut [u8]) -> io::Result<()> {
         match self {
-            OpenedFile::Seekable(file) => file.read_at(place, into),
-            OpenedFile::Whole(bytes) => {
-                let bytes = bytes.as_slice();
+            OpenedFile::Seekable(bytes) => bytes.read_at(place, into),
+            OpenedFile::Whole(all) => {
+                let bytes = all.as_slice();
                 MemoryBytes { bytes }.read_at(place, into)
             }
         }
