@@ -61,5 +61,8 @@ pub fn open_blocks<F: Read + Seek>(
     ensures back { IfErr result (λ back. OfEach (parts_of back.source) (parts_of source)) }
 {
     let len = source.blocks.len();
-    SeenImage::open(alloc, source, len)
+    match SeenImage::open(alloc, source, len) {
+        Ok(image) => Ok(image),
+        Err(back) => Err(back),
+    }
 }
