@@ -3,6 +3,7 @@ pub mod FolderLemmas
 pub mod EntryLemmas
 pub mod ChainLemmas
 pub mod PathLemmas
+pub mod NameLemmas
 pub mod RowLemmas
 pub mod LawLemmas
 mod CaseLemmas

@@ -4,6 +4,7 @@
 mod chains;
 mod entries;
 mod laws;
+mod names;
 mod numbers;
 mod paths;
 mod places;
