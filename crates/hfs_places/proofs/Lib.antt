@@ -21,4 +21,5 @@ pub mod OverLemmas
 pub mod ThingLemmas
 mod WayLemmas
 mod WayFolderLemmas
+mod NameWayLemmas
 pub mod LawsProved
