@@ -22,7 +22,7 @@ use Rattle.hfs_places.proofs.LawLemmas.{all-short}
 use Rattle.hfs_places.proofs.MarkLemmas.{begins, begins-appended, is-marker, unmarked-begins, unmarked-host}
 use Rattle.hfs_places.proofs.NameLemmas.{names-left, names-more, names-none}
 use Rattle.hfs_places.proofs.PathLemmas.{up-is}
-use Rattle.hfs_places.proofs.PlaceLemmas.{Lies, by-paths, folded-within, lies, shorter}
+use Rattle.hfs_places.proofs.PlaceLemmas.{Lies, alone, by-paths, folded-within, inner, lies, shorter, top}
 use Rattle.hfs_places.proofs.WayLemmas.{more-names, one-name, turned, way-long, way-path}
 
 abbrev begins-lost : List ℕ → Bool
@@ -142,7 +142,7 @@ host-begins letter marker other things are own (n ∷ m ∷ names) i inside way 
     let within-p = (up-is things i p way.2).below in
     let above = host_path (reverse (m ∷ names)) in
     let some : 0 < length (reverse (m ∷ names)) = omega (arith, length-reverse (m ∷ names)) in
-    let folded-some : 0 < length (folded above) = omega (arith, length-map fold_letter above, way-long things are own (m ∷ names) p within-p way.3) in
+    let folded-some : 0 < length (folded above) = omega (arith, length-map above fold_letter, way-long things are own (m ∷ names) p within-p way.3) in
     ap (λ (l : List ℕ). begins letter (folded l)) (ap host_path (turned n (m ∷ names)) ∙ more-names (reverse (m ∷ names)) n some)
     ∙ ap (begins letter) (folded-within above (host_name n))
     ∙ begins-appended letter 47 (folded above) (folded (host_name n)) folded-some other

@@ -19,7 +19,6 @@ pub(crate) fn lies_apart(path: &str) -> bool
 
 impl Frame<'_> {
     /// The name of the thing at a place, and behind it those of the folders above it.
-    #[tactic(auto, using(crate::proofs::NameLemmas::names_ended, crate::proofs::NameLemmas::names_left, crate::proofs::NameLemmas::names_step))]
     pub(crate) fn names_up(
         &self,
         alloc: Global,

@@ -6,7 +6,7 @@ use Rattle.hfs_places.proofs.paths.Frame.names_up.Given as goal
 
 abbrev pub invariant-loop-left : goal.invariant-loop-left
 invariant-loop-left l = record {
-  so : l.names.items ++ names_up l.self.things.now l.left l.at ≡ names_up l.self.things.now (2 ^ 32) l.from;
+  so : l.names.items ++ names_up l.self.things.now l.left l.at ≡ names_up l.self.things.now (2 ^ 32) l.fn.from;
   within : IfSome l.at (λ i. i < length l.self.things.now);
 }
 
