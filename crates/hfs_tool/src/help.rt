@@ -94,7 +94,7 @@ pub(crate) const TAKES: &str = "FOLDER becomes a bag:
   data/._NAME           an AppleDouble file: type, creator, the
                         Finder's bytes and the resource fork
   manifest-sha256.txt   the digest of each file below data
-  items.csv             the table of items
+  items.csv             the table of items, and where each lies in data
   volume.txt            the lines of info and of check
   bag-info.txt, bagit.txt, tagmanifest-sha256.txt
 
