@@ -1,6 +1,7 @@
 -- Laws of this crate, each by the laws that it stands on.
 use Rattle.hfs_places.proofs.LawLemmas.{paths-short}
-use Rattle.hfs_places.specs.Laws.{FoldersAreThings, PathsAreHostPaths, PathsAreShort, PlacesDiffer}
+use Rattle.hfs_places.specs.Laws.{EndlessChainsTurn, FoldersAreThings, PathsAreHostPaths, PathsAreShort, PlacesDiffer}
+use Rattle.hfs_places.proofs.ReturnLemmas.{endless-turns}
 use Rattle.hfs_places.proofs.NamedLemmas.{named-once}
 use Rattle.hfs_places.proofs.PlaceLemmas.{own-places}
 use Rattle.hfs_places.proofs.BelowLemmas.{in-folders}
@@ -35,3 +36,7 @@ paths_are_host_paths = host-paths-are
 -- And what that path lies in is the path of a folder from which names lead up.
 pub folders_are_things : FoldersAreThings
 folders_are_things = folders-things
+
+-- The law of chains: one has no end exactly where it comes to one of its places again.
+pub endless_chains_turn : EndlessChainsTurn
+endless_chains_turn = endless-turns

@@ -18,6 +18,8 @@ mod DownLemmas
 mod DoubleLemmas
 pub mod OverLemmas
 pub mod ThingLemmas
+mod Repeats
+mod ReturnLemmas
 mod WayLemmas
 mod WayFolderLemmas
 pub mod LawsProved

@@ -1,5 +1,5 @@
 -- What holds of paths.
-use Rattle.std.specs.Prelude.{◌≡◌, ◌≢◌, ⊤, ℕ, true, false, ◌^◌, ◌<◌, ◌≤◌, List, [], ◌∷◌, ◌++◌, codes, flat_map, length, reverse, slice_index_or, take, Some, IsTrue}
+use Rattle.std.specs.Prelude.{◌≡◌, ◌≢◌, ◌↔◌, ⊤, ℕ, true, false, ◌^◌, ◌<◌, ◌≤◌, List, [], ◌∷◌, ◌++◌, codes, flat_map, length, reverse, slice_index_or, take, Some, IsTrue}
 use Rattle.std.specs.Option.{unwrap_or}
 use Rattle.hfs_fields.specs.Order.{folded}
 use Rattle.hfs_names.specs.Laws.{is_bytes, IsSafe}
@@ -8,7 +8,7 @@ use Rattle.hfs_places.specs.declared.things.Thing.{Thing}
 use Rattle.hfs_places.specs.Folders.{thing_at}
 use Rattle.hfs_places.specs.Things.{things_of}
 use Rattle.hfs_places.specs.Entries.{entry_row, has_entry_row}
-use Rattle.hfs_places.specs.Chains.{place_at, ups_of}
+use Rattle.hfs_places.specs.Chains.{ComesAgain, is_endless, place_at, ups_of}
 use Rattle.hfs_places.specs.Paths.{is_folder_at, path, payload_path}
 
 -- names of at most 31 bytes, and numbers of 32 bits
@@ -131,3 +131,9 @@ abbrev pub FoldersAreThings : Type 0
 FoldersAreThings =
     (things : List Thing) → AreThings things → HaveOwnNames things → AreWaysShort things
     → (i : ℕ) (names : List (List ℕ)) → i < length things → HasWay things names i → (text rest : List ℕ) → path things i ≡ text ++ (codes "/" ++ rest) → IsFolderOnWay things text
+
+-- ---- chains
+
+-- a chain has no end exactly where it comes to one of its places again
+abbrev pub EndlessChainsTurn : Type 0
+EndlessChainsTurn = (things : List Thing) → AreThings things → (i : ℕ) → (is_endless (ups_of things) i ≡ true) ↔ ComesAgain (ups_of things) i
