@@ -1,6 +1,7 @@
 -- Laws of this crate, each by the laws that it stands on.
 use Rattle.hfs_places.proofs.LawLemmas.{paths-short}
-use Rattle.hfs_places.specs.Laws.{FoldersAreThings, NamesLeadDown, PathsAreHostPaths, PathsAreShort, PathsTellNames, PlacesDiffer}
+use Rattle.hfs_places.specs.Laws.{FoldersAreThings, NamesLeadDown, PathsAreHostPaths, PathsAreShort, PathsTellNames, PlacesDiffer, EndlessChainsTurn}
+use Rattle.hfs_places.proofs.ReturnLemmas.{endless-turns}
 use Rattle.hfs_places.proofs.NamedLemmas.{named-once}
 use Rattle.hfs_places.proofs.PlaceLemmas.{own-places}
 use Rattle.hfs_places.proofs.BelowLemmas.{in-folders}
@@ -44,3 +45,7 @@ names_lead_down = names-lead
 -- And where nothing is lost and no two things are called the same, they are the names of its host path.
 pub paths_tell_names : PathsTellNames
 paths_tell_names = paths-tell
+
+-- The law of chains: one has no end exactly where it comes to one of its places again.
+pub endless_chains_turn : EndlessChainsTurn
+endless_chains_turn = endless-turns

@@ -19,6 +19,8 @@ mod DownLemmas
 mod DoubleLemmas
 pub mod OverLemmas
 pub mod ThingLemmas
+mod Repeats
+mod ReturnLemmas
 mod WayLemmas
 mod WayFolderLemmas
 mod NameWayLemmas

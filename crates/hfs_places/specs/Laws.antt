@@ -1,5 +1,5 @@
 -- What holds of paths.
-use Rattle.std.specs.Prelude.{◌≡◌, ◌≢◌, ⊤, ℕ, true, false, ◌^◌, ◌<◌, ◌≤◌, List, [], ◌∷◌, ◌++◌, codes, flat_map, length, reverse, slice_index_or, take, Some, IsTrue}
+use Rattle.std.specs.Prelude.{◌≡◌, ◌≢◌, ◌↔◌, ⊤, ℕ, true, false, ◌^◌, ◌<◌, ◌≤◌, List, [], ◌∷◌, ◌++◌, codes, flat_map, length, reverse, slice_index_or, take, Some, IsTrue}
 use Rattle.std.specs.Option.{unwrap_or}
 use Rattle.hfs_catalog_checks.specs.Indexes.{is_place}
 use Rattle.hfs_fields.specs.Order.{folded}
@@ -9,7 +9,7 @@ use Rattle.hfs_places.specs.declared.things.Thing.{Thing}
 use Rattle.hfs_places.specs.Folders.{thing_at}
 use Rattle.hfs_places.specs.Things.{things_of}
 use Rattle.hfs_places.specs.Entries.{entry_row, has_entry_row}
-use Rattle.hfs_places.specs.Chains.{place_at, ups_of}
+use Rattle.hfs_places.specs.Chains.{place_at, ups_of, ComesAgain, is_endless}
 use Rattle.hfs_places.specs.Names.{lies_apart, names_to, root_name}
 use Rattle.hfs_places.specs.Paths.{is_folder_at, path, payload_path, root_of}
 
@@ -166,3 +166,9 @@ PathsTellNames =
     (things : List Thing) (volume : List ℕ) → AreThings things → HaveOwnNames things → AreWaysShort things
     → (i : ℕ) (names : List (List ℕ)) → i < length things → is_place (root_of things) i ≡ false → (thing_at things i).old ≡ false → HasWay things names i
     → LiesByNames things volume i names
+
+-- ---- chains
+
+-- a chain has no end exactly where it comes to one of its places again
+abbrev pub EndlessChainsTurn : Type 0
+EndlessChainsTurn = (things : List Thing) → AreThings things → (i : ℕ) → (is_endless (ups_of things) i ≡ true) ↔ ComesAgain (ups_of things) i

@@ -1,5 +1,5 @@
 //! What holds of the definitions, each as the contract of a function that does nothing.
-ghost use Rattle.hfs_places.specs.Laws.{PathsAreShort, PlacesDiffer, PathsAreHostPaths, FoldersAreThings, NamesLeadDown, PathsTellNames};
+ghost use Rattle.hfs_places.specs.Laws.{PathsAreShort, PlacesDiffer, PathsAreHostPaths, FoldersAreThings, NamesLeadDown, PathsTellNames, EndlessChainsTurn};
 
 /// The path of a folder has at most 800 bytes, that of any item, without what stands before an old one, at most 916.
 pub fn paths_are_short()
@@ -33,4 +33,9 @@ pub fn names_lead_down()
 /// tell the same way.
 pub fn paths_tell_names()
     ensures { PathsTellNames }
+{}
+
+/// A chain of parents has no end exactly where it comes to one of its folders again.
+pub fn endless_chains_turn()
+    ensures { EndlessChainsTurn }
 {}

@@ -13,7 +13,7 @@ use crate::opening::{OpenedTake, open_image};
 use crate::words::TakeWords;
 use hfs_bag::BagSums;
 use hfs_image_items::Watch;
-use hfs_shelves::{FileShelf, is_there};
+use hfs_shelves::{FileShelf, FileSystem, SystemFiles};
 use hfs_sparse::BlockSource;
 use hfs_texts::push_line;
 use std::alloc::{AllocError, Global};
@@ -30,8 +30,8 @@ pub struct Taken {
 }
 
 /// Gives a whole bag its place.
-fn place_bag<'a, R: Files + AllocGlobal>(
-    shelf: FileShelf<'_, R>,
+fn place_bag<'a, Y: FileSystem>(
+    shelf: FileShelf<Y>,
     sums: BagSums,
     words: &TakeWords<'a>,
 ) -> Result<BagSums, TakeFault<'a>>
@@ -39,8 +39,8 @@ fn place_bag<'a, R: Files + AllocGlobal>(
     ensures sums { IfOk result (λ told. told ≡ sums) }
 {
     match shelf.place(words.folder) {
-        Ok(()) => Ok(sums),
-        Err(fault) => Err(TakeFault::of_shelf(fault)),
+        Ok(_system) => Ok(sums),
+        Err(back) => Err(TakeFault::of_shelf(back.fault)),
     }
 }
 
@@ -56,14 +56,14 @@ fn write_bag<'a, R: Files + AllocGlobal, H: Threads, S: BlockSource + Drop + Sen
     ensures sums { IfOk result (λ sums. OfKnown image.opened.known image.opened.len
         (λ bytes. IsSumOf sums (bag_items (entries_in bytes)))) }
 {
-    let mut shelf = match FileShelf::create(rt, words.folder) {
+    let mut shelf = match FileShelf::create(rt.alloc(), SystemFiles::new(rt), words.folder) {
         Ok(shelf) => shelf,
-        Err(fault) => return Err(TakeFault::of_shelf(fault)),
+        Err(back) => return Err(TakeFault::of_shelf(back.fault)),
     };
     match give_image(threads, rt.alloc(), &mut shelf, image, words, watch) {
         Ok(sums) => place_bag(shelf, sums, words),
         Err(fault) => {
-            shelf.take_away();
+            let _system = shelf.take_away();
             Err(TakeFault::of_bag(fault, words.image))
         }
     }
@@ -86,7 +86,7 @@ where
         Ok(opened) => opened,
         Err(fault) => return Err(TakeFault::Image(fault)),
     };
-    if is_there(rt, words.folder) {
+    if SystemFiles::new(rt).is_there(words.folder) {
         return Err(TakeFault::IsThere(words.folder));
     }
     let sums = write_bag(rt, threads, image, words, watch)?;

@@ -26,13 +26,13 @@ use denote.Triple.Spec.{Meets, triple_of}
 use denote.Triple.Table.{entered}
 use denote.Triple.Walked.{says, Stays, stay_dropped, walk_of, ends_at, walk_Meets, Goes-dropped}
 use Rattle.hfs_shelves.proofs.Walks.{none, none_made}
-use Rattle.hfs_shelves.specs.contracts.given.Given as Given
-use Rattle.hfs_shelves.specs.contracts.given.Step as Step
-use Rattle.hfs_shelves.specs.Steps.{with_step}
-use Rattle.hfs_shelves.specs.contracts.given.Given.then as F
-use Rattle.hfs_shelves.specs.contracts.given.Given.then.Key.{name as #self}
-use Rattle.hfs_shelves.proofs.given.Given.then.Statement as stated
-use Rattle.hfs_shelves.proofs.given.Given.then.Code as code
+use Rattle.hfs_shelves.specs.contracts.log.SystemLog as SystemLog
+use Rattle.hfs_shelves.specs.contracts.log.Step as Step
+use Rattle.hfs_shelves.specs.LoggedSteps.{with_step}
+use Rattle.hfs_shelves.specs.contracts.log.SystemLog.then as F
+use Rattle.hfs_shelves.specs.contracts.log.SystemLog.then.Key.{name as #self}
+use Rattle.hfs_shelves.proofs.log.SystemLog.then.Statement as stated
+use Rattle.hfs_shelves.proofs.log.SystemLog.then.Code as code
 
 abbrev function : Fn
 function = code.function
@@ -62,7 +62,7 @@ module _ {M : Type 1} {𝓤 : Ura M} (𝓛 : Logic 𝓤) (at_mem : Memory → SP
         let vss = z.0.4 in
         let u : Val = vptr a.0.ref_ptr.0 a.0.ref_ptr.1 in
         let v : Val = vptr a.1.0.ref_ptr.0 a.1.0.ref_ptr.1 in
-        let given : (Given.the_row).Denot = record { entries = with_step a.0.now.entries a.1.0.now } in
+        let given : (SystemLog.the_row).Denot = record { steps = with_step a.0.now.steps a.1.0.now } in
         qed 𝓛 ((raw toks ⊛ ‵ (owns (types_at ended.signature.params z.0.0) a vss)) ∷ raw ((held z.0.0 a).requires z.1) ∷ []) ∵
         keep ! (0 ∷ []) $ split ! $ move ! (1 ∷ []) $ fsplit ! $ fsplit ! $ feq_l ! (λ is₀. drop ! $ fsplit ! $ fsplit ! $ feq_l ! (λ is₁. drop ! $ drop ! $
         regoal ! (λ (us : List Val). prop (WpFn 𝓤 H C Λ function (us ++ (vss.1.0 ++ [])) Post)) is₀ refl $
@@ -76,7 +76,7 @@ module _ {M : Type 1} {𝓤 : Ura M} (𝓛 : Logic 𝓤) (at_mem : Memory → SP
 
   meets : (𝓣 : Tables 𝓤 H) → Meets 𝓛 ended.signature (WpFn 𝓤 H 𝓣.C 𝓣.Λ function) (closing 𝓛 ended held)
   meets 𝓣 =
-      walk_Meets 𝓛 ended stayed (Goes-dropped 𝓛 3 (RefOf (0 ∷ []) tt (plain (λ _. Given.the_row)) (λ _. tt)) yes (λ κs x f. refl), (Goes-dropped 𝓛 3 (RefOf (1 ∷ []) tt (plain (λ κs. Step.the_row (named_lft 3 2 tt κs))) (λ _. tt)) yes (λ κs x f. refl), tt)) held
+      walk_Meets 𝓛 ended stayed (Goes-dropped 𝓛 3 (RefOf (0 ∷ []) tt (plain (λ _. SystemLog.the_row)) (λ _. tt)) yes (λ κs x f. refl), (Goes-dropped 𝓛 3 (RefOf (1 ∷ []) tt (plain (λ κs. Step.the_row (named_lft 3 2 tt κs))) (λ _. tt)) yes (λ κs x f. refl), tt)) held
       (WpFn 𝓤 H 𝓣.C 𝓣.Λ function) (WpFn-mono 𝓤 H 𝓛.laws 𝓣 function) (walks 𝓣.C 𝓣.Λ)
 
 pub then_spec : {M : Type 1} → stated.statement M

@@ -24,11 +24,11 @@ use denote.Triple.Spec.{Meets, triple_of}
 use denote.Triple.Table.{entered}
 use denote.Triple.Walked.{says, Stays, walk_of, ends_at, walk_Meets}
 use Rattle.hfs_shelves.proofs.Walks.{none, none_made}
-use Rattle.hfs_shelves.specs.contracts.given.Given as Given
-use Rattle.hfs_shelves.specs.contracts.given.Given.new as F
-use Rattle.hfs_shelves.specs.contracts.given.Given.new.Key.{name as #self}
-use Rattle.hfs_shelves.proofs.given.Given.new.Statement as stated
-use Rattle.hfs_shelves.proofs.given.Given.new.Code as code
+use Rattle.hfs_shelves.specs.contracts.log.SystemLog as SystemLog
+use Rattle.hfs_shelves.specs.contracts.log.SystemLog.new as F
+use Rattle.hfs_shelves.specs.contracts.log.SystemLog.new.Key.{name as #self}
+use Rattle.hfs_shelves.proofs.log.SystemLog.new.Statement as stated
+use Rattle.hfs_shelves.proofs.log.SystemLog.new.Code as code
 
 abbrev function : Fn
 function = code.function
@@ -56,7 +56,7 @@ module _ {M : Type 1} {𝓤 : Ura M} (𝓛 : Logic 𝓤) (at_mem : Memory → SP
     walks =
         let a = z.0.3 in
         let vss = z.0.4 in
-        let given : (Given.the_row).Denot = record { entries = [] } in
+        let given : (SystemLog.the_row).Denot = record { steps = [] } in
         qed 𝓛 ((raw toks ⊛ ‵ (owns (types_at ended.signature.params z.0.0) a vss)) ∷ raw ((held z.0.0 a).requires z.1) ∷ []) ∵
         keep ! (0 ∷ []) $ split ! $ move ! (1 ∷ []) $ drop ! $
         enter ! C Λ function [] Post $ alloc_all ! (λ l. pass_all ! refl tt $
