@@ -1,5 +1,7 @@
 //! Sectors by hand: of mode 1, of mode 2 and form 1, of mode 2 and form 2.
 
+ghost use Rattle.std.specs.Prelude.{◌≤◌};
+
 use crate::counting::{count_others, is_raw};
 use crate::data::UserData;
 use hfs_source::{MemoryBytes, PlacedBytes};
