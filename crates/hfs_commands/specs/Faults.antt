@@ -35,6 +35,7 @@ status_of fault.WordsNotText = status.WordsRefused
 status_of (fault.Refused why) = status.ImageRefused
 status_of (fault.NoVolume n) = status.ImageRefused
 status_of fault.NoVolumes = status.ImageRefused
+status_of fault.NotWritten = status.ImageRefused
 status_of (fault.SeveralVolumes n) = status.ImageRefused
 status_of fault.BadName = status.ImageRefused
 status_of fault.BadSize = status.ImageRefused
@@ -55,6 +56,7 @@ fault_text fault.WordsNotText = codes "the words are not text"
 fault_text (fault.Refused why) = refusal_text why
 fault_text (fault.NoVolume n) = codes "no volume " ++ decimal n
 fault_text fault.NoVolumes = codes "no HFS volume"
+fault_text fault.NotWritten = codes "not written here"
 fault_text (fault.SeveralVolumes n) = decimal n ++ codes " volumes lie inside; name one by --volume"
 fault_text fault.BadName = codes "bad name"
 fault_text fault.BadSize = codes "bad size"
@@ -93,6 +95,10 @@ IsUnreadFile path why = (why ≡ fault.CannotRead path) ⊎ IsTooMuch why
 -- a file, or the volume in it that is asked for, was not opened
 abbrev pub IsUnopened : Bor (List ℕ) → Option ℕ → Fault → Type 0
 IsUnopened path volume why = (why ≡ fault.CannotRead path) ⊎ (IsTooMuch why ⊎ IsUnnamed volume why)
+
+-- an image that is to be changed was not opened: it can't be read, it is too much, or it isn't written
+abbrev pub IsUnwatched : Bor (List ℕ) → Fault → Type 0
+IsUnwatched path why = (why ≡ fault.CannotRead path) ⊎ (IsTooMuch why ⊎ (why ≡ fault.NotWritten))
 
 -- a script has too many bytes, or more than there is memory for
 abbrev pub IsTooMuchScript : Fault → Type 0

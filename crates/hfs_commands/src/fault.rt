@@ -81,6 +81,8 @@ pub enum Fault<'a> {
     NoVolume(u64),
     /// A file has no volume.
     NoVolumes,
+    /// The image is the user data of raw CD sectors, which isn't written.
+    NotWritten,
     /// So many volumes lie inside a file, and none of them is named.
     SeveralVolumes(u64),
     /// A new volume can't have this name.
@@ -117,7 +119,7 @@ impl Fault<'_> {
         match self {
             Fault::WordsNotText => Status::WordsRefused,
             Fault::Refused(_) | Fault::NoVolume(_) | Fault::NoVolumes => Status::ImageRefused,
-            Fault::SeveralVolumes(_) => Status::ImageRefused,
+            Fault::SeveralVolumes(_) | Fault::NotWritten => Status::ImageRefused,
             Fault::BadName | Fault::BadSize | Fault::BadNodeCount | Fault::NoRoom => {
                 Status::ImageRefused
             }
@@ -265,6 +267,7 @@ impl fmt::Display for Fault<'_> {
             Fault::Refused(why) => write!(f, "{}", Refusal(*why)),
             Fault::NoVolume(n) => write!(f, "no volume {n}"),
             Fault::NoVolumes => write!(f, "no HFS volume"),
+            Fault::NotWritten => write!(f, "not written here"),
             Fault::SeveralVolumes(n) => {
                 write!(f, "{n} volumes lie inside; name one by --volume")
             }

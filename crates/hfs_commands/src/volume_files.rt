@@ -4,12 +4,12 @@ ghost use Rattle.std.specs.Option.{is_some};
 ghost use Rattle.hfs_containers.specs.Asking.{IsAnswerTo, asked_in};
 ghost use Rattle.hfs_containers.specs.Reading.{IsToldOf};
 ghost use Rattle.hfs_commands.specs.Faults.{IsUnopened, IsUnreadFile};
-ghost use Rattle.hfs_commands.specs.OpenedFiles.{known_bytes};
+ghost use Rattle.hfs_commands.specs.OpenedFiles.{known_bytes, opened_layout, stored_bytes};
 ghost use Rattle.hfs_commands.specs.Parts.{IsRangeAt, asked_at};
 
 use crate::fault::Fault;
 use crate::files::{load_opened, regular_len};
-use crate::opened_file::OpenedFile;
+use crate::opened_file::{OpenedFile, StoredFile, content_of};
 use hfs_containers::{Asked, ByteRange, Counted, NumberedRange, PlacedFile, Window, find_asked};
 use hfs_sparse::FileReader;
 use std::alloc::Global;
@@ -26,9 +26,9 @@ fn is_folder<F: OpenFile>(file: &F) -> bool {
 }
 
 /// The first `len` bytes of what can be sought in, to be read where they are needed.
-fn sought<F: Read + Seek>(file: F, len: u64) -> Window<OpenedFile<F>> {
+fn sought<F: Read + Seek>(file: F, len: u64) -> Window<StoredFile<F>> {
     Window {
-        source: OpenedFile::Seekable(PlacedFile::new(FileReader(file))),
+        source: StoredFile::Seekable(PlacedFile::new(FileReader(file))),
         range: ByteRange { start: 0, len },
     }
 }
@@ -38,13 +38,13 @@ fn loaded<'a, F: Read + Seek + Drop>(
     alloc: Global,
     mut file: F,
     path: &'a str,
-) -> Result<Window<OpenedFile<F>>, Fault<'a>>
+) -> Result<Window<StoredFile<F>>, Fault<'a>>
     ensures { IfErr result (IsUnreadFile path.entry) }
 {
     let bytes = load_opened(alloc, &mut file, path)?;
     let len = bytes.len() as u64;
     Ok(Window {
-        source: OpenedFile::Whole(bytes),
+        source: StoredFile::Whole(bytes),
         range: ByteRange { start: 0, len },
     })
 }
@@ -55,7 +55,7 @@ fn loaded<'a, F: Read + Seek + Drop>(
 pub fn open_file<'a, R: Files + AllocGlobal>(
     rt: &R,
     path: &'a str,
-) -> Result<Window<OpenedFile<R::File>>, Fault<'a>>
+) -> Result<Window<StoredFile<R::File>>, Fault<'a>>
     ensures { IfErr result (IsUnreadFile path.entry) }
 {
     let Ok(mut file) = File::open(rt, path) else {
@@ -79,12 +79,25 @@ pub struct FilePart<F: Read + Seek> {
     pub place: Option<NumberedRange>,
 }
 
-/// A file as it is.
+/// What volumes are looked for in, as it is.
 fn whole_part<F: Read + Seek>(bytes: Window<OpenedFile<F>>) -> FilePart<F>
     ensures bytes { result.bytes ≡ bytes }
     ensures place { result.place ≡ None }
 {
     FilePart { bytes, place: None }
+}
+
+/// A file as it is.
+fn stored_part<F: Read + Seek>(file: Window<StoredFile<F>>) -> FilePart<F>
+    ensures known { known_bytes result.bytes.source ≡ stored_bytes file.source }
+    ensures range { result.bytes.range ≡ file.range }
+    ensures place { result.place ≡ None }
+{
+    let Window { source, range } = file;
+    whole_part(Window {
+        source: OpenedFile::Plain(source),
+        range,
+    })
 }
 
 /// What is asked for of a file that was opened, by the number of a range in it or without one, as [`find_asked`] says. Faults: `NoVolume` where there
@@ -98,7 +111,7 @@ pub fn part_of<'a, F: Read + Seek + Drop>(
     volume: Option<u64>,
 ) -> Result<FilePart<F>, Fault<'a>>
     ensures asked { IfOk result (λ part. IsToldOf (known_bytes file.source) file.range.len
-        (asked_in counted volume) (asked_at part.place)) }
+        (asked_in (opened_layout file.source) counted volume) (asked_at part.place)) }
     ensures answer { IfOk result (λ part. IsAnswerTo volume (asked_at part.place)) }
     ensures range { IfOk result (λ part. IsRangeAt part.place part.bytes.range) }
     ensures whole { IfOk result (λ part. part.place ≡ None → part.bytes.range ≡ file.range) }
@@ -106,7 +119,8 @@ pub fn part_of<'a, F: Read + Seek + Drop>(
     ensures fault { IfErr result (IsUnopened path.entry volume) }
 {
     let Window { mut source, range } = file;
-    match find_asked(alloc, &mut source, range.len, counted, volume) {
+    let layout = source.layout();
+    match find_asked(alloc, &mut source, range.len, layout, counted, volume) {
         Ok(Asked::WholeFile) => Ok(whole_part(Window { source, range })),
         Ok(Asked::Inside(place)) => Ok(FilePart {
             bytes: Window {
@@ -139,7 +153,7 @@ fn sought_len<F: OpenFile + Seek>(file: &mut F) -> Option<u64> {
 fn open_image_bytes<'a, R: Files + AllocGlobal>(
     rt: &R,
     path: &'a str,
-) -> Result<Window<OpenedFile<R::File>>, Fault<'a>>
+) -> Result<Window<StoredFile<R::File>>, Fault<'a>>
     ensures { IfErr result (IsUnreadFile path.entry) }
 {
     let Ok(mut file) = File::open(rt, path) else {
@@ -152,33 +166,34 @@ fn open_image_bytes<'a, R: Files + AllocGlobal>(
 }
 
 /// Whether all bytes of a file are held.
-fn is_held<F: Read + Seek>(file: &OpenedFile<F>) -> bool
-    ensures { result ≡ is_some (known_bytes file.now) }
+fn is_held<F: Read + Seek>(file: &StoredFile<F>) -> bool
+    ensures { result ≡ is_some (stored_bytes file.now) }
 {
     match file {
-        OpenedFile::Whole(_) => true,
-        OpenedFile::Seekable(_) => false,
+        StoredFile::Whole(_) => true,
+        StoredFile::Seekable(_) => false,
     }
 }
 
 /// What is taken of an image of which no volume is named. What can't be sought in, such as a pipe, is taken as it is.
 fn chosen_part<'a, F: Read + Seek + Drop>(
     alloc: Global,
-    bytes: Window<OpenedFile<F>>,
+    bytes: Window<StoredFile<F>>,
     path: &'a str,
     counted: Counted,
 ) -> Result<FilePart<F>, Fault<'a>>
-    ensures pipe { IfSome (known_bytes bytes.source) (λ _. IfOk result (λ part. part.place ≡ None)) }
+    ensures pipe { IfSome (stored_bytes bytes.source) (λ _. IfOk result (λ part. part.place ≡ None)) }
     ensures range { IfOk result (λ part. IsRangeAt part.place part.bytes.range) }
     ensures fault { IfErr result (IsUnopened path.entry None) }
 {
     if is_held(&bytes.source) {
-        return Ok(whole_part(bytes));
+        return Ok(stored_part(bytes));
     }
-    part_of(alloc, bytes, path, counted, None)
+    let content = content_of(bytes, path)?;
+    part_of(alloc, content, path, counted, None)
 }
 
-/// Opens what is asked for of an image: the volume with this number that lies in it, 0 being the image as it is; without a number what
+/// Opens what is asked for of an image: the volume with this number that lies in it, or in the user data of its raw sectors, 0 being the image as it is; without a number what
 /// [`find_asked`] chooses, where the image can be sought in, and else the image as it is. What can be sought in is read where it is needed. Faults: as
 /// [`open_file`] and [`part_of`] have them.
 pub fn open_asked<'a, R: Files + AllocGlobal>(
@@ -198,11 +213,12 @@ pub fn open_asked<'a, R: Files + AllocGlobal>(
         }
         Some(0) => {
             let bytes = open_image_bytes(rt, path)?;
-            Ok(whole_part(bytes))
+            Ok(stored_part(bytes))
         }
         Some(_) => {
             let file = open_file(rt, path)?;
-            part_of(rt.alloc(), file, path, counted, volume)
+            let content = content_of(file, path)?;
+            part_of(rt.alloc(), content, path, counted, volume)
         }
     }
 }
