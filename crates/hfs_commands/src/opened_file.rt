@@ -1,25 +1,59 @@
 //! A file that was opened, whatever it is.
-ghost use Rattle.std.specs.Prelude.{◌≡◌, IfErr, IfOk};
+ghost use Rattle.std.specs.Prelude.{◌≡◌, IfErr, IfOk, None};
 ghost use Rattle.hfs_containers.specs.Reading.{IsToldOf};
 ghost use Rattle.hfs_containers.specs.Raw.{known_data, layout_of};
 ghost use Rattle.hfs_commands.specs.Faults.{IsUnreadFile};
-ghost use Rattle.hfs_commands.specs.OpenedFiles.{AreOthersOf, bytes_by, known_bytes, opened_layout, range_by, raw_range, stored_bytes};
+ghost use Rattle.hfs_commands.specs.OpenedFiles.{AreOthersOf, bytes_by, failures_of, images_of, known_bytes, opened_layout, range_by, raw_range, stored_bytes, stored_failures, stored_images};
 
 use crate::fault::Fault;
-use hfs_containers::{
-    ByteRange, Layout, PlacedFile, RawFile, ReadAt, Window, find_layout, others_in,
-};
-use hfs_sparse::{FileReader, SparseFault};
+use hfs_containers::{ByteRange, Layout, RawFile, ReadAt, Window, find_layout, others_in};
+use hfs_source::{MemoryBytes, PlacedBytes, SeekableBytes, TrustedFile};
+use hfs_sparse::SparseFault;
 use std::io;
-use std::io::{Cursor, Read, Seek};
+use std::io::{Read, Seek};
 
 /// The bytes of a file that was opened, as they stand in it.
 #[derive(Drop)]
 pub enum StoredFile<F: Read + Seek> {
     /// What can be sought in, to be read where it is needed.
-    Seekable(PlacedFile<FileReader<F>>),
+    Seekable(SeekableBytes<TrustedFile<F>>),
     /// All bytes of anything else, such as a pipe.
     Whole(Vec<u8>),
+}
+
+impl<F: Read + Seek> StoredFile<F> {
+    /// What can be sought in, wherever it stands; or the file back, where it can't be.
+    pub fn sought(file: F) -> Result<StoredFile<F>, F>
+        ensures { IfOk result (λ opened. stored_bytes opened ≡ None) }
+    {
+        match SeekableBytes::open(TrustedFile::new(file)) {
+            Ok(bytes) => Ok(StoredFile::Seekable(bytes)),
+            Err(reader) => Err(reader.into_file()),
+        }
+    }
+}
+
+impl<F: Read + Seek> PlacedBytes for StoredFile<F> {
+    ghost Holds = { λ file. stored_images file };
+
+    ghost Fails = { λ file. stored_failures file };
+
+    fn len(&self) -> u64 {
+        match self {
+            StoredFile::Seekable(bytes) => bytes.len(),
+            StoredFile::Whole(all) => all.len() as u64,
+        }
+    }
+
+    fn read_at(&mut self, place: u64, into: &mut [u8]) -> io::Result<()> {
+        match self {
+            StoredFile::Seekable(bytes) => bytes.read_at(place, into),
+            StoredFile::Whole(all) => {
+                let bytes = all.as_slice();
+                MemoryBytes { bytes }.read_at(place, into)
+            }
+        }
+    }
 }
 
 impl<F: Read + Seek> ReadAt for StoredFile<F> {
@@ -29,7 +63,8 @@ impl<F: Read + Seek> ReadAt for StoredFile<F> {
         match self {
             StoredFile::Seekable(file) => file.read_at(place, into),
             StoredFile::Whole(bytes) => {
-                PlacedFile::new(Cursor::new(bytes.as_slice())).read_at(place, into)
+                let bytes = bytes.as_slice();
+                MemoryBytes { bytes }.read_at(place, into)
             }
         }
     }
@@ -44,12 +79,32 @@ pub enum OpenedFile<F: Read + Seek> {
     Raw(RawFile<StoredFile<F>>),
 }
 
+impl<F: Read + Seek> PlacedBytes for OpenedFile<F> {
+    ghost Holds = { λ file. images_of file };
+
+    ghost Fails = { λ file. failures_of file };
+
+    fn len(&self) -> u64 {
+        match self {
+            OpenedFile::Plain(file) => file.len(),
+            OpenedFile::Raw(file) => file.data.len(),
+        }
+    }
+
+    fn read_at(&mut self, place: u64, into: &mut [u8]) -> io::Result<()> {
+        match self {
+            OpenedFile::Plain(file) => PlacedBytes::read_at(file, place, into),
+            OpenedFile::Raw(file) => file.data.read_at(place, into),
+        }
+    }
+}
+
 impl<F: Read + Seek> ReadAt for OpenedFile<F> {
     ghost known = { λ file. known_bytes file };
 
     fn read_at(&mut self, place: u64, into: &mut [u8]) -> io::Result<()> {
         match self {
-            OpenedFile::Plain(file) => file.read_at(place, into),
+            OpenedFile::Plain(file) => ReadAt::read_at(file, place, into),
             OpenedFile::Raw(file) => file.read_at(place, into),
         }
     }
@@ -73,7 +128,7 @@ impl<F: Read + Seek> OpenedFile<F> {
     {
         match self {
             OpenedFile::Plain(_) => Ok(0),
-            OpenedFile::Raw(file) => others_in(&mut file.source, file.len),
+            OpenedFile::Raw(file) => others_in(&mut file.data.bytes, file.len),
         }
     }
 }
@@ -84,7 +139,7 @@ fn raw_content<F: Read + Seek>(source: StoredFile<F>, len: u64) -> Window<Opened
     ensures known { known_bytes result.source ≡ known_data len (stored_bytes source) }
     ensures range { result.range ≡ raw_range len }
 {
-    let file = RawFile { source, len };
+    let file = RawFile::new(source, len);
     let len = file.len();
     Window {
         source: OpenedFile::Raw(file),

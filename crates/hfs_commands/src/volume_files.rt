@@ -4,14 +4,15 @@ ghost use Rattle.std.specs.Option.{is_some};
 ghost use Rattle.hfs_containers.specs.Asking.{IsAnswerTo, asked_in};
 ghost use Rattle.hfs_containers.specs.Reading.{IsToldOf};
 ghost use Rattle.hfs_commands.specs.Faults.{IsUnopened, IsUnreadFile};
-ghost use Rattle.hfs_commands.specs.OpenedFiles.{known_bytes, opened_layout, stored_bytes};
+ghost use Rattle.hfs_commands.specs.OpenedFiles.{known_bytes, opened_layout, stored_bytes, stored_images};
 ghost use Rattle.hfs_commands.specs.Parts.{IsRangeAt, asked_at};
+ghost use Rattle.hfs_source.specs.Images.{HasLength, OfEach};
 
 use crate::fault::Fault;
 use crate::files::{load_opened, regular_len};
 use crate::opened_file::{OpenedFile, StoredFile, content_of};
-use hfs_containers::{Asked, ByteRange, Counted, NumberedRange, PlacedFile, Window, find_asked};
-use hfs_sparse::FileReader;
+use hfs_containers::{Asked, ByteRange, Counted, NumberedRange, Window, find_asked};
+use hfs_source::PlacedBytes;
 use std::alloc::Global;
 use std::fs::{File, OpenFile};
 use std::io::{Read, Seek, SeekFrom};
@@ -25,10 +26,15 @@ fn is_folder<F: OpenFile>(file: &F) -> bool {
     }
 }
 
-/// The first `len` bytes of what can be sought in, to be read where they are needed.
-fn sought<F: Read + Seek>(file: F, len: u64) -> Window<StoredFile<F>> {
+/// All bytes of what was opened.
+fn whole_file<F: Read + Seek>(source: StoredFile<F>) -> Window<StoredFile<F>>
+    ensures source { result.source ≡ source }
+    ensures start { result.range.start ≡ 0 }
+    ensures len { OfEach (stored_images source) (HasLength result.range.len) }
+{
+    let len = source.len();
     Window {
-        source: StoredFile::Seekable(PlacedFile::new(FileReader(file))),
+        source,
         range: ByteRange { start: 0, len },
     }
 }
@@ -42,11 +48,21 @@ fn loaded<'a, F: Read + Seek + Drop>(
     ensures { IfErr result (IsUnreadFile path.entry) }
 {
     let bytes = load_opened(alloc, &mut file, path)?;
-    let len = bytes.len() as u64;
-    Ok(Window {
-        source: StoredFile::Whole(bytes),
-        range: ByteRange { start: 0, len },
-    })
+    Ok(whole_file(StoredFile::Whole(bytes)))
+}
+
+/// All bytes of a file, to be read where they are needed if it can be sought in. Faults: as [`load_file`](crate::load_file) has them.
+fn opened<'a, F: Read + Seek + Drop>(
+    alloc: Global,
+    file: F,
+    path: &'a str,
+) -> Result<Window<StoredFile<F>>, Fault<'a>>
+    ensures { IfErr result (IsUnreadFile path.entry) }
+{
+    match StoredFile::sought(file) {
+        Ok(source) => Ok(whole_file(source)),
+        Err(file) => loaded(alloc, file, path),
+    }
 }
 
 /// Opens a file to look for volumes in it: its length is what seeking to its end says, and what can't be sought in is read whole. Faults:
@@ -58,16 +74,13 @@ pub fn open_file<'a, R: Files + AllocGlobal>(
 ) -> Result<Window<StoredFile<R::File>>, Fault<'a>>
     ensures { IfErr result (IsUnreadFile path.entry) }
 {
-    let Ok(mut file) = File::open(rt, path) else {
+    let Ok(file) = File::open(rt, path) else {
         return Err(Fault::CannotRead(path));
     };
     if is_folder(&file) {
         return Err(Fault::CannotRead(path));
     }
-    match file.seek(SeekFrom::End(0)) {
-        Ok(len) => Ok(sought(file, len)),
-        Err(_) => loaded(rt.alloc(), file, path),
-    }
+    opened(rt.alloc(), file, path)
 }
 
 /// A part of a file: the file as it is, or a range that lies inside.
@@ -135,17 +148,17 @@ pub fn part_of<'a, F: Read + Seek + Drop>(
     }
 }
 
-/// How many bytes a file has that can be sought in, where it has any: a regular file or a device. A folder has none.
-fn sought_len<F: OpenFile + Seek>(file: &mut F) -> Option<u64> {
-    if let Some(len) = regular_len(file) {
-        return Some(len);
+/// Whether a file has bytes and can be sought in: a regular file or a device. A folder has none.
+fn has_places<F: OpenFile + Seek>(file: &mut F) -> bool {
+    if regular_len(file).is_some() {
+        return true;
     }
     if is_folder(file) {
-        return None;
+        return false;
     }
     match file.seek(SeekFrom::End(0)) {
-        Ok(0) | Err(_) => None,
-        Ok(len) => Some(len),
+        Ok(0) | Err(_) => false,
+        Ok(_) => true,
     }
 }
 
@@ -159,9 +172,10 @@ fn open_image_bytes<'a, R: Files + AllocGlobal>(
     let Ok(mut file) = File::open(rt, path) else {
         return Err(Fault::CannotRead(path));
     };
-    match sought_len(&mut file) {
-        Some(len) => Ok(sought(file, len)),
-        None => loaded(rt.alloc(), file, path),
+    if has_places(&mut file) {
+        opened(rt.alloc(), file, path)
+    } else {
+        loaded(rt.alloc(), file, path)
     }
 }
 

@@ -23,10 +23,23 @@ const DATA: u64 = 2_048;
 /// A file of raw sectors. What is read of it is their user data, 2,048 bytes of each, and zeros for a sector that has none.
 #[derive(Drop)]
 pub struct RawFile<S> {
-    /// The file.
-    pub source: S,
+    /// The user data of the file's sectors.
+    pub data: UserData<S>,
     /// How many bytes the file has.
     pub len: u64,
+}
+
+impl<S: PlacedBytes> RawFile<S> {
+    /// The user data of a file of `len` bytes.
+    pub fn new(source: S, len: u64) -> RawFile<S>
+        ensures source { result.data.bytes ≡ source }
+        ensures len { result.len ≡ len }
+    {
+        RawFile {
+            data: UserData::new(source),
+            len,
+        }
+    }
 }
 
 /// Reads user data from byte `place` of it on, as much as there is room for: one read of each sector in which some of it is.
@@ -60,7 +73,7 @@ impl<S> RawFile<S> {
 }
 
 impl<S: ReadAt> ReadAt for RawFile<S> {
-    ghost known = { λ s. known_data s.len (S.known s.source) };
+    ghost known = { λ s. known_data s.len (S.known s.data.bytes) };
 
     fn read_at(&mut self, place: u64, into: &mut [u8]) -> io::Result<()> {
         if into.is_empty() {
@@ -70,7 +83,7 @@ impl<S: ReadAt> ReadAt for RawFile<S> {
         if len < place || len - place < into.len() as u64 {
             return Err(io::Error::from(ErrorKind::UnexpectedEof));
         }
-        read_data(&mut self.source, place, into)
+        read_data(&mut self.data.bytes, place, into)
     }
 }
 

@@ -14,8 +14,8 @@ use hfs_commands::{
     Counted, Fault, FilePart, NumberedRange, OpenedFile, RawFile, StoredFile, Window, open_asked,
     sum_told,
 };
-use hfs_containers::{PlacedFile, volume_name};
-use hfs_sparse::{BlockSource, FileReader};
+use hfs_containers::volume_name;
+use hfs_sparse::BlockSource;
 use std::alloc::Global;
 use std::fs::{File, Metadata, OpenFile};
 use std::io::{Read, Seek};
@@ -128,7 +128,10 @@ fn open_again<R: Files>(rt: &R, path: &str, was: &Metadata) -> Option<StoredFile
     if !is_same(was, &found) {
         return None;
     }
-    Some(StoredFile::Seekable(PlacedFile::new(FileReader(file))))
+    match StoredFile::sought(file) {
+        Ok(source) => Some(source),
+        Err(_) => None,
+    }
 }
 
 /// The same bytes of a file that was opened anew.
@@ -158,15 +161,12 @@ fn raw_beside<R: Files>(
     raw: &RawFile<StoredFile<R::File>>,
 ) -> Option<OpenedFile<R::File>>
     ensures { IfSome result (λ file. (known_bytes file ≡ None)
-        × (stored_bytes raw.now.source ≡ None)) }
+        × (stored_bytes raw.now.data.bytes ≡ None)) }
 {
-    match &raw.source {
+    match &raw.data.bytes {
         StoredFile::Whole(_) => None,
         StoredFile::Seekable(_) => match open_again(rt, path, was) {
-            Some(source) => Some(OpenedFile::Raw(RawFile {
-                source,
-                len: raw.len,
-            })),
+            Some(source) => Some(OpenedFile::Raw(RawFile::new(source, raw.len))),
             None => None,
         },
     }

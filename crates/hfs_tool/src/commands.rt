@@ -11,17 +11,17 @@ use crate::volumes::print_volumes;
 use crate::words::{FileWords, ForkWords, NewVolume, Words};
 use hfs_check::MountFault;
 use hfs_commands::{
-    BlockSource, CheckAnswer, Fault, Format, NeededFile, NeededRepair, OpenedImage, RepairAnswer,
-    Status, WatchedFile, WatchedImage, code_text, needed_check_answer, needed_file,
-    needed_repair_answer, open_watched, opened_list_text, put_macbinary, refused_text,
-    repair_answer, run_info, write_items,
+    BlockSource, CheckAnswer, Fault, Format, NeededFile, NeededRepair, OpenedImage, PartBlocks,
+    RepairAnswer, Status, Unopened, WatchedFile, WatchedImage, code_text, needed_check_answer,
+    needed_file, needed_repair_answer, open_blocks, open_watched, put_macbinary, refused_text,
+    repair_answer, run_info, seen_list_text, write_items,
 };
 use hfs_console::{print_lines, tell_hint};
 use hfs_format::{FormatPlan, format};
 use hfs_model::Reply;
 use std::alloc::AllocError;
 use std::fs::File;
-use std::io::{Read, Write};
+use std::io::{Read, Seek, Write};
 use std::sync::Wait;
 use std::thread::Threads;
 
@@ -112,16 +112,15 @@ pub fn print_needed_check<'a, S: BlockSource + Drop>(
 }
 
 /// Prints the children of a folder, of which the blocks are read that are needed.
-pub fn print_needed_list<'a, S: BlockSource + Drop>(
+pub fn print_needed_list<'a, F: Read + Seek + Drop>(
     rt: &HostRuntime,
     path: &'a str,
-    source: S,
-    len: u64,
+    blocks: PartBlocks<F>,
     dir: u32,
 ) -> Result<u8, Fault<'a>> {
-    match OpenedImage::open(rt.alloc(), source, len) {
-        Ok(image) => print_told(rt, opened_list_text(rt.alloc(), &image, dir)),
-        Err(fault) => Err(Fault::of_needed(fault, path)),
+    match open_blocks(rt.alloc(), blocks) {
+        Ok(image) => print_told(rt, seen_list_text(rt.alloc(), &image, dir)),
+        Err(Unopened { fault, source: _ }) => Err(Fault::of_needed(fault, path)),
     }
 }
 
