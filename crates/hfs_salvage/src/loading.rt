@@ -87,9 +87,7 @@ fn hold<'a, F: Read + Seek + Drop>(
     let Window { source, range } = bytes;
     match source {
         OpenedFile::Plain(StoredFile::Whole(all)) => hold_range(all, range, path),
-        OpenedFile::Plain(StoredFile::Seekable(mut file)) => {
-            read_range(alloc, &mut file, range, path)
-        }
+        OpenedFile::Plain(mut file) => read_range(alloc, &mut file, range, path),
         OpenedFile::Raw(mut file) => read_range(alloc, &mut file, range, path),
     }
 }
