@@ -41,13 +41,13 @@ and other compressed forms, images with sectors of 2,352 bytes, MFS,
 and HFS Plus without a wrapper.";
 
 /// What the word `extract` tells beside its arguments.
-pub(crate) const EXTRACTS: &str = "Which volume that is is told as by the words that read one: a bare one,
-else the only one inside, else the N-th that volumes lists. By --volume
-0 it is the file as it is. Without --volume nothing is written of a
-file that holds none.
+pub(crate) const EXTRACTS: &str = "Without --volume that is a bare volume as it is, else the only one
+inside; nothing is written of a file that holds none, or several. By
+--volume N it is the N-th that volumes lists, also one with 'no
+volume', and by --volume 0 the file as it is. Nothing is checked.
 
 OUT is written as OUT.0.new beside it, and gets its name when it is
-whole: after a fault it isn't there, and no file is written over.";
+whole: after a fault it isn't there. Nothing is written over.";
 
 /// What the word `run` tells beside its arguments.
 pub(crate) const RUNS: &str = "Each line of the script is answered by a line: who called, the number
