@@ -17,6 +17,9 @@ use std::io::{Seek, Write};
 /// How many bytes are read at once.
 const PIECE: u64 = 65_536;
 
+/// What it means that a block has no number of 32 bits.
+const BEHIND_ALL_BLOCKS: UnwrittenFault = UnwrittenFault::ReadFailed;
+
 /// Room for so many bytes.
 fn buffer_of(alloc: Global, count: usize) -> Result<Vec<u8>, AllocError>
     ensures { IfOk result (λ buffer. length buffer.items ≡ count) }
@@ -69,7 +72,7 @@ fn write_pieces<S: BlockSource, W: Write>(
     while done < len {
         let count = (len - done).min(PIECE);
         let Ok(first) = u32::try_from(done / 512) else {
-            return Err(UnwrittenFault::ReadFailed);
+            return Err(BEHIND_ALL_BLOCKS);
         };
         write_piece(source, first, &mut buffer[..count as usize], writer)?;
         done += count;
@@ -129,11 +132,7 @@ impl<S: BlockSource> ReadContents for ImageContents<S> {
 }
 
 /// Looks that `len` bytes hold a volume. Faults: `NoVolumes` where they don't, a read failed.
-pub fn need_volume<'a, S: ReadAt>(
-    source: &mut S,
-    len: u64,
-    path: &'a str,
-) -> Result<(), Fault<'a>>
+pub fn need_volume<'a, S: ReadAt>(source: &mut S, len: u64, path: &'a str) -> Result<(), Fault<'a>>
     ensures volume { OnOk result (IsTold (S.known source.old) (holds_volume len) true) }
     ensures fault { IfErr result (IsNoVolume (S.known source.old) len path.entry) }
     ensures known { S.known source.new ≡ S.known source.old }

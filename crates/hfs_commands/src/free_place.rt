@@ -15,10 +15,7 @@ pub(crate) struct FreePlace {
 
 impl FreePlace {
     /// The place at a path, by what was found there. Faults: `IsThere`; `CannotWrite` where the path can't be looked up.
-    pub(crate) fn of(
-        found: io::Result<Metadata>,
-        path: &str,
-    ) -> Result<FreePlace, Fault<'_>>
+    pub(crate) fn of(found: io::Result<Metadata>, path: &str) -> Result<FreePlace, Fault<'_>>
         ensures free { IfOk result (λ _. IsErr found) }
         ensures fault { IfErr result (IsNoPlace path.entry) }
     {

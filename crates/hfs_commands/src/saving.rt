@@ -266,11 +266,7 @@ fn name_new<'a, R: Files, F>(
 }
 
 /// Gives a file that is whole its place, where that is still free. At a fault it is gone, if it can be removed.
-fn place_new<'a, R: Files>(
-    rt: &R,
-    made: &NewFile<R::File>,
-    path: &'a str,
-) -> Result<(), Fault<'a>>
+fn place_new<'a, R: Files>(rt: &R, made: &NewFile<R::File>, path: &'a str) -> Result<(), Fault<'a>>
     ensures { IfErr result (IsNoPlace path.entry) }
 {
     let placed = match FreePlace::of(rt.symlink_metadata(path), path) {

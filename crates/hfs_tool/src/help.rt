@@ -41,7 +41,8 @@ and other compressed forms, images with sectors of 2,352 bytes, MFS,
 and HFS Plus without a wrapper.";
 
 /// What the word `extract` tells beside its arguments.
-pub(crate) const EXTRACTS: &str = "Without --volume that is a bare volume as it is, else the only one
+pub(crate) const EXTRACTS: &str =
+    "Without --volume that is a bare volume as it is, else the only one
 inside; nothing is written of a file that holds none, or several. By
 --volume N it is the N-th that volumes lists, also one with 'no
 volume', and by --volume 0 the file as it is. Nothing is checked.
