@@ -438,7 +438,7 @@ def faults(folder, p6):
     for words in (['repair', folder.file('p6', p6), 'out', '--volume', '1'], ['run', folder.file('p6', p6), 'script', '--volume', '1'], ['volumes'],
                   ['ls', folder.file('p6', p6), '--volume', '-1'], ['ls', folder.file('p6', p6), '--volume', 'x'],
                   *([word, folder.file('p6', p6), *behind, '--volume', n] for n in ('4294967296', '18446744073709551615', '18446744073709551616')
-                    for word, behind in (('ls', []), ('info', []), ('take', ['bag']), ('rescue', ['--list'])))):
+                    for word, behind in (('ls', []), ('info', []), ('extract', ['out']), ('take', ['bag']), ('rescue', ['--list'])))):
         if subprocess.run([TOOL, *words], stdin=subprocess.DEVNULL, capture_output=True).returncode != 1:
             fail(f'{words} are not refused')
 

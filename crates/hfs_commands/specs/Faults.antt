@@ -47,6 +47,7 @@ status_of fault.NoPlace = status.NoMemory
 status_of (fault.CannotRead file) = status.DeviceFailed
 status_of (fault.BrokenOff file) = status.DeviceFailed
 status_of (fault.CannotWrite file) = status.DeviceFailed
+status_of (fault.IsThere file) = status.DeviceFailed
 status_of fault.OutputFailed = status.DeviceFailed
 status_of fault.NoMemory = status.NoMemory
 
@@ -68,6 +69,7 @@ fault_text fault.NoPlace = codes "no place for a viewer"
 fault_text (fault.CannotRead file) = codes "cannot read " ++ path_text file.now
 fault_text (fault.BrokenOff file) = codes "cannot read " ++ path_text file.now
 fault_text (fault.CannotWrite file) = codes "cannot write " ++ path_text file.now
+fault_text (fault.IsThere file) = path_text file.now ++ codes " is there already"
 fault_text fault.OutputFailed = []
 fault_text fault.NoMemory = codes "out of memory"
 

@@ -105,6 +105,8 @@ pub enum Fault<'a> {
     BrokenOff(&'a str),
     /// A file was not written.
     CannotWrite(&'a str),
+    /// A file was not made, since something has its name already.
+    IsThere(&'a str),
     /// Standard output failed, so that nothing more is printed.
     OutputFailed,
     /// Memory was refused.
@@ -125,7 +127,8 @@ impl Fault<'_> {
             }
             Fault::ScriptLine(_) | Fault::ScriptTooLarge => Status::ImageRefused,
             Fault::CannotRead(_) | Fault::BrokenOff(_) => Status::DeviceFailed,
-            Fault::CannotWrite(_) | Fault::OutputFailed => Status::DeviceFailed,
+            Fault::CannotWrite(_) | Fault::IsThere(_) => Status::DeviceFailed,
+            Fault::OutputFailed => Status::DeviceFailed,
             Fault::NoPlace | Fault::NoMemory => Status::NoMemory,
         }
     }
@@ -281,6 +284,7 @@ impl fmt::Display for Fault<'_> {
             Fault::CannotRead(file) => write!(f, "cannot read {}", ShownPath(*file)),
             Fault::BrokenOff(file) => write!(f, "cannot read {}", ShownPath(*file)),
             Fault::CannotWrite(file) => write!(f, "cannot write {}", ShownPath(*file)),
+            Fault::IsThere(file) => write!(f, "{} is there already", ShownPath(*file)),
             Fault::OutputFailed => Ok(()),
             Fault::NoMemory => write!(f, "out of memory"),
         }

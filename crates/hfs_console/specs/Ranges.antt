@@ -20,5 +20,6 @@ range_text fault.NoPlace = None
 range_text (fault.CannotRead file) = None
 range_text (fault.BrokenOff file) = None
 range_text (fault.CannotWrite file) = None
+range_text (fault.IsThere file) = None
 range_text fault.OutputFailed = None
 range_text fault.NoMemory = None

@@ -31,6 +31,7 @@ fn range_of(fault: &Fault<'_>) -> Option<&'static str>
         | Fault::CannotRead(_)
         | Fault::BrokenOff(_)
         | Fault::CannotWrite(_)
+        | Fault::IsThere(_)
         | Fault::OutputFailed
         | Fault::NoMemory => None,
     }

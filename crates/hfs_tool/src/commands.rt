@@ -2,6 +2,7 @@
 
 use crate::by_path::{print_fork_at, print_list_at, print_macbinary_at};
 use crate::by_volume::{tell_check, tell_fork, tell_info, tell_items, tell_list, tell_macbinary};
+use crate::extracting::extract_volume;
 use crate::pages::print_page;
 use crate::rescuing::{list_remains, rescue_volume};
 use crate::running::run_script_of;
@@ -48,6 +49,7 @@ pub fn obey<'a, T: Threads + Wait + Sync>(
         Words::CatAt(words) => print_fork_at(rt, words),
         Words::MacBinaryAt(place) => print_macbinary_at(rt, place),
         Words::Volumes { file } => print_volumes(rt, *file),
+        Words::Extract(words) => extract_volume(rt, words),
         Words::Take(words) => take_volume(rt, threads, words),
         Words::Rescue(words) => rescue_volume(rt, words),
         Words::RescueList(words) => list_remains(rt, words),
