@@ -13,6 +13,7 @@ range_text (fault.Refused why) = None
 range_text (fault.NoVolume n) = None
 range_text fault.NoVolumes = None
 range_text (fault.SeveralVolumes count) = None
+range_text fault.NotWritten = None
 range_text fault.NoRoom = None
 range_text (fault.ScriptLine line) = None
 range_text fault.ScriptTooLarge = None

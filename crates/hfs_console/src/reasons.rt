@@ -24,6 +24,7 @@ fn range_of(fault: &Fault<'_>) -> Option<&'static str>
         | Fault::NoVolume(_)
         | Fault::NoVolumes
         | Fault::SeveralVolumes(_)
+        | Fault::NotWritten
         | Fault::NoRoom
         | Fault::ScriptLine(_)
         | Fault::ScriptTooLarge
