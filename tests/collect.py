@@ -464,7 +464,7 @@ def worked_example(place):
     place.wants(0, 'p6.img\tvolumes 1\trefused 1\tfiles 0\tdamaged 0\n', 'collect', 'c.db', 'p6.img')
     ensure(table_lines(place.folder / 'c.db', 'image')[0].startswith('1|p6.img|32768|'), 'the row of the changed image')
     ensure(table_lines(place.folder / 'c.db', 'volume') == ['1|1|1|bare|0|32768|D||||58|512|50|check C10 at 3'], 'the row of the refused volume')
-    ensure(table_lines(place.folder / 'c.db', 'item') == [f'1|1|0|||folder|2|1|||0000|||||||||{zeros}||||'], 'the row of its root')
+    ensure(table_lines(place.folder / 'c.db', 'item') == [f'1|1|0|D||folder|2|1|||0000|||||||||{zeros}||||'], 'the row of its root')
     holds(place, [image_rows(place, 'p6.img')])
 
 
