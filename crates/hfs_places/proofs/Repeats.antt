@@ -51,7 +51,7 @@ seek (suc count) value wanted = by (eqb (value count) wanted) refl (seek count v
   where
     rest : (eqb (value count) wanted ≡ false) → ((k : ℕ) × (k < count) × (value k ≡ wanted)) ⊎ ((k : ℕ) → k < count → value k ≡ wanted → ⊥)
         → ((k : ℕ) × (k < suc count) × (value k ≡ wanted)) ⊎ ((k : ℕ) → k < suc count → value k ≡ wanted → ⊥)
-    rest other (inl found) = inl (found.0, omega (arith, found.1.0), found.1.1)
+    rest other (inl found) = inl (found.0, omega (arith, found.1), found.2)
     rest other (inr none) = inr (λ k under same.
         elim (cases_lt k count) [
           | inl lt ↦ none k lt same
@@ -77,7 +77,7 @@ repeats (suc count) value few = by (λ g under. repeats count g under) (seek (su
         same = without-same last (value r.first) (value r.again) (none r.first (omega (arith, r.later, r.within))) (none r.again r.within) r.same }
     by : ((g : ℕ → ℕ) → ((k : ℕ) → k < suc count → g k < count) → Repeats (suc count) g)
         → ((k : ℕ) × (k < suc count) × (value k ≡ last)) ⊎ ((k : ℕ) → k < suc count → value k ≡ last → ⊥) → Repeats (suc (suc count)) value
-    by fewer (inl found) = record { first = found.0; again = suc count; later = found.1.0; within = omega arith; same = found.1.1 }
+    by fewer (inl found) = record { first = found.0; again = suc count; later = found.1; within = omega arith; same = found.2 }
     by fewer (inr none) =
         squeezed none (fewer (λ k. without last (value k)) (λ k under.
         without-below last (value k) count (few k (omega (arith, under))) (few (suc count) (omega arith)) (none k under)))

@@ -40,8 +40,8 @@ unmade path folder old made new h away = inr (folder, made, h, away)
 
 pub since_closed : (folder : List ℕ) (time : Option ℕ) (old new : List SystemStep) → IsClosed time old new → HasSince (RemovesIn folder) old new
 since_closed folder None old new is = since_then (RemovesIn folder) old old new (done closed) (since_none (RemovesIn folder) old) is tt
-since_closed folder (Some seconds) old new (inl is) = record { since = done closed ∷ done (timed (seconds * 1_000_000_000)) ∷ []; whole = is; each = (tt, tt, tt) }
-since_closed folder (Some seconds) old new (inr is) = record { since = done closed ∷ failed (timed (seconds * 1_000_000_000)) ∷ []; whole = is; each = (tt, tt, tt) }
+since_closed folder (Some seconds) old new (inl is) = record { since = done closed ∷ done (timed (seconds * 1_000_000_000)) ∷ []; whole = is; each = (tt, (tt, tt)) }
+since_closed folder (Some seconds) old new (inr is) = record { since = done closed ∷ failed (timed (seconds * 1_000_000_000)) ∷ []; whole = is; each = (tt, (tt, tt)) }
 
 pub closed_same : (folder : List ℕ) (time : Option ℕ) (old new : List SystemStep) → IsClosed time old new → made_in folder new ≡ made_in folder old
 closed_same folder None old new is = ap (made_in folder) is

@@ -68,7 +68,7 @@ pub since_within : (folder inner : List ℕ) (old new : List SystemStep) → IsF
 since_within folder inner old new is h = since_into (RemovesIn inner) (RemovesIn folder) old new (removes_within folder inner is) h
 
 fails_within : (folder inner : List ℕ) (step : SystemStep) → IsFolderOrIn folder inner → FailsIn inner step → FailsIn folder step
-fails_within folder inner step is h = (h.0, in_within folder inner h.0 is h.1.0, h.1.1)
+fails_within folder inner step is h = (h.0, in_within folder inner h.0 is h.1, h.2)
 
 -- what failed in what lies in a folder ends its removal
 pub refused_within : (folder inner : List ℕ) (old new : List SystemStep) → IsFolderOrIn folder inner → HasLast (FailsIn inner) inner old new → IsTakenAway folder old new
@@ -134,7 +134,7 @@ taken_behind folder old mid new h l = last_behind (EndsRemoval folder) folder ol
 
 removes_last : (folder : List ℕ) (step : SystemStep) → EndsRemoval folder step → RemovesIn folder step
 removes_last folder step (inl same) = subst (RemovesIn folder) (sym same) (inl refl)
-removes_last folder step (inr h) = by_kind h.1.1
+removes_last folder step (inr h) = by_kind h.2
   where
     by_kind : (step ≡ failed (removed_folder h.0)) ⊎ (step ≡ failed (removed_file h.0)) → RemovesIn folder step
     by_kind (inl same) = subst (RemovesIn folder) (sym same) tt

@@ -30,7 +30,7 @@ pub struct Taken {
 }
 
 /// Gives a whole bag its place.
-fn place_bag<'a, Y: FileSystem>(
+fn place_bag<'a, Y: FileSystem + Drop>(
     shelf: FileShelf<Y>,
     sums: BagSums,
     words: &TakeWords<'a>,
@@ -45,8 +45,9 @@ fn place_bag<'a, Y: FileSystem>(
 }
 
 /// Writes the bag of an image: to a folder beside its place, which gets its place when it is whole, and is taken away at a fault.
-fn write_bag<'a, R: Files + AllocGlobal, H: Threads, S: BlockSource + Drop + Send, W: Watch>(
-    rt: &R,
+fn write_bag<'a, Y: FileSystem + Drop, H: Threads, S: BlockSource + Drop + Send, W: Watch>(
+    alloc: Global,
+    system: Y,
     threads: &H,
     image: TakenImage<S>,
     words: &TakeWords<'a>,
@@ -56,11 +57,11 @@ fn write_bag<'a, R: Files + AllocGlobal, H: Threads, S: BlockSource + Drop + Sen
     ensures sums { IfOk result (λ sums. OfKnown image.opened.known image.opened.len
         (λ bytes. IsSumOf sums (bag_items (entries_in bytes)))) }
 {
-    let mut shelf = match FileShelf::create(rt.alloc(), SystemFiles::new(rt), words.folder) {
+    let mut shelf = match FileShelf::create(alloc, system, words.folder) {
         Ok(shelf) => shelf,
         Err(back) => return Err(TakeFault::of_shelf(back.fault)),
     };
-    match give_image(threads, rt.alloc(), &mut shelf, image, words, watch) {
+    match give_image(threads, alloc, &mut shelf, image, words, watch) {
         Ok(sums) => place_bag(shelf, sums, words),
         Err(fault) => {
             let _system = shelf.take_away();
@@ -86,10 +87,11 @@ where
         Ok(opened) => opened,
         Err(fault) => return Err(TakeFault::Image(fault)),
     };
-    if SystemFiles::new(rt).is_there(words.folder) {
+    let mut system = SystemFiles::new(rt);
+    if system.is_there(words.folder) {
         return Err(TakeFault::IsThere(words.folder));
     }
-    let sums = write_bag(rt, threads, image, words, watch)?;
+    let sums = write_bag(rt.alloc(), system, threads, image, words, watch)?;
     Ok(Taken { sums, sum })
 }
 
