@@ -5,7 +5,7 @@ ghost use Rattle.hfs_commands.specs.Faults.{IsTooMuch, IsUnreadScript, IsUnwatch
 use crate::fault::Fault;
 use crate::watched::WatchedFile;
 use hfs_check::MountFault;
-use hfs_raw::data_start;
+use hfs_raw::{are_whole_sectors, data_start};
 use hfs_sparse::{BlockSource, ByteSource};
 use hfs_texts::{IMAGE_LIMIT, LoadFault, load, load_within};
 use std::alloc::Global;
@@ -66,7 +66,7 @@ pub enum WatchedImage<F: Read + Seek> {
 fn refuse_raw<'a, S: BlockSource>(source: &mut S, len: u64, path: &'a str) -> Result<(), Fault<'a>>
     ensures { IfErr result (IsUnwatched path.entry) }
 {
-    if len < 2_352 || len % 2_352 != 0 {
+    if !are_whole_sectors(len) {
         return Ok(());
     }
     let mut block = [0; 512];

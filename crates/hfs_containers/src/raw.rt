@@ -2,6 +2,7 @@
 ghost use Rattle.std.specs.Prelude.{◌≡◌, ◌+◌, ◌*◌, ◌/◌, ◌<◌, ◌≤◌, ◌^◌, ℕ, IfOk, IfSome, OnOk, length};
 ghost use Rattle.hfs_raw.specs.Sectors.{count_without, data_of, data_start, other_count};
 ghost use Rattle.hfs_source.specs.Images.{HasAt};
+ghost use Rattle.hfs_sparse.specs.Sparse.{HoldsFrom};
 ghost use Rattle.hfs_fields.specs.Mdb.{bytes_at};
 ghost use Rattle.hfs_containers.specs.Raw.{known_data, layout_of};
 ghost use Rattle.hfs_containers.specs.Reading.{IsTold, IsToldOf};
@@ -9,7 +10,7 @@ ghost use Rattle.hfs_containers.specs.Reading.{IsTold, IsToldOf};
 use crate::pieces::piece_at;
 use crate::ranges::Layout;
 use crate::source::ReadAt;
-use hfs_raw::{UserData, data_start, put_data};
+use hfs_raw::{UserData, are_whole_sectors, data_start, put_data};
 use hfs_source::PlacedBytes;
 use hfs_sparse::SparseFault;
 use std::io;
@@ -43,6 +44,16 @@ impl<S: PlacedBytes> RawFile<S> {
     }
 }
 
+/// The bytes of the sector that begins at a place.
+fn sector_at<S: ReadAt>(source: &mut S, place: u64) -> io::Result<[u8; 2352]>
+    ensures read { IfOk result (HoldsFrom (S.known source.old) place) }
+    ensures known { S.known source.new ≡ S.known source.old }
+{
+    let mut sector = [0; SECTOR as usize];
+    source.read_at(place, &mut sector)?;
+    Ok(sector)
+}
+
 /// Reads user data from byte `place` of it on, as much as there is room for: one read of each sector in which some of it is.
 fn read_data<S: ReadAt>(source: &mut S, place: u64, into: &mut [u8]) -> io::Result<()>
     requires { (place + length into.old) * 2352 < 2 ^ 64 * 2048 }
@@ -56,8 +67,7 @@ fn read_data<S: ReadAt>(source: &mut S, place: u64, into: &mut [u8]) -> io::Resu
         let at = place + done as u64;
         let from = (at % DATA) as usize;
         let count = (into.len() - done).min(2_048 - from);
-        let mut sector = [0; SECTOR as usize];
-        source.read_at(at / DATA * SECTOR, &mut sector)?;
+        let sector = sector_at(source, at / DATA * SECTOR)?;
         put_data(&sector, from, &mut into[done..done + count]);
         done += count;
     }
@@ -90,12 +100,11 @@ impl<S: ReadAt> ReadAt for RawFile<S> {
 
 /// What the bytes of a file are that has `len` of them: raw sectors where that is a multiple of 2,352 and the first sector has user data. Where it is none
 /// nothing is read. Error: the read failed.
-#[tactic(auto, unfolding(crate::specs::Raw::layout_of))]
 pub fn find_layout<S: ReadAt>(source: &mut S, len: u64) -> Result<Layout, SparseFault>
     ensures layout { IfOk result (IsToldOf (S.known source.old) len layout_of) }
     ensures known { S.known source.new ≡ S.known source.old }
 {
-    if len < SECTOR || len % SECTOR != 0 {
+    if !are_whole_sectors(len) {
         return Ok(Layout::Plain);
     }
     let head = piece_at(source, 0)?;

@@ -54,6 +54,10 @@ others_of (suc n) file = count_without (data_start (take 24 file)) + others_of n
 abbrev pub other_count : List ℕ → ℕ
 other_count file = others_of (sector_count file) file
 
+-- whether so many bytes are whole sectors
+unfoldable pub are_whole_sectors : ℕ → Bool
+are_whole_sectors len = nat_le 2352 len && (len % 2352 == 0)
+
 -- whether a file is of raw sectors: it has whole ones, and the first has user data
 unfoldable pub is_raw : List ℕ → Bool
-is_raw file = nat_le 2352 (length file) && (length file % 2352 == 0) && is_some (data_start (take 24 file))
+is_raw file = are_whole_sectors (length file) && is_some (data_start (take 24 file))

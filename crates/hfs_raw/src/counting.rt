@@ -2,7 +2,7 @@
 ghost use Rattle.std.specs.Prelude.{◌≡◌, ◌+◌, ◌*◌, ◌≤◌, ◌<◌, ◌^◌, IfOk, OnErr, length};
 ghost use Rattle.std.specs.Option.{is_some};
 ghost use Rattle.hfs_fields.specs.Mdb.{bytes_at};
-ghost use Rattle.hfs_raw.specs.Sectors.{count_without, data_start, is_raw, other_count};
+ghost use Rattle.hfs_raw.specs.Sectors.{are_whole_sectors, count_without, data_start, is_raw, other_count};
 ghost use Rattle.hfs_source.specs.Images.{FailsWhere, OfEach};
 
 use crate::sector::{HEAD, SECTOR, data_start};
@@ -22,6 +22,14 @@ fn start_at<S: PlacedBytes>(bytes: &mut S, place: u64) -> io::Result<Option<usiz
     Ok(data_start(&head))
 }
 
+/// Whether so many bytes are whole sectors, at least one.
+#[tactic(auto, unfolding(crate::specs::Sectors::are_whole_sectors))]
+pub fn are_whole_sectors(len: u64) -> bool
+    ensures { result ≡ are_whole_sectors len }
+{
+    len >= SECTOR && len % SECTOR == 0
+}
+
 /// Whether a file is of raw sectors: its length is a multiple of 2,352, and its first sector has user data. Where the length is another
 /// nothing is read.
 #[tactic(auto, unfolding(crate::specs::Sectors::is_raw))]
@@ -31,8 +39,7 @@ pub fn is_raw<S: PlacedBytes>(bytes: &mut S) -> io::Result<bool>
     ensures fails { OnErr result (S.Fails bytes.old 0 24) }
     ensures later { FailsWhere (S.Fails bytes.new) (S.Fails bytes.old) }
 {
-    let len = bytes.len();
-    if len < SECTOR || len % SECTOR != 0 {
+    if !are_whole_sectors(bytes.len()) {
         return Ok(false);
     }
     let start = start_at(bytes, 0)?;

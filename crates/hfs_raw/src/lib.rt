@@ -8,6 +8,6 @@ mod sector;
 #[cfg(test)]
 mod tests;
 
-pub use crate::counting::{count_others, is_raw};
+pub use crate::counting::{are_whole_sectors, count_others, is_raw};
 pub use crate::data::UserData;
 pub use crate::sector::{data_start, put_data};
