@@ -2,7 +2,9 @@
 
 use crate::saving::{save_as_new, tell};
 use crate::words::ExtractWords;
-use hfs_commands::{Counted, Fault, ImageContents, Status, extracted_text, need_volume};
+use hfs_commands::{
+    Counted, Fault, ImageContents, ReadContents, Status, extracted_text, need_volume,
+};
 use hfs_console::{print_lines, tell_sum};
 use hfs_take::{FoundPart, find_part};
 
@@ -23,17 +25,23 @@ pub fn extract_volume<'a>(rt: &HostRuntime, words: &ExtractWords<'a>) -> Result<
         source,
         len,
     };
-    let leftover = save_as_new(rt, words.out, words.file, &mut contents)?;
-    print_extracted(rt, len)?;
-    tell(rt, &leftover);
+    make_file(rt, words, &mut contents, len)?;
     tell_sum(rt, words.file, sum == Some(false));
     Ok(Status::Done.number())
 }
 
-/// Prints how many bytes a volume has that was written.
-fn print_extracted(rt: &HostRuntime, len: u64) -> Result<(), Fault<'static>> {
+/// Makes the file, and prints that it has so many bytes. The text is made before the file is, so that want of memory leaves none.
+fn make_file<'a, C: ReadContents>(
+    rt: &HostRuntime,
+    words: &ExtractWords<'a>,
+    contents: &mut C,
+    len: u64,
+) -> Result<(), Fault<'a>> {
     let Ok(text) = extracted_text(rt.alloc(), len) else {
         return Err(Fault::NoMemory);
     };
-    print_lines(rt, text.as_str())
+    let leftover = save_as_new(rt, words.out, words.file, contents)?;
+    print_lines(rt, text.as_str())?;
+    tell(rt, &leftover);
+    Ok(())
 }
