@@ -94,11 +94,13 @@ fn are_names(
         return Ok(false);
     }
     let names = places.names(alloc, volume, i, path)?;
-    Ok(names.len() == wanted.len()
-        && names
-            .iter()
-            .zip(wanted)
-            .all(|(name, bytes)| name.bytes() == *bytes))
+    Ok(
+        names.len() == wanted.len()
+            && names
+                .iter()
+                .zip(wanted)
+                .all(|(name, bytes)| name.bytes() == *bytes),
+    )
 }
 
 /// Of a volume whose root is lost: a file in a folder in another one that only a thread names, and a file whose folder is lost.
