@@ -59,6 +59,7 @@ seek (suc count) value wanted = by (eqb (value count) wanted) refl (seek count v
               let last : k ≡ count = omega (arith, under, ge) in
               eqb-false (value count) wanted other (ap value (sym last) ∙ same)
         ])
+
     by : (b : Bool) → eqb (value count) wanted ≡ b → ((k : ℕ) × (k < count) × (value k ≡ wanted)) ⊎ ((k : ℕ) → k < count → value k ≡ wanted → ⊥)
         → ((k : ℕ) × (k < suc count) × (value k ≡ wanted)) ⊎ ((k : ℕ) → k < suc count → value k ≡ wanted → ⊥)
     by true e before = inl (count, omega arith, eqb-true (value count) wanted e)
@@ -71,10 +72,16 @@ repeats (suc count) value few = by (λ g under. repeats count g under) (seek (su
   where
     last : ℕ
     last = value (suc count)
+
     squeezed : ((k : ℕ) → k < suc count → value k ≡ last → ⊥) → Repeats (suc count) (λ k. without last (value k)) → Repeats (suc (suc count)) value
     squeezed none r = record {
-        first = r.first; again = r.again; later = r.later; within = omega (arith, r.within);
-        same = without-same last (value r.first) (value r.again) (none r.first (omega (arith, r.later, r.within))) (none r.again r.within) r.same }
+      first = r.first;
+      again = r.again;
+      later = r.later;
+      within = omega (arith, r.within);
+      same = without-same last (value r.first) (value r.again) (none r.first (omega (arith, r.later, r.within))) (none r.again r.within) r.same;
+    }
+
     by : ((g : ℕ → ℕ) → ((k : ℕ) → k < suc count → g k < count) → Repeats (suc count) g)
         → ((k : ℕ) × (k < suc count) × (value k ≡ last)) ⊎ ((k : ℕ) → k < suc count → value k ≡ last → ⊥) → Repeats (suc (suc count)) value
     by fewer (inl found) = record { first = found.0; again = suc count; later = found.1; within = omega arith; same = found.2 }

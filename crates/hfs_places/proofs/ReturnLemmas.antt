@@ -55,6 +55,7 @@ goes-on ups i n a =
     times : (n d : ℕ) → 0 < d → n ≤ n * d
     times zero d some = omega arith
     times (suc n) d some = let fewer : n ≤ n * d = times n d some in omega (arith, suc-mul n d, fewer, some)
+
     far_enough : (first n d : ℕ) → 0 < d → n ≤ first + n * d
     far_enough first n d some = let enough : n ≤ n * d = times n d some in omega (arith, enough)
 

@@ -22,7 +22,11 @@ failed_more old mid new asked h is = since_then HasFailed old mid new (failed as
 pub name_free : (path folder name : List ℕ) (number : ℕ) (old tried new : List SystemStep) → number < 100 → folder ≡ new_folder_path path number → name ≡ folder → HasSince HasFailed old tried
     → new ≡ done (made_folder name) ∷ tried → HasNewFolder path folder old new
 name_free path folder name number old tried new below at same h is = record {
-    beside = (number, below, at); tried = tried; refused = h; made = is ∙ ap (λ (p : List ℕ). done (made_folder p) ∷ tried) same }
+  beside = (number, below, at);
+  tried = tried;
+  refused = h;
+  made = is ∙ ap (λ (p : List ℕ). done (made_folder p) ∷ tried) same;
+}
 
 pub new_beside : (path folder : List ℕ) (old new : List SystemStep) → HasNewFolder path folder old new → IsNewFolder path folder
 new_beside path folder old new h = h.beside

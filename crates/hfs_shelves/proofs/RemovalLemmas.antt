@@ -1,6 +1,6 @@
 -- Steps that only remove in a folder.
-use Rattle.std.proofs.Common.{◌≡◌, ℕ, List, [], ◌∷◌, ◌++◌, Option, Some, None, Result, Ok, Err, ◌⊎◌, refl, sym, ap, ◌∙◌, subst, append_assoc, inl, inr}
-use Rattle.std.specs.Prelude.{⊤, codes, IfOk, MatchResult, is_some, true}
+use Rattle.std.proofs.Common.{◌≡◌, ℕ, List, [], ◌∷◌, ◌++◌, Option, Some, None, Result, Ok, Err, ◌⊎◌, refl, sym, ap, ◌∙◌, subst, append_assoc, inl, inr, length, arith, eqb-true}
+use Rattle.std.specs.Prelude.{⊤, codes, IfOk, ◌==◌, MatchResult, is_some, false, true}
 use Rattle.hfs_shelves.specs.ShelfPaths.{path_within}
 use Rattle.hfs_shelves.specs.Told.{IsFolderOrIn}
 use Rattle.hfs_shelves.specs.SystemSteps.{Asked, SystemStep, Does, done, failed, made_folder, opened, wrote, timed, closed, moved, removed_file, found_folder, removed_folder, looked}
@@ -8,7 +8,7 @@ use Rattle.hfs_shelves.specs.Removals.{AreSteps, EndsRemoval, FailsIn, HasFailed
 use Rattle.hfs_shelves.specs.FileRemovals.{removal_of}
 use Rattle.hfs_shelves.specs.declared.system.Removal.{Removal}
 use Rattle.hfs_shelves.specs.declared.system.Removal.TheVariants as found
-use Rattle.hfs_shelves.specs.Tries.{HasNextPlace, HasTried}
+use Rattle.hfs_shelves.specs.Tries.{HasNextPlace, HasTried, is_stopped}
 use Rattle.hfs_shelves.specs.declared.removal.Tried.{Tried}
 use Rattle.hfs_shelves.specs.declared.removal.Tried.TheVariants as tried
 
@@ -28,9 +28,10 @@ both Fact (x ∷ xs) ys left right = (left.0, both Fact xs ys left.1 right)
 
 pub since_trans : (Fact : SystemStep → Type 0) (old mid new : List SystemStep) → HasSince Fact old mid → HasSince Fact mid new → HasSince Fact old new
 since_trans Fact old mid new h more = record {
-    since = more.since ++ h.since;
-    whole = more.whole ∙ ap (λ (xs : List SystemStep). more.since ++ xs) h.whole ∙ sym (append_assoc more.since h.since old);
-    each = both Fact more.since h.since more.each h.each }
+  since = more.since ++ h.since;
+  whole = more.whole ∙ ap (λ (xs : List SystemStep). more.since ++ xs) h.whole ∙ sym (append_assoc more.since h.since old);
+  each = both Fact more.since h.since more.each h.each;
+}
 
 into_all : (Fact More : SystemStep → Type 0) (xs : List SystemStep) → ((step : SystemStep) → Fact step → More step) → AreSteps Fact xs → AreSteps More xs
 into_all Fact More [] goes each = tt
@@ -73,7 +74,12 @@ fails_within folder inner step is h = (h.0, in_within folder inner h.0 is h.1, h
 -- what failed in what lies in a folder ends its removal
 pub refused_within : (folder inner : List ℕ) (old new : List SystemStep) → IsFolderOrIn folder inner → HasLast (FailsIn inner) inner old new → IsTakenAway folder old new
 refused_within folder inner old new is l = record {
-    before = l.before; last = l.last; ends = l.ends; removes = since_within folder inner old l.before is l.removes; is_last = inr (fails_within folder inner l.last is l.is_last) }
+  before = l.before;
+  last = l.last;
+  ends = l.ends;
+  removes = since_within folder inner old l.before is l.removes;
+  is_last = inr (fails_within folder inner l.last is l.is_last);
+}
 
 -- ---- one name
 
@@ -83,13 +89,23 @@ since_file folder name path found.Folder old new at is = since_then (RemovesIn f
 
 pub refused_file : (folder name path : List ℕ) (old new : List SystemStep) → path ≡ path_within folder name → new ≡ failed (removal_of found.Gone path) ∷ old → HasLast (FailsIn folder) folder old new
 refused_file folder name path old new at is = record {
-    before = old; last = failed (removed_file path); ends = is; removes = since_none (RemovesIn folder) old; is_last = (path, inr (name, at), inr refl) }
+  before = old;
+  last = failed (removed_file path);
+  ends = is;
+  removes = since_none (RemovesIn folder) old;
+  is_last = (path, inr (name, at), inr refl);
+}
 
 -- ---- names behind names
 
 pub last_behind : (Last : SystemStep → Type 0) (folder : List ℕ) (old mid new : List SystemStep) → HasSince (RemovesIn folder) old mid → HasLast Last folder mid new → HasLast Last folder old new
 last_behind Last folder old mid new h l = record {
-    before = l.before; last = l.last; ends = l.ends; removes = since_trans (RemovesIn folder) old mid l.before h l.removes; is_last = l.is_last }
+  before = l.before;
+  last = l.last;
+  ends = l.ends;
+  removes = since_trans (RemovesIn folder) old mid l.before h l.removes;
+  is_last = l.is_last;
+}
 
 pub tried_behind : (folder : List ℕ) (old mid new : List SystemStep) (came : Tried) → HasSince (RemovesIn folder) old mid → HasTried folder mid new came → HasTried folder old new came
 tried_behind folder old mid new (tried.Folder name) h more = since_trans (RemovesIn folder) old mid new h more
@@ -101,21 +117,43 @@ pub answered_behind : {E : Type 0} (folder : List ℕ) (old mid new : List Syste
 answered_behind folder old mid new (Ok came) h more = tried_behind folder old mid new came h more
 answered_behind folder old mid new (Err e) h more = since_trans (RemovesIn folder) old mid new h more
 
+pub gone_since : {E : Type 0} (folder : List ℕ) (old new : List SystemStep) (came : Result Tried E) → is_stopped came ≡ false → MatchResult came (HasTried folder old new) (λ _. HasSince (RemovesIn folder) old new)
+    → HasSince (RemovesIn folder) old new
+gone_since folder old new (Ok tried.Gone) e h = h
+gone_since folder old new (Ok (tried.Folder name)) e h = absurd (cc e)
+gone_since folder old new (Ok tried.Refused) e h = absurd (cc e)
+gone_since folder old new (Err x) e h = absurd (cc e)
+
 -- ---- the folder itself
 
 -- what lay at a place is gone, and the removal of that folder failed, or it is gone
 pub refused_folder : (folder place : List ℕ) (old mid new : List SystemStep) → IsFolderOrIn folder place → HasSince (RemovesIn place) old mid → new ≡ failed (removed_folder place) ∷ mid → IsTakenAway folder old new
 refused_folder folder place old mid new is h ends = record {
-    before = mid; last = failed (removed_folder place); ends = ends; removes = since_within folder place old mid is h; is_last = inr (place, is, inl refl) }
+  before = mid;
+  last = failed (removed_folder place);
+  ends = ends;
+  removes = since_within folder place old mid is h;
+  is_last = inr (place, is, inl refl);
+}
 
 pub removed_itself : (folder place : List ℕ) (old mid new : List SystemStep) → IsFolderOrIn folder place → place ≡ folder → HasSince (RemovesIn place) old mid → new ≡ done (removed_folder place) ∷ mid
     → IsTakenAway folder old new
 removed_itself folder place old mid new is same h ends = record {
-    before = mid; last = done (removed_folder place); ends = ends; removes = since_within folder place old mid is h; is_last = inl (ap (λ (p : List ℕ). done (removed_folder p)) same) }
+  before = mid;
+  last = done (removed_folder place);
+  ends = ends;
+  removes = since_within folder place old mid is h;
+  is_last = inl (ap (λ (p : List ℕ). done (removed_folder p)) same);
+}
 
 pub removed_within : (folder place : List ℕ) (old mid new : List SystemStep) → IsFolderOrIn folder place → HasSince (RemovesIn place) old mid → new ≡ done (removed_folder place) ∷ mid
     → HasSince (RemovesIn folder) old new
 removed_within folder place old mid new is h ends = since_then (RemovesIn folder) old mid new (done (removed_folder place)) (since_within folder place old mid is h) ends is
+
+-- a text without bytes
+pub none_there : (text : List ℕ) → (length text == 0) ≡ true → text ≡ []
+none_there [] e = refl
+none_there (c ∷ text) e = let no : length (c ∷ text) ≡ 0 = eqb-true (length (c ∷ text)) 0 e in absurd (omega (arith, no))
 
 -- there is more to do
 pub more_places : {T E : Type 0} (folder : List ℕ) (old new : List SystemStep) (next : Result (Option T) E) → IfOk next (λ place. is_some place ≡ true) → HasSince (RemovesIn folder) old new
@@ -144,4 +182,4 @@ removes_last folder step (inr h) = by_kind h.2
 pub taken_since : (folder : List ℕ) (old new : List SystemStep) → IsTakenAway folder old new → HasSince (RemovesIn folder) old new
 taken_since folder old new l = since_then (RemovesIn folder) old l.before new l.last l.removes l.ends (removes_last folder l.last l.is_last)
 
-pub ruleset removals = (since_none, since_trans, since_within, refused_within, since_file, refused_file, tried_behind, answered_behind, refused_folder, removed_itself, removed_within, more_places, ended, taken_behind)
+pub ruleset removals = (since_none, refused_file, refused_within, ended, taken_behind)

@@ -1,5 +1,5 @@
 -- What came of removing what lies in a folder.
-use Rattle.std.specs.Prelude.{ℕ, List, Result, MatchResult, Option, Some, None}
+use Rattle.std.specs.Prelude.{ℕ, List, Bool, true, false, Result, Ok, Err, MatchResult, Option, Some, None}
 use Rattle.std.specs.Global.{Global}
 use Rattle.hfs_shelves.specs.SystemSteps.{SystemStep}
 use Rattle.hfs_shelves.specs.Removals.{FailsIn, HasLast, HasSince, IsTakenAway, RemovesIn}
@@ -11,6 +11,13 @@ abbrev pub HasTried : List ℕ → List SystemStep → List SystemStep → Tried
 HasTried folder old new (tried.Folder name) = HasSince (RemovesIn folder) old new
 HasTried folder old new tried.Gone = HasSince (RemovesIn folder) old new
 HasTried folder old new tried.Refused = HasLast (FailsIn folder) folder old new
+
+-- there is something that is not gone
+abbrev pub is_stopped : {E : Type 0} → Result Tried E → Bool
+is_stopped (Ok tried.Gone) = false
+is_stopped (Ok (tried.Folder name)) = true
+is_stopped (Ok tried.Refused) = true
+is_stopped (Err e) = true
 
 -- so too where memory was refused
 abbrev pub AnswersTried : {E : Type 0} → Result Tried E → List ℕ → List SystemStep → List SystemStep → Type 0

@@ -127,7 +127,12 @@ impl<Y: FileSystem> FileShelf<Y> {
         let mut shelf = self;
         shelf.close();
         shelf.kept = None;
-        let FileShelf { alloc, mut system, folder, .. } = shelf;
+        let FileShelf {
+            alloc,
+            mut system,
+            folder,
+            ..
+        } = shelf;
         match system.rename(folder.as_str(), path) {
             Ok(()) => Ok(system),
             Err(_) => Err(removed(alloc, system, folder.as_str(), cannot_write(alloc, path))),
@@ -146,7 +151,12 @@ impl<Y: FileSystem> FileShelf<Y> {
         let mut shelf = self;
         shelf.close();
         shelf.kept = None;
-        let FileShelf { alloc, mut system, folder, .. } = shelf;
+        let FileShelf {
+            alloc,
+            mut system,
+            folder,
+            ..
+        } = shelf;
         match remove_folder(alloc, &mut system, folder.as_str()) {
             Ok(()) => Ok(system),
             Err(_) => Err(system),

@@ -2,7 +2,7 @@
 ghost use Rattle.std.specs.Prelude.{◌≡◌, [], IfOk, MatchResult, is_some, string_bytes, true};
 ghost use Rattle.hfs_shelves.specs.Told.{IsFolderOrIn};
 ghost use Rattle.hfs_shelves.specs.Removals.{HasSince, IsTakenAway, RemovesIn};
-ghost use Rattle.hfs_shelves.specs.Tries.{AnswersTried, HasNextPlace};
+ghost use Rattle.hfs_shelves.specs.Tries.{AnswersTried, HasNextPlace, is_stopped};
 
 use crate::paths::path_within;
 use crate::system::{FileSystem, Removal};
@@ -121,7 +121,7 @@ fn folder_of(alloc: Global, inner: &str) -> Result<String, AllocError> {
     }
 }
 
-/// Removes what lies in a folder, up to the first folder in it.
+/// Removes what lies in a folder, up to the first folder in it. Names that are no text are passed over.
 #[tactic(auto, using(crate::proofs::RemovalLemmas::removals))]
 fn remove_to_folder<Y: FileSystem>(
     alloc: Global,
@@ -142,32 +142,49 @@ fn remove_to_folder<Y: FileSystem>(
         if read.is_empty() {
             return Ok(Tried::Gone);
         }
-        match remove_names(alloc, system, folder, read) {
-            Ok(Tried::Gone) => {}
-            other => return other,
+        let text = str::from_utf8(read).unwrap_or("");
+        let tried = remove_names(alloc, system, folder, text);
+        if is_stopped(&tried) {
+            return tried;
         }
     }
     Ok(Tried::Gone)
 }
 
-/// Removes what has these names in a folder, each ended by a zero byte, up to the first folder. A
-/// name that is no text is passed over.
+/// Removes what has these names in a folder, each ended by a zero byte, up to the first folder.
 #[tactic(auto, using(crate::proofs::RemovalLemmas::removals))]
 fn remove_names<Y: FileSystem>(
     alloc: Global,
     system: &mut Y,
     folder: &str,
-    names: &[u8],
+    names: &str,
 ) -> Result<Tried, AllocError>
     ensures { AnswersTried result folder.now (Y.did system.old) (Y.did system.new) }
 {
-    for name in names.split(|byte| *byte == 0) {
-        match remove_name(alloc, system, folder, str::from_utf8(name).unwrap_or("")) {
-            Ok(Tried::Gone) => {}
-            other => return other,
+    let mut rest = names;
+    for _ in 0..names.len() {
+        let Some((name, behind)) = rest.split_once('\0') else {
+            return Ok(Tried::Gone);
+        };
+        let tried = remove_name(alloc, system, folder, name);
+        if is_stopped(&tried) {
+            return tried;
         }
+        rest = behind;
     }
     Ok(Tried::Gone)
+}
+
+/// Whether there is something that is not gone.
+fn is_stopped(tried: &Result<Tried, AllocError>) -> bool
+    ensures { result ≡ is_stopped tried.now }
+{
+    match tried {
+        Ok(Tried::Gone) => false,
+        Ok(Tried::Folder(_)) => true,
+        Ok(Tried::Refused) => true,
+        Err(_) => true,
+    }
 }
 
 /// Removes what has this name in a folder, unless it is a folder. The names by which a folder and
