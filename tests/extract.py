@@ -18,7 +18,7 @@ import time
 from pathlib import Path
 
 from driver.programs import built
-from volumes import WRAPPINGS, entry, found, in_disk_copy, in_macbinary, in_map
+from volumes import WRAPPINGS, content, entry, found, in_disk_copy, in_macbinary, in_map
 
 HERE = Path(__file__).resolve().parent
 TOOL = str(built('hfs_tool'))
@@ -135,7 +135,7 @@ def wrapped(bench, volume, name):
         ranges = found(data)
         for n, (how, start, size, total) in enumerate(ranges, 1):
             told = f'{path}: {SUM}\n' if what.endswith('another sum') else ''
-            part = data[start:start + size]
+            part = content(data)[0][start:start + size]
             bench.gives(f'{name} {what}, volume {n}', part, ['extract', path, bench.out, '--volume', n], told=told)
             bench.gives(f'{name} {what}, piped, volume {n}', part, ['extract', '/dev/stdin', bench.out, '--volume', n], data,
                         told=told.replace(str(path), '/dev/stdin'))

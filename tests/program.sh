@@ -158,6 +158,14 @@ END
     printf '\000\006Floppy' && head -c 75 /dev/zero && number 819200 && head -c 41 /dev/zero
     cat "$volumes/hfsutils-800k.img"
 } > "$readme/floppy.bin"
+# The floppy in raw CD sectors of mode 1, and two sectors of music behind it.
+python3 - "$volumes/hfsutils-800k.img" > "$readme/disc.bin" << 'END'
+import sys
+data = open(sys.argv[1], 'rb').read()
+for at in range(0, len(data), 2048):
+    sys.stdout.buffer.write(b'\0' + bytes([255] * 10) + b'\0\0\2\0\1' + data[at:at + 2048] + bytes(288))
+sys.stdout.buffer.write(bytes([7]) * 4704)
+END
 
 # What the manual asks of a database is asked of Python's SQLite where the program sqlite3 isn't installed.
 if ! command -v sqlite3 > /dev/null; then

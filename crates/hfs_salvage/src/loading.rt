@@ -39,6 +39,7 @@ pub(crate) struct LoadedImage<S: BlockSource> {
 }
 
 /// All bytes of a range of a file, which are read at once.
+#[tactic(auto, using(crate::proofs::HeldLemmas::held_read))]
 fn read_range<'a, S: ReadAt>(
     alloc: Global,
     file: &mut S,

@@ -1,9 +1,7 @@
 //! What the words do on volumes that lie in files.
 
 use crate::commands::print_info;
-use hfs_commands::{
-    Fault, ReadAt, Status, content_of, open_file, open_part, volume_lines,
-};
+use hfs_commands::{Fault, ReadAt, Status, content_of, open_file, open_part, volume_lines};
 use hfs_console::print_lines;
 
 /// Prints a line for each volume that lies in a file.
