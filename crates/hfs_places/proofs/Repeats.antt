@@ -12,7 +12,7 @@ pub record Repeats (count : ℕ) (value : ℕ → ℕ) : Type 0 where
   pub same : value first ≡ value again
 
 -- the numbers without one of them
-pub without : ℕ → ℕ → ℕ
+abbrev pub without : ℕ → ℕ → ℕ
 without gone x = if ltb gone x then x - 1 else x
 
 above : (gone x : ℕ) → ltb gone x ≡ true → without gone x ≡ x - 1
@@ -36,12 +36,12 @@ without-below gone x count few also other = by (ltb gone x) refl
     by false e = omega (arith, below gone x e, less gone x other e, also)
 
 pub without-same : (gone x y : ℕ) → (x ≡ gone → ⊥) → (y ≡ gone → ⊥) → without gone x ≡ without gone y → x ≡ y
-without-same gone x y no none same = by (ltb gone x) (ltb gone y) refl refl
+without-same gone x y not_one not_other same = by (ltb gone x) (ltb gone y) refl refl
   where
     by : (a b : Bool) → ltb gone x ≡ a → ltb gone y ≡ b → x ≡ y
     by true true e f = omega (arith, above gone x e, above gone y f, ltb-true gone x e, ltb-true gone y f, same)
-    by true false e f = absurd (omega (arith, above gone x e, below gone y f, ltb-true gone x e, less gone y none f, same))
-    by false true e f = absurd (omega (arith, below gone x e, above gone y f, less gone x no e, ltb-true gone y f, same))
+    by true false e f = absurd (omega (arith, above gone x e, below gone y f, ltb-true gone x e, less gone y not_other f, same))
+    by false true e f = absurd (omega (arith, below gone x e, above gone y f, less gone x not_one e, ltb-true gone y f, same))
     by false false e f = sym (below gone x e) ∙ same ∙ below gone y f
 
 -- a number that has a value, or that there is none

@@ -62,7 +62,7 @@ goes-on ups i n a =
 -- ---- it comes to a place again
 
 module _ (things : List Thing) (i n m : ℕ) (is : n ≡ suc m) (some : 2 < n) (few : (j : ℕ) → j < length things → (thing_at things j).parent < n) (on : is_some (steps (ups_of things) n i) ≡ true) where
-  at : ℕ → ℕ
+  abbrev at : ℕ → ℕ
   at k = unwrap_or (steps (ups_of things) k i) 0
 
   at-is : (k : ℕ) → k ≤ n → steps (ups_of things) k i ≡ Some (at k)
@@ -83,7 +83,7 @@ module _ (things : List Thing) (i n m : ℕ) (is : n ≡ suc m) (some : 2 < n) (
             absurd (cc no)
       ]
 
-  number : ℕ → ℕ
+  abbrev number : ℕ → ℕ
   number k = (thing_at things (at k)).parent
 
   leads : (k : ℕ) → k < n → folder_of things (number k) ≡ Some (at (k + 1))
@@ -92,7 +92,7 @@ module _ (things : List Thing) (i n m : ℕ) (is : n ≡ suc m) (some : 2 < n) (
   other : (k : ℕ) → k < n → number k ≡ 2 → ⊥
   other k lt two = true≢false (sym (eq-eqb (number k) 2 two) ∙ (found-two things (number k) (at (k + 1)) (leads k lt)).0)
 
-  value : ℕ → ℕ
+  abbrev value : ℕ → ℕ
   value k = without 2 (number k)
 
   value-few : (k : ℕ) → k < suc m → value k < m
