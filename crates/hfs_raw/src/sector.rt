@@ -18,7 +18,9 @@ pub(crate) const HEAD: usize = 24;
 fn has_pattern(head: &[u8; 24]) -> bool
     ensures { result ≡ has_pattern head.now }
 {
-    u32_at(head, 0) == 0x00FF_FFFF && u32_at(head, 4) == 0xFFFF_FFFF && u32_at(head, 8) == 0xFFFF_FF00
+    u32_at(head, 0) == 0x00FF_FFFF
+        && u32_at(head, 4) == 0xFFFF_FFFF
+        && u32_at(head, 8) == 0xFFFF_FF00
 }
 
 #[tactic(auto, unfolding(crate::specs::Sectors::is_mode_2_form_1))]
