@@ -1,5 +1,5 @@
 -- Pieces of the user data of sectors.
-use Rattle.std.proofs.Common.{◌≡◌, ◌∙◌, ℕ, ◌+◌, ◌-◌, ◌*◌, ◌<◌, ◌≤◌, Bool, true, false, cond, List, [], ◌++◌, length, take, drop, Option, Some, None, Result, Ok, Err, ap, sym, subst, replicate, arith, refl, zero, suc}
+use Rattle.std.proofs.Common.{◌≡◌, ◌∙◌, ℕ, ◌+◌, ◌-◌, ◌*◌, ◌<◌, ◌≤◌, Bool, true, false, cond, List, ◌++◌, length, take, drop, Option, Some, None, Result, Ok, Err, ap, sym, replicate, arith, refl, zero, suc}
 use Rattle.std.specs.Prelude.{IfSome, OnOk}
 use Rattle.std.proofs.lemmas.List.{length-take, length-drop, length-replicate, length-append, take-append-le, drop-append-le, drop-drop, drop-take, take-take, drop-replicate, take-replicate}
 use Rattle.std.proofs.lemmas.Slice.{take-put_mid}

@@ -1,5 +1,5 @@
 -- Raw CD sectors of 2,352 bytes: which of them have user data, and where.
-use Rattle.std.specs.Prelude.{ℕ, ◌+◌, ◌*◌, ◌/◌, ◌%◌, Bool, ◌&&◌, ◌==◌, nat_le, if◌then◌else◌, List, [], ◌++◌, length, take, drop, replicate, zero, suc, Option, None, Some, slice_index}
+use Rattle.std.specs.Prelude.{ℕ, ◌+◌, ◌/◌, ◌%◌, Bool, ◌&&◌, ◌==◌, nat_le, if◌then◌else◌, List, [], ◌++◌, length, take, drop, replicate, zero, suc, Option, None, Some, slice_index}
 use Rattle.std.specs.Option.{is_some}
 use Rattle.hfs_fields.specs.Numbers.{number_at}
 use Rattle.hfs_fields.specs.Mdb.{bytes_at}

@@ -1,5 +1,5 @@
 //! Pieces of user data, sector by sector.
-ghost use Rattle.std.specs.Prelude.{◌≡◌, ◌+◌, ◌*◌, ◌<◌, ◌≤◌, ◌^◌, ℕ, IfOk, IsOk, OnErr, OnOk, length};
+ghost use Rattle.std.specs.Prelude.{◌+◌, ◌*◌, ◌<◌, ◌≤◌, ◌^◌, ℕ, IfOk, OnErr, OnOk, length};
 ghost use Rattle.hfs_raw.specs.Reading.{FailsInSector, IsDataOfOne};
 ghost use Rattle.hfs_source.specs.Images.{FailsWhere, HasAt, OfEach};
 

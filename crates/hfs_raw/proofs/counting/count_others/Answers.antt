@@ -1,5 +1,5 @@
 -- Sector by sector.
-use Rattle.std.proofs.Common.{rules, ◌≡◌, ◌/◌, ap, sym, arith}
+use Rattle.std.proofs.Common.{◌/◌, ap, sym, arith}
 use Rattle.hfs_raw.specs.Sectors.{others_of}
 use Rattle.hfs_raw.proofs.DataLemmas.{others-end, others-more}
 use Rattle.hfs_raw.proofs.counting.count_others.Goals as goal

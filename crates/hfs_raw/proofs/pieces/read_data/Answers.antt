@@ -1,5 +1,5 @@
 -- Sector by sector.
-use Rattle.std.proofs.Common.{rules, ◌≡◌, ◌∙◌, ◌+◌, ◌-◌, ◌*◌, ◌/◌, ◌%◌, ◌<◌, ◌≤◌, min, length, ap, arith}
+use Rattle.std.proofs.Common.{rules, ◌≡◌, ◌∙◌, ◌+◌, ◌-◌, ◌/◌, ◌%◌, min, length, arith}
 use Rattle.hfs_fields.specs.Mdb.{bytes_at}
 use Rattle.hfs_raw.specs.Sectors.{sector_data}
 use Rattle.hfs_raw.proofs.DataLemmas.{laid-more}

@@ -1,5 +1,5 @@
 -- The part as it stands in the sector, or zeros.
-use Rattle.std.proofs.Common.{rules, ◌≡◌, ◌+◌, ◌≤◌, length, ◌∙◌, arith, sym, replicate}
+use Rattle.std.proofs.Common.{rules, ◌≡◌, ◌+◌, length, ◌∙◌, arith, sym, replicate}
 use Rattle.hfs_fields.specs.Mdb.{bytes_at}
 use Rattle.hfs_raw.proofs.DataLemmas.{data-missing, data-there}
 use Rattle.hfs_raw.proofs.sector.put_data.Goals as goal

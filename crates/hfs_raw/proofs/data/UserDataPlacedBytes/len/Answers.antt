@@ -1,5 +1,5 @@
 -- Each sector has 2,048 bytes of user data.
-use Rattle.std.proofs.Common.{rules, ◌≡◌, ◌∙◌, ap, length}
+use Rattle.std.proofs.Common.{◌∙◌, ap, length}
 use Rattle.hfs_raw.proofs.DataLemmas.{length-data_of}
 use Rattle.hfs_raw.proofs.data.UserDataPlacedBytes.len.Goals as goal
 

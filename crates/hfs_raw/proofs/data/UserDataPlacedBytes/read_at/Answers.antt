@@ -1,5 +1,5 @@
 -- What is read lies in the sectors that there are.
-use Rattle.std.proofs.Common.{◌≡◌, ◌+◌, ◌*◌, ◌≤◌, length, arith, rules}
+use Rattle.std.proofs.Common.{◌+◌, length, arith}
 use Rattle.hfs_source.specs.Images.{HasAt, OfEach}
 use Rattle.hfs_raw.specs.Reading.{IsDataOfOne}
 use Rattle.hfs_raw.proofs.DataLemmas.{of-sectors}
