@@ -75,14 +75,14 @@ used_places-used (e ∷ es) = by (used_places es) (used_places-used es)
 
 -- ---- the blocks
 
-blocks-append : (xs ys : List Extent) → extent_blocks (xs ++ ys) ≡ extent_blocks xs ++ extent_blocks ys
+pub blocks-append : (xs ys : List Extent) → extent_blocks (xs ++ ys) ≡ extent_blocks xs ++ extent_blocks ys
 blocks-append xs ys = flat_map-append (λ (e : Extent). range_with_len e.first e.count) xs ys
 
 none-blocks : (xs : List Extent) → ((i : ℕ) (d : Extent) → i < length xs → (get_or xs i d).count ≡ 0) → extent_blocks xs ≡ []
 none-blocks [] h = refl
 none-blocks (x ∷ xs) h = (λ t. range_with_len x.first (h 0 x (omega arith) t) ++ extent_blocks xs) ∙ none-blocks xs (λ i d lt. h (suc i) d (omega (arith, lt)))
 
-rest-blocks : (es : List Extent) (k : ℕ) → ((i : ℕ) (d : Extent) → k ≤ i → i < length es → (get_or es i d).count ≡ 0) → extent_blocks (drop k es) ≡ []
+pub rest-blocks : (es : List Extent) (k : ℕ) → ((i : ℕ) (d : Extent) → k ≤ i → i < length es → (get_or es i d).count ≡ 0) → extent_blocks (drop k es) ≡ []
 rest-blocks es k h =
     none-blocks (drop k es) (λ i d lt.
     let long = length-drop k es in

@@ -1,10 +1,10 @@
 -- The blocks of extents of which the first ones stay, and the others.
-use Rattle.std.proofs.Common.{◌≡◌, ℕ, zero, suc, ◌+◌, ◌-◌, ◌<◌, ◌≤◌, inl, inr, Bool, true, false, cond, eqb, leb, List, [], ◌∷◌, ◌++◌, length, take, drop, get_or, refl, sym, ap, ◌∙◌, subst, arith}
+use Rattle.std.proofs.Common.{◌≡◌, ℕ, zero, suc, ◌+◌, ◌-◌, ◌<◌, ◌≤◌, inl, inr, Bool, true, false, cond, eqb, leb, List, [], ◌∷◌, ◌++◌, length, take, drop, set, get_or, refl, sym, ap, ◌∙◌, subst, arith}
 use Rattle.std.specs.Prelude.{min}
 use Rattle.std.specs.List.{range_with_len}
 use Rattle.std.proofs.Math.Seq.{take-append-add, drop-append-add, drop-append_seam}
 use Rattle.std.proofs.lemmas.Bool.{cases_lt, cases_Bool, le-leb, leb-true, ne_eqb}
-use Rattle.std.proofs.lemmas.List.{append-nil, append_assoc, take-append-le, drop-append-le, take_all, drop_all, drop_more}
+use Rattle.std.proofs.lemmas.List.{append-nil, append_assoc, take_more_set, drop-set-lt, take-append-le, drop-append-le, take_all, drop_all, drop_more}
 use Rattle.std.proofs.lemmas.List.Elements.{All-head, All-tail}
 use Rattle.std.proofs.lemmas.List.FromFn.{length-range_with_len}
 use Rattle.hfs_fields.specs.declared.extent.Extent.{Extent}
@@ -18,10 +18,10 @@ use Rattle.hfs_fork_extents.specs.Cuts.{cut_extent, cut, surplus}
 le-all : (n : ℕ) (e : Extent) → e.count ≤ n → leb e.count n ≡ true
 le-all n e le = le-leb e.count n le
 
-gt-all : (n : ℕ) (e : Extent) → n < e.count → leb e.count n ≡ false
+pub gt-all : (n : ℕ) (e : Extent) → n < e.count → leb e.count n ≡ false
 gt-all n e lt = elim (cases_Bool (leb e.count n)) [ inl is ↦ absurd (let le = leb-true e.count n is in omega (arith, le, lt)) | inr not ↦ not ]
 
-cut-whole : (n : ℕ) (e : Extent) → e.count ≤ n → cut_extent n e ≡ e
+pub cut-whole : (n : ℕ) (e : Extent) → e.count ≤ n → cut_extent n e ≡ e
 cut-whole n e le = ap (λ (b : Bool). cond b e (cond (eqb n 0) (record { first = 0; count = 0 }) (record { first = e.first; count = n }))) (le-all n e le)
 
 cut-part : (n : ℕ) (e : Extent) → n < e.count → range_with_len (cut_extent n e).first (cut_extent n e).count ≡ range_with_len e.first n
@@ -135,3 +135,16 @@ cut-three (a ∷ b ∷ []) n rest last x y z long r l p q s = absurd (omega (ari
 cut-three (a ∷ b ∷ c ∷ []) n rest last x y z long r l p q s =
     λ t. p t ∷ (q ∙ ap (λ m. cut_extent m b) r) t ∷ (s ∙ ap (λ m. cut_extent m c) (l ∙ ap (λ m. m - b.count) r)) t ∷ []
 cut-three (a ∷ b ∷ c ∷ d ∷ es) n rest last x y z long r l p q s = absurd (omega (arith, long))
+
+-- ---- all of them in their places
+
+pub cut-step : (es : List Extent) (i stay : ℕ) (d y : Extent) (next : ℕ) → i < length es → y ≡ cut_extent stay (get_or es i d) → next ≡ stay - (get_or es i d).count
+    → take (i + 1) (set es i y) ++ cut next (drop (i + 1) (set es i y)) ≡ take i es ++ cut stay (drop i es)
+cut-step es i stay d y next lt is less =
+    (λ t. take_more_set es i y lt t ++ cut (less t) (drop-set-lt (i + 1) es i y (omega arith) t))
+    ∙ append_assoc (take i es) (y ∷ []) (cut (stay - (get_or es i d).count) (drop (i + 1) es))
+    ∙ ap (λ (x : Extent). take i es ++ x ∷ cut (stay - (get_or es i d).count) (drop (i + 1) es)) is
+    ∙ ap (λ (l : List Extent). take i es ++ cut stay l) (sym (drop_more es i d lt))
+
+pub cut-end : (es : List Extent) (i stay : ℕ) → length es ≤ i → take i es ++ cut stay (drop i es) ≡ es
+cut-end es i stay past = (λ t. take_all i es past t ++ cut stay (drop_all i es past t)) ∙ append-nil es

@@ -1,3 +1,14 @@
 mod CutLemmas
 mod AddLemmas
-mod RecordLemmas
+pub mod RecordLemmas
+mod TreeEdits
+mod OwnRecords
+mod ThreeLemmas
+mod Chains
+mod NeedOne
+mod GrowLemmas
+mod LastRecord
+mod AddedRecords
+mod WholeLemmas
+mod RoomLemmas
+mod ShortLemmas

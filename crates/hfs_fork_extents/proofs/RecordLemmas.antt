@@ -16,7 +16,7 @@ module _ (file fork : ℕ) where
   passed block r other = ap (λ t. t && eqb r.0.block block && ltb block 65536 && ltb 0 (block_total (record_extents r.1))) other
 
   -- the records that a fork goes on with are found among its own
-  run_on-of_fork : (block : ℕ) (xs : Overflow) → run_on file fork block xs ≡ run_on file fork block (of_fork file fork xs)
+  pub run_on-of_fork : (block : ℕ) (xs : Overflow) → run_on file fork block xs ≡ run_on file fork block (of_fork file fork xs)
   run_on-of_fork block [] = refl
   run_on-of_fork block (x ∷ xs) =
       elim (is_of_fork file fork x) as (λ (t : Bool). is_of_fork file fork x ≡ t → run_on file fork block (x ∷ xs) ≡ run_on file fork block (cond t (x ∷ of_fork file fork xs) (of_fork file fork xs))) [

@@ -39,6 +39,18 @@ pub fn cut_extents(extents: &[Extent; 3], count: u32) -> [Extent; 3]
     ]
 }
 
+/// The first `count` blocks of a fork's extents, each of which keeps its place.
+pub(crate) fn cut_all(extents: &mut Vec<Extent>, count: u32)
+    ensures { extents.new.items ≡ spec.cut count extents.old.items }
+{
+    let mut stay = count;
+    for i in 0..extents.len() {
+        let extent = extents[i];
+        extents[i] = first_blocks(extent, stay);
+        stay = stay.saturating_sub(u32::from(extent.count));
+    }
+}
+
 /// The blocks of a fork's extents behind the first `count`, as extents: those that a fork loses which is cut.
 ///
 /// Errors: `AllocError` where memory was refused.

@@ -1,10 +1,18 @@
 //! The extents of a fork that comes to have another number of allocation blocks.
 #![tactic(auto)]
 
+mod adding;
 mod cuts;
+mod editing;
+mod growing;
 mod lengthening;
 mod records;
+mod settling;
+mod shortening;
+mod threes;
 
 pub use cuts::{cut_extents, surplus};
+pub use growing::{NodesWanted, lengthen_fork};
 pub use lengthening::lengthen;
 pub use records::cut_records;
+pub use shortening::{ShortFork, shorten_fork};

@@ -5,7 +5,8 @@ ghost use Rattle.hfs_btree_edits.specs.Edits.{Edits};
 ghost use Rattle.hfs_space.specs.Extents.{fork_byte};
 ghost use Rattle.hfs_space.specs.TreeKeys.{ext_keys, IsExtentsTree};
 ghost use Rattle.hfs_space_edits.specs.Dropped.{HasShrunk};
-ghost use Rattle.hfs_fork_extents.specs.Records.{HasRecordsBefore, KeepsOtherForks};
+ghost use Rattle.hfs_fork_extents.specs.Records.{HasRecordsBefore};
+ghost use Rattle.hfs_fork_extents.specs.Whole.{EditsFork};
 
 use hfs_btree_edits::NodesMut;
 use hfs_extents_edits::cut_fork;
@@ -14,7 +15,7 @@ use hfs_space::ForkKind;
 use std::alloc::{AllocError, Global};
 
 /// The byte of a fork in the keys.
-fn byte_of(fork: ForkKind) -> u8
+pub(crate) fn byte_of(fork: ForkKind) -> u8
     ensures { result ≡ fork_byte fork }
 {
     match fork {
@@ -42,8 +43,7 @@ pub fn cut_records<S: NodesMut>(
     ensures shrunk { Edits result (HasShrunk ext_keys) S.nodes nodes.old nodes.new }
     ensures own { Edits result (HasRecordsBefore file (fork_byte fork) block)
         S.nodes nodes.old nodes.new }
-    ensures others { Edits result (KeepsOtherForks file (fork_byte fork))
-        S.nodes nodes.old nodes.new }
+    ensures edits { Edits result (EditsFork file (fork_byte fork)) S.nodes nodes.old nodes.new }
     ensures kept { OnOk result (S.kept nodes.new ≡ S.kept nodes.old) }
 {
     let from = ExtKey {
