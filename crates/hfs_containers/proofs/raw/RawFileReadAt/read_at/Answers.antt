@@ -5,5 +5,5 @@ use Rattle.hfs_containers.proofs.raw.RawFileReadAt.read_at.Goals as goal
 
 pub returns-clause-read : goal.returns-clause-read
 returns-clause-read g c =
-    data-read c.read_data.result (g.S.ReadAt.known c.args.self.now.source) c.args.self.now.len c.args.place (length c.args.into.now) c.read_data.new.into (omega arith)
+    data-read c.read_data.result (g.S.ReadAt.known c.args.self.now.data.bytes) c.args.self.now.len c.args.place (length c.args.into.now) c.read_data.new.into (omega arith)
     c.read_data.ensures.read
