@@ -36,6 +36,7 @@ from remains import bombs, cases, chance
 from remains.bag import Remains, Source
 from remains.runs import PIPE, TOOL, Bench, Differs, ensure, ensure_info, found_in, remove, same_text
 from volumes import WRAPPINGS, entry, in_disk_copy
+from volumes import content as looked_into
 from volumes import found as volumes_in
 
 HERE = Path(__file__).resolve().parent
@@ -252,7 +253,7 @@ def try_volumes(bench: Bench) -> None:
         path.write_bytes(content)
         for number, (_, start, size, _) in enumerate(volumes_in(content), 1):
             with bench.watching(path):
-                try_volume(bench, path, number, content, content[start:start + size])
+                try_volume(bench, path, number, content, looked_into(content)[0][start:start + size])
             bench.counts.images += 1
         same_text(bench.told('rescue', path, bench.folder / 'bag', '--volume', 9), (2, b'no volume 9\n'), 'a volume that there is not')
         path.unlink()
