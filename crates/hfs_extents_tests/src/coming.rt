@@ -54,6 +54,7 @@ fn needs(rt: HostRuntime) -> Result<(), Fail> {
         extents_need(0, 3, 100) == 0 && extents_need(22, 0, 0) == 1 && extents_need(1, 1, 21) == 0
     );
     assert!(rt; extents_need(1, 1, 22) == 2 && extents_need(3, 2, 30) == 12);
+    assert!(rt; extents_need(2, 4, 10_000) == 11 && extents_need(4, 2, 40) == 18);
     assert!(rt; extents_need(14, 2, 30) == 133 && extents_need(15, 2, 30) == 4_294_967_296);
     Ok(())
 }

@@ -6,6 +6,8 @@ mod coming;
 #[cfg(test)]
 mod forks;
 #[cfg(test)]
+mod growing;
+#[cfg(test)]
 mod leaving;
 #[cfg(test)]
 mod trees;
