@@ -70,6 +70,25 @@ fn write_bag<'a, Y: FileSystem + Drop, H: Threads, S: BlockSource + Drop + Send,
     }
 }
 
+/// Takes an image apart that was opened, where nothing has the folder's name. Faults: `IsThere`; as [`write_bag`] has them.
+fn take_opened<'a, R: Files + AllocGlobal, H: Threads, S: BlockSource + Drop + Send, W: Watch>(
+    rt: &R,
+    threads: &H,
+    image: TakenImage<S>,
+    words: &TakeWords<'a>,
+    watch: &W,
+) -> Result<BagSums, TakeFault<'a>>
+    ensures fault { IfErr result (IsTakeFault words.now) }
+    ensures sums { IfOk result (λ sums. OfKnown image.opened.known image.opened.len
+        (λ bytes. IsSumOf sums (bag_items (entries_in bytes)))) }
+{
+    let mut system = SystemFiles::new(rt);
+    if system.is_there(words.folder) {
+        return Err(TakeFault::IsThere(words.folder));
+    }
+    write_bag(rt.alloc(), system, threads, image, words, watch)
+}
+
 /// Takes the volume of an image apart: makes the folder a bag of all its items. Faults, the first that holds: the image can't be read; `NoVolume`, `SeveralVolumes`;
 /// the image's own; `IsThere`; `CannotWrite` of the path that isn't written, the image can't be read in the middle, memory was refused. At a fault
 /// the folder isn't there, and what was written is taken away, as far as the system and memory allow.
@@ -87,11 +106,7 @@ where
         Ok(opened) => opened,
         Err(fault) => return Err(TakeFault::Image(fault)),
     };
-    let mut system = SystemFiles::new(rt);
-    if system.is_there(words.folder) {
-        return Err(TakeFault::IsThere(words.folder));
-    }
-    let sums = write_bag(rt.alloc(), system, threads, image, words, watch)?;
+    let sums = take_opened(rt, threads, image, words, watch)?;
     Ok(Taken { sums, sum })
 }
 
