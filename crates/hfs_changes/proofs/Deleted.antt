@@ -209,7 +209,7 @@ module _ (records : ItemsAreRecords) (within : OwnedAreWithin) (catalogs : Catal
   new_catalog = sound records (contents_in new) counts.next_id (catalog_in new) d.near new_lawful
 
   abbrev volume_with : Items → Mdb → Volume
-  volume_with items mdb = record { items = items; next_id = mdb.next_id; changed = mdb.modified; hardware_locked = is_bit_set 7 mdb.attributes.0; software_locked = is_bit_set 15 mdb.attributes.0 }
+  volume_with items mdb = record { items = items; next_id = mdb.next_id; changed = mdb.modified; hardware_locked = is_bit_set 7 mdb.attributes.0; software_locked = is_bit_set 15 mdb.attributes.0; block_size = mdb.allocation_block_size }
 
   made_volume : volume_in new ≡ (step (volume_in old) c).0
   unfolding volume_in
