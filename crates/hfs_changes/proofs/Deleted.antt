@@ -29,7 +29,7 @@ use Rattle.hfs_check.specs.Parts.{Blocks, mdb_in, extents_nodes, overflow_in, ca
 use Rattle.hfs_check.specs.Sound.{IsMdbSound, IsForkKey, IsExtentsSound, IsCatalogFileSound, AreBlocksSound}
 use Rattle.hfs_check.proofs.LawTypes.{CatalogIsSound}
 use Rattle.hfs_check.specs.VolumeOf.{contents_in, volume_in}
-use Rattle.hfs_check.specs.Agree.{KeepsVolume}
+use Rattle.hfs_check.proofs.Stays.{KeepsVolume}
 use Rattle.hfs_changes.proofs.ChangesLaws.{KeepsContents}
 use Rattle.hfs_changes.specs.Deletion.{MakesDeletion, DeletionsAreSteps}
 use Rattle.hfs_changes.specs.Laws.{IsStepped}

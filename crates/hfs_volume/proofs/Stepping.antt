@@ -11,7 +11,8 @@ use Rattle.hfs_space.specs.TreeFiles.{tree_blocks}
 use Rattle.hfs_space.proofs.TreeFileLemmas.{nodes_in-tree_blocks}
 use Rattle.hfs_model.specs.declared.call.Call.{Call}
 use Rattle.hfs_model.specs.Step.{step}
-use Rattle.hfs_check.specs.Agree.{Agrees, KeepsVolume}
+use Rattle.hfs_check.specs.Agree.{Agrees}
+use Rattle.hfs_check.proofs.Stays.{KeepsVolume}
 use Rattle.hfs_check.proofs.LawTypes.{AgreesOn}
 use Rattle.hfs_check.specs.Parts.{Blocks, mdb_in, catalog_extents, extents_blocks, extents_nodes, catalog_blocks, catalog_nodes}
 use Rattle.hfs_check.specs.Sound.{IsImageLength, AreBlocksSound, IsSound}
