@@ -22,13 +22,13 @@ _hfs_tool_volumes() {
 
 _hfs_tool() {
     local word=${COMP_WORDS[COMP_CWORD]} before=${COMP_WORDS[COMP_CWORD - 1]} first=${COMP_WORDS[1]} options=--help
-    local words='info check ls items page cat take rescue volumes new repair run'
+    local words='info check ls items page cat take rescue volumes extract new repair run'
     if [ "$COMP_CWORD" -eq 1 ]; then
         mapfile -t COMPREPLY < <(compgen -W "$words help --help --version" -- "$word")
         return
     fi
     case $first in
-        info | check | page) options='--volume --help' ;;
+        info | check | page | extract) options='--volume --help' ;;
         ls) options='--path --volume --help' ;;
         items) options='--format --volume --help' ;;
         cat) options='--path --resource --macbinary --volume --help' ;;

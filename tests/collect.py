@@ -286,10 +286,11 @@ def resources_in(content):
 def remaining_row(bag, fields, line, has_digests):
     """The row of an item that remains, by its line of the bag's table, and that of what remains of it."""
     path, number, cnid, *verdicts = line.split('\t')
-    ensure((path, cnid) == (fields['path'], fields['id']), f'{path} stands beside {fields["path"]} in a bag')
+    ensure((path, cnid) == (fields['bag_path'], fields['id']), f'{path} stands beside {fields["bag_path"]} in a bag')
+    ensure((fields['path'] == '') == path.startswith(('=old/', '=lost/')), f'{path} has the Mac path {fields["path"]}')
     told = {column: int(fields[column]) if column in NUMBERS and fields[column] else fields[column] or None for column in SHARED_COLUMNS}
     is_file = told['kind'] == 'file'
-    told.update(number=int(number), path=None, bag_path=path, cnid=int(cnid), locked={'yes': 1, 'no': 0, '': None}[fields['locked']])
+    told.update(number=int(number), path=fields['path'] or None, bag_path=path, cnid=int(cnid), locked={'yes': 1, 'no': 0, '': None}[fields['locked']])
     above, name = os.path.split(path)
     for column, verdict in zip(('data', 'resource'), verdicts):
         told[f'{column}_verdict'] = verdict if is_file else None
@@ -463,7 +464,7 @@ def worked_example(place):
     place.wants(0, 'p6.img\tvolumes 1\trefused 1\tfiles 0\tdamaged 0\n', 'collect', 'c.db', 'p6.img')
     ensure(table_lines(place.folder / 'c.db', 'image')[0].startswith('1|p6.img|32768|'), 'the row of the changed image')
     ensure(table_lines(place.folder / 'c.db', 'volume') == ['1|1|1|bare|0|32768|D||||58|512|50|check C10 at 3'], 'the row of the refused volume')
-    ensure(table_lines(place.folder / 'c.db', 'item') == [f'1|1|0|||folder|2|1|||0000|||||||||{zeros}||||'], 'the row of its root')
+    ensure(table_lines(place.folder / 'c.db', 'item') == [f'1|1|0|D||folder|2|1|||0000|||||||||{zeros}||||'], 'the row of its root')
     holds(place, [image_rows(place, 'p6.img')])
 
 

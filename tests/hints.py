@@ -65,6 +65,16 @@ def resources(*types):
     return struct.pack('>IIII', 256, 256, 0, 28 + len(kinds)).ljust(256, b'\0') + bytes(24) + struct.pack('>HH', 28, 28 + len(kinds)) + kinds
 
 
+def double(*parts):
+    """An AppleDouble file with parts of these kinds."""
+    head, behind = struct.pack('>II16xH', 0x51607, 0x20000, len(parts)), b''
+    place = len(head) + 12 * len(parts)
+    for kind, content in parts:
+        head += struct.pack('>III', kind, place + len(behind), len(content))
+        behind += content
+    return head + behind
+
+
 def laid(place, sign, length=LENGTH):
     return bytes(place) + sign + bytes(length - place - len(sign))
 
@@ -96,6 +106,26 @@ KINDS = [
     (laid(0, b'GIF87a'), 'a picture'),
     (laid(0, b'GIF89a'), 'a picture'),
     (laid(0, b'no disk'), None),
+]
+
+
+FINDER = lambda kind, creator: (9, (kind + creator).ljust(32, b'\0'))
+NDIF = 'a compressed disk image of Disk Copy 6 (NDIF)'
+# What AppleDouble files beside a file of zeros say of it.
+DOUBLES = [
+    (double(FINDER(b'dimg', b'dCpy'), (2, resources(b'vers', b'bcem'))), NDIF),
+    (double((2, resources(b'bcem'))), NDIF),
+    (double((2, resources(b'bcmm'))), None),
+    (double((3, resources(b'bcem'))), None),
+    (double(*[(3, b'name')] * 15, (2, resources(b'bcem'))), NDIF),
+    (double(*[(3, b'name')] * 16, (2, resources(b'bcem'))), None),
+    (double(FINDER(b'DMd3', b'DART')), 'a disk archive of DART'),
+    (double(FINDER(b'DART', b'DMd3')), None),
+    (double(FINDER(b'PACT', b'CPCT'), (2, b'')), 'a Compact Pro archive; unar takes its files out'),
+    (b'\0\5\x16\0' + double((2, resources(b'bcem')))[4:], None),
+    (double((2, resources(b'bcem')))[:50], None),
+    (double((2, struct.pack('>IIII', 0, 0xFFFFFFFF, 0, 0))), None),
+    (b'', None),
 ]
 
 
@@ -164,11 +194,30 @@ def kinds(folder):
         want(['info', str(path)], 2, 'not an HFS volume (-57)\n', f'{NOT_HERE}\n{line}')
         want(['volumes', str(path)], 2, 'no HFS volume\n', line)
         want([str(database), str(path)], 0, f'{path}\tvolumes 0\trefused 0\tfiles 0\tdamaged 0\n', f'{path}: no HFS volume was found\n{line}', COLLECT)
+        want(['extract', str(path), str(folder / 'out')], 2, 'no HFS volume\n', line)
+    double_path = folder / '._kind'
+    path.write_bytes(bytes(LENGTH))
+    for content, kind in DOUBLES:
+        double_path.write_bytes(content)
+        line = f'it looks like {kind}\n' if kind else ''
+        want(['volumes', str(path)], 2, 'no HFS volume\n', line)
+        want(['volumes', 'kind'], 2, 'no HFS volume\n', line, cwd=folder)
+        want(['ls', str(path), '--volume', '0'], 2, 'not an HFS volume (-57)\n', f'{NOT_HERE}\n{line}')
+        want([str(database), str(path)], 0, f'{path}\tvolumes 0\trefused 0\tfiles 0\tdamaged 0\n', f'{path}: no HFS volume was found\n{line}', COLLECT)
+    # What the file says itself comes before; and a pipe beside it isn't read.
+    double_path.write_bytes(DOUBLES[6][0])
+    path.write_bytes(laid(0, b'SIT!'))
+    want(['volumes', str(path)], 2, 'no HFS volume\n', f'it looks like {STUFFIT}\n')
+    double_path.unlink()
+    os.mkfifo(double_path)
+    path.write_bytes(bytes(LENGTH))
+    want(['volumes', str(path)], 2, 'no HFS volume\n', '')
+    double_path.unlink()
     path.write_bytes(b'GIF89a' + bytes(94))
     want(['ls', str(path)], 2, 'image too short\n', 'it looks like a picture\n')
     path.write_bytes(b'')
     want(['ls', str(path)], 2, 'image too short\n', '')
-    return len(KINDS) + 2
+    return len(KINDS) + len(DOUBLES) + 4
 
 
 def unread_files(folder):

@@ -158,6 +158,14 @@ END
     printf '\000\006Floppy' && head -c 75 /dev/zero && number 819200 && head -c 41 /dev/zero
     cat "$volumes/hfsutils-800k.img"
 } > "$readme/floppy.bin"
+# The floppy in raw CD sectors of mode 1, and two sectors of music behind it.
+python3 - "$volumes/hfsutils-800k.img" > "$readme/disc.bin" << 'END'
+import sys
+data = open(sys.argv[1], 'rb').read()
+for at in range(0, len(data), 2048):
+    sys.stdout.buffer.write(b'\0' + bytes([255] * 10) + b'\0\0\2\0\1' + data[at:at + 2048] + bytes(288))
+sys.stdout.buffer.write(bytes([7]) * 4704)
+END
 
 # What the manual asks of a database is asked of Python's SQLite where the program sqlite3 isn't installed.
 if ! command -v sqlite3 > /dev/null; then
@@ -630,7 +638,7 @@ done
 [[ $("$tool" cat --help) == *'Usage: hfs_tool cat [OPTIONS] <IMAGE> [<DIR> <NAME> | --path <PATH>]'* ]] || fail 'the usage of cat'
 [[ $("$tool" ls --help) == *'Usage: hfs_tool ls [OPTIONS] <IMAGE> [DIR | --path <PATH>]'* ]] || fail 'the usage of ls'
 [[ $("$tool" rescue --help) == *'Usage: hfs_tool rescue [OPTIONS] <IMAGE> [FOLDER | --list]'* ]] || fail 'the usage of rescue'
-[[ $("$tool" volumes --help | tr '\n' ' ') == *'info, check, ls, items, page, cat, take and rescue'* ]] || fail 'the words that take a volume by its number'
+[[ $("$tool" volumes --help | tr '\n' ' ') == *'info, check, ls, items, page, cat, extract, take and rescue'* ]] || fail 'the words that take a volume by its number'
 
 # Each word is read in its place: a name and a number with a hyphen and zeros in front, the moment, the folder, the fork.
 "$tool" new "$folder/words.img" -D 1600 007 2 --now 100

@@ -3,7 +3,7 @@
 library that stands before malloc (tests/refused_memory.sh makes it, and calls this). The calls of
 volumes/refused.txt are run by an image's path, and out of a pipe with a viewer beside them, who
 reads what they read; then a script with two workers and a viewer, whose answers are known by hand;
-new volumes, reports, lists, forks and repairs, both ways.
+new volumes, reports, lists, forks, repairs and volumes that are extracted, both ways.
 
 Where the program tells want of memory, nothing else was printed, nothing was written, and no file
 lies beside; else it prints and writes what it does without a refusal; or a caller's lines from one
@@ -14,6 +14,7 @@ python3 refused_calls.py TOOL LIBRARY
 """
 import gzip
 import os
+import struct
 import subprocess
 import sys
 import tempfile
@@ -244,6 +245,17 @@ def repair(trial, _line):
         trial.refuse_each(['repair', source, trial.file], (2, b'refused check C8 at 1\n', b'', b'old\n'), given, b'old\n')
 
 
+def extract(trial, _line):
+    """The only volume in a map, a bare one out of a pipe, and a name that is taken."""
+    content = small('one-file')
+    disk = (bytes(512) + b'PM\0\0' + struct.pack('>III', 1, 2, len(content) // 512) + bytes(32) + b'Apple_HFS').ljust(1024, b'\0') + content
+    image = trial.lay('image', disk)
+    wanted = (0, f'extracted\nbytes {len(content)}\n'.encode(), b'', content)
+    trial.refuse_each(['extract', image, trial.file], wanted)
+    trial.refuse_each(['extract', '/dev/stdin', trial.file], wanted, content)
+    trial.refuse_each(['extract', image, trial.file], (4, f'{trial.file} is there already\n'.encode(), b'', b'old\n'), None, b'old\n')
+
+
 def attempt(job):
     """What is counted of one trial, in a folder of its own."""
     tool, library, part, line = job
@@ -256,7 +268,7 @@ def attempt(job):
 
 def main(tool, library):
     lines = [it for it in (VOLUMES / 'refused.txt').read_text().splitlines() if not it.startswith('#')]
-    jobs = [(tool, library, run_calls, line) for line in lines] + [(tool, library, part, '') for part in (run_script, read_forks, tell, repair)]
+    jobs = [(tool, library, run_calls, line) for line in lines] + [(tool, library, part, '') for part in (run_script, read_forks, tell, repair, extract)]
     counts = Counts()
     # the descriptor is taken before the pool takes any
     os.dup2(os.open(os.devnull, os.O_RDWR), TOLD)

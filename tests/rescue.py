@@ -15,7 +15,9 @@ Images are changed by chance for N seconds. With --large the images that claim m
 small ones. It prints what it counted; at a difference it says which, leaves the image in rescue.kept, and ends with status 1.
 """
 import argparse
+import csv
 import gzip
+import io
 import math
 import os
 import re
@@ -34,6 +36,7 @@ from remains import bombs, cases, chance
 from remains.bag import Remains, Source
 from remains.runs import PIPE, TOOL, Bench, Differs, ensure, ensure_info, found_in, remove, same_text
 from volumes import WRAPPINGS, entry, in_disk_copy
+from volumes import content as looked_into
 from volumes import found as volumes_in
 
 HERE = Path(__file__).resolve().parent
@@ -124,12 +127,32 @@ def worked(bench: Bench):
            '\t0\t2\t-\t-\ng\t1\t20\twhole\twhole\nx\t2\t16\t-\t-\nx/y/z\t3\t18\t-\t-\nx/y/z/f\t4\t19\twhole\twhole\n')
 
 
+# The Mac paths of their items, in order.
+MAC_PATHS = {
+    'a name in two cases': ['D', 'D:a', 'D:A'],
+    'no directory in block 2': ['D', 'D:f'],
+    'a catalog beyond the volume': ['D', ''],
+    'a leaf that is not in use': ['D', 'D:f', ''],
+    'a ring of folders': ['D', 'D:g', '', '', '', ''],
+    'a record of no kind': ['D', 'D:g', 'D:x', 'D:x:y:z', 'D:x:y:z:f'],
+}
+
+
+def ensure_table(table: str, lines: str, paths: Optional[list[str]], what: str) -> None:
+    """Each row has at its end the path of its line of rescue.tsv, and at its beginning the Mac path, where that is told here."""
+    rows = list(csv.reader(io.StringIO(table, newline=''), strict=True))
+    ensure(rows[0][0] == 'path' and rows[0][-1] == 'bag_path', f'{what}: the head of items.csv')
+    ensure([row[-1] for row in rows[1:]] == [line.split('\t')[0] for line in lines.splitlines()], f'{what}: the paths below data in items.csv')
+    ensure(paths is None or [row[0] for row in rows[1:]] == paths, f'{what}: the Mac paths are {[row[0] for row in rows[1:]]}')
+
+
 def try_worked(bench: Bench) -> None:
     for what, image, limit, status, printed, lines in worked(bench):
         wanted = bench.attempt(image, what, limit=limit)
         text = printed.replace('|', '\n') + '\n'
         ensure((wanted.status, wanted.printed, wanted.lines) == (status, text, lines), f'{what}: the model tells {wanted.status} {wanted.listed!r}')
         files = {it.path: it.content for it in wanted.written}
+        ensure_table(files['items.csv'].decode(), lines, MAC_PATHS.get(what), what)
         if what == 'cut to 20 blocks':
             ensure(files['data/f'][-464:] == bytes(464) and any(files['data/f'][-465:]), 'zeros for a block that is missing')
         if what == 'a limit':
@@ -230,7 +253,7 @@ def try_volumes(bench: Bench) -> None:
         path.write_bytes(content)
         for number, (_, start, size, _) in enumerate(volumes_in(content), 1):
             with bench.watching(path):
-                try_volume(bench, path, number, content, content[start:start + size])
+                try_volume(bench, path, number, content, looked_into(content)[0][start:start + size])
             bench.counts.images += 1
         same_text(bench.told('rescue', path, bench.folder / 'bag', '--volume', 9), (2, b'no volume 9\n'), 'a volume that there is not')
         path.unlink()

@@ -197,7 +197,7 @@ class Bags:
         ensure(text == f'taken\nfiles {items - folders}\nfolders {folders}\nbytes {size}\n', f'{bag.name}: take prints {text!r}')
         ensure(files == 2 * items - folders, f'{bag.name} has {files} files of {items} items')
         self.compare_payload(bag, rows)
-        self.compare_tags(bag, image, words, tags, given)
+        self.compare_tags(bag, image, words, tags, given, rows)
         self.count += 1
         self.files += files
         self.bytes += size
@@ -226,11 +226,14 @@ class Bags:
         found = {path for path in [bag / 'data', *(bag / 'data').rglob('*')]}
         ensure(found == wanted, f'{bag.name} has more or less: {sorted(map(str, found ^ wanted))[:3]}')
 
-    def compare_tags(self, bag, image, words, tags, given):
+    def compare_tags(self, bag, image, words, tags, given, rows):
         """The table and the lines are those of the other words; bag-info tells of the image."""
         volume = words[words.index('--volume'):][:2] if '--volume' in words else ()
         source = image if given is None else '/dev/stdin'
-        ensure((bag / 'items.csv').read_text('utf-8') == told('items', source, '--format', 'csv', *volume, given=given)[1].replace('\r\n', '\n'), f'{bag.name}: items.csv')
+        table = told('items', source, '--format', 'csv', *volume, given=given)[1].split('\r\n')
+        found = (bag / 'items.csv').read_bytes().decode('utf-8').split('\r\n')
+        ends = ['bag_path', *(quoted(host_path(row['path'])) for row in rows)]
+        ensure_same(found, [*(f'{line},{end}' for line, end in zip(table, ends)), ''], f'{bag.name}: items.csv')
         info, check = told('info', source, *volume, given=given)[1], told('check', source, *volume, given=given)[1]
         ensure((bag / 'volume.txt').read_text('utf-8') == info + check, f'{bag.name}: volume.txt')
         labels = [label for label, _ in tags]
@@ -246,10 +249,25 @@ class Bags:
                 ensure(found['Source-SHA256'] == hashlib.sha256(content).hexdigest(), f'{bag.name}: the digest of the image')
 
 
+def bytes_of(name):
+    """The bytes of a name of the table."""
+    return re.sub(r'\\([0-9a-f]{2})', lambda it: chr(int(it[1], 16)), name).encode('mac_roman')
+
+
 def last_name(path):
     """The bytes of the last name of a path of the table."""
-    name = path.rsplit(':', 1)[-1]
-    return re.sub(r'\\([0-9a-f]{2})', lambda it: chr(int(it[1], 16)), name).encode('mac_roman')
+    return bytes_of(path.rsplit(':', 1)[-1])
+
+
+def host_path(path):
+    """Where what has this path of the table lies below the payload."""
+    return '/'.join(host_name(bytes_of(name)) for name in path.split(':')[1:])
+
+
+def quoted(field):
+    """A field of CSV."""
+    doubled = field.replace('"', '""')
+    return f'"{doubled}"' if ',' in field or '"' in field else field
 
 
 def compare_time(place, modified):
@@ -300,7 +318,7 @@ def compare_by_hand(bags):
     ensure((bag / 'tagmanifest-sha256.txt').read_text() == '''\
 1712ecfb074bf29c4188ad3421032509159a09739fd604f8fe57038b4ddefcc9  bagit.txt
 25908ea7bcfd3f1edfe47f49d456e2d39c4b0da4eaec3933fbff6a60260f0bd0  bag-info.txt
-2b99a8e1c835862193bb67aec2ddbd38f11b348fb3512d2a54e29c1536f241b5  items.csv
+3b444b7c99ecf9106fbdb72b2593b4be261c8959bf5aa2c051110eeb8a1834ca  items.csv
 394bb9e565db12dadd8d5c9a4dbf837167280a9038b0cc6019c63459c6867177  volume.txt
 e3b0c44298fc1c149afbf4c8996fb92427ae41e4649b934ca495991b7852b855  manifest-sha256.txt
 ''', 'tagmanifest-sha256.txt of an empty volume')

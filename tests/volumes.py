@@ -75,8 +75,36 @@ def partitions(data):
             yield start, max(0, min(size, len(data) - start))
 
 
+SYNC = b'\0' + bytes([255] * 10) + b'\0'
+
+
+def data_start(sector):
+    """Where the user data of a raw sector begins, if it has any."""
+    if sector[:12] != SYNC:
+        return None
+    if sector[15] == 1:
+        return 16
+    return 24 if sector[15] == 2 and not sector[18] & 0x20 else None
+
+
+def content(data):
+    """The bytes that are looked into, and of raw sectors how many of them have no user data."""
+    if not data or len(data) % 2352 or data_start(data[:24]) is None:
+        return data, None
+    parts, others = [], 0
+    for at in range(0, len(data), 2352):
+        start = data_start(data[at:at + 24])
+        parts.append(bytes(2048) if start is None else data[at + start:at + start + 2048])
+        others += start is None
+    return b''.join(parts), others
+
+
 def found(data):
     """(how, first byte, bytes, sum that is told) of each volume."""
+    data, others = content(data)
+    if others is not None:
+        whole = [('raw 2352 bare', 0, len(data), None)] if holds_volume(data) else []
+        return list({item[1:3]: item for item in reversed(whole + [('raw 2352 partition', *part, None) for part in partitions(data)])}.values())[::-1]
     all_found = []
     if holds_volume(data):
         all_found.append(('bare', 0, len(data), None))
@@ -105,14 +133,15 @@ def plain_text(raw):
 
 def lines(data):
     told = b''
+    body, others = content(data)
     for k, (how, start, size, wanted) in enumerate(found(data), 1):
-        volume = data[start:start + size]
+        volume = body[start:start + size]
         is_volume = holds_volume(volume)
         name = plain_text(volume[1061:1061 + min(27, volume[1060])]) if is_volume else b''
         told += f'{k}\t{how}\t{start}\t{size}\t'.encode() + name
         if wanted is not None:
             told += b'\tsum ' + (b'right' if turned_sum(volume) == wanted else b'wrong')
-        told += (b'' if is_volume else b'\tno volume') + b'\n'
+        told += (b'' if is_volume else b'\tno volume') + (f'\tother mode {others}'.encode() if others else b'') + b'\n'
     return (0, told) if told else (2, b'no HFS volume\n')
 
 
@@ -146,6 +175,22 @@ def in_macbinary(fork, second=b'', resource=b''):
     return bytes(head) + fill(second) + fill(fork) + fill(resource)
 
 
+def in_sectors(data, mode=1, others=()):
+    """The data in raw sectors of a mode, of which those with the numbers of `others` are audio, filled up to whole sectors."""
+    out = []
+    for n, at in enumerate(range(0, len(data), 2048)):
+        part = data[at:at + 2048].ljust(2048, b'\0')
+        minute, second, frame = (n + 150) // 4500, (n + 150) // 75 % 60, (n + 150) % 75
+        head = SYNC + bytes(int(f'{k:02}', 16) for k in (minute % 100, second, frame)) + bytes([mode])
+        if n in others:
+            out.append(bytes((7 * k + n) % 251 + 1 for k in range(2352)))
+        elif mode == 1:
+            out.append((head + part).ljust(2352, b'\x11'))
+        else:
+            out.append((head + b'\0\0\x08\0' * 2 + part).ljust(2352, b'\x22'))
+    return b''.join(out)
+
+
 WRAPPINGS = [
     ('bare', lambda volume: volume),
     ('in a map of 512', lambda volume: in_map(volume, 512)),
@@ -155,6 +200,8 @@ WRAPPINGS = [
     ('in MacBinary', lambda volume: in_macbinary(volume, resource=volume)),
     ('in MacBinary with a second header', lambda volume: in_macbinary(volume, b'second')),
     ('in a disk copy in MacBinary', lambda volume: in_macbinary(in_disk_copy(volume), resource=b'RES')),
+    ('in a map of 512 in raw sectors of mode 1', lambda volume: in_sectors(in_map(volume, 512))),
+    ('in a map of 2,048 in raw sectors of mode 2', lambda volume: in_sectors(in_map(volume, 2048), 2)),
 ]
 
 
@@ -218,7 +265,7 @@ def words_on(image):
 def same_on_cut(folder, what, data):
     """Wants that each word tells of each volume in the file what it tells of the bytes that are cut out."""
     for k, (how, start, size, _) in enumerate(found(data), 1):
-        path, cut = folder.file('file', data), folder.file('cut', data[start:start + size])
+        path, cut = folder.file('file', data), folder.file('cut', content(data)[0][start:start + size])
         for before, behind in words_on(cut):
             wanted = told([*before, cut, *behind])
             wants(f'{what}: {before} {behind}', told([*before, path, *behind, '--volume', str(k)]), wanted)
@@ -303,6 +350,49 @@ def edges(folder, p6):
         folder.lists(what, data)
 
 
+def raw(folder, p6):
+    """Raw sectors: rows by hand, each rule at its edge, and what is written nowhere."""
+    one = lambda text: (0, text + b'\n')
+    none = (2, b'no HFS volume\n')
+    folder.lists('mode 1', in_sectors(p6), one(b'1\traw 2352 bare\t0\t32768\tD'))
+    folder.lists('mode 2 and form 1', in_sectors(p6, 2), one(b'1\traw 2352 bare\t0\t32768\tD'))
+    folder.lists('audio behind the volume', in_sectors(p6 + bytes(3 * 2048), 1, (16, 17, 18)), one(b'1\traw 2352 bare\t0\t38912\tD\tother mode 3'))
+    folder.lists('audio within it', in_sectors(p6, 1, (5,)), one(b'1\traw 2352 bare\t0\t32768\tD\tother mode 1'))
+    folder.lists('a map of 512', in_sectors(in_map(p6, 512)), one(b'1\traw 2352 partition\t32768\t32768\tD'))
+    folder.lists('a map of 2,048, with audio', in_sectors(in_map(p6, 2048, behind=bytes(2048)), 1, (80,)),
+                 one(b'1\traw 2352 partition\t131072\t32768\tD\tother mode 1'))
+    folder.lists('cut in a sector', in_sectors(p6)[:-1], none)
+    folder.lists('cut behind a sector', in_sectors(p6)[:-2352], one(b'1\traw 2352 bare\t0\t30720\tD'))
+    folder.lists('a byte more', in_sectors(p6) + b'\0', none)
+    folder.lists('audio first', in_sectors(p6, 1, (0,)), none)
+    folder.lists('no pattern, and a length of 147 sectors of 16', p6.ljust(2352 * 16, b'\0'), one(b'1\tbare\t0\t37632\tD'))
+    for at in (*range(12), 15):
+        for value in (0, 1, 2, 3, 254, 255):
+            data = bytes(changed(in_sectors(p6), at, value))
+            folder.lists(f'{value} at {at}', data)
+            data = bytes(changed(in_sectors(p6), 2352 * 3 + at, value))
+            folder.lists(f'{value} at {at} of the fourth sector', data)
+    for value in (0x20, 0x28, 0xDF, 0xFF):
+        folder.lists(f'a subheader of {value}', bytes(changed(in_sectors(p6, 2), 18, value)))
+        folder.lists(f'a subheader of {value} further on', bytes(changed(in_sectors(p6, 2), 2352 * 9 + 18, value)))
+    folder.lists('a disk copy in raw sectors', in_sectors(in_disk_copy(p6)), none)
+    image, out = folder.file('raw.bin', in_sectors(p6)), os.path.join(folder.path, 'written')
+    for words in (['repair', image, out], ['run', image, folder.file('script', b''), '--out', out]):
+        wants(f'{words[0]} of raw sectors', told(words), (2, b'not written here\n'))
+        if os.path.exists(out):
+            fail(f'{words[0]} of raw sectors has written')
+    wants('repair of them, piped', told(['repair', '/dev/stdin', out], in_sectors(p6)), (2, b'not written here\n'))
+    bag = os.path.join(folder.path, 'rawbag')
+    wants('take of raw sectors', told(['take', folder.file('raw.bin', in_sectors(p6 + bytes(2048), 1, (16,))), bag])[:1], (0,))
+    with open(os.path.join(bag, 'bag-info.txt'), 'rb') as file:
+        info = file.read()
+    digest = hashlib.sha256(p6 + bytes(2048)).hexdigest().encode()
+    for wanted in (b'Source-Volume: 1 raw 2352 bare 0 34816 D other mode 1\n', b'Source-Volume-Bytes: 34816\n', b'Source-Volume-SHA256: ' + digest + b'\n'):
+        if wanted not in info:
+            fail(f'a bag of raw sectors has no {wanted}, but {info}')
+    shutil.rmtree(bag)
+
+
 def changed(data, at, value):
     data = bytearray(data)
     data[at] = value
@@ -316,7 +406,7 @@ def by_chance(folder, p6, seed, count):
     for n in range(count):
         data = bytearray(chance.choice(kinds))
         for _ in range(chance.randrange(1, 5)):
-            at = chance.choice([chance.randrange(132), 512 + chance.randrange(80), 1024 + chance.randrange(80), 2048 + chance.randrange(80), 4096 + chance.randrange(80)])
+            at = chance.choice([chance.randrange(132), chance.randrange(24) + 2352 * chance.randrange(9), 512 + chance.randrange(80), 1024 + chance.randrange(80), 2048 + chance.randrange(80), 4096 + chance.randrange(80)])
             data[at] = chance.choice([0, 1, 2, 63, 64, 80, 255, chance.randrange(256)])
         data = bytes(data[:chance.choice([len(data), len(data), chance.randrange(len(data) + 1)])])
         wants(f'seed {seed}, file {n}', told(['volumes', folder.file('chance', data)]), lines(data))
@@ -348,7 +438,7 @@ def faults(folder, p6):
     for words in (['repair', folder.file('p6', p6), 'out', '--volume', '1'], ['run', folder.file('p6', p6), 'script', '--volume', '1'], ['volumes'],
                   ['ls', folder.file('p6', p6), '--volume', '-1'], ['ls', folder.file('p6', p6), '--volume', 'x'],
                   *([word, folder.file('p6', p6), *behind, '--volume', n] for n in ('4294967296', '18446744073709551615', '18446744073709551616')
-                    for word, behind in (('ls', []), ('info', []), ('take', ['bag']), ('rescue', ['--list'])))):
+                    for word, behind in (('ls', []), ('info', []), ('extract', ['out']), ('take', ['bag']), ('rescue', ['--list'])))):
         if subprocess.run([TOOL, *words], stdin=subprocess.DEVNULL, capture_output=True).returncode != 1:
             fail(f'{words} are not refused')
 
@@ -462,6 +552,12 @@ def by_genisoimage(folder):
         fail('genisoimage has made no partition')
     folder.lists('a disc by genisoimage', data)
     same_on_cut(folder, 'a disc by genisoimage', data)
+    for mode in (1, 2):
+        sectors = in_sectors(data + bytes(3 * 2048), mode, range(len(data) // 2048, len(data) // 2048 + 3))
+        if not any(how == 'raw 2352 partition' for how, *_ in found(sectors)):
+            fail('a disc by genisoimage has no partition in raw sectors')
+        folder.lists(f'a disc by genisoimage in raw sectors of mode {mode}', sectors)
+        same_on_cut(folder, f'a disc by genisoimage in raw sectors of mode {mode}', sectors)
 
 
 def by_hfsutils(folder, p6):
@@ -492,6 +588,7 @@ def main():
             fail('the small volume')
         rows(folder, p6)
         edges(folder, p6)
+        raw(folder, p6)
         chosen(folder, p6)
         faults(folder, p6)
         by_chance(folder, p6, seed, 300)

@@ -15,7 +15,7 @@ PROGRAM = 'hfs_tool 1.0.0'
 # An AppleDouble file up to the length of the resource fork.
 DOUBLE = bytes.fromhex('00051607' '00020000' + '00' * 16 + '0002' '00000009' '00000032' '00000020' '00000002' '00000052')
 COLUMNS = ['path', 'kind', 'id', 'parent', 'type', 'creator', 'flags', 'locked', 'file_id', 'created', 'modified', 'backup', 'items', 'data_bytes',
-           'resource_bytes', 'finder']
+           'resource_bytes', 'finder', 'bag_path']
 NOT_WHOLE = 3
 
 
@@ -76,15 +76,15 @@ def dates_of(item: Item) -> tuple[int, int, int]:
     return tuple(number(item.record.body, first + it, 4) for it in (0, 4, 8))
 
 
-def row_of(item: Item) -> str:
-    """A line of the table of items."""
+def row_of(item: Item, root: bytes) -> str:
+    """A line of the table of items; the root is called so."""
     finder = finder_of(item)
-    fields = [item.path, 'folder' if item.is_folder else 'file', str(item.id), str(item.parent)]
+    fields = ['' if item.names is None else ':'.join(map(plain, [root, *item.names])), 'folder' if item.is_folder else 'file', str(item.id), str(item.parent)]
     fields += ['', ''] if item.is_folder else [plain(finder[:4]), plain(finder[4:8])]
     fields += [finder[8:10].hex(), '' if item.is_folder else 'yes' if item.record.body[2] & 1 else 'no', '']
     fields += [moment(it) for it in dates_of(item)] + ['']
     fields += ['', ''] if item.is_folder else [str(it) for it in item.length]
-    return ','.join(map(quoted, [*fields, finder.hex()])) + '\r\n'
+    return ','.join(map(quoted, [*fields, finder.hex(), item.path])) + '\r\n'
 
 
 def info_lines(content: bytes) -> str:
@@ -190,6 +190,11 @@ class Remains:
         return ''.join('\t'.join([it.path, str(it.number), str(it.id), *self.verdicts(it)]) + '\n' for it in self.items)
 
     @cached_property
+    def root_name(self) -> bytes:
+        """That of the root's item, or where this is lost the directory's."""
+        return next((it.name for it in self.items if it.is_root), self.directory.name)
+
+    @cached_property
     def unsure(self) -> str:
         """What is said of a directory by which neither tree begins."""
         return '' if self.directory.catalog_begins or self.directory.extents_begin else ' unsure'
@@ -203,7 +208,7 @@ class Remains:
         volume = [] if source.volume is None else [f'Source-Volume: {source.volume}']
         about = [f'External-Identifier: {plain(self.directory.name)}', f'Bag-Software-Agent: {PROGRAM}', f'Source-Image: {source.name}', *volume,
                  *directory, f'Source-{inner}Bytes: {len(self.image)}', *digest, f'Payload-Oxum: {self.payload.bytes}.{len(self.payload.files)}']
-        table = ','.join(COLUMNS) + '\r\n' + ''.join(map(row_of, self.items))
+        table = ','.join(COLUMNS) + '\r\n' + ''.join(row_of(it, self.root_name) for it in self.items)
         tags = {'manifest-sha256.txt': self.sums, 'items.csv': table.encode(), 'rescue.tsv': self.lines.encode(),
                 'volume.txt': (info_lines(self.directory.content) + source.checked).encode(), 'bag-info.txt': ''.join(f'{it}\n' for it in about).encode(),
                 'bagit.txt': b'BagIt-Version: 1.0\nTag-File-Character-Encoding: UTF-8\n'}

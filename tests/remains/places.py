@@ -1,6 +1,6 @@
 """The items that remain, and where each is written below the payload's folder."""
 from dataclasses import dataclass
-from typing import Union
+from typing import Optional, Union
 
 from remains.blocks import Extents, extents_of, number
 from remains.trees import DATA, FOLDER, FOLDER_THREAD, RESOURCE, CatalogRecord
@@ -35,6 +35,8 @@ class Item:
     record: CatalogRecord
     path: str = ''
     is_root: bool = False
+    # The names from the payload down to it; none of the root, and None where it is old or lost.
+    names: Optional[list[bytes]] = None
 
     @property
     def is_folder(self) -> bool:
@@ -132,6 +134,8 @@ class Places:
             self.place_chain(it)
         for it in [*items, *named]:
             it.path = self.path_of(it)
+        for it in items:
+            it.names = self.names_of(it)
 
     def all_entries(self) -> dict[int, str]:
         """The entry of each, by its identity: two in one folder's number differ in more than the case of letters."""
@@ -184,6 +188,15 @@ class Places:
         else:
             path = f'=lost/{it.parent}/{self.entries[id(it)]}'
         return f'=old/{path}' if isinstance(it, Item) and it.record.is_old else path
+
+    def names_of(self, it: Item) -> Optional[list[bytes]]:
+        if it.is_root or it.path.split('/')[0] in ('=old', '=lost'):
+            return [] if it.is_root else None
+        names, above = [it.name], it.parent
+        while above != ROOT:
+            names.insert(0, self.folders[above].name)
+            above = self.folders[above].parent
+        return names
 
 
 def below(folder: str, entry: str) -> str:

@@ -2,7 +2,8 @@
 use Rattle.std.proofs.Common.{◌≡◌, ◌∙◌, ℕ, ◌+◌, ◌<◌, ◌≤◌, Bool, List, [], ◌∷◌, ◌++◌, length, drop, get_or, append-nil, append_assoc, Option, Some, None, slice_index_or, ap, sym}
 use Rattle.std.proofs.lemmas.List.{drop_all, drop_more}
 use Rattle.hfs_rescue.specs.declared.catalog.FoundRecord.{FoundRecord}
-use Rattle.hfs_rescue_items.specs.Found.{path_at, told}
+use Rattle.hfs_rescue_items.specs.Found.{names_at, path_at, told}
+use Rattle.hfs_fields.specs.declared.mdb.Mdb.{Mdb}
 use Rattle.hfs_model.specs.declared.reply.Info.{Info}
 use Rattle.hfs_space.specs.declared.fork_kind.ForkKind.TheVariants.{Data, Resource}
 use Rattle.hfs_finds.specs.Images.{FoundImage}
@@ -44,6 +45,8 @@ row_told taken f i o info values old new some is added =
     added ∙ ap (λ (told : List RowValue). old ++ row_of Item told ∷ []) is ∙ ap (λ (told : Option Info). old ++ remains_row taken f i told) (sym some)
 
 -- the values by their parts
-pub values_told : (taken : Bool) (f : FoundImage) (i : ℕ) (info : Info) (values : List RowValue) (path : List ℕ) (d r : ForkTold) → values ≡ remains_values i path info d r → path ≡ path_at f.things i
+pub values_told : (taken : Bool) (f : FoundImage) (i : ℕ) (info : Info) (values : List RowValue) (names : List (List ℕ)) (mdb : Mdb) (path : List ℕ) (d r : ForkTold) → values ≡ remains_values i names path info d r
+    → names ≡ names_at f.things mdb i → f.mdb ≡ mdb → path ≡ path_at f.things i
     → d ≡ told_fork taken f Data (slice_index_or f.shares i None) → r ≡ told_fork taken f Resource (slice_index_or f.shares i None) → values ≡ told_values taken f i info
-values_told taken f i info values path d r is path_is d_is r_is = is ∙ (λ k. remains_values i (path_is k) info (d_is k) (r_is k))
+values_told taken f i info values names mdb path d r is names_are mdb_is path_is d_is r_is =
+    is ∙ (λ k. remains_values i ((names_are ∙ ap (λ (m : Mdb). names_at f.things m i) (sym mdb_is)) k) (path_is k) info (d_is k) (r_is k))

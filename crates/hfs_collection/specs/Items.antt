@@ -1,5 +1,5 @@
 -- The rows of a volume's items.
-use Rattle.std.specs.Prelude.{ℕ, ◌+◌, Bool, List, [], ◌∷◌, ◌++◌, drop, codes, Result, Ok, Err}
+use Rattle.std.specs.Prelude.{ℕ, ◌+◌, Bool, List, [], ◌∷◌, ◌++◌, codes, Result, Ok, Err}
 use Rattle.hfs_model.specs.declared.call.Fork.{Fork}
 use Rattle.hfs_model.specs.declared.call.Fork.TheVariants.{DataFork, ResFork}
 use Rattle.hfs_model.specs.declared.reply.Info.{Info}
@@ -7,8 +7,8 @@ use Rattle.hfs_model.specs.declared.reply.ItemKind.{ItemKind}
 use Rattle.hfs_model.specs.declared.reply.ItemKind.TheVariants.{Folder, File}
 use Rattle.hfs_model.specs.declared.reply.Reply.{Reply}
 use Rattle.hfs_model.specs.Volume.{Entry}
-use Rattle.hfs_names.specs.Paths.{host_path}
 use Rattle.hfs_table.specs.Columns.{cell}
+use Rattle.hfs_table.specs.Lines.{bag_path}
 use Rattle.hfs_table.specs.declared.column.Column.{Column}
 use Rattle.hfs_table.specs.declared.column.Column.TheVariants as column
 use Rattle.hfs_inventory.specs.Told.{ToldRow, told_rows}
@@ -28,10 +28,6 @@ told_in column names info = cell_value (cell column names info) ∷ []
 -- of a column in which no path stands
 abbrev pub told_of : Column → Info → List RowValue
 told_of column info = told_in column [] info
-
--- the path below the payload in a bag: the root's is empty
-abbrev pub bag_path : List (List ℕ) → List ℕ
-bag_path names = host_path (drop 1 names)
 
 -- number, paths, kind, ID, parent
 unfoldable pub place_values : ℕ → List (List ℕ) → Info → List RowValue

@@ -11,7 +11,7 @@ use Rattle.hfs_verdicts.specs.declared.verdict.Verdict.{Verdict}
 use Rattle.hfs_verdicts.specs.declared.verdict.Verdict.TheVariants.{Left, Taken}
 use Rattle.hfs_verdicts.specs.Verdicts.{is_whole, verdict_text}
 use Rattle.hfs_table.specs.declared.column.Column.TheVariants as column
-use Rattle.hfs_rescue_items.specs.Found.{path_at, told}
+use Rattle.hfs_rescue_items.specs.Found.{names_at, path_at, told}
 use Rattle.hfs_finds.specs.Finds.{found_directory, found_items}
 use Rattle.hfs_finds.specs.Images.{FoundImage, found_image, said_of, taken_bytes}
 use Rattle.hfs_rows.specs.declared.value.RowValue.{RowValue}
@@ -20,7 +20,7 @@ use Rattle.hfs_rows.specs.declared.value.Table.TheVariants.{Item}
 use Rattle.hfs_rows.specs.Taken.{TakenRow, row_of}
 use Rattle.hfs_collection.specs.declared.remains.ForkTold.{ForkTold}
 use Rattle.hfs_collection.specs.Values.{digest_value, where_taken}
-use Rattle.hfs_collection.specs.Items.{date_values, told_of}
+use Rattle.hfs_collection.specs.Items.{date_values, told_in, told_of}
 
 -- ---- a fork
 
@@ -48,9 +48,10 @@ told_fork taken f kind (Some file) = told_by taken (said_of f file (fork_share k
 
 -- ---- an item
 
--- number, no Mac path, the path below the payload, kind, ID, parent
-unfoldable pub remains_place : ℕ → List ℕ → Info → List RowValue
-remains_place number path info = Number number ∷ [] ++ Empty ∷ [] ++ Text path ∷ [] ++ told_of column.Kind info ++ told_of column.Id info ++ told_of column.Parent info
+-- number, the Mac path by these names, none where there are no names, the path below the payload, kind, ID, parent
+unfoldable pub remains_place : ℕ → List (List ℕ) → List ℕ → Info → List RowValue
+remains_place number names path info =
+    Number number ∷ [] ++ told_in column.Path names info ++ Text path ∷ [] ++ told_of column.Kind info ++ told_of column.Id info ++ told_of column.Parent info
 
 -- type, creator, flags, locked, no file ID
 unfoldable pub remains_marks : Info → List RowValue
@@ -65,16 +66,17 @@ unfoldable pub remains_forks : ForkTold → ForkTold → List RowValue
 remains_forks data_fork resource_fork =
     data_fork.digest ∷ [] ++ resource_fork.digest ∷ [] ++ data_fork.verdict ∷ [] ++ resource_fork.verdict ∷ []
 
-unfoldable pub remains_values : ℕ → List ℕ → Info → ForkTold → ForkTold → List RowValue
-remains_values number path info data_fork resource_fork =
-    remains_place number path info ++ remains_marks info ++ date_values info ++ remains_sizes info ++ remains_forks data_fork resource_fork
+unfoldable pub remains_values : ℕ → List (List ℕ) → List ℕ → Info → ForkTold → ForkTold → List RowValue
+remains_values number names path info data_fork resource_fork =
+    remains_place number names path info ++ remains_marks info ++ date_values info ++ remains_sizes info ++ remains_forks data_fork resource_fork
 
 -- ---- all items
 
 -- the values of item i, of which its record tells this
 abbrev pub told_values : Bool → FoundImage → ℕ → Info → List RowValue
 told_values taken f i info =
-    remains_values i (path_at f.things i) info (told_fork taken f Data (slice_index_or f.shares i None)) (told_fork taken f Resource (slice_index_or f.shares i None))
+    remains_values i (names_at f.things f.mdb i) (path_at f.things i) info (told_fork taken f Data (slice_index_or f.shares i None))
+    (told_fork taken f Resource (slice_index_or f.shares i None))
 
 -- its row
 abbrev pub remains_row : Bool → FoundImage → ℕ → Option Info → List TakenRow

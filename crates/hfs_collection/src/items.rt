@@ -3,8 +3,9 @@ ghost use Rattle.std.specs.Prelude.{◌≡◌, ◌++◌, [], ◌∷◌, OnOk, If
 ghost use Rattle.hfs_rows.specs.declared.value.RowValue.TheVariants.{Text};
 ghost use Rattle.hfs_table.specs.Cells.{characters, flag, number, path, word};
 ghost use Rattle.hfs_table.specs.Columns.{kind_word, of_file, of_folder};
+ghost use Rattle.hfs_table.specs.Lines.{bag_path};
 ghost use Rattle.hfs_collection.specs.Values.{cell_value};
-ghost use Rattle.hfs_collection.specs.Items.{bag_path, date_values, fork_values, fork_verdict, item_values, mark_values, place_values, size_values};
+ghost use Rattle.hfs_collection.specs.Items.{date_values, fork_values, fork_verdict, item_values, mark_values, place_values, size_values};
 
 use crate::digests::ForkDigests;
 use crate::values::{
@@ -13,12 +14,17 @@ use crate::values::{
 };
 use hfs_fields::Name;
 use hfs_model::{Info, ItemKind};
-use hfs_names::{push_host_path, push_mac_path};
+use hfs_names::push_mac_path;
 use hfs_rows::RowValue;
+use hfs_table::push_bag_path;
 use std::alloc::{AllocError, Global};
 
-/// Appends the Mac path.
-fn push_path(alloc: Global, values: &mut Vec<RowValue>, names: &[Name]) -> Result<(), AllocError>
+/// Appends the Mac path by these names.
+pub(crate) fn push_path(
+    alloc: Global,
+    values: &mut Vec<RowValue>,
+    names: &[Name],
+) -> Result<(), AllocError>
     ensures { OnOk result (values.new.items ≡ values.old.items
         ++ cell_value (path names.now) ∷ []) }
 {
@@ -27,18 +33,8 @@ fn push_path(alloc: Global, values: &mut Vec<RowValue>, names: &[Name]) -> Resul
     push_text(values, text)
 }
 
-/// Appends the host path of what lies below the root.
-fn push_below(text: &mut String, names: &[Name]) -> Result<(), AllocError>
-    ensures { OnOk result (string_bytes text.new ≡ string_bytes text.old ++ bag_path names.now) }
-{
-    match names {
-        [] => push_host_path(text, names),
-        [_, below @ ..] => push_host_path(text, below),
-    }
-}
-
 /// Appends the path below the payload in a bag.
-fn push_bag_path(
+fn push_below_payload(
     alloc: Global,
     values: &mut Vec<RowValue>,
     names: &[Name],
@@ -46,7 +42,7 @@ fn push_bag_path(
     ensures { OnOk result (values.new.items ≡ values.old.items ++ Text (bag_path names.now) ∷ []) }
 {
     let mut text = String::new(alloc);
-    push_below(&mut text, names)?;
+    push_bag_path(&mut text, names)?;
     push_whole_text(values, text)
 }
 
@@ -80,7 +76,7 @@ fn push_place(
 {
     push_number(values, number)?;
     push_path(alloc, values, names)?;
-    push_bag_path(alloc, values, names)?;
+    push_below_payload(alloc, values, names)?;
     push_kind(alloc, values, info.kind)?;
     push_number(values, u64::from(info.id))?;
     push_number(values, u64::from(info.parent))

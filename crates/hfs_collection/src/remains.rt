@@ -3,8 +3,9 @@ ghost use Rattle.std.specs.Prelude.{◌≡◌, ◌++◌, IfOk, OnOk, string_byte
 ghost use Rattle.hfs_collection.specs.Items.{date_values};
 ghost use Rattle.hfs_collection.specs.Remains.{remains_forks, remains_marks, remains_place, remains_sizes, remains_values};
 
-use crate::items::{push_dates, push_flag, push_kind, push_length, push_of_file};
+use crate::items::{push_dates, push_flag, push_kind, push_length, push_of_file, push_path};
 use crate::values::{push_empty, push_hex_value, push_number, push_value, push_whole_text};
+use hfs_fields::Name;
 use hfs_model::Info;
 use hfs_rows::RowValue;
 use std::alloc::{AllocError, Global};
@@ -20,20 +21,21 @@ pub(crate) struct ForkTold {
     pub(crate) is_whole: bool,
 }
 
-/// Appends number, path below the payload, kind, ID and parent; no Mac path is told.
+/// Appends number, the Mac path by these names, the path below the payload, kind, ID and parent.
 #[tactic(auto, unfolding(crate::specs::Remains::remains_place))]
 fn push_place(
     alloc: Global,
     values: &mut Vec<RowValue>,
     number: u64,
+    names: &[Name],
     path: String,
     info: &Info,
 ) -> Result<(), AllocError>
     ensures { OnOk result (values.new.items ≡ values.old.items
-        ++ remains_place number (string_bytes path) info.now) }
+        ++ remains_place number names.now (string_bytes path) info.now) }
 {
     push_number(values, number)?;
-    push_empty(values)?;
+    push_path(alloc, values, names)?;
     push_whole_text(values, path)?;
     push_kind(alloc, values, info.kind)?;
     push_number(values, u64::from(info.id))?;
@@ -79,21 +81,22 @@ fn push_forks(
     push_value(values, resource_fork.verdict)
 }
 
-/// The values of the row of an item that remains, with this number and this path below the payload.
+/// The values of the row of an item that remains, with this number, to which these names lead, and with this path below the payload.
 #[tactic(auto, unfolding(crate::specs::Remains::remains_values))]
 pub(crate) fn remains_values(
     alloc: Global,
     number: u64,
+    names: &[Name],
     path: String,
     info: &Info,
     data_fork: ForkTold,
     resource_fork: ForkTold,
 ) -> Result<Vec<RowValue>, AllocError>
     ensures { IfOk result (λ values. values.items
-        ≡ remains_values number (string_bytes path) info.now data_fork resource_fork) }
+        ≡ remains_values number names.now (string_bytes path) info.now data_fork resource_fork) }
 {
     let mut values = Vec::new(alloc);
-    push_place(alloc, &mut values, number, path, info)?;
+    push_place(alloc, &mut values, number, names, path, info)?;
     push_marks(alloc, &mut values, info)?;
     push_dates(alloc, &mut values, info)?;
     push_sizes(alloc, &mut values, info)?;

@@ -18,6 +18,7 @@ use crate::remains::{ForkTold, remains_values};
 use hfs_finds::fork_digest;
 use hfs_model::{Bytes, Info};
 use hfs_remains::FoundFork;
+use hfs_rescue_items::names_at;
 use hfs_rows::RowValue;
 use hfs_space::ForkKind;
 use hfs_verdicts::{Verdict, push_verdict};
@@ -140,10 +141,19 @@ impl Remaining<'_> {
             ≡ remains_files (image_of self.now) i (Some info.now)) }
     {
         let path = self.path(alloc, i)?;
+        let names = names_at(alloc, &self.finds.places, &self.finds.mdb, i, path.as_str())?;
         let data_fork = self.told_fork(alloc, i, ForkKind::Data, taken)?;
         let resource_fork = self.told_fork(alloc, i, ForkKind::Resource, taken)?;
         let counts = FileCounts::of(info.kind, are_whole(&data_fork, &resource_fork));
-        let values = remains_values(alloc, i as u64, path, info, data_fork, resource_fork)?;
+        let values = remains_values(
+            alloc,
+            i as u64,
+            &names,
+            path,
+            info,
+            data_fork,
+            resource_fork,
+        )?;
         Ok(ToldItem { values, counts })
     }
 }

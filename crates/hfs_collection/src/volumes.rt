@@ -26,6 +26,8 @@ fn container_word(container: Container) -> &'static str
         Container::MacBinary => "macbinary",
         Container::DiskCopy { .. } => "disk copy",
         Container::Partition => "partition",
+        Container::RawBare => "raw 2352 bare",
+        Container::RawPartition => "raw 2352 partition",
     }
 }
 

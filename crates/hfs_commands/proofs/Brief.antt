@@ -13,7 +13,9 @@ use Rattle.hfs_model.specs.Reading.{list}
 use Rattle.hfs_check.specs.VolumeOf.{volume_of}
 use Rattle.hfs_queries.specs.Brief.{without_id, value_without_ids, without_ids}
 use Rattle.hfs_needed.specs.Known.{OfKnown}
-use Rattle.hfs_commands.specs.Listing.{child_line, child_lines, code_line, tabbed, tabbed_sizes, listed_lines, list_lines, folder_lines}
+use Rattle.hfs_commands.specs.declared.fault.Status.{Status}
+use Rattle.hfs_commands.specs.Faults.{status_number}
+use Rattle.hfs_commands.specs.Listing.{child_line, child_lines, code_line, tabbed, tabbed_sizes, listed_lines, listed_status, list_lines, list_status, folder_lines}
 use Rattle.hfs_texts.specs.Answers.{kind_text}
 use Rattle.hfs_texts.specs.Lines.{item_name_text}
 
@@ -54,3 +56,24 @@ pub lines-known : (known : Option (List ℕ)) (len : ℕ) (reply : Reply) (lines
 lines-known None len reply lines dir e h = tt
 lines-known (Some image) len reply lines dir e h = λ same.
     e ∙ ap list_lines (h same) ∙ list_lines-brief (list (entries_of (volume_of image)) dir)
+
+-- ---- the exit status
+
+value-status : (v : Value) → listed_status (value_without_ids v) ≡ listed_status v
+value-status (value.Many infos) = refl
+value-status value.Nothing = refl
+value-status (value.Id id) = refl
+value-status (value.One info) = refl
+value-status (value.Bytes bytes) = refl
+value-status (value.Full free depth) = refl
+value-status (value.Place dir name) = refl
+
+status-brief : (reply : Reply) → list_status (without_ids reply) ≡ list_status reply
+status-brief reply = ap status_number (value-status reply.value)
+
+pub status-known : (known : Option (List ℕ)) (len : ℕ) (reply : Reply) (number dir : ℕ) → number ≡ list_status reply
+    → OfKnown known len (λ image. reply ≡ without_ids (list (entries_of (volume_of image)) dir))
+    → OfKnown known len (λ image. number ≡ list_status (list (entries_of (volume_of image)) dir))
+status-known None len reply number dir e h = tt
+status-known (Some image) len reply number dir e h = λ same.
+    e ∙ ap list_status (h same) ∙ status-brief (list (entries_of (volume_of image)) dir)

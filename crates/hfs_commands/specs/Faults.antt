@@ -35,6 +35,7 @@ status_of fault.WordsNotText = status.WordsRefused
 status_of (fault.Refused why) = status.ImageRefused
 status_of (fault.NoVolume n) = status.ImageRefused
 status_of fault.NoVolumes = status.ImageRefused
+status_of fault.NotWritten = status.ImageRefused
 status_of (fault.SeveralVolumes n) = status.ImageRefused
 status_of fault.BadName = status.ImageRefused
 status_of fault.BadSize = status.ImageRefused
@@ -46,6 +47,7 @@ status_of fault.NoPlace = status.NoMemory
 status_of (fault.CannotRead file) = status.DeviceFailed
 status_of (fault.BrokenOff file) = status.DeviceFailed
 status_of (fault.CannotWrite file) = status.DeviceFailed
+status_of (fault.IsThere file) = status.DeviceFailed
 status_of fault.OutputFailed = status.DeviceFailed
 status_of fault.NoMemory = status.NoMemory
 
@@ -55,6 +57,7 @@ fault_text fault.WordsNotText = codes "the words are not text"
 fault_text (fault.Refused why) = refusal_text why
 fault_text (fault.NoVolume n) = codes "no volume " ++ decimal n
 fault_text fault.NoVolumes = codes "no HFS volume"
+fault_text fault.NotWritten = codes "not written here"
 fault_text (fault.SeveralVolumes n) = decimal n ++ codes " volumes lie inside; name one by --volume"
 fault_text fault.BadName = codes "bad name"
 fault_text fault.BadSize = codes "bad size"
@@ -66,6 +69,7 @@ fault_text fault.NoPlace = codes "no place for a viewer"
 fault_text (fault.CannotRead file) = codes "cannot read " ++ path_text file.now
 fault_text (fault.BrokenOff file) = codes "cannot read " ++ path_text file.now
 fault_text (fault.CannotWrite file) = codes "cannot write " ++ path_text file.now
+fault_text (fault.IsThere file) = path_text file.now ++ codes " is there already"
 fault_text fault.OutputFailed = []
 fault_text fault.NoMemory = codes "out of memory"
 
@@ -93,6 +97,10 @@ IsUnreadFile path why = (why ≡ fault.CannotRead path) ⊎ IsTooMuch why
 -- a file, or the volume in it that is asked for, was not opened
 abbrev pub IsUnopened : Bor (List ℕ) → Option ℕ → Fault → Type 0
 IsUnopened path volume why = (why ≡ fault.CannotRead path) ⊎ (IsTooMuch why ⊎ IsUnnamed volume why)
+
+-- an image that is to be changed was not opened: it can't be read, it is too much, or it isn't written
+abbrev pub IsUnwatched : Bor (List ℕ) → Fault → Type 0
+IsUnwatched path why = (why ≡ fault.CannotRead path) ⊎ (IsTooMuch why ⊎ (why ≡ fault.NotWritten))
 
 -- a script has too many bytes, or more than there is memory for
 abbrev pub IsTooMuchScript : Fault → Type 0

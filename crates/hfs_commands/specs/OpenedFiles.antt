@@ -1,16 +1,75 @@
 -- What is known of a file that was opened.
-use Rattle.std.specs.Prelude.{ℕ, List, Option, None, Some}
+use Rattle.std.specs.Prelude.{◌≡◌, ⊤, ℕ, ◌+◌, ◌*◌, ◌/◌, ◌<◌, List, length, Option, None, Some}
 use Rattle.std.specs.Option.{option_map}
+use Rattle.hfs_source.specs.Steps.{IsReadFrom}
+use Rattle.hfs_raw.specs.Reading.{FailsInData, IsDataOfOne}
+use Rattle.hfs_raw.specs.Sectors.{other_count}
+use Rattle.hfs_containers.specs.declared.ranges.ByteRange.{ByteRange}
+use Rattle.hfs_containers.specs.declared.ranges.Layout.{Layout}
+use Rattle.hfs_containers.specs.declared.ranges.Layout.TheVariants as layout
 use Rattle.hfs_containers.specs.declared.window.Window.{Window}
-use Rattle.hfs_containers.specs.Ranges.{bytes_in}
+use Rattle.hfs_containers.specs.Ranges.{bytes_in, range_of}
+use Rattle.hfs_containers.specs.Raw.{known_data}
+use Rattle.hfs_containers.specs.Reading.{IsToldOf}
 use Rattle.hfs_commands.specs.declared.opened_file.OpenedFile.{OpenedFile}
-use Rattle.hfs_commands.specs.declared.opened_file.OpenedFile.TheVariants.{Seekable, Whole}
+use Rattle.hfs_commands.specs.declared.opened_file.OpenedFile.TheVariants.{Plain, Raw}
+use Rattle.hfs_commands.specs.declared.opened_file.StoredFile.{StoredFile}
+use Rattle.hfs_commands.specs.declared.opened_file.StoredFile.TheVariants.{Seekable, Whole}
 
--- its bytes, where all were read
+-- the bytes of a file, where all were read
+abbrev pub stored_bytes : {F : Type 0} → StoredFile F → Option (List ℕ)
+stored_bytes (Seekable file) = None
+stored_bytes (Whole bytes) = Some bytes.items
+
+-- the bytes in which volumes are looked for, where all of the file were read
 abbrev pub known_bytes : {F : Type 0} → OpenedFile F → Option (List ℕ)
-known_bytes (Seekable file) = None
-known_bytes (Whole bytes) = Some bytes.items
+known_bytes (Plain file) = stored_bytes file
+known_bytes (Raw file) = known_data file.len (stored_bytes file.data.bytes)
 
 -- the bytes of a range of it, where these are known
 abbrev pub known_in : {F : Type 0} → Window (OpenedFile F) → Option (List ℕ)
 known_in window = option_map (bytes_in window.range) (known_bytes window.source)
+
+-- the files that have the bytes which were read: of what is held as a whole there is one
+abbrev pub stored_images : {F : Type 0} → StoredFile F → List ℕ → Type 0
+stored_images (Seekable file) image = IsReadFrom file.log.steps image
+stored_images (Whole bytes) image = image ≡ bytes.items
+
+-- where a read of a file may fail, from a place on, of so many bytes: of what is held as a whole only past its end
+abbrev pub stored_failures : {F : Type 0} → StoredFile F → ℕ → ℕ → Type 0
+stored_failures (Seekable file) place count = ⊤
+stored_failures (Whole bytes) place count = length bytes.items < place + count
+
+-- the bytes in which volumes are looked for, of each file that has the bytes which were read
+abbrev pub images_of : {F : Type 0} → OpenedFile F → List ℕ → Type 0
+images_of (Plain file) image = stored_images file image
+images_of (Raw file) image = IsDataOfOne (stored_images file.data.bytes) file.data.sectors image
+
+-- where a read of these may fail
+abbrev pub failures_of : {F : Type 0} → OpenedFile F → ℕ → ℕ → Type 0
+failures_of (Plain file) place count = stored_failures file place count
+failures_of (Raw file) place count = FailsInData (stored_failures file.data.bytes) file.data.sectors place count
+
+-- what the file's bytes are
+abbrev pub opened_layout : {F : Type 0} → OpenedFile F → Layout
+opened_layout (Plain file) = layout.Plain
+opened_layout (Raw file) = layout.Raw
+
+-- so many of its raw sectors have no user data, where all of the file were read; none where it has no such sectors
+abbrev pub AreOthersOf : {F : Type 0} → OpenedFile F → ℕ → Type 0
+AreOthersOf (Plain file) others = others ≡ 0
+AreOthersOf (Raw file) others = IsToldOf (stored_bytes file.data.bytes) file.len other_count others
+
+-- the bytes in which volumes are looked for, by what the file's bytes are
+abbrev pub bytes_by : Layout → ℕ → Option (List ℕ) → Option (List ℕ)
+bytes_by layout.Plain len known = known
+bytes_by layout.Raw len known = known_data len known
+
+-- all user data of so many bytes of raw sectors
+abbrev pub raw_range : ℕ → ByteRange
+raw_range len = range_of 0 (len / 2352 * 2048)
+
+-- the range in which volumes are looked for, by what the file's bytes are
+abbrev pub range_by : Layout → ByteRange → ByteRange
+range_by layout.Plain range = range
+range_by layout.Raw range = raw_range range.len

@@ -81,6 +81,8 @@ pub enum Fault<'a> {
     NoVolume(u64),
     /// A file has no volume.
     NoVolumes,
+    /// The image is the user data of raw CD sectors, which isn't written.
+    NotWritten,
     /// So many volumes lie inside a file, and none of them is named.
     SeveralVolumes(u64),
     /// A new volume can't have this name.
@@ -103,6 +105,8 @@ pub enum Fault<'a> {
     BrokenOff(&'a str),
     /// A file was not written.
     CannotWrite(&'a str),
+    /// A file was not made, since something has its name already.
+    IsThere(&'a str),
     /// Standard output failed, so that nothing more is printed.
     OutputFailed,
     /// Memory was refused.
@@ -117,13 +121,14 @@ impl Fault<'_> {
         match self {
             Fault::WordsNotText => Status::WordsRefused,
             Fault::Refused(_) | Fault::NoVolume(_) | Fault::NoVolumes => Status::ImageRefused,
-            Fault::SeveralVolumes(_) => Status::ImageRefused,
+            Fault::SeveralVolumes(_) | Fault::NotWritten => Status::ImageRefused,
             Fault::BadName | Fault::BadSize | Fault::BadNodeCount | Fault::NoRoom => {
                 Status::ImageRefused
             }
             Fault::ScriptLine(_) | Fault::ScriptTooLarge => Status::ImageRefused,
             Fault::CannotRead(_) | Fault::BrokenOff(_) => Status::DeviceFailed,
-            Fault::CannotWrite(_) | Fault::OutputFailed => Status::DeviceFailed,
+            Fault::CannotWrite(_) | Fault::IsThere(_) => Status::DeviceFailed,
+            Fault::OutputFailed => Status::DeviceFailed,
             Fault::NoPlace | Fault::NoMemory => Status::NoMemory,
         }
     }
@@ -265,6 +270,7 @@ impl fmt::Display for Fault<'_> {
             Fault::Refused(why) => write!(f, "{}", Refusal(*why)),
             Fault::NoVolume(n) => write!(f, "no volume {n}"),
             Fault::NoVolumes => write!(f, "no HFS volume"),
+            Fault::NotWritten => write!(f, "not written here"),
             Fault::SeveralVolumes(n) => {
                 write!(f, "{n} volumes lie inside; name one by --volume")
             }
@@ -278,6 +284,7 @@ impl fmt::Display for Fault<'_> {
             Fault::CannotRead(file) => write!(f, "cannot read {}", ShownPath(*file)),
             Fault::BrokenOff(file) => write!(f, "cannot read {}", ShownPath(*file)),
             Fault::CannotWrite(file) => write!(f, "cannot write {}", ShownPath(*file)),
+            Fault::IsThere(file) => write!(f, "{} is there already", ShownPath(*file)),
             Fault::OutputFailed => Ok(()),
             Fault::NoMemory => write!(f, "out of memory"),
         }

@@ -1,10 +1,12 @@
 //! Files by their paths.
 ghost use Rattle.std.specs.Prelude.{◌≡◌, ◌≤◌, ◌⊎◌, IfErr, IfOk, length};
-ghost use Rattle.hfs_commands.specs.Faults.{IsTooMuch, IsUnreadScript};
+ghost use Rattle.hfs_commands.specs.Faults.{IsTooMuch, IsUnreadScript, IsUnwatched};
 
 use crate::fault::Fault;
 use crate::watched::WatchedFile;
 use hfs_check::MountFault;
+use hfs_raw::{are_whole_sectors, data_start};
+use hfs_sparse::{BlockSource, ByteSource};
 use hfs_texts::{IMAGE_LIMIT, LoadFault, load, load_within};
 use std::alloc::Global;
 use std::fs::{File, OpenFile};
@@ -59,25 +61,66 @@ pub enum WatchedImage<F: Read + Seek> {
     Whole(Vec<u8>),
 }
 
+/// Refuses an image of `len` bytes that is the user data of raw CD sectors. Nothing is read where `len` is no multiple of 2,352. Faults: `NotWritten`; the
+/// read failed.
+fn refuse_raw<'a, S: BlockSource>(source: &mut S, len: u64, path: &'a str) -> Result<(), Fault<'a>>
+    ensures { IfErr result (IsUnwatched path.entry) }
+{
+    if !are_whole_sectors(len) {
+        return Ok(());
+    }
+    let mut block = [0; 512];
+    let Ok(()) = source.read_blocks(0, &mut block) else {
+        return Err(Fault::CannotRead(path));
+    };
+    let mut head = [0; 24];
+    head.copy_from_slice(&block[..24]);
+    match data_start(&head) {
+        Some(_) => Err(Fault::NotWritten),
+        None => Ok(()),
+    }
+}
+
+/// All bytes of an image that can't be sought in, to be changed.
+fn whole_watched<'a, F: Read + Seek>(
+    alloc: Global,
+    file: &mut F,
+    path: &'a str,
+) -> Result<WatchedImage<F>, Fault<'a>>
+    ensures { IfErr result (IsUnwatched path.entry) }
+{
+    let bytes = load_opened(alloc, file, path)?;
+    let len = bytes.len() as u64;
+    refuse_raw(
+        &mut ByteSource {
+            bytes: bytes.as_slice(),
+        },
+        len,
+        path,
+    )?;
+    Ok(WatchedImage::Whole(bytes))
+}
+
 /// Opens an image by its path, to write it anew with changes: a regular file is left to be read where it is needed, and of anything else all
-/// bytes are read. Faults: as [`load_file`] has them, but that of a file's length, which its checks tell.
+/// bytes are read. Faults: as [`load_file`] has them, but that of a file's length, which its checks tell; `NotWritten` where it is of raw CD sectors.
 pub fn open_watched<'a, R: Files + AllocGlobal>(
     rt: &R,
     path: &'a str,
 ) -> Result<WatchedImage<R::File>, Fault<'a>>
-    ensures { IfErr result (λ why. (why ≡ Fault.CannotRead path.entry) ⊎ IsTooMuch why) }
+    ensures { IfErr result (IsUnwatched path.entry) }
 {
     let Ok(mut file) = File::open(rt, path) else {
         return Err(Fault::CannotRead(path));
     };
     if regular_len(&file).is_none() {
-        let bytes = load_opened(rt.alloc(), &mut file, path)?;
-        return Ok(WatchedImage::Whole(bytes));
+        return whole_watched(rt.alloc(), &mut file, path);
     }
-    match WatchedFile::new(file) {
-        Ok(watched) => Ok(WatchedImage::InFile(watched)),
-        Err(_) => Err(Fault::CannotRead(path)),
-    }
+    let Ok(mut watched) = WatchedFile::new(file) else {
+        return Err(Fault::CannotRead(path));
+    };
+    let len = watched.len();
+    refuse_raw(&mut watched, len, path)?;
+    Ok(WatchedImage::InFile(watched))
 }
 
 /// The most bytes of a script.

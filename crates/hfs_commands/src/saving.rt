@@ -3,12 +3,13 @@ ghost use Rattle.std.specs.Prelude.{◌≡◌, None, IfErr, IfOk, IfSome, OnErr,
 ghost use Rattle.std.specs.Io.KnownBytes.{Appends};
 ghost use Rattle.std.specs.Option.{option_map};
 ghost use Rattle.hfs_texts.specs.Writing.{AppendsFront};
-ghost use Rattle.hfs_commands.specs.Saving.{IsOpenTarget, IsUnsaved, TellsSomeFirst};
+ghost use Rattle.hfs_commands.specs.Saving.{IsNoPlace, IsOpenTarget, IsUnmade, IsUnsaved, TellsSomeFirst};
 ghost use Rattle.hfs_commands.specs.Paths.{TellsFirst};
 
 use crate::beside::{Leftover, NewFile, create_beside};
 use crate::contents::{Contents, ReadContents, UnwrittenFault, Whole};
 use crate::fault::Fault;
+use crate::free_place::FreePlace;
 use std::fs::{File, Metadata, OpenFile, OpenOptions};
 use std::io::ErrorKind;
 use std::os::unix::fs::MetadataExt;
@@ -223,6 +224,98 @@ pub fn save_read<'a, R: Files + AllocGlobal, C: ReadContents>(
     let written = match save_at(rt, path, contents, &mut leftover) {
         Ok(()) => Ok(()),
         Err(fault) => Err(Fault::of_unwritten(fault, source, path)),
+    };
+    Saved { leftover, written }
+}
+
+/// Makes a file beside a path, and writes it whole. At an error it is gone, if it can be removed. Where a name was taken, the first is told.
+fn filled_beside<R: Files + AllocGlobal, C: ReadContents>(
+    rt: &R,
+    path: &str,
+    contents: &mut C,
+    leftover: &mut Option<Leftover>,
+) -> Result<NewFile<R::File>, UnwrittenFault>
+    requires { leftover.old ≡ None }
+    ensures told { TellsFirst path.now
+        (option_map (λ told. string_bytes told.path) leftover.new) }
+    ensures settled { OnOk result (C.settled contents.new) }
+{
+    let mut made = create_beside(rt, path, FOR_ALL, leftover)?;
+    match fill(rt, &mut made, contents, None) {
+        Ok(()) => Ok(made),
+        Err(fault) => {
+            let _removed = fs::remove_file(rt, made.path.as_str());
+            Err(fault)
+        }
+    }
+}
+
+/// Gives a file that is whole the name of a free place.
+fn name_new<'a, R: Files, F>(
+    rt: &R,
+    made: &NewFile<F>,
+    path: &'a str,
+    _free: FreePlace,
+) -> Result<(), Fault<'a>>
+    ensures { IfErr result (λ fault. fault ≡ Fault.CannotWrite path.entry) }
+{
+    match fs::rename(rt, made.path.as_str(), path) {
+        Ok(()) => Ok(()),
+        Err(_) => Err(Fault::CannotWrite(path)),
+    }
+}
+
+/// Gives a file that is whole its place, where that is still free. At a fault it is gone, if it can be removed.
+fn place_new<'a, R: Files>(rt: &R, made: &NewFile<R::File>, path: &'a str) -> Result<(), Fault<'a>>
+    ensures { IfErr result (IsNoPlace path.entry) }
+{
+    let placed = match FreePlace::of(rt.symlink_metadata(path), path) {
+        Ok(free) => name_new(rt, made, path, free),
+        Err(fault) => Err(fault),
+    };
+    if placed.is_err() {
+        let _removed = fs::remove_file(rt, made.path.as_str());
+    }
+    placed
+}
+
+/// Writes a new file at a free place.
+fn make_at<'a, R: Files + AllocGlobal, C: ReadContents>(
+    rt: &R,
+    path: &'a str,
+    source: &'a str,
+    contents: &mut C,
+    leftover: &mut Option<Leftover>,
+    _free: FreePlace,
+) -> Result<(), Fault<'a>>
+    requires { leftover.old ≡ None }
+    ensures fault { IfErr result (IsUnmade source.entry path.entry) }
+    ensures told { TellsSomeFirst (option_map (λ told. string_bytes told.path) leftover.new) }
+    ensures settled { OnOk result (C.settled contents.new) }
+{
+    match filled_beside(rt, path, contents, leftover) {
+        Ok(made) => place_new(rt, &made, path),
+        Err(fault) => Err(Fault::of_unwritten(fault, source, path)),
+    }
+}
+
+/// Makes a new file, of contents that are read from a file `source` as they are written. They go to a file beside it and to the device before that gets
+/// its name, so that the file is whole or not there. Faults: `IsThere` where something has its name before the first byte is read, or has it by then;
+/// `CannotRead` of the source; `CannotWrite`; `NoMemory`.
+pub fn save_new<'a, R: Files + AllocGlobal, C: ReadContents>(
+    rt: &R,
+    path: &'a str,
+    source: &'a str,
+    contents: &mut C,
+) -> Saved<'a>
+    ensures fault { IfErr result.written (IsUnmade source.entry path.entry) }
+    ensures told { TellsSomeFirst (option_map (λ told. string_bytes told.path) result.leftover) }
+    ensures settled { OnOk result.written (C.settled contents.new) }
+{
+    let mut leftover = None;
+    let written = match FreePlace::of(rt.symlink_metadata(path), path) {
+        Ok(free) => make_at(rt, path, source, contents, &mut leftover, free),
+        Err(fault) => Err(fault),
     };
     Saved { leftover, written }
 }

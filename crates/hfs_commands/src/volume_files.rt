@@ -4,14 +4,15 @@ ghost use Rattle.std.specs.Option.{is_some};
 ghost use Rattle.hfs_containers.specs.Asking.{IsAnswerTo, asked_in};
 ghost use Rattle.hfs_containers.specs.Reading.{IsToldOf};
 ghost use Rattle.hfs_commands.specs.Faults.{IsUnopened, IsUnreadFile};
-ghost use Rattle.hfs_commands.specs.OpenedFiles.{known_bytes};
+ghost use Rattle.hfs_commands.specs.OpenedFiles.{known_bytes, opened_layout, stored_bytes, stored_images};
 ghost use Rattle.hfs_commands.specs.Parts.{IsRangeAt, asked_at};
+ghost use Rattle.hfs_source.specs.Images.{HasLength, OfEach};
 
 use crate::fault::Fault;
 use crate::files::{load_opened, regular_len};
-use crate::opened_file::OpenedFile;
-use hfs_containers::{Asked, ByteRange, Counted, NumberedRange, PlacedFile, Window, find_asked};
-use hfs_sparse::FileReader;
+use crate::opened_file::{OpenedFile, StoredFile, content_of};
+use hfs_containers::{Asked, ByteRange, Counted, NumberedRange, Window, find_asked};
+use hfs_source::PlacedBytes;
 use std::alloc::Global;
 use std::fs::{File, OpenFile};
 use std::io::{Read, Seek, SeekFrom};
@@ -25,10 +26,15 @@ fn is_folder<F: OpenFile>(file: &F) -> bool {
     }
 }
 
-/// The first `len` bytes of what can be sought in, to be read where they are needed.
-fn sought<F: Read + Seek>(file: F, len: u64) -> Window<OpenedFile<F>> {
+/// All bytes of what was opened.
+fn whole_file<F: Read + Seek>(source: StoredFile<F>) -> Window<StoredFile<F>>
+    ensures source { result.source ≡ source }
+    ensures start { result.range.start ≡ 0 }
+    ensures len { OfEach (stored_images source) (HasLength result.range.len) }
+{
+    let len = source.len();
     Window {
-        source: OpenedFile::Seekable(PlacedFile::new(FileReader(file))),
+        source,
         range: ByteRange { start: 0, len },
     }
 }
@@ -38,15 +44,25 @@ fn loaded<'a, F: Read + Seek + Drop>(
     alloc: Global,
     mut file: F,
     path: &'a str,
-) -> Result<Window<OpenedFile<F>>, Fault<'a>>
+) -> Result<Window<StoredFile<F>>, Fault<'a>>
     ensures { IfErr result (IsUnreadFile path.entry) }
 {
     let bytes = load_opened(alloc, &mut file, path)?;
-    let len = bytes.len() as u64;
-    Ok(Window {
-        source: OpenedFile::Whole(bytes),
-        range: ByteRange { start: 0, len },
-    })
+    Ok(whole_file(StoredFile::Whole(bytes)))
+}
+
+/// All bytes of a file, to be read where they are needed if it can be sought in. Faults: as [`load_file`](crate::load_file) has them.
+fn opened<'a, F: Read + Seek + Drop>(
+    alloc: Global,
+    file: F,
+    path: &'a str,
+) -> Result<Window<StoredFile<F>>, Fault<'a>>
+    ensures { IfErr result (IsUnreadFile path.entry) }
+{
+    match StoredFile::sought(file) {
+        Ok(source) => Ok(whole_file(source)),
+        Err(file) => loaded(alloc, file, path),
+    }
 }
 
 /// Opens a file to look for volumes in it: its length is what seeking to its end says, and what can't be sought in is read whole. Faults:
@@ -55,19 +71,16 @@ fn loaded<'a, F: Read + Seek + Drop>(
 pub fn open_file<'a, R: Files + AllocGlobal>(
     rt: &R,
     path: &'a str,
-) -> Result<Window<OpenedFile<R::File>>, Fault<'a>>
+) -> Result<Window<StoredFile<R::File>>, Fault<'a>>
     ensures { IfErr result (IsUnreadFile path.entry) }
 {
-    let Ok(mut file) = File::open(rt, path) else {
+    let Ok(file) = File::open(rt, path) else {
         return Err(Fault::CannotRead(path));
     };
     if is_folder(&file) {
         return Err(Fault::CannotRead(path));
     }
-    match file.seek(SeekFrom::End(0)) {
-        Ok(len) => Ok(sought(file, len)),
-        Err(_) => loaded(rt.alloc(), file, path),
-    }
+    opened(rt.alloc(), file, path)
 }
 
 /// A part of a file: the file as it is, or a range that lies inside.
@@ -79,12 +92,25 @@ pub struct FilePart<F: Read + Seek> {
     pub place: Option<NumberedRange>,
 }
 
-/// A file as it is.
+/// What volumes are looked for in, as it is.
 fn whole_part<F: Read + Seek>(bytes: Window<OpenedFile<F>>) -> FilePart<F>
     ensures bytes { result.bytes ≡ bytes }
     ensures place { result.place ≡ None }
 {
     FilePart { bytes, place: None }
+}
+
+/// A file as it is.
+fn stored_part<F: Read + Seek>(file: Window<StoredFile<F>>) -> FilePart<F>
+    ensures known { known_bytes result.bytes.source ≡ stored_bytes file.source }
+    ensures range { result.bytes.range ≡ file.range }
+    ensures place { result.place ≡ None }
+{
+    let Window { source, range } = file;
+    whole_part(Window {
+        source: OpenedFile::Plain(source),
+        range,
+    })
 }
 
 /// What is asked for of a file that was opened, by the number of a range in it or without one, as [`find_asked`] says. Faults: `NoVolume` where there
@@ -98,7 +124,7 @@ pub fn part_of<'a, F: Read + Seek + Drop>(
     volume: Option<u64>,
 ) -> Result<FilePart<F>, Fault<'a>>
     ensures asked { IfOk result (λ part. IsToldOf (known_bytes file.source) file.range.len
-        (asked_in counted volume) (asked_at part.place)) }
+        (asked_in (opened_layout file.source) counted volume) (asked_at part.place)) }
     ensures answer { IfOk result (λ part. IsAnswerTo volume (asked_at part.place)) }
     ensures range { IfOk result (λ part. IsRangeAt part.place part.bytes.range) }
     ensures whole { IfOk result (λ part. part.place ≡ None → part.bytes.range ≡ file.range) }
@@ -106,7 +132,8 @@ pub fn part_of<'a, F: Read + Seek + Drop>(
     ensures fault { IfErr result (IsUnopened path.entry volume) }
 {
     let Window { mut source, range } = file;
-    match find_asked(alloc, &mut source, range.len, counted, volume) {
+    let layout = source.layout();
+    match find_asked(alloc, &mut source, range.len, layout, counted, volume) {
         Ok(Asked::WholeFile) => Ok(whole_part(Window { source, range })),
         Ok(Asked::Inside(place)) => Ok(FilePart {
             bytes: Window {
@@ -121,17 +148,17 @@ pub fn part_of<'a, F: Read + Seek + Drop>(
     }
 }
 
-/// How many bytes a file has that can be sought in, where it has any: a regular file or a device. A folder has none.
-fn sought_len<F: OpenFile + Seek>(file: &mut F) -> Option<u64> {
-    if let Some(len) = regular_len(file) {
-        return Some(len);
+/// Whether a file has bytes and can be sought in: a regular file or a device. A folder has none.
+fn has_places<F: OpenFile + Seek>(file: &mut F) -> bool {
+    if regular_len(file).is_some() {
+        return true;
     }
     if is_folder(file) {
-        return None;
+        return false;
     }
     match file.seek(SeekFrom::End(0)) {
-        Ok(0) | Err(_) => None,
-        Ok(len) => Some(len),
+        Ok(0) | Err(_) => false,
+        Ok(_) => true,
     }
 }
 
@@ -139,46 +166,48 @@ fn sought_len<F: OpenFile + Seek>(file: &mut F) -> Option<u64> {
 fn open_image_bytes<'a, R: Files + AllocGlobal>(
     rt: &R,
     path: &'a str,
-) -> Result<Window<OpenedFile<R::File>>, Fault<'a>>
+) -> Result<Window<StoredFile<R::File>>, Fault<'a>>
     ensures { IfErr result (IsUnreadFile path.entry) }
 {
     let Ok(mut file) = File::open(rt, path) else {
         return Err(Fault::CannotRead(path));
     };
-    match sought_len(&mut file) {
-        Some(len) => Ok(sought(file, len)),
-        None => loaded(rt.alloc(), file, path),
+    if has_places(&mut file) {
+        opened(rt.alloc(), file, path)
+    } else {
+        loaded(rt.alloc(), file, path)
     }
 }
 
 /// Whether all bytes of a file are held.
-fn is_held<F: Read + Seek>(file: &OpenedFile<F>) -> bool
-    ensures { result ≡ is_some (known_bytes file.now) }
+fn is_held<F: Read + Seek>(file: &StoredFile<F>) -> bool
+    ensures { result ≡ is_some (stored_bytes file.now) }
 {
     match file {
-        OpenedFile::Whole(_) => true,
-        OpenedFile::Seekable(_) => false,
+        StoredFile::Whole(_) => true,
+        StoredFile::Seekable(_) => false,
     }
 }
 
 /// What is taken of an image of which no volume is named. What can't be sought in, such as a pipe, is taken as it is.
 fn chosen_part<'a, F: Read + Seek + Drop>(
     alloc: Global,
-    bytes: Window<OpenedFile<F>>,
+    bytes: Window<StoredFile<F>>,
     path: &'a str,
     counted: Counted,
 ) -> Result<FilePart<F>, Fault<'a>>
-    ensures pipe { IfSome (known_bytes bytes.source) (λ _. IfOk result (λ part. part.place ≡ None)) }
+    ensures pipe { IfSome (stored_bytes bytes.source) (λ _. IfOk result (λ part. part.place ≡ None)) }
     ensures range { IfOk result (λ part. IsRangeAt part.place part.bytes.range) }
     ensures fault { IfErr result (IsUnopened path.entry None) }
 {
     if is_held(&bytes.source) {
-        return Ok(whole_part(bytes));
+        return Ok(stored_part(bytes));
     }
-    part_of(alloc, bytes, path, counted, None)
+    let content = content_of(bytes, path)?;
+    part_of(alloc, content, path, counted, None)
 }
 
-/// Opens what is asked for of an image: the volume with this number that lies in it, 0 being the image as it is; without a number what
+/// Opens what is asked for of an image: the volume with this number that lies in it, or in the user data of its raw sectors, 0 being the image as it is; without a number what
 /// [`find_asked`] chooses, where the image can be sought in, and else the image as it is. What can be sought in is read where it is needed. Faults: as
 /// [`open_file`] and [`part_of`] have them.
 pub fn open_asked<'a, R: Files + AllocGlobal>(
@@ -198,11 +227,12 @@ pub fn open_asked<'a, R: Files + AllocGlobal>(
         }
         Some(0) => {
             let bytes = open_image_bytes(rt, path)?;
-            Ok(whole_part(bytes))
+            Ok(stored_part(bytes))
         }
         Some(_) => {
             let file = open_file(rt, path)?;
-            part_of(rt.alloc(), file, path, counted, volume)
+            let content = content_of(file, path)?;
+            part_of(rt.alloc(), content, path, counted, volume)
         }
     }
 }

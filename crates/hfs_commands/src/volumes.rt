@@ -4,9 +4,11 @@ ghost use Rattle.std.specs.Option.{option_map};
 ghost use Rattle.hfs_containers.specs.Ranges.{bytes_in};
 ghost use Rattle.hfs_containers.specs.Reading.{IsTold, IsToldOf};
 ghost use Rattle.hfs_texts.specs.Texts.{Gains};
-ghost use Rattle.hfs_commands.specs.Volumes.{container_text, line_of, lines_from, missing_field, name_field, name_text, place_fields, sum_field, sum_told, volume_line, volume_lines};
+ghost use Rattle.hfs_commands.specs.Volumes.{container_text, line_of, lines_from, missing_field, name_field, name_text, others_field, place_fields, sum_field, sum_told, volume_line, volume_lines};
 
-use hfs_containers::{Container, FoundRange, ReadAt, data_sum, find_ranges, volume_name};
+use hfs_containers::{
+    Container, FoundRange, Layout, ReadAt, data_sum, find_in_layout, volume_name,
+};
 use hfs_names::push_plain_text;
 use hfs_sparse::SparseFault;
 use std::alloc::{AllocError, Global};
@@ -20,6 +22,8 @@ fn push_container(text: &mut String, container: Container) -> Result<(), AllocEr
         Container::MacBinary => text.push_str("macbinary"),
         Container::DiskCopy { .. } => text.push_str("disk copy"),
         Container::Partition => text.push_str("partition"),
+        Container::RawBare => text.push_str("raw 2352 bare"),
+        Container::RawPartition => text.push_str("raw 2352 partition"),
     }
 }
 
@@ -68,6 +72,18 @@ fn push_missing_field(text: &mut String, name: &Option<[u8; 28]>) -> Result<(), 
     }
 }
 
+/// Appends how many raw sectors have no user data, where there are some.
+#[tactic(auto, unfolding(crate::specs::Volumes::others_field))]
+fn push_others_field(text: &mut String, others: u64) -> Result<(), AllocError>
+    ensures { OnOk result (Gains text.old text.new (others_field others)) }
+{
+    if others == 0 {
+        return Ok(());
+    }
+    text.push_str("\tother mode ")?;
+    write!(text, "{}", others)
+}
+
 /// Appends a range's number, how it lies, its first byte and how many bytes it has.
 #[tactic(auto, unfolding(crate::specs::Volumes::place_fields))]
 fn push_place(text: &mut String, number: u64, found: &FoundRange) -> Result<(), AllocError>
@@ -82,7 +98,7 @@ fn push_place(text: &mut String, number: u64, found: &FoundRange) -> Result<(), 
     write!(text, "{}", found.range.len)
 }
 
-/// Appends the line of a range, with the name of its volume and what is told of its sum.
+/// Appends the line of a range, with the name of its volume, what is told of its sum, and how many raw sectors have no user data.
 #[tactic(auto, unfolding(crate::specs::Volumes::volume_line))]
 fn push_volume_line(
     text: &mut String,
@@ -90,14 +106,16 @@ fn push_volume_line(
     found: &FoundRange,
     name: &Option<[u8; 28]>,
     sum: Option<bool>,
+    others: u64,
 ) -> Result<(), AllocError>
-    ensures { OnOk result (Gains text.old text.new (volume_line number found.now name.now sum)) }
+    ensures { OnOk result (Gains text.old text.new (volume_line number found.now name.now sum others)) }
 {
     push_place(text, number, found)?;
     text.push('\t')?;
     push_name_field(text, name)?;
     push_sum_field(text, sum)?;
     push_missing_field(text, name)?;
+    push_others_field(text, others)?;
     text.push('\n')
 }
 
@@ -114,6 +132,7 @@ pub fn sum_told<S: ReadAt>(source: &mut S, found: &FoundRange) -> Result<Option<
             Ok(Some(own == sum))
         }
         Container::Bare | Container::MacBinary | Container::Partition => Ok(None),
+        Container::RawBare | Container::RawPartition => Ok(None),
     }
 }
 
@@ -121,16 +140,17 @@ pub fn sum_told<S: ReadAt>(source: &mut S, found: &FoundRange) -> Result<Option<
 fn push_line_of<S: ReadAt>(
     text: &mut String,
     source: &mut S,
+    others: u64,
     number: u64,
     found: &FoundRange,
 ) -> Result<(), SparseFault>
     ensures line { OnOk result (IsTold (S.known source.old)
-        (λ file. string_bytes text.old ++ line_of number found.now file) (string_bytes text.new)) }
+        (λ file. string_bytes text.old ++ line_of others number found.now file) (string_bytes text.new)) }
     ensures known { S.known source.new ≡ S.known source.old }
 {
     let name = volume_name(source, found.range)?;
     let sum = sum_told(source, found)?;
-    match push_volume_line(text, number, found, &name, sum) {
+    match push_volume_line(text, number, found, &name, sum, others) {
         Ok(()) => Ok(()),
         Err(_) => Err(SparseFault::Memory),
     }
@@ -140,34 +160,37 @@ fn push_line_of<S: ReadAt>(
 fn push_lines<S: ReadAt>(
     text: &mut String,
     source: &mut S,
+    others: u64,
     ranges: &[FoundRange],
 ) -> Result<(), SparseFault>
     ensures lines { OnOk result (IsTold (S.known source.old)
-        (λ file. string_bytes text.old ++ lines_from 1 ranges.now file) (string_bytes text.new)) }
+        (λ file. string_bytes text.old ++ lines_from others 1 ranges.now file) (string_bytes text.new)) }
     ensures known { S.known source.new ≡ S.known source.old }
 {
     for i in 0..ranges.len() {
-        push_line_of(text, source, i as u64 + 1, &ranges[i])?;
+        push_line_of(text, source, others, i as u64 + 1, &ranges[i])?;
     }
     Ok(())
 }
 
-/// The lines of the volumes that lie in a file of `len` bytes, counted from 1: number, how it lies, the byte where it begins, its bytes, the plain text
-/// of its name, with tabs between; behind these whether a disk copy's sum is right, and whether there is no volume in the range. None where there
-/// is no line. Errors: a read failed, memory was refused.
+/// The lines of the volumes that lie in a file of `len` bytes, or in as many bytes of user data, counted from 1: number, how it lies, the byte where it
+/// begins, its bytes, the plain text of its name, with tabs between; behind these whether a disk copy's sum is right, whether there is no volume in the
+/// range, and how many raw sectors have no user data, where that isn't 0. None where there is no line. Errors: a read failed, memory was refused.
 pub fn volume_lines<S: ReadAt>(
     alloc: Global,
     source: &mut S,
     len: u64,
+    layout: Layout,
+    others: u64,
 ) -> Result<Option<String>, SparseFault>
-    ensures { IfOk result (λ told. IsToldOf (S.known source.old) len volume_lines
+    ensures { IfOk result (λ told. IsToldOf (S.known source.old) len (volume_lines layout others)
         (option_map string_bytes told)) }
 {
-    let ranges = find_ranges(alloc, source, len)?;
+    let ranges = find_in_layout(alloc, source, len, layout)?;
     if ranges.is_empty() {
         return Ok(None);
     }
     let mut text = String::new(alloc);
-    push_lines(&mut text, source, &ranges)?;
+    push_lines(&mut text, source, others, &ranges)?;
     Ok(Some(text))
 }

@@ -24,6 +24,7 @@ fn range_of(fault: &Fault<'_>) -> Option<&'static str>
         | Fault::NoVolume(_)
         | Fault::NoVolumes
         | Fault::SeveralVolumes(_)
+        | Fault::NotWritten
         | Fault::NoRoom
         | Fault::ScriptLine(_)
         | Fault::ScriptTooLarge
@@ -31,6 +32,7 @@ fn range_of(fault: &Fault<'_>) -> Option<&'static str>
         | Fault::CannotRead(_)
         | Fault::BrokenOff(_)
         | Fault::CannotWrite(_)
+        | Fault::IsThere(_)
         | Fault::OutputFailed
         | Fault::NoMemory => None,
     }

@@ -4,3 +4,4 @@ mod Entries
 mod Counting
 mod SumLemmas
 mod Windows
+mod RawLemmas

@@ -7,10 +7,11 @@ use Rattle.hfs_containers.specs.declared.asking.Counted.{Counted}
 use Rattle.hfs_containers.specs.declared.asking.Counted.TheVariants.{Volumes, Ranges}
 use Rattle.hfs_containers.specs.declared.asking.NumberedRange.{NumberedRange}
 use Rattle.hfs_containers.specs.declared.ranges.Container.{Container}
-use Rattle.hfs_containers.specs.declared.ranges.Container.TheVariants.{Bare, MacBinary, DiskCopy, Partition}
+use Rattle.hfs_containers.specs.declared.ranges.Container.TheVariants.{Bare, MacBinary, DiskCopy, Partition, RawBare, RawPartition}
 use Rattle.hfs_containers.specs.declared.ranges.FoundRange.{FoundRange}
 use Rattle.hfs_containers.specs.Ranges.{volume_name_in}
-use Rattle.hfs_containers.specs.Found.{found_in, nth_found_in}
+use Rattle.hfs_containers.specs.declared.ranges.Layout.{Layout}
+use Rattle.hfs_containers.specs.Found.{found_by, nth_found_by}
 
 -- a range with this number
 abbrev pub numbered : ℕ → FoundRange → NumberedRange
@@ -36,6 +37,8 @@ is_whole_file Bare = true
 is_whole_file MacBinary = false
 is_whole_file (DiskCopy sum) = false
 is_whole_file Partition = false
+is_whole_file RawBare = false
+is_whole_file RawPartition = false
 
 abbrev pub is_bare : List FoundRange → Bool
 is_bare [] = false
@@ -56,10 +59,10 @@ abbrev pub named_of : ℕ → Option FoundRange → Asked
 named_of number None = Missing number
 named_of number (Some found) = Inside (numbered number found)
 
--- what is asked for of a file: 0 is the file as it is
-unfoldable pub asked_in : Counted → Option ℕ → List ℕ → Asked
-asked_in counted None file = chosen_of counted (found_in file) file
-asked_in counted (Some number) file = if number == 0 then WholeFile else named_of number (nth_found_in number file)
+-- what is asked for of a file, or of the user data of one: 0 is the file as it is
+unfoldable pub asked_in : Layout → Counted → Option ℕ → List ℕ → Asked
+asked_in layout counted None file = chosen_of counted (found_by layout file) file
+asked_in layout counted (Some number) file = if number == 0 then WholeFile else named_of number (nth_found_by layout number file)
 
 -- this answers what was asked for by this number or without one, whatever the file is: 0 is the file as it is, another number its range or that there is
 -- none; only without one several count

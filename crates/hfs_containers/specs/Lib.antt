@@ -3,6 +3,7 @@ pub mod Ranges
 pub mod MacBinary
 pub mod DiskCopy
 pub mod PartitionMap
+pub mod Raw
 pub mod Found
 pub mod Asking
 pub mod Sums

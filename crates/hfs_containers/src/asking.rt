@@ -4,8 +4,8 @@ ghost use Rattle.std.specs.Option.{option_to_list};
 ghost use Rattle.hfs_containers.specs.Reading.{IsTold, IsToldOf};
 ghost use Rattle.hfs_containers.specs.Asking.{IsAnswerTo, asked_in, chosen_of, counted_at, counted_from, is_bare, is_counted, is_whole_file, only_one};
 
-use crate::finding::{find_ranges, nth_range};
-use crate::ranges::{Container, FoundRange};
+use crate::finding::{find_in_layout, nth_range};
+use crate::ranges::{Container, FoundRange, Layout};
 use crate::source::ReadAt;
 use crate::volumes::volume_name;
 use hfs_sparse::SparseFault;
@@ -109,6 +109,7 @@ fn is_bare(ranges: &[FoundRange]) -> bool
         [found, ..] => match found.container {
             Container::Bare => true,
             Container::MacBinary | Container::DiskCopy { .. } | Container::Partition => false,
+            Container::RawBare | Container::RawPartition => false,
         },
     }
 }
@@ -144,7 +145,7 @@ fn chosen_of<S: ReadAt>(
     Ok(only_one(&inside))
 }
 
-/// What is taken of a file of `len` bytes, by the number of a range in it or without one: 0 is the file as it is. Without a number a bare
+/// What is taken of a file of `len` bytes, or of user data, by the number of a range in it or without one: 0 is the file as it is. Without a number a bare
 /// volume is taken as it is, else the only range inside that counts; where none does the file as it is, and of several none. Errors as [`find_ranges`]
 /// has them.
 #[tactic(auto, unfolding(crate::specs::Asking::asked_in))]
@@ -152,20 +153,21 @@ pub fn find_asked<S: ReadAt>(
     alloc: Global,
     source: &mut S,
     len: u64,
+    layout: Layout,
     counted: Counted,
     number: Option<u64>,
 ) -> Result<Asked, SparseFault>
-    ensures asked { IfOk result (IsToldOf (S.known source.old) len (asked_in counted number)) }
+    ensures asked { IfOk result (IsToldOf (S.known source.old) len (asked_in layout counted number)) }
     ensures answers { IfOk result (IsAnswerTo number) }
     ensures known { S.known source.new ≡ S.known source.old }
 {
     match number {
         None => {
-            let ranges = find_ranges(alloc, source, len)?;
+            let ranges = find_in_layout(alloc, source, len, layout)?;
             chosen_of(alloc, source, counted, &ranges)
         }
         Some(0) => Ok(Asked::WholeFile),
-        Some(n) => match nth_range(alloc, source, len, n)? {
+        Some(n) => match nth_range(alloc, source, len, layout, n)? {
             Some(found) => Ok(Asked::Inside(NumberedRange { number: n, found })),
             None => Ok(Asked::Missing(n)),
         },

@@ -1,13 +1,13 @@
 //! All that is found in a file.
-ghost use Rattle.std.specs.Prelude.{◌≡◌, IfOk, OnOk};
+ghost use Rattle.std.specs.Prelude.{◌≡◌, IfOk, OnOk, map};
 ghost use Rattle.std.specs.List.{list_any};
 ghost use Rattle.hfs_containers.specs.Reading.{IsTold, IsToldOf};
-ghost use Rattle.hfs_containers.specs.Found.{each_once, found_in, is_same_range, looked_for, nth_found_in, with_new};
+ghost use Rattle.hfs_containers.specs.Found.{as_raw, each_once, found_by, found_in, found_raw_in, is_same_range, looked_for, looked_for_raw, nth_found_by, raw_container, with_new};
 
 use crate::disk_copy::disk_copy_in;
 use crate::macbinary::macbinary_in;
 use crate::partition_map::push_partitions;
-use crate::ranges::{ByteRange, Container, FoundRange, push_found};
+use crate::ranges::{ByteRange, Container, FoundRange, Layout, push_found};
 use crate::source::ReadAt;
 use crate::volumes::volume_as;
 use hfs_sparse::SparseFault;
@@ -90,20 +90,97 @@ pub fn find_ranges<S: ReadAt>(
     each_once(alloc, &ranges)
 }
 
-/// The `n`-th range that is found in a file of `len` bytes, counted from 1. None where there are fewer, and for 0. Errors as [`find_ranges`] has them.
-#[tactic(auto, unfolding(crate::specs::Found::nth_found_in))]
+/// The ranges as they are looked for, in `len` bytes of user data.
+#[tactic(auto, unfolding(crate::specs::Found::looked_for_raw))]
+fn looked_for_raw<S: ReadAt>(
+    alloc: Global,
+    source: &mut S,
+    len: u64,
+) -> Result<Vec<FoundRange>, SparseFault>
+    ensures found { IfOk result (λ found. IsTold (S.known source.old) (looked_for_raw len) found.items) }
+    ensures known { S.known source.new ≡ S.known source.old }
+{
+    let mut found = Vec::new(alloc);
+    let bare = volume_as(source, Container::Bare, ByteRange { start: 0, len })?;
+    push_found(&mut found, bare)?;
+    push_partitions(source, len, &mut found)?;
+    Ok(found)
+}
+
+/// How a range that is found in user data lies in its file.
+fn raw_container(container: Container) -> Container
+    ensures { result ≡ raw_container container }
+{
+    match container {
+        Container::Bare | Container::RawBare => Container::RawBare,
+        Container::Partition | Container::RawPartition => Container::RawPartition,
+        Container::MacBinary => Container::MacBinary,
+        Container::DiskCopy { sum } => Container::DiskCopy { sum },
+    }
+}
+
+/// Ranges that are found in user data, as they lie in its file.
+fn as_raw(alloc: Global, ranges: &[FoundRange]) -> Result<Vec<FoundRange>, SparseFault>
+    ensures { IfOk result (λ found. found.items ≡ map as_raw ranges.now) }
+{
+    let mut found = Vec::new(alloc);
+    for next in ranges {
+        let raw = FoundRange {
+            container: raw_container(next.container),
+            range: next.range,
+        };
+        push_found(&mut found, Some(raw))?;
+    }
+    Ok(found)
+}
+
+/// The ranges in `len` bytes of user data of raw sectors: all of it where it holds a volume, and the partitions of type Apple_HFS, each range once. Errors: a
+/// read failed, memory was refused.
+pub fn find_raw_ranges<S: ReadAt>(
+    alloc: Global,
+    source: &mut S,
+    len: u64,
+) -> Result<Vec<FoundRange>, SparseFault>
+    ensures found { IfOk result (λ found. IsToldOf (S.known source.old) len found_raw_in found.items) }
+    ensures known { S.known source.new ≡ S.known source.old }
+{
+    let ranges = looked_for_raw(alloc, source, len)?;
+    let found = each_once(alloc, &ranges)?;
+    as_raw(alloc, &found)
+}
+
+/// The ranges in a file of `len` bytes, or in as many bytes of user data. Errors: a read failed, memory was refused.
+pub fn find_in_layout<S: ReadAt>(
+    alloc: Global,
+    source: &mut S,
+    len: u64,
+    layout: Layout,
+) -> Result<Vec<FoundRange>, SparseFault>
+    ensures found { IfOk result (λ found. IsToldOf (S.known source.old) len (found_by layout) found.items) }
+    ensures known { S.known source.new ≡ S.known source.old }
+{
+    match layout {
+        Layout::Plain => find_ranges(alloc, source, len),
+        Layout::Raw => find_raw_ranges(alloc, source, len),
+    }
+}
+
+/// The `n`-th range that is found in a file of `len` bytes, or in as many bytes of user data, counted from 1. None where there are fewer, and for 0. Errors as
+/// [`find_ranges`] has them.
+#[tactic(auto, unfolding(crate::specs::Found::nth_found_by))]
 pub fn nth_range<S: ReadAt>(
     alloc: Global,
     source: &mut S,
     len: u64,
+    layout: Layout,
     n: u64,
 ) -> Result<Option<FoundRange>, SparseFault>
-    ensures nth { IfOk result (IsToldOf (S.known source.old) len (nth_found_in n)) }
+    ensures nth { IfOk result (IsToldOf (S.known source.old) len (nth_found_by layout n)) }
     ensures known { S.known source.new ≡ S.known source.old }
 {
     if n == 0 {
         return Ok(None);
     }
-    let found = find_ranges(alloc, source, len)?;
+    let found = find_in_layout(alloc, source, len, layout)?;
     Ok(found.get(n as usize - 1).copied())
 }

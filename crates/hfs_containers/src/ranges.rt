@@ -27,6 +27,19 @@ pub enum Container {
     },
     /// It is a partition of type Apple_HFS in a partition map.
     Partition,
+    /// It is the whole user data of raw CD sectors.
+    RawBare,
+    /// It is such a partition in that data.
+    RawPartition,
+}
+
+/// What a file's bytes are.
+#[derive(Clone, Copy, Debug, PartialEq, Eq)]
+pub enum Layout {
+    /// Bytes in which volumes may lie.
+    Plain,
+    /// Raw CD sectors, in whose user data volumes may lie.
+    Raw,
 }
 
 /// A range that was found in a file.

@@ -1,8 +1,12 @@
 -- Laws of this crate, each by the laws that it stands on.
-use Rattle.hfs_image_items.proofs.PlacedLemmas.{items-placed}
-use Rattle.hfs_image_items.specs.Laws.{ItemsArePlaced}
+use Rattle.hfs_image_items.proofs.PlacedLemmas.{bag-paths-told, items-placed}
+use Rattle.hfs_image_items.specs.Laws.{BagPathsAreTold, ItemsArePlaced}
 
 -- The law of paths: the items of a lawful volume, each as a bag has it, have plain names and paths of their own, also without regard to case.
 -- So no path in the bag of such a volume leads out of it, and all differ (`bag_path_laws` of `hfs_bag`).
 pub items_are_placed : ItemsArePlaced
 items_are_placed = λ v lawful named. items-placed v lawful named
+
+-- And each item lies at the path below the payload that its line in the table tells.
+pub bag_paths_are_told : BagPathsAreTold
+bag_paths_are_told = λ v lawful named. bag-paths-told v lawful named

@@ -25,6 +25,7 @@ use Rattle.hfs_names.specs.Paths.{host_path}
 use Rattle.hfs_names.specs.Laws.{is_bytes}
 use Rattle.hfs_names.proofs.HostPathLemmas.{host-paths}
 use Rattle.hfs_image_items.specs.Items.{bag_item, bag_items, folders_text, names_between}
+use Rattle.hfs_image_items.specs.Laws.{ArePathsTold}
 use Rattle.hfs_image_items.proofs.PlainNames.{folders-are, path-is, plain-name, plain-names}
 
 -- the same behind the same front
@@ -236,6 +237,12 @@ module _ (v : Volume) (h : IsLawful v) (named : (id : ℕ) (i : Item) → Has v.
       are-placed rows (λ r i. each r (inr i)) differ.1,
     )
 
+    paths-told : (rows : List Row) → ((b : Row) → In b rows → BelowRoot root b) → ArePathsTold es (map (told_row es) rows)
+    paths-told [] each = tt
+    paths-told (a ∷ rows) each =
+        let b = each a (inl refl) in
+        (ap (λ (names : List (List ℕ)). host_path (drop 1 names)) b.path_is ∙ sym (text-is a b), paths-told rows (λ r i. each r (inr i)))
+
   drop-map : (rows : List Row) → drop 1 (map (told_row es) rows) ≡ map (told_row es) (drop 1 rows)
   drop-map [] = refl
   drop-map (r ∷ rows) = refl
@@ -244,3 +251,8 @@ module _ (v : Volume) (h : IsLawful v) (named : (id : ℕ) (i : Item) → Has v.
   items-placed =
       let rows = below-root (length es) in
       subst (λ (told : List ToldRow). ArePlaced (map (bag_item es) told)) (sym (drop-map (rows_of es))) (are-placed rows.root (drop 1 (rows_of es)) rows.each rows.differ)
+
+  pub bag-paths-told : ArePathsTold es (drop 1 (map (told_row es) (rows_of es)))
+  bag-paths-told =
+      let rows = below-root (length es) in
+      subst (ArePathsTold es) (sym (drop-map (rows_of es))) (paths-told rows.root (drop 1 (rows_of es)) rows.each)

@@ -5,7 +5,7 @@ use Rattle.std.specs.Prelude.{codes}
 use Rattle.std.specs.List.{join_by}
 use Rattle.hfs_model.proofs.Facts.{true_false}
 use Rattle.hfs_table.specs.Columns.{column_name, columns}
-use Rattle.hfs_table.specs.Lines.{csv_head}
+use Rattle.hfs_table.specs.Lines.{bag_head}
 use Rattle.hfs_image_items.specs.Items.{rows_text, table_text}
 use Rattle.hfs_image_items.specs.Reading.{AddsRow, ReadsOn}
 
@@ -40,13 +40,13 @@ pub rows_read : (whole piece : List ℕ) (left : List ToldRow) → piece ++ rows
 rows_read whole piece left so long = reads_on piece whole (rows_text left) (sym so) (λ e. absurd (omega (arith, ap length e, long)))
 
 -- the head ends with a line's end
-head-some : csv_head ≡ [] → ⊥
-unfolding csv_head
+head-some : bag_head ≡ [] → ⊥
+unfolding bag_head
 head-some e =
-    let two : length (codes "\r\n") ≡ 2 = refl in
-    absurd (omega (arith, two, ap length e, length-append (join_by column_name (codes ",") columns) (codes "\r\n")))
+    let some : length (codes ",bag_path\r\n") ≡ 11 = refl in
+    absurd (omega (arith, some, ap length e, length-append (join_by column_name (codes ",") columns) (codes ",bag_path\r\n")))
 
 -- the head was read
-pub head_read : (piece : List ℕ) (rows : List ToldRow) → piece ≡ [] ++ csv_head → ReadsOn true piece (table_text rows) (rows_text rows)
+pub head_read : (piece : List ℕ) (rows : List ToldRow) → piece ≡ [] ++ bag_head → ReadsOn true piece (table_text rows) (rows_text rows)
 unfolding table_text
 head_read piece rows is = reads_on piece (table_text rows) (rows_text rows) (ap (λ (l : List ℕ). l ++ rows_text rows) (sym is)) (λ e. absurd (head-some (sym is ∙ e)))

@@ -14,7 +14,7 @@ use Rattle.hfs_model.specs.declared.reply.Reply.{Reply}
 use Rattle.hfs_check.specs.VolumeOf.{volume_of}
 use Rattle.hfs_model.specs.Children.{entries_of}
 use Rattle.hfs_model.specs.Volume.{Entry}
-use Rattle.hfs_table.specs.Lines.{csv_head, csv_line}
+use Rattle.hfs_table.specs.Lines.{bag_head, bag_line}
 use Rattle.hfs_names.specs.HostNames.{host_name}
 use Rattle.hfs_needed.specs.Forks.{named_fork}
 use Rattle.hfs_needed.specs.OpenedValues.{OpenedValue}
@@ -71,13 +71,13 @@ bag_items es = map (bag_item es) (drop 1 (told_rows es))
 
 -- ---- the table
 
--- the lines of rows, as CSV
+-- the lines of rows, as CSV, each with the path below the payload at its end
 abbrev pub rows_text : List ToldRow → List ℕ
-rows_text rows = flat_map (λ (row : ToldRow). csv_line row.path row.info) rows
+rows_text rows = flat_map (λ (row : ToldRow). bag_line row.path row.info) rows
 
 -- the head, and the lines of rows
 unfoldable pub table_text : List ToldRow → List ℕ
-table_text rows = csv_head ++ rows_text rows
+table_text rows = bag_head ++ rows_text rows
 
 -- ---- opened images
 

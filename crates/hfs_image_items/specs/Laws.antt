@@ -1,12 +1,14 @@
 -- What holds of the items of a volume.
-use Rattle.std.specs.Prelude.{ℕ, IsTrue}
+use Rattle.std.specs.Prelude.{◌≡◌, ⊤, ℕ, List, [], ◌∷◌, ◌++◌, drop, IsTrue}
 use Rattle.hfs_bag.specs.Laws.{ArePlaced}
 use Rattle.hfs_model.specs.declared.item.Item.{Item}
-use Rattle.hfs_model.specs.Volume.{Volume}
+use Rattle.hfs_model.specs.Volume.{Entry, Volume}
 use Rattle.hfs_model.specs.Children.{entries_of}
 use Rattle.hfs_model.specs.Lawful.{Has, IsLawful}
 use Rattle.hfs_names.specs.Laws.{is_bytes}
-use Rattle.hfs_image_items.specs.Items.{bag_items}
+use Rattle.hfs_inventory.specs.Told.{ToldRow, told_rows}
+use Rattle.hfs_table.specs.Lines.{bag_path}
+use Rattle.hfs_image_items.specs.Items.{bag_item, bag_items}
 
 -- each item of a volume is called by bytes
 abbrev pub AreNamed : Volume → Type 0
@@ -15,3 +17,12 @@ AreNamed v = (id : ℕ) (i : Item) → Has v.items id i → IsTrue (is_bytes i.n
 -- the items of a lawful volume have plain names and paths of their own, also without regard to case
 abbrev pub ItemsArePlaced : Type 0
 ItemsArePlaced = (v : Volume) → IsLawful v → AreNamed v → ArePlaced (bag_items (entries_of v))
+
+-- the path that the line of an item tells is that at which the bag has it
+abbrev pub ArePathsTold : List Entry → List ToldRow → Type 0
+ArePathsTold es [] = ⊤
+ArePathsTold es (row ∷ rows) = (bag_path row.path ≡ (bag_item es row).above ++ (bag_item es row).name) × ArePathsTold es rows
+
+-- of each item but the root
+abbrev pub BagPathsAreTold : Type 0
+BagPathsAreTold = (v : Volume) → IsLawful v → AreNamed v → ArePathsTold (entries_of v) (drop 1 (told_rows (entries_of v)))

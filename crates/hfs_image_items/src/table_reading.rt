@@ -3,7 +3,7 @@ ghost use Rattle.std.specs.Prelude.{◌≡◌, true, [], IfOk, OnOk};
 ghost use Rattle.hfs_image_items.specs.Reading.{AddsRow, ReadsOn, table_rest};
 
 use hfs_inventory::Inventory;
-use hfs_table::{Format, push_head, push_row};
+use hfs_table::{push_bag_head, push_bag_row};
 use std::alloc::{AllocError, Global};
 
 /// From how many bytes of text on a piece is whole.
@@ -26,7 +26,7 @@ fn push_next(alloc: Global, piece: &mut Vec<u8>, rows: &mut Inventory) -> Result
     let Some(info) = rows.next()? else {
         return Ok(false);
     };
-    push_row(alloc, piece, Format::Csv, rows.path(), &info)?;
+    push_bag_row(alloc, piece, rows.path(), &info)?;
     Ok(true)
 }
 
@@ -61,6 +61,6 @@ pub(crate) fn read_table(
         return read_rows(alloc, &mut table.rows, piece);
     }
     table.is_begun = true;
-    push_head(piece, Format::Csv)?;
+    push_bag_head(piece)?;
     Ok(())
 }

@@ -1,6 +1,6 @@
 //! What the bytes at a file's known places say. The source of each sign stands in docs/FORMATS.md.
 ghost use Rattle.std.specs.Prelude.{◌≡◌};
-ghost use Rattle.hfs_kinds.specs.Kinds.{archive_kind, beginning_kind, begins, creator_kind, fork_kind, has_type, is_macbinary, kind_of, packed_kind, volume_kind};
+ghost use Rattle.hfs_kinds.specs.Kinds.{archive_kind, beginning_kind, begins, creator_kind, fork_kind, has_type, is_macbinary, kind_of, packed_kind, told_kind, volume_kind};
 
 use crate::kind::Kind;
 
@@ -22,6 +22,17 @@ pub struct Glance {
     pub descriptor: Piece,
     /// From the byte that 512 stand behind: the trailer of a disk image.
     pub trailer: Piece,
+    /// The first types of its resources, and zeros.
+    pub types: [u32; 16],
+    /// What `._X` says of it, where it is called X.
+    pub beside: Beside,
+}
+
+/// The bytes of an AppleDouble file that say what the file beside it is. All are zeros where there is none.
+#[derive(Clone, Copy)]
+pub struct Beside {
+    /// From the creator on among the Finder's bytes.
+    pub creator: Piece,
     /// The first types of its resources, and zeros.
     pub types: [u32; 16],
 }
@@ -91,7 +102,7 @@ fn packed_kind(first: &Piece) -> Option<Kind>
     }
 }
 
-/// What the creator of a MacBinary file says.
+/// What the creator of a file says.
 #[tactic(auto, unfolding(crate::specs::Kinds::creator_kind))]
 fn creator_kind(creator: &Piece) -> Option<Kind>
     ensures { result ≡ creator_kind creator.now }
@@ -138,6 +149,17 @@ fn beginning_kind(glance: &Glance) -> Option<Kind>
     }
 }
 
+/// What a file is by what it says itself, or by its creator in the AppleDouble file beside it.
+#[tactic(auto, unfolding(crate::specs::Kinds::told_kind))]
+fn told_kind(glance: &Glance) -> Option<Kind>
+    ensures { result ≡ told_kind glance.now }
+{
+    match beginning_kind(glance) {
+        Some(kind) => Some(kind),
+        None => creator_kind(&glance.beside.creator),
+    }
+}
+
 impl Kind {
     /// What a file is that has no HFS volume where it begins; none where it has one, or its bytes don't say it.
     #[tactic(auto, unfolding(crate::specs::Kinds::kind_of))]
@@ -150,12 +172,12 @@ impl Kind {
         if begins(&glance.trailer, b"koly") {
             return Some(Kind::Udif);
         }
-        if has_block_map(&glance.types) {
+        if has_block_map(&glance.types) || has_block_map(&glance.beside.types) {
             return Some(Kind::Ndif);
         }
         match volume_kind(&glance.directory, &glance.descriptor) {
             Some(kind) => Some(kind),
-            None => beginning_kind(glance),
+            None => told_kind(glance),
         }
     }
 }

@@ -4,5 +4,5 @@
 mod glance;
 mod kind;
 
-pub use crate::glance::{Glance, Piece};
+pub use crate::glance::{Beside, Glance, Piece};
 pub use crate::kind::Kind;

@@ -1,6 +1,7 @@
 -- Laws of this crate, each by the laws that it stands on.
 use Rattle.hfs_places.proofs.LawLemmas.{paths-short}
-use Rattle.hfs_places.specs.Laws.{FoldersAreThings, PathsAreHostPaths, PathsAreShort, PlacesDiffer}
+use Rattle.hfs_places.specs.Laws.{FoldersAreThings, NamesLeadDown, PathsAreHostPaths, PathsAreShort, PathsTellNames, PlacesDiffer, EndlessChainsTurn}
+use Rattle.hfs_places.proofs.ReturnLemmas.{endless-turns}
 use Rattle.hfs_places.proofs.NamedLemmas.{named-once}
 use Rattle.hfs_places.proofs.PlaceLemmas.{own-places}
 use Rattle.hfs_places.proofs.BelowLemmas.{in-folders}
@@ -9,6 +10,7 @@ use Rattle.hfs_places.proofs.DownLemmas.{lead-down}
 use Rattle.hfs_places.proofs.DoubleLemmas.{own-doubles}
 use Rattle.hfs_places.proofs.WayFolderLemmas.{folders-things}
 use Rattle.hfs_places.proofs.WayLemmas.{host-paths-are}
+use Rattle.hfs_places.proofs.NameWayLemmas.{names-lead, paths-tell}
 use Rattle.hfs_places.specs.Things.{things_of}
 
 -- The law of lengths: the path of a folder has at most 800 bytes, that of any item, without what stands before an old one, at most 916.
@@ -35,3 +37,15 @@ paths_are_host_paths = host-paths-are
 -- And what that path lies in is the path of a folder from which names lead up.
 pub folders_are_things : FoldersAreThings
 folders_are_things = folders-things
+
+-- The law of names: to each thing but the root that lies neither in what is old nor in what is lost, names lead from the payload down; to others none.
+pub names_lead_down : NamesLeadDown
+names_lead_down = names-lead
+
+-- And where nothing is lost and no two things are called the same, they are the names of its host path.
+pub paths_tell_names : PathsTellNames
+paths_tell_names = paths-tell
+
+-- The law of chains: one has no end exactly where it comes to one of its places again.
+pub endless_chains_turn : EndlessChainsTurn
+endless_chains_turn = endless-turns

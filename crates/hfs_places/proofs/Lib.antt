@@ -3,6 +3,7 @@ pub mod FolderLemmas
 pub mod EntryLemmas
 pub mod ChainLemmas
 pub mod PathLemmas
+pub mod NameLemmas
 pub mod RowLemmas
 pub mod LawLemmas
 mod CaseLemmas
@@ -18,6 +19,9 @@ mod DownLemmas
 mod DoubleLemmas
 pub mod OverLemmas
 pub mod ThingLemmas
+mod Repeats
+mod ReturnLemmas
 mod WayLemmas
 mod WayFolderLemmas
+mod NameWayLemmas
 pub mod LawsProved

@@ -24,7 +24,7 @@ some_none i e = cc
 
 -- ---- the folder above a thing
 
-found-two : (things : List Thing) (number p : ℕ) → folder_of things number ≡ Some p → (number == 2 ≡ false) × (place_of things number ≡ Some p)
+pub found-two : (things : List Thing) (number p : ℕ) → folder_of things number ≡ Some p → (number == 2 ≡ false) × (place_of things number ≡ Some p)
 found-two things number p is = by (number == 2) is
   where
     by : (b : Bool) → (if b then None else place_of things number) ≡ Some p → (b ≡ false) × (place_of things number ≡ Some p)

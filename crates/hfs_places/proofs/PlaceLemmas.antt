@@ -57,7 +57,7 @@ shorter things i p is = omega (arith, ap length is, length-within (path things p
 
 -- ---- paths in upper case
 
-folded-within : (above entry : List ℕ) → folded (within above entry) ≡ folded above ++ 47 ∷ folded entry
+pub folded-within : (above entry : List ℕ) → folded (within above entry) ≡ folded above ++ 47 ∷ folded entry
 unfolding within
 folded-within above entry = map-append fold_letter above (codes "/" ++ entry)
 

@@ -64,7 +64,7 @@ module _ (things : List Thing) (are : AreThings things) (own : HaveOwnNames thin
       ∙ way-ends (m ∷ names) way.1 (up-is things i way.1 way.2).below way.3
 
   -- and has no more names than bytes
-  way-long : (names : List (List ℕ)) (i : ℕ) → i < length things → HasWay things names i → length names ≤ length (host_path (reverse names))
+  pub way-long : (names : List (List ℕ)) (i : ℕ) → i < length things → HasWay things names i → length names ≤ length (host_path (reverse names))
   way-long [] i inside way = absurd way
   way-long (n ∷ []) i inside way =
       let some : 0 < length (host_name n) =

@@ -1,5 +1,5 @@
 -- Chains of parents.
-use Rattle.std.specs.Prelude.{◌≡◌, ℕ, zero, suc, ◌^◌, Bool, List, map, Option, Some, None, slice_index_or, length}
+use Rattle.std.specs.Prelude.{◌≡◌, ℕ, zero, suc, ◌^◌, ◌<◌, Bool, List, map, Option, Some, None, slice_index_or, length}
 use Rattle.std.specs.List.{range_with_len}
 use Rattle.std.specs.Option.{option_and_then, is_some}
 use Rattle.hfs_places.specs.declared.things.Thing.{Thing}
@@ -21,6 +21,15 @@ steps ups (suc k) i = option_and_then (steps ups k) (place_at ups i)
 -- a chain has no end where it is not left after as many steps as there are numbers of folders: it comes to one of its folders a second time
 unfoldable pub is_endless : List (Option ℕ) → ℕ → Bool
 is_endless ups i = is_some (steps ups (2 ^ 32) i)
+
+-- a chain comes to one of its places again
+pub record ComesAgain (ups : List (Option ℕ)) (i : ℕ) : Type 0 where
+  pub place : ℕ
+  pub first : ℕ
+  pub again : ℕ
+  pub later : first < again
+  pub once : steps ups first i ≡ Some place
+  pub twice : steps ups again i ≡ Some place
 
 -- for each place whether its chain has no end
 abbrev pub endless_of : List (Option ℕ) → List Bool

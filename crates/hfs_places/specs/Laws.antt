@@ -1,6 +1,7 @@
 -- What holds of paths.
-use Rattle.std.specs.Prelude.{◌≡◌, ◌≢◌, ⊤, ℕ, true, false, ◌^◌, ◌<◌, ◌≤◌, List, [], ◌∷◌, ◌++◌, codes, flat_map, length, reverse, slice_index_or, take, Some, IsTrue}
+use Rattle.std.specs.Prelude.{◌≡◌, ◌≢◌, ◌↔◌, ⊤, ℕ, true, false, ◌^◌, ◌<◌, ◌≤◌, List, [], ◌∷◌, ◌++◌, codes, flat_map, length, reverse, slice_index_or, take, Some, IsTrue}
 use Rattle.std.specs.Option.{unwrap_or}
+use Rattle.hfs_catalog_checks.specs.Indexes.{is_place}
 use Rattle.hfs_fields.specs.Order.{folded}
 use Rattle.hfs_names.specs.Laws.{is_bytes, IsSafe}
 use Rattle.hfs_names.specs.Paths.{host_path}
@@ -8,8 +9,9 @@ use Rattle.hfs_places.specs.declared.things.Thing.{Thing}
 use Rattle.hfs_places.specs.Folders.{thing_at}
 use Rattle.hfs_places.specs.Things.{things_of}
 use Rattle.hfs_places.specs.Entries.{entry_row, has_entry_row}
-use Rattle.hfs_places.specs.Chains.{place_at, ups_of}
-use Rattle.hfs_places.specs.Paths.{is_folder_at, path, payload_path}
+use Rattle.hfs_places.specs.Chains.{place_at, ups_of, ComesAgain, is_endless}
+use Rattle.hfs_places.specs.Names.{lies_apart, names_to, root_name}
+use Rattle.hfs_places.specs.Paths.{is_folder_at, path, payload_path, root_of}
 
 -- names of at most 31 bytes, and numbers of 32 bits
 pub record IsThing (thing : Thing) : Type 0 where
@@ -131,3 +133,42 @@ abbrev pub FoldersAreThings : Type 0
 FoldersAreThings =
     (things : List Thing) → AreThings things → HaveOwnNames things → AreWaysShort things
     → (i : ℕ) (names : List (List ℕ)) → i < length things → HasWay things names i → (text rest : List ℕ) → path things i ≡ text ++ (codes "/" ++ rest) → IsFolderOnWay things text
+
+-- ---- names
+
+-- these names lead from a thing up to the payload, and with the root's before them they are those that lead to it
+pub record IsNamed (things : List Thing) (volume : List ℕ) (i : ℕ) (names : List (List ℕ)) : Type 0 where
+  pub way : HasWay things names i
+  pub names_are : names_to things volume i ≡ root_name things volume ∷ reverse names
+
+-- some names do
+pub record HasNames (things : List Thing) (volume : List ℕ) (i : ℕ) : Type 0 where
+  pub names : List (List ℕ)
+  pub named : IsNamed things volume i names
+
+-- they do where a thing but the root lies neither in what is old nor in what is lost; and where it does, there are none
+pub record AreNamesRight (things : List Thing) (volume : List ℕ) (i : ℕ) : Type 0 where
+  pub there : lies_apart (payload_path things i) ≡ false → HasNames things volume i
+  pub apart : lies_apart (payload_path things i) ≡ true → names_to things volume i ≡ []
+
+abbrev pub NamesLeadDown : Type 0
+NamesLeadDown =
+    (things : List Thing) (volume : List ℕ) → AreThings things → (i : ℕ) → i < length things → is_place (root_of things) i ≡ false → AreNamesRight things volume i
+
+-- a thing lies at the host path of the names that lead to it
+pub record LiesByNames (things : List Thing) (volume : List ℕ) (i : ℕ) (names : List (List ℕ)) : Type 0 where
+  pub path_is : payload_path things i ≡ host_path (reverse names)
+  pub names_are : names_to things volume i ≡ root_name things volume ∷ reverse names
+
+-- where nothing is lost and no two things are called the same, the path below the payload and the names that lead there tell the same way
+abbrev pub PathsTellNames : Type 0
+PathsTellNames =
+    (things : List Thing) (volume : List ℕ) → AreThings things → HaveOwnNames things → AreWaysShort things
+    → (i : ℕ) (names : List (List ℕ)) → i < length things → is_place (root_of things) i ≡ false → (thing_at things i).old ≡ false → HasWay things names i
+    → LiesByNames things volume i names
+
+-- ---- chains
+
+-- a chain has no end exactly where it comes to one of its places again
+abbrev pub EndlessChainsTurn : Type 0
+EndlessChainsTurn = (things : List Thing) → AreThings things → (i : ℕ) → (is_endless (ups_of things) i ≡ true) ↔ ComesAgain (ups_of things) i

@@ -4,4 +4,5 @@ pub mod Things
 pub mod Entries
 pub mod Chains
 pub mod Paths
+pub mod Names
 pub mod Laws

@@ -1,5 +1,5 @@
 //! What holds of the definitions, each as the contract of a function that does nothing.
-ghost use Rattle.hfs_places.specs.Laws.{PathsAreShort, PlacesDiffer, PathsAreHostPaths, FoldersAreThings};
+ghost use Rattle.hfs_places.specs.Laws.{PathsAreShort, PlacesDiffer, PathsAreHostPaths, FoldersAreThings, NamesLeadDown, PathsTellNames, EndlessChainsTurn};
 
 /// The path of a folder has at most 800 bytes, that of any item, without what stands before an old one, at most 916.
 pub fn paths_are_short()
@@ -21,4 +21,21 @@ pub fn paths_are_host_paths()
 /// What such a path lies in is the path of a folder from which names lead up.
 pub fn folders_are_things()
     ensures { FoldersAreThings }
+{}
+
+/// To each item but the root that lies neither in what is old nor in what is lost, names lead from the root down; to others
+/// none.
+pub fn names_lead_down()
+    ensures { NamesLeadDown }
+{}
+
+/// Where nothing is lost and no two things are called the same, an item's path below the payload and the names that lead to it
+/// tell the same way.
+pub fn paths_tell_names()
+    ensures { PathsTellNames }
+{}
+
+/// A chain of parents has no end exactly where it comes to one of its folders again.
+pub fn endless_chains_turn()
+    ensures { EndlessChainsTurn }
 {}

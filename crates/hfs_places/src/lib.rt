@@ -4,6 +4,7 @@
 mod chains;
 mod entries;
 mod laws;
+mod names;
 mod numbers;
 mod paths;
 mod places;
@@ -11,6 +12,9 @@ mod rows;
 mod things;
 
 pub use chains::doubled;
-pub use laws::{folders_are_things, paths_are_host_paths, paths_are_short, places_differ};
+pub use laws::{
+    folders_are_things, names_lead_down, paths_are_host_paths, paths_are_short, paths_tell_names,
+    places_differ,
+};
 pub use places::Places;
 pub use things::Thing;

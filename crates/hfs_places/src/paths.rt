@@ -58,7 +58,7 @@ fn is_long(above: usize, entry: usize) -> bool
 
 impl Frame<'_> {
     /// A thing by its place.
-    fn thing(&self, i: usize) -> &Thing
+    pub(crate) fn thing(&self, i: usize) -> &Thing
         requires { i < length self.now.things.now }
         ensures { result.now ≡ thing_at self.now.things.now i }
     {
@@ -67,7 +67,7 @@ impl Frame<'_> {
     }
 
     /// The place of the folder above a thing.
-    fn up(&self, i: usize) -> Option<usize>
+    pub(crate) fn up(&self, i: usize) -> Option<usize>
         requires { i < length self.now.things.now }
         ensures is { result ≡ place_at (ups_of self.now.things.now) i }
         ensures within { IfSome result (λ p. p < length self.now.things.now) }

@@ -1,14 +1,17 @@
 //! Where each item is put.
-ghost use Rattle.std.specs.Prelude.{◌≡◌, ◌++◌, ◌<◌, map, length, if◌then◌else◌, IfOk, string_bytes};
+ghost use Rattle.std.specs.Prelude.{◌≡◌, ◌++◌, ◌∷◌, ◌<◌, ◌^◌, map, length, reverse, if◌then◌else◌, IfOk, IfSome, string_bytes};
 ghost use Rattle.hfs_places.specs.Chains.{endless_of, ups_of};
 ghost use Rattle.hfs_places.specs.Entries.{entries_of};
 ghost use Rattle.hfs_places.specs.Things.{things_of};
 ghost use Rattle.hfs_places.specs.Paths as spec;
+ghost use Rattle.hfs_places.specs.Names.{below_root, names_by, names_up, root_name};
 
 use crate::chains::{endless_of, ups_of};
 use crate::entries::entries_of;
+use crate::names::lies_apart;
 use crate::paths::Frame;
 use crate::things::{Thing, Things};
+use hfs_fields::Name;
 use std::alloc::{AllocError, Global};
 use std::marker::Model;
 
@@ -124,5 +127,66 @@ impl Places {
         } else {
             Ok(path)
         }
+    }
+
+    /// Where the names that lead to an item begin: at itself, and of the root nowhere.
+    fn below_root(&self, i: usize) -> Option<usize>
+        requires { i < length self.now }
+        ensures place { result ≡ below_root self.now i }
+        ensures within { IfSome result (λ p. p < length self.now) }
+    {
+        if self.root == Some(i) { None } else { Some(i) }
+    }
+
+    /// The names from an item's own up to that of the folder in the payload; none of the root.
+    fn names_up(&self, alloc: Global, i: usize) -> Result<Vec<Name>, AllocError>
+        requires { i < length self.now }
+        ensures { IfOk result (λ names. names.items
+            ≡ names_up self.now (2 ^ 32) (below_root self.now i)) }
+    {
+        let frame = Frame {
+            things: &self.things,
+            entries: &self.entries,
+            endless: &self.endless,
+        };
+        frame.names_up(alloc, self.below_root(i))
+    }
+
+    /// The name of the root: its item's, or where that is lost this one of the volume.
+    #[tactic(auto, using(crate::proofs::NameLemmas::root_within))]
+    fn root_name(&self, volume: Name) -> Name
+        ensures { result ≡ root_name self.now volume }
+    {
+        let frame = Frame {
+            things: &self.things,
+            entries: &self.entries,
+            endless: &self.endless,
+        };
+        match self.root {
+            Some(root) => frame.thing(root).name,
+            None => volume,
+        }
+    }
+
+    /// The names that lead to an item, from the root's down, of a volume of this name; none where its path below the payload, which is
+    /// this, leads to what is old or lost. The only error is want of memory.
+    #[tactic(auto, using(crate::proofs::NameLemmas::turned))]
+    pub fn names(
+        &self,
+        alloc: Global,
+        volume: Name,
+        i: usize,
+        path: &str,
+    ) -> Result<Vec<Name>, AllocError>
+        requires { i < length self.now }
+        ensures { IfOk result (λ names. names.items ≡ names_by self.now volume i path.now) }
+    {
+        if lies_apart(path) {
+            return Ok(Vec::new(alloc));
+        }
+        let mut names = self.names_up(alloc, i)?;
+        names.push(self.root_name(volume))?;
+        names.reverse();
+        Ok(names)
     }
 }

@@ -34,9 +34,12 @@ unfoldable pub data_of : ℕ → List ℕ → List ℕ
 data_of zero file = []
 data_of (suc n) file = sector_data (take 2352 file) ++ data_of n (drop 2352 file)
 
--- how many sectors a file has
+-- how many sectors a file has, and their user data
 abbrev pub sector_count : List ℕ → ℕ
 sector_count file = length file / 2352
+
+abbrev pub user_data_of : List ℕ → List ℕ
+user_data_of file = data_of (sector_count file) file
 
 -- a sector counts where it has no user data
 abbrev pub count_without : Option ℕ → ℕ

@@ -2,7 +2,7 @@
 use Rattle.std.proofs.Common.{◌≡◌, ℕ, ◌+◌, ◌≤◌, Bool, true, List, [], ◌∷◌, ◌++◌, length, refl, sym, ap, ◌∙◌, append_assoc, length-append, arith}
 use Rattle.hfs_rescue.specs.declared.catalog.FoundRecord.{FoundRecord}
 use Rattle.hfs_table.specs.Columns.{column_name, columns}
-use Rattle.hfs_table.specs.Lines.{csv_head}
+use Rattle.hfs_table.specs.Lines.{bag_head}
 use Rattle.std.specs.Prelude.{codes}
 use Rattle.std.specs.List.{join_by}
 use Rattle.hfs_rescue_items.specs.Lines.{lines_of}
@@ -35,12 +35,12 @@ pub lines_whole : (line : ℕ → FoundRecord → List ℕ) (piece : List ℕ) (
 lines_whole line piece old new so long = reads-so true piece (lines_rest line old) (lines_rest line new) (sym so) (λ e. absurd (omega (arith, ap length e, long)))
 
 -- the head ends with a line's end
-head-some : csv_head ≡ [] → ⊥
-unfolding csv_head
+head-some : bag_head ≡ [] → ⊥
+unfolding bag_head
 head-some e =
-    let two : length (codes "\r\n") ≡ 2 = refl in
-    absurd (omega (arith, two, ap length e, length-append (join_by column_name (codes ",") columns) (codes "\r\n")))
+    let some : length (codes ",bag_path\r\n") ≡ 11 = refl in
+    absurd (omega (arith, some, ap length e, length-append (join_by column_name (codes ",") columns) (codes ",bag_path\r\n")))
 
 -- the head was read
-pub head_read : (known : Bool) (piece rest : List ℕ) → piece ≡ [] ++ csv_head → Reads known piece (csv_head ++ rest) rest
-head_read known piece rest is = reads-so known piece (csv_head ++ rest) rest (ap (λ (xs : List ℕ). xs ++ rest) (sym is)) (λ e. absurd (head-some (sym is ∙ e)))
+pub head_read : (known : Bool) (piece rest : List ℕ) → piece ≡ [] ++ bag_head → Reads known piece (bag_head ++ rest) rest
+head_read known piece rest is = reads-so known piece (bag_head ++ rest) rest (ap (λ (xs : List ℕ). xs ++ rest) (sym is)) (λ e. absurd (head-some (sym is ∙ e)))

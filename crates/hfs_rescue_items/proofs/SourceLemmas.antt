@@ -15,7 +15,7 @@ use Rattle.hfs_remains.specs.Verdicts.{fork_share, shares_at}
 use Rattle.hfs_remains.proofs.ForkByteLemmas.{length-share_bytes}
 use Rattle.hfs_space.specs.declared.fork_kind.ForkKind.{ForkKind}
 use Rattle.hfs_space.specs.declared.fork_kind.ForkKind.TheVariants.{Data, Resource}
-use Rattle.hfs_table.specs.Lines.{csv_head}
+use Rattle.hfs_table.specs.Lines.{bag_head}
 use Rattle.hfs_rescue_items.specs.declared.came.Came.{Came}
 use Rattle.hfs_rescue_items.specs.declared.found.Found.{Found}
 use Rattle.hfs_rescue_items.specs.declared.plan.Planned.{Planned}
@@ -60,8 +60,8 @@ module _ (image : List ℕ) (found : Found) where
 
 module _ (found : Found) where
   -- a table that was begun
-  pub table_begun : (lines : Lines) → lines.next ≡ 0 → lines.items.now ≡ found.items.now → csv_head ++ lines_rest (item_line found) lines ≡ table_text found
-  table_begun lines next items = λ i. csv_head ++ lines_of (item_line found) (next i) (items i)
+  pub table_begun : (lines : Lines) → lines.next ≡ 0 → lines.items.now ≡ found.items.now → bag_head ++ lines_rest (item_line found) lines ≡ table_text found
+  table_begun lines next items = λ i. bag_head ++ lines_of (item_line found) (next i) (items i)
 
   pub remains_begun : (lines : Lines) → lines.next ≡ 0 → lines.items.now ≡ found.items.now → lines_rest (remains_line found) lines ≡ remains_text found
   remains_begun lines next items = λ i. lines_of (remains_line found) (next i) (items i)

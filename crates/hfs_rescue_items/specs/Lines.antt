@@ -3,10 +3,10 @@ use Rattle.std.specs.Prelude.{ℕ, suc, List, [], ◌∷◌, ◌++◌, Option, S
 use Rattle.hfs_model.specs.declared.reply.Info.{Info}
 use Rattle.hfs_remains.specs.Verdicts.{verdicts_at}
 use Rattle.hfs_rescue.specs.declared.catalog.FoundRecord.{FoundRecord}
-use Rattle.hfs_table.specs.Lines.{csv_head, own_csv_line}
+use Rattle.hfs_table.specs.Lines.{bag_head, own_bag_line}
 use Rattle.hfs_verdicts.specs.Verdicts.{row_text}
 use Rattle.hfs_rescue_items.specs.declared.found.Found.{Found}
-use Rattle.hfs_rescue_items.specs.Found.{path_at, told}
+use Rattle.hfs_rescue_items.specs.Found.{names_at, path_at, told}
 
 -- the line of item i in the table of what remains: path, number, ID, what is said of both forks
 abbrev pub remains_told : Found → ℕ → Option Info → List ℕ
@@ -16,10 +16,10 @@ remains_told found i (Some info) = row_text (path_at found.places.now i) i info.
 unfoldable pub remains_line : Found → ℕ → FoundRecord → List ℕ
 remains_line found i item = remains_told found i (told item)
 
--- its line in the table of all items
+-- its line in the table of all items: its Mac path by the names that lead to it, and at the end the same path as in the table of what remains
 abbrev pub item_told : Found → ℕ → Option Info → List ℕ
 item_told found i None = []
-item_told found i (Some info) = own_csv_line (path_at found.places.now i) info
+item_told found i (Some info) = own_bag_line (names_at found.places.now found.mdb.now i) info (path_at found.places.now i)
 
 unfoldable pub item_line : Found → ℕ → FoundRecord → List ℕ
 item_line found i item = item_told found i (told item)
@@ -34,4 +34,4 @@ abbrev pub remains_text : Found → List ℕ
 remains_text found = lines_of (remains_line found) 0 found.items.now
 
 abbrev pub table_text : Found → List ℕ
-table_text found = csv_head ++ lines_of (item_line found) 0 found.items.now
+table_text found = bag_head ++ lines_of (item_line found) 0 found.items.now

@@ -1,7 +1,7 @@
 -- What is still to be read of a stream.
 use Rattle.std.specs.Prelude.{◌≡◌, ℕ, ◌+◌, Bool, true, List, [], ◌++◌, drop, length}
 use Rattle.hfs_rescue.specs.declared.catalog.FoundRecord.{FoundRecord}
-use Rattle.hfs_table.specs.Lines.{csv_head}
+use Rattle.hfs_table.specs.Lines.{bag_head}
 use Rattle.hfs_rescue_items.specs.declared.fork_reading.ForkReading.{ForkReading}
 use Rattle.hfs_rescue_items.specs.declared.found.Found.{Found}
 use Rattle.hfs_rescue_items.specs.declared.reading.Lines.{Lines}
@@ -19,7 +19,7 @@ lines_rest line lines = lines_of line lines.next lines.items.now
 
 abbrev pub reading_rest : List ℕ → Found → Reading → List ℕ
 reading_rest image found (reading.Fork fork) = fork_rest image fork
-reading_rest image found (reading.Table lines) = csv_head ++ lines_rest (item_line found) lines
+reading_rest image found (reading.Table lines) = bag_head ++ lines_rest (item_line found) lines
 reading_rest image found (reading.Items lines) = lines_rest (item_line found) lines
 reading_rest image found (reading.Remains lines) = lines_rest (remains_line found) lines
 

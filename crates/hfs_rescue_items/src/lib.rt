@@ -18,5 +18,6 @@ mod told;
 pub use found::Found;
 pub use items::RescueItems;
 pub use lines::push_remains_line;
+pub use looking::{field_name, names_at};
 pub use sums::{FoundSums, sums_of};
 pub use told::told_of;

@@ -3,9 +3,10 @@ ghost use Rattle.std.specs.Prelude.{◌≡◌, ◌++◌, IfOk, OnOk, string_byte
 ghost use Rattle.hfs_rescue_items.specs.Lines.{item_line, remains_line};
 
 use crate::found::Found;
+use crate::looking::names_at;
 use crate::told::told_of;
 use hfs_rescue::FoundRecord;
-use hfs_table::push_own_csv_line;
+use hfs_table::push_own_bag_row;
 use hfs_verdicts::push_row;
 use std::alloc::{AllocError, Global};
 
@@ -59,5 +60,6 @@ pub(crate) fn push_item_line(
         return Ok(());
     };
     let path = found.path(alloc, i)?;
-    push_own_csv_line(alloc, text, path.as_str(), &info)
+    let names = names_at(alloc, found.places, found.mdb, i, path.as_str())?;
+    push_own_bag_row(alloc, text, &names, &info, path.as_str())
 }

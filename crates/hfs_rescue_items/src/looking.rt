@@ -2,15 +2,60 @@
 ghost use Rattle.std.specs.Prelude.{◌≡◌, ℕ, List, IfOk, string_bytes};
 ghost use Rattle.hfs_remains.specs.Verdicts.{FindsFork, verdicts_at};
 ghost use Rattle.hfs_rescue_items.specs.Bytes.{GivesBytes, taken_bytes};
-ghost use Rattle.hfs_rescue_items.specs.Found.{path_at, told_at};
+ghost use Rattle.hfs_places.specs.Names.{names_by};
+ghost use Rattle.hfs_rescue_items.specs.Found.{field_name, names_at, path_at, told_at};
 
 use crate::found::Found;
 use crate::told::told_of;
+use hfs_fields::{Mdb, Name};
 use hfs_model::Info;
+use hfs_places::Places;
 use hfs_remains::FoundFork;
 use hfs_space::ForkKind;
 use hfs_verdicts::Verdict;
 use std::alloc::{AllocError, Global};
+
+/// The characters of a name, in a field where they stand behind their number.
+pub fn field_name(field: &[u8]) -> &[u8]
+    ensures { result.now ≡ field_name field.now }
+{
+    match field {
+        [] => field,
+        [len, characters @ ..] => {
+            let len = characters.len().min(usize::from(*len));
+            &characters[..len]
+        }
+    }
+}
+
+/// The name of a volume with this directory.
+#[tactic(auto, using(crate::proofs::ToldLemmas::field_short))]
+fn volume_name(mdb: &Mdb) -> Name
+    ensures { result ≡ field_name mdb.now.volume_name }
+{
+    let Some(name) = Name::of_bytes(field_name(&mdb.volume_name)) else {
+        unreachable!()
+    };
+    name
+}
+
+/// The names that lead to a thing, from the root's down, which lies at this path below the payload; none below `=old` and `=lost`, nor where
+/// there is no such thing. The only error is want of memory.
+pub fn names_at(
+    alloc: Global,
+    places: &Places,
+    mdb: &Mdb,
+    i: usize,
+    path: &str,
+) -> Result<Vec<Name>, AllocError>
+    requires { path.now ≡ path_at places.now i }
+    ensures { IfOk result (λ names. names.items ≡ names_at places.now mdb.now i) }
+{
+    if i >= places.things().len() {
+        return Ok(Vec::new(alloc));
+    }
+    places.names(alloc, volume_name(mdb), i, path)
+}
 
 impl Found<'_> {
     /// The path below the payload of an item, or behind the items of a named folder; no text where there is none.

@@ -1,7 +1,7 @@
 //! What of a source is being read.
 ghost use Rattle.std.specs.Prelude.{◌≡◌, ◌+◌, ◌++◌, [], IfOk, OnOk};
 ghost use Rattle.std.specs.Option.{is_some};
-ghost use Rattle.hfs_table.specs.Lines.{csv_head};
+ghost use Rattle.hfs_table.specs.Lines.{bag_head};
 ghost use Rattle.hfs_rescue_items.specs.Bytes.{image_in};
 ghost use Rattle.hfs_rescue_items.specs.Lines.{item_line, remains_line};
 ghost use Rattle.hfs_rescue_items.specs.Reading.{ReadsLines, Reads, reading_rest};
@@ -12,7 +12,7 @@ use crate::lines::{push_item_line, push_remains_line};
 use hfs_bag::SourceFault;
 use hfs_rescue::FoundRecord;
 use hfs_sparse::BlockSource;
-use hfs_table::{Format, push_head};
+use hfs_table::push_bag_head;
 use std::alloc::Global;
 
 /// From how many bytes of text on a piece is whole.
@@ -99,9 +99,9 @@ fn push_remains(
 
 /// Puts the head of the table of all items in the place of a piece, which is empty.
 fn push_table_head(piece: &mut Vec<u8>) -> Result<(), SourceFault>
-    ensures { OnOk result (piece.new.items ≡ piece.old.items ++ csv_head) }
+    ensures { OnOk result (piece.new.items ≡ piece.old.items ++ bag_head) }
 {
-    match push_head(piece, Format::Csv) {
+    match push_bag_head(piece) {
         Ok(()) => Ok(()),
         Err(_) => Err(SourceFault::Memory),
     }

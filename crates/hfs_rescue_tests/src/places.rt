@@ -78,3 +78,51 @@ fn named(alloc: Global) -> Result<bool, AllocError> {
 fn old_items_in_named_folders(rt: HostRuntime) {
     assert!(rt; named(rt.alloc()) == Ok(true));
 }
+
+/// Whether these names lead to an item, which lies at this path of a volume that is called `V`.
+fn are_names(
+    alloc: Global,
+    places: &Places,
+    i: usize,
+    path: &str,
+    wanted: &[&[u8]],
+) -> Result<bool, AllocError> {
+    let Some(volume) = Name::of_bytes(b"V") else {
+        return Ok(false);
+    };
+    if i >= places.things().len() {
+        return Ok(false);
+    }
+    let names = places.names(alloc, volume, i, path)?;
+    Ok(
+        names.len() == wanted.len()
+            && names
+                .iter()
+                .zip(wanted)
+                .all(|(name, bytes)| name.bytes() == *bytes),
+    )
+}
+
+/// Of a volume whose root is lost: a file in a folder in another one that only a thread names, and a file whose folder is lost.
+fn unrooted(alloc: Global) -> Result<bool, AllocError> {
+    let (Some(folder), Some(file)) = (item(20, b"a/b", Some(21)), item(21, b"f", None)) else {
+        return Ok(false);
+    };
+    let (Some(lost), Some(named)) = (item(99, b"g", None), item(2, b"n", Some(20))) else {
+        return Ok(false);
+    };
+    let named = Thing {
+        named: true,
+        ..named
+    };
+    let places = Places::of(alloc, &[folder, file, lost], &[named])?;
+    Ok(
+        are_names(alloc, &places, 1, "n/a=2Fb/f", &[b"V", b"n", b"a/b", b"f"])?
+            && are_names(alloc, &places, 2, "=lost/99/g", &[])?,
+    )
+}
+
+#[test]
+fn names_of_what_remains(rt: HostRuntime) {
+    assert!(rt; unrooted(rt.alloc()) == Ok(true));
+}

@@ -24,7 +24,8 @@ use Rattle.hfs_take.proofs.BagLemmas.{info_same}
 use Rattle.hfs_texts.specs.Info.{info_lines}
 use Rattle.hfs_texts.specs.Reading.{info_text as head_lines}
 use Rattle.hfs_salvage.specs.declared.words.BagWords.{BagWords}
-use Rattle.hfs_salvage.specs.Bags.{IsDirectoryTold, IsReportTold, TellsOf, directory_text, field_name, report_text, told_directory}
+use Rattle.hfs_rescue_items.specs.Found.{field_name}
+use Rattle.hfs_salvage.specs.Bags.{IsDirectoryTold, IsReportTold, TellsOf, directory_text, report_text, told_directory}
 
 -- a bag by the texts of its report and of its facts
 abbrev bag-with : List BagItem → BagTables → List ℕ → List ℕ → List ShelfEntry

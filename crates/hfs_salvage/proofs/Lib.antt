@@ -16,3 +16,4 @@ mod RescueGivenLemmas
 mod JoinLemmas
 mod TakenPathLemmas
 pub mod LawsProved
+mod HeldLemmas

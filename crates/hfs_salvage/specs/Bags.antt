@@ -1,5 +1,5 @@
 -- The bag of what remains of an image.
-use Rattle.std.specs.Prelude.{◌≡◌, ⊤, ℕ, ◌==◌, Bool, true, false, if◌then◌else◌, List, [], ◌∷◌, ◌++◌, codes, length, map, take, Option, None, Some, string_bytes}
+use Rattle.std.specs.Prelude.{◌≡◌, ⊤, ℕ, ◌==◌, Bool, true, false, if◌then◌else◌, List, ◌++◌, codes, length, map, Option, None, Some, string_bytes}
 use Rattle.std.specs.Fmt.{decimal}
 use Rattle.std.specs.Option.{option_and_then, option_map}
 use Rattle.hfs_bag.specs.declared.facts.BagFacts.{BagFacts}
@@ -16,6 +16,7 @@ use Rattle.hfs_names.specs.PlainTexts.{plain_text}
 use Rattle.hfs_needed.specs.Known.{OfKnown}
 use Rattle.hfs_rescue.specs.Directory.{directory_of}
 use Rattle.hfs_rescue_items.specs.declared.found.Found.{Found}
+use Rattle.hfs_rescue_items.specs.Found.{field_name}
 use Rattle.hfs_rescue_items.specs.Plan.{whole_plan}
 use Rattle.hfs_rescue_items.specs.Sources.{planned_item, rescued_tables}
 use Rattle.hfs_shelves.specs.declared.fault.ShelfFault.{ShelfFault}
@@ -27,11 +28,6 @@ use Rattle.hfs_salvage.specs.declared.facts.Told.{Told}
 use Rattle.hfs_salvage.specs.declared.words.BagWords.{BagWords}
 use Rattle.hfs_salvage.specs.Found.{OfFound}
 use Rattle.hfs_salvage.specs.Words.{limit_of}
-
--- the characters of a name, in a field where they stand behind their number
-abbrev pub field_name : List ℕ → List ℕ
-field_name [] = []
-field_name (len ∷ characters) = take len characters
 
 -- the lines of the directory, and those of the image's check
 abbrev pub report_text : List ℕ → Mdb → List ℕ

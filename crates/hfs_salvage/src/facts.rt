@@ -6,12 +6,13 @@ ghost use Rattle.hfs_finds.specs.Finds.{IsFoundIn};
 ghost use Rattle.hfs_needed.specs.Known.{OfKnown};
 ghost use Rattle.hfs_sparse.specs.Sparse.{HoldsFrom};
 ghost use Rattle.hfs_take.specs.Bags.{IsDigestTold};
-ghost use Rattle.hfs_salvage.specs.Bags.{IsDirectoryTold, IsReportTold, IsToldOf, directory_text, field_name};
+ghost use Rattle.hfs_salvage.specs.Bags.{IsDirectoryTold, IsReportTold, IsToldOf, directory_text};
 
 use crate::words::BagWords;
 use hfs_bag::SourceFault;
 use hfs_commands::CheckAnswer;
 use hfs_finds::Finds;
+use hfs_rescue_items::field_name;
 use hfs_sparse::BlockSource;
 use hfs_take::{SourceBlocks, image_digest, image_name, plain_name, report_text};
 use std::alloc::{AllocError, Global};
@@ -38,19 +39,6 @@ fn head_with(block: &[u8; 512]) -> [u8; 1536]
     let mut head = [0; 1536];
     head[1024..].copy_from_slice(block);
     head
-}
-
-/// The characters of a name, in a field where they stand behind their number.
-fn field_name(field: &[u8]) -> &[u8]
-    ensures { result.now ≡ field_name field.now }
-{
-    match field {
-        [] => field,
-        [len, characters @ ..] => {
-            let len = characters.len().min(usize::from(*len));
-            &characters[..len]
-        }
-    }
 }
 
 /// The block of an image that is taken for its directory.

@@ -20,7 +20,7 @@ use crate::words::BagWords;
 use hfs_bag::{BagFacts, BagFault, give_bag};
 use hfs_finds::salvage_of;
 use hfs_rescue_items::{Found, RescueItems};
-use hfs_shelves::{FileShelf, Shelf, is_there};
+use hfs_shelves::{FileShelf, FileSystem, Shelf, SystemFiles};
 use hfs_sparse::BlockSource;
 use hfs_take::{TakeFault, Watch};
 use std::alloc::Global;
@@ -114,8 +114,9 @@ pub fn give_remains<S: BlockSource + Drop, T: Shelf, W: Watch>(
 }
 
 /// Writes the bag of an image: to a folder beside its place, which gets its place when it is whole, and is taken away at a fault.
-fn write_bag<'a, R: Files + AllocGlobal, S: BlockSource + Drop, W: Watch>(
-    rt: &R,
+fn write_bag<'a, Y: FileSystem + Drop, S: BlockSource + Drop, W: Watch>(
+    alloc: Global,
+    system: Y,
     image: RescuedImage<S>,
     words: &BagWords<'a>,
     watch: &W,
@@ -123,17 +124,17 @@ fn write_bag<'a, R: Files + AllocGlobal, S: BlockSource + Drop, W: Watch>(
     ensures fault { IfErr result (IsTakeFault (as_take_words words.now)) }
     ensures answer { IfOk result (IsKnownAnswer (S.image image.source) image.len words.now.words) }
 {
-    let mut shelf = match FileShelf::create(rt, words.folder) {
+    let mut shelf = match FileShelf::create(alloc, system, words.folder) {
         Ok(shelf) => shelf,
-        Err(fault) => return Err(TakeFault::of_shelf(fault)),
+        Err(back) => return Err(TakeFault::of_shelf(back.fault)),
     };
-    match give_remains(rt.alloc(), &mut shelf, image, words, watch) {
+    match give_remains(alloc, &mut shelf, image, words, watch) {
         Ok(answer) => match shelf.place(words.folder) {
-            Ok(()) => Ok(answer),
-            Err(fault) => Err(TakeFault::of_shelf(fault)),
+            Ok(_system) => Ok(answer),
+            Err(back) => Err(TakeFault::of_shelf(back.fault)),
         },
         Err(fault) => {
-            shelf.take_away();
+            let _system = shelf.take_away();
             Err(TakeFault::of_bag(fault, words.words.image))
         }
     }
@@ -154,12 +155,13 @@ pub fn rescue<'a, R: Files + AllocGlobal, W: Watch>(
         Ok(loaded) => loaded,
         Err(fault) => return Err(TakeFault::Image(fault)),
     };
-    if is_there(rt, words.folder) {
+    let mut system = SystemFiles::new(rt);
+    if system.is_there(words.folder) {
         return Err(TakeFault::IsThere(words.folder));
     }
     let answer = match image {
-        Loaded::Held(image) => write_bag(rt, image, words, watch)?,
-        Loaded::Opened(image) => write_bag(rt, image, words, watch)?,
+        Loaded::Held(image) => write_bag(rt.alloc(), system, image, words, watch)?,
+        Loaded::Opened(image) => write_bag(rt.alloc(), system, image, words, watch)?,
     };
     Ok(Rescued { answer, sum })
 }

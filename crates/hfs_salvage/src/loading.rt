@@ -3,6 +3,7 @@ ghost use Rattle.std.specs.Prelude.{◌≡◌, ◌≤◌, IfErr, IfOk, IfSome};
 ghost use Rattle.hfs_commands.specs.Faults.{IsUnreadFile};
 ghost use Rattle.hfs_commands.specs.OpenedFiles.{known_in};
 ghost use Rattle.hfs_containers.specs.Ranges.{bytes_in};
+ghost use Rattle.hfs_containers.specs.Reading.{IsTold};
 ghost use Rattle.hfs_salvage.specs.Faults.{IsUnread};
 
 use crate::held::HeldBytes;
@@ -10,7 +11,7 @@ use crate::image::{HoldFault, RescuedImage};
 use crate::looking::{Look, look_at};
 use crate::words::RescueWords;
 use hfs_check::MountFault;
-use hfs_commands::{Counted, Fault, OpenedFile, Window};
+use hfs_commands::{Counted, Fault, OpenedFile, StoredFile, Window};
 use hfs_containers::{ByteRange, ReadAt};
 use hfs_sparse::BlockSource;
 use hfs_take::{FoundPart, find_part};
@@ -38,13 +39,15 @@ pub(crate) struct LoadedImage<S: BlockSource> {
 }
 
 /// All bytes of a range of a file, which are read at once.
+#[tactic(auto, using(crate::proofs::HeldLemmas::held_read))]
 fn read_range<'a, S: ReadAt>(
     alloc: Global,
     file: &mut S,
     range: ByteRange,
     path: &'a str,
 ) -> Result<HeldBytes, Fault<'a>>
-    ensures { IfErr result (IsUnreadFile path.entry) }
+    ensures held { IfOk result (IsTold (S.known file.old) (bytes_in range)) }
+    ensures fault { IfErr result (IsUnreadFile path.entry) }
 {
     let Ok(mut all) = vec![in alloc; 0u8; range.len as usize] else {
         return Err(Fault::NoMemory);
@@ -84,8 +87,9 @@ fn hold<'a, F: Read + Seek + Drop>(
 {
     let Window { source, range } = bytes;
     match source {
-        OpenedFile::Whole(all) => hold_range(all, range, path),
-        OpenedFile::Seekable(mut file) => read_range(alloc, &mut file, range, path),
+        OpenedFile::Plain(StoredFile::Whole(all)) => hold_range(all, range, path),
+        OpenedFile::Plain(mut file) => read_range(alloc, &mut file, range, path),
+        OpenedFile::Raw(mut file) => read_range(alloc, &mut file, range, path),
     }
 }
 
@@ -144,8 +148,8 @@ fn open_image<'a, F: Read + Seek + Drop>(
 /// Whether all bytes of a file are held already.
 fn is_held<F: Read + Seek>(bytes: &Window<OpenedFile<F>>) -> bool {
     match &bytes.source {
-        OpenedFile::Whole(_) => true,
-        OpenedFile::Seekable(_) => false,
+        OpenedFile::Plain(StoredFile::Whole(_)) => true,
+        OpenedFile::Plain(StoredFile::Seekable(_)) | OpenedFile::Raw(_) => false,
     }
 }
 

@@ -1,3 +1,6 @@
 pub mod Walks
 pub mod Beginnings
+pub mod FolderLemmas
+pub mod RemovalLemmas
+pub mod PlacingLemmas
 mod StoredLemmas

@@ -1,5 +1,11 @@
 pub mod Entries
-pub mod Steps
 pub mod ShelfPaths
 pub mod Told
 pub mod StoredEntries
+pub mod SystemSteps
+pub mod LoggedSteps
+pub mod MadeFolders
+pub mod Removals
+pub mod FileRemovals
+pub mod Tries
+pub mod Left

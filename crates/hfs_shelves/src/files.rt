@@ -1,154 +1,236 @@
 //! The shelf of files: a folder of the system's own files.
-ghost use Rattle.std.specs.Prelude.{◌≡◌, [], List, IfErr, IfOk, IfSome, OnErr, OnOk, string_bytes};
+ghost use Rattle.std.specs.Prelude.{◌≡◌, ◌∷◌, ◌*◌, [], List, Some, IfErr, IfOk, IfSome, MatchResult, OnErr, OnOk, is_some, string_bytes, true};
+ghost use Rattle.std.specs.Time.{system_time_nanos};
 ghost use Rattle.hfs_shelves.specs.ShelfPaths.{IsNewFolder, new_folder_path, path_within};
 ghost use Rattle.hfs_shelves.specs.Told.{Tells, TellsNewFolder, TellsWithin};
 ghost use Rattle.hfs_shelves.specs.Entries.{IsBeginning, with_folder, with_file, with_piece};
+ghost use Rattle.hfs_shelves.specs.MadeFolders.{made_in};
+ghost use Rattle.hfs_shelves.specs.Removals.{HasFailed, HasNewFolder, HasNext, HasNoNewFolder, HasSince, IsClosed, IsPlaced, IsTakenAway, RemovesIn};
+ghost use Rattle.hfs_shelves.specs.SystemSteps.{SystemStep, done, looked, made_folder, makes_file, moved, opened};
+ghost use Rattle.hfs_shelves.specs.Left.{IsLeft, IsOrNoMemory};
 
 use crate::fault::ShelfFault;
-use crate::given::{Given, Step};
 use crate::paths::{new_folder_path, path_within};
 use crate::removal::remove_folder;
 use crate::shelf::Shelf;
-use std::alloc::AllocError;
-use std::fs::{File, FileTimes, OpenFile, OpenOptions};
-use std::io::{ErrorKind, Write};
+use crate::system::FileSystem;
+use crate::system_files::SystemFiles;
+use std::alloc::{AllocError, Global};
+use std::fs::OpenOptions;
+use std::io::ErrorKind;
 use std::rt::Files;
 use std::time::{Duration, SystemTime, UNIX_EPOCH};
-use std::{fs, io};
 
 /// How many names are tried for the folder in which a folder is written.
 const NAMES: u32 = 100;
 
-/// The file that was made last, and its path within the folder.
+/// A system that is handed back, with why what was asked was not done.
 #[derive(Drop)]
-struct MadeFile<F> {
-    file: F,
-    path: String,
-    modified: Option<u32>,
+pub struct Unmade<Y> {
+    pub system: Y,
+    pub fault: ShelfFault,
 }
 
 /// A folder that is written beside its place under a name of its own, and gets its place when it is
 /// whole. Its files are made new, so no path leads through a link that was there before.
 #[derive(Drop)]
-pub struct FileShelf<'a, R: Files + AllocGlobal> {
-    rt: &'a R,
+pub struct FileShelf<Y: FileSystem> {
+    alloc: Global,
+    pub system: Y,
     /// The path of the folder that is written.
     pub folder: String,
-    made: Option<MadeFile<R::File>>,
+    /// The path within the folder of the file that was made last, while it takes pieces.
+    made: Option<String>,
+    /// The time that this file gets when it is let go of.
+    modified: Option<u32>,
     /// The folder, opened and never read: it keeps a descriptor, so that there is one for taking away
     /// what was written.
-    kept: Option<R::Dir>,
-    /// What it was given; that the files hold it is the system's doing.
-    pub given: Given,
+    kept: Option<Y::Names>,
 }
 
-impl<'a, R: Files + AllocGlobal> FileShelf<'a, R> {
-    /// Makes the folder in which a folder at this path is to be written: `PATH.0.new` to
-    /// `PATH.99.new`, the first whose name is free. Faults: `CannotWrite` of that name, also where
-    /// the folder can't be opened, or of the path itself where no name is free; `NoMemory`.
-    pub fn create(rt: &'a R, path: &str) -> Result<FileShelf<'a, R>, ShelfFault>
-        ensures empty { IfOk result (λ shelf. shelf.given.entries ≡ []) }
-        ensures beside { IfOk result (λ shelf. IsNewFolder path.now (string_bytes shelf.folder)) }
-        ensures told { IfErr result (TellsNewFolder path.now) }
-    {
-        for number in 0..NAMES {
-            let Ok(folder) = new_folder_path(rt.alloc(), path, number) else {
-                return Err(ShelfFault::NoMemory);
-            };
-            match fs::create_dir(rt, folder.as_str()) {
-                Ok(()) => return FileShelf::over(rt, folder),
-                Err(error) => {
-                    if error.kind() != ErrorKind::AlreadyExists {
-                        return Err(ShelfFault::CannotWrite(folder));
-                    }
+/// Makes the first folder whose name is free of those in which a folder at this path may be written.
+#[tactic(auto, using(crate::proofs::PlacingLemmas::placing))]
+fn new_folder<Y: FileSystem>(
+    alloc: Global,
+    system: &mut Y,
+    path: &str,
+) -> Result<String, ShelfFault>
+    ensures made { IfOk result
+        (λ folder. HasNewFolder path.now (string_bytes folder) (Y.did system.old) (Y.did system.new)) }
+    ensures none { OnErr result (HasSince HasFailed (Y.did system.old) (Y.did system.new)) }
+    ensures told { IfErr result (TellsNewFolder path.now) }
+{
+    for number in 0..NAMES {
+        let Ok(folder) = new_folder_path(alloc, path, number) else {
+            return Err(ShelfFault::NoMemory);
+        };
+        match system.make_folder(folder.as_str()) {
+            Ok(()) => return Ok(folder),
+            Err(error) => {
+                if error.kind() != ErrorKind::AlreadyExists {
+                    return Err(ShelfFault::CannotWrite(folder));
                 }
             }
         }
-        Err(cannot_write(rt, path))
     }
+    Err(cannot_write(alloc, path))
+}
 
-    /// The shelf of a new folder. Where that can't be opened, it is removed.
-    fn over(rt: &'a R, folder: String) -> Result<FileShelf<'a, R>, ShelfFault>
-        ensures empty { IfOk result (λ shelf. shelf.given.entries ≡ []) }
-        ensures folder { IfOk result (λ shelf. shelf.folder ≡ folder) }
-        ensures told { IfErr result (Tells (string_bytes folder)) }
+impl<Y: FileSystem> FileShelf<Y> {
+    /// Makes the folder in which a folder at this path is to be written: `PATH.0.new` to
+    /// `PATH.99.new`, the first whose name is free. Faults: `CannotWrite` of that name, also where
+    /// the folder can't be opened, or of the path itself where no name is free; `NoMemory`. At a fault
+    /// no folder was made, or it is taken away again.
+    #[tactic(auto, using(crate::proofs::PlacingLemmas::placing, crate::proofs::RemovalLemmas::removals))]
+    pub fn create(alloc: Global, system: Y, path: &str) -> Result<FileShelf<Y>, Unmade<Y>>
+        ensures empty { IfOk result (λ shelf. made_in (string_bytes shelf.folder) (Y.did shelf.system) ≡ []) }
+        ensures beside { IfOk result (λ shelf. IsNewFolder path.now (string_bytes shelf.folder)) }
+        ensures made { IfOk result (λ shelf. HasNewFolder path.now (string_bytes shelf.folder)
+            (Y.did system) (Y.did shelf.system)) }
+        ensures none { IfErr result (λ back. HasNoNewFolder path.now (Y.did system) (Y.did back.system)) }
+        ensures told { IfErr result (λ back. TellsNewFolder path.now back.fault) }
     {
-        match rt.open_dir(folder.as_str()) {
+        let mut system = system;
+        let folder = match new_folder(alloc, &mut system, path) {
+            Ok(folder) => folder,
+            Err(fault) => return Err(Unmade { system, fault }),
+        };
+        match system.names(folder.as_str()) {
             Ok(kept) => Ok(FileShelf {
-                rt,
+                alloc,
+                system,
                 folder,
                 made: None,
+                modified: None,
                 kept: Some(kept),
-                given: Given::new(),
             }),
             Err(_) => {
-                let _removed = fs::remove_dir(rt, folder.as_str());
-                Err(ShelfFault::CannotWrite(folder))
+                let _removed = system.remove_folder(folder.as_str());
+                let fault = ShelfFault::CannotWrite(folder);
+                Err(Unmade { system, fault })
             }
         }
     }
 
-    /// Gives the folder its place. Fault: `CannotWrite` of that place, and then what was written is
-    /// taken away as [`FileShelf::take_away`] does it.
-    pub fn place(mut self, path: &str) -> Result<(), ShelfFault>
-        ensures { IfErr result (Tells path.now) }
+    /// Gives the folder its place. Faults: `CannotWrite` of that place, and then what was written is
+    /// taken away as [`FileShelf::take_away`] does it; `NoMemory` where that lacked memory, too.
+    #[tactic(auto, using(crate::proofs::PlacingLemmas::placing))]
+    pub fn place(self, path: &str) -> Result<Y, Unmade<Y>>
+        ensures placed { IfOk result (λ system. HasNext (moved (string_bytes self.folder) path.now)
+            self.modified (Y.did self.system) (Y.did system)) }
+        ensures whole { IfOk result (λ system. IsPlaced path.now (string_bytes self.folder)
+            (made_in (string_bytes self.folder) (Y.did self.system)) (Y.did system)) }
+        ensures away { IfErr result (λ back. IsLeft back.fault (string_bytes self.folder)
+            (Y.did self.system) (Y.did back.system)) }
+        ensures told { IfErr result (λ back. Tells path.now back.fault) }
     {
-        self.close();
-        match fs::rename(self.rt, self.folder.as_str(), path) {
-            Ok(()) => Ok(()),
-            Err(_) => {
-                let rt = self.rt;
-                self.take_away();
-                Err(cannot_write(rt, path))
-            }
+        let mut shelf = self;
+        shelf.close();
+        shelf.kept = None;
+        let FileShelf {
+            alloc,
+            mut system,
+            folder,
+            ..
+        } = shelf;
+        match system.rename(folder.as_str(), path) {
+            Ok(()) => Ok(system),
+            Err(_) => Err(removed(alloc, system, folder.as_str(), cannot_write(alloc, path))),
         }
     }
 
-    /// Takes away all that was written, as far as the system and memory allow.
-    pub fn take_away(mut self) {
-        self.close();
-        self.kept = None;
-        let _removed = remove_folder(self.rt, self.folder.as_str());
+    /// Takes away all that was written, as far as the system allows, and hands the system back: as the
+    /// error where memory was refused, and then the rest stays.
+    #[tactic(auto, using(crate::proofs::PlacingLemmas::placing, crate::proofs::RemovalLemmas::removals))]
+    pub fn take_away(self) -> Result<Y, Y>
+        ensures away { IfOk result (λ system. IsTakenAway (string_bytes self.folder)
+            (Y.did self.system) (Y.did system)) }
+        ensures within { IfErr result (λ system. HasSince (RemovesIn (string_bytes self.folder))
+            (Y.did self.system) (Y.did system)) }
+    {
+        let mut shelf = self;
+        shelf.close();
+        shelf.kept = None;
+        let FileShelf {
+            alloc,
+            mut system,
+            folder,
+            ..
+        } = shelf;
+        match remove_folder(alloc, &mut system, folder.as_str()) {
+            Ok(()) => Ok(system),
+            Err(_) => Err(system),
+        }
     }
 
     /// Lets go of the file that was made last, and sets its time, where it is to have one. That the
     /// system doesn't set it is no fault.
+    #[tactic(auto, using(crate::proofs::PlacingLemmas::placing))]
     fn close(&mut self)
-        ensures given { self.new.given.entries ≡ self.old.given.entries }
+        ensures closed { IsClosed self.old.modified (Y.did self.old.system) (Y.did self.new.system) }
+        ensures given { made_in (string_bytes self.new.folder) (Y.did self.new.system)
+            ≡ made_in (string_bytes self.old.folder) (Y.did self.old.system) }
         ensures folder { self.new.folder ≡ self.old.folder }
     {
-        if let Some(made) = self.made.take() {
-            if let Some(seconds) = made.modified {
-                let _set = made.file.set_times(times_at(seconds));
-            }
+        self.made = None;
+        if let Some(seconds) = self.modified.take() {
+            let _set = self.system.set_time(time_at(seconds));
         }
+        self.system.close();
     }
 }
 
-/// The times of a file that was modified so many seconds after the beginning of 1970.
-fn times_at(seconds: u32) -> FileTimes {
-    let modified = UNIX_EPOCH.checked_add(Duration::from_secs(u64::from(seconds)));
-    match modified {
-        Some(modified) => FileTimes::new().set_modified(modified),
-        None => FileTimes::new(),
+/// Takes away a folder for this fault, which stays, but where memory was refused.
+#[tactic(auto, using(crate::proofs::PlacingLemmas::placing, crate::proofs::RemovalLemmas::removals))]
+fn removed<Y: FileSystem>(alloc: Global, system: Y, folder: &str, fault: ShelfFault) -> Unmade<Y>
+    ensures left { IsLeft result.fault folder.now (Y.did system) (Y.did result.system) }
+    ensures fault { IsOrNoMemory fault result.fault }
+{
+    let mut system = system;
+    match remove_folder(alloc, &mut system, folder) {
+        Ok(()) => Unmade { system, fault },
+        Err(_) => Unmade {
+            system,
+            fault: ShelfFault::NoMemory,
+        },
     }
+}
+
+/// The moment so many seconds after the beginning of 1970.
+fn time_at(seconds: u32) -> SystemTime
+    ensures { system_time_nanos result ≡ seconds * 1_000_000_000 }
+{
+    match UNIX_EPOCH.checked_add(Duration::from_secs(u64::from(seconds))) {
+        Some(time) => time,
+        None => unreachable!(),
+    }
+}
+
+/// How a file is made: it is new, and is written.
+fn new_file() -> OpenOptions
+    ensures { makes_file result ≡ true }
+{
+    let mut how = OpenOptions::new();
+    how.write(true);
+    how.create_new(true);
+    how
 }
 
 /// The fault of a path that can't be written.
-fn cannot_write<R: AllocGlobal>(rt: &R, path: &str) -> ShelfFault
+fn cannot_write(alloc: Global, path: &str) -> ShelfFault
     ensures { Tells path.now result }
 {
-    match String::from_str(rt.alloc(), path) {
+    match String::from_str(alloc, path) {
         Ok(path) => ShelfFault::CannotWrite(path),
         Err(_) => ShelfFault::NoMemory,
     }
 }
 
 /// The fault of a path within a folder that can't be written.
-fn cannot_write_within<R: AllocGlobal>(rt: &R, folder: &str, path: &str) -> ShelfFault
+fn cannot_write_within(alloc: Global, folder: &str, path: &str) -> ShelfFault
     ensures { TellsWithin folder.now result }
 {
-    match path_within(rt.alloc(), folder, path) {
+    match path_within(alloc, folder, path) {
         Ok(whole) => ShelfFault::CannotWrite(whole),
         Err(_) => ShelfFault::NoMemory,
     }
@@ -160,97 +242,108 @@ pub fn left_folder<R: Files + AllocGlobal>(rt: &R, path: &str) -> Result<Option<
     ensures { IfOk result (λ left. IfSome left
         (λ name. string_bytes name ≡ new_folder_path path.now 0)) }
 {
-    let folder = new_folder_path(rt.alloc(), path, 0)?;
-    if is_there(rt, folder.as_str()) {
+    let mut system = SystemFiles::new(rt);
+    left_in(rt.alloc(), &mut system, path)
+}
+
+/// The same over any system.
+pub fn left_in<Y: FileSystem>(
+    alloc: Global,
+    system: &mut Y,
+    path: &str,
+) -> Result<Option<String>, AllocError>
+    ensures name { IfOk result (λ left. IfSome left
+        (λ name. string_bytes name ≡ new_folder_path path.now 0)) }
+    ensures looked { IfOk result (λ left. Y.did system.new
+        ≡ done (looked (new_folder_path path.now 0) (is_some left)) ∷ Y.did system.old) }
+{
+    let folder = new_folder_path(alloc, path, 0)?;
+    if system.is_there(folder.as_str()) {
         Ok(Some(folder))
     } else {
         Ok(None)
     }
 }
 
-/// Whether anything has this name, a link that leads nowhere too.
-pub fn is_there<R: Files>(rt: &R, path: &str) -> bool {
-    rt.symlink_metadata(path).is_ok()
-}
-
-impl<R: Files + AllocGlobal> Shelf for FileShelf<'_, R> {
-    ghost given = { λ shelf. shelf.given.entries };
+impl<Y: FileSystem> Shelf for FileShelf<Y> {
+    ghost given = { λ shelf. made_in (string_bytes shelf.folder) (Y.did shelf.system) };
 
     ghost place = { λ shelf. string_bytes shelf.folder };
 
     ghost Fails = { TellsWithin };
 
-    #[tactic(auto, using(crate::proofs::Beginnings::beginnings))]
+    #[tactic(auto, using(crate::proofs::Beginnings::beginnings, crate::proofs::FolderLemmas::growing, crate::proofs::PlacingLemmas::next_now))]
     fn make_folder(&mut self, path: &str) -> Result<(), ShelfFault>
-        ensures whole { OnOk result (self.new.given.entries ≡ with_folder self.old.given.entries
-            path.now) }
-        ensures part { OnErr result (IsBeginning self.new.given.entries
-            (with_folder self.old.given.entries path.now)) }
+        ensures whole { OnOk result (made_in (string_bytes self.new.folder) (Y.did self.new.system)
+            ≡ with_folder (made_in (string_bytes self.old.folder) (Y.did self.old.system)) path.now) }
+        ensures part { OnErr result (IsBeginning (made_in (string_bytes self.new.folder) (Y.did self.new.system))
+            (with_folder (made_in (string_bytes self.old.folder) (Y.did self.old.system)) path.now)) }
+        ensures steps { OnOk result (HasNext (made_folder (path_within (string_bytes self.old.folder) path.now))
+            self.old.modified (Y.did self.old.system) (Y.did self.new.system)) }
         ensures told { IfErr result (Tells (path_within (string_bytes self.old.folder) path.now)) }
         ensures fault { IfErr result (TellsWithin (string_bytes self.old.folder)) }
         ensures place { string_bytes self.new.folder ≡ string_bytes self.old.folder }
-        ensures same_folder { self.new.folder ≡ self.old.folder }
     {
         self.close();
-        let Ok(whole) = path_within(self.rt.alloc(), self.folder.as_str(), path) else {
+        let Ok(whole) = path_within(self.alloc, self.folder.as_str(), path) else {
             return Err(ShelfFault::NoMemory);
         };
-        match fs::create_dir(self.rt, whole.as_str()) {
-            Ok(()) => {
-                self.given = self.given.then(&Step::Folder(path));
-                Ok(())
-            }
+        match self.system.make_folder(whole.as_str()) {
+            Ok(()) => Ok(()),
             Err(_) => Err(ShelfFault::CannotWrite(whole)),
         }
     }
 
-    #[tactic(auto, using(crate::proofs::Beginnings::beginnings))]
+    #[tactic(auto, using(crate::proofs::Beginnings::beginnings, crate::proofs::FolderLemmas::growing, crate::proofs::PlacingLemmas::next_now))]
     fn make_file(&mut self, path: &str, modified: Option<u32>) -> Result<(), ShelfFault>
-        ensures whole { OnOk result (self.new.given.entries ≡ with_file self.old.given.entries
-            path.now) }
-        ensures part { OnErr result (IsBeginning self.new.given.entries
-            (with_file self.old.given.entries path.now)) }
+        ensures whole { OnOk result (made_in (string_bytes self.new.folder) (Y.did self.new.system)
+            ≡ with_file (made_in (string_bytes self.old.folder) (Y.did self.old.system)) path.now) }
+        ensures part { OnErr result (IsBeginning (made_in (string_bytes self.new.folder) (Y.did self.new.system))
+            (with_file (made_in (string_bytes self.old.folder) (Y.did self.old.system)) path.now)) }
+        ensures steps { OnOk result (HasNext (opened true
+            (path_within (string_bytes self.old.folder) path.now)) self.old.modified
+            (Y.did self.old.system) (Y.did self.new.system)) }
+        ensures time { OnOk result (self.new.modified ≡ modified) }
         ensures told { IfErr result (Tells (path_within (string_bytes self.old.folder) path.now)) }
         ensures fault { IfErr result (TellsWithin (string_bytes self.old.folder)) }
         ensures place { string_bytes self.new.folder ≡ string_bytes self.old.folder }
-        ensures same_folder { self.new.folder ≡ self.old.folder }
     {
         self.close();
-        let Ok(whole) = path_within(self.rt.alloc(), self.folder.as_str(), path) else {
+        let Ok(whole) = path_within(self.alloc, self.folder.as_str(), path) else {
             return Err(ShelfFault::NoMemory);
         };
-        let Ok(path_made) = String::from_str(self.rt.alloc(), path) else {
+        let Ok(made) = String::from_str(self.alloc, path) else {
             return Err(ShelfFault::NoMemory);
         };
-        match File::create_new(self.rt, whole.as_str()) {
-            Ok(file) => {
-                self.made = Some(MadeFile {
-                    file,
-                    path: path_made,
-                    modified,
-                });
-                self.given = self.given.then(&Step::File(path));
+        match self.system.open_file(&new_file(), whole.as_str()) {
+            Ok(()) => {
+                self.made = Some(made);
+                self.modified = modified;
                 Ok(())
             }
             Err(_) => Err(ShelfFault::CannotWrite(whole)),
         }
     }
 
-    #[tactic(auto, using(crate::proofs::Beginnings::beginnings))]
-    fn append(&mut self, piece: &[u8]) -> Result<(), ShelfFault> {
-        match &mut self.made {
-            Some(made) => match made.file.write_all(piece) {
-                Ok(()) => {
-                    self.given = self.given.then(&Step::Piece(piece));
-                    Ok(())
-                }
-                Err(_) => Err(cannot_write_within(
-                    self.rt,
-                    self.folder.as_str(),
-                    made.path.as_str(),
-                )),
-            },
-            None => Err(cannot_write(self.rt, self.folder.as_str())),
+    #[tactic(auto, using(crate::proofs::Beginnings::beginnings, crate::proofs::FolderLemmas::growing, crate::proofs::PlacingLemmas::next_now))]
+    fn append(&mut self, piece: &[u8]) -> Result<(), ShelfFault>
+        ensures whole { OnOk result (made_in (string_bytes self.new.folder) (Y.did self.new.system)
+            ≡ with_piece (made_in (string_bytes self.old.folder) (Y.did self.old.system)) piece.now) }
+        ensures part { OnErr result (IsBeginning (made_in (string_bytes self.new.folder) (Y.did self.new.system))
+            (with_piece (made_in (string_bytes self.old.folder) (Y.did self.old.system)) piece.now)) }
+        ensures time { self.new.modified ≡ self.old.modified }
+        ensures fault { IfErr result (TellsWithin (string_bytes self.old.folder)) }
+        ensures place { string_bytes self.new.folder ≡ string_bytes self.old.folder }
+    {
+        let Some(made) = &self.made else {
+            return Err(cannot_write(self.alloc, self.folder.as_str()));
+        };
+        match self.system.write(piece) {
+            Ok(()) => Ok(()),
+            Err(_) => {
+                let folder = self.folder.as_str();
+                Err(cannot_write_within(self.alloc, folder, made.as_str()))
+            }
         }
     }
 }

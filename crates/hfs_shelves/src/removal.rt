@@ -1,94 +1,216 @@
 //! Taking a folder away with all that lies in it.
+ghost use Rattle.std.specs.Prelude.{◌≡◌, [], IfOk, MatchResult, is_some, string_bytes, true};
+ghost use Rattle.hfs_shelves.specs.Told.{IsFolderOrIn};
+ghost use Rattle.hfs_shelves.specs.Removals.{HasSince, IsTakenAway, RemovesIn};
+ghost use Rattle.hfs_shelves.specs.Tries.{AnswersTried, HasNextPlace, is_stopped};
 
 use crate::paths::path_within;
-use std::io::{ErrorKind, Read};
-use std::rt::Files;
-use std::{fs, io};
+use crate::system::{FileSystem, Removal};
+use std::alloc::{AllocError, Global};
+use std::io::Read;
 
 /// How many bytes of a folder's names are read at a time.
 const NAMES: usize = 4_096;
 
+/// What came of removing what lies in a folder.
+#[derive(Drop)]
+pub(crate) enum Tried {
+    /// The folder of this name is there.
+    Folder(String),
+    /// What was tried is gone.
+    Gone,
+    /// The system refused.
+    Refused,
+}
+
 /// Removes a folder with all that lies in it, each folder when it holds nothing more. One folder is
 /// open at a time, and each is opened once, and once more for each folder in it. A link that lies in
-/// it is removed, not what it leads to. Errors: the system refuses, or memory does; then the rest stays.
-pub(crate) fn remove_folder<R: Files + AllocGlobal>(rt: &R, folder: &str) -> io::Result<()> {
-    let mut path = String::from_str(rt.alloc(), folder)?;
+/// it is removed, not what it leads to. Where the system refuses, the rest stays. The only error is
+/// want of memory, and then it stays too.
+#[tactic(auto, using(crate::proofs::RemovalLemmas::removals))]
+pub(crate) fn remove_folder<Y: FileSystem>(
+    alloc: Global,
+    system: &mut Y,
+    folder: &str,
+) -> Result<(), AllocError>
+    ensures { MatchResult result
+        (λ _. IsTakenAway folder.now (Y.did system.old) (Y.did system.new))
+        (λ _. HasSince (RemovesIn folder.now) (Y.did system.old) (Y.did system.new)) }
+{
+    let mut inner = String::new(alloc);
     for _ in 0..u64::MAX {
-        if let Some(below) = remove_to_folder(rt, path.as_str())? {
-            path = below;
-            continue;
+        match remove_next(alloc, system, folder, inner.as_str()) {
+            Ok(Some(next)) => inner = next,
+            Ok(None) => return Ok(()),
+            Err(error) => return Err(error),
         }
-        fs::remove_dir(rt, path.as_str())?;
-        if path.len() <= folder.len() {
-            return Ok(());
-        }
-        path = folder_of(rt, path.as_str())?;
     }
+    let _removed = system.remove_folder(folder);
     Ok(())
 }
 
-/// The path of the folder that holds what is at a path.
-fn folder_of<R: AllocGlobal>(rt: &R, path: &str) -> io::Result<String> {
-    match path.rsplit_once('/') {
-        Some((folder, _name)) => Ok(String::from_str(rt.alloc(), folder)?),
-        None => Err(io::Error::from(ErrorKind::NotFound)),
+/// Removes what lies at a path in a folder, which is empty for the folder itself, up to the first
+/// folder in it. The path in the folder where to go on; none where nothing is left to do.
+#[tactic(auto, using(crate::proofs::RemovalLemmas::removals))]
+fn remove_next<Y: FileSystem>(
+    alloc: Global,
+    system: &mut Y,
+    folder: &str,
+    inner: &str,
+) -> Result<Option<String>, AllocError>
+    ensures { MatchResult result
+        (HasNextPlace folder.now (Y.did system.old) (Y.did system.new))
+        (λ _. HasSince (RemovesIn folder.now) (Y.did system.old) (Y.did system.new)) }
+{
+    let place = match place_in(alloc, folder, inner) {
+        Ok(place) => place,
+        Err(error) => return Err(error),
+    };
+    match remove_to_folder(alloc, system, place.as_str()) {
+        Ok(Tried::Gone) => {}
+        Ok(Tried::Refused) => return Ok(None),
+        Ok(Tried::Folder(name)) => return some(inner_path(alloc, inner, name)),
+        Err(error) => return Err(error),
+    }
+    match system.remove_folder(place.as_str()) {
+        Ok(()) => {}
+        Err(_) => return Ok(None),
+    }
+    if inner.is_empty() {
+        return Ok(None);
+    }
+    some(folder_of(alloc, inner))
+}
+
+/// A path where to go on.
+fn some(path: Result<String, AllocError>) -> Result<Option<String>, AllocError>
+    ensures { IfOk result (λ next. is_some next ≡ true) }
+{
+    match path {
+        Ok(path) => Ok(Some(path)),
+        Err(error) => Err(error),
     }
 }
 
-/// Removes what lies in a folder, up to the first folder in it, whose path it answers. None where
-/// nothing is left.
-fn remove_to_folder<R: Files + AllocGlobal>(rt: &R, folder: &str) -> io::Result<Option<String>> {
-    let mut names = rt.open_dir(folder)?;
+/// The path of what lies at a path in a folder, which is empty for the folder itself.
+fn place_in(alloc: Global, folder: &str, inner: &str) -> Result<String, AllocError>
+    ensures within { IfOk result (λ place. IsFolderOrIn folder.now (string_bytes place)) }
+    ensures whole { inner.now ≡ [] → IfOk result (λ place. string_bytes place ≡ folder.now) }
+{
+    if inner.is_empty() {
+        String::from_str(alloc, folder)
+    } else {
+        path_within(alloc, folder, inner)
+    }
+}
+
+/// The path in a folder of what has a name in what lies at a path in it.
+fn inner_path(alloc: Global, inner: &str, name: String) -> Result<String, AllocError> {
+    if inner.is_empty() {
+        Ok(name)
+    } else {
+        path_within(alloc, inner, name.as_str())
+    }
+}
+
+/// The path of the folder that holds what is at a path in a folder.
+fn folder_of(alloc: Global, inner: &str) -> Result<String, AllocError> {
+    match inner.rsplit_once('/') {
+        Some((above, _name)) => String::from_str(alloc, above),
+        None => Ok(String::new(alloc)),
+    }
+}
+
+/// Removes what lies in a folder, up to the first folder in it. Names that are no text are passed over.
+#[tactic(auto, using(crate::proofs::RemovalLemmas::removals))]
+fn remove_to_folder<Y: FileSystem>(
+    alloc: Global,
+    system: &mut Y,
+    folder: &str,
+) -> Result<Tried, AllocError>
+    ensures { AnswersTried result folder.now (Y.did system.old) (Y.did system.new) }
+{
+    let Ok(mut names) = system.names(folder) else {
+        return Ok(Tried::Gone);
+    };
     let mut bytes = [0; NAMES];
     for _ in 0..u64::MAX {
-        let count = names.read(&mut bytes)?;
-        if count == 0 {
-            return Ok(None);
-        }
+        let count = names.read(&mut bytes).unwrap_or(0);
         let Some(read) = bytes.get(..count) else {
-            return Ok(None);
+            return Ok(Tried::Gone);
         };
-        if let Some(below) = remove_names(rt, folder, read)? {
-            return Ok(Some(below));
+        if read.is_empty() {
+            return Ok(Tried::Gone);
+        }
+        let text = str::from_utf8(read).unwrap_or("");
+        let tried = remove_names(alloc, system, folder, text);
+        if is_stopped(&tried) {
+            return tried;
         }
     }
-    Ok(None)
+    Ok(Tried::Gone)
 }
 
 /// Removes what has these names in a folder, each ended by a zero byte, up to the first folder.
-fn remove_names<R: Files + AllocGlobal>(
-    rt: &R,
+#[tactic(auto, using(crate::proofs::RemovalLemmas::removals))]
+fn remove_names<Y: FileSystem>(
+    alloc: Global,
+    system: &mut Y,
     folder: &str,
-    names: &[u8],
-) -> io::Result<Option<String>> {
-    for name in names.split(|byte| *byte == 0) {
-        if let Some(below) = remove_name(rt, folder, name)? {
-            return Ok(Some(below));
+    names: &str,
+) -> Result<Tried, AllocError>
+    ensures { AnswersTried result folder.now (Y.did system.old) (Y.did system.new) }
+{
+    let mut rest = names;
+    for _ in 0..names.len() {
+        let Some((name, behind)) = rest.split_once('\0') else {
+            return Ok(Tried::Gone);
+        };
+        let tried = remove_name(alloc, system, folder, name);
+        if is_stopped(&tried) {
+            return tried;
         }
+        rest = behind;
     }
-    Ok(None)
+    Ok(Tried::Gone)
 }
 
-/// Removes what has this name in a folder, unless it is a folder, whose path it answers. The names by
-/// which a folder and the one above it are called in themselves are passed over.
-fn remove_name<R: Files + AllocGlobal>(
-    rt: &R,
-    folder: &str,
-    name: &[u8],
-) -> io::Result<Option<String>> {
-    let Ok(name) = str::from_utf8(name) else {
-        return Err(io::Error::from(ErrorKind::InvalidFilename));
-    };
-    if name.is_empty() || name == "." || name == ".." {
-        return Ok(None);
+/// Whether there is something that is not gone.
+fn is_stopped(tried: &Result<Tried, AllocError>) -> bool
+    ensures { result ≡ is_stopped tried.now }
+{
+    match tried {
+        Ok(Tried::Gone) => false,
+        Ok(Tried::Folder(_)) => true,
+        Ok(Tried::Refused) => true,
+        Err(_) => true,
     }
-    let path = path_within(rt.alloc(), folder, name)?;
-    match fs::remove_file(rt, path.as_str()) {
-        Ok(()) => Ok(None),
-        Err(error) => match error.kind() {
-            ErrorKind::IsADirectory => Ok(Some(path)),
-            ErrorKind::NotFound => Ok(None),
-            _ => Err(error),
+}
+
+/// Removes what has this name in a folder, unless it is a folder. The names by which a folder and
+/// the one above it are called in themselves, and no name, are passed over.
+#[tactic(auto, using(crate::proofs::RemovalLemmas::removals))]
+fn remove_name<Y: FileSystem>(
+    alloc: Global,
+    system: &mut Y,
+    folder: &str,
+    name: &str,
+) -> Result<Tried, AllocError>
+    ensures { AnswersTried result folder.now (Y.did system.old) (Y.did system.new) }
+{
+    if name.is_empty() || name == "." || name == ".." {
+        return Ok(Tried::Gone);
+    }
+    let path = match path_within(alloc, folder, name) {
+        Ok(path) => path,
+        Err(error) => return Err(error),
+    };
+    match system.remove_file(path.as_str()) {
+        Ok(Removal::Gone) => Ok(Tried::Gone),
+        Ok(Removal::Folder) => match String::from_str(alloc, name) {
+            Ok(name) => Ok(Tried::Folder(name)),
+            Err(error) => Err(error),
         },
+        Err(_) => Ok(Tried::Refused),
     }
 }

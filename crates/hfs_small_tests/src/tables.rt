@@ -1,7 +1,7 @@
 //! Rows of the table of items by hand.
 use hfs_fields::Name;
 use hfs_model::{Info, ItemKind};
-use hfs_table::{Format, push_head, push_row};
+use hfs_table::{Format, push_bag_head, push_bag_row, push_head, push_own_bag_row, push_row};
 use std::alloc::{AllocError, Global};
 
 /// An item of a volume `D`, of which most is 0, that lies this way below the root.
@@ -176,6 +176,64 @@ fn row_of_a_full_file(rt: HostRuntime) -> Result<(), AllocError> {
         is_text(
             &text,
             "D:f\tfile\t16\t2\tTEXT\tttxt\t4101\tyes\tno\t2000-01-01T00:00:00\t2040-02-06T06:28:15\t1904-01-01T00:00:01\t\t2000\t3\t54455854747478744101010203040506101112131415161718191a1b1c1d1e1f\n"
+        )
+    );
+    Ok(())
+}
+
+/// The row of an item in a bag's table, to which these names lead; with a path the one by the item's own record alone.
+fn bag_row(
+    alloc: Global,
+    below: &[&[u8]],
+    info: &Option<Info>,
+    path: Option<&str>,
+) -> Result<Vec<u8>, AllocError> {
+    let mut text = Vec::new(alloc);
+    if let Some(info) = info {
+        let names = way(alloc, below)?;
+        match path {
+            Some(path) => push_own_bag_row(alloc, &mut text, names.as_slice(), info, path)?,
+            None => push_bag_row(alloc, &mut text, names.as_slice(), info)?,
+        }
+    }
+    Ok(text)
+}
+
+#[test]
+fn rows_in_bags(rt: HostRuntime) -> Result<(), AllocError> {
+    let info = item(17, 16, ItemKind::File);
+    let text = bag_row(rt.alloc(), &[b"D", b"a/b", b".x"], &info, None)?;
+    assert!(rt;
+        is_row(
+            &text,
+            "D:a/b:.x,file,17,16,\\00\\00\\00\\00,\\00\\00\\00\\00,0000,no,no,,,,,0,0,",
+            ",a=2Fb/=2Ex\r\n"
+        )
+    );
+    let text = bag_row(rt.alloc(), &[], &info, Some("=lost/16/=2Ex"))?;
+    assert!(rt;
+        is_row(
+            &text,
+            ",file,17,16,\\00\\00\\00\\00,\\00\\00\\00\\00,0000,no,,,,,,0,0,",
+            ",=lost/16/=2Ex\r\n"
+        )
+    );
+    Ok(())
+}
+
+fn bag_head(alloc: Global) -> Result<Vec<u8>, AllocError> {
+    let mut text = Vec::new(alloc);
+    push_bag_head(&mut text)?;
+    Ok(text)
+}
+
+#[test]
+fn head_in_bags(rt: HostRuntime) -> Result<(), AllocError> {
+    let text = bag_head(rt.alloc())?;
+    assert!(rt;
+        is_text(
+            &text,
+            "path,kind,id,parent,type,creator,flags,locked,file_id,created,modified,backup,items,data_bytes,resource_bytes,finder,bag_path\r\n"
         )
     );
     Ok(())

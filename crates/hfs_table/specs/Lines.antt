@@ -1,9 +1,10 @@
 -- The lines of the table in its three formats.
-use Rattle.std.specs.Prelude.{ℕ, Bool, ◌||◌, ◌==◌, if◌then◌else◌, List, [], ◌∷◌, ◌++◌, codes, flat_map}
+use Rattle.std.specs.Prelude.{ℕ, Bool, ◌||◌, ◌==◌, if◌then◌else◌, List, [], ◌∷◌, ◌++◌, codes, drop, flat_map}
 use Rattle.std.specs.List.{list_any, join_by}
 use Rattle.json.specs.Token as json
 use Rattle.json.specs.Print.{print}
 use Rattle.hfs_model.specs.declared.reply.Info.{Info}
+use Rattle.hfs_names.specs.Paths.{host_path}
 use Rattle.hfs_table.specs.Cells.{cell_text, cell_value}
 use Rattle.hfs_table.specs.Columns.{columns, column_name, cell}
 use Rattle.hfs_table.specs.declared.column.Column.{Column}
@@ -37,23 +38,47 @@ csv_field text = if list_any is_quoted_for text then codes "\"" ++ flat_map doub
 unfoldable pub csv_head : List ℕ
 csv_head = join_by column_name (codes ",") columns ++ codes "\r\n"
 
-unfoldable pub csv_line : List (List ℕ) → Info → List ℕ
-csv_line names info = join_by (λ column. csv_field (field_text names info column)) (codes ",") columns ++ codes "\r\n"
+-- the fields of a row with commas between
+unfoldable pub csv_fields : List (List ℕ) → Info → List ℕ
+csv_fields names info = join_by (λ column. csv_field (field_text names info column)) (codes ",") columns
+
+abbrev pub csv_line : List (List ℕ) → Info → List ℕ
+csv_line names info = csv_fields names info ++ codes "\r\n"
+
+-- ---- CSV in bags, with one column more at its end: the path below the payload
+
+unfoldable pub bag_head : List ℕ
+bag_head = join_by column_name (codes ",") columns ++ codes ",bag_path\r\n"
+
+-- where the item lies in a bag of a sound volume: at its host path; the root's is empty
+abbrev pub bag_path : List (List ℕ) → List ℕ
+bag_path names = host_path (drop 1 names)
+
+-- the last field of a line, and its end
+unfoldable pub bag_end : List ℕ → List ℕ
+bag_end path = codes "," ++ csv_field path ++ codes "\r\n"
+
+-- the line of the item to which these names lead, from the root's down
+abbrev pub bag_line : List (List ℕ) → Info → List ℕ
+bag_line names info = csv_fields names info ++ bag_end (bag_path names)
 
 -- the fields of columns, each behind a comma
-abbrev fields_behind : List Column → Info → List ℕ
-fields_behind columns info = flat_map (λ column. codes "," ++ csv_field (field_text [] info column)) columns
+abbrev fields_behind : List Column → List (List ℕ) → Info → List ℕ
+fields_behind columns names info = flat_map (λ column. codes "," ++ csv_field (field_text names info column)) columns
 
--- the line of an item by its own record alone, with this path: its thread and the items in it are not known
-unfoldable pub own_csv_line : List ℕ → Info → List ℕ
-own_csv_line path info =
-    csv_field path
-    ++ fields_behind (variant.Kind ∷ variant.Id ∷ variant.Parent ∷ variant.Type ∷ variant.Creator ∷ variant.Flags ∷ variant.Locked ∷ []) info
+-- the fields of an item by its own record alone: its thread and the items in it are not known
+unfoldable pub own_fields : List (List ℕ) → Info → List ℕ
+own_fields names info =
+    csv_field (field_text names info variant.Path)
+    ++ fields_behind (variant.Kind ∷ variant.Id ∷ variant.Parent ∷ variant.Type ∷ variant.Creator ∷ variant.Flags ∷ variant.Locked ∷ []) names info
     ++ codes ","
-    ++ fields_behind (variant.Created ∷ variant.Modified ∷ variant.Backup ∷ []) info
+    ++ fields_behind (variant.Created ∷ variant.Modified ∷ variant.Backup ∷ []) names info
     ++ codes ","
-    ++ fields_behind (variant.DataBytes ∷ variant.ResourceBytes ∷ variant.Finder ∷ []) info
-    ++ codes "\r\n"
+    ++ fields_behind (variant.DataBytes ∷ variant.ResourceBytes ∷ variant.Finder ∷ []) names info
+
+-- the line of such an item, which lies at this path in the bag; where no names lead to it, it has no Mac path
+abbrev pub own_bag_line : List (List ℕ) → Info → List ℕ → List ℕ
+own_bag_line names info path = own_fields names info ++ bag_end path
 
 -- ---- JSON
 

@@ -1,7 +1,7 @@
 //! A row in CSV (RFC 4180).
 ghost use Rattle.std.specs.Prelude.{◌≡◌, ◌++◌, OnOk, codes, flat_map};
 ghost use Rattle.std.specs.List.{list_any};
-ghost use Rattle.hfs_table.specs.Lines.{csv_field, csv_head, csv_line, doubled, field_text, is_quoted_for, own_csv_line};
+ghost use Rattle.hfs_table.specs.Lines.{csv_field, csv_fields, csv_head, csv_line, doubled, field_text, is_quoted_for, own_fields};
 
 use crate::cells::{USUAL, push_field};
 use crate::column::{BEFORE_FILE_ID, BEHIND_ITEMS, BEHIND_PATH, Column, DATES};
@@ -54,7 +54,7 @@ fn push_all_doubled(text: &mut Vec<u8>, field: &[u8]) -> Result<(), AllocError>
 
 /// Appends a field, between quotation marks where it holds a comma or a quotation mark.
 #[tactic(auto, unfolding(crate::specs::Lines::csv_field))]
-fn push_csv_field(text: &mut Vec<u8>, field: &[u8]) -> Result<(), AllocError>
+pub(crate) fn push_csv_field(text: &mut Vec<u8>, field: &[u8]) -> Result<(), AllocError>
     ensures { OnOk result (text.new.items ≡ text.old.items ++ csv_field field.now) }
 {
     if !is_quoted(field) {
@@ -100,8 +100,22 @@ fn push_columns(
     Ok(())
 }
 
+/// Appends the fields of a row.
+#[tactic(auto, unfolding(crate::specs::Lines::csv_fields, crate::specs::Columns::columns))]
+pub(crate) fn push_csv_fields(
+    alloc: Global,
+    text: &mut Vec<u8>,
+    names: &[Name],
+    info: &Info,
+) -> Result<(), AllocError>
+    ensures { OnOk result (text.new.items ≡ text.old.items ++ csv_fields names.now info.now) }
+{
+    let mut field = String::with_capacity(alloc, USUAL)?;
+    push_column(text, &mut field, Column::Path, names, info)?;
+    push_columns(text, &mut field, &BEHIND_PATH, names, info)
+}
+
 /// Appends a row.
-#[tactic(auto, unfolding(crate::specs::Lines::csv_line, crate::specs::Columns::columns))]
 pub(crate) fn push_csv_line(
     alloc: Global,
     text: &mut Vec<u8>,
@@ -110,29 +124,26 @@ pub(crate) fn push_csv_line(
 ) -> Result<(), AllocError>
     ensures { OnOk result (text.new.items ≡ text.old.items ++ csv_line names.now info.now) }
 {
-    let mut field = String::with_capacity(alloc, USUAL)?;
-    push_column(text, &mut field, Column::Path, names, info)?;
-    push_columns(text, &mut field, &BEHIND_PATH, names, info)?;
+    push_csv_fields(alloc, text, names, info)?;
     text.extend_from_slice(b"\r\n")
 }
 
-/// Appends the row of an item of which only its own record is known, with this path: whether it has a thread, and how many items
-/// lie in it, stay empty. At an error a part of it may have come.
-#[tactic(auto, unfolding(crate::specs::Lines::own_csv_line))]
-pub fn push_own_csv_line(
+/// Appends the fields of an item of which only its own record is known: whether it has a thread, and how many items lie in it, stay
+/// empty.
+#[tactic(auto, unfolding(crate::specs::Lines::own_fields))]
+pub(crate) fn push_own_fields(
     alloc: Global,
     text: &mut Vec<u8>,
-    path: &str,
+    names: &[Name],
     info: &Info,
 ) -> Result<(), AllocError>
-    ensures { OnOk result (text.new.items ≡ text.old.items ++ own_csv_line path.now info.now) }
+    ensures { OnOk result (text.new.items ≡ text.old.items ++ own_fields names.now info.now) }
 {
     let mut field = String::with_capacity(alloc, USUAL)?;
-    push_csv_field(text, path.as_bytes())?;
-    push_columns(text, &mut field, &BEFORE_FILE_ID, &[], info)?;
+    push_column(text, &mut field, Column::Path, names, info)?;
+    push_columns(text, &mut field, &BEFORE_FILE_ID, names, info)?;
     text.extend_from_slice(b",")?;
-    push_columns(text, &mut field, &DATES, &[], info)?;
+    push_columns(text, &mut field, &DATES, names, info)?;
     text.extend_from_slice(b",")?;
-    push_columns(text, &mut field, &BEHIND_ITEMS, &[], info)?;
-    text.extend_from_slice(b"\r\n")
+    push_columns(text, &mut field, &BEHIND_ITEMS, names, info)
 }

@@ -3,3 +3,4 @@ pub mod ToldLemmas
 pub mod BagLemmas
 pub mod FaultLemmas
 mod PartLines
+mod SendLemmas

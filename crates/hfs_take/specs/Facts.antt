@@ -1,5 +1,5 @@
 -- What a bag tells of its image.
-use Rattle.std.specs.Prelude.{ℕ, Bool, true, false, List, [], ◌++◌, codes, Option, None, Some, unwrap_or}
+use Rattle.std.specs.Prelude.{ℕ, Bool, true, false, ◌==◌, if◌then◌else◌, List, [], ◌++◌, codes, Option, None, Some, unwrap_or}
 use Rattle.std.specs.Fmt.{decimal}
 use Rattle.std.specs.Path.{path_file_name}
 use Rattle.hfs_commands.specs.Paths.{path_text}
@@ -26,8 +26,12 @@ abbrev pub told_missing : Option (List ℕ) → List ℕ
 told_missing None = codes " no volume"
 told_missing (Some name) = []
 
--- where the volume lies: number, how it lies, first byte, bytes, name, what is told of its sum
-unfoldable pub volume_text : ℕ → FoundRange → Option (List ℕ) → Option Bool → List ℕ
-volume_text number found name sum =
+-- how many raw sectors have no user data, where there are some
+unfoldable pub told_others : ℕ → List ℕ
+told_others others = if others == 0 then [] else codes " other mode " ++ decimal others
+
+-- where the volume lies: number, how it lies, first byte, bytes, name, what is told of its sum, how many raw sectors have no user data
+unfoldable pub volume_text : ℕ → FoundRange → Option (List ℕ) → Option Bool → ℕ → List ℕ
+volume_text number found name sum others =
     decimal number ++ codes " " ++ container_text found.container ++ codes " " ++ decimal found.range.start ++ codes " " ++ decimal found.range.len ++ codes " "
-    ++ told_name name ++ told_sum sum ++ told_missing name
+    ++ told_name name ++ told_sum sum ++ told_missing name ++ told_others others

@@ -9,22 +9,26 @@ use Rattle.hfs_containers.specs.declared.asking.NumberedRange.{NumberedRange}
 use Rattle.hfs_containers.specs.declared.ranges.ByteRange.{ByteRange}
 use Rattle.hfs_take.specs.Facts.{volume_text}
 
--- the line tells a range with its number, the name of its volume and whether its sum is right; both are known where the file's bytes are
-pub record IsToldLine (file : Option (List ℕ)) (place : NumberedRange) (line : List ℕ) (sum : Option Bool) : Type 0 where
+-- the line tells a range with its number, the name of its volume and whether its sum is right, which are known where the file's bytes are, and how many
+-- raw sectors have no user data
+pub record IsToldLine (AreOthers : ℕ → Type 0) (file : Option (List ℕ)) (place : NumberedRange) (line : List ℕ) (sum : Option Bool) : Type 0 where
   pub name : Option (List ℕ)
   pub name_is : IsTold file (volume_name_in place.found.range) name
   pub sum_is : IsTold file (λ bytes. sum_told place.found.container (bytes_in place.found.range bytes)) sum
-  pub line_is : line ≡ volume_text place.number place.found name sum
+  pub others : ℕ
+  pub others_is : AreOthers others
+  pub line_is : line ≡ volume_text place.number place.found name sum others
 
 -- there is a line of a range inside, and none of a file as it is
-abbrev pub IsToldPart : Option (List ℕ) → Option NumberedRange → Option (List ℕ) → Option Bool → Type 0
-IsToldPart file None line sum = (line ≡ None) × (sum ≡ None)
-IsToldPart file (Some place) line sum = (text : List ℕ) × (line ≡ Some text) × IsToldLine file place text sum
+abbrev pub IsToldPart : (ℕ → Type 0) → Option (List ℕ) → Option NumberedRange → Option (List ℕ) → Option Bool → Type 0
+IsToldPart AreOthers file None line sum = (line ≡ None) × (sum ≡ None)
+IsToldPart AreOthers file (Some place) line sum = (text : List ℕ) × (line ≡ Some text) × IsToldLine AreOthers file place text sum
 
 -- the line tells this range of a file with its number, and there is none of a file as it is
 abbrev pub IsLineAt : ByteRange → Option NumberedRange → Option (List ℕ) → Type 0
 IsLineAt range None line = line ≡ None
-IsLineAt range (Some place) line = (name : Option (List ℕ)) × (sum : Option Bool) × (range ≡ place.found.range) × (line ≡ Some (volume_text place.number place.found name sum))
+IsLineAt range (Some place) line =
+    (name : Option (List ℕ)) × (sum : Option Bool) × (others : ℕ) × (range ≡ place.found.range) × (line ≡ Some (volume_text place.number place.found name sum others))
 
 -- the line tells this range, which is what is asked for
 abbrev pub IsLineOf : Option ℕ → ByteRange → Option (List ℕ) → Type 0

@@ -5,7 +5,7 @@ ghost use Rattle.hfs_image_items.specs.Faults.{WantsMemory};
 ghost use Rattle.hfs_names.specs.PlainTexts.{plain_text};
 ghost use Rattle.hfs_texts.specs.Reading.{info_text};
 ghost use Rattle.hfs_texts.specs.Texts.{Gains};
-ghost use Rattle.hfs_take.specs.Facts.{image_name, told_missing, told_name, told_sum, volume_text};
+ghost use Rattle.hfs_take.specs.Facts.{image_name, told_missing, told_name, told_others, told_sum, volume_text};
 
 use hfs_bag::SourceFault;
 use hfs_commands::ShownPath;
@@ -32,6 +32,8 @@ fn push_container(text: &mut String, container: Container) -> Result<(), AllocEr
         Container::MacBinary => text.push_str("macbinary"),
         Container::DiskCopy { .. } => text.push_str("disk copy"),
         Container::Partition => text.push_str("partition"),
+        Container::RawBare => text.push_str("raw 2352 bare"),
+        Container::RawPartition => text.push_str("raw 2352 partition"),
     }
 }
 
@@ -80,7 +82,20 @@ fn push_told_missing(text: &mut String, name: &Option<[u8; 28]>) -> Result<(), A
     }
 }
 
-/// The line of a volume in its file: number, how it lies, first byte, bytes, the plain text of its name, and what is told of its sum, with spaces between.
+/// Appends how many raw sectors have no user data, where there are some.
+#[tactic(auto, unfolding(crate::specs::Facts::told_others))]
+fn push_told_others(text: &mut String, others: u64) -> Result<(), AllocError>
+    ensures { OnOk result (Gains text.old text.new (told_others others)) }
+{
+    if others == 0 {
+        return Ok(());
+    }
+    text.push_str(" other mode ")?;
+    write!(text, "{}", others)
+}
+
+/// The line of a volume in its file: number, how it lies, first byte, bytes, the plain text of its name, what is told of its sum, and how many raw sectors
+/// have no user data, with spaces between.
 #[tactic(auto, unfolding(crate::specs::Facts::volume_text))]
 pub(crate) fn volume_text(
     alloc: Global,
@@ -88,8 +103,10 @@ pub(crate) fn volume_text(
     found: &FoundRange,
     name: &Option<[u8; 28]>,
     sum: Option<bool>,
+    others: u64,
 ) -> Result<String, AllocError>
-    ensures { IfOk result (λ text. string_bytes text ≡ volume_text number found.now name.now sum) }
+    ensures { IfOk result (λ text. string_bytes text
+        ≡ volume_text number found.now name.now sum others) }
 {
     let mut text = String::new(alloc);
     write!(text, "{}", number)?;
@@ -103,6 +120,7 @@ pub(crate) fn volume_text(
     push_told_name(&mut text, name)?;
     push_told_sum(&mut text, sum)?;
     push_told_missing(&mut text, name)?;
+    push_told_others(&mut text, others)?;
     Ok(text)
 }
 

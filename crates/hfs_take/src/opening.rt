@@ -2,7 +2,7 @@
 ghost use Rattle.std.specs.Prelude.{◌≡◌, IfErr, IfOk, IfSome, None, string_bytes};
 ghost use Rattle.std.specs.Option.{option_map};
 ghost use Rattle.hfs_commands.specs.Faults.{IsUnopened, IsUnreadFile};
-ghost use Rattle.hfs_commands.specs.OpenedFiles.{known_bytes, known_in};
+ghost use Rattle.hfs_commands.specs.OpenedFiles.{AreOthersOf, known_bytes, known_in, stored_bytes};
 ghost use Rattle.hfs_take.specs.Digests.{TellsSame};
 ghost use Rattle.hfs_take.specs.Faults.{IsImageFault};
 ghost use Rattle.hfs_take.specs.Opening.{IsLineOf, IsToldLine, IsToldPart, TellsVolume};
@@ -11,10 +11,11 @@ use crate::facts::volume_text;
 use crate::image::TakenImage;
 use crate::words::TakeWords;
 use hfs_commands::{
-    Counted, Fault, FilePart, NumberedRange, OpenedFile, Window, open_asked, sum_told,
+    Counted, Fault, FilePart, NumberedRange, OpenedFile, RawFile, StoredFile, Window, open_asked,
+    sum_told,
 };
-use hfs_containers::{ByteRange, PlacedFile, volume_name};
-use hfs_sparse::{BlockSource, FileReader};
+use hfs_containers::volume_name;
+use hfs_sparse::BlockSource;
 use std::alloc::Global;
 use std::fs::{File, Metadata, OpenFile};
 use std::io::{Read, Seek};
@@ -32,17 +33,22 @@ pub struct FoundPart<F: Read + Seek> {
     pub sum: Option<bool>,
 }
 
-/// The line of a range of a file, and whether its sum is right, where it has one: it is taken of all its bytes. Faults: a read failed, memory was refused.
+/// The line of a range of a file, and whether its sum is right, where it has one: it is taken of all its bytes. Of raw sectors each is looked at. Faults: a
+/// read failed, memory was refused.
 fn line_of<'a, F: Read + Seek>(
     alloc: Global,
     file: &mut OpenedFile<F>,
     place: &NumberedRange,
     path: &'a str,
 ) -> Result<(String, Option<bool>), Fault<'a>>
-    ensures line { IfOk result (λ told. IsToldLine (known_bytes file.old) place.now (string_bytes told.0) told.1) }
+    ensures line { IfOk result (λ told. IsToldLine (AreOthersOf file.old) (known_bytes file.old) place.now (string_bytes told.0) told.1) }
     ensures known { known_bytes file.new ≡ known_bytes file.old }
     ensures fault { IfErr result (IsUnreadFile path.entry) }
 {
+    let others = match file.others() {
+        Ok(others) => others,
+        Err(fault) => return Err(Fault::of_sparse(fault, path)),
+    };
     let name = match volume_name(file, place.found.range) {
         Ok(name) => name,
         Err(fault) => return Err(Fault::of_sparse(fault, path)),
@@ -51,7 +57,7 @@ fn line_of<'a, F: Read + Seek>(
         Ok(sum) => sum,
         Err(fault) => return Err(Fault::of_sparse(fault, path)),
     };
-    match volume_text(alloc, place.number, &place.found, &name, sum) {
+    match volume_text(alloc, place.number, &place.found, &name, sum, others) {
         Ok(line) => Ok((line, sum)),
         Err(_) => Err(Fault::NoMemory),
     }
@@ -64,7 +70,7 @@ fn told_part<'a, F: Read + Seek + Drop>(
     path: &'a str,
 ) -> Result<FoundPart<F>, Fault<'a>>
     ensures range { IfOk result (λ found. found.bytes.range ≡ part.bytes.range) }
-    ensures line { IfOk result (λ found. IsToldPart (known_bytes part.bytes.source) part.place
+    ensures line { IfOk result (λ found. IsToldPart (AreOthersOf part.bytes.source) (known_bytes part.bytes.source) part.place
         (option_map string_bytes found.line) found.sum) }
     ensures known { IfOk result (λ found. known_bytes found.bytes.source
         ≡ known_bytes part.bytes.source) }
@@ -109,15 +115,9 @@ fn is_same(one: &Metadata, other: &Metadata) -> bool {
     one.dev() == other.dev() && one.ino() == other.ino()
 }
 
-/// A range of the file at this path, which is opened anew. None where it can't be opened, or is another file than it was.
-fn open_again<R: Files>(
-    rt: &R,
-    path: &str,
-    was: &Metadata,
-    range: ByteRange,
-) -> Option<Window<OpenedFile<R::File>>>
-    ensures known { IfSome result (λ bytes. known_in bytes ≡ None) }
-    ensures range { IfSome result (λ bytes. bytes.range ≡ range) }
+/// The file at this path, which is opened anew. None where it can't be opened, or is another file than it was.
+fn open_again<R: Files>(rt: &R, path: &str, was: &Metadata) -> Option<StoredFile<R::File>>
+    ensures { IfSome result (λ file. stored_bytes file ≡ None) }
 {
     let Ok(file) = File::open(rt, path) else {
         return None;
@@ -128,10 +128,48 @@ fn open_again<R: Files>(
     if !is_same(was, &found) {
         return None;
     }
-    Some(Window {
-        source: OpenedFile::Seekable(PlacedFile::new(FileReader(file))),
-        range,
-    })
+    match StoredFile::sought(file) {
+        Ok(source) => Some(source),
+        Err(_) => None,
+    }
+}
+
+/// The same bytes of a file that was opened anew.
+fn source_beside<R: Files>(
+    rt: &R,
+    path: &str,
+    was: &Metadata,
+    found: &OpenedFile<R::File>,
+) -> Option<OpenedFile<R::File>>
+    ensures { IfSome result (λ file. (known_bytes file ≡ None) × (known_bytes found.now ≡ None)) }
+{
+    match found {
+        OpenedFile::Plain(StoredFile::Whole(_)) => None,
+        OpenedFile::Plain(StoredFile::Seekable(_)) => match open_again(rt, path, was) {
+            Some(file) => Some(OpenedFile::Plain(file)),
+            None => None,
+        },
+        OpenedFile::Raw(raw) => raw_beside(rt, path, was, raw),
+    }
+}
+
+/// The user data of a file of raw sectors that was opened anew.
+fn raw_beside<R: Files>(
+    rt: &R,
+    path: &str,
+    was: &Metadata,
+    raw: &RawFile<StoredFile<R::File>>,
+) -> Option<OpenedFile<R::File>>
+    ensures { IfSome result (λ file. (known_bytes file ≡ None)
+        × (stored_bytes raw.now.data.bytes ≡ None)) }
+{
+    match &raw.data.bytes {
+        StoredFile::Whole(_) => None,
+        StoredFile::Seekable(_) => match open_again(rt, path, was) {
+            Some(source) => Some(OpenedFile::Raw(RawFile::new(source, raw.len))),
+            None => None,
+        },
+    }
 }
 
 /// The same bytes once more, to be read beside what was found at this path. None where that is no file that can be opened once more: its bytes are held,
@@ -148,9 +186,12 @@ fn open_beside<R: Files>(
     let Ok(was) = was else {
         return None;
     };
-    match &found.source {
-        OpenedFile::Whole(_) => None,
-        OpenedFile::Seekable(_) => open_again(rt, path, &was, found.range),
+    match source_beside(rt, path, &was, &found.source) {
+        Some(source) => Some(Window {
+            source,
+            range: found.range,
+        }),
+        None => None,
     }
 }
 

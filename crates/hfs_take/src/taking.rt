@@ -13,7 +13,7 @@ use crate::opening::{OpenedTake, open_image};
 use crate::words::TakeWords;
 use hfs_bag::BagSums;
 use hfs_image_items::Watch;
-use hfs_shelves::{FileShelf, is_there};
+use hfs_shelves::{FileShelf, FileSystem, SystemFiles};
 use hfs_sparse::BlockSource;
 use hfs_texts::push_line;
 use std::alloc::{AllocError, Global};
@@ -30,8 +30,8 @@ pub struct Taken {
 }
 
 /// Gives a whole bag its place.
-fn place_bag<'a, R: Files + AllocGlobal>(
-    shelf: FileShelf<'_, R>,
+fn place_bag<'a, Y: FileSystem + Drop>(
+    shelf: FileShelf<Y>,
     sums: BagSums,
     words: &TakeWords<'a>,
 ) -> Result<BagSums, TakeFault<'a>>
@@ -39,13 +39,39 @@ fn place_bag<'a, R: Files + AllocGlobal>(
     ensures sums { IfOk result (λ told. told ≡ sums) }
 {
     match shelf.place(words.folder) {
-        Ok(()) => Ok(sums),
-        Err(fault) => Err(TakeFault::of_shelf(fault)),
+        Ok(_system) => Ok(sums),
+        Err(back) => Err(TakeFault::of_shelf(back.fault)),
     }
 }
 
 /// Writes the bag of an image: to a folder beside its place, which gets its place when it is whole, and is taken away at a fault.
-fn write_bag<'a, R: Files + AllocGlobal, H: Threads, S: BlockSource + Drop + Send, W: Watch>(
+fn write_bag<'a, Y: FileSystem + Drop, H: Threads, S: BlockSource + Drop + Send, W: Watch>(
+    alloc: Global,
+    system: Y,
+    threads: &H,
+    image: TakenImage<S>,
+    words: &TakeWords<'a>,
+    watch: &W,
+) -> Result<BagSums, TakeFault<'a>>
+    ensures fault { IfErr result (IsTakeFault words.now) }
+    ensures sums { IfOk result (λ sums. OfKnown image.opened.known image.opened.len
+        (λ bytes. IsSumOf sums (bag_items (entries_in bytes)))) }
+{
+    let mut shelf = match FileShelf::create(alloc, system, words.folder) {
+        Ok(shelf) => shelf,
+        Err(back) => return Err(TakeFault::of_shelf(back.fault)),
+    };
+    match give_image(threads, alloc, &mut shelf, image, words, watch) {
+        Ok(sums) => place_bag(shelf, sums, words),
+        Err(fault) => {
+            let _system = shelf.take_away();
+            Err(TakeFault::of_bag(fault, words.image))
+        }
+    }
+}
+
+/// Takes an image apart that was opened, where nothing has the folder's name. Faults: `IsThere`; as [`write_bag`] has them.
+fn take_opened<'a, R: Files + AllocGlobal, H: Threads, S: BlockSource + Drop + Send, W: Watch>(
     rt: &R,
     threads: &H,
     image: TakenImage<S>,
@@ -56,17 +82,11 @@ fn write_bag<'a, R: Files + AllocGlobal, H: Threads, S: BlockSource + Drop + Sen
     ensures sums { IfOk result (λ sums. OfKnown image.opened.known image.opened.len
         (λ bytes. IsSumOf sums (bag_items (entries_in bytes)))) }
 {
-    let mut shelf = match FileShelf::create(rt, words.folder) {
-        Ok(shelf) => shelf,
-        Err(fault) => return Err(TakeFault::of_shelf(fault)),
-    };
-    match give_image(threads, rt.alloc(), &mut shelf, image, words, watch) {
-        Ok(sums) => place_bag(shelf, sums, words),
-        Err(fault) => {
-            shelf.take_away();
-            Err(TakeFault::of_bag(fault, words.image))
-        }
+    let mut system = SystemFiles::new(rt);
+    if system.is_there(words.folder) {
+        return Err(TakeFault::IsThere(words.folder));
     }
+    write_bag(rt.alloc(), system, threads, image, words, watch)
 }
 
 /// Takes the volume of an image apart: makes the folder a bag of all its items. Faults, the first that holds: the image can't be read; `NoVolume`, `SeveralVolumes`;
@@ -86,10 +106,7 @@ where
         Ok(opened) => opened,
         Err(fault) => return Err(TakeFault::Image(fault)),
     };
-    if is_there(rt, words.folder) {
-        return Err(TakeFault::IsThere(words.folder));
-    }
-    let sums = write_bag(rt, threads, image, words, watch)?;
+    let sums = take_opened(rt, threads, image, words, watch)?;
     Ok(Taken { sums, sum })
 }
 

@@ -6,7 +6,7 @@ use crate::commands::{
 };
 use crate::volumes::print_volume_info;
 use crate::words::{FileWords, ForkWords};
-use hfs_commands::{Fault, Format, open_part};
+use hfs_commands::{Fault, Format, open_part, part_blocks};
 
 /// Prints the master directory block. Without a number it is that of the image as it is.
 pub fn tell_info<'a>(
@@ -44,8 +44,7 @@ pub fn tell_list<'a>(
     dir: u32,
 ) -> Result<u8, Fault<'a>> {
     let part = open_part(rt, image, volume)?;
-    let len = part.len();
-    print_needed_list(rt, image, part, len, dir)
+    print_needed_list(rt, image, part_blocks(part), dir)
 }
 
 /// Prints the table of its items.

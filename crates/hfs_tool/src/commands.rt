@@ -2,6 +2,7 @@
 
 use crate::by_path::{print_fork_at, print_list_at, print_macbinary_at};
 use crate::by_volume::{tell_check, tell_fork, tell_info, tell_items, tell_list, tell_macbinary};
+use crate::extracting::extract_volume;
 use crate::pages::print_page;
 use crate::rescuing::{list_remains, rescue_volume};
 use crate::running::run_script_of;
@@ -11,17 +12,17 @@ use crate::volumes::print_volumes;
 use crate::words::{FileWords, ForkWords, NewVolume, Words};
 use hfs_check::MountFault;
 use hfs_commands::{
-    BlockSource, CheckAnswer, Fault, Format, NeededFile, NeededRepair, OpenedImage, RepairAnswer,
-    Status, WatchedFile, WatchedImage, code_text, needed_check_answer, needed_file,
-    needed_repair_answer, open_watched, opened_list_text, put_macbinary, refused_text,
-    repair_answer, run_info, write_items,
+    BlockSource, CheckAnswer, Fault, Format, NeededFile, NeededRepair, OpenedImage, PartBlocks,
+    RepairAnswer, Status, Unopened, WatchedFile, WatchedImage, code_text, needed_check_answer,
+    needed_file, needed_repair_answer, open_blocks, open_watched, put_macbinary, refused_text,
+    repair_answer, run_info, seen_list_text, write_items,
 };
 use hfs_console::{print_lines, tell_hint};
 use hfs_format::{FormatPlan, format};
 use hfs_model::Reply;
 use std::alloc::AllocError;
 use std::fs::File;
-use std::io::{Read, Write};
+use std::io::{Read, Seek, Write};
 use std::sync::Wait;
 use std::thread::Threads;
 
@@ -48,6 +49,7 @@ pub fn obey<'a, T: Threads + Wait + Sync>(
         Words::CatAt(words) => print_fork_at(rt, words),
         Words::MacBinaryAt(place) => print_macbinary_at(rt, place),
         Words::Volumes { file } => print_volumes(rt, *file),
+        Words::Extract(words) => extract_volume(rt, words),
         Words::Take(words) => take_volume(rt, threads, words),
         Words::Rescue(words) => rescue_volume(rt, words),
         Words::RescueList(words) => list_remains(rt, words),
@@ -112,16 +114,15 @@ pub fn print_needed_check<'a, S: BlockSource + Drop>(
 }
 
 /// Prints the children of a folder, of which the blocks are read that are needed.
-pub fn print_needed_list<'a, S: BlockSource + Drop>(
+pub fn print_needed_list<'a, F: Read + Seek + Drop>(
     rt: &HostRuntime,
     path: &'a str,
-    source: S,
-    len: u64,
+    blocks: PartBlocks<F>,
     dir: u32,
 ) -> Result<u8, Fault<'a>> {
-    match OpenedImage::open(rt.alloc(), source, len) {
-        Ok(image) => print_told(rt, opened_list_text(rt.alloc(), &image, dir)),
-        Err(fault) => Err(Fault::of_needed(fault, path)),
+    match open_blocks(rt.alloc(), blocks) {
+        Ok(image) => print_told(rt, seen_list_text(rt.alloc(), &image, dir)),
+        Err(Unopened { fault, source: _ }) => Err(Fault::of_needed(fault, path)),
     }
 }
 

@@ -28,16 +28,27 @@ pub(crate) const VOLUMES: &str = "How a volume lies in the file:
 A disk copy or a partition without a volume is listed, too, with
 'no volume' at the line's end.
 
-The words info, check, ls, items, page, cat, take and rescue read the
-N-th of them by --volume N, and by --volume 0 the file as it is.
-Without --volume they take a bare volume as it is, else the only
+The words info, check, ls, items, page, cat, extract, take and rescue
+read the N-th of them by --volume N, and by --volume 0 the file as it
+is. Without --volume they take a bare volume as it is, else the only
 volume inside, and rescue the only line, also one with 'no volume'; of
 several none. info, run and repair, and what comes out of a pipe, are
-taken as they are; run and repair know no --volume.
+taken as they are; run and repair know no --volume: extract makes a
+file of the volume for them.
 
 Not looked for: a map within a map or within a disk copy, Disk Copy 6
 and other compressed forms, images with sectors of 2,352 bytes, MFS,
 and HFS Plus without a wrapper.";
+
+/// What the word `extract` tells beside its arguments.
+pub(crate) const EXTRACTS: &str =
+    "Without --volume that is a bare volume as it is, else the only one
+inside; nothing is written of a file that holds none, or several. By
+--volume N it is the N-th that volumes lists, also one with 'no
+volume', and by --volume 0 the file as it is. Nothing is checked.
+
+OUT is written as OUT.0.new beside it, and gets its name when it is
+whole: after a fault it isn't there. Nothing is written over.";
 
 /// What the word `run` tells beside its arguments.
 pub(crate) const RUNS: &str = "Each line of the script is answered by a line: who called, the number
@@ -94,7 +105,7 @@ pub(crate) const TAKES: &str = "FOLDER becomes a bag:
   data/._NAME           an AppleDouble file: type, creator, the
                         Finder's bytes and the resource fork
   manifest-sha256.txt   the digest of each file below data
-  items.csv             the table of items
+  items.csv             the table of items, and where each lies in data
   volume.txt            the lines of info and of check
   bag-info.txt, bagit.txt, tagmanifest-sha256.txt
 
@@ -135,8 +146,8 @@ pub(crate) const AFTER_HELP: &str = "Exit statuses:
   2  the image is refused, or the plan of a new volume, or a script
   3  ls or cat met a code other than 0: -37 bad name, -43 not found,
      -120 no folder; rescue found something damaged
-  4  a file could not be read or written, or the folder of take or
-     rescue is there already
+  4  a file could not be read or written, or the file of extract or the
+     folder of take or rescue is there already
   5  out of memory, no place for a viewer, or a line of a script not
      answered
 
@@ -153,6 +164,7 @@ Examples:
   hfs_tool rescue damaged.img disk
   hfs_tool volumes hard_disk.img
   hfs_tool ls hard_disk.img --volume 1
+  hfs_tool extract hard_disk.img volume.img --volume 1
   hfs_collect disks.db disk.img hard_disk.img
   hfs_tool new disk.img Archive 800K
   hfs_tool repair disk.img mended.img

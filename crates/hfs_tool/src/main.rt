@@ -4,6 +4,7 @@
 mod by_path;
 mod by_volume;
 mod commands;
+mod extracting;
 mod help;
 mod pages;
 mod progress;

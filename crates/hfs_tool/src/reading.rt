@@ -2,6 +2,7 @@
 
 mod cat;
 mod check;
+mod extract;
 mod info;
 mod items;
 mod list;
@@ -19,6 +20,7 @@ use crate::words::Words;
 use cat::{cat_command, cat_words};
 use check::{check_command, check_words};
 use clap::{ArgMatches, Command, Error};
+use extract::{extract_command, extract_words};
 use hfs_arguments::{NoValue, Program, Word, with_word};
 use hfs_commands::Status;
 use hfs_console::{VERSION, WordsFault, refused_words};
@@ -54,7 +56,8 @@ fn command<'a>(alloc: Global) -> Result<Command<'a>, AllocError> {
     let with_page = with_word(with_items, page_command(alloc));
     let with_cat = with_word(with_page, cat_command(alloc));
     let with_volumes = with_word(with_cat, volumes_command(alloc));
-    let with_take = with_word(with_volumes, take_command(alloc));
+    let with_extract = with_word(with_volumes, extract_command(alloc));
+    let with_take = with_word(with_extract, take_command(alloc));
     let with_rescue = with_word(with_take, rescue_command(alloc));
     let with_new = with_word(with_rescue, new_command(alloc));
     let with_repair = with_word(with_new, repair_command(alloc));
@@ -132,6 +135,7 @@ fn words_behind<'a>(word: &str, inner: &ArgMatches<'a>) -> Result<Words<'a>, NoV
         "page" => page_words(inner),
         "cat" => cat_words(inner),
         "volumes" => volumes_words(inner),
+        "extract" => extract_words(inner),
         "take" => take_words(inner),
         "rescue" => rescue_words(inner),
         "new" => new_words(inner),

@@ -1,6 +1,8 @@
 //! Files and folders that are written, and what is told of those beside them.
 
-use hfs_commands::{Contents, Fault, Leftover, ReadContents, Saved, save_file, save_read};
+use hfs_commands::{
+    Contents, Fault, Leftover, ReadContents, Saved, save_file, save_new, save_read,
+};
 use hfs_take::left_folder;
 
 /// Writes a file, and answers which file beside it was left by a run that was stopped, if any was
@@ -22,6 +24,16 @@ pub fn save_as_read<'a, C: ReadContents>(
     contents: &mut C,
 ) -> Result<Option<Leftover>, Fault<'a>> {
     written(rt, save_read(rt, file, source, contents))
+}
+
+/// Makes a file as [`save_new`] does, of contents that are read from the file `source` as they are written.
+pub fn save_as_new<'a, C: ReadContents>(
+    rt: &HostRuntime,
+    file: &'a str,
+    source: &'a str,
+    contents: &mut C,
+) -> Result<Option<Leftover>, Fault<'a>> {
+    written(rt, save_new(rt, file, source, contents))
 }
 
 /// The folder beside this one that a run left that was stopped, if any is there.

@@ -1,14 +1,19 @@
 //! What the words do on volumes that lie in files.
 
 use crate::commands::print_info;
-use hfs_commands::{Fault, ReadAt, Status, open_file, open_part, volume_lines};
+use hfs_commands::{Fault, ReadAt, Status, content_of, open_file, open_part, volume_lines};
 use hfs_console::print_lines;
 
 /// Prints a line for each volume that lies in a file.
 pub fn print_volumes<'a>(rt: &HostRuntime, path: &'a str) -> Result<u8, Fault<'a>> {
-    let mut file = open_file(rt, path)?;
-    let len = file.len();
-    match volume_lines(rt.alloc(), &mut file, len) {
+    let file = open_file(rt, path)?;
+    let mut content = content_of(file, path)?;
+    let (len, layout) = (content.len(), content.source.layout());
+    let others = match content.source.others() {
+        Ok(others) => others,
+        Err(fault) => return Err(Fault::of_sparse(fault, path)),
+    };
+    match volume_lines(rt.alloc(), &mut content, len, layout, others) {
         Ok(Some(lines)) => {
             print_lines(rt, lines.as_str())?;
             Ok(Status::Done.number())

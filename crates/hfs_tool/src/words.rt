@@ -48,6 +48,8 @@ pub enum Words<'a> {
     Volumes {
         file: &'a str,
     },
+    /// `extract FILE OUT [--volume N]`: the bytes of a volume as a file of its own.
+    Extract(ExtractWords<'a>),
     /// `take IMAGE FOLDER [--volume N] [--no-digest]`: all items of the volume as a bag.
     Take(TakeWords<'a>),
     /// `rescue IMAGE FOLDER [--volume N] [--limit BYTES] [--no-digest]`: what remains of a damaged volume as a bag.
@@ -107,6 +109,7 @@ impl<'a> Words<'a> {
             Words::MacBinary(file) => (file.image, file.volume),
             Words::CatAt(words) => (words.place.image, words.place.volume),
             Words::Volumes { file } => (*file, None),
+            Words::Extract(words) => (words.file, words.volume),
             Words::Take(words) => (words.image, words.volume),
             Words::Rescue(words) => (words.words.image, words.words.volume),
             Words::RescueList(words) => (words.image, words.volume),
@@ -162,6 +165,17 @@ pub struct ForkPathWords<'a> {
     pub place: PathWords<'a>,
     /// Which of its forks.
     pub fork: Fork,
+}
+
+/// A volume, and the file that is made of it.
+#[derive(Clone, Copy)]
+pub struct ExtractWords<'a> {
+    /// The path of the file that it lies in.
+    pub file: &'a str,
+    /// The path of the file that is made.
+    pub out: &'a str,
+    /// The number of the volume, where one is asked for.
+    pub volume: Option<u64>,
 }
 
 /// A new volume, and the file that it is written to.

@@ -1,10 +1,10 @@
 //! Images by their paths.
 ghost use Rattle.std.specs.Prelude.{◌≡◌, None, IfOk};
-ghost use Rattle.hfs_commands.specs.OpenedFiles.{known_bytes};
+ghost use Rattle.hfs_commands.specs.OpenedFiles.{stored_bytes};
 
 use crate::watched::{ReadWatch, WatchedFile};
 use hfs_collection::ImageFile;
-use hfs_commands::{Fault, OpenedFile, Window, open_file};
+use hfs_commands::{Fault, StoredFile, Window, open_file};
 use hfs_sparse::SparseFault;
 use std::io::{Read, Seek};
 use std::rt::Files;
@@ -35,12 +35,12 @@ pub fn can_open_database<R: Files>(rt: &R) -> bool {
 }
 
 /// A file that can be sought in. Error: it can't be.
-fn sought<F: Read + Seek + Drop>(source: OpenedFile<F>) -> Result<OpenedFile<F>, SparseFault>
-    ensures { IfOk result (λ source. known_bytes source ≡ None) }
+fn sought<F: Read + Seek + Drop>(source: StoredFile<F>) -> Result<StoredFile<F>, SparseFault>
+    ensures { IfOk result (λ source. stored_bytes source ≡ None) }
 {
     match source {
-        OpenedFile::Seekable(file) => Ok(OpenedFile::Seekable(file)),
-        OpenedFile::Whole(_) => Err(SparseFault::ReadFailed),
+        StoredFile::Seekable(file) => Ok(StoredFile::Seekable(file)),
+        StoredFile::Whole(_) => Err(SparseFault::ReadFailed),
     }
 }
 

@@ -1,9 +1,9 @@
 //! A file that is read while somebody watches.
 ghost use Rattle.std.specs.Option.{option_map};
-ghost use Rattle.hfs_commands.specs.OpenedFiles.{known_bytes};
+ghost use Rattle.hfs_commands.specs.OpenedFiles.{stored_bytes};
 ghost use Rattle.hfs_containers.specs.Ranges.{bytes_in};
 
-use hfs_commands::{OpenedFile, Window};
+use hfs_commands::{StoredFile, Window};
 use hfs_containers::ReadAt;
 use std::io;
 use std::io::{Read, Seek};
@@ -20,12 +20,12 @@ pub trait ReadWatch {
 /// A file of which each read is told to a watch.
 #[derive(Drop)]
 pub struct WatchedFile<'a, F: Read + Seek, W: ReadWatch> {
-    pub(crate) file: Window<OpenedFile<F>>,
+    pub(crate) file: Window<StoredFile<F>>,
     pub(crate) watch: &'a W,
 }
 
 impl<F: Read + Seek, W: ReadWatch> ReadAt for WatchedFile<'_, F, W> {
-    ghost known = { λ watched. option_map (bytes_in watched.file.range) (known_bytes watched.file.source) };
+    ghost known = { λ watched. option_map (bytes_in watched.file.range) (stored_bytes watched.file.source) };
 
     fn read_at(&mut self, place: u64, into: &mut [u8]) -> io::Result<()> {
         self.file.read_at(place, into)?;

@@ -1,6 +1,6 @@
 //! The word `info`.
 
-use super::places::{IMAGE, VOLUME, volume_of};
+use super::places::{BARE_IMAGE, VOLUME, volume_of};
 use crate::words::Words;
 use clap::{ArgMatches, Command};
 use hfs_arguments::{NoValue, Word};
@@ -10,7 +10,7 @@ const INFO: Word = Word {
     name: "info",
     about: "Prints the fields of a volume's master directory block",
     after_help: None,
-    arguments: &[IMAGE, VOLUME],
+    arguments: &[BARE_IMAGE, VOLUME],
 };
 
 /// The command of `info`.
@@ -21,7 +21,7 @@ pub fn info_command<'a>(alloc: Global) -> Result<Command<'a>, AllocError> {
 /// What `info` asks for.
 pub fn info_words<'a>(matches: &ArgMatches<'a>) -> Result<Words<'a>, NoValue> {
     Ok(Words::Info {
-        image: IMAGE.text(matches)?,
+        image: BARE_IMAGE.text(matches)?,
         volume: volume_of(matches)?,
     })
 }

@@ -4,8 +4,16 @@ use crate::words::PathWords;
 use clap::ArgMatches;
 use hfs_arguments::{Argument, NoValue, Takes};
 
-/// The image of a volume, by its path.
+/// The image of a volume, by its path: the volume itself, or a file in which the only one is looked for.
 pub const IMAGE: Argument = Argument {
+    name: "IMAGE",
+    takes: Takes::Text,
+    help: "The image: the bare volume, or a file in which one volume lies",
+    excludes: &[],
+};
+
+/// The image of a volume that is taken as it is, by its path.
+pub const BARE_IMAGE: Argument = Argument {
     name: "IMAGE",
     takes: Takes::Text,
     help: "The image of the bare volume, beginning with its boot blocks",

@@ -1,6 +1,6 @@
 //! The word `repair`.
 
-use super::places::IMAGE;
+use super::places::BARE_IMAGE;
 use crate::words::Words;
 use clap::{ArgMatches, Command};
 use hfs_arguments::{Argument, NoValue, Takes, Word};
@@ -18,7 +18,7 @@ const REPAIR: Word = Word {
     name: "repair",
     about: "Writes a volume with its counts mended, where nothing else is wrong",
     after_help: None,
-    arguments: &[IMAGE, FILE],
+    arguments: &[BARE_IMAGE, FILE],
 };
 
 /// The command of `repair`.
@@ -29,7 +29,7 @@ pub fn repair_command<'a>(alloc: Global) -> Result<Command<'a>, AllocError> {
 /// What `repair` asks for.
 pub fn repair_words<'a>(matches: &ArgMatches<'a>) -> Result<Words<'a>, NoValue> {
     Ok(Words::Repair {
-        image: IMAGE.text(matches)?,
+        image: BARE_IMAGE.text(matches)?,
         file: FILE.text(matches)?,
     })
 }

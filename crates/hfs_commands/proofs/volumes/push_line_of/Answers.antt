@@ -11,6 +11,6 @@ unfolding line_of
 returns-in-Ok-clause-line g c =
     told-both (g.S.ReadAt.known c.args.source.now) (g.S.ReadAt.known c.volume_name.new.source) c.in_ok-name.ensures.known (volume_name_in c.args.found.now.range)
     (λ file. sum_told c.args.found.now.container (bytes_in c.args.found.now.range file))
-    (λ file. string_bytes c.args.text.now ++ line_of c.args.number c.args.found.now file) c.in_ok-name.name c.in_ok-sum.sum (string_bytes c.push_volume_line.new.text)
+    (λ file. string_bytes c.args.text.now ++ line_of c.args.others c.args.number c.args.found.now file) c.in_ok-name.name c.in_ok-sum.sum (string_bytes c.push_volume_line.new.text)
     c.in_ok-name.ensures.name c.in_ok-sum.ensures.told
-    (λ file name sum. c.in-Ok.ensures ∙ (λ i. string_bytes c.args.text.now ++ volume_line c.args.number c.args.found.now (name i) (sum i)))
+    (λ file name sum. c.in-Ok.ensures ∙ (λ i. string_bytes c.args.text.now ++ volume_line c.args.number c.args.found.now (name i) (sum i) c.args.others))

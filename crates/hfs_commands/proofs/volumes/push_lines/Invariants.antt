@@ -5,6 +5,6 @@ use Rattle.hfs_commands.proofs.volumes.push_lines.Given as goal
 
 abbrev pub invariant-loop-i : goal.invariant-loop-i
 invariant-loop-i g l = record {
-  lines : LinesLeft (g.S.ReadAt.known l.initial.source) (string_bytes l.text) l.i l.ranges (string_bytes l.initial.text);
+  lines : LinesLeft l.others (g.S.ReadAt.known l.initial.source) (string_bytes l.text) l.i l.ranges (string_bytes l.initial.text);
   known : g.S.ReadAt.known l.source ≡ g.S.ReadAt.known l.initial.source;
 }

@@ -1,7 +1,7 @@
 -- The head is the first piece of the table.
 use Rattle.std.proofs.Common.{List, ℕ, ◌++◌, sym, ap, subst, ◌∙◌}
 use Rattle.std.specs.Option.{is_some}
-use Rattle.hfs_table.specs.Lines.{csv_head}
+use Rattle.hfs_table.specs.Lines.{bag_head}
 use Rattle.hfs_rescue_items.specs.Bytes.{image_in}
 use Rattle.hfs_rescue_items.specs.Lines.{item_line}
 use Rattle.hfs_rescue_items.specs.declared.reading.Reading.{Reading}
@@ -16,4 +16,4 @@ returns-in_ok-push_table_head-in-Table-clause-read g c =
     let rest = lines_rest (item_line found) c.in-Table.lines in
     let piece = c.push_table_head.new.piece.items in
     subst (λ (r : Reading). Reads (is_some known) piece (reading_rest (image_in known) found r) rest) (sym c.in-Table.is)
-    (head_read (is_some known) piece rest (c.in_ok-push_table_head-in-Table.ensures ∙ ap (λ (xs : List ℕ). xs ++ csv_head) c.clear.ensures.items))
+    (head_read (is_some known) piece rest (c.in_ok-push_table_head-in-Table.ensures ∙ ap (λ (xs : List ℕ). xs ++ bag_head) c.clear.ensures.items))

@@ -11,7 +11,7 @@ use Rattle.hfs_salvage.proofs.filling.write_bag.Goals as goal
 pub returns-in-Err-clause-fault : goal.returns-in-Err-clause-fault
 returns-in-Err-clause-fault g c =
     let words = as_take_words c.args.words.now in
-    of_shelf words c.in-Err.fault c.of_shelf.result c.of_shelf.ensures (uncreated words.folder.now c.in-Err.fault c.in-Err.ensures.told)
+    of_shelf words c.in-Err.back.fault c.of_shelf.result c.of_shelf.ensures (uncreated words.folder.now c.in-Err.back.fault c.in-Err.ensures.told)
 
 pub returns-in-Err-give_remains-clause-fault : goal.returns-in-Err-give_remains-clause-fault
 returns-in-Err-give_remains-clause-fault g c =

@@ -8,7 +8,7 @@ use Rattle.hfs_take.proofs.taking.write_bag.Goals as goal
 
 pub returns-in-Err-clause-fault : goal.returns-in-Err-clause-fault
 returns-in-Err-clause-fault g c =
-    of_shelf c.args.words.now c.in-Err.fault c.of_shelf.result c.of_shelf.ensures (uncreated c.args.words.now.folder.now c.in-Err.fault c.in-Err.ensures.told)
+    of_shelf c.args.words.now c.in-Err.back.fault c.of_shelf.result c.of_shelf.ensures (uncreated c.args.words.now.folder.now c.in-Err.back.fault c.in-Err.ensures.told)
 
 pub returns-in-Err-give_image-clause-fault : goal.returns-in-Err-give_image-clause-fault
 returns-in-Err-give_image-clause-fault g c =

@@ -1,0 +1,50 @@
+-- Volumes that are written as files of their own: what is said of each image that has the bytes which were read.
+use Rattle.std.specs.Prelude.{◌≡◌, ◌⊎◌, ℕ, Bool, false, ◌==◌, if◌then◌else◌, List, ◌++◌, codes, length, take, drop, Option, Some, None}
+use Rattle.std.specs.Borrow.{Bor}
+use Rattle.std.specs.Fmt.{decimal}
+use Rattle.std.specs.Option.{is_some}
+use Rattle.std.specs.Io.KnownBytes.{Appends}
+use Rattle.hfs_containers.specs.Ranges.{range_of, volume_name_in}
+use Rattle.hfs_containers.specs.Reading.{IsTold}
+use Rattle.hfs_source.specs.Images.{OfEach}
+use Rattle.hfs_texts.specs.Lines.{line}
+use Rattle.hfs_texts.specs.Writing.{AppendsFront}
+use Rattle.hfs_commands.specs.declared.fault.Fault.{Fault}
+use Rattle.hfs_commands.specs.declared.fault.Fault.TheVariants.{CannotRead, NoMemory, NoVolumes}
+
+-- so many bytes from a place on
+abbrev pub bytes_from : ℕ → ℕ → List ℕ → List ℕ
+bytes_from place count image = take count (drop place image)
+
+-- what a writer had grew by so many of the image's bytes from a place on
+abbrev pub WritesAt : (List ℕ → Type 0) → ℕ → ℕ → Option (List ℕ) → Option (List ℕ) → Type 0
+WritesAt Holds place count old new = OfEach Holds (λ image. Appends old new (bytes_from place count image))
+
+-- or by some of these, from the first on
+abbrev pub WritesFrontAt : (List ℕ → Type 0) → ℕ → ℕ → Option (List ℕ) → Option (List ℕ) → Type 0
+WritesFrontAt Holds place count old new = OfEach Holds (λ image. AppendsFront old new (bytes_from place count image))
+
+-- what a writer had grew by all bytes of the image, where it has so many: each once, in their order
+abbrev pub WritesAll : (List ℕ → Type 0) → ℕ → Option (List ℕ) → Option (List ℕ) → Type 0
+WritesAll Holds len old new = OfEach Holds (λ image. length image ≡ len → Appends old new image)
+
+-- or by some of them, from the first on
+abbrev pub WritesFront : (List ℕ → Type 0) → ℕ → Option (List ℕ) → Option (List ℕ) → Type 0
+WritesFront Holds len old new = OfEach Holds (λ image. length image ≡ len → AppendsFront old new image)
+
+-- the bytes of an image, where they are known, and are so many
+abbrev pub sized_bytes : Option (List ℕ) → ℕ → Option (List ℕ)
+sized_bytes None len = None
+sized_bytes (Some image) len = if length image == len then Some image else None
+
+-- whether so many bytes hold a volume
+abbrev pub holds_volume : ℕ → List ℕ → Bool
+holds_volume len bytes = is_some (volume_name_in (range_of 0 len) bytes)
+
+-- nothing is written: there is no volume, where the bytes are known; or they can't be read
+abbrev pub IsNoVolume : Option (List ℕ) → ℕ → Bor (List ℕ) → Fault → Type 0
+IsNoVolume known len path why = ((why ≡ NoVolumes) × IsTold known (holds_volume len) false) ⊎ ((why ≡ CannotRead path) ⊎ (why ≡ NoMemory))
+
+-- what is printed of a volume of so many bytes
+unfoldable pub extracted_text : ℕ → List ℕ
+extracted_text len = codes "extracted\n" ++ line (codes "bytes") (decimal len)

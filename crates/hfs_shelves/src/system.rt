@@ -1,0 +1,69 @@
+//! What a shelf of files asks of the system.
+ghost use Rattle.std.specs.Prelude.{◌≡◌, ◌∷◌, List, MatchResult};
+ghost use Rattle.std.specs.Time.{system_time_nanos};
+ghost use Rattle.hfs_shelves.specs.SystemSteps.{Does, SystemStep, made_folder, opened, wrote, timed, closed, moved, removed_folder, looked, done, failed, makes_file};
+ghost use Rattle.hfs_shelves.specs.FileRemovals.{removal_of};
+ghost use Rattle.hfs_shelves.specs.declared.system.Removal.TheVariants as found;
+
+use std::fs::OpenOptions;
+use std::io;
+use std::io::Read;
+use std::time::SystemTime;
+
+/// What a path was at which a file was to be removed.
+#[derive(Clone, Copy, Drop)]
+pub enum Removal {
+    /// Nothing but a folder is there any more.
+    Gone,
+    /// A folder, which stays.
+    Folder,
+}
+
+/// A system of files. Contracts know it by the list of what was asked of it and what came of each, the last first.
+pub trait FileSystem {
+    ghost did: { Self → List SystemStep };
+
+    /// A folder's names, each ended by a zero byte.
+    type Names: Read + Drop;
+
+    /// Makes a folder, where nothing has its path.
+    fn make_folder(&mut self, path: &str) -> io::Result<()>
+        ensures { Does result (made_folder path.now) (did self.old) (did self.new) };
+
+    /// Opens a file, in place of the one that was opened last.
+    fn open_file(&mut self, how: &OpenOptions, path: &str) -> io::Result<()>
+        ensures { Does result (opened (makes_file how.now) path.now) (did self.old) (did self.new) };
+
+    /// Lays bytes behind those of the file that was opened last. Where that fails, the file is let go of.
+    fn write(&mut self, bytes: &[u8]) -> io::Result<()>
+        ensures { Does result (wrote bytes.now) (did self.old) (did self.new) };
+
+    /// Gives the file that was opened last this time of its last change.
+    fn set_time(&mut self, time: SystemTime) -> io::Result<()>
+        ensures { Does result (timed (system_time_nanos time)) (did self.old) (did self.new) };
+
+    /// Lets go of the file that was opened last.
+    fn close(&mut self)
+        ensures { did self.new ≡ done closed ∷ did self.old };
+
+    /// Gives what has the first path the second.
+    fn rename(&mut self, from: &str, to: &str) -> io::Result<()>
+        ensures { Does result (moved from.now to.now) (did self.old) (did self.new) };
+
+    /// Removes what is at a path, a link and not what it leads to; a folder stays.
+    fn remove_file(&mut self, path: &str) -> io::Result<Removal>
+        ensures { MatchResult result
+            (λ found. did self.new ≡ done (removal_of found path.now) ∷ did self.old)
+            (λ _. did self.new ≡ failed (removal_of found.Gone path.now) ∷ did self.old) };
+
+    /// Removes a folder, where nothing lies in it.
+    fn remove_folder(&mut self, path: &str) -> io::Result<()>
+        ensures { Does result (removed_folder path.now) (did self.old) (did self.new) };
+
+    /// The names of what lies in a folder.
+    fn names(&self, folder: &str) -> io::Result<Self::Names>;
+
+    /// Whether anything has this path, a link that leads nowhere too.
+    fn is_there(&mut self, path: &str) -> bool
+        ensures { did self.new ≡ done (looked path.now result) ∷ did self.old };
+}
