@@ -10,6 +10,7 @@ use Rattle.hfs_model.specs.declared.reply.Reply.{Reply}
 use Rattle.hfs_model.specs.Changes.{Outcome, new_folder, new_file}
 use Rattle.hfs_model.specs.Children.{child_named, entries_of}
 use Rattle.hfs_model.specs.FileIds.{resolve_file_id, place_reply, file_of_id}
+use Rattle.hfs_model.specs.declared.journal.Want.{Want}
 use Rattle.hfs_model.specs.Need.{need, full, meets_want_of_nodes, step_within}
 use Rattle.hfs_model.specs.Reading.{get_dir_info, get_cat_info, get_indexed, list, read_fork}
 use Rattle.hfs_model.specs.Runs.{after_entry}
@@ -107,11 +108,11 @@ alike_within keep free depth v w c alike =
 
 pub alike_after : AlikeAfter
 alike_after keep v w [] alike = alike
-alike_after keep v w (e ∷ es) alike = alike_after keep (after_entry v e) (after_entry w e) es (by e.full)
+alike_after keep v w (e ∷ es) alike = alike_after keep (after_entry v e) (after_entry w e) es (by e.want)
   where
-    by : (o : Option (ℕ × ℕ)) → AreAlike keep (option_map_or (λ _. v) o (step v e.call).0) (option_map_or (λ _. w) o (step w e.call).0)
+    by : (o : Option Want) → AreAlike keep (option_map_or (λ _. v) o (step v e.call).0) (option_map_or (λ _. w) o (step w e.call).0)
     by None = (alike_volumes_answer_alike keep v w e.call alike).volumes
-    by (Some full) = alike
+    by (Some wanting) = alike
 
 -- the entries of alike volumes are the same but for the bytes of forks
 same-entries : (keep : ℕ → Bool) (v w : Volume) → AreAlike keep v w → map (bare keep) (entries_of w) ≡ map (bare keep) (entries_of v)

@@ -18,6 +18,7 @@ use Rattle.hfs_model.specs.declared.reply.Reply.{Reply}
 use Rattle.hfs_model.specs.Volume.{Volume, Items, Entry}
 use Rattle.hfs_model.specs.Children.{child_named, is_child_named, entries_of, entry_at, is_folder, is_folder_kind}
 use Rattle.hfs_model.specs.Lawful.{Has}
+use Rattle.hfs_model.specs.declared.journal.Want.{Want}
 use Rattle.hfs_model.specs.Need.{step_within, need, full}
 use Rattle.hfs_model.specs.Reading.{read_fork}
 use Rattle.hfs_model.specs.Replies.{is_accepted, has_thread}
@@ -267,11 +268,11 @@ module _ (keep : ℕ → Bool) where
     }
 
     enters : (e : JournalEntry) → In e.call calls → KeepsNamed keep calls (after_entry v e)
-    enters e asked = by e.full
+    enters e asked = by e.want
       where
-        by : (o : Option (ℕ × ℕ)) → KeepsNamed keep calls (option_map_or (λ _. v) o (step v e.call).0)
+        by : (o : Option Want) → KeepsNamed keep calls (option_map_or (λ _. v) o (step v e.call).0)
         by None = stays (step v e.call).0 (steps e.call asked)
-        by (Some full) = h
+        by (Some wanting) = h
 
 -- ---- the laws
 

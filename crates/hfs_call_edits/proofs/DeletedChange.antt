@@ -1,5 +1,5 @@
 -- What a Delete answers, and the change that it makes of an edited volume.
-use Rattle.std.proofs.Common.{◌≡◌, ℕ, ℤ, List, refl, sym, ◌∙◌, ap, subst, Ok, Err, Result}
+use Rattle.std.proofs.Common.{◌≡◌, ℕ, ℤ, List, refl, sym, ◌∙◌, ap, subst, None, Ok, Err, Result}
 use Rattle.std.specs.FinMap as map
 use Rattle.hfs_fields.specs.declared.key.CatKey.{CatKey}
 use Rattle.hfs_fields.specs.declared.dir_record.DirRecord.{DirRecord}
@@ -37,25 +37,27 @@ module _ (v : Volume) (dir now : ℕ) (name : List ℕ) where
 module _ {B : Type 0} (blocks : B → Blocks) (totals : B → ℕ) (value own : B) (view_is : own ≡ value) where
   pub folder_change : CatalogEditsAreSteps → (dir now : ℕ) (key : CatKey) (folder : DirRecord) (mdb counts : Mdb) (patch : Numbered) → mdb ≡ mdb_in (blocks value) → counts ≡ without_folder dir now mdb
       → AreBlocksSound (totals value) (blocks value) → AreWithin (changes patch) (totals own) → MakesFolderDeletion dir key folder now (blocks own) (over (changes patch) (blocks own))
-      → IsFolderDeletion dir key folder now (totals value) (blocks value) (record { patch = patch; counts = counts; value = answer.Nothing })
+      → IsFolderDeletion dir key folder now (totals value) (blocks value) (record { patch = patch; counts = counts; written = None; value = answer.Nothing })
   folder_change law dir now key folder mdb counts patch at is sound within makes name ch =
       let old = blocks value in
       let made = subst (λ (b : B). MakesFolderDeletion dir key folder now (blocks b) (over (changes patch) (blocks b))) view_is makes name ch in
       record {
         within = subst (λ (b : B). AreWithin (changes patch) (totals b)) view_is within;
         stepped = law (call.Delete dir name now) (without_folder dir now (mdb_in old)) (totals value) old (over (changes patch) old) sound made;
+        unwritten = refl;
         directory = made.edits.mdb ∙ ap (λ (m : Mdb). with_counts m (mdb_in old)) (sym (is ∙ ap (without_folder dir now) at));
         reply = delete_accepted (volume_in old) dir now name _ ch.choice.is;
       }
 
   pub file_change : (dir now : ℕ) (key : CatKey) (file : FileRecord) (counts : Mdb) (patch : Numbered) → AreWithin (changes patch) (totals own)
       → MakesFileDeletion dir key file now (totals own) (blocks own) counts (over (changes patch) (blocks own))
-      → IsFileDeletion dir key file now (totals value) (blocks value) (record { patch = patch; counts = counts; value = answer.Nothing })
+      → IsFileDeletion dir key file now (totals value) (blocks value) (record { patch = patch; counts = counts; written = None; value = answer.Nothing })
   file_change dir now key file counts patch within makes name ch =
       let made = subst (λ (b : B). MakesFileDeletion dir key file now (totals b) (blocks b) counts (over (changes patch) (blocks b))) view_is makes name ch in
       record {
         within = subst (λ (b : B). AreWithin (changes patch) (totals b)) view_is within;
         stepped = made.stepped;
+        unwritten = refl;
         directory = made.directory;
         reply = delete_accepted (volume_in (blocks value)) dir now name _ ch.choice.is;
       }

@@ -1,5 +1,5 @@
 -- What the fields of an edited volume say of its blocks, and what an edit answers.
-use Rattle.std.proofs.Common.{◌≡◌, ℕ, ℤ, Bool, true, false, ◌&&◌, List, refl, sym, ◌∙◌, ap, subst, arith, Ok, Err, Result}
+use Rattle.std.proofs.Common.{◌≡◌, ℕ, ℤ, Bool, true, false, ◌&&◌, List, refl, sym, ◌∙◌, ap, subst, arith, None, Ok, Err, Result}
 use Rattle.std.specs.Prelude.{nat_lt}
 use Rattle.std.proofs.lemmas.Bool.{le-ltb}
 use Rattle.hfs_fields.specs.declared.key.CatKey.{CatKey}
@@ -100,7 +100,7 @@ none_wanted c old none = none_lacking (is_accepted (step (volume_in old) c).1) (
 -- ---- edits of calls that need no nodes
 
 module _ {B : Type 0} (blocks : B → Blocks) (totals : B → ℕ) (value own : B) (view_is : own ≡ value) where
-  pub change_of : CatalogEditsAreSteps → (c : Call) → ((depth : ℕ) → need c depth ≡ 0) → (patch : Numbered) (now : ℕ) (made : Change) → made ≡ record { patch = patch; counts = at_time now (mdb_in (blocks value)); value = answer.Nothing }
+  pub change_of : CatalogEditsAreSteps → (c : Call) → ((depth : ℕ) → need c depth ≡ 0) → (patch : Numbered) (now : ℕ) (made : Change) → made ≡ record { patch = patch; counts = at_time now (mdb_in (blocks value)); written = None; value = answer.Nothing }
       → AreBlocksSound (totals value) (blocks value) → AreWithin (changes patch) (totals own) → MakesAt c now (blocks own) (over (changes patch) (blocks own))
       → (step (volume_in (blocks value)) c).1 ≡ success answer.Nothing → IsEditOf c (totals value) (blocks value) (Ok made)
   change_of law c none patch now made is sound within makes reply =
@@ -111,6 +111,7 @@ module _ {B : Type 0} (blocks : B → Blocks) (totals : B → ℕ) (value own : 
         comes = record {
           within = subst (λ (b : B). AreWithin (changes patch) (totals b)) view_is within;
           stepped = law c (at_time now (mdb_in (blocks value))) (totals value) (blocks value) new sound made_here;
+          unwritten = refl;
           directory = made_here.edits.mdb;
           reply = reply;
         };

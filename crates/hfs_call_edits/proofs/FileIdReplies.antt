@@ -1,5 +1,5 @@
 -- What the calls on file IDs answer, and the changes that they are.
-use Rattle.std.proofs.Common.{◌≡◌, ℕ, ℤ, true, false, List, sym, ap, subst, Ok, Err, Result}
+use Rattle.std.proofs.Common.{◌≡◌, ℕ, ℤ, true, false, List, refl, sym, ap, subst, None, Ok, Err, Result}
 use Rattle.hfs_blocks.specs.Layers.{Numbered, changes, over, AreWithin}
 use Rattle.hfs_model.specs.declared.call.Call.{Call}
 use Rattle.hfs_model.specs.declared.call.Call.TheVariants as call
@@ -37,7 +37,7 @@ module _ (v : Volume) (now : ℕ) where
 
 -- a change that answers an ID, by a call that has the nodes that it needs
 pub change_to : {B : Type 0} (blocks : B → Blocks) (totals : B → ℕ) (value own : B) (view_is : own ≡ value) → CatalogEditsAreSteps → (c : Call) → wants_nodes c (blocks value) ≡ false
-    → (patch : Numbered) (now id : ℕ) (made : Change) → made ≡ record { patch = patch; counts = at_time now (mdb_in (blocks value)); value = answer.Id id }
+    → (patch : Numbered) (now id : ℕ) (made : Change) → made ≡ record { patch = patch; counts = at_time now (mdb_in (blocks value)); written = None; value = answer.Id id }
     → AreBlocksSound (totals value) (blocks value) → AreWithin (changes patch) (totals own) → MakesAt c now (blocks own) (over (changes patch) (blocks own))
     → (step (volume_in (blocks value)) c).1 ≡ success (answer.Id id) → IsEditOf c (totals value) (blocks value) (Ok made)
 change_to blocks totals value own view_is law c enough patch now id made is sound within makes reply =
@@ -48,6 +48,7 @@ change_to blocks totals value own view_is law c enough patch now id made is soun
       comes = record {
         within = subst (λ b. AreWithin (changes patch) (totals b)) view_is within;
         stepped = law c (at_time now (mdb_in (blocks value))) (totals value) (blocks value) new sound made_here;
+        unwritten = refl;
         directory = made_here.edits.mdb;
         reply = reply;
       };

@@ -1,5 +1,5 @@
 -- What an edit answers, where a patch makes the step of a call that has the nodes which it needs.
-use Rattle.std.proofs.Common.{◌≡◌, ℕ, ℤ, false, sym, ap, subst, Ok, Err, Result}
+use Rattle.std.proofs.Common.{◌≡◌, ℕ, ℤ, false, refl, sym, ap, subst, None, Ok, Err, Result}
 use Rattle.hfs_fields.specs.declared.mdb.Mdb.{Mdb}
 use Rattle.hfs_blocks.specs.Layers.{Numbered, changes, over, AreWithin}
 use Rattle.hfs_model.specs.declared.call.Call.{Call}
@@ -17,7 +17,7 @@ use Rattle.hfs_call_edits.specs.Edits.{IsEditOf, wants_nodes}
 
 module _ {B : Type 0} (blocks : B → Blocks) (totals : B → ℕ) (now own : B) (view_is : own ≡ now) where
   pub step_made : CatalogEditsAreSteps → (c : Call) → wants_nodes c (blocks now) ≡ false → (patch : Numbered) (counts : Blocks → Mdb) (made : Change)
-      → made ≡ record { patch = patch; counts = counts (blocks now); value = value.Nothing }
+      → made ≡ record { patch = patch; counts = counts (blocks now); written = None; value = value.Nothing }
       → AreBlocksSound (totals now) (blocks now) → AreWithin (changes patch) (totals own) → MakesStep c (counts (blocks own)) (blocks own) (over (changes patch) (blocks own))
       → (step (volume_in (blocks now)) c).1 ≡ success value.Nothing → IsEditOf c (totals now) (blocks now) (Ok made)
   step_made law c enough patch counts made is sound within makes reply =
@@ -28,6 +28,7 @@ module _ {B : Type 0} (blocks : B → Blocks) (totals : B → ℕ) (now own : B)
         comes = record {
           within = subst (λ (b : B). AreWithin (changes patch) (totals b)) view_is within;
           stepped = law c (counts (blocks now)) (totals now) (blocks now) new sound made_here;
+          unwritten = refl;
           directory = made_here.edits.mdb;
           reply = reply;
         };

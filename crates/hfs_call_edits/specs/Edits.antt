@@ -1,5 +1,5 @@
 -- What calls that change a volume choose in its blocks, and what they make of them.
-use Rattle.std.specs.Prelude.{◌≡◌, ℕ, ℤ, Bool, true, false, IsTrue, List, Result, Ok, Err, Option}
+use Rattle.std.specs.Prelude.{◌≡◌, ℕ, ℤ, Bool, true, false, IsTrue, List, Result, Ok, Err, Option, None}
 use Rattle.std.specs.Result.{MatchResult}
 use Rattle.hfs_fields.specs.declared.key.CatKey.{CatKey}
 use Rattle.hfs_fields.specs.declared.mdb.Mdb.{Mdb}
@@ -107,7 +107,7 @@ FindsParent old dir result = MatchOption result (is_folder (catalog_in old) dir 
 
 -- the change with this patch and this answer, which of the counts changes the moment of the last change alone
 abbrev pub change_at : ℕ → Blocks → Numbered → Value → Change
-change_at now old patch answer = record { patch = patch; counts = at_time now (mdb_in old); value = answer }
+change_at now old patch answer = record { patch = patch; counts = at_time now (mdb_in old); written = None; value = answer }
 
 -- whether the call meets want of nodes in the volume's catalog
 abbrev pub wants_nodes : Call → Blocks → Bool

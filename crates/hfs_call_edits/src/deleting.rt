@@ -76,6 +76,7 @@ impl<B: Blocks> Editing<'_, B> {
         Ok(Change {
             patch,
             counts: without_folder(self.mdb, dir, now),
+            written: None,
             value: Value::Nothing,
         })
     }
@@ -112,6 +113,7 @@ impl<B: Blocks> Editing<'_, B> {
         Ok(Change {
             patch: made.0,
             counts: made.1,
+            written: None,
             value: Value::Nothing,
         })
     }

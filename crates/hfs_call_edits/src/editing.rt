@@ -116,6 +116,7 @@ impl<'a, B: Blocks> Editing<'a, B> {
                 modified: now,
                 ..*self.mdb
             },
+            written: None,
             value: Value::Nothing,
         }
     }

@@ -1,6 +1,6 @@
 //! CatMove.
 
-ghost use Rattle.std.specs.Prelude.{◌≡◌};
+ghost use Rattle.std.specs.Prelude.{◌≡◌, None};
 ghost use Rattle.hfs_model.specs.declared.call.Call.TheVariants as call;
 ghost use Rattle.hfs_model.specs.declared.reply.Value.TheVariants as value;
 ghost use Rattle.hfs_call_edits.specs.Edits.{IsEditOf};
@@ -18,11 +18,12 @@ use std::alloc::{AllocError, Global};
 
 /// A change of blocks and counts, which answers nothing.
 fn change_of(patch: Patch, counts: Mdb) -> Change
-    ensures { result ≡ record { patch = patch; counts = counts; value = value.Nothing } }
+    ensures { result ≡ record { patch = patch; counts = counts; written = None; value = value.Nothing } }
 {
     Change {
         patch,
         counts,
+        written: None,
         value: Value::Nothing,
     }
 }

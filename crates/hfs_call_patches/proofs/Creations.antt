@@ -107,7 +107,7 @@ module _ (total dir : ℕ) (old : Blocks) (runs : List Run) (mdb : Mdb) (place :
     valence_same P p = subst (λ (n : ℕ). P (n + 1)) ready.chosen.own_children p
 
     pub file_change : CreateMakes → counts ≡ with_file dir now mdb → PutsFile mdb.next_id dir place now (catalog_nodes old) middle → HasCatalog counts (catalog_of middle) old new
-        → IsChangeOf (call.Create dir place.name now) total old (record { patch = patch; counts = counts; value = answer.Id mdb.next_id })
+        → IsChangeOf (call.Create dir place.name now) total old (record { patch = patch; counts = counts; written = None; value = answer.Id mdb.next_id })
     unfolding catalog_in
     file_change makes counted puts done =
         let put = subst (λ (m : Mdb). HasPutFile m.next_id dir place now r (catalog_nodes old) middle) ready.directory (puts r own) in
@@ -124,12 +124,13 @@ module _ (total dir : ℕ) (old : Blocks) (runs : List Run) (mdb : Mdb) (place :
         record {
           within = within;
           stepped = law (call.Create dir place.name now) (with_file dir now (mdb_in old)) total old new ready.sound made;
+          unwritten = refl;
           directory = made.edits.mdb ∙ ap (λ (m : Mdb). with_counts m (mdb_in old)) (sym is);
           reply = file_answered (volume_in old) dir now place.name _ ready.chosen.is ∙ ap (λ (m : Mdb). success (answer.Id m.next_id)) (sym ready.directory);
         }
 
     pub folder_change : DirCreateMakes → counts ≡ with_folder dir now mdb → PutsFolder mdb.next_id dir place now (catalog_nodes old) middle → HasCatalog counts (catalog_of middle) old new
-        → IsChangeOf (call.DirCreate dir place.name now) total old (record { patch = patch; counts = counts; value = answer.Id mdb.next_id })
+        → IsChangeOf (call.DirCreate dir place.name now) total old (record { patch = patch; counts = counts; written = None; value = answer.Id mdb.next_id })
     unfolding catalog_in
     folder_change makes counted puts done =
         let put = subst (λ (m : Mdb). HasPutFolder m.next_id dir place now r (catalog_nodes old) middle) ready.directory (puts r own) in
@@ -149,6 +150,7 @@ module _ (total dir : ℕ) (old : Blocks) (runs : List Run) (mdb : Mdb) (place :
         record {
           within = within;
           stepped = law (call.DirCreate dir place.name now) (with_folder dir now (mdb_in old)) total old new ready.sound made;
+          unwritten = refl;
           directory = made.edits.mdb ∙ ap (λ (m : Mdb). with_counts m (mdb_in old)) (sym is);
           reply = folder_answered (volume_in old) dir now place.name _ ready.chosen.is ∙ ap (λ (m : Mdb). success (answer.Id m.next_id)) (sym ready.directory);
         }

@@ -43,6 +43,7 @@ pub fn add_new_file<B: Blocks>(
     Ok(Change {
         patch,
         counts,
+        written: None,
         value: Value::Id(mdb.next_id),
     })
 }
@@ -72,6 +73,7 @@ pub fn add_new_folder<B: Blocks>(
     Ok(Change {
         patch,
         counts,
+        written: None,
         value: Value::Id(mdb.next_id),
     })
 }

@@ -148,5 +148,5 @@ module _ (contents : Contents) (next : ℕ) (catalog : Catalog) (h : IsSoundCata
 
   pub records_are_children : 16 ≤ next → ChildrenAreOne → children_in contents catalog dir ≡ children (fin.entries (items_in contents catalog)) dir
   records_are_children least one =
-      let v : Volume = record { items = items_in contents catalog; next_id = next; changed = 0; hardware_locked = false; software_locked = false } in
+      let v : Volume = record { items = items_in contents catalog; next_id = next; changed = 0; hardware_locked = false; software_locked = false; block_size = 512 } in
       one v (sound_is_lawful contents next catalog least h) dir (children_in contents catalog dir) are_children

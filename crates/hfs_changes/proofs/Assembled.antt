@@ -17,7 +17,8 @@ use Rattle.hfs_space.specs.TreeKeys.{ext_keys}
 use Rattle.hfs_catalog.specs.Sound.{AreIdsSound, AreCountsSound}
 use Rattle.hfs_check.specs.Parts.{Blocks, mdb_in, extents_nodes, overflow_in, catalog_extents, catalog_nodes, catalog_in, owned_in, is_marked_in}
 use Rattle.hfs_check.specs.Sound.{IsMdbSound, IsExtentsSound, IsCatalogFileSound, AreBlocksSound}
-use Rattle.hfs_check.specs.Agree.{bitmap_blocks, node_blocks, changing_blocks, IsBeside, KeepsVolume}
+use Rattle.hfs_check.specs.Agree.{bitmap_blocks, node_blocks, changing_blocks, IsBeside}
+use Rattle.hfs_check.proofs.Stays.{KeepsVolume}
 use Rattle.hfs_changes.proofs.OnBlockLemmas.{IsCatalogEdit}
 use Rattle.hfs_changes.proofs.Space.{owned_each, space_same}
 use Rattle.hfs_changes.proofs.CatalogEdits.{extents_stay, overflow_stays, catalog_extents_stay, bitmap_stays, clear_stays}

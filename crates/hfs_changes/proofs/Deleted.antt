@@ -29,7 +29,7 @@ use Rattle.hfs_check.specs.Parts.{Blocks, mdb_in, extents_nodes, overflow_in, ca
 use Rattle.hfs_check.specs.Sound.{IsMdbSound, IsForkKey, IsExtentsSound, IsCatalogFileSound, AreBlocksSound}
 use Rattle.hfs_check.proofs.LawTypes.{CatalogIsSound}
 use Rattle.hfs_check.specs.VolumeOf.{contents_in, volume_in}
-use Rattle.hfs_check.specs.Agree.{KeepsVolume}
+use Rattle.hfs_check.proofs.Stays.{KeepsVolume}
 use Rattle.hfs_changes.proofs.ChangesLaws.{KeepsContents}
 use Rattle.hfs_changes.specs.Deletion.{MakesDeletion, DeletionsAreSteps}
 use Rattle.hfs_changes.specs.Laws.{IsStepped}
@@ -209,7 +209,7 @@ module _ (records : ItemsAreRecords) (within : OwnedAreWithin) (catalogs : Catal
   new_catalog = sound records (contents_in new) counts.next_id (catalog_in new) d.near new_lawful
 
   abbrev volume_with : Items → Mdb → Volume
-  volume_with items mdb = record { items = items; next_id = mdb.next_id; changed = mdb.modified; hardware_locked = is_bit_set 7 mdb.attributes.0; software_locked = is_bit_set 15 mdb.attributes.0 }
+  volume_with items mdb = record { items = items; next_id = mdb.next_id; changed = mdb.modified; hardware_locked = is_bit_set 7 mdb.attributes.0; software_locked = is_bit_set 15 mdb.attributes.0; block_size = mdb.allocation_block_size }
 
   made_volume : volume_in new ≡ (step (volume_in old) c).0
   unfolding volume_in

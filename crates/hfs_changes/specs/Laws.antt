@@ -1,5 +1,5 @@
 -- What holds of changes. Each statement is what a function of src/laws.rt ensures.
-use Rattle.std.specs.Prelude.{◌≡◌, ◌≤◌, ℕ}
+use Rattle.std.specs.Prelude.{◌≡◌, ◌≤◌, ℕ, List, []}
 use Rattle.hfs_fields.specs.declared.mdb.Mdb.{Mdb}
 use Rattle.hfs_fields.specs.Counts.{SameBesideCounts, with_counts}
 use Rattle.hfs_scans.specs.Each.{Each}
@@ -16,7 +16,7 @@ use Rattle.hfs_model.specs.Step.{step}
 use Rattle.hfs_check.specs.Parts.{Blocks, mdb_in, overflow_in, catalog_nodes, catalog_in, owned_in}
 use Rattle.hfs_check.specs.Sound.{AreBlocksSound}
 use Rattle.hfs_check.specs.VolumeOf.{contents_in, volume_in}
-use Rattle.hfs_check.specs.Agree.{KeepsVolume}
+use Rattle.hfs_check.specs.Agree.{KeepsBut}
 use Rattle.hfs_changes.specs.Sound.{IsNearlySound}
 use Rattle.hfs_changes.specs.OnBlocks.{EditsCatalog}
 
@@ -38,11 +38,15 @@ pub record MakesStep (c : Call) (counts : Mdb) (old new : Blocks) : Type 0 where
   pub forks : AreForksSound (with_counts counts (mdb_in old)) (overflow_in old) (catalog_in new)
   pub owned : (b : ℕ) → owners (owned_blocks (with_counts counts (mdb_in old)) (overflow_in old) (catalog_in new)) b ≡ owners (owned_in old) b
 
--- then the volume is sound, keeps what calls keep, and is the one that the step makes
-pub record IsStepped (c : Call) (total : ℕ) (old new : Blocks) : Type 0 where
+-- the volume is sound, keeps what calls keep but for these blocks, which the call wrote, and is the one that the step makes
+pub record IsSteppedBut (written : List ℕ) (c : Call) (total : ℕ) (old new : Blocks) : Type 0 where
   pub sound : AreBlocksSound total new
-  pub kept : KeepsVolume old new
+  pub kept : KeepsBut written old new
   pub volume : volume_in new ≡ (step (volume_in old) c).0
+
+-- of a call that writes no block of a fork
+abbrev pub IsStepped : Call → ℕ → Blocks → Blocks → Type 0
+IsStepped c total old new = IsSteppedBut [] c total old new
 
 abbrev pub CatalogEditsAreSteps : Type 0
 CatalogEditsAreSteps = (c : Call) (counts : Mdb) (total : ℕ) (old new : Blocks) → AreBlocksSound total old → MakesStep c counts old new → IsStepped c total old new

@@ -9,6 +9,7 @@ use Rattle.hfs_fields.proofs.PutLemmas.{number_at-same}
 use Rattle.hfs_fields.specs.Counts.{IsBesideCounts, SameBesideCounts}
 use Rattle.hfs_btree.specs.declared.key.Key.{Ghosts}
 use Rattle.hfs_scans.specs.Each.{Each}
+use Rattle.hfs_scans.proofs.ElementLemmas.{each-append, each-left, each-right}
 use Rattle.hfs_btree.specs.Tree.{Store}
 use Rattle.hfs_blocks.specs.declared.run.Run.{Run}
 use Rattle.hfs_blocks.specs.Blocks.{run_of, block_at}
@@ -18,7 +19,7 @@ use Rattle.hfs_space.specs.TreeKeys.{ext_keys}
 use Rattle.hfs_catalog.specs.Tree.{cat_keys}
 use Rattle.hfs_check.specs.Parts.{Blocks, mdb_in, extents_nodes, catalog_nodes}
 use Rattle.hfs_check.specs.Sound.{IsSound}
-use Rattle.hfs_check.specs.Agree.{changing_blocks, IsBeside, IsSpareBit, KeepsVolume, Agrees}
+use Rattle.hfs_check.specs.Agree.{changing_blocks, IsBeside, IsBesideAll, IsSpareBit, KeepsBut, AgreesBut, Agrees}
 
 -- ---- trees
 
@@ -65,7 +66,7 @@ module _ (old new : Blocks) (same : SameBesideCounts (old 2) (new 2)) where
 abbrev pub run_by : ℕ → ℕ → Extent → Run
 run_by start size e = record { first = start + e.first * (size / 512); count = e.count * (size / 512); before = 0 }
 
-module _ (old new : Blocks) (kept : KeepsVolume old new) where
+module _ (written : List ℕ) (old new : Blocks) (kept : KeepsBut written old new) where
   layout : SameLayout (mdb_in old) (mdb_in new)
   layout = same_layout old new kept.mdb
 
@@ -79,6 +80,10 @@ module _ (old new : Blocks) (kept : KeepsVolume old new) where
 
 -- ---- the whole
 
+-- of calls that write no block of a fork
+abbrev pub KeepsVolume : Blocks → Blocks → Type 0
+KeepsVolume old new = KeepsBut [] old new
+
 kept_itself : (blocks : Blocks) → KeepsVolume blocks blocks
 kept_itself blocks = record {
   mdb = λ k beside. refl;
@@ -90,9 +95,9 @@ kept_itself blocks = record {
   stray = λ b lt. refl;
 }
 
-module _ (old middle new : Blocks) (p : KeepsVolume old middle) (q : KeepsVolume middle new) where
+module _ (xs ys : List ℕ) (old middle new : Blocks) (p : KeepsBut xs old middle) (q : KeepsBut ys middle new) where
   same_blocks : (mdb_in middle).allocation_blocks ≡ (mdb_in old).allocation_blocks
-  same_blocks = (layout old middle p).allocation_blocks
+  same_blocks = (layout xs old middle p).allocation_blocks
 
   spare : (i : ℕ) → IsSpareBit (mdb_in old) i → IsSpareBit (mdb_in middle) i
   spare i h = record {
@@ -100,11 +105,21 @@ module _ (old middle new : Blocks) (p : KeepsVolume old middle) (q : KeepsVolume
     within = subst (λ (n : ℕ). i < 4096 * bitmap_len n) (sym same_blocks) h.within;
   }
 
-  kept_on : KeepsVolume old new
+  -- what is beside both lists is beside each
+  beside_first : (n : ℕ) → IsBesideAll (xs ++ ys) old n → IsBesideAll xs old n
+  beside_first n beside =
+      each-append (IsOther n) xs (changing_blocks old) (each-left (IsOther n) xs ys (each-left (IsOther n) (xs ++ ys) (changing_blocks old) beside)) (each-right (IsOther n) (xs ++ ys) (changing_blocks old) beside)
+
+  beside_second : (n : ℕ) → IsBesideAll (xs ++ ys) old n → IsBesideAll ys middle n
+  beside_second n beside =
+      each-append (IsOther n) ys (changing_blocks middle) (each-right (IsOther n) xs ys (each-left (IsOther n) (xs ++ ys) (changing_blocks old) beside))
+      (subst (λ (ns : List ℕ). Each (IsOther n) ns) (sym (same_changing xs old middle p)) (each-right (IsOther n) (xs ++ ys) (changing_blocks old) beside))
+
+  kept_on : KeepsBut (xs ++ ys) old new
   kept_on = record {
     mdb = λ k beside. q.mdb k beside ∙ p.mdb k beside;
     bits = λ i h. q.bits i (spare i h) ∙ p.bits i h;
-    others = λ n beside. q.others n (subst (λ (ns : List ℕ). Each (IsOther n) ns) (sym (same_changing old middle p)) beside) ∙ p.others n beside;
+    others = λ n beside. q.others n (beside_second n beside) ∙ p.others n (beside_first n beside);
     extents = frame_on ext_keys (extents_nodes old) (extents_nodes middle) (extents_nodes new) p.extents q.extents;
     catalog = frame_on cat_keys (catalog_nodes old) (catalog_nodes middle) (catalog_nodes new) p.catalog q.catalog;
     catalog_file = q.catalog_file ∙ p.catalog_file;
@@ -114,9 +129,12 @@ module _ (old middle new : Blocks) (p : KeepsVolume old middle) (q : KeepsVolume
 pub agrees_itself : (image : List ℕ) → IsSound image → Agrees image image
 agrees_itself image sound = record { sound = sound; len = refl; kept = kept_itself (block_at image) }
 
+pub agreements_join : (xs ys base middle image : List ℕ) → AgreesBut xs base middle → AgreesBut ys middle image → AgreesBut (xs ++ ys) base image
+agreements_join xs ys base middle image p q =
+    record { sound = q.sound; len = q.len ∙ p.len; kept = kept_on xs ys (block_at base) (block_at middle) (block_at image) p.kept q.kept }
+
 pub agrees_on : (base middle image : List ℕ) → Agrees base middle → Agrees middle image → Agrees base image
-agrees_on base middle image p q =
-    record { sound = q.sound; len = q.len ∙ p.len; kept = kept_on (block_at base) (block_at middle) (block_at image) p.kept q.kept }
+agrees_on base middle image p q = agreements_join [] [] base middle image p q
 
 -- ---- bytes
 
@@ -126,6 +144,9 @@ byte_of_block bytes k =
     get_or-take 512 (drop (512 * (k / 512)) bytes) (k % 512) 0 (omega arith) ∙ get_or-drop (512 * (k / 512)) bytes (k % 512) 0
     ∙ ap (λ (j : ℕ). get_or bytes j 0) (let e : 512 * (k / 512) + k % 512 ≡ k = omega arith in e)
 
-pub bytes_stay : (base image : List ℕ) → Agrees base image → (k : ℕ) → IsBeside (block_at base) (k / 512) → get_or image k 0 ≡ get_or base k 0
-bytes_stay base image h k beside =
+pub bytes_stay_but : (written base image : List ℕ) → AgreesBut written base image → (k : ℕ) → IsBesideAll written (block_at base) (k / 512) → get_or image k 0 ≡ get_or base k 0
+bytes_stay_but written base image h k beside =
     sym (byte_of_block image k) ∙ ap (λ (block : List ℕ). get_or block (k % 512) 0) (h.kept.others (k / 512) beside) ∙ byte_of_block base k
+
+pub bytes_stay : (base image : List ℕ) → Agrees base image → (k : ℕ) → IsBeside (block_at base) (k / 512) → get_or image k 0 ≡ get_or base k 0
+bytes_stay base image h k beside = bytes_stay_but [] base image h k beside

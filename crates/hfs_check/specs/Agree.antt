@@ -1,5 +1,5 @@
 -- What of a volume stays as it was, whatever calls change it.
-use Rattle.std.specs.Prelude.{◌≡◌, ℕ, ◌*◌, ◌<◌, ◌≤◌, Bool, List, ◌∷◌, ◌++◌, length, take}
+use Rattle.std.specs.Prelude.{◌≡◌, ℕ, ◌*◌, ◌<◌, ◌≤◌, Bool, List, [], ◌∷◌, ◌++◌, length, take}
 use Rattle.std.specs.List.{range_with_len}
 use Rattle.hfs_fields.specs.declared.mdb.Mdb.{Mdb}
 use Rattle.hfs_fields.specs.declared.extent.Extent.{Extent}
@@ -49,19 +49,28 @@ is_stray_in blocks b = is_stray_block blocks (mdb_in blocks) (owned_in blocks) b
 
 -- ---- the whole
 
-pub record KeepsVolume (old new : Blocks) : Type 0 where
+-- none of these blocks is this one, and no other call changes it
+abbrev pub IsBesideAll : List ℕ → Blocks → ℕ → Type 0
+IsBesideAll written blocks n = Each (IsOther n) (written ++ changing_blocks blocks)
+
+-- all stays that calls leave, but for these blocks, which calls wrote
+pub record KeepsBut (written : List ℕ) (old new : Blocks) : Type 0 where
   -- of the master directory block all but the counts
   pub mdb : SameBesideCounts (old 2) (new 2)
   pub bits : (i : ℕ) → IsSpareBit (mdb_in old) i → is_marked_in new i ≡ is_marked_in old i
-  pub others : (n : ℕ) → IsBeside old n → new n ≡ old n
+  pub others : (n : ℕ) → IsBesideAll written old n → new n ≡ old n
   pub extents : KeepsFrame ext_keys (extents_nodes old) (extents_nodes new)
   pub catalog : KeepsFrame cat_keys (catalog_nodes old) (catalog_nodes new)
   pub catalog_file : catalog_extents new ≡ catalog_extents old
   pub stray : (b : ℕ) → b < (mdb_in old).allocation_blocks → is_stray_in new b ≡ is_stray_in old b
 
--- trees, bitmap, counts and valences agree, and the rest is the base's. What follows the last whole block counts as a
--- shorter block, so `others` says that it stays, too.
-pub record Agrees (base image : List ℕ) : Type 0 where
+-- trees, bitmap, counts and valences agree, and the rest is the base's, but for these blocks. What follows the last whole block counts
+-- as a shorter block, so `others` says that it stays, too.
+pub record AgreesBut (written : List ℕ) (base image : List ℕ) : Type 0 where
   pub sound : IsSound image
   pub len : length image ≡ length base
-  pub kept : KeepsVolume (block_at base) (block_at image)
+  pub kept : KeepsBut written (block_at base) (block_at image)
+
+-- of calls that write no block of a fork
+abbrev pub Agrees : List ℕ → List ℕ → Type 0
+Agrees base image = AgreesBut [] base image

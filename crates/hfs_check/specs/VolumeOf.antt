@@ -28,6 +28,7 @@ volume_in blocks = record {
   changed = (mdb_in blocks).modified;
   hardware_locked = is_bit_set 7 (mdb_in blocks).attributes.0;
   software_locked = is_bit_set 15 (mdb_in blocks).attributes.0;
+  block_size = (mdb_in blocks).allocation_block_size;
 }
 
 unfoldable pub volume_of : List ℕ → Volume

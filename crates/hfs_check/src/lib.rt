@@ -14,7 +14,9 @@ mod tree_checks;
 mod trees;
 
 pub use crate::checking::{SoundVolume, check_blocks, check_image};
-pub use crate::laws::{bytes_stay, no_image_fault, sound_images_are_lawful};
+pub use crate::laws::{
+    agreements_join, bytes_stay, bytes_stay_but, no_image_fault, sound_images_are_lawful,
+};
 pub use crate::mdb_check::{mdb_fault, read_mdb};
 pub use crate::mount_fault::MountFault;
 pub use crate::record_checks::check_catalog_records;

@@ -1,5 +1,5 @@
 -- The image of a new volume is sound, and holds the root folder alone.
-use Rattle.std.proofs.Common.{◌≡◌, true, [], ◌∷◌, map, take, refl, sym, ap, subst, ◌∙◌, arith}
+use Rattle.std.proofs.Common.{◌≡◌, ◌*◌, true, [], ◌∷◌, map, take, refl, sym, ap, subst, ◌∙◌, arith}
 use Rattle.std.specs.FinMap as finite
 use Rattle.std.specs.List.{flat_map}
 use Rattle.hfs_fields.specs.Mdb.{mdb_of}
@@ -152,7 +152,7 @@ module _ (volume : Layout) (ok : IsNewVolume volume) where
       let item = folder-item contents catalog (root_pair volume) (root-folder volume ok) ∙ ap (folder_of (root_key volume)) (root-read volume ok) in
       λ i. (root-id volume ok i, item i)
 
-  volume-is : volume_of (volume_image volume) ≡ volume_of_root volume.name volume.moment
+  volume-is : volume_of (volume_image volume) ≡ volume_of_root volume.name volume.moment (512 * volume.factor)
   unfolding volume_of volume_in items_in new_mdb
   volume-is =
       let contents = contents_in (image_block volume) in
@@ -166,6 +166,7 @@ module _ (volume : Layout) (ok : IsNewVolume volume) where
         changed = (mdb-is i).modified;
         hardware_locked = is_bit_set 7 (mdb-is i).attributes.0;
         software_locked = is_bit_set 15 (mdb-is i).attributes.0;
+        block_size = (mdb-is i).allocation_block_size;
       }
 
 -- ---- of plans

@@ -55,4 +55,5 @@ module _ (t u : Table) (base : u.base ≡ t.base) (mdb : u.mdb ≡ t.mdb) (ids :
     changed = changed i;
     hardware_locked = hardware i;
     software_locked = software i;
+    block_size = (mdb i).allocation_block_size;
   }

@@ -81,7 +81,14 @@ bytes_in t fork = bytes_of t.base t.mdb fork
 
 -- the volume of a table
 abbrev pub volume_of : Table → Volume
-volume_of t = record { items = items_of t; next_id = t.next_id; changed = t.changed; hardware_locked = t.hardware_locked; software_locked = t.software_locked }
+volume_of t = record {
+  items = items_of t;
+  next_id = t.next_id;
+  changed = t.changed;
+  hardware_locked = t.hardware_locked;
+  software_locked = t.software_locked;
+  block_size = t.mdb.allocation_block_size;
+}
 
 -- the fork's extents lie in the volume, and have room for its bytes
 pub record IsForkIn (mdb : Mdb) (fork : RowFork) : Type 0 where

@@ -84,6 +84,45 @@ refusal_leaves v (call.CreateFileId dir name now) refused = change_to_id_leaves 
 refusal_leaves v (call.DeleteFileId id now) refused = change_leaves v (to_delete_file_id v id) (set_thread false) now refused
 refusal_leaves v (call.ResolveFileId id) refused = refl
 
+-- ---- what no call changes
+
+abbrev SameSize : Volume → Outcome → Type 0
+SameSize v o = o.0.block_size ≡ v.block_size
+
+change_size : (v : Volume) (chosen : Result Entry ℤ) (make : Entry → Items → Items) (now : ℕ) → SameSize v (change v chosen make now)
+change_size v (Ok e) make now = refl
+change_size v (Err code) make now = refl
+
+add_size : (v : Volume) (chosen : Result ℕ ℤ) (make : ℕ → Items → Items) (now : ℕ) → SameSize v (add v chosen make now)
+add_size v (Ok id) make now = refl
+add_size v (Err code) make now = refl
+
+change_to_id_size : (v : Volume) (chosen : Result Entry ℤ) (make : Entry → Items → Items) (now : ℕ) → SameSize v (change_to_id v chosen make now)
+change_to_id_size v (Ok e) make now = refl
+change_to_id_size v (Err code) make now = refl
+
+pub block_size_stays : (v : Volume) (c : Call) → SameSize v (step v c)
+unfolding create delete rename cat_move set_f_info set_cat_info set_lock create_file_id delete_file_id
+block_size_stays v (call.GetDirInfo dir) = refl
+block_size_stays v (call.GetCatInfo dir name) = refl
+block_size_stays v (call.GetIndexed dir index) = refl
+block_size_stays v (call.List dir) = refl
+block_size_stays v (call.ReadFork dir name fork offset count) = refl
+block_size_stays v (call.Create dir name now) = add_size v (to_create v dir name) (makes new_file dir name now) now
+block_size_stays v (call.DirCreate dir name now) = add_size v (to_create v dir name) (makes new_folder dir name now) now
+block_size_stays v (call.Delete dir name now) = change_size v (to_delete v dir name) (deletes dir now) now
+block_size_stays v (call.Rename dir name new_name now) = change_size v (to_rename v dir name new_name) (renames new_name) now
+block_size_stays v (call.CatMove dir name new_dir now) = change_size v (to_move v dir name new_dir) (moves dir new_dir now) now
+block_size_stays v (call.SetFInfo dir name info now) = change_size v (to_set_f_info v dir name) (sets_finder info) now
+block_size_stays v (call.SetCatInfo dir name created modified backup info now) = change_size v (to_set_cat_info v dir name) (sets_info created modified backup info) now
+block_size_stays v (call.SetFLock dir name now) = change_size v (file_to_change v dir name) (sets_lock true) now
+block_size_stays v (call.RstFLock dir name now) = change_size v (file_to_change v dir name) (sets_lock false) now
+block_size_stays v (call.CreateFileId dir name now) = change_to_id_size v (to_create_file_id v dir name) (set_thread true) now
+block_size_stays v (call.DeleteFileId id now) = change_size v (to_delete_file_id v id) (set_thread false) now
+block_size_stays v (call.ResolveFileId id) = refl
+
+-- ---- what a reading call leaves
+
 pub reading_leaves : (v : Volume) (c : Call) → IsTrue (is_reading c) → (step v c).0 ≡ v
 reading_leaves v (call.GetDirInfo dir) h = refl
 reading_leaves v (call.GetCatInfo dir name) h = refl

@@ -1,6 +1,6 @@
 //! Calls with borrowed names, and volumes to make them on.
 use hfs_fields::Name;
-use hfs_model::{Bytes, Call, Content, File, Fork, Info, Item, Kind, Reply, Value};
+use hfs_model::{Call, Content, File, Fork, Info, Item, Kind, Reply, SharedBytes, Value};
 use hfs_store::PlainVolume;
 use std::alloc::{AllocError, Global};
 use std::process::Abort;
@@ -51,7 +51,7 @@ fn place_of<'a>(ask: &Ask<'a>) -> (u32, &'a [u8]) {
 }
 
 /// The call that reads a part of a data fork.
-fn read_of(dir: u32, name: Bytes, offset: u32, count: u32) -> Call {
+fn read_of(dir: u32, name: SharedBytes, offset: u32, count: u32) -> Call {
     Call::ReadFork {
         dir,
         name,
@@ -62,7 +62,7 @@ fn read_of(dir: u32, name: Bytes, offset: u32, count: u32) -> Call {
 }
 
 /// The call that sets all Finder bytes to 7, and the dates to 1, 2 and 3.
-fn set_info_of(dir: u32, name: Bytes, now: u32) -> Call {
+fn set_info_of(dir: u32, name: SharedBytes, now: u32) -> Call {
     Call::SetCatInfo {
         dir,
         name,
@@ -77,7 +77,7 @@ fn set_info_of(dir: u32, name: Bytes, now: u32) -> Call {
 /// The call at that moment. Data forks are read; Finder bytes are set to 7, dates to 1, 2 and 3.
 pub fn call_of(alloc: Global, ask: &Ask, now: u32) -> Result<Call, AllocError> {
     let (dir, name) = place_of(ask);
-    let name = Bytes::from_slice(alloc, name)?;
+    let name = SharedBytes::from_slice(alloc, name)?;
     Ok(match *ask {
         Ask::DirInfo(_) => Call::GetDirInfo { dir },
         Ask::Info(_, _) => Call::GetCatInfo { dir, name },
@@ -90,7 +90,7 @@ pub fn call_of(alloc: Global, ask: &Ask, now: u32) -> Result<Call, AllocError> {
         Ask::Rename(_, _, new_name) => Call::Rename {
             dir,
             name,
-            new_name: Bytes::from_slice(alloc, new_name)?,
+            new_name: SharedBytes::from_slice(alloc, new_name)?,
             now,
         },
         Ask::Move(_, _, new_dir) => Call::CatMove {

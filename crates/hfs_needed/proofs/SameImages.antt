@@ -61,6 +61,7 @@ module _ (total : ℕ) (old new : Blocks) (same : SameParts old new) (copy : new
     changed = (same.mdb i).modified;
     hardware_locked = is_bit_set 7 (same.mdb i).attributes.0;
     software_locked = is_bit_set 15 (same.mdb i).attributes.0;
+    block_size = (same.mdb i).allocation_block_size;
   }
 
   module _ (file : ℕ) (kind : ForkKind) (fork : ForkRecord) where

@@ -12,7 +12,7 @@ use Rattle.hfs_model.specs.declared.item.Item.{Item}
 use Rattle.hfs_model.specs.Volume.{Entry}
 use Rattle.hfs_model.specs.Children.{valence}
 use Rattle.hfs_model.specs.Lawful.{IsLawful}
-use Rattle.hfs_store.specs.PlainVolume.{AreEntries, Rises, unlocked_volume, with_locks}
+use Rattle.hfs_store.specs.PlainVolume.{AreEntries, Rises, unlocked_volume, with_block_size, with_locks}
 use Rattle.hfs_item_table.specs.declared.row.Row.{Row}
 use Rattle.hfs_item_table.specs.declared.table.Table.{Table}
 use Rattle.hfs_item_table.proofs.ShownLemmas.{entries_items, get_items}
@@ -65,7 +65,7 @@ module _ (t : Table) (is : IsTable t) (lawful : IsLawful (volume_of t)) where
     room = λ id. subst (λ (es : List Entry). valence es id ≤ 65535) entries_are (lawful.room id);
   }
 
--- with the locks they are the table's volume
-pub locked_is : (t : Table) → with_locks t.hardware_locked t.software_locked (unlocked_volume (row_entries t) t.next_id t.changed) ≡ volume_of t
+-- with the locks and the size of a block they are the table's volume
+pub locked_is : (t : Table) → with_block_size t.mdb.allocation_block_size (with_locks t.hardware_locked t.software_locked (unlocked_volume (row_entries t) t.next_id t.changed)) ≡ volume_of t
 unfolding items_of
 locked_is t = refl

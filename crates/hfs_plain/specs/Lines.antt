@@ -55,7 +55,7 @@ unfoldable pub lock_text : List ℕ → Bool → List ℕ
 lock_text word true = word
 lock_text word false = codes "-"
 
--- all that a volume has beside its items
+-- what calls change of a volume beside its items, and its locks
 unfoldable pub own_line : Volume → List ℕ
 own_line v =
     codes "volume\t" ++ field (decimal v.next_id) ++ field (decimal v.changed) ++ field (lock_text (codes "hardware") v.hardware_locked)

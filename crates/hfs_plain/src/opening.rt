@@ -23,6 +23,7 @@ fn plain_table(alloc: Global, table: &Table) -> Result<PlainVolume, AllocError>
     let items = items_of(alloc, table)?;
     let mut plain = PlainVolume::of(alloc, items, table.next_id, table.changed);
     plain.set_locks(table.hardware_locked, table.software_locked);
+    plain.set_block_size(table.mdb.allocation_block_size);
     Ok(plain)
 }
 

@@ -9,6 +9,7 @@ use Rattle.std.proofs.Math.Seq.{take-add}
 use mathlib.Core.List.{IsPrefix}
 use Rattle.hfs_model.specs.declared.codes.TheConstants.{DISK_FULL}
 use Rattle.hfs_model.specs.declared.journal.Entry.{Entry}
+use Rattle.hfs_model.specs.declared.journal.Want.{Want}
 use Rattle.hfs_model.specs.Volume.{Volume}
 use Rattle.hfs_model.specs.Step.{step, is_reading}
 use Rattle.hfs_model.specs.Runs.{after, after_entry}
@@ -56,9 +57,9 @@ and_right false b h = absurd (cc h)
 
 module _ (reading : ReadingLeaves) (refusal : RefusalLeaves) where
   -- an accepted change makes what its entry makes
-  accepted_makes : (u : Volume) (e : Entry) (full : Option (ℕ × ℕ)) → IsAnswered u e full → is_accepted e ≡ true → (step u e.call).0 ≡ option_map_or (λ _. u) full (step u e.call).0
+  accepted_makes : (u : Volume) (e : Entry) (wanting : Option Want) → IsAnswered u e wanting → is_accepted e ≡ true → (step u e.call).0 ≡ option_map_or (λ _. u) wanting (step u e.call).0
   accepted_makes u e None told h = refl
-  accepted_makes u e (Some fd) told h =
+  accepted_makes u e (Some w) told h =
       let zero : int_eq DISK_FULL (pos 0) ≡ true = ap (λ (z : ℤ). int_eq z (pos 0)) (sym told.2) ∙ and_right (not (is_reading e.call)) (int_eq e.code (pos 0)) h in
       absurd (cc zero)
 
@@ -66,8 +67,8 @@ module _ (reading : ReadingLeaves) (refusal : RefusalLeaves) where
   no_zero z h same = let zero : int_eq (pos 0) (pos 0) ≡ false = ap (λ (x : ℤ). int_eq x (pos 0)) (sym same) ∙ h in absurd (cc zero)
 
   -- any other entry makes nothing
-  other_leaves : (u : Volume) (e : Entry) (full : Option (ℕ × ℕ)) → IsAnswered u e full → is_accepted e ≡ false → u ≡ option_map_or (λ _. u) full (step u e.call).0
-  other_leaves u e (Some fd) told h = refl
+  other_leaves : (u : Volume) (e : Entry) (wanting : Option Want) → IsAnswered u e wanting → is_accepted e ≡ false → u ≡ option_map_or (λ _. u) wanting (step u e.call).0
+  other_leaves u e (Some w) told h = refl
   other_leaves u e None told h = elim (is_reading e.call) as (λ (b : Bool). is_reading e.call ≡ b → u ≡ (step u e.call).0) [
     | true ↦ λ reads. sym (reading u e.call reads)
     | false ↦ λ changes.
@@ -76,20 +77,20 @@ module _ (reading : ReadingLeaves) (refusal : RefusalLeaves) where
   ] refl
 
   -- the accepted changes of entries, each of which may stand there, do what the entries do
-  pub changes_make : (u : Volume) (es : List Entry) → ((before : List Entry) (e : Entry) (rest : List Entry) → es ≡ before ++ e ∷ rest → IsAnswered (after u before) e e.full) → fold entered u (changes es) ≡ after u es
+  pub changes_make : (u : Volume) (es : List Entry) → ((before : List Entry) (e : Entry) (rest : List Entry) → es ≡ before ++ e ∷ rest → IsAnswered (after u before) e e.want) → fold entered u (changes es) ≡ after u es
   changes_make u [] told = refl
   changes_make u (e ∷ es) told =
-      let here : IsAnswered u e e.full = told [] e es refl in
-      let behind : (before : List Entry) (f : Entry) (rest : List Entry) → es ≡ before ++ f ∷ rest → IsAnswered (after (after_entry u e) before) f f.full =
+      let here : IsAnswered u e e.want = told [] e es refl in
+      let behind : (before : List Entry) (f : Entry) (rest : List Entry) → es ≡ before ++ f ∷ rest → IsAnswered (after (after_entry u e) before) f f.want =
       λ before f rest is. told (e ∷ before) f rest (ap (λ (l : List Entry). e ∷ l) is) in
       elim (is_accepted e) as (λ (b : Bool). is_accepted e ≡ b → fold entered u (changes (e ∷ es)) ≡ after u (e ∷ es)) [
         | true ↦ λ h.
             ap (λ (l : List Item). fold entered u l) (changes_accepted e es h)
-            ∙ ap (λ (w : Volume). fold entered w (changes es)) (accepted_makes u e e.full here h)
+            ∙ ap (λ (w : Volume). fold entered w (changes es)) (accepted_makes u e e.want here h)
             ∙ changes_make (after_entry u e) es behind
         | false ↦ λ h.
             ap (λ (l : List Item). fold entered u l) (changes_other e es h)
-            ∙ ap (λ (w : Volume). fold entered w (changes es)) (other_leaves u e e.full here h)
+            ∙ ap (λ (w : Volume). fold entered w (changes es)) (other_leaves u e e.want here h)
             ∙ changes_make (after_entry u e) es behind
       ] refl
 

@@ -2,7 +2,10 @@
 use Rattle.std.specs.Prelude.{◌≡◌, ℕ, ◌+◌, ◌<◌, ◌==◌, ◌&&◌, not, Bool, false, pos, List, ◌∷◌, ◌++◌, map, filter, take, count_by, All, Option, Some, None}
 use Rattle.std.specs.Ordering.{int_eq}
 use Rattle.hfs_model.specs.declared.codes.TheConstants.{DISK_FULL}
+use Rattle.hfs_model.specs.declared.call.Call.{Call}
 use Rattle.hfs_model.specs.declared.journal.Entry.{Entry}
+use Rattle.hfs_model.specs.declared.journal.Want.{Want}
+use Rattle.hfs_model.specs.declared.journal.Want.TheVariants as want
 use Rattle.hfs_model.specs.Volume.{Volume}
 use Rattle.hfs_model.specs.Step.{step, is_reading}
 use Rattle.hfs_model.specs.Runs.{after}
@@ -16,15 +19,21 @@ use Rattle.hfs_published.specs.declared.item.Item.TheVariants.{Opening, Change}
 abbrev pub made_by : ℕ → List Entry → ℕ
 made_by worker entries = count_by (λ (e : Entry). e.worker == worker) entries
 
--- the code is that of the step; or it is -34 where the step's is 0 and so few nodes are free that the call needs more
-abbrev pub IsAnswered : Volume → Entry → Option (ℕ × ℕ) → Type 0
+-- so few nodes of the catalog are free that the call needs more; no call wants blocks, or nodes of the extents tree
+abbrev pub IsWantOf : Call → Want → Type 0
+IsWantOf c (want.Nodes free depth) = free < need c depth
+IsWantOf c (want.Room free wanted) = ⊥
+IsWantOf c (want.ExtentNodes free depth) = ⊥
+
+-- the code is that of the step; or it is -34 where the step's is 0 and the call wants more than there is
+abbrev pub IsAnswered : Volume → Entry → Option Want → Type 0
 IsAnswered v e None = e.code ≡ (step v e.call).1.code
-IsAnswered v e (Some full) = ((step v e.call).1.code ≡ pos 0) × (full.0 < need e.call full.1) × (e.code ≡ DISK_FULL)
+IsAnswered v e (Some wanting) = ((step v e.call).1.code ≡ pos 0) × IsWantOf e.call wanting × (e.code ≡ DISK_FULL)
 
 -- the entry may stand behind these
 pub record IsLegalAt (v : Volume) (before : List Entry) (e : Entry) : Type 0 where
   pub stamped : e.stamp ≡ made_by e.worker before + 1
-  pub answered : IsAnswered (after v before) e e.full
+  pub answered : IsAnswered (after v before) e e.want
 
 -- each entry may stand behind those before it
 abbrev pub IsLegal : Volume → List Entry → Type 0

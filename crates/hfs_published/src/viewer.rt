@@ -8,7 +8,7 @@ ghost use Rattle.hfs_model.specs.declared.call.Call.TheVariants.{GetDirInfo, Get
 use crate::front::Front;
 use crate::seat::Seat;
 use crate::told::Told;
-use hfs_model::{Bytes, Call, Fork, Reply};
+use hfs_model::{Call, Fork, Reply, SharedBytes};
 use std::alloc::Global;
 use std::marker::Model;
 
@@ -89,7 +89,7 @@ impl Viewer {
     }
 
     /// What is told of the folder's item of that name, with the codes of `Volume::get_cat_info`.
-    pub fn info(&mut self, alloc: Global, dir: u32, name: Bytes) -> Result<Reply, ViewFault>
+    pub fn info(&mut self, alloc: Global, dir: u32, name: SharedBytes) -> Result<Reply, ViewFault>
         ensures ok { GivesReply (GetCatInfo dir name) self.old self.new result }
         ensures err { OnErr result (self.new ≡ self.old) }
     {
@@ -118,7 +118,7 @@ impl Viewer {
         &mut self,
         alloc: Global,
         dir: u32,
-        name: Bytes,
+        name: SharedBytes,
         fork: Fork,
         offset: u32,
         count: u32,

@@ -1,12 +1,12 @@
 //! Files in the root that are called `a`, `b` and so on.
-use hfs_model::{Bytes, Call, Info, Reply, Value};
+use hfs_model::{Call, Info, Reply, SharedBytes, Value};
 use std::alloc::{AllocError, Global};
 
 /// Create of a file in the root, at the moment 7.
 pub fn create(alloc: Global, name: &[u8]) -> Result<Call, AllocError> {
     Ok(Call::Create {
         dir: 2,
-        name: Bytes::from_slice(alloc, name)?,
+        name: SharedBytes::from_slice(alloc, name)?,
         now: 7,
     })
 }

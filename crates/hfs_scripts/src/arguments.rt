@@ -8,7 +8,7 @@ ghost use Rattle.hfs_scripts.specs.Results.{GainsItems, GivesItems};
 ghost use Rattle.hfs_scripts.specs.Readable.{Reads, ReadsBytes, IsReadable};
 ghost use Rattle.hfs_scripts.specs.Texts.{arguments, fork_text, read_fields, info_fields, word_for};
 
-use hfs_model::{Bytes, Call, Fork};
+use hfs_model::{Bytes, Call, Fork, SharedBytes};
 use std::alloc::{AllocError, Global};
 
 /// The most fields that stand behind a word.
@@ -86,7 +86,7 @@ fn two_numbers(alloc: Global, dir: u32, index: u32) -> Result<Vec<Bytes>, AllocE
     with_number(alloc, fields, index)
 }
 
-fn target(alloc: Global, dir: u32, name: &Bytes) -> Result<Vec<Bytes>, AllocError>
+fn target(alloc: Global, dir: u32, name: &SharedBytes) -> Result<Vec<Bytes>, AllocError>
     ensures fields { GivesItems (decimal dir ∷ name.now ∷ []) result }
     ensures reads { IfOk result (λ fields. Reads dir) }
 {
@@ -98,8 +98,8 @@ fn target(alloc: Global, dir: u32, name: &Bytes) -> Result<Vec<Bytes>, AllocErro
 fn renaming(
     alloc: Global,
     dir: u32,
-    name: &Bytes,
-    new_name: &Bytes,
+    name: &SharedBytes,
+    new_name: &SharedBytes,
 ) -> Result<Vec<Bytes>, AllocError>
     ensures fields { GivesItems (decimal dir ∷ name.now ∷ new_name.now ∷ []) result }
     ensures reads { IfOk result (λ fields. Reads dir) }
@@ -109,7 +109,12 @@ fn renaming(
 }
 
 /// DIR, NAME and another folder.
-fn moving(alloc: Global, dir: u32, name: &Bytes, new_dir: u32) -> Result<Vec<Bytes>, AllocError>
+fn moving(
+    alloc: Global,
+    dir: u32,
+    name: &SharedBytes,
+    new_dir: u32,
+) -> Result<Vec<Bytes>, AllocError>
     ensures fields { GivesItems (decimal dir ∷ name.now ∷ decimal new_dir ∷ []) result }
     ensures dir { IfOk result (λ fields. Reads dir) }
     ensures new_dir { IfOk result (λ fields. Reads new_dir) }
@@ -122,7 +127,7 @@ fn moving(alloc: Global, dir: u32, name: &Bytes, new_dir: u32) -> Result<Vec<Byt
 fn target_and_info(
     alloc: Global,
     dir: u32,
-    name: &Bytes,
+    name: &SharedBytes,
     info: &[u8],
 ) -> Result<Vec<Bytes>, AllocError>
     ensures fields { GivesItems (decimal dir ∷ name.now ∷ encode_lower info.now ∷ []) result }
@@ -137,7 +142,7 @@ fn target_and_info(
 fn part_of_fork(
     alloc: Global,
     dir: u32,
-    name: &Bytes,
+    name: &SharedBytes,
     fork: Fork,
     offset: u32,
     count: u32,

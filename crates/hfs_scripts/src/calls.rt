@@ -6,14 +6,14 @@ ghost use Rattle.hfs_scripts.specs.Fields.{texts_of};
 use crate::fields::{read_16_bytes, read_32_bytes, read_fork};
 use crate::numbers::{read_number, read_two_numbers};
 use crate::words::Word;
-use hfs_model::{Bytes, Call};
+use hfs_model::{Call, SharedBytes};
 use std::alloc::{AllocError, Global};
 
 /// The item that DIR and NAME tell.
 #[derive(Drop)]
 pub(crate) struct Target {
     dir: u32,
-    name: Bytes,
+    name: SharedBytes,
 }
 
 #[tactic(auto, unfolding(crate::specs::Calls::number_alone))]
@@ -49,7 +49,7 @@ fn read_target(alloc: Global, fields: &[&[u8]]) -> Result<Option<Target>, AllocE
     };
     Ok(Some(Target {
         dir,
-        name: Bytes::from_slice(alloc, name)?,
+        name: SharedBytes::from_slice(alloc, name)?,
     }))
 }
 
@@ -64,7 +64,7 @@ fn read_read(alloc: Global, fields: &[&[u8]]) -> Result<Option<Call>, AllocError
     let Some(((dir, fork), (offset, count))) = item.zip(read_two_numbers(offset, count)) else {
         return Ok(None);
     };
-    let name = Bytes::from_slice(alloc, name)?;
+    let name = SharedBytes::from_slice(alloc, name)?;
     Ok(Some(Call::ReadFork {
         dir,
         name,
@@ -86,8 +86,8 @@ fn read_rename(alloc: Global, fields: &[&[u8]], now: u32) -> Result<Option<Call>
     };
     Ok(Some(Call::Rename {
         dir,
-        name: Bytes::from_slice(alloc, name)?,
-        new_name: Bytes::from_slice(alloc, new_name)?,
+        name: SharedBytes::from_slice(alloc, name)?,
+        new_name: SharedBytes::from_slice(alloc, new_name)?,
         now,
     }))
 }
@@ -102,7 +102,7 @@ fn read_move(alloc: Global, fields: &[&[u8]], now: u32) -> Result<Option<Call>, 
     let Some((dir, new_dir)) = read_two_numbers(dir, new_dir) else {
         return Ok(None);
     };
-    let name = Bytes::from_slice(alloc, name)?;
+    let name = SharedBytes::from_slice(alloc, name)?;
     Ok(Some(Call::CatMove {
         dir,
         name,
@@ -124,7 +124,7 @@ fn read_set_f_info(alloc: Global, fields: &[&[u8]], now: u32) -> Result<Option<C
     let Some(info) = read_16_bytes(info) else {
         return Ok(None);
     };
-    let name = Bytes::from_slice(alloc, name)?;
+    let name = SharedBytes::from_slice(alloc, name)?;
     Ok(Some(Call::SetFInfo {
         dir,
         name,
@@ -155,7 +155,7 @@ fn read_set_info(alloc: Global, fields: &[&[u8]], now: u32) -> Result<Option<Cal
     let Some(info) = read_32_bytes(info) else {
         return Ok(None);
     };
-    let name = Bytes::from_slice(alloc, name)?;
+    let name = SharedBytes::from_slice(alloc, name)?;
     Ok(Some(Call::SetCatInfo {
         dir,
         name,

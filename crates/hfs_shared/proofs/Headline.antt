@@ -14,13 +14,15 @@ use Rattle.hfs_model.specs.Volume.{Volume}
 use Rattle.hfs_model.specs.Changes.{Outcome}
 use Rattle.hfs_model.specs.Step.{step}
 use Rattle.hfs_model.specs.Runs.{after, after_entry}
+use Rattle.hfs_model.specs.declared.journal.Want.{Want}
+use Rattle.hfs_model.specs.declared.journal.Want.TheVariants as want
 use Rattle.hfs_model.specs.Need.{need, meets_want_of_nodes, full, step_within}
 use Rattle.hfs_model.specs.Laws.{StepIsNeverFull}
 use Rattle.hfs_check.specs.Agree.{Agrees}
 use Rattle.hfs_check.specs.VolumeOf.{volume_of}
 use Rattle.hfs_volume.specs.Serving.{free_in, depth_in, outcome_in}
 use Rattle.hfs_published.specs.Journals.{made_by, IsAnswered, IsLegalAt, IsLegal}
-use Rattle.hfs_shared.specs.Desks.{IsHeadline, IsCounted, PassState, entry_of, full_of, full_in, wanted}
+use Rattle.hfs_shared.specs.Desks.{IsHeadline, IsCounted, PassState, entry_of, want_of, want_in, wanted}
 
 -- where an entry stands in a list with one entry more
 pub snoc_split : {A : Type 0} (p xs : List A) (x e : A) (rest : List A) → xs ++ x ∷ [] ≡ p ++ e ∷ rest → ((p ≡ xs) × (e ≡ x)) ⊎ ((more : List A) × (xs ≡ p ++ e ∷ more))
@@ -59,33 +61,34 @@ and_both true b h = (refl, h)
 and_both false b h = absurd (cc h)
 
 -- what an outcome says of its entry
-abbrev Tells : Volume → PassState → Call → Reply → Volume → Option (ℕ × ℕ) → Type 0
+abbrev Tells : Volume → PassState → Call → Reply → Volume → Option Want → Type 0
 Tells v p c r w o = IsAnswered v (entry_of p c r) o × (w ≡ option_map_or (λ _. v) o (step v c).0)
 
 module _ (never : StepIsNeverFull) where
   -- where nodes are wanting
-  tells_full : (v : Volume) (free depth : ℕ) (p : PassState) (c : Call) → meets_want_of_nodes free depth v c ≡ true → Tells v p c (full free depth) v (Some (free, depth))
+  tells_full : (v : Volume) (free depth : ℕ) (p : PassState) (c : Call) → meets_want_of_nodes free depth v c ≡ true → Tells v p c (full free depth) v (Some (want.Nodes free depth))
   tells_full v free depth p c meets =
       let both = and_both (int_eq (step v c).1.code (pos 0)) (nat_lt free (need c depth)) meets in
       let less : nat_lt free (need c depth) ≡ true = both.1 in
-      ((int_is (step v c).1.code (pos 0) both.0, grind (arith, nat_tests), refl), refl)
+      let short : free < need c depth = grind (arith, nat_tests) in
+      ((int_is (step v c).1.code (pos 0) both.0, short, refl), refl)
 
   -- where they are not
-  tells_step : (v : Volume) (p : PassState) (c : Call) → Tells v p c (step v c).1 (step v c).0 (full_of (step v c).1)
+  tells_step : (v : Volume) (p : PassState) (c : Call) → Tells v p c (step v c).1 (step v c).0 (want_of (step v c).1)
   tells_step v p c =
-      let none : full_of (step v c).1 ≡ None = ap (λ (b : Bool). if b then full_in (step v c).1.value else None) (int_apart (int_eq (step v c).1.code DISK_FULL) (step v c).1.code DISK_FULL refl (never v c)) in
-      subst (λ (o : Option (ℕ × ℕ)). Tells v p c (step v c).1 (step v c).0 o) (sym none) (refl, refl)
+      let none : want_of (step v c).1 ≡ None = ap (λ (b : Bool). if b then want_in (step v c).1.value else None) (int_apart (int_eq (step v c).1.code DISK_FULL) (step v c).1.code DISK_FULL refl (never v c)) in
+      subst (λ (o : Option Want). Tells v p c (step v c).1 (step v c).0 o) (sym none) (refl, refl)
 
-  pub tells : (v : Volume) (free depth : ℕ) (p : PassState) (c : Call) (r : Reply) (w : Volume) → (w, r) ≡ step_within free depth v c → Tells v p c r w (full_of r)
+  pub tells : (v : Volume) (free depth : ℕ) (p : PassState) (c : Call) (r : Reply) (w : Volume) → (w, r) ≡ step_within free depth v c → Tells v p c r w (want_of r)
   tells v free depth p c r w is = by_test (meets_want_of_nodes free depth v c) refl
     where
-      by_test : (b : Bool) → meets_want_of_nodes free depth v c ≡ b → Tells v p c r w (full_of r)
+      by_test : (b : Bool) → meets_want_of_nodes free depth v c ≡ b → Tells v p c r w (want_of r)
       by_test true meets =
           let out : (w, r) ≡ (v, full free depth) = is ∙ ap (λ (b : Bool). if b then (v, full free depth) else step v c) meets in
-          subst (λ (x : Outcome). Tells v p c x.1 x.0 (full_of x.1)) (sym out) (tells_full v free depth p c meets)
+          subst (λ (x : Outcome). Tells v p c x.1 x.0 (want_of x.1)) (sym out) (tells_full v free depth p c meets)
       by_test false meets =
           let out : (w, r) ≡ step v c = is ∙ ap (λ (b : Bool). if b then (v, full free depth) else step v c) meets in
-          subst (λ (x : Outcome). Tells v p c x.1 x.0 (full_of x.1)) (sym out) (tells_step v p c)
+          subst (λ (x : Outcome). Tells v p c x.1 x.0 (want_of x.1)) (sym out) (tells_step v p c)
 
   pub headline_more : (base current : List ℕ) (journal : List Entry) (p : PassState) (c : Call) (r : Reply) (new : List ℕ)
       → IsHeadline base current journal → (volume_of new, r) ≡ outcome_in current c → p.number ≡ made_by p.worker journal + 1 → Agrees base new → IsHeadline base new (journal ++ entry_of p c r ∷ [])
@@ -96,7 +99,7 @@ module _ (never : StepIsNeverFull) where
         agrees = agrees;
         legal = legal_more (volume_of base) journal e h.legal record {
           stamped = number;
-          answered = subst (λ (v : Volume). IsAnswered v e e.full) h.follows t.0;
+          answered = subst (λ (v : Volume). IsAnswered v e e.want) h.follows t.0;
         };
         follows = t.1 ∙ ap (λ (v : Volume). after_entry v e) h.follows ∙ sym (after_more (volume_of base) journal e);
       }

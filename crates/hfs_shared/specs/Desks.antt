@@ -7,6 +7,8 @@ use Rattle.hfs_model.specs.declared.reply.Reply.{Reply}
 use Rattle.hfs_model.specs.declared.reply.Value.{Value}
 use Rattle.hfs_model.specs.declared.reply.Value.TheVariants as value
 use Rattle.hfs_model.specs.declared.journal.Entry.{Entry}
+use Rattle.hfs_model.specs.declared.journal.Want.{Want}
+use Rattle.hfs_model.specs.declared.journal.Want.TheVariants as want
 use Rattle.hfs_model.specs.Step.{is_reading}
 use Rattle.hfs_model.specs.Runs.{after}
 use Rattle.hfs_check.specs.Agree.{Agrees}
@@ -54,23 +56,23 @@ wanted workers journal w = cond (leb 1 w && leb w workers) (made_by w journal + 
 
 -- ---- one call
 
--- the free nodes and the depth that a value tells
-abbrev pub full_in : Value → Option (ℕ × ℕ)
-full_in value.Nothing = None
-full_in (value.Id id) = None
-full_in (value.One info) = None
-full_in (value.Many infos) = None
-full_in (value.Bytes bytes) = None
-full_in (value.Full free depth) = Some (free, depth)
-full_in (value.Place dir name) = None
+-- the want that a value tells
+abbrev pub want_in : Value → Option Want
+want_in value.Nothing = None
+want_in (value.Id id) = None
+want_in (value.One info) = None
+want_in (value.Many infos) = None
+want_in (value.Bytes bytes) = None
+want_in (value.Full free depth) = Some (want.Nodes free depth)
+want_in (value.Place dir name) = None
 
--- what a reply says of want of nodes
-abbrev pub full_of : Reply → Option (ℕ × ℕ)
-full_of r = if int_eq r.code DISK_FULL then full_in r.value else None
+-- what a reply says of want
+abbrev pub want_of : Reply → Option Want
+want_of r = if int_eq r.code DISK_FULL then want_in r.value else None
 
 -- the journal's entry of a call
 abbrev pub entry_of : PassState → Call → Reply → Entry
-entry_of p c r = record { worker = p.worker; stamp = p.number; call = c; code = r.code; full = full_of r }
+entry_of p c r = record { worker = p.worker; stamp = p.number; call = c; code = r.code; want = want_of r }
 
 -- one call under the lock
 pub record IsApplied (s : DeskState) (p : PassState) (c : Call) (r : Reply) (t : DeskState) (q : PassState) : Type 0 where

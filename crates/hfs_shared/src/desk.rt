@@ -1,10 +1,10 @@
 //! The volume with its journal.
 ghost use Rattle.std.specs.Prelude.{◌≡◌, ◌≤◌, ◌<◌, [], length, IfOk, OnErr, IfErr};
-ghost use Rattle.hfs_shared.specs.Desks.{DeskState, desk_state, pass_state, wanted, full_of, full_in, entry_of, IsHeadline, IsApplied};
+ghost use Rattle.hfs_shared.specs.Desks.{DeskState, desk_state, pass_state, wanted, want_of, want_in, entry_of, IsHeadline, IsApplied};
 ghost use Rattle.hfs_shared.specs.Faults.{IsCallFault};
 
 use crate::pass::Pass;
-use hfs_model::{Call, DISK_FULL, Entry, Reply, Value};
+use hfs_model::{Call, DISK_FULL, Entry, Reply, Value, Want};
 use hfs_volume::Volume;
 use std::alloc::Global;
 use std::marker::Model;
@@ -121,26 +121,29 @@ fn entry(worker: u32, stamp: u64, call: Call, reply: &Reply) -> Entry
         stamp,
         call,
         code: reply.code,
-        full: full_of(reply),
+        want: want_of(reply),
     }
 }
 
-// What a reply says of want of nodes.
-fn full_of(reply: &Reply) -> Option<(u32, u32)>
-    ensures { result ≡ full_of reply.now }
+// What a reply says of want.
+fn want_of(reply: &Reply) -> Option<Want>
+    ensures { result ≡ want_of reply.now }
 {
     if reply.code == DISK_FULL {
-        return full_in(&reply.value);
+        return want_in(&reply.value);
     }
     None
 }
 
-// The free nodes and the depth that a value tells.
-fn full_in(value: &Value) -> Option<(u32, u32)>
-    ensures { result ≡ full_in value.now }
+// The want that a value tells.
+fn want_in(value: &Value) -> Option<Want>
+    ensures { result ≡ want_in value.now }
 {
     match value {
-        Value::Full { free, depth } => Some((*free, *depth)),
+        Value::Full { free, depth } => Some(Want::Nodes {
+            free: *free,
+            depth: *depth,
+        }),
         Value::Nothing
         | Value::Id(_)
         | Value::One(_)

@@ -3,7 +3,7 @@ ghost use Rattle.std.specs.Prelude.{◌≡◌, OnOk};
 
 use crate::sharing::{begun_one, make};
 use hfs_fixtures::{SmallVolume, new_image, small_image};
-use hfs_model::{Bytes, Call, Fork, Reply};
+use hfs_model::{Call, Fork, Reply, SharedBytes};
 use hfs_scripts::{Script, read_script};
 use hfs_shared::{Parts, Pass, Session, Shared, ViewFault, Viewer};
 use hfs_texts::reply_text;
@@ -16,7 +16,7 @@ use std::test::Fail;
 
 /// The call that asks for a part of a file's fork.
 fn reading(alloc: Global, dir: u32, name: &[u8], fork: Fork) -> Result<Call, AllocError> {
-    let name = Bytes::from_slice(alloc, name)?;
+    let name = SharedBytes::from_slice(alloc, name)?;
     Ok(Call::ReadFork {
         dir,
         name,
@@ -28,7 +28,7 @@ fn reading(alloc: Global, dir: u32, name: &[u8], fork: Fork) -> Result<Call, All
 
 /// The call that asks for an item.
 fn asking_info(alloc: Global, dir: u32, name: &[u8]) -> Result<Call, AllocError> {
-    let name = Bytes::from_slice(alloc, name)?;
+    let name = SharedBytes::from_slice(alloc, name)?;
     Ok(Call::GetCatInfo { dir, name })
 }
 
@@ -76,10 +76,15 @@ fn asking(alloc: Global) -> Result<Vec<Call>, AllocError> {
     Ok(calls)
 }
 
-fn ask_info(alloc: Global, viewer: &mut Viewer, dir: u32, name: &Bytes) -> Result<Reply, ViewFault>
+fn ask_info(
+    alloc: Global,
+    viewer: &mut Viewer,
+    dir: u32,
+    name: &SharedBytes,
+) -> Result<Reply, ViewFault>
     ensures { OnOk result (viewer.new.book ≡ viewer.old.book) }
 {
-    match Bytes::from_slice(alloc, name.as_slice()) {
+    match SharedBytes::from_slice(alloc, name.as_slice()) {
         Ok(name) => viewer.info(alloc, dir, name),
         Err(_refused) => Err(ViewFault::Memory),
     }
@@ -89,14 +94,14 @@ fn ask_fork(
     alloc: Global,
     viewer: &mut Viewer,
     dir: u32,
-    name: &Bytes,
+    name: &SharedBytes,
     fork: Fork,
     offset: u32,
     count: u32,
 ) -> Result<Reply, ViewFault>
     ensures { OnOk result (viewer.new.book ≡ viewer.old.book) }
 {
-    match Bytes::from_slice(alloc, name.as_slice()) {
+    match SharedBytes::from_slice(alloc, name.as_slice()) {
         Ok(name) => viewer.read_fork(alloc, dir, name, fork, offset, count),
         Err(_refused) => Err(ViewFault::Memory),
     }

@@ -132,7 +132,7 @@ fn new_plain(alloc: Global) -> Result<PlainVolume, Fail> {
 /// Makes the call of an entry on the plain volume: whether it answers the entry's code.
 fn is_remade(plain: &mut PlainVolume, entry: &Entry) -> Result<bool, AllocError> {
     let reply = plain.call(&entry.call)?;
-    Ok(entry.full.is_none() && reply.code == entry.code)
+    Ok(entry.want.is_none() && reply.code == entry.code)
 }
 
 /// Makes the calls of a journal on the plain volume: whether it answers each the journal's code.

@@ -2,7 +2,7 @@
 ghost use Rattle.std.specs.Prelude.{◌≡◌, ◌<◌, ◌≤◌, All, IfOk, IfSome};
 
 use hfs_fixtures::{FixtureFault, new_image};
-use hfs_model::{Bytes, Call, Info, Reply, Value};
+use hfs_model::{Call, Info, Reply, SharedBytes, Value};
 use hfs_shared::{
     CallFault, Closed, Guard, Parts, Pass, Session, Shared, StartFault, Told, Viewer,
 };
@@ -83,7 +83,7 @@ pub fn begun_one(
 pub fn create(alloc: Global, name: &[u8]) -> Result<Call, AllocError> {
     Ok(Call::Create {
         dir: 2,
-        name: Bytes::from_slice(alloc, name)?,
+        name: SharedBytes::from_slice(alloc, name)?,
         now: 0,
     })
 }

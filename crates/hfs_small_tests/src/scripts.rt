@@ -1,5 +1,5 @@
 //! The text of scripts, a line for each call.
-use hfs_model::{Bytes, Call};
+use hfs_model::{Call, SharedBytes};
 use hfs_scripts::{Caller, ScriptLine, TextFault, read_script, script_text};
 use std::alloc::{AllocError, Global};
 use std::test::Fail;
@@ -77,7 +77,7 @@ fn is_creation_unwritable(
     name: &[u8],
     now: u32,
 ) -> Result<bool, AllocError> {
-    let name = Bytes::from_slice(alloc, name)?;
+    let name = SharedBytes::from_slice(alloc, name)?;
     is_unwritable(alloc, caller, Call::Create { dir: 2, name, now })
 }
 

@@ -59,9 +59,16 @@ abbrev pub Gains : List Entry → List Entry → ℕ → Item → ℕ → Type 0
 Gains old new id item now = AreEntries old id → AreEntries new (id + 1)
     × (map.from_sorted new ≡ touched (map.insert (map.from_sorted old) id item) item.parent now)
 
--- the volume of these entries, with no lock set
+-- the volume of these entries, with no lock set, and with allocation blocks of 512 bytes
 abbrev pub unlocked_volume : List Entry → ℕ → ℕ → Volume
-unlocked_volume es next changed = record { items = map.from_sorted es; next_id = next; changed = changed; hardware_locked = false; software_locked = false }
+unlocked_volume es next changed = record {
+  items = map.from_sorted es;
+  next_id = next;
+  changed = changed;
+  hardware_locked = false;
+  software_locked = false;
+  block_size = 512;
+}
 
 -- a volume with an item under an ID that is the last one
 abbrev pub with_last : Volume → ℕ → Item → Volume
@@ -70,6 +77,10 @@ with_last v id item = record v { items = map.insert v.items id item; next_id = i
 -- a volume with these locks
 abbrev pub with_locks : Bool → Bool → Volume → Volume
 with_locks hardware software v = record v { hardware_locked = hardware; software_locked = software }
+
+-- a volume whose allocation blocks have so many bytes
+abbrev pub with_block_size : ℕ → Volume → Volume
+with_block_size size v = record v { block_size = size }
 
 -- the folder with that ID has one child more
 abbrev pub HasOneMore : Volume → Volume → ℕ → Type 0
@@ -92,7 +103,14 @@ abbrev pub HasMadeSome : Volume → Volume → List Call → Type 0
 HasMadeSome old new calls = (made : ℕ) × (made ≤ length calls) × (new ≡ (run old (take made calls)).0)
 
 abbrev pub volume_of : Inside → Volume
-volume_of a = record { items = map.from_sorted a.items.items; next_id = a.next_id; changed = a.changed; hardware_locked = a.hardware_locked; software_locked = a.software_locked }
+volume_of a = record {
+  items = map.from_sorted a.items.items;
+  next_id = a.next_id;
+  changed = a.changed;
+  hardware_locked = a.hardware_locked;
+  software_locked = a.software_locked;
+  block_size = a.block_size;
+}
 
 abbrev pub IsPlainVolume : Inside → Type 0
 IsPlainVolume a = AreEntries a.items.items a.next_id

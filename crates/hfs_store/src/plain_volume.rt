@@ -9,7 +9,7 @@ ghost use Rattle.hfs_model.specs.Changes.{delete, rename, cat_move, create, set_
 ghost use Rattle.hfs_model.specs.FileIds.{to_create_file_id, to_delete_file_id, create_file_id, delete_file_id, resolve_file_id};
 ghost use Rattle.hfs_model.specs.Step.{step, is_reading, new_volume};
 ghost use Rattle.hfs_store.specs.Setting.{is_setting};
-ghost use Rattle.hfs_store.specs.PlainVolume.{AreEntries, Gives, GivesOutcome, HasMadeSome, HasOneMore, IsPlaceIn, unlocked_volume, with_last, with_locks};
+ghost use Rattle.hfs_store.specs.PlainVolume.{AreEntries, Gives, GivesOutcome, HasMadeSome, HasOneMore, IsPlaceIn, unlocked_volume, with_block_size, with_last, with_locks};
 ghost use Rattle.hfs_fields.specs.Names.{is_item_name};
 
 use crate::changes::{
@@ -31,7 +31,7 @@ use std::alloc::{AllocError, Global};
 use std::marker::Model;
 
 /// A volume as a list of items in the order of their IDs. Contracts see the model volume: a finite map from ID to item,
-/// the next ID, the moment of the last change and two locks.
+/// the next ID, the moment of the last change, two locks and the size of an allocation block.
 ///
 /// Each call searches the whole list, some of them once for each item. The methods named for a call answer as
 /// [`PlainVolume::call`] does, and `docs/CALLS.md` says what that is. `Err` comes only where memory is wanting; then the
@@ -44,6 +44,7 @@ pub struct PlainVolume {
     changed: u32,
     hardware_locked: bool,
     software_locked: bool,
+    block_size: u32,
 }
 
 impl Model for PlainVolume {
@@ -62,7 +63,7 @@ impl Model for PlainVolume {
 
 #[tactic(auto, using(crate::proofs::ById::entries_back))]
 impl PlainVolume {
-    /// A new volume, with its root alone. `Err` only where memory is wanting.
+    /// A new volume, with its root alone, and allocation blocks of 512 bytes. `Err` only where memory is wanting.
     pub fn new(alloc: Global, name: Name, now: u32) -> Result<Self, AllocError>
         ensures { IfOk result (λ s. s ≡ new_volume name now) }
     {
@@ -75,10 +76,11 @@ impl PlainVolume {
             changed: now,
             hardware_locked: false,
             software_locked: false,
+            block_size: 512,
         })
     }
 
-    /// The volume of these items, with no lock set. Their IDs rise and are below `next_id`, and no
+    /// The volume of these items, with no lock set, and allocation blocks of 512 bytes. Their IDs rise and are below `next_id`, and no
     /// folder has more than 65,535 items. Takes no memory.
     pub fn of(alloc: Global, items: Vec<(u32, Item)>, next_id: u32, changed: u32) -> Self
         requires { AreEntries items.items next_id }
@@ -91,6 +93,7 @@ impl PlainVolume {
             changed,
             hardware_locked: false,
             software_locked: false,
+            block_size: 512,
         }
     }
 
@@ -117,6 +120,13 @@ impl PlainVolume {
     {
         self.hardware_locked = hardware;
         self.software_locked = software;
+    }
+
+    /// Sets how many bytes an allocation block has.
+    pub fn set_block_size(&mut self, bytes: u32)
+        ensures { self.new ≡ with_block_size bytes self.old }
+    {
+        self.block_size = bytes;
     }
 
     /// The ID that the next new item gets.
@@ -154,6 +164,13 @@ impl PlainVolume {
         ensures { result ≡ self.now.software_locked }
     {
         self.software_locked
+    }
+
+    /// How many bytes an allocation block has.
+    pub fn block_size(&self) -> u32
+        ensures { result ≡ self.now.block_size }
+    {
+        self.block_size
     }
 
     /// The items in the order of their IDs.

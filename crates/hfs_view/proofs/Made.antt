@@ -160,6 +160,7 @@ module _ (image : List ℕ) (sound : IsSound image) (catalog_law : CatalogIsSoun
         changed = (over i).changed;
         hardware_locked = (over i).hardware_locked;
         software_locked = (over i).software_locked;
+        block_size = (over i).mdb.allocation_block_size;
       }
 
 module _ (base image : List ℕ) (maps : Maps) (base_sound : IsSound base) (agrees : Agrees base image) (catalog_law : CatalogIsSound) (records_law : ItemsAreRecords) (named_law : NamedAreRecords) (lawful_law : SoundImagesAreLawful)

@@ -4,9 +4,9 @@ use Rattle.std.specs.List.{flat_map, range_with_len}
 use Rattle.hfs_blocks.specs.Blocks.{run_of}
 use Rattle.hfs_space.specs.Bitmap.{bitmap_len}
 use Rattle.hfs_check.specs.Parts.{Blocks, mdb_in}
-use Rattle.hfs_check.specs.Agree.{changing_blocks, KeepsVolume}
+use Rattle.hfs_check.specs.Agree.{changing_blocks}
 use Rattle.hfs_volume.specs.Layout.{SameLayout}
-use Rattle.hfs_check.proofs.Stays.{run_by}
+use Rattle.hfs_check.proofs.Stays.{KeepsVolume, run_by}
 use Rattle.hfs_volume.proofs.LayoutLemmas.{same_layout}
 
 module _ (old new : Blocks) (kept : KeepsVolume old new) where

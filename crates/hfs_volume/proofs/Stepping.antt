@@ -1,5 +1,5 @@
 -- A change that was laid over an image.
-use Rattle.std.proofs.Common.{◌≡◌, ℕ, ◌/◌, Ok, List, length, sym, ap, ◌∙◌, subst}
+use Rattle.std.proofs.Common.{◌≡◌, ℕ, ◌/◌, Ok, Option, Vec, Global, List, length, sym, ap, ◌∙◌, subst}
 use Rattle.std.specs.List.{flat_map}
 use Rattle.hfs_fields.specs.declared.mdb.Mdb.{Mdb}
 use Rattle.hfs_fields.specs.declared.extent.Extent.{Extent}
@@ -11,14 +11,15 @@ use Rattle.hfs_space.specs.TreeFiles.{tree_blocks}
 use Rattle.hfs_space.proofs.TreeFileLemmas.{nodes_in-tree_blocks}
 use Rattle.hfs_model.specs.declared.call.Call.{Call}
 use Rattle.hfs_model.specs.Step.{step}
-use Rattle.hfs_check.specs.Agree.{Agrees, KeepsVolume}
+use Rattle.hfs_check.specs.Agree.{Agrees}
+use Rattle.hfs_check.proofs.Stays.{KeepsVolume}
 use Rattle.hfs_check.proofs.LawTypes.{AgreesOn}
 use Rattle.hfs_check.specs.Parts.{Blocks, mdb_in, catalog_extents, extents_blocks, extents_nodes, catalog_blocks, catalog_nodes}
 use Rattle.hfs_check.specs.Sound.{IsImageLength, AreBlocksSound, IsSound}
 use Rattle.hfs_check.specs.VolumeOf.{volume_in, volume_of}
-use Rattle.hfs_changes.specs.Laws.{IsStepped}
+use Rattle.hfs_changes.specs.Laws.{IsStepped, IsSteppedBut}
 use Rattle.hfs_call_patches.specs.declared.change.Change.{Change}
-use Rattle.hfs_call_patches.specs.CallChanges.{IsChangeOf}
+use Rattle.hfs_call_patches.specs.CallChanges.{IsChangeOf, written_blocks}
 use Rattle.hfs_volume.specs.Image.{ImageValue}
 use Rattle.hfs_volume.specs.Laid.{laid_over}
 use Rattle.hfs_volume.specs.Mounted.{IsMounted}
@@ -99,21 +100,25 @@ module _ (own value after : ImageValue) (mdb : Mdb) (extents catalog : List Run)
     here : IsChangeOf c (block_count own.current) (block_at own.current) change
     here = (subst (λ (v : ImageValue). IsEditOn c v.current (Ok change)) (sym view_is) is).comes
 
+    -- no block of a fork was written
+    stepped_here : IsStepped c (block_count own.current) (block_at own.current) (over (changes change.patch) (block_at own.current))
+    stepped_here = subst (λ (w : Option (Vec Run Global)). IsSteppedBut (written_blocks w) c (block_count own.current) (block_at own.current) (over (changes change.patch) (block_at own.current))) here.unwritten here.stepped
+
     pub committed_volume : volume_of after.current ≡ (step (volume_of value.current) c).0
     committed_volume =
-        volume_after c change.counts own.base own.current after.current (changes change.patch) mounted.agrees here.within here.stepped here.directory laid
+        volume_after c change.counts own.base own.current after.current (changes change.patch) mounted.agrees here.within stepped_here here.directory laid
         ∙ ap (λ (v : ImageValue). (step (volume_of v.current) c).0) view_is
 
     pub committed_mounted : AgreesOn → after.base ≡ own.base → IsMounted after (with_counts change.counts mdb) extents catalog
     committed_mounted on base =
-        let count = count_after c change.counts own.base own.current after.current (changes change.patch) mounted.agrees here.within here.stepped here.directory laid in
-        let first = mounted.extents_blocks ∙ sym (extents_after c change.counts own.base own.current after.current (changes change.patch) mounted.agrees here.within here.stepped here.directory laid) in
-        let second = mounted.catalog_blocks ∙ sym (catalog_after c change.counts own.base own.current after.current (changes change.patch) mounted.agrees here.within here.stepped here.directory laid) in
+        let count = count_after c change.counts own.base own.current after.current (changes change.patch) mounted.agrees here.within stepped_here here.directory laid in
+        let first = mounted.extents_blocks ∙ sym (extents_after c change.counts own.base own.current after.current (changes change.patch) mounted.agrees here.within stepped_here here.directory laid) in
+        let second = mounted.catalog_blocks ∙ sym (catalog_after c change.counts own.base own.current after.current (changes change.patch) mounted.agrees here.within stepped_here here.directory laid) in
         record {
           base = subst IsSound (sym base) mounted.base;
           agrees = subst (λ (b : List ℕ). Agrees b after.current) (sym base)
-              (agrees_after c change.counts own.base own.current after.current (changes change.patch) mounted.agrees here.within here.stepped here.directory laid on);
-          directory = ap (with_counts change.counts) mounted.directory ∙ sym (mdb_after c change.counts own.base own.current after.current (changes change.patch) mounted.agrees here.within here.stepped here.directory laid);
+              (agrees_after c change.counts own.base own.current after.current (changes change.patch) mounted.agrees here.within stepped_here here.directory laid on);
+          directory = ap (with_counts change.counts) mounted.directory ∙ sym (mdb_after c change.counts own.base own.current after.current (changes change.patch) mounted.agrees here.within stepped_here here.directory laid);
           extents_within = subst (AreRunsWithin extents) (sym count) mounted.extents_within;
           extents_blocks = first;
           extents_nodes = extents_in (block_at after.current) extents first;

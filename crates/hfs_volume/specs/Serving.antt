@@ -25,9 +25,13 @@ free_in image = free_nodes (catalog_nodes (block_at image))
 abbrev pub depth_in : List ℕ → ℕ
 depth_in image = depth_of (catalog_nodes (block_at image))
 
--- what the call makes of the image's volume, and answers, with the nodes that the catalog has
+-- what a call of which nothing but the catalog's nodes may be wanting makes of the image's volume, and answers
+abbrev pub within_nodes : List ℕ → Call → Outcome
+within_nodes image c = step_within (free_in image) (depth_in image) (volume_of image) c
+
+-- what the call makes of the image's volume, and answers; no call is one that may want blocks
 abbrev pub outcome_in : List ℕ → Call → Outcome
-outcome_in image c = step_within (free_in image) (depth_in image) (volume_of image) c
+outcome_in image c = within_nodes image c
 
 -- ---- what it answers a reader
 

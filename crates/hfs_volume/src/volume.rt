@@ -344,6 +344,7 @@ impl Volume {
         let Change {
             patch,
             counts,
+            written: _written,
             value,
         } = change;
         self.image.commit(&patch)?;

@@ -18,11 +18,11 @@ use Rattle.hfs_space.specs.Bitmap.{bitmap_len}
 use Rattle.hfs_space.specs.TreeFiles.{node_count, tree_blocks}
 use Rattle.hfs_space.specs.TreeKeys.{ext_keys}
 use Rattle.hfs_catalog.specs.Tree.{cat_keys}
-use Rattle.hfs_check.specs.Agree.{IsBeside, IsSpareBit, KeepsVolume}
+use Rattle.hfs_check.specs.Agree.{IsBeside, IsSpareBit}
 use Rattle.hfs_check.specs.Parts.{Blocks, mdb_in, extents_blocks, extents_nodes, catalog_blocks, catalog_nodes, catalog_in, is_marked_in}
 use Rattle.hfs_check.specs.Sound.{IsImageLength, AreBlocksSound, IsSound}
 use Rattle.hfs_check.specs.VolumeOf.{volume_of}
-use Rattle.hfs_check.proofs.Stays.{run_by}
+use Rattle.hfs_check.proofs.Stays.{KeepsVolume, run_by}
 use Rattle.hfs_needed.specs.Needed.{AgreeOn}
 use Rattle.hfs_volume.specs.Image.{patched}
 use Rattle.hfs_volume.specs.Layout.{SameLayout}

@@ -155,6 +155,7 @@ module _ (total : ℕ) (old new : Blocks) (h : AgreeOn (working_blocks total old
     changed = (mdb-is i).modified;
     hardware_locked = is_bit_set 7 (mdb-is i).attributes.0;
     software_locked = is_bit_set 15 (mdb-is i).attributes.0;
+    block_size = (mdb-is i).allocation_block_size;
   }
 
   -- a fork whose blocks are the same

@@ -1,6 +1,6 @@
 use Rattle.std.proofs.Common.{List, sym, ◌∙◌, ap, subst}
 use Rattle.hfs_model.specs.Volume.{Entry}
-use Rattle.hfs_store.specs.PlainVolume.{AreEntries, unlocked_volume, with_locks}
+use Rattle.hfs_store.specs.PlainVolume.{AreEntries, unlocked_volume, with_block_size, with_locks}
 use Rattle.hfs_plain.proofs.Rows.{are_entries, locked_is}
 use Rattle.hfs_plain.proofs.opening.plain_table.Goals as goal
 
@@ -12,6 +12,7 @@ of-plain-requires c =
 pub returns : goal.returns
 returns c =
     let t = c.args.table.now in
-    c.set_locks.ensures
-    ∙ ap (with_locks t.hardware_locked t.software_locked) (c.of-plain.ensures ∙ ap (λ (es : List Entry). unlocked_volume es t.next_id t.changed) c.in_ok-items.ensures)
+    c.set_block_size.ensures
+    ∙ ap (with_block_size t.mdb.allocation_block_size) (c.set_locks.ensures
+    ∙ ap (with_locks t.hardware_locked t.software_locked) (c.of-plain.ensures ∙ ap (λ (es : List Entry). unlocked_volume es t.next_id t.changed) c.in_ok-items.ensures))
     ∙ locked_is t

@@ -1,5 +1,5 @@
 -- The patch makes the step of CatMove, or a code refuses it, or nodes are lacking.
-use Rattle.std.proofs.Common.{rules, refl, sym, ◌∙◌, ap, subst}
+use Rattle.std.proofs.Common.{rules, refl, sym, ◌∙◌, ap, subst, None}
 use Rattle.hfs_model.specs.Need.{one_record}
 use Rattle.hfs_check.specs.Parts.{mdb_in}
 use Rattle.hfs_check.specs.VolumeOf.{volume_in}
@@ -56,7 +56,7 @@ returns g c =
     step_made blocks g.B.Blocks.total volume own c.self.view_is catalog_edits_are_steps move
     (enough_nodes move (blocks volume) one_record (λ depth. refl) c.in_default.ensures.refusal)
     c.in_ok-patch.patch (λ old. counts_moved c.in-Ok.moving c.args.now (mdb_in old)) c.change_of.result
-    (c.change_of.ensures ∙ (λ i. record { patch = c.in_ok-patch.patch; counts = counts i; value = value.Nothing })) now.sound c.in_ok-patch.ensures.within
+    (c.change_of.ensures ∙ (λ i. record { patch = c.in_ok-patch.patch; counts = counts i; written = None; value = value.Nothing })) now.sound c.in_ok-patch.ensures.within
     (c.in_ok-patch.ensures.makes c.args.dir c.args.name.now c.args.new_dir
     (subst (λ b. IsMoving (blocks b) c.args.dir c.args.name.now c.args.new_dir c.in-Ok.moving) (sym c.self.view_is) c.in-Ok.ensures))
     (move_accepted (blocks volume) c.args.dir c.args.now c.args.new_dir c.args.name.now c.in-Ok.moving c.in-Ok.ensures)

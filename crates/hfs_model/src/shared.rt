@@ -1,0 +1,73 @@
+//! Bytes that several owners share.
+ghost use Rattle.std.specs.Prelude.{◌≡◌, ◌≤◌, length, slice_range, IfOk};
+
+use crate::call::Call;
+use std::alloc::{AllocError, Global};
+use std::marker::Model;
+
+/// Bytes in memory that are never changed, as those that calls take. A copy or a part of them copies no byte, and another thread may hold
+/// it. Contracts see their list.
+#[derive(Drop)]
+pub struct SharedBytes {
+    bytes: bytes::Bytes,
+}
+
+impl Model for SharedBytes {
+    ghost use Rattle.std.specs.Prelude.{ℕ, List};
+
+    ghost Value = { List ℕ };
+
+    ghost view = { λ a. a.bytes };
+}
+
+impl SharedBytes {
+    /// A copy of the bytes, which are shared from then on. `Err` only where memory is wanting.
+    pub fn from_slice(alloc: Global, bytes: &[u8]) -> Result<Self, AllocError>
+        ensures { IfOk result (λ b. b ≡ bytes.now) }
+    {
+        Ok(SharedBytes {
+            bytes: bytes::Bytes::copy_from_slice(alloc, bytes)?,
+        })
+    }
+
+    /// The bytes.
+    pub fn as_slice(&self) -> &[u8]
+        ensures { result.now ≡ self.now }
+    {
+        self.bytes.as_slice()
+    }
+
+    /// The bytes from one place to another, which are shared, too. `Err` only where there are too many owners.
+    pub fn part(&self, from: usize, to: usize) -> Result<Self, AllocError>
+        requires rising { from ≤ to }
+        requires within { to ≤ length self.now }
+        ensures { IfOk result (λ b. b ≡ slice_range self.now from to) }
+    {
+        Ok(SharedBytes {
+            bytes: self.bytes.slice(from..to)?,
+        })
+    }
+}
+
+impl Clone for SharedBytes {
+    ghost is_clone = { λ x y. y ≡ x };
+
+    fn clone(&self) -> Result<SharedBytes, AllocError> {
+        Ok(SharedBytes {
+            bytes: self.bytes.clone()?,
+        })
+    }
+}
+
+fn crosses<T: Send>() {}
+
+fn shares<T: Sync>() {}
+
+/// Shared bytes go to other threads, and several threads read them at once; calls, too. It does nothing: that it passes the compiler is
+/// what it says.
+pub fn may_cross() {
+    crosses::<SharedBytes>();
+    shares::<SharedBytes>();
+    crosses::<Call>();
+    shares::<Call>();
+}

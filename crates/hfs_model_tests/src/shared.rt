@@ -1,0 +1,18 @@
+//! Bytes that several owners share.
+use hfs_model::SharedBytes;
+use std::alloc::{AllocError, Global};
+use std::test::Fail;
+
+/// A part of shared bytes outlives them, and so does a copy of the part.
+fn part_of_five(alloc: Global) -> Result<SharedBytes, AllocError> {
+    let bytes = SharedBytes::from_slice(alloc, b"abcde")?;
+    let part = bytes.part(1, 4)?;
+    part.clone()
+}
+
+#[test]
+fn a_part_is_shared(rt: HostRuntime) -> Result<(), Fail> {
+    let part = part_of_five(rt.alloc())?;
+    assert!(rt; part.as_slice() == b"bcd");
+    Ok(())
+}
