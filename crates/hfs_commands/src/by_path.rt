@@ -42,7 +42,7 @@ pub fn seen_path_reply<S: PlacedBlocks + Drop>(
 {
     let found = path_names(alloc, path.as_bytes())?;
     match found {
-        Some(names) => Ok(image.item_at(&names)),
+        Some(names) => Ok(image.item_at(names.as_slice())),
         None => Ok(refusal(NOT_FOUND)),
     }
 }
