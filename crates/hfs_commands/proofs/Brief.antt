@@ -1,5 +1,5 @@
 -- The lines of a list don't tell whether a file has a thread.
-use Rattle.std.proofs.Common.{◌≡◌, ◌∙◌, ℕ, List, [], ◌∷◌, ◌++◌, map, refl, ap, Option, Some, None}
+use Rattle.std.proofs.Common.{◌≡◌, ◌∙◌, ℕ, List, [], ◌∷◌, ◌++◌, map, refl, ap}
 use Rattle.std.specs.Prelude.{codes}
 use Rattle.std.specs.Fmt.{decimal}
 use Rattle.hfs_model.specs.declared.reply.Info.{Info}
@@ -9,7 +9,6 @@ use Rattle.hfs_model.specs.declared.reply.Reply.{Reply}
 use Rattle.hfs_model.specs.declared.reply.Value.{Value}
 use Rattle.hfs_model.specs.declared.reply.Value.TheVariants as value
 use Rattle.hfs_queries.specs.Brief.{without_id, value_without_ids, without_ids}
-use Rattle.hfs_commands.specs.declared.fault.Status.{Status}
 use Rattle.hfs_commands.specs.Faults.{status_number}
 use Rattle.hfs_commands.specs.Listing.{child_line, child_lines, code_line, tabbed, tabbed_sizes, listed_lines, listed_status, list_lines, list_status}
 use Rattle.hfs_texts.specs.Answers.{kind_text}

@@ -1,9 +1,9 @@
 -- Volumes that hold the same have the same page.
-use Rattle.std.proofs.Common.{◌≡◌, ℕ, zero, suc, ◌+◌, ◌<◌, Bool, List, [], ◌∷◌, ◌++◌, length, map, Option, Result, Ok, Err, OnOk, OnErr, refl, sym, ap, subst, ◌∙◌, ◌/◌, arith}
+use Rattle.std.proofs.Common.{◌≡◌, ℕ, zero, suc, ◌+◌, ◌<◌, Bool, List, ◌∷◌, ◌++◌, length, map, Option, Result, Ok, Err, OnOk, OnErr, refl, sym, ap, subst, ◌∙◌, ◌/◌, arith}
 use Rattle.std.specs.Io.KnownBytes.{Appends}
 use Rattle.std.specs.List.{range_with_len}
 use Rattle.hfs_space.specs.Bitmap.{is_used}
-use Rattle.hfs_check.specs.Parts.{Blocks, catalog_in, mdb_in, overflow_in}
+use Rattle.hfs_check.specs.Parts.{Blocks, mdb_in}
 use Rattle.hfs_inventory.specs.Levels.{catalog_rows}
 use Rattle.hfs_blocks.specs.Blocks.{block_at}
 use Rattle.hfs_blocks.specs.Layers.{Numbered}
