@@ -1,5 +1,5 @@
 -- The lines of a list don't tell whether a file has a thread.
-use Rattle.std.proofs.Common.{◌≡◌, ◌∙◌, ℕ, List, [], ◌∷◌, ◌++◌, map, refl, ap, Option, Some, None}
+use Rattle.std.proofs.Common.{◌≡◌, ◌∙◌, ℕ, List, [], ◌∷◌, ◌++◌, map, refl, ap}
 use Rattle.std.specs.Prelude.{codes}
 use Rattle.std.specs.Fmt.{decimal}
 use Rattle.hfs_model.specs.declared.reply.Info.{Info}
@@ -8,14 +8,9 @@ use Rattle.hfs_model.specs.declared.reply.ItemKind.TheVariants.{Folder, File}
 use Rattle.hfs_model.specs.declared.reply.Reply.{Reply}
 use Rattle.hfs_model.specs.declared.reply.Value.{Value}
 use Rattle.hfs_model.specs.declared.reply.Value.TheVariants as value
-use Rattle.hfs_model.specs.Children.{entries_of}
-use Rattle.hfs_model.specs.Reading.{list}
-use Rattle.hfs_check.specs.VolumeOf.{volume_of}
 use Rattle.hfs_queries.specs.Brief.{without_id, value_without_ids, without_ids}
-use Rattle.hfs_needed.specs.Known.{OfKnown}
-use Rattle.hfs_commands.specs.declared.fault.Status.{Status}
 use Rattle.hfs_commands.specs.Faults.{status_number}
-use Rattle.hfs_commands.specs.Listing.{child_line, child_lines, code_line, tabbed, tabbed_sizes, listed_lines, listed_status, list_lines, list_status, folder_lines}
+use Rattle.hfs_commands.specs.Listing.{child_line, child_lines, code_line, tabbed, tabbed_sizes, listed_lines, listed_status, list_lines, list_status}
 use Rattle.hfs_texts.specs.Answers.{kind_text}
 use Rattle.hfs_texts.specs.Lines.{item_name_text}
 
@@ -49,14 +44,6 @@ listed-brief (value.Place dir name) reply = refl
 pub list_lines-brief : (reply : Reply) → list_lines (without_ids reply) ≡ list_lines reply
 list_lines-brief reply = listed-brief reply.value reply
 
--- of an image that may be known
-pub lines-known : (known : Option (List ℕ)) (len : ℕ) (reply : Reply) (lines : List ℕ) (dir : ℕ) → lines ≡ list_lines reply
-    → OfKnown known len (λ image. reply ≡ without_ids (list (entries_of (volume_of image)) dir))
-    → OfKnown known len (λ image. lines ≡ folder_lines (entries_of (volume_of image)) dir)
-lines-known None len reply lines dir e h = tt
-lines-known (Some image) len reply lines dir e h = λ same.
-    e ∙ ap list_lines (h same) ∙ list_lines-brief (list (entries_of (volume_of image)) dir)
-
 -- ---- the exit status
 
 value-status : (v : Value) → listed_status (value_without_ids v) ≡ listed_status v
@@ -68,12 +55,5 @@ value-status (value.Bytes bytes) = refl
 value-status (value.Full free depth) = refl
 value-status (value.Place dir name) = refl
 
-status-brief : (reply : Reply) → list_status (without_ids reply) ≡ list_status reply
-status-brief reply = ap status_number (value-status reply.value)
-
-pub status-known : (known : Option (List ℕ)) (len : ℕ) (reply : Reply) (number dir : ℕ) → number ≡ list_status reply
-    → OfKnown known len (λ image. reply ≡ without_ids (list (entries_of (volume_of image)) dir))
-    → OfKnown known len (λ image. number ≡ list_status (list (entries_of (volume_of image)) dir))
-status-known None len reply number dir e h = tt
-status-known (Some image) len reply number dir e h = λ same.
-    e ∙ ap list_status (h same) ∙ status-brief (list (entries_of (volume_of image)) dir)
+pub list_status-brief : (reply : Reply) → list_status (without_ids reply) ≡ list_status reply
+list_status-brief reply = ap status_number (value-status reply.value)

@@ -29,3 +29,16 @@ pub of_file : (known : Option (List ℕ)) (len : ℕ) (path : List ℕ) (reply f
     → OfKnown known len (IsFilePathReply path found)
 of_file None len path reply found h e = tt
 of_file (Some image) len path reply found h e = λ same. e ∙ ap file_reply (h same)
+
+-- ---- of one image
+
+seen-found : (image path : List ℕ) (reply : Reply) (found : Option (List (List ℕ))) → found ≡ path_names path
+    → reply ≡ option_map_or (path_told (entries_in image)) found (refusal NOT_FOUND) → IsPathReply path reply image
+seen-found image path reply found e h = subst (λ (f : Option (List (List ℕ))). reply ≡ option_map_or (path_told (entries_in image)) f (refusal NOT_FOUND)) e h
+
+pub seen_names : (image path : List ℕ) (reply : Reply) (names : List (List ℕ)) → Some names ≡ path_names path
+    → reply ≡ path_told (entries_in image) names → IsPathReply path reply image
+seen_names image path reply names e h = seen-found image path reply (Some names) e h
+
+pub seen_none : (image path : List ℕ) (reply : Reply) → None ≡ path_names path → reply ≡ refusal NOT_FOUND → IsPathReply path reply image
+seen_none image path reply e h = seen-found image path reply None e h

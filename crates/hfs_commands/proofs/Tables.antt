@@ -1,15 +1,15 @@
 -- What is written of a table while its rows come.
-use Rattle.std.proofs.Common.{◌≡◌, ◌∙◌, refl, sym, ap, subst, arith, ℕ, ◌+◌, ◌≤◌, Bool, true, false, Some, None, List, [], ◌∷◌, ◌++◌, length, take, min, Option, append_assoc, append-nil}
+use Rattle.std.proofs.Common.{◌≡◌, ◌∙◌, sym, ap, subst, ℕ, ◌+◌, Bool, true, false, List, [], ◌++◌, Option, Result, Ok, Err, OnOk, OnErr, append_assoc}
 use Rattle.std.specs.Io.KnownBytes.{Appends}
-use Rattle.std.proofs.KnownBytes.{Appends-nil, Appends-trans}
-use Rattle.hfs_inventory.specs.Told.{ToldRow}
+use Rattle.std.proofs.KnownBytes.{Appends-nil}
+use Rattle.hfs_inventory.specs.Told.{ToldRow, told_rows}
 use Rattle.hfs_table.specs.Lines.{head_text}
 use Rattle.hfs_table.specs.declared.format.Format.{Format}
 use Rattle.hfs_texts.specs.Writing.{AppendsFront}
-use Rattle.hfs_needed.specs.Known.{OfKnown}
-use Rattle.hfs_needed.specs.Listing.{HoldsTable}
 use Rattle.hfs_inventory.specs.Levels.{Going}
-use Rattle.hfs_commands.specs.Items.{MovesRow, items_text, rows_text, table_text}
+use Rattle.hfs_source.specs.Images.{OfEach}
+use Rattle.hfs_commands.specs.Entries.{entries_in}
+use Rattle.hfs_commands.specs.Items.{MovesRow, WritesItems, WritesItemsFront, items_text, rows_text, table_text}
 use Rattle.hfs_commands.proofs.Rows.{front_first, front_next, whole_next}
 
 -- these bytes went out; the text that is gathered and the lines of the rows that are to come make the rest
@@ -57,8 +57,17 @@ pub begins : (format : Format) (start : Option (List ℕ)) (text : List ℕ) (le
 unfolding table_text
 begins format start text left head = record { out = []; written = Appends-nil start; rest = ap (λ (l : List ℕ). l ++ rows_text format left) (sym head) }
 
--- the table of the rows to come is that of an image whose rows they are
-pub known-text : (P : List ℕ → Type 0) (format : Format) (known : Option (List ℕ)) (len : ℕ) (inventory : Going) → HoldsTable known len inventory → P (table_text format inventory.left)
-    → OfKnown known len (λ image. P (items_text format image))
-known-text P format None len inventory holds p = tt
-known-text P format (Some bytes) len inventory holds p = λ same. subst P (ap (table_text format) (holds same)) p
+-- the table of the rows to come is that of each image whose rows they are
+module _ (format : Format) (Holds : List ℕ → Type 0) (inventory : Going) (rows : OfEach Holds (λ image. inventory.left ≡ told_rows (entries_in image))) where
+  table-each : (P : List ℕ → Type 0) → P (table_text format inventory.left) → OfEach Holds (λ image. P (items_text format image))
+  table-each P p = λ image h. subst P (ap (table_text format) (rows image h)) p
+
+  pub written-each : {T E : Type 0} (r : Result T E) (old new : Option (List ℕ)) → OnOk r (Appends old new (table_text format inventory.left))
+      → OnOk r (OfEach Holds (WritesItems format old new))
+  written-each (Ok x) old new h = table-each (λ (bytes : List ℕ). Appends old new bytes) h
+  written-each (Err e) old new h = tt
+
+  pub part-each : {T E : Type 0} (r : Result T E) (old new : Option (List ℕ)) → OnErr r (AppendsFront old new (table_text format inventory.left))
+      → OnErr r (OfEach Holds (WritesItemsFront format old new))
+  part-each (Ok x) old new h = tt
+  part-each (Err e) old new h = table-each (λ (bytes : List ℕ). AppendsFront old new bytes) h

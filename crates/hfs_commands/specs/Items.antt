@@ -2,8 +2,6 @@
 use Rattle.std.specs.Prelude.{◌≡◌, ℕ, suc, Bool, true, false, List, [], ◌++◌, length, flat_map, Option}
 use Rattle.std.specs.Io.KnownBytes.{Appends}
 use Rattle.hfs_inventory.specs.Told.{ToldRow, told_rows}
-use Rattle.hfs_needed.specs.Known.{OfKnown}
-use Rattle.hfs_needed.specs.OpenedValues.{OpenedValue}
 use Rattle.hfs_table.specs.Lines.{head_text, row_text}
 use Rattle.hfs_table.specs.declared.format.Format.{Format}
 use Rattle.hfs_texts.specs.Writing.{AppendsFront}
@@ -21,13 +19,13 @@ table_text format rows = head_text format ++ rows_text format rows
 abbrev pub items_text : Format → List ℕ → List ℕ
 items_text format image = table_text format (told_rows (entries_in image))
 
--- where the opened image's bytes are known, the writer is given its table
-abbrev pub WritesItems : Format → OpenedValue → Option (List ℕ) → Option (List ℕ) → Type 0
-WritesItems format opened old new = OfKnown opened.known opened.len (λ image. Appends old new (items_text format image))
+-- the writer is given the table of an image
+abbrev pub WritesItems : Format → Option (List ℕ) → Option (List ℕ) → List ℕ → Type 0
+WritesItems format old new = λ image. Appends old new (items_text format image)
 
 -- or a part of it, from the beginning on
-abbrev pub WritesItemsFront : Format → OpenedValue → Option (List ℕ) → Option (List ℕ) → Type 0
-WritesItemsFront format opened old new = OfKnown opened.known opened.len (λ image. AppendsFront old new (items_text format image))
+abbrev pub WritesItemsFront : Format → Option (List ℕ) → Option (List ℕ) → List ℕ → Type 0
+WritesItemsFront format old new = λ image. AppendsFront old new (items_text format image)
 
 -- the line of the first of the rows came to the text, where there is one
 abbrev pub MovesRow : Format → Bool → List ℕ → List ℕ → List ToldRow → List ToldRow → Type 0

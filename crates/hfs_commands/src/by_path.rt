@@ -2,11 +2,13 @@
 ghost use Rattle.std.specs.Prelude.{◌≡◌, IfOk};
 ghost use Rattle.hfs_needed.specs.Known.{OfKnown};
 ghost use Rattle.hfs_commands.specs.ByPath.{IsFilePathReply, IsPathReply, file_reply, is_folder_kind, tells_folder};
+ghost use Rattle.hfs_source.specs.Images.{OfEach};
 
 use hfs_model::{ItemKind, NOT_FOUND, Reply, Value};
-use hfs_needed::OpenedImage;
+use hfs_needed::{OpenedImage, SeenImage};
 use hfs_paths::path_names;
 use hfs_queries::refusal;
+use hfs_source::PlacedBlocks;
 use hfs_sparse::BlockSource;
 use std::alloc::{AllocError, Global};
 
@@ -25,6 +27,22 @@ pub fn path_reply<S: BlockSource + Drop>(
     let found = path_names(alloc, path.as_bytes())?;
     match found {
         Some(names) => Ok(image.item_at(&names)),
+        None => Ok(refusal(NOT_FOUND)),
+    }
+}
+
+/// What [`path_reply`] answers, of each image that has the bytes which were read of one that was opened. The only error is want of memory.
+#[tactic(auto, using(crate::proofs::PathReplies::seen_names, crate::proofs::PathReplies::seen_none))]
+pub fn seen_path_reply<S: PlacedBlocks + Drop>(
+    alloc: Global,
+    image: &SeenImage<S>,
+    path: &str,
+) -> Result<Reply, AllocError>
+    ensures { IfOk result (λ reply. OfEach (S.Holds image.now) (IsPathReply path.now reply)) }
+{
+    let found = path_names(alloc, path.as_bytes())?;
+    match found {
+        Some(names) => Ok(image.item_at(names.as_slice())),
         None => Ok(refusal(NOT_FOUND)),
     }
 }

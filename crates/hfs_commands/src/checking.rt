@@ -1,13 +1,14 @@
 //! What is told of an image.
 ghost use Rattle.std.specs.Prelude.{◌≡◌, ◌++◌, IfOk, OnOk, string_bytes};
-ghost use Rattle.hfs_needed.specs.Known.{IsReportOf, OfKnown};
 ghost use Rattle.hfs_commands.specs.Checks.{HasCheckLines, IsCheckFault, IsCheckStatus, alternate_text, check_lines, check_status, refused_line, sound_lines};
+ghost use Rattle.hfs_source.specs.Images.{OfEach};
 
 use crate::fault::Status;
-use hfs_check::{Alternate, MountFault, Report, refused_report, report};
-use hfs_needed::{NeededFault, OpenedImage};
+use hfs_check::{Alternate, MountFault, Report, report};
+use hfs_needed::needed_report;
 use hfs_refusals::Refusal;
-use hfs_sparse::{BlockSource, SparseFault};
+use hfs_source::PlacedBlocks;
+use hfs_sparse::{SeenBlocks, SparseFault};
 use hfs_texts::{Show, push_line};
 use std::alloc::{AllocError, Global};
 
@@ -99,36 +100,20 @@ pub fn check_answer(alloc: Global, image: &[u8]) -> Result<CheckAnswer, AllocErr
     report_answer(alloc, &report)
 }
 
-/// The report of an image of `len` bytes that is opened, or of one that is refused. Errors: a read failed, memory was refused.
-#[tactic(auto, using(crate::proofs::Reports::refused_known))]
-fn opened_report<S: BlockSource + Drop>(
+/// Answers what [`check_answer`] answers of each image that has the bytes which were read, of which only the blocks are read that its checks need.
+/// Errors: `ReadFailed` where a read of one of these blocks failed, or the image ends before one does; `Memory` where it was refused. A fault
+/// of the image is no error: it is told of.
+pub fn needed_check_answer<S: PlacedBlocks>(
     alloc: Global,
-    source: S,
-    len: u64,
-) -> Result<Report, SparseFault>
-    ensures { IfOk result (IsReportOf (S.image source) len) }
-{
-    match OpenedImage::open_reported(alloc, source, len) {
-        Ok((_image, report)) => Ok(report),
-        Err(NeededFault::Refused(why)) => Ok(refused_report(why)),
-        Err(NeededFault::ReadFailed) => Err(SparseFault::ReadFailed),
-        Err(NeededFault::Memory) => Err(SparseFault::Memory),
-    }
-}
-
-/// Answers what [`check_answer`] answers of an image of `len` bytes, of which only the blocks are read that its checks need. Errors:
-/// `ReadFailed` where a read of one of these blocks failed, or the source ends before one does; `Memory` where it was refused. A fault of the
-/// image is no error: it is told of.
-pub fn needed_check_answer<S: BlockSource + Drop>(
-    alloc: Global,
-    source: S,
-    len: u64,
+    source: &mut SeenBlocks<S>,
 ) -> Result<CheckAnswer, SparseFault>
-    ensures fault { IfOk result (λ t. OfKnown (S.image source) len (IsCheckFault t.fault)) }
-    ensures status { IfOk result (λ t. OfKnown (S.image source) len (IsCheckStatus t.status)) }
-    ensures lines { IfOk result (λ t. OfKnown (S.image source) len (HasCheckLines t.lines)) }
+    ensures fault { IfOk result (λ t. OfEach (S.Holds source.new.blocks) (IsCheckFault t.fault)) }
+    ensures status { IfOk result (λ t. OfEach (S.Holds source.new.blocks) (IsCheckStatus t.status)) }
+    ensures lines { IfOk result (λ t. OfEach (S.Holds source.new.blocks) (HasCheckLines t.lines)) }
+    ensures narrows { OfEach (S.Holds source.new.blocks) (S.Holds source.old.blocks) }
 {
-    let report = opened_report(alloc, source, len)?;
+    let len = source.blocks.len();
+    let report = needed_report(alloc, source, len)?;
     match report_answer(alloc, &report) {
         Ok(told) => Ok(told),
         Err(_) => Err(SparseFault::Memory),

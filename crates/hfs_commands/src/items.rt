@@ -3,13 +3,14 @@ ghost use Rattle.std.specs.Prelude.{◌≡◌, [], IfErr, IfOk, OnErr, OnOk};
 ghost use Rattle.std.specs.Io.KnownBytes.{Appends};
 ghost use Rattle.hfs_commands.specs.Faults.{IsUnprinted};
 ghost use Rattle.hfs_commands.specs.Items.{MovesRow, WritesItems, WritesItemsFront, table_text};
+ghost use Rattle.hfs_source.specs.Images.{OfEach};
 ghost use Rattle.hfs_table.specs.Lines.{head_text};
 ghost use Rattle.hfs_texts.specs.Writing.{AppendsFront};
 
 use crate::fault::Fault;
 use hfs_inventory::Inventory;
-use hfs_needed::OpenedImage;
-use hfs_sparse::BlockSource;
+use hfs_needed::SeenImage;
+use hfs_source::PlacedBlocks;
 use hfs_table::{Format, push_head, push_row};
 use hfs_texts::put;
 use std::alloc::Global;
@@ -90,19 +91,19 @@ fn write_table<W: Write>(
     put_piece(writer, &mut text)
 }
 
-/// Writes the table of all items of an image that was opened: a line for each, the root first, behind each folder its children in name
-/// order, and behind each child what lies in it. Faults: `OutputFailed` and `NoMemory`, and then a part of the table may have gone out,
-/// from its beginning on.
-pub fn write_items<W: Write, S: BlockSource + Drop>(
+/// Writes the table of all items of each image that has the bytes which were read of one that was opened: a line for each, the root first, behind
+/// each folder its children in name order, and behind each child what lies in it. Faults: `OutputFailed` and `NoMemory`, and then a part of
+/// the table may have gone out, from its beginning on.
+pub fn write_items<W: Write, S: PlacedBlocks + Drop>(
     alloc: Global,
     writer: &mut W,
-    image: &OpenedImage<S>,
+    image: &SeenImage<S>,
     format: Format,
 ) -> Result<(), Fault<'static>>
-    ensures written { OnOk result (WritesItems format image.now (W.contents writer.old)
-        (W.contents writer.new)) }
-    ensures part { OnErr result (WritesItemsFront format image.now (W.contents writer.old)
-        (W.contents writer.new)) }
+    ensures written { OnOk result (OfEach (S.Holds image.now)
+        (WritesItems format (W.contents writer.old) (W.contents writer.new))) }
+    ensures part { OnErr result (OfEach (S.Holds image.now)
+        (WritesItemsFront format (W.contents writer.old) (W.contents writer.new))) }
     ensures faults { IfErr result IsUnprinted }
 {
     let Ok(mut inventory) = image.inventory(alloc) else {

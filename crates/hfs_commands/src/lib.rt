@@ -29,7 +29,7 @@ mod watched;
 
 pub use answers::write_answers;
 pub use beside::Leftover;
-pub use by_path::{file_path_reply, path_reply};
+pub use by_path::{file_path_reply, path_reply, seen_path_reply};
 pub use checking::{CheckAnswer, check_answer, needed_check_answer, refused_text, report_answer};
 pub use contents::{Contents, ReadContents, UnwrittenFault};
 pub use extracting::{ImageContents, extracted_text, need_volume, write_range};
@@ -47,7 +47,7 @@ pub use hfs_texts::{
 };
 pub use holes::{HoleWriter, HoledFile, NewFileBytes};
 pub use items::write_items;
-pub use listing::{children_text, code_text, list_text, opened_list_text, seen_list_text};
+pub use listing::{children_text, code_text, list_text, seen_list_text};
 pub use macbinary::{put_macbinary, write_macbinary};
 pub use opened_file::{OpenedFile, StoredFile, content_of};
 pub use patched_image::PatchedImage;
@@ -55,7 +55,7 @@ pub use paths::ShownPath;
 pub use repairing::{NeededRepair, RepairAnswer, needed_repair_answer, repair_answer};
 pub use running::{RanImage, RunImage, script_lines};
 pub use saving::{Saved, save_file, save_new, save_read};
-pub use seen_files::{PartBlocks, open_blocks, part_blocks};
+pub use seen_files::{PartBlocks, PartImage, open_seen, part_blocks};
 pub use volume_files::{FilePart, open_asked, open_file, open_part, part_of};
 pub use volumes::{sum_told, volume_lines};
 pub use watched::{Stamp, Watched, WatchedFile};

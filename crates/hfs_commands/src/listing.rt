@@ -1,14 +1,13 @@
 //! The lines of a folder's children.
 ghost use Rattle.std.specs.Prelude.{◌≡◌, IfOk, OnOk, string_bytes};
-ghost use Rattle.hfs_needed.specs.Known.{OfKnown};
-ghost use Rattle.hfs_sparse.specs.Seen.{EachKnown};
+ghost use Rattle.hfs_source.specs.Images.{OfEach};
 ghost use Rattle.hfs_commands.specs.Listing.{HasFolderLines, IsFolderStatus, child_line, child_lines, code_line, list_lines, list_status, tabbed, tabbed_sizes};
 ghost use Rattle.hfs_texts.specs.Texts.{Gains};
 
 use crate::fault::Status;
 use hfs_model::{Info, ItemKind, Reply, Value};
-use hfs_needed::{OpenedImage, SeenImage};
-use hfs_sparse::BlockSource;
+use hfs_needed::SeenImage;
+use hfs_source::PlacedBlocks;
 use hfs_texts::{Show, push_line};
 use hfs_volume::Volume;
 use std::alloc::{AllocError, Global};
@@ -96,35 +95,15 @@ pub fn list_text(alloc: Global, volume: &Volume, dir: u32) -> Result<(u8, String
     children_text(alloc, &reply)
 }
 
-/// Answers what [`list_text`] answers of the volume of an image that was opened. The only error is want of memory.
-pub fn opened_list_text<S: BlockSource + Drop>(
-    alloc: Global,
-    image: &OpenedImage<S>,
-    dir: u32,
-) -> Result<(u8, String), AllocError>
-    ensures status { IfOk result (λ told. OfKnown image.now.known image.now.len
-        (IsFolderStatus dir told.0)) }
-    ensures lines { IfOk result (λ told. OfKnown image.now.known image.now.len
-        (HasFolderLines dir told.1)) }
-{
-    let reply = image.list(alloc, dir)?;
-    match children_text(alloc, &reply) {
-        Ok(told) => Ok(told),
-        Err(refused) => Err(refused),
-    }
-}
-
 /// Answers what [`list_text`] answers of the volume of each image that has the bytes which were read of one that was opened. The only error is
 /// want of memory.
-pub fn seen_list_text<S: BlockSource + Drop>(
+pub fn seen_list_text<S: PlacedBlocks + Drop>(
     alloc: Global,
     image: &SeenImage<S>,
     dir: u32,
 ) -> Result<(u8, String), AllocError>
-    ensures status { IfOk result (λ told. EachKnown (S.Holds image.now.0)
-        (λ known. OfKnown known image.now.1 (IsFolderStatus dir told.0))) }
-    ensures lines { IfOk result (λ told. EachKnown (S.Holds image.now.0)
-        (λ known. OfKnown known image.now.1 (HasFolderLines dir told.1))) }
+    ensures status { IfOk result (λ told. OfEach (S.Holds image.now) (IsFolderStatus dir told.0)) }
+    ensures lines { IfOk result (λ told. OfEach (S.Holds image.now) (HasFolderLines dir told.1)) }
 {
     let reply = image.list(alloc, dir)?;
     match children_text(alloc, &reply) {

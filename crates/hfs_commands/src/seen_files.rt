@@ -1,20 +1,25 @@
 //! Parts of files, of which what is answered holds for each file that has the bytes which were read.
-ghost use Rattle.std.specs.Prelude.{◌≡◌, ◌+◌, IfErr, IfOk, None};
-ghost use Rattle.hfs_check.specs.Faults.{fault_of};
+ghost use Rattle.std.specs.Prelude.{◌≡◌, ◌+◌, IfErr, IfOk};
 ghost use Rattle.hfs_commands.specs.OpenedFiles.{images_of};
-ghost use Rattle.hfs_commands.specs.SeenFiles.{IsPartOf, IsRefusedBy, parts_of};
-ghost use Rattle.hfs_source.specs.Images.{HasLength, OfEach, ReachesTo};
+ghost use Rattle.hfs_commands.specs.SeenFiles.{IsPartOf, IsUnseen, parts_of};
+ghost use Rattle.hfs_needed.specs.Seen.{HasNoFault};
+ghost use Rattle.hfs_source.specs.Images.{OfEach, ReachesTo};
 
+use crate::fault::Fault;
 use crate::opened_file::OpenedFile;
+use crate::volume_files::open_part;
 use hfs_containers::Window;
 use hfs_needed::{SeenImage, Unopened};
-use hfs_source::{BlocksOf, PlacedBlocks, RangeBytes};
+use hfs_source::{BlocksOf, RangeBytes};
 use hfs_sparse::SeenBlocks;
-use std::alloc::Global;
 use std::io::{Read, Seek};
+use std::rt::Files;
 
 /// The blocks of a part of a file, known by what was read of them.
 pub type PartBlocks<F> = SeenBlocks<BlocksOf<RangeBytes<OpenedFile<F>>>>;
+
+/// A sound volume in a part of a file, of which what is answered holds for each file that has the bytes which were read.
+pub type PartImage<F> = SeenImage<BlocksOf<RangeBytes<OpenedFile<F>>>>;
 
 /// The part of a file, or none of it where it doesn't lie there.
 fn range_of<F: Read + Seek>(part: Window<OpenedFile<F>>) -> RangeBytes<OpenedFile<F>>
@@ -47,22 +52,19 @@ pub fn part_blocks<F: Read + Seek>(part: Window<OpenedFile<F>>) -> PartBlocks<F>
     }
 }
 
-/// Reads the needed blocks of a part of a file, and makes all checks. Errors, with the blocks back: as [`SeenImage::open`] has them.
-pub fn open_blocks<F: Read + Seek>(
-    alloc: Global,
-    source: PartBlocks<F>,
-) -> Result<SeenImage<PartBlocks<F>>, Unopened<PartBlocks<F>>>
-    ensures len { IfOk result (λ image. OfEach (parts_of image.0) (HasLength image.1)) }
-    ensures narrows { IfOk result (λ image. OfEach (parts_of image.0) (parts_of source)) }
-    ensures sound { IfOk result (λ image. OfEach (parts_of image.0)
-        (λ part. fault_of part ≡ None)) }
-    ensures refused { IfErr result (λ back. OfEach (parts_of back.source)
-        (IsRefusedBy back.fault)) }
-    ensures back { IfErr result (λ back. OfEach (parts_of back.source) (parts_of source)) }
+/// Opens what is asked for of an image, as [`open_part`] does, reads its needed blocks and makes all checks. Faults: as [`open_part`] has them; a read
+/// failed, memory was refused, or the image is refused.
+pub fn open_seen<'a, R: Files + AllocGlobal>(
+    rt: &R,
+    path: &'a str,
+    volume: Option<u64>,
+) -> Result<PartImage<R::File>, Fault<'a>>
+    ensures sound { IfOk result (λ image. OfEach (parts_of image) HasNoFault) }
+    ensures fault { IfErr result (IsUnseen path.entry volume) }
 {
-    let len = source.blocks.len();
-    match SeenImage::open(alloc, source, len) {
+    let part = open_part(rt, path, volume)?;
+    match SeenImage::open(rt.alloc(), part_blocks(part)) {
         Ok(image) => Ok(image),
-        Err(back) => Err(back),
+        Err(Unopened { fault, source: _ }) => Err(Fault::of_needed(fault, path)),
     }
 }

@@ -1,7 +1,8 @@
 -- What was opened is of each image that has the bytes which were read.
-use Rattle.std.proofs.Common.{◌≡◌, ℕ, List, [], Option, Some, subst}
+use Rattle.std.proofs.Common.{◌≡◌, ℕ, List, [], Option, Some, subst, sym}
 use Rattle.hfs_blocks.specs.Layers.{Numbered}
 use Rattle.hfs_sparse.specs.Sparse.{StaysOf}
+use Rattle.hfs_source.specs.Images.{OfEach}
 use Rattle.hfs_sparse.specs.Seen.{EachKnown, IsSeen, SeesMore}
 use Rattle.std.specs.Prelude.{IfOk, IfErr, ◌/◌, None, Result, Ok, Err}
 use Rattle.hfs_check.specs.Faults.{length_fault}
@@ -9,6 +10,7 @@ use Rattle.hfs_check.proofs.LawTypes.{NoBlocksFault}
 use Rattle.hfs_needed.specs.declared.opening.NeededFault.{NeededFault}
 use Rattle.hfs_needed.specs.declared.opening.NeededVolume.{NeededVolume}
 use Rattle.hfs_needed.specs.Opened.{AreRefusedFor, IsOpenedOf, IsRefusedFor, IsSoundOf}
+use Rattle.hfs_needed.specs.Seen.{IsOpenedBy, IsSeenAs}
 use Rattle.hfs_needed.proofs.Gathered.{of-start}
 use Rattle.hfs_needed.proofs.GatheredLaws.{GatheredIsEnough}
 use Rattle.hfs_needed.proofs.Refused.{err-so, opened-sound}
@@ -41,3 +43,8 @@ pub sound-each : NoBlocksFault → GatheredIsEnough → (Holds : List ℕ → Ty
 sound-each law enough Holds len right known (Err f) opened seen = tt
 sound-each law enough Holds len right known (Ok volume) opened seen = λ image holds.
     opened-sound law enough (Some image) len right volume (opened-each known (len / 512) volume opened seen image holds)
+
+-- and by each, as many bytes as it has
+pub opened-by : (Holds : List ℕ → Type 0) (len : ℕ) (volume : NeededVolume) → IsSeenAs Holds len volume → OfEach Holds (IsOpenedBy volume)
+opened-by Holds len volume is = λ image h.
+    subst (λ (n : ℕ). IsOpenedOf (Some image) (n / 512) volume) (sym (is.long image h)) (opened-each {Holds = Holds} None (len / 512) volume is.opened is.seen image h)

@@ -4,6 +4,7 @@ pub mod Laws
 pub mod Gathered
 pub mod Known
 pub mod Opened
+pub mod Seen
 pub mod Forks
 pub mod Finding
 pub mod Listing

@@ -6,7 +6,7 @@ ghost use Rattle.hfs_model.specs.declared.call.Fork.TheVariants.{DataFork, ResFo
 ghost use Rattle.hfs_sparse.specs.Sparse.{HoldsFrom};
 ghost use Rattle.hfs_needed.specs.ForkRuns.{AreRunsNamed, RefusesForks};
 ghost use Rattle.hfs_needed.specs.Forks.{FindsForkNamed, OfForkNamed, RefusesForkNamed, RefusesWriting, WritesForkNamed};
-ghost use Rattle.hfs_needed.specs.Listing.{IsBriefList, HoldsCatalog, HoldsTable};
+ghost use Rattle.hfs_needed.specs.Listing.{HoldsCatalog, HoldsTable};
 ghost use Rattle.hfs_needed.specs.Known.{IsReportOf};
 ghost use Rattle.hfs_needed.specs.Opened.{IsRefusedFor, IsSoundOf, IsOpenedOf};
 ghost use Rattle.hfs_needed.specs.OpenedValues.{opened_value};
@@ -15,7 +15,7 @@ ghost use Rattle.hfs_needed.specs.WholeFiles.{HoldsDataNamed, HoldsResourceNamed
 
 use crate::fork_runs::{FileRuns, opened_runs};
 use crate::forks::{opened_fork, write_opened};
-use crate::listing::{catalog_records, list_in_brief};
+use crate::listing::catalog_records;
 use crate::opening::{NeededFault, NeededVolume, open_needed};
 use crate::paths::told_in;
 use crate::reporting::{ReportedVolume, open_reported};
@@ -97,14 +97,6 @@ impl<S: BlockSource + Drop> OpenedImage<S> {
         ensures { IsOpenedOf self.now.known (self.now.len / 512) result.now }
     {
         &self.volume
-    }
-
-    /// The reply to List of a folder, with has_id false in each item. Nothing is read. Error: memory was refused.
-    pub fn list(&self, alloc: Global, dir: u32) -> Result<Reply, AllocError>
-        ensures { IfOk result (IsBriefList self.now.known self.now.len dir) }
-    {
-        let volume = &self.volume;
-        list_in_brief(alloc, &volume.read, volume.count, &volume.sound.trees, dir)
     }
 
     /// What is told of the item that the names of a path lead to, from the root's down: the reply to GetCatInfo of it, or to GetDirInfo of

@@ -5,6 +5,8 @@ ghost use Rattle.hfs_check.specs.Sound.{AreBlocksSound};
 ghost use Rattle.hfs_check.specs.Trees.{HasTrees};
 ghost use Rattle.hfs_needed.specs.Known.{IsReportIn, IsReportOf};
 ghost use Rattle.hfs_needed.specs.Opened.{AreRefusedFor, IsOpenedOf, IsRefusedFor, IsSoundOf};
+ghost use Rattle.hfs_source.specs.Images.{OfEach};
+ghost use Rattle.hfs_sparse.specs.Seen.{EachKnown};
 ghost use Rattle.hfs_sparse.specs.Sparse.{sparse};
 
 use crate::gathering::gather_needed;
@@ -23,6 +25,9 @@ fn gathered_report<S: BlockSource>(
     requires { 3 ≤ count }
     ensures report { IfOk result (IsReportIn (S.image source.old) count) }
     ensures image { S.image source.new ≡ S.image source.old }
+    ensures each { IfOk result (λ report. EachKnown (S.Holds source.new)
+        (λ known. IsReportIn known count report)) }
+    ensures narrows { OfEach (S.Holds source.new) (S.Holds source.old) }
 {
     let read = gather_needed(alloc, source, count)?;
     match report_blocks(alloc, &read.volume(count)) {
@@ -40,6 +45,9 @@ pub fn needed_report<S: BlockSource>(
 ) -> Result<Report, SparseFault>
     ensures report { IfOk result (IsReportOf (S.image source.old) len) }
     ensures image { S.image source.new ≡ S.image source.old }
+    ensures each { IfOk result (λ report. EachKnown (S.Holds source.new)
+        (λ known. IsReportOf known len report)) }
+    ensures narrows { OfEach (S.Holds source.new) (S.Holds source.old) }
 {
     if len > 2_147_483_648 {
         return Ok(refused_report(MountFault::TooLarge));

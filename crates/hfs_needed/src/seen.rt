@@ -1,38 +1,44 @@
 //! An image that is opened and checked once, of which what is answered holds for each image that has the bytes which were read.
-ghost use Rattle.std.specs.Prelude.{◌≡◌, IfErr, IfOk};
+ghost use Rattle.std.specs.Prelude.{◌≡◌, IfErr, IfOk, None};
+ghost use Rattle.hfs_model.specs.Children.{entries_of};
+ghost use Rattle.hfs_check.specs.VolumeOf.{volume_of};
+ghost use Rattle.hfs_inventory.specs.Told.{told_rows};
 ghost use Rattle.hfs_source.specs.Images.{OfEach};
-ghost use Rattle.hfs_sparse.specs.Seen.{EachKnown};
-ghost use Rattle.hfs_needed.specs.Listing.{IsBriefList};
-ghost use Rattle.hfs_needed.specs.Opened.{IsRefusedFor, IsSoundOf};
+ghost use Rattle.hfs_needed.specs.Listing.{brief_list};
+ghost use Rattle.hfs_needed.specs.Opened.{IsOpenedOf};
+ghost use Rattle.hfs_needed.specs.Paths.{path_told};
+ghost use Rattle.hfs_needed.specs.Seen.{HasNoFault, IsOpenedBy, IsRefusedBy};
 
-use crate::listing::list_in_brief;
+use crate::listing::{catalog_records, list_in_brief};
 use crate::opening::{NeededFault, NeededVolume, open_needed};
+use crate::paths::told_in;
+use hfs_fields::Name;
+use hfs_inventory::Inventory;
 use hfs_model::Reply;
-use hfs_sparse::BlockSource;
+use hfs_source::PlacedBlocks;
+use hfs_sparse::SeenBlocks;
 use std::alloc::{AllocError, Global};
 use std::marker::Model;
 
-/// A sound image whose needed blocks were read and checked once. What it answers is what each image of this length answers that has the
-/// bytes which were read: over memory the image itself, over a file each that it may be.
+/// A sound image whose needed blocks were read and checked once. What it answers is what each image answers that has the bytes which were
+/// read: over memory the image itself, over a file each that it may be.
 #[derive(Drop)]
-pub struct SeenImage<S: BlockSource> {
+pub struct SeenImage<S: PlacedBlocks> {
     /// Where blocks are read from.
-    source: S,
+    source: SeenBlocks<S>,
     /// How many bytes the image has.
     len: u64,
     volume: NeededVolume,
 }
 
-impl<S: BlockSource> Model for SeenImage<S> {
-    ghost use Rattle.std.specs.Prelude.{ℕ, None, ◌/◌};
-    ghost use Rattle.hfs_sparse.specs.Seen.{IsSeen};
-    ghost use Rattle.hfs_needed.specs.Opened.{IsOpenedOf};
+impl<S: PlacedBlocks> Model for SeenImage<S> {
+    ghost use Rattle.hfs_needed.specs.Seen.{IsSeenAs};
 
-    ghost Value = { S × ℕ };
+    ghost Value = { S };
 
-    ghost view = { λ o. (o.source, o.len) };
+    ghost view = { λ o. o.source.blocks };
 
-    ghost invariant = { λ o. IsOpenedOf None (o.len / 512) o.volume × IsSeen (S.Holds o.source) o.volume.read };
+    ghost invariant = { λ o. IsSeenAs (S.Holds o.source.blocks) o.len o.volume };
 }
 
 /// Why an image was not opened, and where it was read from.
@@ -41,22 +47,22 @@ pub struct Unopened<S> {
     /// Why.
     pub fault: NeededFault,
     /// The source, of which some was read.
-    pub source: S,
+    pub source: SeenBlocks<S>,
 }
 
-impl<S: BlockSource> SeenImage<S> {
-    /// Reads the needed blocks of an image of `len` bytes, and makes all checks. Errors, with the source back: a read failed, memory was
-    /// refused, or the image is refused.
-    pub fn open(alloc: Global, source: S, len: u64) -> Result<SeenImage<S>, Unopened<S>>
-        ensures len { IfOk result (λ image. image.1 ≡ len) }
-        ensures sound { IfOk result (λ image. EachKnown (S.Holds image.0)
-            (λ known. IsSoundOf known len)) }
-        ensures narrows { IfOk result (λ image. OfEach (S.Holds image.0) (S.Holds source)) }
-        ensures refused { IfErr result (λ back. EachKnown (S.Holds back.source)
-            (λ known. IsRefusedFor known len back.fault)) }
-        ensures back { IfErr result (λ back. OfEach (S.Holds back.source) (S.Holds source)) }
+impl<S: PlacedBlocks> SeenImage<S> {
+    /// Reads the needed blocks of an image, and makes all checks. Errors, with the source back: a read failed, memory was refused, or the
+    /// image is refused.
+    pub fn open(alloc: Global, source: SeenBlocks<S>) -> Result<SeenImage<S>, Unopened<S>>
+        ensures sound { IfOk result (λ image. OfEach (S.Holds image) HasNoFault) }
+        ensures narrows { IfOk result (λ image. OfEach (S.Holds image) (S.Holds source.blocks)) }
+        ensures refused { IfErr result (λ back. OfEach (S.Holds back.source.blocks)
+            (IsRefusedBy back.fault)) }
+        ensures back { IfErr result (λ back. OfEach (S.Holds back.source.blocks)
+            (S.Holds source.blocks)) }
     {
         let mut source = source;
+        let len = source.blocks.len();
         match open_needed(alloc, &mut source, len) {
             Ok(volume) => Ok(SeenImage {
                 source,
@@ -67,12 +73,41 @@ impl<S: BlockSource> SeenImage<S> {
         }
     }
 
+    /// What was read of the image, and what its checks found out: all that is told of it but for the bytes of forks.
+    pub fn volume(&self) -> &NeededVolume
+        ensures opened { OfEach (S.Holds self.now) (IsOpenedBy result.now) }
+        ensures sound { IsOpenedOf None result.now.count result.now }
+    {
+        &self.volume
+    }
+
     /// The reply to List of a folder, with has_id false in each item. Nothing is read. Error: memory was refused.
     pub fn list(&self, alloc: Global, dir: u32) -> Result<Reply, AllocError>
-        ensures { IfOk result (λ reply. EachKnown (S.Holds self.now.0)
-            (λ known. IsBriefList known self.now.1 dir reply)) }
+        ensures { IfOk result (λ reply. OfEach (S.Holds self.now)
+            (λ image. reply ≡ brief_list image dir)) }
     {
         let volume = &self.volume;
         list_in_brief(alloc, &volume.read, volume.count, &volume.sound.trees, dir)
+    }
+
+    /// What is told of the item that the names of a path lead to, from the root's down: the reply to GetCatInfo of it, or to GetDirInfo of
+    /// the root. An empty first name stands for the root's. -43 where the first name isn't the root's or a name leads nowhere, -120
+    /// where the way goes through a file. Nothing is read.
+    pub fn item_at(&self, names: &[Name]) -> Reply
+        ensures { OfEach (S.Holds self.now)
+            (λ image. result ≡ path_told (entries_of (volume_of image)) names.now) }
+    {
+        let volume = &self.volume;
+        told_in(&volume.read, volume.count, &volume.sound.trees, names)
+    }
+
+    /// All items, one after the other in the order of the table. Nothing is read. Error: memory was refused.
+    pub fn inventory(&self, alloc: Global) -> Result<Inventory, AllocError>
+        ensures { IfOk result (λ inventory. OfEach (S.Holds self.now)
+            (λ image. inventory.left ≡ told_rows (entries_of (volume_of image)))) }
+    {
+        let volume = &self.volume;
+        let records = catalog_records(alloc, &volume.read, volume.count, &volume.sound.trees)?;
+        Inventory::new(alloc, records)
     }
 }

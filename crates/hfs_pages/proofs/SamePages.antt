@@ -1,22 +1,20 @@
 -- Volumes that hold the same have the same page.
-use Rattle.std.proofs.Common.{◌≡◌, ℕ, zero, suc, ◌+◌, ◌<◌, Bool, List, [], ◌∷◌, ◌++◌, map, Option, Some, None, Result, Ok, Err, OnOk, OnErr, refl, sym, ap, subst, ◌∙◌, ◌/◌, arith}
+use Rattle.std.proofs.Common.{◌≡◌, ℕ, zero, suc, ◌+◌, ◌<◌, Bool, List, ◌∷◌, ◌++◌, length, map, Option, Result, Ok, Err, OnOk, OnErr, refl, sym, ap, subst, ◌∙◌, ◌/◌, arith}
 use Rattle.std.specs.Io.KnownBytes.{Appends}
 use Rattle.std.specs.List.{range_with_len}
 use Rattle.hfs_space.specs.Bitmap.{is_used}
-use Rattle.hfs_check.specs.Parts.{Blocks, catalog_in, mdb_in, overflow_in}
+use Rattle.hfs_check.specs.Parts.{Blocks, mdb_in}
 use Rattle.hfs_inventory.specs.Levels.{catalog_rows}
-use Rattle.hfs_check.specs.Sound.{AreBlocksSound}
 use Rattle.hfs_blocks.specs.Blocks.{block_at}
 use Rattle.hfs_blocks.specs.Layers.{Numbered}
 use Rattle.hfs_sparse.specs.Sparse.{sparse}
-use Rattle.hfs_needed.specs.Gathered.{HasNeeded, IsOfKnown}
 use Rattle.hfs_needed.proofs.GatheredLaws.{GatheredIsEnough}
-use Rattle.hfs_needed.specs.Known.{OfKnown}
-use Rattle.hfs_needed.specs.Opened.{IsOpenedOf}
+use Rattle.hfs_needed.specs.Seen.{IsOpenedBy}
+use Rattle.hfs_source.specs.Images.{OfEach}
 use Rattle.hfs_needed.specs.declared.opening.NeededVolume.{NeededVolume}
 use Rattle.hfs_texts.specs.Writing.{AppendsFront}
 use Rattle.hfs_needed.specs.Laws.{HoldSame}
-use Rattle.hfs_pages.specs.ImagePages.{page_of}
+use Rattle.hfs_pages.specs.ImagePages.{WritesPage, WritesPageFront, page_of}
 use Rattle.hfs_page.specs.declared.parts.Holding.{Holding}
 use Rattle.hfs_page.specs.Cells.{picture_cells}
 use Rattle.hfs_page.specs.declared.page_texts.PageTexts.{PageTexts}
@@ -55,32 +53,31 @@ module _ (total : ℕ) (old new : Blocks) (same : HoldSame total old new) where
       λ i. front_text texts count (same.directory i) ++ rows_text texts.image.base 0 (catalog_rows (same.catalog i)) ++ back_text texts (same.catalog i) (holdings-same i) (cells-same i)
 
 -- what holds of the page of the blocks that were read holds of that of the image
-pub known-page : (P : List ℕ → Type 0) (texts : PageTexts) (known : Option (List ℕ)) (len : ℕ) (read : Numbered) → GatheredIsEnough
-    → HasNeeded (len / 512) read → IsOfKnown known read → AreBlocksSound (len / 512) (sparse read) → P (page_in texts (len / 512) (sparse read))
-    → OfKnown known len (λ image. P (page_of texts image))
-known-page P texts None len read enough needed of sound p = tt
-known-page P texts (Some bytes) len read enough needed of sound p = λ same.
-    subst (λ (n : ℕ). P (page_in texts (n / 512) (block_at bytes))) (sym same)
-    (subst P (sym (page-same (len / 512) (sparse read) (block_at bytes) ((enough (len / 512) bytes read needed of).held sound) texts (len / 512))) p)
+pub image-page : (P : List ℕ → Type 0) (texts : PageTexts) (image : List ℕ) (volume : NeededVolume) → GatheredIsEnough → IsOpenedBy volume image
+    → P (page_in texts (length image / 512) (sparse volume.read)) → P (page_of texts image)
+image-page P texts image volume enough opened p =
+    subst P (sym (page-same (length image / 512) (sparse volume.read) (block_at image)
+    ((enough (length image / 512) image volume.read opened.needed opened.of).held opened.sound) texts (length image / 512))) p
 
--- ---- what was opened
+-- ---- what was opened, of each of these images
 
-module _ (enough : GatheredIsEnough) (known : Option (List ℕ)) (len : ℕ) (volume : NeededVolume) (opened : IsOpenedOf known (len / 512) volume)
-    (texts : PageTexts) (now : Numbered) (is : now ≡ volume.read) (total : ℕ) (whole : total ≡ len / 512) where
-  page-known : (P : List ℕ → Type 0) → P (page_in texts total (sparse now)) → OfKnown known len (λ image. P (page_of texts image))
-  page-known P p =
-      known-page P texts known len volume.read enough opened.needed opened.of opened.sound
-      (subst (λ (n : ℕ). P (page_in texts n (sparse volume.read))) whole (subst (λ (read : Numbered). P (page_in texts total (sparse read))) is p))
+module _ (enough : GatheredIsEnough) (Holds : List ℕ → Type 0) (volume : NeededVolume) (opened : OfEach Holds (IsOpenedBy volume))
+    (texts : PageTexts) (now : Numbered) (is : now ≡ volume.read) (total : ℕ) (whole : total ≡ volume.count) where
+  pages-same : (P : List ℕ → Type 0) → P (page_in texts total (sparse now)) → OfEach Holds (λ image. P (page_of texts image))
+  pages-same P p = λ image h.
+      image-page P texts image volume enough (opened image h)
+      (subst (λ (n : ℕ). P (page_in texts n (sparse volume.read))) (whole ∙ (opened image h).whole)
+      (subst (λ (read : Numbered). P (page_in texts total (sparse read))) is p))
 
-  pub written-known : {T E : Type 0} (r : Result T E) (old new : Option (List ℕ)) → OnOk r (Appends old new (page_in texts total (sparse now)))
-      → OnOk r (OfKnown known len (λ image. Appends old new (page_of texts image)))
-  written-known (Ok x) old new h = page-known (λ (bytes : List ℕ). Appends old new bytes) h
-  written-known (Err e) old new h = tt
+  pub written-each : {T E : Type 0} (r : Result T E) (old new : Option (List ℕ)) → OnOk r (Appends old new (page_in texts total (sparse now)))
+      → OnOk r (OfEach Holds (WritesPage texts old new))
+  written-each (Ok x) old new h = pages-same (λ (bytes : List ℕ). Appends old new bytes) h
+  written-each (Err e) old new h = tt
 
-  pub part-known : {T E : Type 0} (r : Result T E) (old new : Option (List ℕ)) → OnErr r (AppendsFront old new (page_in texts total (sparse now)))
-      → OnErr r (OfKnown known len (λ image. AppendsFront old new (page_of texts image)))
-  part-known (Ok x) old new h = tt
-  part-known (Err e) old new h = page-known (λ (bytes : List ℕ). AppendsFront old new bytes) h
+  pub part-each : {T E : Type 0} (r : Result T E) (old new : Option (List ℕ)) → OnErr r (AppendsFront old new (page_in texts total (sparse now)))
+      → OnErr r (OfEach Holds (WritesPageFront texts old new))
+  part-each (Ok x) old new h = tt
+  part-each (Err e) old new h = pages-same (λ (bytes : List ℕ). AppendsFront old new bytes) h
 
 -- what holds of what was opened holds of the blocks that are lent
 pub lent : (P : ℕ → Numbered → Type 0) (total count : ℕ) (read now : Numbered) → count ≡ total → now ≡ read → P total read → P count now

@@ -1,26 +1,27 @@
 //! The page of an image that was opened.
 ghost use Rattle.std.specs.Prelude.{OnErr, OnOk};
 ghost use Rattle.hfs_pages.specs.ImagePages.{WritesPage, WritesPageFront};
+ghost use Rattle.hfs_source.specs.Images.{OfEach};
 
-use hfs_needed::OpenedImage;
+use hfs_needed::SeenImage;
 use hfs_page::{PageFault, PageTexts, write_page};
-use hfs_sparse::BlockSource;
+use hfs_source::PlacedBlocks;
 use std::alloc::Global;
 use std::io::Write;
 
-/// Writes the page of an image that was opened: what the volume is, its items, and a picture of its
-/// blocks. No block is read for it. Faults: memory was refused, or the writer failed; then a part of
-/// the page may have gone out, from its beginning on.
-pub fn write_image_page<S: BlockSource + Drop, W: Write>(
+/// Writes the page of each image that has the bytes which were read of one that was opened: what the
+/// volume is, its items, and a picture of its blocks. No block is read for it. Faults: memory was
+/// refused, or the writer failed; then a part of the page may have gone out, from its beginning on.
+pub fn write_image_page<S: PlacedBlocks + Drop, W: Write>(
     alloc: Global,
-    image: &OpenedImage<S>,
+    image: &SeenImage<S>,
     texts: &PageTexts<'_>,
     writer: &mut W,
 ) -> Result<(), PageFault>
-    ensures written { OnOk result (WritesPage texts.now image.now
-        (W.contents writer.old) (W.contents writer.new)) }
-    ensures part { OnErr result (WritesPageFront texts.now image.now
-        (W.contents writer.old) (W.contents writer.new)) }
+    ensures written { OnOk result (OfEach (S.Holds image.now)
+        (WritesPage texts.now (W.contents writer.old) (W.contents writer.new))) }
+    ensures part { OnErr result (OfEach (S.Holds image.now)
+        (WritesPageFront texts.now (W.contents writer.old) (W.contents writer.new))) }
 {
     let volume = image.volume();
     let blocks = volume.read.volume(volume.count);

@@ -3,8 +3,8 @@
 use crate::commands::{print_code, print_found, print_refusal, print_told};
 use crate::words::{ForkPathWords, PathWords};
 use hfs_commands::{
-    BlockSource, Fault, OpenedFile, OpenedImage, Window, file_path_reply, open_part,
-    opened_list_text, path_reply,
+    BlockSource, Fault, OpenedFile, OpenedImage, Window, file_path_reply, open_part, open_seen,
+    seen_list_text, seen_path_reply,
 };
 use hfs_model::{Reply, Value};
 use std::rt::Files;
@@ -24,12 +24,12 @@ fn opened<'a, R: Files + AllocGlobal>(
 
 /// Prints the children of the folder that a path leads to, or the code that refuses the path.
 pub fn print_list_at<'a>(rt: &HostRuntime, place: &PathWords<'a>) -> Result<u8, Fault<'a>> {
-    let image = opened(rt, place)?;
-    let Ok(reply) = path_reply(rt.alloc(), &image, place.path) else {
+    let image = open_seen(rt, place.image, place.volume)?;
+    let Ok(reply) = seen_path_reply(rt.alloc(), &image, place.path) else {
         return Err(Fault::NoMemory);
     };
     match &reply.value {
-        Value::One(folder) => print_told(rt, opened_list_text(rt.alloc(), &image, folder.id)),
+        Value::One(folder) => print_told(rt, seen_list_text(rt.alloc(), &image, folder.id)),
         _ => print_code(rt, &reply),
     }
 }

@@ -1,12 +1,12 @@
 //! What the words do on an image, or on the volume in it that is asked for or lies alone in it.
 
 use crate::commands::{
-    print_info_of, print_items_of, print_needed_check, print_needed_fork, print_needed_list,
-    print_needed_macbinary, print_refused,
+    print_info_of, print_needed_check, print_needed_fork, print_needed_macbinary, print_refused,
+    print_table, print_told,
 };
 use crate::volumes::print_volume_info;
 use crate::words::{FileWords, ForkWords};
-use hfs_commands::{Fault, Format, open_part, part_blocks};
+use hfs_commands::{Fault, Format, open_part, open_seen, part_blocks, seen_list_text};
 
 /// Prints the master directory block. Without a number it is that of the image as it is.
 pub fn tell_info<'a>(
@@ -27,10 +27,7 @@ pub fn tell_check<'a>(
     volume: Option<u64>,
 ) -> Result<u8, Fault<'a>> {
     match open_part(rt, image, volume) {
-        Ok(part) => {
-            let len = part.len();
-            print_needed_check(rt, image, part, len)
-        }
+        Ok(part) => print_needed_check(rt, image, part_blocks(part)),
         Err(Fault::Refused(why)) => print_refused(rt, why),
         Err(fault) => Err(fault),
     }
@@ -43,8 +40,8 @@ pub fn tell_list<'a>(
     volume: Option<u64>,
     dir: u32,
 ) -> Result<u8, Fault<'a>> {
-    let part = open_part(rt, image, volume)?;
-    print_needed_list(rt, image, part_blocks(part), dir)
+    let image = open_seen(rt, image, volume)?;
+    print_told(rt, seen_list_text(rt.alloc(), &image, dir))
 }
 
 /// Prints the table of its items.
@@ -54,9 +51,8 @@ pub fn tell_items<'a>(
     volume: Option<u64>,
     format: Format,
 ) -> Result<u8, Fault<'a>> {
-    let part = open_part(rt, image, volume)?;
-    let len = part.len();
-    print_items_of(rt, image, part, len, format)
+    let image = open_seen(rt, image, volume)?;
+    print_table(rt, &image, format)
 }
 
 /// Prints the bytes of a file's fork.

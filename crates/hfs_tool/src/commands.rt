@@ -13,9 +13,9 @@ use crate::words::{FileWords, ForkWords, NewVolume, Words};
 use hfs_check::MountFault;
 use hfs_commands::{
     BlockSource, CheckAnswer, Fault, Format, NeededFile, NeededRepair, OpenedImage, PartBlocks,
-    RepairAnswer, Status, Unopened, WatchedFile, WatchedImage, code_text, needed_check_answer,
-    needed_file, needed_repair_answer, open_blocks, open_watched, put_macbinary, refused_text,
-    repair_answer, run_info, seen_list_text, write_items,
+    PartImage, RepairAnswer, Status, WatchedFile, WatchedImage, code_text, needed_check_answer,
+    needed_file, needed_repair_answer, open_watched, put_macbinary, refused_text, repair_answer,
+    run_info, write_items,
 };
 use hfs_console::{print_lines, tell_hint};
 use hfs_format::{FormatPlan, format};
@@ -100,53 +100,26 @@ pub fn print_checked(rt: &HostRuntime, told: &CheckAnswer) -> Result<u8, Fault<'
     Ok(told.status)
 }
 
-/// Prints what a check of an image tells that was read where it is needed.
-pub fn print_needed_check<'a, S: BlockSource + Drop>(
+/// Prints what a check of a part of a file tells that is read where it is needed.
+pub fn print_needed_check<'a, F: Read + Seek + Drop>(
     rt: &HostRuntime,
     path: &'a str,
-    source: S,
-    len: u64,
+    blocks: PartBlocks<F>,
 ) -> Result<u8, Fault<'a>> {
-    match needed_check_answer(rt.alloc(), source, len) {
+    let mut blocks = blocks;
+    match needed_check_answer(rt.alloc(), &mut blocks) {
         Ok(told) => print_checked(rt, &told),
         Err(fault) => Err(Fault::of_sparse(fault, path)),
     }
 }
 
-/// Prints the children of a folder, of which the blocks are read that are needed.
-pub fn print_needed_list<'a, F: Read + Seek + Drop>(
-    rt: &HostRuntime,
-    path: &'a str,
-    blocks: PartBlocks<F>,
-    dir: u32,
-) -> Result<u8, Fault<'a>> {
-    match open_blocks(rt.alloc(), blocks) {
-        Ok(image) => print_told(rt, seen_list_text(rt.alloc(), &image, dir)),
-        Err(Unopened { fault, source: _ }) => Err(Fault::of_needed(fault, path)),
-    }
-}
-
-/// Prints the table of the items of an image of so many bytes.
-pub fn print_items_of<'a, S: BlockSource + Drop>(
-    rt: &HostRuntime,
-    path: &'a str,
-    source: S,
-    len: u64,
-    format: Format,
-) -> Result<u8, Fault<'a>> {
-    match OpenedImage::open(rt.alloc(), source, len) {
-        Ok(opened) => print_table(rt, &opened, format),
-        Err(fault) => Err(Fault::of_needed(fault, path)),
-    }
-}
-
 /// Prints the table of an opened image's items.
-fn print_table<S: BlockSource + Drop>(
+pub fn print_table<F: Read + Seek + Drop>(
     rt: &HostRuntime,
-    opened: &OpenedImage<S>,
+    image: &PartImage<F>,
     format: Format,
 ) -> Result<u8, Fault<'static>> {
-    write_items(rt.alloc(), &mut rt.stdout(), opened, format)?;
+    write_items(rt.alloc(), &mut rt.stdout(), image, format)?;
     Ok(Status::Done.number())
 }
 

@@ -3,13 +3,18 @@
 use crate::words::PageWords;
 use hfs_bag::SourceFault;
 use hfs_check::MountFault;
-use hfs_commands::{BlockSource, Fault, NeededFault, OpenedImage, Status, open_part};
+use hfs_commands::{
+    BlockSource, Fault, NeededFault, PartBlocks, PartImage, SeenImage, Status, Unopened, open_part,
+    part_blocks,
+};
 use hfs_console::VERSION;
 use hfs_pages::{
     PageFault, PageImage, PageTexts, is_base, standard_texts, write_image_page, write_refused_page,
 };
+use hfs_source::PlacedBlocks;
 use hfs_take::{SourceBlocks, image_digest, image_name};
 use std::alloc::Global;
+use std::io::{Read, Seek};
 
 /// Prints the page of an image, or of the volume with this number that lies in it. Links that no URL
 /// of a server or of a page may begin are refused, as words are.
@@ -33,10 +38,7 @@ fn print_page_by<'a>(rt: &HostRuntime, words: &PageWords<'a>) -> Result<u8, Faul
         return Err(Fault::NoMemory);
     };
     match open_part(rt, words.image, words.volume) {
-        Ok(part) => {
-            let len = part.len();
-            print_page_of(rt, words, name.as_str(), part, len)
-        }
+        Ok(part) => print_page_of(rt, words, name.as_str(), part_blocks(part)),
         Err(Fault::Refused(why)) => print_refused_image(rt, words, name.as_str(), None, why),
         Err(fault) => Err(fault),
     }
@@ -71,21 +73,21 @@ fn bytes_of<'a>(text: Option<&'a str>) -> Option<&'a [u8]> {
     }
 }
 
-/// Prints the page of an image of so many bytes, with its digest where this is asked for.
-fn print_page_of<'a, S: BlockSource + Drop>(
+/// Prints the page of an image, with its digest where this is asked for.
+fn print_page_of<'a, F: Read + Seek + Drop>(
     rt: &HostRuntime,
     words: &PageWords<'a>,
     name: &str,
-    source: S,
-    len: u64,
+    source: PartBlocks<F>,
 ) -> Result<u8, Fault<'a>> {
     if !words.is_digested {
-        return print_told_page(rt, words, name, None, source, len);
+        return print_told_page(rt, words, name, None, source);
     }
+    let len = source.blocks.len();
     let mut blocks = SourceBlocks::new(source);
     let digits = digits_of(rt.alloc(), &mut blocks, len, words.image)?;
     let digest = Some(digits.as_str());
-    print_told_page(rt, words, name, digest, blocks.into_source(), len)
+    print_told_page(rt, words, name, digest, blocks.into_source())
 }
 
 /// The hexadecimal digits of the digest of an image of so many bytes.
@@ -106,31 +108,41 @@ fn digits_of<'a, S: BlockSource + Drop>(
     }
 }
 
-/// Prints the page of an image of so many bytes, with these texts beside its volume.
-fn print_told_page<'a, S: BlockSource + Drop>(
+/// Prints the page of an image, with these texts beside its volume.
+fn print_told_page<'a, F: Read + Seek + Drop>(
     rt: &HostRuntime,
     words: &PageWords<'a>,
     name: &str,
     digest: Option<&str>,
-    source: S,
-    len: u64,
+    source: PartBlocks<F>,
 ) -> Result<u8, Fault<'a>> {
-    match OpenedImage::open(rt.alloc(), source, len) {
-        Ok(opened) => print_opened_page(rt, &texts_of(words, name, digest), &opened),
-        Err(NeededFault::Refused(why)) => {
-            print_refused_page(rt, &texts_of(words, name, digest), why)
-        }
-        Err(fault) => Err(Fault::of_needed(fault, words.image)),
+    match SeenImage::open(rt.alloc(), source) {
+        Ok(image) => print_opened_page(rt, &texts_of(words, name, digest), &image),
+        Err(Unopened { fault, source: _ }) => print_unopened_page(rt, words, name, digest, fault),
+    }
+}
+
+/// Prints the page of an image that was not opened, where it is refused.
+fn print_unopened_page<'a>(
+    rt: &HostRuntime,
+    words: &PageWords<'a>,
+    name: &str,
+    digest: Option<&str>,
+    fault: NeededFault,
+) -> Result<u8, Fault<'a>> {
+    match fault {
+        NeededFault::Refused(why) => print_refused_page(rt, &texts_of(words, name, digest), why),
+        NeededFault::ReadFailed | NeededFault::Memory => Err(Fault::of_needed(fault, words.image)),
     }
 }
 
 /// Prints the page of an opened image.
-fn print_opened_page<S: BlockSource + Drop>(
+fn print_opened_page<F: Read + Seek + Drop>(
     rt: &HostRuntime,
     texts: &PageTexts<'_>,
-    opened: &OpenedImage<S>,
+    image: &PartImage<F>,
 ) -> Result<u8, Fault<'static>> {
-    match write_image_page(rt.alloc(), opened, texts, &mut rt.stdout()) {
+    match write_image_page(rt.alloc(), image, texts, &mut rt.stdout()) {
         Ok(()) => Ok(Status::Done.number()),
         Err(PageFault::Memory) => Err(Fault::NoMemory),
         Err(PageFault::OutputFailed) => Err(Fault::OutputFailed),

@@ -1,8 +1,8 @@
 -- What was opened tells of a folder what each image tells of it.
-use Rattle.std.proofs.Common.{Some, subst}
+use Rattle.std.proofs.Common.{◌≡◌, Some, subst}
 use Rattle.std.specs.Prelude.{IfOk}
-use Rattle.hfs_sparse.specs.Seen.{EachKnown}
-use Rattle.hfs_needed.specs.Listing.{IsBriefList}
+use Rattle.hfs_source.specs.Images.{OfEach}
+use Rattle.hfs_needed.specs.Listing.{brief_list}
 use Rattle.hfs_needed.proofs.Listed.{lists-known}
 use Rattle.hfs_needed.proofs.Reported.{ok-so}
 use Rattle.hfs_check.proofs.LawsProved.{no_blocks_fault}
@@ -14,8 +14,8 @@ pub returns : goal.returns
 returns g c =
     let opened = c.self.inside in
     let is = c.self.invariant in
-    subst (λ s. IfOk c.list_in_brief.result (λ reply. EachKnown (g.S.BlockSource.Holds s.0) (λ known. IsBriefList known s.1 c.args.dir reply))) c.self.view_is
+    subst (λ s. IfOk c.list_in_brief.result (λ reply. OfEach (g.S.PlacedBlocks.Holds s) (λ image. reply ≡ brief_list image c.args.dir))) c.self.view_is
     (ok-so c.list_in_brief.result
     (λ reply e image h.
     lists-known no_blocks_fault gathered_is_enough catalog_answers-entries (Some image) opened.len
-    opened.volume.read is.0.needed (is.1 image h) is.0.sound c.args.dir reply e) c.list_in_brief.ensures)
+    opened.volume.read is.opened.needed (is.seen image h) is.opened.sound c.args.dir reply e (is.long image h)) c.list_in_brief.ensures)
