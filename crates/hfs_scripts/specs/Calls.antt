@@ -3,7 +3,6 @@ use Rattle.std.specs.Prelude.{ℕ, List, [], ◌∷◌, Option, Some, None}
 use Rattle.std.specs.Option.{option_map}
 use Rattle.hfs_model.specs.declared.call.Call.{Call}
 use Rattle.hfs_model.specs.declared.call.Call.TheVariants as call
-use Rattle.hfs_model.specs.declared.call.Fork.{Fork}
 use Rattle.hfs_scripts.specs.declared.calls.Target.{Target}
 use Rattle.hfs_scripts.specs.declared.words.Word.{Word}
 use Rattle.hfs_scripts.specs.declared.words.Word.TheVariants as word
@@ -31,19 +30,14 @@ target_of (dir ∷ name ∷ []) = do
   Some (record { dir = dir; name = name })
 target_of _ = None
 
--- OFFSET COUNT of a fork
-abbrev pub part_of : ℕ → List ℕ → Fork → List ℕ → List ℕ → Option Call
-part_of dir name fork offset count = do
-  offset ← number_of offset
-  count ← number_of count
-  Some (call.ReadFork dir name fork offset count)
-
 -- DIR NAME, `data` or `res`, OFFSET COUNT
 unfoldable pub read_of : List (List ℕ) → Option Call
 read_of (dir ∷ name ∷ fork ∷ offset ∷ count ∷ []) = do
   dir ← number_of dir
   fork ← fork_of fork
-  part_of dir name fork offset count
+  offset ← number_of offset
+  count ← number_of count
+  Some (call.ReadFork dir name fork offset count)
 read_of _ = None
 
 -- DIR NAME NEW

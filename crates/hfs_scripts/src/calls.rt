@@ -1,12 +1,12 @@
 //! The call of a line: what its word and the fields behind it ask for.
 ghost use Rattle.std.specs.Prelude.{◌≡◌, map, IfOk};
-ghost use Rattle.hfs_scripts.specs.Calls.{number_alone, indexed_of, target_of, part_of, read_of, rename_of, move_of, set_f_info_of, set_info_of, target_call, call_on_target, call_of};
+ghost use Rattle.hfs_scripts.specs.Calls.{number_alone, indexed_of, target_of, read_of, rename_of, move_of, set_f_info_of, set_info_of, target_call, call_on_target, call_of};
 ghost use Rattle.hfs_scripts.specs.Fields.{texts_of};
 
 use crate::fields::{read_16_bytes, read_32_bytes, read_fork};
 use crate::numbers::{read_number, read_two_numbers};
 use crate::words::Word;
-use hfs_model::{Call, Fork, SharedBytes};
+use hfs_model::{Call, SharedBytes};
 use std::alloc::{AllocError, Global};
 
 /// The item that DIR and NAME tell.
@@ -60,24 +60,8 @@ fn read_read(alloc: Global, fields: &[&[u8]]) -> Result<Option<Call>, AllocError
     let [dir, name, fork, offset, count] = fields else {
         return Ok(None);
     };
-    let Some((dir, fork)) = read_number(dir).zip(read_fork(fork)) else {
-        return Ok(None);
-    };
-    read_part(alloc, dir, name, fork, offset, count)
-}
-
-// The part of a fork that OFFSET and COUNT name.
-fn read_part(
-    alloc: Global,
-    dir: u32,
-    name: &[u8],
-    fork: Fork,
-    offset: &[u8],
-    count: &[u8],
-) -> Result<Option<Call>, AllocError>
-    ensures { IfOk result (λ call. call ≡ part_of dir name.now fork offset.now count.now) }
-{
-    let Some((offset, count)) = read_two_numbers(offset, count) else {
+    let item = read_number(dir).zip(read_fork(fork));
+    let Some(((dir, fork), (offset, count))) = item.zip(read_two_numbers(offset, count)) else {
         return Ok(None);
     };
     let name = SharedBytes::from_slice(alloc, name)?;
