@@ -8,3 +8,4 @@ mod Parting
 mod Again
 mod InFields
 mod RoundTrip
+mod Parts
