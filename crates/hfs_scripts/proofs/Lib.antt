@@ -8,4 +8,3 @@ mod Parting
 mod Again
 mod InFields
 mod RoundTrip
-mod Parts
