@@ -42,7 +42,7 @@ pub struct FileShelf<Y: FileSystem> {
     /// The path within the folder of the file that was made last, while it takes pieces.
     made: Option<String>,
     /// The time that this file gets when it is let go of.
-    modified: Option<u32>,
+    pub modified: Option<u32>,
     /// The folder, opened and never read: it keeps a descriptor, so that there is one for taking away
     /// what was written.
     kept: Option<Y::Names>,
