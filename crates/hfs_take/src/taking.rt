@@ -89,13 +89,7 @@ fn write_bag<'a, Y: FileSystem + Drop, H: Threads, S: BlockSource + Drop + Send,
 
 /// Takes an image apart that was opened, over any system, where nothing has the folder's name. Where the image's bytes are known, exactly its bag
 /// has this place then, as the last that the system did. Faults: `IsThere`; as [`write_bag`] has them.
-pub fn take_opened<
-    'a,
-    Y: FileSystem + Drop,
-    H: Threads,
-    S: BlockSource + Drop + Send,
-    W: Watch,
->(
+pub fn take_opened<'a, Y: FileSystem + Drop, H: Threads, S: BlockSource + Drop + Send, W: Watch>(
     alloc: Global,
     system: Y,
     threads: &H,
