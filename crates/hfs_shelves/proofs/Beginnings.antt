@@ -1,6 +1,6 @@
 -- Beginnings of lists of what a shelf was given.
-use Rattle.std.proofs.Common.{◌≡◌, ℕ, List, [], ◌∷◌, ◌++◌, Option, refl, sym, ap, ◌∙◌, subst, append_assoc, append-nil, inl, inr}
-use Rattle.hfs_shelves.specs.Entries.{ShelfEntry, folder, file, with_folder, with_file, with_piece, IsPart, IsBeginning}
+use Rattle.std.proofs.Common.{◌≡◌, ℕ, List, [], ◌∷◌, ◌++◌, Option, Some, None, refl, sym, ap, ◌∙◌, subst, append_assoc, append-nil, inl, inr}
+use Rattle.hfs_shelves.specs.Entries.{ShelfEntry, folder, file, with_folder, with_file, with_piece, with_time, IsPart, IsBeginning}
 
 -- a list and what came behind it
 pub begins_appended : (xs ys : List ShelfEntry) → IsBeginning xs (xs ++ ys)
@@ -21,7 +21,7 @@ begins_file now xs path time same = subst (λ (was : List ShelfEntry). IsBeginni
 pub begins_piece : (xs : List ShelfEntry) (piece : List ℕ) → IsBeginning xs (with_piece xs piece)
 begins_piece [] piece = tt
 begins_piece (folder path ∷ []) piece = inl (refl, tt)
-begins_piece (file path time bytes ∷ []) piece = inr ((refl, (refl, (piece, refl))), refl)
+begins_piece (file path time bytes ∷ []) piece = inr ((refl, refl, (piece, refl)), refl)
 begins_piece (entry ∷ next ∷ rest) piece = inl (refl, begins_piece (next ∷ rest) piece)
 
 pub begins_piece_now : (now xs : List ShelfEntry) (piece : List ℕ) → now ≡ xs → IsBeginning now (with_piece xs piece)
@@ -42,11 +42,11 @@ begins_before (entry ∷ rest) (whole ∷ behind) zs (inr h) = inr h
 
 part_longer : (entry : ShelfEntry) (path : List ℕ) (time : Option ℕ) (bytes more : List ℕ) → IsPart entry (file path time bytes) → IsPart entry (file path time (bytes ++ more))
 part_longer (file one when some) path time bytes more h =
-    (h.0, (h.1, (h.2.0 ++ more, ap (λ (all : List ℕ). all ++ more) h.2.1 ∙ append_assoc some h.2.0 more)))
+    (h.0, h.1, (h.2.0 ++ more, ap (λ (all : List ℕ). all ++ more) h.2.1 ∙ append_assoc some h.2.0 more))
 part_longer (folder one) path time bytes more h = absurd h
 
 part_of_same : (entry : ShelfEntry) (path : List ℕ) (time : Option ℕ) (bytes more : List ℕ) → entry ≡ file path time bytes → IsPart entry (file path time (bytes ++ more))
-part_of_same entry path time bytes more same = subst (λ (was : ShelfEntry). IsPart was (file path time (bytes ++ more))) (sym same) (refl, (refl, (more, refl)))
+part_of_same entry path time bytes more same = subst (λ (was : ShelfEntry). IsPart was (file path time (bytes ++ more))) (sym same) (refl, refl, (more, refl))
 
 none_begins : (rest : List ShelfEntry) → IsBeginning rest [] → rest ≡ []
 none_begins [] h = refl
@@ -86,5 +86,22 @@ begins_longer_piece now (file path time bytes ∷ []) piece more h =
 begins_longer_piece [] (entry ∷ next ∷ rest) piece more h = tt
 begins_longer_piece (first ∷ behind) (entry ∷ next ∷ rest) piece more (inl h) = inl (h.0, begins_longer_piece behind (next ∷ rest) piece more h.1)
 begins_longer_piece (first ∷ behind) (entry ∷ next ∷ rest) piece more (inr h) = inr h
+
+-- ---- times
+
+-- the time of the file that was made last
+pub time_last : (xs : List ShelfEntry) (path : List ℕ) (time : ℕ) → with_time (with_file xs path None) time ≡ with_file xs path (Some time)
+time_last [] path time = refl
+time_last (entry ∷ []) path time = refl
+time_last (entry ∷ next ∷ rest) path time = ap (λ (behind : List ShelfEntry). entry ∷ behind) (time_last (next ∷ rest) path time)
+
+-- its bytes go on whatever its time
+pub time_piece : (xs : List ShelfEntry) (time : ℕ) (piece : List ℕ) → with_time (with_piece xs piece) time ≡ with_piece (with_time xs time) piece
+time_piece [] time piece = refl
+time_piece (folder path ∷ []) time piece = refl
+time_piece (file path was bytes ∷ []) time piece = refl
+time_piece (entry ∷ folder path ∷ []) time piece = refl
+time_piece (entry ∷ file path was bytes ∷ []) time piece = refl
+time_piece (entry ∷ next ∷ third ∷ rest) time piece = ap (λ (behind : List ShelfEntry). entry ∷ behind) (time_piece (next ∷ third ∷ rest) time piece)
 
 pub ruleset beginnings = (begins_folder, begins_file, begins_piece, begins_piece_now)

@@ -2,7 +2,8 @@
 use Rattle.std.proofs.Common.{◌≡◌, ℕ, Bool, true, false, List, [], ◌∷◌, ◌++◌, Option, Some, None, eqb, refl, sym, ap, ◌∙◌, subst}
 use Rattle.std.specs.Prelude.{if◌then◌else◌, option_map, unwrap_or, ⊤}
 use Rattle.std.proofs.lemmas.Bool.{eq-eqb}
-use Rattle.hfs_shelves.specs.Entries.{ShelfEntry, folder, file, with_folder, with_file, with_piece, with_time}
+use Rattle.hfs_shelves.specs.Entries.{ShelfEntry, with_folder, with_file, with_piece, with_time}
+use Rattle.hfs_shelves.proofs.Beginnings.{time_last, time_piece}
 use Rattle.hfs_shelves.specs.ShelfPaths.{path_within}
 use Rattle.hfs_shelves.specs.MadeFolders.{given_by, path_in, made_in}
 use Rattle.hfs_shelves.specs.SystemSteps.{SystemStep, done, failed, made_folder, opened, wrote}
@@ -33,25 +34,7 @@ made_in-file folder path before = ap (λ o. unwrap_or (option_map (λ (p : List 
 pub made_in-itself : (folder : List ℕ) (before : List SystemStep) → made_in folder (done (made_folder folder) ∷ before) ≡ []
 made_in-itself folder before = ap (λ o. unwrap_or (option_map (with_folder (made_in folder before)) o) []) (path_in-itself folder)
 
--- ---- times
-
--- the time of the file that was made last
-time_last : (xs : List ShelfEntry) (path : List ℕ) (time : ℕ) → with_time (with_file xs path None) time ≡ with_file xs path (Some time)
-time_last [] path time = refl
-time_last (entry ∷ []) path time = refl
-time_last (entry ∷ next ∷ rest) path time = ap (λ (behind : List ShelfEntry). entry ∷ behind) (time_last (next ∷ rest) path time)
-
--- its bytes go on whatever its time
-time_piece : (xs : List ShelfEntry) (time : ℕ) (piece : List ℕ) → with_time (with_piece xs piece) time ≡ with_piece (with_time xs time) piece
-time_piece [] time piece = refl
-time_piece (folder path ∷ []) time piece = refl
-time_piece (file path was bytes ∷ []) time piece = refl
-time_piece (entry ∷ folder path ∷ []) time piece = refl
-time_piece (entry ∷ file path was bytes ∷ []) time piece = refl
-time_piece (entry ∷ next ∷ third ∷ rest) time piece = ap (λ (behind : List ShelfEntry). entry ∷ behind) (time_piece (next ∷ third ∷ rest) time piece)
-
--- ---- after a row of calls
-
+-- after a row of calls
 pub grown_folder : (folder path whole : List ℕ) (given : List ShelfEntry) (time : Option ℕ) (mid new : List SystemStep) → whole ≡ path_within folder path → time ≡ None → given_by folder time mid ≡ given
     → new ≡ done (made_folder whole) ∷ mid → given_by folder time new ≡ with_folder given path
 grown_folder folder path whole given None mid new at none was is =
