@@ -13,7 +13,7 @@ use Rattle.hfs_bag.proofs.Growing.{part_first, part_done}
 
 pub bytes_in-append : (xs ys : List ShelfEntry) → bytes_in (xs ++ ys) ≡ bytes_in xs + bytes_in ys
 bytes_in-append [] ys = sym (zero-add (bytes_in ys))
-bytes_in-append (file path bytes ∷ rest) ys = ap (λ (n : ℕ). length bytes + n) (bytes_in-append rest ys) ∙ sym (add_assoc (length bytes) (bytes_in rest) (bytes_in ys))
+bytes_in-append (file path time bytes ∷ rest) ys = ap (λ (n : ℕ). length bytes + n) (bytes_in-append rest ys) ∙ sym (add_assoc (length bytes) (bytes_in rest) (bytes_in ys))
 bytes_in-append (folder path ∷ rest) ys = bytes_in-append rest ys
 
 pub items_entries-append : (xs ys : List BagItem) → items_entries (xs ++ ys) ≡ items_entries xs ++ items_entries ys

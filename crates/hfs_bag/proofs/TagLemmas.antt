@@ -73,7 +73,7 @@ no_remains_digest None none = refl
 no_remains_digest (Some text) none = absurd (told-not none)
 
 -- there is one
-pub some_remains : (remains : Option (List ℕ)) → told_or_not remains ≡ true → remains_files remains ≡ file (codes "rescue.tsv") (unwrap_or remains []) ∷ []
+pub some_remains : (remains : Option (List ℕ)) → told_or_not remains ≡ true → remains_files remains ≡ file (codes "rescue.tsv") None (unwrap_or remains []) ∷ []
 some_remains None some = absurd (told-not (sym some))
 some_remains (Some text) some = refl
 
@@ -85,7 +85,7 @@ some_remains_digest (Some text) some = refl
 
 files_in-append : (xs ys : List ShelfEntry) → files_in (xs ++ ys) ≡ files_in xs + files_in ys
 files_in-append [] ys = omega arith
-files_in-append (file path bytes ∷ rest) ys = let behind = files_in-append rest ys in omega (arith, behind)
+files_in-append (file path time bytes ∷ rest) ys = let behind = files_in-append rest ys in omega (arith, behind)
 files_in-append (folder path ∷ rest) ys = files_in-append rest ys
 
 files_of_kind : (k : BagKind) (item : BagItem) → files_in (entries_of_kind k item) ≡ double_number (digests_of_kind k item) + file_number (digests_of_kind k item)

@@ -23,7 +23,7 @@ digest_line digest path = encode_lower digest ++ codes "  " ++ path ++ codes "\n
 
 -- a line for each file; a folder has none
 abbrev pub manifest_line : ShelfEntry → List ℕ
-manifest_line (file path bytes) = digest_line (sha256 bytes) path
+manifest_line (file path time bytes) = digest_line (sha256 bytes) path
 manifest_line (folder path) = []
 
 abbrev pub manifest : List ShelfEntry → List ℕ
@@ -34,13 +34,13 @@ manifest entries = flat_map manifest_line entries
 -- the bytes of all files
 abbrev pub bytes_in : List ShelfEntry → ℕ
 bytes_in [] = 0
-bytes_in (file path bytes ∷ rest) = length bytes + bytes_in rest
+bytes_in (file path time bytes ∷ rest) = length bytes + bytes_in rest
 bytes_in (folder path ∷ rest) = bytes_in rest
 
 -- the number of files
 abbrev pub files_in : List ShelfEntry → ℕ
 files_in [] = 0
-files_in (file path bytes ∷ rest) = suc (files_in rest)
+files_in (file path time bytes ∷ rest) = suc (files_in rest)
 files_in (folder path ∷ rest) = files_in rest
 
 -- 1 where there is a file with a data fork

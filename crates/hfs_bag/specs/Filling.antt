@@ -1,5 +1,5 @@
 -- Streams that go to a shelf and to a digest.
-use Rattle.std.specs.Prelude.{◌≡◌, ℕ, ◌<◌, List, [], ◌∷◌, ◌++◌, length, Bool, true, false}
+use Rattle.std.specs.Prelude.{◌≡◌, ℕ, ◌<◌, List, [], ◌∷◌, ◌++◌, length, Bool, true, false, Option, None}
 use Rattle.hfs_shelves.specs.Entries.{ShelfEntry, file, with_piece}
 use Rattle.hfs_bag.specs.Sources.{SourceState, SameItems, WhereKnown}
 
@@ -20,6 +20,10 @@ abbrev pub IsMore : SourceState → SourceState → Bool → Type 0
 IsMore old new true = length new.bytes < length old.bytes
 IsMore old new false = new.bytes ≡ []
 
--- what was given, and then a whole file
+-- what was given, and then a whole file, which is to have a time
+abbrev pub with_dated_file : List ShelfEntry → List ℕ → Option ℕ → List ℕ → List ShelfEntry
+with_dated_file given path time bytes = given ++ file path time bytes ∷ []
+
+-- what was given, and then a whole file without a time
 abbrev pub with_whole_file : List ShelfEntry → List ℕ → List ℕ → List ShelfEntry
-with_whole_file given path bytes = given ++ file path bytes ∷ []
+with_whole_file given path bytes = with_dated_file given path None bytes

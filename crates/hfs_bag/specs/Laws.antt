@@ -12,7 +12,7 @@ use Rattle.hfs_bag.specs.Tags.{bag_of}
 
 abbrev pub entry_path : ShelfEntry → List ℕ
 entry_path (folder path) = path
-entry_path (file path bytes) = path
+entry_path (file path time bytes) = path
 
 -- ---- parts of paths
 

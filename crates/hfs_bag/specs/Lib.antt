@@ -1,3 +1,4 @@
+pub mod Times
 pub mod Items
 pub mod Sources
 pub mod Filling

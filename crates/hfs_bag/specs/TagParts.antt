@@ -12,7 +12,7 @@ abbrev pub first_tags : List BagItem → BagTables → List ShelfEntry
 first_tags items tables = manifest_file items ∷ table_file tables.items ∷ remains_files tables.remains
 
 abbrev pub second_tags : BagFacts → ℕ → ℕ → List ShelfEntry
-second_tags facts bytes files = report_file facts ∷ file (codes "bag-info.txt") (info_text facts bytes files) ∷ declaration_file ∷ []
+second_tags facts bytes files = report_file facts ∷ file (codes "bag-info.txt") None (info_text facts bytes files) ∷ declaration_file ∷ []
 
 -- the line of the table of what remains, where there is one
 abbrev pub remains_line : Option (List ℕ) → List ℕ

@@ -54,28 +54,28 @@ declaration_text = codes "BagIt-Version: 1.0\nTag-File-Character-Encoding: UTF-8
 -- ---- the tag files of these items, whose tables are these texts
 
 abbrev pub manifest_file : List BagItem → ShelfEntry
-manifest_file items = file (codes "manifest-sha256.txt") (manifest (payload items))
+manifest_file items = file (codes "manifest-sha256.txt") None (manifest (payload items))
 
 abbrev pub table_file : List ℕ → ShelfEntry
-table_file table = file (codes "items.csv") table
+table_file table = file (codes "items.csv") None table
 
 -- the table of what remains, where there is one
 abbrev pub remains_files : Option (List ℕ) → List ShelfEntry
-remains_files (Some text) = file (codes "rescue.tsv") text ∷ []
+remains_files (Some text) = file (codes "rescue.tsv") None text ∷ []
 remains_files None = []
 
 abbrev pub report_file : BagFacts → ShelfEntry
-report_file facts = file (codes "volume.txt") facts.report.now
+report_file facts = file (codes "volume.txt") None facts.report.now
 
 abbrev pub info_file : List BagItem → BagFacts → ShelfEntry
-info_file items facts = file (codes "bag-info.txt") (info_text facts (bytes_in (payload items)) (files_in (payload items)))
+info_file items facts = file (codes "bag-info.txt") None (info_text facts (bytes_in (payload items)) (files_in (payload items)))
 
 abbrev pub declaration_file : ShelfEntry
-declaration_file = file (codes "bagit.txt") declaration_text
+declaration_file = file (codes "bagit.txt") None declaration_text
 
 -- the digests of the other tag files, in an order of their own
 abbrev pub tag_manifest_file : List BagItem → BagTables → BagFacts → ShelfEntry
-tag_manifest_file items tables facts = file (codes "tagmanifest-sha256.txt")
+tag_manifest_file items tables facts = file (codes "tagmanifest-sha256.txt") None
     (manifest (declaration_file ∷ info_file items facts ∷ table_file tables.items ∷ (remains_files tables.remains ++ (report_file facts ∷ manifest_file items ∷ []))))
 
 abbrev pub tag_files : List BagItem → BagTables → BagFacts → List ShelfEntry

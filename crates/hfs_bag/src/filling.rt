@@ -5,7 +5,7 @@ ghost use Rattle.sha2.specs.Sha256.{sha256};
 ghost use Rattle.hfs_shelves.specs.Entries.{IsBeginning, with_piece};
 ghost use Rattle.hfs_bag.specs.Sources.{SameItems, WhereKnown, stream_bytes};
 ghost use Rattle.hfs_bag.specs.Faults.{IsOfShelf, IsPassedOn};
-ghost use Rattle.hfs_bag.specs.Filling.{HasMoved, HoldsMore, IsMore, with_whole_file};
+ghost use Rattle.hfs_bag.specs.Filling.{HasMoved, HoldsMore, IsMore, with_dated_file, with_whole_file};
 
 use crate::fault::BagFault;
 use crate::source::{BagSource, Stream};
@@ -70,9 +70,9 @@ pub(crate) fn put_file<S: Shelf, B: BagSource>(
     stream: Stream,
 ) -> Result<[u8; 32], BagFault>
     ensures whole { OnOk result (WhereKnown (B.state source.old)
-        (S.given shelf.new ≡ with_whole_file (S.given shelf.old) path.now (head.now ++ stream_bytes (B.state source.old) stream))) }
+        (S.given shelf.new ≡ with_dated_file (S.given shelf.old) path.now modified (head.now ++ stream_bytes (B.state source.old) stream))) }
     ensures part { OnErr result (WhereKnown (B.state source.old)
-        (IsBeginning (S.given shelf.new) (with_whole_file (S.given shelf.old) path.now (head.now ++ stream_bytes (B.state source.old) stream)))) }
+        (IsBeginning (S.given shelf.new) (with_dated_file (S.given shelf.old) path.now modified (head.now ++ stream_bytes (B.state source.old) stream)))) }
     ensures digest { IfOk result (λ digest. WhereKnown (B.state source.old)
         (digest ≡ sha256 (head.now ++ stream_bytes (B.state source.old) stream))) }
     ensures same { OnOk result (SameItems (B.state source.old) (B.state source.new)) }

@@ -13,6 +13,7 @@ mod manifests;
 mod source;
 mod sums;
 mod tags;
+mod times;
 
 pub use crate::bag::{give_bag, give_payload, give_tag_files};
 pub use crate::facts::BagFacts;
@@ -22,3 +23,4 @@ pub use crate::item::{BagHead, BagKind, ItemDigests};
 pub use crate::laws::bag_path_laws;
 pub use crate::source::{BagSource, SourceFault, Stream};
 pub use crate::sums::BagSums;
+pub use crate::times::since_1970;

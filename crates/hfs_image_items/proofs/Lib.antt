@@ -5,5 +5,6 @@ pub mod SourceLemmas
 pub mod RootLemmas
 pub mod PlainNames
 pub mod PlacedLemmas
+mod NamedLemmas
 pub mod StateLemmas
 pub mod LawsProved

@@ -4,6 +4,7 @@ use Rattle.std.specs.List.{flat_map}
 use Rattle.hfs_bag.specs.declared.item.BagKind.{BagKind}
 use Rattle.hfs_bag.specs.declared.item.BagKind.TheVariants as bag
 use Rattle.hfs_bag.specs.Items.{BagItem}
+use Rattle.hfs_bag.specs.Times.{since_1970}
 use Rattle.hfs_inventory.specs.Told.{ToldRow, told_rows}
 use Rattle.hfs_model.specs.declared.call.Fork.{Fork}
 use Rattle.hfs_model.specs.declared.call.Fork.TheVariants.{DataFork, ResFork}
@@ -57,6 +58,7 @@ item_at es above name info = record {
   name = name;
   kind = bag_kind info.kind;
   finder = info.finder;
+  modified = since_1970 info.modified;
   data_fork = fork_told es DataFork info;
   resource_fork = fork_told es ResFork info;
 }

@@ -8,7 +8,8 @@ use Rattle.hfs_model.specs.Lawful.{Has, IsLawful}
 use Rattle.hfs_names.specs.Laws.{is_bytes}
 use Rattle.hfs_inventory.specs.Told.{ToldRow, told_rows}
 use Rattle.hfs_table.specs.Lines.{bag_path}
-use Rattle.hfs_image_items.specs.Items.{bag_item, bag_items}
+use Rattle.hfs_check.specs.Sound.{IsSound}
+use Rattle.hfs_image_items.specs.Items.{bag_item, bag_items, entries_in}
 
 -- each item of a volume is called by bytes
 abbrev pub AreNamed : Volume → Type 0
@@ -26,3 +27,12 @@ ArePathsTold es (row ∷ rows) = (bag_path row.path ≡ (bag_item es row).above 
 -- of each item but the root
 abbrev pub BagPathsAreTold : Type 0
 BagPathsAreTold = (v : Volume) → IsLawful v → AreNamed v → ArePathsTold (entries_of v) (drop 1 (told_rows (entries_of v)))
+
+-- ---- sound images
+
+-- so are those of each sound image of bytes
+abbrev pub SoundItemsArePlaced : Type 0
+SoundItemsArePlaced = (image : List ℕ) → IsTrue (is_bytes image) → IsSound image → ArePlaced (bag_items (entries_in image))
+
+abbrev pub SoundPathsAreTold : Type 0
+SoundPathsAreTold = (image : List ℕ) → IsTrue (is_bytes image) → IsSound image → ArePathsTold (entries_in image) (drop 1 (told_rows (entries_in image)))

@@ -17,7 +17,7 @@ use crate::paths::folders_text;
 use crate::reading::{Reading, read_next};
 use crate::table_reading::TableReading;
 use crate::watch::Watch;
-use hfs_bag::{BagHead, BagKind, BagSource, SourceFault, Stream};
+use hfs_bag::{BagHead, BagKind, BagSource, SourceFault, Stream, since_1970};
 use hfs_fields::Name;
 use hfs_inventory::Inventory;
 use hfs_model::{Info, ItemKind};
@@ -25,9 +25,6 @@ use hfs_names::host_name;
 use hfs_needed::{FileRuns, OpenedImage};
 use hfs_sparse::BlockSource;
 use std::alloc::{AllocError, Global};
-
-/// The beginning of 1970 on a Macintosh, in seconds since midnight of 1 January 1904.
-const YEAR_1970: u32 = 2_082_844_800;
 
 /// An item that came.
 #[derive(Drop)]
@@ -91,11 +88,6 @@ fn runs_of<S: BlockSource + Drop>(
     }
 }
 
-/// When an item was modified, in seconds from the beginning of 1970; None where that was before.
-fn modified_since_1970(info: &Info) -> Option<u32> {
-    info.modified.checked_sub(YEAR_1970)
-}
-
 fn bag_kind(kind: ItemKind) -> BagKind
     ensures { result ≡ bag_kind kind }
 {
@@ -120,7 +112,7 @@ fn head_of(info: &Info, runs: &Option<FileRuns>) -> BagHead
         finder: info.finder,
         data_length,
         resource_length,
-        modified: modified_since_1970(info),
+        modified: since_1970(info.modified),
     }
 }
 

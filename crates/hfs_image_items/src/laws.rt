@@ -1,5 +1,5 @@
 //! What holds of the definitions, each as the contract of a function that does nothing.
-ghost use Rattle.hfs_image_items.specs.Laws.{BagPathsAreTold, ItemsArePlaced};
+ghost use Rattle.hfs_image_items.specs.Laws.{BagPathsAreTold, ItemsArePlaced, SoundItemsArePlaced, SoundPathsAreTold};
 
 /// The items of a lawful volume have plain names and paths of their own, also where case is not told apart: no path
 /// leads out of the bag.
@@ -10,4 +10,14 @@ pub fn items_are_placed()
 /// Each item of a lawful volume but its root lies in the bag at the path that its line in the table tells.
 pub fn bag_paths_are_told()
     ensures { BagPathsAreTold }
+{}
+
+/// So it is with the items of each sound image, whatever bytes it has.
+pub fn sound_items_are_placed()
+    ensures { SoundItemsArePlaced }
+{}
+
+/// And each of them but the root lies at the path that its line tells.
+pub fn sound_paths_are_told()
+    ensures { SoundPathsAreTold }
 {}

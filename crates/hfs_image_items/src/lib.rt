@@ -12,5 +12,7 @@ mod table_reading;
 mod watch;
 
 pub use crate::items::ImageItems;
-pub use crate::laws::{bag_paths_are_told, items_are_placed};
+pub use crate::laws::{
+    bag_paths_are_told, items_are_placed, sound_items_are_placed, sound_paths_are_told,
+};
 pub use crate::watch::Watch;

@@ -1,2 +1,2 @@
 pub mod Printed
-pub mod LawTypes
+pub mod LawsProved

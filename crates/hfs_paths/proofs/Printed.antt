@@ -13,7 +13,6 @@ use Rattle.hfs_names.specs.MacRoman.{character_text, roman_character}
 use Rattle.hfs_names.specs.Paths.{mac_path}
 use Rattle.hfs_names.specs.PlainTexts.{is_control, plain_character, plain_text}
 use Rattle.hfs_paths.specs.declared.reading.Stage.TheVariants.{Character}
-use Rattle.hfs_paths.proofs.LawTypes.{ArePrintedPathsRead}
 use Rattle.hfs_paths.specs.Paths.{Read, byte_of, closed, digit_value, names_read, path_names, read_byte, unread, with_character, with_second_digit}
 
 -- in the middle of a name
@@ -164,7 +163,7 @@ some-text (c ∷ name) rest h =
 
 -- ---- all
 
-pub printed-read : ArePrintedPathsRead
+pub printed-read : (name : List ℕ) (names : List (List ℕ)) → list_all is_item_name (name ∷ names) ≡ true → path_names (mac_path (name ∷ names)) ≡ Some (name ∷ names)
 unfolding path_names mac_path
 printed-read name names h =
     let parts = and_parts (is_item_name name) (list_all is_item_name names) h in

@@ -121,6 +121,7 @@ module _ (known : Option (List ℕ)) (found : Found) (plan : List Planned) where
   head-of head came planned same told = record {
     kind_is = told.kind_is ∙ ap (λ (p : Planned). p.kind) (sym same);
     finder_is = told.finder_is ∙ ap (λ (p : Planned). finder_told (part_told found p)) (sym same);
+    modified_is = told.modified_is ∙ ap (λ (p : Planned). modified_told (part_told found p)) (sym same);
     data_is = told.data_is ∙ length-part [] image found Data planned ∙ ap (λ (p : Planned). length (part_bytes image found Data p)) (sym same);
     resource_is = told.resource_is ∙ length-part [] image found Resource planned ∙ ap (λ (p : Planned). length (part_bytes image found Resource p)) (sym same);
   }

@@ -7,6 +7,7 @@ use Rattle.hfs_bag.specs.declared.source.Stream.{Stream}
 use Rattle.hfs_bag.specs.declared.source.Stream.TheVariants as stream
 use Rattle.hfs_bag.specs.Items.{BagItem}
 use Rattle.hfs_bag.specs.Sources.{BagTables, SourceState}
+use Rattle.hfs_bag.specs.Times.{since_1970}
 use Rattle.hfs_model.specs.declared.reply.Info.{Info}
 use Rattle.hfs_space.specs.declared.fork_kind.ForkKind.{ForkKind}
 use Rattle.hfs_space.specs.declared.fork_kind.ForkKind.TheVariants.{Data, Resource}
@@ -44,6 +45,11 @@ abbrev pub finder_told : Option Info → List ℕ
 finder_told None = replicate 32 0
 finder_told (Some info) = info.finder
 
+-- when it was modified, in seconds since the beginning of 1970, where something is told, and that wasn't before
+abbrev pub modified_told : Option Info → Option ℕ
+modified_told None = None
+modified_told (Some info) = since_1970 info.modified
+
 -- the bytes that are taken of its item's fork
 abbrev pub part_bytes : List ℕ → Found → ForkKind → Planned → List ℕ
 part_bytes image found kind planned = if is_alone planned.kind then [] else taken_bytes image found kind planned.place
@@ -57,6 +63,7 @@ item_with image found above name planned = record {
   name = name;
   kind = planned.kind;
   finder = finder_told (part_told found planned);
+  modified = modified_told (part_told found planned);
   data_fork = part_bytes image found Data planned;
   resource_fork = part_bytes image found Resource planned;
 }

@@ -2,18 +2,15 @@
 ghost use Rattle.std.specs.Prelude.{◌≡◌, ◌-◌, ℕ, List, [], drop, length, take, IfOk, string_bytes};
 ghost use Rattle.hfs_bag.specs.Items.{IsHead};
 ghost use Rattle.hfs_rescue_items.specs.Bytes.{GivesBytes};
-ghost use Rattle.hfs_rescue_items.specs.Sources.{above_of, finder_told, is_alone, name_of, part_bytes, part_told, planned_item};
+ghost use Rattle.hfs_rescue_items.specs.Sources.{above_of, finder_told, is_alone, modified_told, name_of, part_bytes, part_told, planned_item};
 
 use crate::found::Found;
 use crate::plan::Planned;
-use hfs_bag::{BagHead, BagKind, SourceFault};
+use hfs_bag::{BagHead, BagKind, SourceFault, since_1970};
 use hfs_model::Info;
 use hfs_remains::FoundFork;
 use hfs_space::ForkKind;
 use std::alloc::{AllocError, Global};
-
-/// The beginning of 1970 on a Macintosh, in seconds since midnight of 1 January 1904.
-const YEAR_1970: u32 = 2_082_844_800;
 
 /// What came last.
 #[derive(Drop)]
@@ -122,9 +119,11 @@ fn finder_of(told: &Option<Info>) -> [u8; 32]
 }
 
 /// When it was modified, in seconds from the beginning of 1970; None where that was before, or nothing is told.
-fn modified_of(told: &Option<Info>) -> Option<u32> {
+fn modified_of(told: &Option<Info>) -> Option<u32>
+    ensures { result ≡ modified_told told.now }
+{
     match told {
-        Some(info) => info.modified.checked_sub(YEAR_1970),
+        Some(info) => since_1970(info.modified),
         None => None,
     }
 }

@@ -30,9 +30,9 @@ use Rattle.hfs_salvage.specs.Bags.{IsDirectoryTold, IsReportTold, TellsOf, direc
 -- a bag by the texts of its report and of its facts
 abbrev bag-with : List BagItem → BagTables → List ℕ → List ℕ → List ShelfEntry
 bag-with items tables report info = payload items ++
-    (manifest_file items ∷ table_file tables.items ∷ (remains_files tables.remains ++ (file (codes "volume.txt") report ∷ file (codes "bag-info.txt") info ∷ declaration_file
-    ∷ file (codes "tagmanifest-sha256.txt")
-    (manifest (declaration_file ∷ file (codes "bag-info.txt") info ∷ table_file tables.items ∷ (remains_files tables.remains ++ (file (codes "volume.txt") report ∷ manifest_file items ∷ [])))) ∷ [])))
+    (manifest_file items ∷ table_file tables.items ∷ (remains_files tables.remains ++ (file (codes "volume.txt") None report ∷ file (codes "bag-info.txt") None info ∷ declaration_file
+    ∷ file (codes "tagmanifest-sha256.txt") None
+    (manifest (declaration_file ∷ file (codes "bag-info.txt") None info ∷ table_file tables.items ∷ (remains_files tables.remains ++ (file (codes "volume.txt") None report ∷ manifest_file items ∷ [])))) ∷ [])))
 
 pub facts_same : (image : List ℕ) (mdb other : Mdb) (told : Option (List ℕ)) (words : BagWords) (f g : BagFacts) → mdb ≡ other → TellsOf image mdb told words f → TellsOf image other told words g
     → (items : List BagItem) (tables : BagTables) → bag_of items tables f ≡ bag_of items tables g

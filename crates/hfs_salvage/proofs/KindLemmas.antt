@@ -13,7 +13,7 @@ use Rattle.hfs_rescue_items.specs.Sources.{is_alone}
 
 -- an item of another kind
 abbrev pub with-kind : BagKind → BagItem → BagItem
-with-kind kind it = record { above = it.above; name = it.name; kind = kind; finder = it.finder; data_fork = it.data_fork; resource_fork = it.resource_fork }
+with-kind kind it = record { above = it.above; name = it.name; kind = kind; finder = it.finder; modified = it.modified; data_fork = it.data_fork; resource_fork = it.resource_fork }
 
 abbrev pub own-kind : Bool → Bool → BagKind
 own-kind dir made = if dir then (if made then bag.DoubleAlone else bag.Folder) else bag.File

@@ -6,6 +6,7 @@ use Rattle.std.proofs.lemmas.List.{take_all}
 use Rattle.hfs_bag.specs.declared.item.BagKind.{BagKind}
 use Rattle.hfs_bag.specs.declared.item.BagKind.TheVariants as bag
 use Rattle.hfs_bag.specs.Items.{BagItem, entries_of_kind, item_entries}
+use Rattle.hfs_bag.specs.Times.{since_1970}
 use Rattle.hfs_fields.specs.Records.{is_dir}
 use Rattle.hfs_scans.specs.Members as scans
 use Rattle.hfs_scans.proofs.MemberLemmas.{each_in}
@@ -31,10 +32,10 @@ use Rattle.hfs_rescue_items.specs.declared.plan.Planned.{Planned}
 use Rattle.hfs_rescue_items.specs.Bytes.{taken_bytes}
 use Rattle.hfs_rescue_items.specs.Found.{told_at}
 use Rattle.hfs_rescue_items.specs.Plan.{last_part, path_of, whole_plan}
-use Rattle.hfs_rescue_items.specs.Sources.{above_of, finder_told, is_alone, name_of, planned_item}
+use Rattle.hfs_rescue_items.specs.Sources.{above_of, finder_told, is_alone, modified_told, name_of, planned_item}
 use Rattle.hfs_rescue_items.proofs.LastLemmas.{last_from}
 use Rattle.hfs_rescue_items.proofs.PartLemmas.{IsPart, own_path, plan_is}
-use Rattle.hfs_salvage.proofs.SoundFoundLemmas.{finder-is, items-found, things-found, things-named}
+use Rattle.hfs_salvage.proofs.SoundFoundLemmas.{finder-is, items-found, modified-is, things-found, things-named}
 use Rattle.hfs_salvage.proofs.KindLemmas.{with-kind}
 use Rattle.hfs_salvage.proofs.TakenItemLemmas.{IsSoundFind, IsItem, taken-item, parts-are, plain, are-things}
 use Rattle.hfs_salvage.proofs.TakenForkLemmas.{data-by, resource-by}
@@ -84,11 +85,13 @@ module _ (image : List ℕ) (limit : ℕ) (found : Found) (find : IsSoundFind im
     planned-is alone =
         let finder : finder_told (if is_alone p.kind then None else told_at found.items.now p.place) ≡ (told cat r).finder =
         ap (λ (b : Bool). finder_told (if b then None else told_at found.items.now p.place)) alone ∙ finder-is image limit found find.sound find.begins find.enough find.is p.place r it.at in
+        let time : modified_told (if is_alone p.kind then None else told_at found.items.now p.place) ≡ since_1970 (told cat r).modified =
+        ap (λ (b : Bool). modified_told (if b then None else told_at found.items.now p.place)) alone ∙ modified-is image limit found find.sound find.begins find.enough find.is p.place r it.at in
         let first : (if is_alone p.kind then [] else taken_bytes image found Data p.place) ≡ fork_told es DataFork (told cat r) =
         ap (λ (b : Bool). if b then [] else taken_bytes image found Data p.place) alone ∙ data-by image limit found find p.place r rest it (is_dir r.1) refl in
         let second : (if is_alone p.kind then [] else taken_bytes image found Resource p.place) ≡ fork_told es ResFork (told cat r) =
         ap (λ (b : Bool). if b then [] else taken_bytes image found Resource p.place) alone ∙ resource-by image limit found find p.place r rest it (is_dir r.1) refl in
-        λ k. record { above = above k; name = name k; kind = p.kind; finder = finder k; data_fork = first k; resource_fork = second k }
+        λ k. record { above = above k; name = name k; kind = p.kind; finder = finder k; modified = time k; data_fork = first k; resource_fork = second k }
 
     -- its files and folders are those of its item, of this kind
     pub entries-are : (kind : BagKind) → p.kind ≡ kind → is_alone kind ≡ false → item_entries (planned_item image found p) ≡ entries_of_kind kind (taken-item image r rest)

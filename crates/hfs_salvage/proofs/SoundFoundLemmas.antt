@@ -46,7 +46,8 @@ use Rattle.hfs_rescue.specs.Directory.{mdb_at}
 use Rattle.hfs_rescue.proofs.LawsProved.{sound_catalog_is_found, sound_directory_is_found, sound_items_are_found, sound_overflow_is_found}
 use Rattle.hfs_rescue_items.specs.declared.found.Found.{Found}
 use Rattle.hfs_rescue_items.specs.Found.{info_of, path_at, record_info, told as own_told, told_at}
-use Rattle.hfs_rescue_items.specs.Sources.{finder_told}
+use Rattle.hfs_bag.specs.Times.{since_1970}
+use Rattle.hfs_rescue_items.specs.Sources.{finder_told, modified_told}
 use Rattle.hfs_space.specs.Extents.{block_total}
 use Rattle.hfs_salvage.specs.Found.{IsFoundOf}
 use Rattle.hfs_salvage.proofs.ItemWayLemmas.{folder-is, inside, item-of, not-root, one-place, record-at, right-id, thing-is}
@@ -80,6 +81,11 @@ module _ (key : CatKey) (d : DirRecord) (t u : Bool) (g : FileRecord) where
   info-finder true = refl
   info-finder false = refl
 
+  info-modified : (b : Bool) → (if b then folder_info key d else file_info t key g).modified ≡ (if b then folder_info key d else file_info u key g).modified
+  unfolding folder_info file_info
+  info-modified true = refl
+  info-modified false = refl
+
 body-is : (catalog : Catalog) (r : Record) (b : Bool)
     → body_info catalog r.0 (if b then Folder (dir_record_of r.1) else File (file_record_of r.1))
     ≡ (if b then folder_info r.0 (dir_record_of r.1) else file_info (has_thread catalog (file_record_of r.1).id) r.0 (file_record_of r.1))
@@ -111,6 +117,13 @@ module _ (catalog : Catalog) (r : Record) where
       ap (λ (info : Info). info.finder) (own-is r (is_dir r.1))
       ∙ info-finder r.0 (dir_record_of r.1) false (has_thread catalog (file_record_of r.1).id) (file_record_of r.1) (is_dir r.1)
       ∙ ap (λ (info : Info). info.finder) (sym told-is)
+
+  own-modified : (info_of (catalog_item r)).modified ≡ (told catalog r).modified
+  unfolding catalog_item
+  own-modified =
+      ap (λ (info : Info). info.modified) (own-is r (is_dir r.1))
+      ∙ info-modified r.0 (dir_record_of r.1) false (has_thread catalog (file_record_of r.1).id) (file_record_of r.1) (is_dir r.1)
+      ∙ ap (λ (info : Info). info.modified) (sym told-is)
 
 -- ---- the root
 
@@ -189,6 +202,12 @@ module _ (image : List ℕ) (limit : ℕ) (found : Found) (sound : IsSound image
         ap (λ (o : Option FoundRecord). finder_told (option_and_then own_told o)) item-found
         ∙ ap (λ (b : Bool). finder_told (if b then Some (info_of (catalog_item r)) else None)) (item-of catalog i r at).1
         ∙ own-finder catalog r
+
+    pub modified-is : modified_told (told_at found.items.now i) ≡ since_1970 (told catalog r).modified
+    modified-is =
+        ap (λ (o : Option FoundRecord). modified_told (option_and_then own_told o)) item-found
+        ∙ ap (λ (b : Bool). modified_told (if b then Some (info_of (catalog_item r)) else None)) (item-of catalog i r at).1
+        ∙ ap since_1970 (own-modified catalog r)
 
     pub inside-found : i < length found.places.now
     inside-found = subst (λ (things : List Thing). i < length things) (sym things-found) (inside catalog next h.ids i r at)

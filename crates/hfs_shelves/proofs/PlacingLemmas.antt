@@ -1,10 +1,11 @@
 -- A folder that is made, placed or taken away.
-use Rattle.std.proofs.Common.{◌≡◌, ℕ, ◌<◌, ◌*◌, List, [], ◌∷◌, Option, Some, None, Result, Ok, Err, refl, sym, ap, ◌∙◌, subst, inl, inr}
+use Rattle.std.proofs.Common.{◌≡◌, ℕ, ◌<◌, ◌*◌, ◌/◌, List, [], ◌∷◌, Option, Some, None, Result, Ok, Err, refl, sym, ap, ◌∙◌, subst, inl, inr, arith, add-zero}
 use Rattle.std.specs.Prelude.{⊤}
-use Rattle.hfs_shelves.specs.Entries.{ShelfEntry}
+use Rattle.std.proofs.lemmas.Nat.{div-mul-add}
+use Rattle.hfs_shelves.specs.Entries.{ShelfEntry, with_time}
 use Rattle.hfs_shelves.specs.ShelfPaths.{IsNewFolder, new_folder_path}
 use Rattle.hfs_shelves.specs.Told.{Tells, TellsNewFolder}
-use Rattle.hfs_shelves.specs.MadeFolders.{made_in}
+use Rattle.hfs_shelves.specs.MadeFolders.{given_by, made_in, seconds_in}
 use Rattle.hfs_shelves.specs.SystemSteps.{Asked, SystemStep, done, failed, made_folder, moved, timed, closed}
 use Rattle.hfs_shelves.specs.Removals.{HasFailed, HasNewFolder, HasNext, HasNoNewFolder, HasSince, IsClosed, IsPlaced, IsTakenAway, RemovesIn}
 use Rattle.hfs_shelves.specs.Left.{IsLeft, IsOrNoMemory}
@@ -47,18 +48,27 @@ since_closed folder None old new is = since_then (RemovesIn folder) old old new 
 since_closed folder (Some seconds) old new (inl is) = record { since = done closed ∷ done (timed (seconds * 1_000_000_000)) ∷ []; whole = is; each = (tt, (tt, tt)) }
 since_closed folder (Some seconds) old new (inr is) = record { since = done closed ∷ failed (timed (seconds * 1_000_000_000)) ∷ []; whole = is; each = (tt, (tt, tt)) }
 
-pub closed_same : (folder : List ℕ) (time : Option ℕ) (old new : List SystemStep) → IsClosed time old new → made_in folder new ≡ made_in folder old
-closed_same folder None old new is = ap (made_in folder) is
-closed_same folder (Some seconds) old new (inl is) = ap (made_in folder) is
-closed_same folder (Some seconds) old new (inr is) = ap (made_in folder) is
+-- so many seconds in nanoseconds
+same_seconds : (seconds : ℕ) → seconds_in (seconds * 1_000_000_000) ≡ seconds
+unfolding seconds_in
+same_seconds seconds = ap (λ (n : ℕ). n / 1_000_000_000) (sym (add-zero (seconds * 1_000_000_000))) ∙ div-mul-add seconds 1_000_000_000 0 (omega (arith))
+
+closed_given : (folder : List ℕ) (time : Option ℕ) (old new : List SystemStep) → IsClosed time old new → made_in folder new ≡ given_by folder time old
+closed_given folder None old new is = ap (made_in folder) is
+closed_given folder (Some seconds) old new (inl is) = ap (made_in folder) is ∙ ap (with_time (made_in folder old)) (same_seconds seconds)
+closed_given folder (Some seconds) old new (inr is) = ap (made_in folder) is ∙ ap (with_time (made_in folder old)) (same_seconds seconds)
+
+pub closed_same : (folder : List ℕ) (time now : Option ℕ) (old new : List SystemStep) → IsClosed time old new → now ≡ None → given_by folder now new ≡ given_by folder time old
+closed_same folder time None old new is none = closed_given folder time old new is
+closed_same folder time (Some seconds) old new is none = cc
 
 pub next_now : (asked : Asked) (time : Option ℕ) (old mid new : List SystemStep) → IsClosed time old mid → new ≡ done asked ∷ mid → HasNext asked time old new
 next_now asked time old mid new closes is = record { between = mid; closes = closes; next = is }
 
 -- ---- placing it
 
-pub placed_now : (path folder : List ℕ) (time : Option ℕ) (old mid new : List SystemStep) → IsClosed time old mid → new ≡ done (moved folder path) ∷ mid → IsPlaced path folder (made_in folder old) new
-placed_now path folder time old mid new closes is = record { made = mid; entries_are = closed_same folder time old mid closes; placed = is }
+pub placed_now : (path folder : List ℕ) (time : Option ℕ) (old mid new : List SystemStep) → IsClosed time old mid → new ≡ done (moved folder path) ∷ mid → IsPlaced path folder (given_by folder time old) new
+placed_now path folder time old mid new closes is = record { made = mid; entries_are = closed_given folder time old mid closes; placed = is }
 
 pub failed_in : (folder : List ℕ) (old mid new : List SystemStep) (asked : Asked) → HasSince (RemovesIn folder) old mid → new ≡ failed asked ∷ mid → HasSince (RemovesIn folder) old new
 failed_in folder old mid new asked h is = since_then (RemovesIn folder) old mid new (failed asked) h is tt

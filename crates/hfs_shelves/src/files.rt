@@ -1,10 +1,10 @@
 //! The shelf of files: a folder of the system's own files.
-ghost use Rattle.std.specs.Prelude.{◌≡◌, ◌∷◌, ◌*◌, [], List, Some, IfErr, IfOk, IfSome, MatchResult, OnErr, OnOk, is_some, string_bytes, true};
+ghost use Rattle.std.specs.Prelude.{◌≡◌, ◌∷◌, ◌*◌, [], List, None, Some, IfErr, IfOk, IfSome, MatchResult, OnErr, OnOk, is_some, string_bytes, true};
 ghost use Rattle.std.specs.Time.{system_time_nanos};
 ghost use Rattle.hfs_shelves.specs.ShelfPaths.{IsNewFolder, new_folder_path, path_within};
 ghost use Rattle.hfs_shelves.specs.Told.{Tells, TellsNewFolder, TellsWithin};
 ghost use Rattle.hfs_shelves.specs.Entries.{IsBeginning, with_folder, with_file, with_piece};
-ghost use Rattle.hfs_shelves.specs.MadeFolders.{made_in};
+ghost use Rattle.hfs_shelves.specs.MadeFolders.{given_by};
 ghost use Rattle.hfs_shelves.specs.Removals.{HasFailed, HasNewFolder, HasNext, HasNoNewFolder, HasSince, IsClosed, IsPlaced, IsTakenAway, RemovesIn};
 ghost use Rattle.hfs_shelves.specs.SystemSteps.{SystemStep, done, looked, made_folder, makes_file, moved, opened};
 ghost use Rattle.hfs_shelves.specs.Left.{IsLeft, IsOrNoMemory};
@@ -42,7 +42,7 @@ pub struct FileShelf<Y: FileSystem> {
     /// The path within the folder of the file that was made last, while it takes pieces.
     made: Option<String>,
     /// The time that this file gets when it is let go of.
-    modified: Option<u32>,
+    pub modified: Option<u32>,
     /// The folder, opened and never read: it keeps a descriptor, so that there is one for taking away
     /// what was written.
     kept: Option<Y::Names>,
@@ -83,7 +83,7 @@ impl<Y: FileSystem> FileShelf<Y> {
     /// no folder was made, or it is taken away again.
     #[tactic(auto, using(crate::proofs::PlacingLemmas::placing, crate::proofs::RemovalLemmas::removals))]
     pub fn create(alloc: Global, system: Y, path: &str) -> Result<FileShelf<Y>, Unmade<Y>>
-        ensures empty { IfOk result (λ shelf. made_in (string_bytes shelf.folder) (Y.did shelf.system) ≡ []) }
+        ensures empty { IfOk result (λ shelf. given_by (string_bytes shelf.folder) shelf.modified (Y.did shelf.system) ≡ []) }
         ensures beside { IfOk result (λ shelf. IsNewFolder path.now (string_bytes shelf.folder)) }
         ensures made { IfOk result (λ shelf. HasNewFolder path.now (string_bytes shelf.folder)
             (Y.did system) (Y.did shelf.system)) }
@@ -119,7 +119,7 @@ impl<Y: FileSystem> FileShelf<Y> {
         ensures placed { IfOk result (λ system. HasNext (moved (string_bytes self.folder) path.now)
             self.modified (Y.did self.system) (Y.did system)) }
         ensures whole { IfOk result (λ system. IsPlaced path.now (string_bytes self.folder)
-            (made_in (string_bytes self.folder) (Y.did self.system)) (Y.did system)) }
+            (given_by (string_bytes self.folder) self.modified (Y.did self.system)) (Y.did system)) }
         ensures away { IfErr result (λ back. IsLeft back.fault (string_bytes self.folder)
             (Y.did self.system) (Y.did back.system)) }
         ensures told { IfErr result (λ back. Tells path.now back.fault) }
@@ -168,8 +168,9 @@ impl<Y: FileSystem> FileShelf<Y> {
     #[tactic(auto, using(crate::proofs::PlacingLemmas::placing))]
     fn close(&mut self)
         ensures closed { IsClosed self.old.modified (Y.did self.old.system) (Y.did self.new.system) }
-        ensures given { made_in (string_bytes self.new.folder) (Y.did self.new.system)
-            ≡ made_in (string_bytes self.old.folder) (Y.did self.old.system) }
+        ensures given { given_by (string_bytes self.new.folder) self.new.modified (Y.did self.new.system)
+            ≡ given_by (string_bytes self.old.folder) self.old.modified (Y.did self.old.system) }
+        ensures none { self.new.modified ≡ None }
         ensures folder { self.new.folder ≡ self.old.folder }
     {
         self.made = None;
@@ -266,7 +267,7 @@ pub fn left_in<Y: FileSystem>(
 }
 
 impl<Y: FileSystem> Shelf for FileShelf<Y> {
-    ghost given = { λ shelf. made_in (string_bytes shelf.folder) (Y.did shelf.system) };
+    ghost given = { λ shelf. given_by (string_bytes shelf.folder) shelf.modified (Y.did shelf.system) };
 
     ghost place = { λ shelf. string_bytes shelf.folder };
 
@@ -274,10 +275,10 @@ impl<Y: FileSystem> Shelf for FileShelf<Y> {
 
     #[tactic(auto, using(crate::proofs::Beginnings::beginnings, crate::proofs::FolderLemmas::growing, crate::proofs::PlacingLemmas::next_now))]
     fn make_folder(&mut self, path: &str) -> Result<(), ShelfFault>
-        ensures whole { OnOk result (made_in (string_bytes self.new.folder) (Y.did self.new.system)
-            ≡ with_folder (made_in (string_bytes self.old.folder) (Y.did self.old.system)) path.now) }
-        ensures part { OnErr result (IsBeginning (made_in (string_bytes self.new.folder) (Y.did self.new.system))
-            (with_folder (made_in (string_bytes self.old.folder) (Y.did self.old.system)) path.now)) }
+        ensures whole { OnOk result (given_by (string_bytes self.new.folder) self.new.modified (Y.did self.new.system)
+            ≡ with_folder (given_by (string_bytes self.old.folder) self.old.modified (Y.did self.old.system)) path.now) }
+        ensures part { OnErr result (IsBeginning (given_by (string_bytes self.new.folder) self.new.modified (Y.did self.new.system))
+            (with_folder (given_by (string_bytes self.old.folder) self.old.modified (Y.did self.old.system)) path.now)) }
         ensures steps { OnOk result (HasNext (made_folder (path_within (string_bytes self.old.folder) path.now))
             self.old.modified (Y.did self.old.system) (Y.did self.new.system)) }
         ensures told { IfErr result (Tells (path_within (string_bytes self.old.folder) path.now)) }
@@ -296,10 +297,10 @@ impl<Y: FileSystem> Shelf for FileShelf<Y> {
 
     #[tactic(auto, using(crate::proofs::Beginnings::beginnings, crate::proofs::FolderLemmas::growing, crate::proofs::PlacingLemmas::next_now))]
     fn make_file(&mut self, path: &str, modified: Option<u32>) -> Result<(), ShelfFault>
-        ensures whole { OnOk result (made_in (string_bytes self.new.folder) (Y.did self.new.system)
-            ≡ with_file (made_in (string_bytes self.old.folder) (Y.did self.old.system)) path.now) }
-        ensures part { OnErr result (IsBeginning (made_in (string_bytes self.new.folder) (Y.did self.new.system))
-            (with_file (made_in (string_bytes self.old.folder) (Y.did self.old.system)) path.now)) }
+        ensures whole { OnOk result (given_by (string_bytes self.new.folder) self.new.modified (Y.did self.new.system)
+            ≡ with_file (given_by (string_bytes self.old.folder) self.old.modified (Y.did self.old.system)) path.now modified) }
+        ensures part { OnErr result (IsBeginning (given_by (string_bytes self.new.folder) self.new.modified (Y.did self.new.system))
+            (with_file (given_by (string_bytes self.old.folder) self.old.modified (Y.did self.old.system)) path.now modified)) }
         ensures steps { OnOk result (HasNext (opened true
             (path_within (string_bytes self.old.folder) path.now)) self.old.modified
             (Y.did self.old.system) (Y.did self.new.system)) }
@@ -327,10 +328,10 @@ impl<Y: FileSystem> Shelf for FileShelf<Y> {
 
     #[tactic(auto, using(crate::proofs::Beginnings::beginnings, crate::proofs::FolderLemmas::growing, crate::proofs::PlacingLemmas::next_now))]
     fn append(&mut self, piece: &[u8]) -> Result<(), ShelfFault>
-        ensures whole { OnOk result (made_in (string_bytes self.new.folder) (Y.did self.new.system)
-            ≡ with_piece (made_in (string_bytes self.old.folder) (Y.did self.old.system)) piece.now) }
-        ensures part { OnErr result (IsBeginning (made_in (string_bytes self.new.folder) (Y.did self.new.system))
-            (with_piece (made_in (string_bytes self.old.folder) (Y.did self.old.system)) piece.now)) }
+        ensures whole { OnOk result (given_by (string_bytes self.new.folder) self.new.modified (Y.did self.new.system)
+            ≡ with_piece (given_by (string_bytes self.old.folder) self.old.modified (Y.did self.old.system)) piece.now) }
+        ensures part { OnErr result (IsBeginning (given_by (string_bytes self.new.folder) self.new.modified (Y.did self.new.system))
+            (with_piece (given_by (string_bytes self.old.folder) self.old.modified (Y.did self.old.system)) piece.now)) }
         ensures time { self.new.modified ≡ self.old.modified }
         ensures fault { IfErr result (TellsWithin (string_bytes self.old.folder)) }
         ensures place { string_bytes self.new.folder ≡ string_bytes self.old.folder }

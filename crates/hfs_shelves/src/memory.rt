@@ -8,15 +8,15 @@ use crate::fault::ShelfFault;
 use crate::shelf::Shelf;
 use std::alloc::Global;
 
-/// A folder, which has no bytes, or a file with its bytes.
+/// A folder, which has no bytes, or a file with its bytes and the time that it is to have.
 #[derive(Drop)]
 pub struct Stored {
     pub path: String,
+    pub modified: Option<u32>,
     pub bytes: Option<Vec<u8>>,
 }
 
-/// A shelf that keeps all that it was given, in order. It takes no note of times. Its only fault is
-/// want of memory.
+/// A shelf that keeps all that it was given, in order. Its only fault is want of memory.
 #[derive(Drop)]
 pub struct MemoryShelf {
     alloc: Global,
@@ -52,16 +52,25 @@ fn extend(stored: &mut Stored, piece: &[u8]) -> Result<(), ShelfFault>
 }
 
 /// Keeps one thing more.
-fn keep(shelf: &mut MemoryShelf, path: &str, bytes: Option<Vec<u8>>) -> Result<(), ShelfFault>
+fn keep(
+    shelf: &mut MemoryShelf,
+    path: &str,
+    modified: Option<u32>,
+    bytes: Option<Vec<u8>>,
+) -> Result<(), ShelfFault>
     ensures whole { OnOk result (stored_entries shelf.new.stored.items ≡ stored_entries
-        shelf.old.stored.items ++ entry_with path.now bytes ∷ []) }
+        shelf.old.stored.items ++ entry_with path.now modified bytes ∷ []) }
     ensures kept { OnErr result (shelf.new.stored.items ≡ shelf.old.stored.items) }
     ensures fault { IfErr result (λ why. why ≡ fault.NoMemory) }
 {
     let Ok(path) = String::from_str(shelf.alloc, path) else {
         return Err(ShelfFault::NoMemory);
     };
-    match shelf.stored.push(Stored { path, bytes }) {
+    match shelf.stored.push(Stored {
+        path,
+        modified,
+        bytes,
+    }) {
         Ok(()) => Ok(()),
         Err(_) => Err(ShelfFault::NoMemory),
     }
@@ -76,12 +85,12 @@ impl Shelf for MemoryShelf {
 
     #[tactic(auto, using(crate::proofs::Beginnings::beginnings))]
     fn make_folder(&mut self, path: &str) -> Result<(), ShelfFault> {
-        keep(self, path, None)
+        keep(self, path, None, None)
     }
 
     #[tactic(auto, using(crate::proofs::Beginnings::beginnings))]
-    fn make_file(&mut self, path: &str, _modified: Option<u32>) -> Result<(), ShelfFault> {
-        keep(self, path, Some(Vec::new(self.alloc)))
+    fn make_file(&mut self, path: &str, modified: Option<u32>) -> Result<(), ShelfFault> {
+        keep(self, path, modified, Some(Vec::new(self.alloc)))
     }
 
     fn append(&mut self, piece: &[u8]) -> Result<(), ShelfFault> {

@@ -23,12 +23,12 @@ pub trait Shelf {
         ensures fault { IfErr result (Fails (place self.old)) }
         ensures place { place self.new ≡ place self.old };
 
-    /// Makes a file without bytes, which the next pieces are for. It gets this time, in seconds from
-    /// the beginning of 1970, where one is told and the shelf can set it. Faults: as of a folder.
+    /// Makes a file without bytes, which the next pieces are for. It is to have this time, in seconds from
+    /// the beginning of 1970, where one is told: the shelf may be unable to set it. Faults: as of a folder.
     fn make_file(&mut self, path: &str, modified: Option<u32>) -> Result<(), ShelfFault>
-        ensures whole { OnOk result (given self.new ≡ with_file (given self.old) path.now) }
+        ensures whole { OnOk result (given self.new ≡ with_file (given self.old) path.now modified) }
         ensures part { OnErr result (IsBeginning (given self.new)
-            (with_file (given self.old) path.now)) }
+            (with_file (given self.old) path.now modified)) }
         ensures fault { IfErr result (Fails (place self.old)) }
         ensures place { place self.new ≡ place self.old };
 

@@ -35,7 +35,7 @@ impl BagSource for NoItems<'_> {
       known = true;
       all = [];
       left = [];
-      item = record { above = []; name = []; kind = kind.File; finder = []; data_fork = []; resource_fork = [] };
+      item = record { above = []; name = []; kind = kind.File; finder = []; modified = None; data_fork = []; resource_fork = [] };
       bytes = source.rest.now;
       tables = record { items = source.table.now; remains = None };
     } };

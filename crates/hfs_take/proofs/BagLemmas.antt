@@ -93,9 +93,9 @@ info_same f g identifier program image volume directory len digest bytes files =
 -- a bag by the texts of its report and of its facts
 abbrev bag-with : List BagItem → List ℕ → List ℕ → List ℕ → List ShelfEntry
 bag-with items table report info = payload items ++
-    (manifest_file items ∷ table_file table ∷ file (codes "volume.txt") report ∷ file (codes "bag-info.txt") info ∷ declaration_file
-    ∷ file (codes "tagmanifest-sha256.txt")
-    (manifest (declaration_file ∷ file (codes "bag-info.txt") info ∷ table_file table ∷ file (codes "volume.txt") report ∷ manifest_file items ∷ [])) ∷ [])
+    (manifest_file items ∷ table_file table ∷ file (codes "volume.txt") None report ∷ file (codes "bag-info.txt") None info ∷ declaration_file
+    ∷ file (codes "tagmanifest-sha256.txt") None
+    (manifest (declaration_file ∷ file (codes "bag-info.txt") None info ∷ table_file table ∷ file (codes "volume.txt") None report ∷ manifest_file items ∷ [])) ∷ [])
 
 bag-same : (image : List ℕ) (line : Option (List ℕ)) (words : TakeWords) (f g : BagFacts) → TellsOf image line words f → TellsOf image line words g
     → image_bag image f ≡ image_bag image g

@@ -4,3 +4,4 @@ pub mod BagLemmas
 pub mod FaultLemmas
 mod PartLines
 mod SendLemmas
+mod PlacedLemmas

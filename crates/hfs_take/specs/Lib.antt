@@ -6,3 +6,4 @@ pub mod Told
 pub mod Opening
 pub mod Faults
 pub mod Folders
+pub mod Placed

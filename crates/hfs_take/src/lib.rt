@@ -19,7 +19,7 @@ pub use crate::fault::TakeFault;
 pub use crate::giving::give_image;
 pub use crate::image::TakenImage;
 pub use crate::opening::{FoundPart, find_part};
-pub use crate::taking::{Taken, folder_path, take, taken_text};
+pub use crate::taking::{PlacedBag, Taken, folder_path, take, take_opened, taken_text};
 pub use crate::words::TakeWords;
 pub use hfs_bag::BagSums;
 pub use hfs_image_items::Watch;

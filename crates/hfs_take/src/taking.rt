@@ -1,10 +1,15 @@
 //! The word that takes a disk apart.
 ghost use Rattle.std.specs.Prelude.{◌≡◌, IfErr, IfOk, string_bytes};
+ghost use Rattle.std.specs.Option.{option_map};
 ghost use Rattle.hfs_bag.specs.Sums.{IsSumOf};
 ghost use Rattle.hfs_image_items.specs.Items.{bag_items, entries_in};
 ghost use Rattle.hfs_needed.specs.Known.{OfKnown};
+ghost use Rattle.hfs_shelves.specs.MadeFolders.{given_by};
+ghost use Rattle.hfs_shelves.specs.Removals.{IsPlaced};
+ghost use Rattle.hfs_take.specs.Bags.{OfBag};
 ghost use Rattle.hfs_take.specs.Faults.{IsTakeFault, taken_text};
 ghost use Rattle.hfs_take.specs.Folders.{IsFolderPath};
+ghost use Rattle.hfs_take.specs.Placed.{HasPlaced};
 
 use crate::fault::TakeFault;
 use crate::giving::give_image;
@@ -29,17 +34,27 @@ pub struct Taken {
     pub sum: Option<bool>,
 }
 
+/// A bag that has its place, and the system on which it lies.
+#[derive(Drop)]
+pub struct PlacedBag<Y> {
+    /// How much it has.
+    pub sums: BagSums,
+    pub system: Y,
+}
+
 /// Gives a whole bag its place.
 fn place_bag<'a, Y: FileSystem + Drop>(
     shelf: FileShelf<Y>,
     sums: BagSums,
     words: &TakeWords<'a>,
-) -> Result<BagSums, TakeFault<'a>>
+) -> Result<PlacedBag<Y>, TakeFault<'a>>
     ensures fault { IfErr result (IsTakeFault words.now) }
-    ensures sums { IfOk result (λ told. told ≡ sums) }
+    ensures sums { IfOk result (λ placed. placed.sums ≡ sums) }
+    ensures placed { IfOk result (λ placed. IsPlaced words.now.folder.now (string_bytes shelf.folder)
+        (given_by (string_bytes shelf.folder) shelf.modified (Y.did shelf.system)) (Y.did placed.system)) }
 {
     match shelf.place(words.folder) {
-        Ok(_system) => Ok(sums),
+        Ok(system) => Ok(PlacedBag { sums, system }),
         Err(back) => Err(TakeFault::of_shelf(back.fault)),
     }
 }
@@ -52,10 +67,12 @@ fn write_bag<'a, Y: FileSystem + Drop, H: Threads, S: BlockSource + Drop + Send,
     image: TakenImage<S>,
     words: &TakeWords<'a>,
     watch: &W,
-) -> Result<BagSums, TakeFault<'a>>
+) -> Result<PlacedBag<Y>, TakeFault<'a>>
     ensures fault { IfErr result (IsTakeFault words.now) }
-    ensures sums { IfOk result (λ sums. OfKnown image.opened.known image.opened.len
-        (λ bytes. IsSumOf sums (bag_items (entries_in bytes)))) }
+    ensures sums { IfOk result (λ placed. OfKnown image.opened.known image.opened.len
+        (λ bytes. IsSumOf placed.sums (bag_items (entries_in bytes)))) }
+    ensures placed { IfOk result (λ placed. OfBag image.opened (option_map string_bytes image.volume) words.now
+        (λ bag. HasPlaced words.now.folder.now bag (Y.did placed.system))) }
 {
     let mut shelf = match FileShelf::create(alloc, system, words.folder) {
         Ok(shelf) => shelf,
@@ -70,23 +87,27 @@ fn write_bag<'a, Y: FileSystem + Drop, H: Threads, S: BlockSource + Drop + Send,
     }
 }
 
-/// Takes an image apart that was opened, where nothing has the folder's name. Faults: `IsThere`; as [`write_bag`] has them.
-fn take_opened<'a, R: Files + AllocGlobal, H: Threads, S: BlockSource + Drop + Send, W: Watch>(
-    rt: &R,
+/// Takes an image apart that was opened, over any system, where nothing has the folder's name. Where the image's bytes are known, exactly its bag
+/// has this place then, as the last that the system did. Faults: `IsThere`; as [`write_bag`] has them.
+pub fn take_opened<'a, Y: FileSystem + Drop, H: Threads, S: BlockSource + Drop + Send, W: Watch>(
+    alloc: Global,
+    system: Y,
     threads: &H,
     image: TakenImage<S>,
     words: &TakeWords<'a>,
     watch: &W,
-) -> Result<BagSums, TakeFault<'a>>
+) -> Result<PlacedBag<Y>, TakeFault<'a>>
     ensures fault { IfErr result (IsTakeFault words.now) }
-    ensures sums { IfOk result (λ sums. OfKnown image.opened.known image.opened.len
-        (λ bytes. IsSumOf sums (bag_items (entries_in bytes)))) }
+    ensures sums { IfOk result (λ placed. OfKnown image.opened.known image.opened.len
+        (λ bytes. IsSumOf placed.sums (bag_items (entries_in bytes)))) }
+    ensures placed { IfOk result (λ placed. OfBag image.opened (option_map string_bytes image.volume) words.now
+        (λ bag. HasPlaced words.now.folder.now bag (Y.did placed.system))) }
 {
-    let mut system = SystemFiles::new(rt);
+    let mut system = system;
     if system.is_there(words.folder) {
         return Err(TakeFault::IsThere(words.folder));
     }
-    write_bag(rt.alloc(), system, threads, image, words, watch)
+    write_bag(alloc, system, threads, image, words, watch)
 }
 
 /// Takes the volume of an image apart: makes the folder a bag of all its items. Faults, the first that holds: the image can't be read; `NoVolume`, `SeveralVolumes`;
@@ -106,8 +127,12 @@ where
         Ok(opened) => opened,
         Err(fault) => return Err(TakeFault::Image(fault)),
     };
-    let sums = take_opened(rt, threads, image, words, watch)?;
-    Ok(Taken { sums, sum })
+    let system = SystemFiles::new(rt);
+    let placed = take_opened(rt.alloc(), system, threads, image, words, watch)?;
+    Ok(Taken {
+        sums: placed.sums,
+        sum,
+    })
 }
 
 /// A folder's path without slashes at its end; a slash alone stays.

@@ -1,9 +1,9 @@
-use Rattle.std.proofs.Common.{List, ℕ, [], ◌∷◌, ◌∙◌, subst}
+use Rattle.std.proofs.Common.{List, ℕ, [], ◌∷◌, Option, ◌∙◌, subst}
 use Rattle.hfs_shelves.specs.Entries.{IsBeginning}
 use Rattle.hfs_shelves.proofs.Beginnings.{begins_appended}
 use Rattle.hfs_bag.specs.declared.item.BagKind.TheVariants as kind
-use Rattle.hfs_bag.specs.Items.{data_entry, double_entry, entries_of_kind}
-use Rattle.hfs_bag.specs.Filling.{with_whole_file}
+use Rattle.hfs_bag.specs.Items.{data_entry, double_entry, entries_of_kind, item_path}
+use Rattle.hfs_bag.specs.Filling.{with_dated_file}
 use Rattle.hfs_bag.proofs.Growing.{part_first, where_err}
 use Rattle.hfs_bag.proofs.items.give_file.Goals as goal
 
@@ -17,4 +17,5 @@ returns-in_err-data-clause-part g c =
     let now = g.S.Shelf.given c.put_file.new.shelf in
     let item = (g.B.BagSource.state c.args.source.now).item in
     where_err _ (g.B.BagSource.state c.args.source.now) (λ known. part_first before now (data_entry item ∷ []) (double_entry item ∷ [])
-    (subst (λ (path : List ℕ). IsBeginning now (with_whole_file before path item.data_fork)) (c.as_str.ensures.value ∙ c.in_ok-path.ensures) (c.in_err-data.ensures.part known)))
+    (subst (λ (time : Option ℕ). IsBeginning now (with_dated_file before (item_path item) time item.data_fork)) (c.requires known).modified_is
+    (subst (λ (path : List ℕ). IsBeginning now (with_dated_file before path c.args.head.now.modified item.data_fork)) (c.as_str.ensures.value ∙ c.in_ok-path.ensures) (c.in_err-data.ensures.part known))))

@@ -1,4 +1,4 @@
-use Rattle.std.proofs.Common.{ℕ, List, [], ◌∷◌, codes, ap, ◌∙◌, subst}
+use Rattle.std.proofs.Common.{ℕ, List, [], ◌∷◌, codes, ap, ◌∙◌, subst, None}
 use Rattle.hfs_shelves.specs.Entries.{IsBeginning, file}
 use Rattle.hfs_shelves.proofs.Beginnings.{begins_appended}
 use Rattle.hfs_bag.specs.Filling.{with_whole_file}
@@ -7,7 +7,7 @@ use Rattle.hfs_bag.proofs.Growing.{on_err}
 use Rattle.hfs_bag.proofs.tags.give_last.Goals as goal
 
 pub returns-in_err-text-clause-part : goal.returns-in_err-text-clause-part
-returns-in_err-text-clause-part g c = on_err _ (begins_appended (g.S.Shelf.given c.args.shelf.now) (file (codes "tagmanifest-sha256.txt") (tag_lines c.args.tags.now) ∷ []))
+returns-in_err-text-clause-part g c = on_err _ (begins_appended (g.S.Shelf.given c.args.shelf.now) (file (codes "tagmanifest-sha256.txt") None (tag_lines c.args.tags.now) ∷ []))
 
 pub returns-in_err-put_text-clause-part : goal.returns-in_err-put_text-clause-part
 returns-in_err-put_text-clause-part g c =
