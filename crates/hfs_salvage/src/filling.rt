@@ -140,6 +140,23 @@ fn write_bag<'a, Y: FileSystem + Drop, S: BlockSource + Drop, W: Watch>(
     }
 }
 
+/// Writes the bag of an image that was loaded, where nothing has the folder's name. Faults: `IsThere`; as [`write_bag`] has them.
+fn rescue_loaded<'a, R: Files + AllocGlobal, S: BlockSource + Drop, W: Watch>(
+    rt: &R,
+    image: RescuedImage<S>,
+    words: &BagWords<'a>,
+    watch: &W,
+) -> Result<RescueAnswer, TakeFault<'a>>
+    ensures fault { IfErr result (IsTakeFault (as_take_words words.now)) }
+    ensures answer { IfOk result (IsKnownAnswer (S.image image.source) image.len words.now.words) }
+{
+    let mut system = SystemFiles::new(rt);
+    if system.is_there(words.folder) {
+        return Err(TakeFault::IsThere(words.folder));
+    }
+    write_bag(rt.alloc(), system, image, words, watch)
+}
+
 /// Makes a folder the bag of what remains of an image, and answers what is told of it. Faults, the first that holds: the image can't be read;
 /// `NoVolume`, `SeveralVolumes`; the image's own, where there is no directory in it; `IsThere`; `CannotWrite` of the path that isn't written, the image
 /// can't be read in the middle, memory was refused. At a fault the folder isn't there, and what was written is taken away, as far as the system and memory
@@ -155,13 +172,9 @@ pub fn rescue<'a, R: Files + AllocGlobal, W: Watch>(
         Ok(loaded) => loaded,
         Err(fault) => return Err(TakeFault::Image(fault)),
     };
-    let mut system = SystemFiles::new(rt);
-    if system.is_there(words.folder) {
-        return Err(TakeFault::IsThere(words.folder));
-    }
     let answer = match image {
-        Loaded::Held(image) => write_bag(rt.alloc(), system, image, words, watch)?,
-        Loaded::Opened(image) => write_bag(rt.alloc(), system, image, words, watch)?,
+        Loaded::Held(image) => rescue_loaded(rt, image, words, watch)?,
+        Loaded::Opened(image) => rescue_loaded(rt, image, words, watch)?,
     };
     Ok(Rescued { answer, sum })
 }

@@ -1,10 +1,11 @@
 //! An image that is asked for, held or opened.
-ghost use Rattle.std.specs.Prelude.{◌≡◌, ◌≤◌, IfErr, IfOk, IfSome};
+ghost use Rattle.std.specs.Prelude.{◌≡◌, ◌≤◌, IfErr, IfOk};
+ghost use Rattle.std.specs.Option.{option_map};
 ghost use Rattle.hfs_commands.specs.Faults.{IsUnreadFile};
 ghost use Rattle.hfs_commands.specs.OpenedFiles.{known_in};
 ghost use Rattle.hfs_containers.specs.Ranges.{bytes_in};
-ghost use Rattle.hfs_containers.specs.Reading.{IsTold};
 ghost use Rattle.hfs_salvage.specs.Faults.{IsUnread};
+ghost use Rattle.hfs_salvage.specs.Loads.{IsHeldOf};
 
 use crate::held::HeldBytes;
 use crate::image::{HoldFault, RescuedImage};
@@ -46,7 +47,7 @@ fn read_range<'a, S: ReadAt>(
     range: ByteRange,
     path: &'a str,
 ) -> Result<HeldBytes, Fault<'a>>
-    ensures held { IfOk result (IsTold (S.known file.old) (bytes_in range)) }
+    ensures held { IfOk result (IsHeldOf (option_map (bytes_in range) (S.known file.old))) }
     ensures fault { IfErr result (IsUnreadFile path.entry) }
 {
     let Ok(mut all) = vec![in alloc; 0u8; range.len as usize] else {
@@ -82,7 +83,7 @@ fn hold<'a, F: Read + Seek + Drop>(
     bytes: Window<OpenedFile<F>>,
     path: &'a str,
 ) -> Result<HeldBytes, Fault<'a>>
-    ensures held { IfOk result (λ held. IfSome (known_in bytes) (λ all. held ≡ all)) }
+    ensures held { IfOk result (IsHeldOf (known_in bytes)) }
     ensures fault { IfErr result (IsUnreadFile path.entry) }
 {
     let Window { source, range } = bytes;
