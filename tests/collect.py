@@ -495,7 +495,7 @@ def raw_sectors(place):
     disc = in_map(content, 2048, behind=bytes(2048))
     lost = with_bytes(small_file('OneFile'), (1024, bytes(512)))
     files = {'mode-1.bin': in_sectors(content), 'mode-2.bin': in_sectors(content, 2), 'audio-behind.bin': in_sectors(content + bytes(3 * 2048), 1, (16, 17, 18)),
-             'audio-within.bin': in_sectors(content, 1, (1,)), 'map.bin': in_sectors(disc), 'map-audio.bin': in_sectors(disc, 2, (3, 80)),
+             'audio-within.bin': in_sectors(content, 1, (1,)), 'map.bin': in_sectors(disc), 'map-audio.bin': in_sectors(disc, 2, (5, 80)),
              'lost.bin': in_sectors(lost, 2), 'lost-audio.bin': in_sectors(lost + bytes(2048), 1, (16,)), 'none.bin': in_sectors(bytes(4096)),
              'cut.bin': in_sectors(content)[:-1], 'audio-first.bin': in_sectors(content, 1, (0,)), 'copy.bin': in_sectors(in_disk_copy(content))}
     for name, data in files.items():
