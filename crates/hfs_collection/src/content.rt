@@ -96,7 +96,8 @@ fn give_found<S: ReadAt + Drop, F: ImageFile<S>, T: RowTaker>(
     ensures whole { OnOk result (OfKnown (F.known file.now) len (λ file. T.given taker.new
         ≡ T.given taker.old ++ all_volume_rows taken others (found_by layout file) file)) }
     ensures part { OnErr result (OfKnown (F.known file.now) len (λ file. IsBeginning
-        (T.given taker.new) (T.given taker.old ++ all_volume_rows taken others (found_by layout file) file))) }
+        (T.given taker.new)
+        (T.given taker.old ++ all_volume_rows taken others (found_by layout file) file))) }
     ensures counted { IfOk result (λ counts. OfKnown (F.known file.now) len (λ file.
         counts ≡ all_volume_counts (found_by layout file) file)) }
     ensures reference { T.reference taker.new ≡ T.reference taker.old }
