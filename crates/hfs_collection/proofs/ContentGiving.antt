@@ -19,11 +19,11 @@ data_size file len whole = length-data_of (length file / 2352) file (omega arith
 
 -- what holds of the user data, and by how many sectors have none, holds by the image
 pub of_data : {X : Type 0} (known : Option (List ℕ)) (len others : ℕ) (all : ℕ → List ℕ → X) (Fact : X → Type 0) → IsToldOf known len other_count others
-    → OfKnown (known_data len known) (len / 2352 * 2048) (λ data. Fact (all others data)) → OfKnown known len (λ file. Fact (all (other_count file) (user_data_of file)))
+    → OfKnown (known_data len known) (len / 2352 * 2048) (λ user. Fact (all others user)) → OfKnown known len (λ file. Fact (all (other_count file) (user_data_of file)))
 of_data None len others all Fact told given = tt
 of_data (Some file) len others all Fact told given = λ whole.
     subst Fact (ap (λ (n : ℕ). all n (user_data_of file)) (told whole))
-    (subst (λ (known : Option (List ℕ)). OfKnown known (len / 2352 * 2048) (λ data. Fact (all others data))) (data_known file len whole) given (data_size file len whole))
+    (subst (λ (known : Option (List ℕ)). OfKnown known (len / 2352 * 2048) (λ user. Fact (all others user))) (data_known file len whole) given (data_size file len whole))
 
 -- what holds with the ranges that were found holds with those that are there
 pub of_found : {X : Type 0} (known now : Option (List ℕ)) → now ≡ known → (len : ℕ) (layout : Layout) (ranges : List FoundRange) (all : List FoundRange → List ℕ → X) (Fact : X → Type 0)

@@ -17,8 +17,8 @@ returns-clause-whole g c =
     let new = g.T.RowTaker.given c.give_found.new.taker in
     let others = c.in_ok-others.others in
     on_ok_then _ _ _ (λ given. of_data known c.args.len others
-    (λ (n : ℕ) (data : List ℕ). all_volume_rows c.args.taken n (found_raw_in data) data) (λ rows. new ≡ old ++ rows) c.in_ok-others.ensures
-    (subst (λ (n : ℕ). OfKnown (known_data c.args.len known) n (λ data. new ≡ old ++ all_volume_rows c.args.taken others (found_raw_in data) data)) c.len.ensures given))
+    (λ (n : ℕ) (user : List ℕ). all_volume_rows c.args.taken n (found_raw_in user) user) (λ rows. new ≡ old ++ rows) c.in_ok-others.ensures
+    (subst (λ (n : ℕ). OfKnown (known_data c.args.len known) n (λ user. new ≡ old ++ all_volume_rows c.args.taken others (found_raw_in user) user)) c.len.ensures given))
     c.give_found.ensures.whole
 
 pub returns-clause-part : goal.returns-clause-part
@@ -28,14 +28,14 @@ returns-clause-part g c =
     let new = g.T.RowTaker.given c.give_found.new.taker in
     let others = c.in_ok-others.others in
     on_err_then _ _ _ (λ given. of_data known c.args.len others
-    (λ (n : ℕ) (data : List ℕ). all_volume_rows c.args.taken n (found_raw_in data) data) (λ rows. IsBeginning new (old ++ rows)) c.in_ok-others.ensures
-    (subst (λ (n : ℕ). OfKnown (known_data c.args.len known) n (λ data. IsBeginning new (old ++ all_volume_rows c.args.taken others (found_raw_in data) data))) c.len.ensures given))
+    (λ (n : ℕ) (user : List ℕ). all_volume_rows c.args.taken n (found_raw_in user) user) (λ rows. IsBeginning new (old ++ rows)) c.in_ok-others.ensures
+    (subst (λ (n : ℕ). OfKnown (known_data c.args.len known) n (λ user. IsBeginning new (old ++ all_volume_rows c.args.taken others (found_raw_in user) user))) c.len.ensures given))
     c.give_found.ensures.part
 
 pub returns-clause-counted : goal.returns-clause-counted
 returns-clause-counted g c =
     let known = g.F.ImageFile.known c.args.file.now in
     if_ok_then _ _ _ (λ counts given. of_data known c.args.len c.in_ok-others.others
-    (λ (n : ℕ) (data : List ℕ). all_volume_counts (found_raw_in data) data) (λ all. counts ≡ all) c.in_ok-others.ensures
-    (subst (λ (n : ℕ). OfKnown (known_data c.args.len known) n (λ data. counts ≡ all_volume_counts (found_raw_in data) data)) c.len.ensures given))
+    (λ (n : ℕ) (user : List ℕ). all_volume_counts (found_raw_in user) user) (λ all. counts ≡ all) c.in_ok-others.ensures
+    (subst (λ (n : ℕ). OfKnown (known_data c.args.len known) n (λ user. counts ≡ all_volume_counts (found_raw_in user) user)) c.len.ensures given))
     c.give_found.ensures.counted
