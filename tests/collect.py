@@ -40,7 +40,7 @@ from images import SMALL, edited
 from remains.cases import all_cases
 from remains.runs import Bench
 from rescue import shell_damages, small_volume as small_file, with_bytes, worked
-from volumes import in_disk_copy, in_map, in_macbinary
+from volumes import content as looked_into, in_disk_copy, in_map, in_macbinary, in_sectors
 
 HERE = Path(__file__).resolve().parent
 TOOL = str(built('hfs_tool'))
@@ -326,8 +326,8 @@ def volume_rows(place, image, has_digests):
     status, text = place.run('volumes', image)
     rows = []
     for line in text.splitlines() if status == 0 else []:
-        number, how, first, length, name, *told_sum = line.split('\t')
-        how += ', sum wrong' if told_sum == ['sum wrong'] else ''
+        number, how, first, length, name, *told = line.split('\t')
+        how = ', '.join([how, *(it for it in told if it == 'sum wrong' or it.startswith('other mode '))])
         status, told = place.run('ls', image, '--volume', number)
         if status == 0:
             facts = facts_of(place, image, number)
@@ -339,7 +339,8 @@ def volume_rows(place, image, has_digests):
     remains = None if rows else remains_of(place, image, [], has_digests)
     if remains:
         fault = place.run('ls', image)[1].splitlines()[0]
-        rows.append(((0, 'lost', 0, os.path.getsize(image), *remains[0], fault), remains[1]))
+        data, others = looked_into(image.read_bytes())
+        rows.append(((0, f'lost, other mode {others}' if others else 'lost', 0, len(data), *remains[0], fault), remains[1]))
     return rows
 
 
@@ -488,6 +489,50 @@ def cut_dumps(place):
         '7|4|1|bare|0|32768|D||||58|512|50|sound'], f'the rows of cut dumps: {table_lines(place.folder / "c.db", "volume")}')
 
 
+def raw_sectors(place):
+    """Rows of raw CD sectors by hand: the image's are those of the file, the volume's those of the user data."""
+    content = small_volume(place)
+    disc = in_map(content, 2048, behind=bytes(2048))
+    lost = with_bytes(small_file('OneFile'), (1024, bytes(512)))
+    files = {'mode-1.bin': in_sectors(content), 'mode-2.bin': in_sectors(content, 2), 'audio-behind.bin': in_sectors(content + bytes(3 * 2048), 1, (16, 17, 18)),
+             'audio-within.bin': in_sectors(content, 1, (1,)), 'map.bin': in_sectors(disc), 'map-audio.bin': in_sectors(disc, 2, (5, 80)),
+             'lost.bin': in_sectors(lost, 2), 'lost-audio.bin': in_sectors(lost + bytes(2048), 1, (16,)), 'none.bin': in_sectors(bytes(4096)),
+             'cut.bin': in_sectors(content)[:-1], 'audio-first.bin': in_sectors(content, 1, (0,)), 'copy.bin': in_sectors(in_disk_copy(content))}
+    for name, data in files.items():
+        place.file(name, data)
+    place.done('collect', 'c.db', *files)
+    found = held(place)
+    for name, data in files.items():
+        ensure(found[name][0] == (name, len(data), sha256(data), PROGRAM), f'the row of {name}: {found[name][0]}')
+    sound = ('D', None, None, None, 58, 512, 50, 'sound')
+    wanted = {'mode-1.bin': (1, 'raw 2352 bare', 0, 32768, *sound), 'mode-2.bin': (1, 'raw 2352 bare', 0, 32768, *sound),
+              'audio-behind.bin': (1, 'raw 2352 bare, other mode 3', 0, 38912, *sound), 'map.bin': (1, 'raw 2352 partition', 131072, 32768, *sound),
+              'map-audio.bin': (1, 'raw 2352 partition, other mode 2', 131072, 32768, *sound)}
+    for name, row in wanted.items():
+        ensure([it for it, _ in found[name][1]] == [row], f'the volumes of {name}: {[it for it, _ in found[name][1]]}')
+        ensure(len(found[name][1][0][1]) == 1, f'the items of {name}')
+    volumes = {name: [row[:4] + row[-1:] for row, _ in found[name][1]] for name in files}
+    ensure(volumes['audio-within.bin'][0][:4] == (1, 'raw 2352 bare, other mode 1', 0, 32768) and volumes['audio-within.bin'][0][-1] != 'sound', f'audio within: {volumes["audio-within.bin"]}')
+    fault = 'not an HFS volume (-57)'
+    ensure(volumes['lost.bin'] == [(0, 'lost', 0, len(lost), fault)] and volumes['lost-audio.bin'] == [(0, 'lost, other mode 1', 0, len(lost) + 2048, fault)], f'lost: {volumes}')
+    for name in ('none.bin', 'cut.bin', 'audio-first.bin', 'copy.bin'):
+        ensure(found[name][1] == [], f'{name} has volumes: {volumes[name]}')
+    # The items of a volume are the same by the raw file and by itself.
+    floppy = (VOLUMES / 'hfsutils-800k.img').read_bytes()
+    place.file('floppy.img', floppy)
+    places = {'floppy.bin': in_sectors(floppy), 'floppy-2.bin': in_sectors(floppy + bytes(4096), 2, (len(floppy) // 2048 + 1,)), 'floppy-map.bin': in_sectors(in_map(floppy, 512, behind=bytes(512)), 2)}
+    for name, data in places.items():
+        place.file(name, data)
+    rows = [image_rows(place, name) for name in ('floppy.img', *places)]
+    for row in rows[1:]:
+        ensure(row[1][0][1] == rows[0][1][0][1] and row[1][0][0][4:] == rows[0][1][0][0][4:], f'{row[0][0]} has other rows than the volume itself')
+    place.wants(0, ''.join(map(line_of, rows)), 'collect', 'f.db', 'floppy.img', *places)
+    holds(place, rows, 'f.db')
+    # A sector that is no user data any more, and the digest of the file: it is changed.
+    place.file('floppy.bin', places['floppy.bin'][:-1] + b'\0')
+    place.wants(3, ''.join(f'{"changed" if name == "floppy.bin" else "same"}\t{name}\n' for name in sorted(('floppy.img', *places))), 'collect', 'f.db', '--compare')
+
+
 def wrapped_volumes(place):
     """Files in which volumes lie in each way."""
     content = small_volume(place, 'bare.img')
@@ -496,7 +541,9 @@ def wrapped_volumes(place):
     for name, data in {'map.img': in_map(floppy, 512), 'large-map.img': in_map(content, 2048, behind=b'more'), 'copy.img': in_disk_copy(floppy),
                        'wrong-sum.img': in_disk_copy(content, 1), 'fork.bin': in_macbinary(floppy, resource=b'RES'), 'copy.bin': in_macbinary(in_disk_copy(content)),
                        'no-volume.img': in_map(bytes(4096), 512), 'empty.img': b'', 'text.img': b'no disk\n' * 900, 'short.img': content[:1535],
-                       'cut.img': content[:1536]}.items():
+                       'cut.img': content[:1536], 'raw.bin': in_sectors(floppy), 'raw-2.bin': in_sectors(content + bytes(6144), 2, (17, 18)),
+                       'raw-map.bin': in_sectors(in_map(floppy, 512)), 'raw-audio.bin': in_sectors(in_map(content, 2048, behind=bytes(2048)), 1, (2, 80)),
+                       'raw-none.bin': in_sectors(in_disk_copy(content)), 'raw-cut.bin': in_sectors(content)[:-1]}.items():
         place.file(name, data)
         names.append(name)
     return names + ['bare.img']
@@ -552,7 +599,9 @@ def damaged_images(place):
     images.update(listed_images({name: small_file(name) for name in SMALL} | {'New': small_volume(place, 'new.img'), 'Nothing': b''}))
     lost = with_bytes(small_file('OneFile'), (1024, bytes(512)))
     images.update({'lost': lost, 'lost in a map': in_map(lost, 512), 'lost in a copy': in_disk_copy(lost), 'cut in a map': in_map(floppy[:300_000], 512),
-                   'two in a map': b'ER' + in_map(with_bytes(floppy, (1024 + 87, b'\xff')), 512)[2:], 'lost behind text': b'no disk\n' * 64 + lost})
+                   'two in a map': b'ER' + in_map(with_bytes(floppy, (1024 + 87, b'\xff')), 512)[2:], 'lost behind text': b'no disk\n' * 64 + lost,
+                   'lost in sectors': in_sectors(lost), 'lost in sectors with audio': in_sectors(lost + bytes(2048), 2, (16,)), 'audio in a floppy': in_sectors(floppy, 1, (3, 30, 200)),
+                   'audio in a map': in_sectors(in_map(floppy, 2048), 2, (67, 90)), 'no partition in sectors': in_sectors(in_map(lost, 512), 1, (12,))})
     names = {}
     for n, (what, content) in enumerate(images.items()):
         names[f'{n:04}.img'] = what
@@ -578,7 +627,8 @@ def damaged_disks(place):
             told = ''.join(f'{it["bag_path"]}\t{it["number"]}\t{it["cnid"]}\t{it["data_verdict"] or "-"}\t{it["resource_verdict"] or "-"}\n' for it in items)
             ensure(told == by_hand[what], f'{what}: the rows are {told!r}')
     # Of the volume that is lost one row, of a map's as it lies there.
-    for what, wanted in {'lost': [(0, 'lost', 0, len(lost))], 'lost in a map': [(1, 'partition', 32768, len(lost))], 'lost in a copy': [(1, 'disk copy', 84, len(lost))]}.items():
+    for what, wanted in {'lost': [(0, 'lost', 0, len(lost))], 'lost in a map': [(1, 'partition', 32768, len(lost))], 'lost in a copy': [(1, 'disk copy', 84, len(lost))],
+                         'lost in sectors': [(0, 'lost', 0, len(lost))], 'lost in sectors with audio': [(0, 'lost, other mode 1', 0, len(lost) + 2048)]}.items():
         name = next(name for name in names if names[name] == what)
         volumes = held_rows[name][1]
         ensure([row[:4] for row, _ in volumes] == wanted and volumes[0][0][-1] == 'not an HFS volume (-57)', f'{what}: the volumes are {volumes}')
@@ -1158,7 +1208,7 @@ def main():
             subprocess.run(['cc', '-shared', '-fPIC', '-O1', '-o', library, Path(top) / 'refuse.c', '-ldl'], check=True)
         else:
             left_out.append('reads and memory that are refused, for want of a C compiler')
-        parts = [worked_example, cut_dumps, rows_beside_words, damaged_disks, odd_paths, comparisons, refused_words, made_by_sqlite, other_tables, damaged_databases, other_programs, read_only,
+        parts = [worked_example, cut_dumps, raw_sectors, rows_beside_words, damaged_disks, odd_paths, comparisons, refused_words, made_by_sqlite, other_tables, damaged_databases, other_programs, read_only,
                  few_files, unread_images, full_output, terminal]
         parts = [(part.__name__, part) for part in parts]
         parts.append(('full_devices', lambda place: full_devices(place, left_out)))

@@ -372,7 +372,7 @@ def main():
             left_out.append('reads and memory that are refused, for want of a C compiler')
         parts = [('worked_example', worked_example), ('refused_words', refused_words), ('full_output', full_output)]
         parts += [(part.__name__, lambda place, part=part: beside_collect(place, part))
-                  for part in (collect.worked_example, collect.cut_dumps, collect.rows_beside_words, collect.odd_paths)]
+                  for part in (collect.worked_example, collect.cut_dumps, collect.raw_sectors, collect.rows_beside_words, collect.odd_paths)]
         parts[3] = ('worked_example_beside_collect', parts[3][1])
         parts.append(('damaged_images', damaged_images))
         parts.append(('unread_images', lambda place: unread_images(place, library)))

@@ -3,6 +3,7 @@ mod Going
 mod VolumeGiving
 mod VolumesGoing
 mod ImageGiving
+mod ContentGiving
 mod RemainsGoing
 mod ForkTelling
 mod Counting

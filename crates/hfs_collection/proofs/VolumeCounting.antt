@@ -6,7 +6,8 @@ use Rattle.hfs_check.specs.VolumeOf.{volume_of}
 use Rattle.hfs_model.specs.Children.{entries_of}
 use Rattle.hfs_containers.specs.declared.ranges.ByteRange.{ByteRange}
 use Rattle.hfs_containers.specs.declared.ranges.FoundRange.{FoundRange}
-use Rattle.hfs_containers.specs.Found.{found_in}
+use Rattle.hfs_containers.specs.declared.ranges.Layout.{Layout}
+use Rattle.hfs_containers.specs.Raw.{layout_of}
 use Rattle.hfs_containers.specs.Ranges.{bytes_in, range_of}
 use Rattle.hfs_containers.specs.Reading.{IsToldOf}
 use Rattle.hfs_fields.specs.declared.mdb.Mdb.{Mdb}
@@ -16,7 +17,7 @@ use Rattle.hfs_finds.specs.Finds.{found_directory}
 use Rattle.hfs_collection.specs.declared.counts.FileCounts.{FileCounts}
 use Rattle.hfs_collection.specs.declared.counts.ImageCounts.{ImageCounts}
 use Rattle.hfs_collection.specs.declared.held.Held.{Held}
-use Rattle.hfs_collection.specs.Counts.{all_volume_counts, counts_by_directory, fault_counts, file_total, files_by, image_counts, lost_counts, no_files, no_volumes, refused_volume, sound_volume, volume_counts, volume_counts_from}
+use Rattle.hfs_collection.specs.Counts.{all_volume_counts, content_counts, counts_by_directory, fault_counts, file_total, files_by, image_counts, lost_counts, no_files, no_volumes, refused_volume, sound_volume, volume_counts, volume_counts_from}
 use Rattle.hfs_collection.specs.Held.{IsHeld}
 use Rattle.hfs_collection.proofs.VolumeGiving.{LiesIn, known_in, whole_range}
 
@@ -99,10 +100,10 @@ found_all_counted None len ranges rest first counts some told = tt
 found_all_counted (Some file) len ranges rest first counts some told = λ whole.
     told whole ∙ ap (λ (rs : List FoundRange). volume_counts_from rs file) some ∙ ap (λ (rs : List FoundRange). all_volume_counts rs file) (sym some)
 
-pub image_counted : (known now : Option (List ℕ)) → now ≡ known → (len : ℕ) (ranges : List FoundRange) (counts : ImageCounts) → IsToldOf now len found_in ranges
-    → OfKnown known len (λ file. counts ≡ all_volume_counts ranges file) → OfKnown known len (λ file. counts ≡ image_counts file)
+pub image_counted : (known now : Option (List ℕ)) → now ≡ known → (len : ℕ) (layout : Layout) (counts : ImageCounts) → IsToldOf now len layout_of layout
+    → OfKnown known len (λ file. counts ≡ content_counts layout file) → OfKnown known len (λ file. counts ≡ image_counts file)
 unfolding image_counts
-image_counted None now same len ranges counts found told = tt
-image_counted (Some file) now same len ranges counts found told = λ whole.
-    let finds = subst (λ (k : Option (List ℕ)). IsToldOf k len found_in ranges) same found in
-    told whole ∙ ap (λ (rs : List FoundRange). all_volume_counts rs file) (finds whole)
+image_counted None now same len layout counts found told = tt
+image_counted (Some file) now same len layout counts found told = λ whole.
+    let finds = subst (λ (k : Option (List ℕ)). IsToldOf k len layout_of layout) same found in
+    told whole ∙ ap (λ (by : Layout). content_counts by file) (finds whole)

@@ -104,23 +104,23 @@ pub whole_range : (file : List ℕ) (len : ℕ) → length file ≡ len → byte
 whole_range file len whole = ap (λ (n : ℕ). take n file) (sym whole) ∙ take_all (length file) file (omega arith)
 
 -- nothing was given of a sound file
-pub lost_sound : (known : Option (List ℕ)) (len : ℕ) (taken : Bool) (old new : List TakenRow) → OfKnown (known_in (range_of 0 len) known) len (λ bytes. fault_of bytes ≡ None) → new ≡ old
-    → OfKnown known len (λ file. new ≡ old ++ lost_rows taken (lost_place len) (fault_of file) file)
-lost_sound None len taken old new sound same = tt
-lost_sound (Some file) len taken old new sound same = λ whole.
+pub lost_sound : (known : Option (List ℕ)) (len others : ℕ) (taken : Bool) (old new : List TakenRow) → OfKnown (known_in (range_of 0 len) known) len (λ bytes. fault_of bytes ≡ None) → new ≡ old
+    → OfKnown known len (λ file. new ≡ old ++ lost_rows taken (lost_place others len) (fault_of file) file)
+lost_sound None len others taken old new sound same = tt
+lost_sound (Some file) len others taken old new sound same = λ whole.
     let all = whole_range file len whole in
     let none : fault_of file ≡ None = sym (ap fault_of all) ∙ sound (ap length all ∙ whole) in
-    same ∙ sym (append-nil old) ∙ ap (λ (fault : Option MountFault). old ++ lost_rows taken (lost_place len) fault file) (sym none)
+    same ∙ sym (append-nil old) ∙ ap (λ (fault : Option MountFault). old ++ lost_rows taken (lost_place others len) fault file) (sym none)
 
-pub lost_refused : (known : Option (List ℕ)) (len : ℕ) (taken : Bool) (why : MountFault) (Fact : List TakenRow → Type 0) → OfKnown (known_in (range_of 0 len) known) len (λ bytes. fault_of bytes ≡ Some why)
-    → OfKnown (known_in (range_of 0 len) known) len (λ bytes. Fact (rows_by_directory taken (lost_place len) why (found_directory bytes) bytes))
-    → OfKnown known len (λ file. Fact (lost_rows taken (lost_place len) (fault_of file) file))
-lost_refused None len taken why Fact refused given = tt
-lost_refused (Some file) len taken why Fact refused given = λ whole.
+pub lost_refused : (known : Option (List ℕ)) (len others : ℕ) (taken : Bool) (why : MountFault) (Fact : List TakenRow → Type 0) → OfKnown (known_in (range_of 0 len) known) len (λ bytes. fault_of bytes ≡ Some why)
+    → OfKnown (known_in (range_of 0 len) known) len (λ bytes. Fact (rows_by_directory taken (lost_place others len) why (found_directory bytes) bytes))
+    → OfKnown known len (λ file. Fact (lost_rows taken (lost_place others len) (fault_of file) file))
+lost_refused None len others taken why Fact refused given = tt
+lost_refused (Some file) len others taken why Fact refused given = λ whole.
     let all = whole_range file len whole in
     let size : length (bytes_in (range_of 0 len) file) ≡ len = ap length all ∙ whole in
     let fault : fault_of file ≡ Some why = sym (ap fault_of all) ∙ refused size in
-    subst Fact (ap (λ (bytes : List ℕ). rows_by_directory taken (lost_place len) why (found_directory bytes) bytes) all ∙ ap (λ (f : Option MountFault). lost_rows taken (lost_place len) f file) (sym fault)) (given size)
+    subst Fact (ap (λ (bytes : List ℕ). rows_by_directory taken (lost_place others len) why (found_directory bytes) bytes) all ∙ ap (λ (f : Option MountFault). lost_rows taken (lost_place others len) f file) (sym fault)) (given size)
 
 -- ---- a refused volume that is held
 

@@ -9,9 +9,13 @@ use Rattle.hfs_check.specs.declared.mount_fault.MountFault.{MountFault}
 use Rattle.hfs_check.specs.Faults.{fault_of}
 use Rattle.hfs_check.specs.VolumeOf.{volume_of}
 use Rattle.hfs_containers.specs.declared.ranges.FoundRange.{FoundRange}
-use Rattle.hfs_containers.specs.Found.{found_in}
+use Rattle.hfs_containers.specs.declared.ranges.Layout.{Layout}
+use Rattle.hfs_containers.specs.declared.ranges.Layout.TheVariants.{Plain, Raw}
+use Rattle.hfs_containers.specs.Found.{found_in, found_raw_in}
+use Rattle.hfs_containers.specs.Raw.{layout_of}
 use Rattle.hfs_containers.specs.Ranges.{bytes_in}
 use Rattle.hfs_inventory.specs.Told.{ToldRow, told_rows}
+use Rattle.hfs_raw.specs.Sectors.{user_data_of}
 use Rattle.hfs_remains.specs.declared.shares.FileShares.{FileShares}
 use Rattle.hfs_remains.specs.Verdicts.{fork_share}
 use Rattle.hfs_space.specs.declared.fork_kind.ForkKind.{ForkKind}
@@ -124,6 +128,11 @@ abbrev pub all_volume_counts : List FoundRange → List ℕ → ImageCounts
 all_volume_counts [] file = lost_counts (fault_of file) file
 all_volume_counts (found ∷ ranges) file = volume_counts_from (found ∷ ranges) file
 
+-- all volumes in an image's bytes, or in the user data of its raw sectors
+abbrev pub content_counts : Layout → List ℕ → ImageCounts
+content_counts Plain file = all_volume_counts (found_in file) file
+content_counts Raw file = all_volume_counts (found_raw_in (user_data_of file)) (user_data_of file)
+
 -- of an image with these bytes
 unfoldable pub image_counts : List ℕ → ImageCounts
-image_counts file = all_volume_counts (found_in file) file
+image_counts file = content_counts (layout_of file) file

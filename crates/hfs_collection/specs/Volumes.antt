@@ -1,12 +1,17 @@
 -- The rows of the volumes in a file.
-use Rattle.std.specs.Prelude.{ℕ, ◌+◌, Bool, true, false, List, [], ◌∷◌, ◌++◌, codes, length, Option, Some, None}
+use Rattle.std.specs.Prelude.{ℕ, ◌+◌, Bool, true, false, ◌==◌, if◌then◌else◌, List, [], ◌∷◌, ◌++◌, codes, length, Option, Some, None}
+use Rattle.std.specs.Fmt.{decimal}
 use Rattle.hfs_fields.specs.declared.mdb.Mdb.{Mdb}
 use Rattle.hfs_blocks.specs.Blocks.{block_at}
 use Rattle.hfs_check.specs.declared.mount_fault.MountFault.{MountFault}
 use Rattle.hfs_check.specs.Faults.{fault_of}
 use Rattle.hfs_check.specs.Parts.{mdb_in}
 use Rattle.hfs_containers.specs.declared.ranges.FoundRange.{FoundRange}
+use Rattle.hfs_containers.specs.declared.ranges.Layout.{Layout}
+use Rattle.hfs_containers.specs.declared.ranges.Layout.TheVariants.{Plain, Raw}
+use Rattle.hfs_containers.specs.Found.{found_in, found_raw_in}
 use Rattle.hfs_containers.specs.Ranges.{bytes_in, range_of}
+use Rattle.hfs_raw.specs.Sectors.{other_count, user_data_of}
 use Rattle.hfs_table.specs.Columns.{moment_cell}
 use Rattle.hfs_model.specs.Children.{entries_of}
 use Rattle.hfs_check.specs.VolumeOf.{volume_of}
@@ -33,21 +38,21 @@ way_of container None = Found container
 way_of container (Some true) = Found container
 way_of container (Some false) = WrongSum
 
--- a volume that was found, with this number and what is told of its sum
-abbrev pub place_of : ℕ → FoundRange → Option Bool → VolumePlace
-place_of number found sum = record { number = number; way = way_of found.container sum; range = found.range }
+-- a volume that was found, with this number and what is told of its sum, where so many sectors of its image have no user data
+abbrev pub place_of : ℕ → ℕ → FoundRange → Option Bool → VolumePlace
+place_of others number found sum = record { number = number; way = way_of found.container sum; others = others; range = found.range }
 
 -- how a volume lies that was found in a file
 abbrev pub way_in : FoundRange → List ℕ → Way
 way_in found file = way_of found.container (sum_told found.container (bytes_in found.range file))
 
 -- a volume that was found in a file
-abbrev pub place_in : ℕ → FoundRange → List ℕ → VolumePlace
-place_in number found file = place_of number found (sum_told found.container (bytes_in found.range file))
+abbrev pub place_in : ℕ → ℕ → FoundRange → List ℕ → VolumePlace
+place_in others number found file = place_of others number found (sum_told found.container (bytes_in found.range file))
 
 -- the whole file of so many bytes, where its volume is lost
-abbrev pub lost_place : ℕ → VolumePlace
-lost_place len = record { number = 0; way = Lost; range = range_of 0 len }
+abbrev pub lost_place : ℕ → ℕ → VolumePlace
+lost_place others len = record { number = 0; way = Lost; others = others; range = range_of 0 len }
 
 -- how a volume lies in its file
 abbrev pub way_text : Way → List ℕ
@@ -55,11 +60,18 @@ way_text (Found container) = container_text container
 way_text WrongSum = codes "disk copy, sum wrong"
 way_text Lost = codes "lost"
 
+-- how many raw sectors have no user data, where there are some
+unfoldable pub others_text : ℕ → List ℕ
+others_text others = if others == 0 then [] else codes ", other mode " ++ decimal others
+
+abbrev pub place_text : VolumePlace → List ℕ
+place_text place = way_text place.way ++ others_text place.others
+
 -- ---- the values of a row
 
--- number, how it lies, first byte, bytes
+-- number, how it lies, first byte, bytes; of raw sectors these are told of the user data
 unfoldable pub range_values : VolumePlace → List RowValue
-range_values place = Number place.number ∷ [] ++ Text (way_text place.way) ∷ [] ++ Number place.range.start ∷ [] ++ Number place.range.len ∷ []
+range_values place = Number place.number ∷ [] ++ Text (place_text place) ∷ [] ++ Number place.range.start ∷ [] ++ Number place.range.len ∷ []
 
 -- name, created, modified, backup
 unfoldable pub name_values : Mdb → List RowValue
@@ -109,14 +121,14 @@ volume_rows taken place bytes = fault_rows taken place (fault_of bytes) bytes
 -- ---- the rows of a file
 
 -- those of the volume in this range of a file
-abbrev pub range_rows : Bool → ℕ → FoundRange → List ℕ → List TakenRow
-range_rows taken number found file = volume_rows taken (place_in number found file) (bytes_in found.range file)
+abbrev pub range_rows : Bool → ℕ → ℕ → FoundRange → List ℕ → List TakenRow
+range_rows taken others number found file = volume_rows taken (place_in others number found file) (bytes_in found.range file)
 
 -- those of the volumes in these ranges of a file, with numbers from this one on
-abbrev pub volume_rows_from : Bool → ℕ → List FoundRange → List ℕ → List TakenRow
-volume_rows_from taken number [] file = []
-volume_rows_from taken number (found ∷ ranges) file =
-    range_rows taken number found file ++ volume_rows_from taken (number + 1) ranges file
+abbrev pub volume_rows_from : Bool → ℕ → ℕ → List FoundRange → List ℕ → List TakenRow
+volume_rows_from taken others number [] file = []
+volume_rows_from taken others number (found ∷ ranges) file =
+    range_rows taken others number found file ++ volume_rows_from taken others (number + 1) ranges file
 
 -- those of a refused file in which a directory is found: none where there is none
 unfoldable pub rows_by_directory : Bool → VolumePlace → MountFault → Option Mdb → List ℕ → List TakenRow
@@ -129,6 +141,13 @@ lost_rows taken place None file = []
 lost_rows taken place (Some why) file = rows_by_directory taken place why (found_directory file) file
 
 -- those of all volumes of a file in which these ranges are found
-abbrev pub all_volume_rows : Bool → List FoundRange → List ℕ → List TakenRow
-all_volume_rows taken [] file = lost_rows taken (lost_place (length file)) (fault_of file) file
-all_volume_rows taken (found ∷ ranges) file = volume_rows_from taken 1 (found ∷ ranges) file
+abbrev pub all_volume_rows : Bool → ℕ → List FoundRange → List ℕ → List TakenRow
+all_volume_rows taken others [] file = lost_rows taken (lost_place others (length file)) (fault_of file) file
+all_volume_rows taken others (found ∷ ranges) file = volume_rows_from taken others 1 (found ∷ ranges) file
+
+-- ---- the rows of an image
+
+-- those of all volumes in its bytes, or in the user data of its raw sectors
+abbrev pub content_rows : Bool → Layout → List ℕ → List TakenRow
+content_rows taken Plain file = all_volume_rows taken 0 (found_in file) file
+content_rows taken Raw file = all_volume_rows taken (other_count file) (found_raw_in (user_data_of file)) (user_data_of file)

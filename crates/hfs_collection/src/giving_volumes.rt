@@ -143,15 +143,16 @@ fn give_volume<S: ReadAt + Drop, F: ImageFile<S>, T: RowTaker>(
 /// Where a volume lies that was found in a file, with this number; of a disk copy all bytes are read, to tell whether its sum is right.
 fn place_in<S: ReadAt + Drop, F: ImageFile<S>>(
     file: &F,
+    others: u64,
     number: u64,
     found: &FoundRange,
 ) -> Result<VolumePlace, CollectFault>
-    ensures place { IfOk result (IsTold (F.known file.now) (place_in number found.now)) }
+    ensures place { IfOk result (IsTold (F.known file.now) (place_in others number found.now)) }
     ensures range { IfOk result (λ place. place.range ≡ found.now.range) }
 {
     let mut source = file.open()?;
     let sum = sum_told(&mut source, found)?;
-    Ok(VolumePlace::of(number, found, sum))
+    Ok(VolumePlace::of(others, number, found, sum))
 }
 
 /// Gives the row of the volume in a range of a file of `len` bytes, with this number, and those of its items, or of what remains of them where it is
@@ -161,20 +162,21 @@ pub(crate) fn give_range<S: ReadAt + Drop, F: ImageFile<S>, T: RowTaker>(
     taker: &mut T,
     file: &F,
     len: u64,
+    others: u64,
     number: u64,
     found: &FoundRange,
     taken: bool,
 ) -> Result<ImageCounts, CollectFault>
     ensures whole { OnOk result (OfKnown (F.known file.now) len (λ file. T.given taker.new
-        ≡ T.given taker.old ++ range_rows taken number found.now file)) }
+        ≡ T.given taker.old ++ range_rows taken others number found.now file)) }
     ensures part { OnErr result (OfKnown (F.known file.now) len (λ file. IsBeginning
-        (T.given taker.new) (T.given taker.old ++ range_rows taken number found.now file))) }
+        (T.given taker.new) (T.given taker.old ++ range_rows taken others number found.now file))) }
     ensures counted { IfOk result (λ counts. OfKnown (F.known file.now) len (λ file.
         counts ≡ range_counts found.now file)) }
     ensures reference { T.reference taker.new ≡ T.reference taker.old }
     ensures place { T.place taker.new ≡ T.place taker.old }
 {
-    let place = place_in(file, number, found)?;
+    let place = place_in(file, others, number, found)?;
     let counts = give_volume(alloc, taker, file, len, &place, taken)?;
     Ok(counts.lying(place.way))
 }
@@ -186,19 +188,20 @@ pub(crate) fn give_lost<S: ReadAt + Drop, F: ImageFile<S>, T: RowTaker>(
     taker: &mut T,
     file: &F,
     len: u64,
+    others: u64,
     taken: bool,
 ) -> Result<ImageCounts, CollectFault>
     ensures whole { OnOk result (OfKnown (F.known file.now) len (λ file. T.given taker.new
-        ≡ T.given taker.old ++ lost_rows taken (lost_place len) (fault_of file) file)) }
+        ≡ T.given taker.old ++ lost_rows taken (lost_place others len) (fault_of file) file)) }
     ensures part { OnErr result (OfKnown (F.known file.now) len (λ file. IsBeginning
         (T.given taker.new) (T.given taker.old
-        ++ lost_rows taken (lost_place len) (fault_of file) file))) }
+        ++ lost_rows taken (lost_place others len) (fault_of file) file))) }
     ensures counted { IfOk result (λ counts. OfKnown (F.known file.now) len (λ file.
         counts ≡ lost_counts (fault_of file) file)) }
     ensures reference { T.reference taker.new ≡ T.reference taker.old }
     ensures place { T.place taker.new ≡ T.place taker.old }
 {
-    let place = VolumePlace::lost(len);
+    let place = VolumePlace::lost(others, len);
     let window = open_window(file, place.range)?;
     match OpenedImage::open(alloc, window, len) {
         Ok(_image) => Ok(ImageCounts::none()),

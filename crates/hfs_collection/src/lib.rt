@@ -2,6 +2,7 @@
 //! items, with the digests of their forks.
 #![tactic(auto)]
 
+mod content;
 mod counts;
 mod digests;
 mod fault;
@@ -13,6 +14,7 @@ mod holding;
 mod image;
 mod items;
 mod places;
+mod raw_image;
 mod remaining;
 mod remains;
 mod source;

@@ -21,6 +21,8 @@ pub(crate) struct VolumePlace {
     /// Its number: those that were found are counted from 1.
     pub(crate) number: u64,
     pub(crate) way: Way,
+    /// How many sectors of its image have no user data, where that is of raw CD sectors; else 0.
+    pub(crate) others: u64,
     pub(crate) range: ByteRange,
 }
 
@@ -35,24 +37,26 @@ fn way_of(container: Container, sum: Option<bool>) -> Way
 }
 
 impl VolumePlace {
-    /// That of a volume that was found, with this number and what is told of its sum.
-    pub(crate) fn of(number: u64, found: &FoundRange, sum: Option<bool>) -> VolumePlace
-        ensures { result ≡ place_of number found.now sum }
+    /// That of a volume that was found, with this number and what is told of its sum, where so many sectors have no user data.
+    pub(crate) fn of(others: u64, number: u64, found: &FoundRange, sum: Option<bool>) -> VolumePlace
+        ensures { result ≡ place_of others number found.now sum }
     {
         VolumePlace {
             number,
             way: way_of(found.container, sum),
+            others,
             range: found.range,
         }
     }
 
-    /// That of the volume that is lost in a file of `len` bytes.
-    pub(crate) fn lost(len: u64) -> VolumePlace
-        ensures { result ≡ lost_place len }
+    /// That of the volume that is lost in a file of `len` bytes, where so many sectors have no user data.
+    pub(crate) fn lost(others: u64, len: u64) -> VolumePlace
+        ensures { result ≡ lost_place others len }
     {
         VolumePlace {
             number: 0,
             way: Way::Lost,
+            others,
             range: ByteRange { start: 0, len },
         }
     }

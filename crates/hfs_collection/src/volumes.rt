@@ -2,8 +2,9 @@
 ghost use Rattle.std.specs.Prelude.{◌≡◌, ◌++◌, [], ◌∷◌, IfOk, OnOk, string_bytes};
 ghost use Rattle.hfs_rows.specs.declared.value.RowValue.TheVariants.{Text};
 ghost use Rattle.hfs_commands.specs.Volumes.{container_text, name_text};
+ghost use Rattle.hfs_texts.specs.Texts.{Gains};
 ghost use Rattle.hfs_collection.specs.Values.{text_value};
-ghost use Rattle.hfs_collection.specs.Volumes.{block_values, directory_values, name_values, no_directory, range_values, verdict_text, volume_values, way_text};
+ghost use Rattle.hfs_collection.specs.Volumes.{block_values, directory_values, name_values, no_directory, others_text, place_text, range_values, verdict_text, volume_values, way_text};
 
 use crate::places::{VolumePlace, Way};
 use crate::values::{
@@ -42,6 +43,27 @@ fn way_word(way: Way) -> &'static str
     }
 }
 
+/// Appends how many raw sectors have no user data, where there are some.
+#[tactic(auto, unfolding(crate::specs::Volumes::others_text))]
+fn push_others(text: &mut String, others: u64) -> Result<(), AllocError>
+    ensures { OnOk result (Gains text.old text.new (others_text others)) }
+{
+    if others == 0 {
+        return Ok(());
+    }
+    text.push_str(", other mode ")?;
+    write!(text, "{}", others)
+}
+
+/// How a volume lies in its file, and how many raw sectors have no user data.
+fn place_text(alloc: Global, place: &VolumePlace) -> Result<String, AllocError>
+    ensures { IfOk result (λ text. string_bytes text ≡ place_text place.now) }
+{
+    let mut text = String::from_str(alloc, way_word(place.way))?;
+    push_others(&mut text, place.others)?;
+    Ok(text)
+}
+
 /// Appends number, how it lies, first byte and bytes.
 #[tactic(auto, unfolding(crate::specs::Volumes::range_values))]
 fn push_range(
@@ -52,8 +74,7 @@ fn push_range(
     ensures { OnOk result (values.new.items ≡ values.old.items ++ range_values place.now) }
 {
     push_number(values, place.number)?;
-    let word = String::from_str(alloc, way_word(place.way))?;
-    push_whole_text(values, word)?;
+    push_whole_text(values, place_text(alloc, place)?)?;
     push_number(values, place.range.start)?;
     push_number(values, place.range.len)
 }

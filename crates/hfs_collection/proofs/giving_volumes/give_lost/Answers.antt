@@ -18,7 +18,7 @@ returns-in-Ok-clause-whole g c =
     let known = g.F.ImageFile.known c.args.file.now in
     let told = c.in_ok-window.ensures ∙ ap (λ (place : VolumePlace). known_in place.range known) c.lost-place.ensures in
     let old = g.T.RowTaker.given c.args.taker.now in
-    lost_sound known c.args.len c.args.taken old old (subst (λ known. OfKnown known c.args.len (λ bytes. fault_of bytes ≡ None)) told c.in-Ok.ensures.sound) refl
+    lost_sound known c.args.len c.args.others c.args.taken old old (subst (λ known. OfKnown known c.args.len (λ bytes. fault_of bytes ≡ None)) told c.in-Ok.ensures.sound) refl
 
 pub returns-in-Ok-clause-counted : goal.returns-in-Ok-clause-counted
 returns-in-Ok-clause-counted g c =
@@ -28,7 +28,7 @@ returns-in-Ok-clause-counted g c =
 
 pub returns-in_ok-window-in-Err-Refused-clause-whole : goal.returns-in_ok-window-in-Err-Refused-clause-whole
 returns-in_ok-window-in-Err-Refused-clause-whole g c =
-    let place = lost_place c.args.len in
+    let place = lost_place c.args.others c.args.len in
     let known = g.F.ImageFile.known c.args.file.now in
     let told = c.in_ok-window.ensures ∙ ap (λ (place : VolumePlace). known_in place.range known) c.lost-place.ensures in
     let again = c.in_ok-window-in-Err-Refused.ensures ∙ ap (λ (place : VolumePlace). known_in place.range known) c.lost-place.ensures in
@@ -36,7 +36,7 @@ returns-in_ok-window-in-Err-Refused-clause-whole g c =
     let refused = subst (λ known. OfKnown known c.args.len (λ bytes. fault_of bytes ≡ Some why)) told (c.in-Err-Refused.ensures.refused why (search rules)) in
     let old = g.T.RowTaker.given c.args.taker.now in
     let new = g.T.RowTaker.given c.give_where_found.new.taker in
-    on_ok_then _ _ _ (λ given. lost_refused known c.args.len c.args.taken why (λ rows. new ≡ old ++ rows) refused
+    on_ok_then _ _ _ (λ given. lost_refused known c.args.len c.args.others c.args.taken why (λ rows. new ≡ old ++ rows) refused
     (subst (λ known. OfKnown known c.args.len (λ bytes. new ≡ old ++ rows_by_directory c.args.taken place why (found_directory bytes) bytes)) again
     (subst (λ (p : VolumePlace). OfKnown (known_in c.in_ok-window-in-Err-Refused.window.range (g.S.ReadAt.known c.in_ok-window-in-Err-Refused.window.source)) p.range.len
     (λ bytes. new ≡ old ++ rows_by_directory c.args.taken p why (found_directory bytes) bytes)) c.lost-place.ensures given)))
@@ -44,7 +44,7 @@ returns-in_ok-window-in-Err-Refused-clause-whole g c =
 
 pub returns-in_ok-window-in-Err-Refused-clause-part : goal.returns-in_ok-window-in-Err-Refused-clause-part
 returns-in_ok-window-in-Err-Refused-clause-part g c =
-    let place = lost_place c.args.len in
+    let place = lost_place c.args.others c.args.len in
     let known = g.F.ImageFile.known c.args.file.now in
     let told = c.in_ok-window.ensures ∙ ap (λ (place : VolumePlace). known_in place.range known) c.lost-place.ensures in
     let again = c.in_ok-window-in-Err-Refused.ensures ∙ ap (λ (place : VolumePlace). known_in place.range known) c.lost-place.ensures in
@@ -52,7 +52,7 @@ returns-in_ok-window-in-Err-Refused-clause-part g c =
     let refused = subst (λ known. OfKnown known c.args.len (λ bytes. fault_of bytes ≡ Some why)) told (c.in-Err-Refused.ensures.refused why (search rules)) in
     let old = g.T.RowTaker.given c.args.taker.now in
     let new = g.T.RowTaker.given c.give_where_found.new.taker in
-    on_err_then _ _ _ (λ given. lost_refused known c.args.len c.args.taken why (λ rows. IsBeginning new (old ++ rows)) refused
+    on_err_then _ _ _ (λ given. lost_refused known c.args.len c.args.others c.args.taken why (λ rows. IsBeginning new (old ++ rows)) refused
     (subst (λ known. OfKnown known c.args.len (λ bytes. IsBeginning new (old ++ rows_by_directory c.args.taken place why (found_directory bytes) bytes))) again
     (subst (λ (p : VolumePlace). OfKnown (known_in c.in_ok-window-in-Err-Refused.window.range (g.S.ReadAt.known c.in_ok-window-in-Err-Refused.window.source)) p.range.len
     (λ bytes. IsBeginning new (old ++ rows_by_directory c.args.taken p why (found_directory bytes) bytes))) c.lost-place.ensures given)))
