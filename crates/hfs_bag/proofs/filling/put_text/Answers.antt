@@ -5,7 +5,7 @@ use Rattle.hfs_bag.proofs.Growing.{on_err}
 use Rattle.hfs_bag.proofs.filling.put_text.Goals as goal
 
 pub returns-in_err-make_file-clause-part : goal.returns-in_err-make_file-clause-part
-returns-in_err-make_file-clause-part g c = on_err _ (part_unmade _ _ _ c.args.text.now c.in_err-make_file.ensures.part)
+returns-in_err-make_file-clause-part g c = on_err _ (part_unmade _ _ _ _ c.args.text.now c.in_err-make_file.ensures.part)
 
 pub returns-in_err-append-clause-part : goal.returns-in_err-append-clause-part
 returns-in_err-append-clause-part g c =
