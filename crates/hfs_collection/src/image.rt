@@ -1,5 +1,5 @@
 //! The rows of an image.
-ghost use Rattle.std.specs.Prelude.{◌≡◌, ◌++◌, List, length, IfOk, OnErr, OnOk};
+ghost use Rattle.std.specs.Prelude.{◌≡◌, ◌++◌, ℕ, List, length, IfOk, OnErr, OnOk};
 ghost use Rattle.hfs_containers.specs.Reading.{IsToldOf};
 ghost use Rattle.hfs_needed.specs.Known.{OfKnown};
 ghost use Rattle.hfs_rows.specs.Taken.{IsBeginning};

@@ -1,5 +1,5 @@
 -- The image's row, and behind it those of its volumes.
-use Rattle.std.proofs.Common.{◌≡◌, ◌++◌, ◌∷◌, [], ◌∙◌, List, ap, subst}
+use Rattle.std.proofs.Common.{◌≡◌, ◌++◌, ◌∷◌, [], ◌∙◌, ap, subst}
 use Rattle.hfs_commands.proofs.Rows.{if_ok_then, on_ok_then, on_err_then}
 use Rattle.hfs_collection.proofs.VolumeCounting.{image_counted}
 use Rattle.hfs_containers.specs.Raw.{layout_of}
