@@ -11,10 +11,10 @@ pub returns-in_err-append-clause-part : goal.returns-in_err-append-clause-part
 returns-in_err-append-clause-part g c =
     let made = g.S.Shelf.given c.make_file.new.self in
     let now = g.S.Shelf.given c.append.new.self in
-    on_err _ (part_text _ made _ c.args.text.now c.in_ok-make_file.ensures.whole now
+    on_err _ (part_text _ made _ _ c.args.text.now c.in_ok-make_file.ensures.whole now
     (subst (λ (text : List ℕ). IsBeginning now (with_piece made text)) c.as_bytes.ensures.value c.in_err-append.ensures.part))
 
 pub returns-clause-whole : goal.returns-clause-whole
 returns-clause-whole g c =
     let made = g.S.Shelf.given c.make_file.new.self in
-    whole_text _ made _ c.args.text.now c.in_ok-make_file.ensures.whole _ (c.in_ok-append.ensures.whole ∙ ap (with_piece made) c.as_bytes.ensures.value)
+    whole_text _ made _ _ c.args.text.now c.in_ok-make_file.ensures.whole _ (c.in_ok-append.ensures.whole ∙ ap (with_piece made) c.as_bytes.ensures.value)
