@@ -95,12 +95,18 @@ fn ends_are_set(rt: HostRuntime) -> Result<(), Fail> {
     let mut plain = with_a(rt.alloc())?;
     let five = write(&mut plain, 0, b"hello")?;
     assert!(rt; five == 0 && write(&mut plain, 6, b"")? == -39 && write(&mut plain, 5, b"")? == 0);
-    assert!(rt; set_eof(&mut plain, b"a", Fork::DataFork, 1024)? == 0 && is_filled(&plain, b"hello", 1024)?);
+    assert!(rt;
+        set_eof(&mut plain, b"a", Fork::DataFork, 1024)? == 0 && is_filled(&plain, b"hello", 1024)?
+    );
     assert!(rt; physical_lengths(&plain) == Some((1024, 0)));
     assert!(rt; set_eof(&mut plain, b"a", Fork::DataFork, 3)? == 0 && is_data(&plain, b"hel")?);
     assert!(rt; physical_lengths(&plain) == Some((512, 0)));
-    assert!(rt; set_eof(&mut plain, b"a", Fork::DataFork, 600)? == 0 && is_filled(&plain, b"hel", 600)?);
-    assert!(rt; lengths(&plain) == Some((600, 0, 8)) && physical_lengths(&plain) == Some((1024, 0)));
+    assert!(rt;
+        set_eof(&mut plain, b"a", Fork::DataFork, 600)? == 0 && is_filled(&plain, b"hel", 600)?
+    );
+    assert!(rt;
+        lengths(&plain) == Some((600, 0, 8)) && physical_lengths(&plain) == Some((1024, 0))
+    );
     Ok(())
 }
 
@@ -113,7 +119,9 @@ fn bytes_are_laid_over_others(rt: HostRuntime) -> Result<(), Fail> {
     let third = write(&mut plain, 4, b"a!")?;
     assert!(rt; first == 0 && second == 0 && third == 0 && is_data(&plain, b"hulla!")?);
     assert!(rt; set_eof(&mut plain, b"a", Fork::ResFork, 513)? == 0 && is_data(&plain, b"hulla!")?);
-    assert!(rt; lengths(&plain) == Some((6, 513, 8)) && physical_lengths(&plain) == Some((512, 1024)));
+    assert!(rt;
+        lengths(&plain) == Some((6, 513, 8)) && physical_lengths(&plain) == Some((512, 1024))
+    );
     Ok(())
 }
 
@@ -122,11 +130,16 @@ fn bytes_are_laid_over_others(rt: HostRuntime) -> Result<(), Fail> {
 fn lengths_are_refused(rt: HostRuntime) -> Result<(), Fail> {
     let mut plain = with_a(rt.alloc())?;
     assert!(rt; set_eof(&mut plain, b"a", Fork::DataFork, 2_147_483_648)? == -50);
-    assert!(rt; write(&mut plain, 2_147_483_647, b"x")? == -50 && write(&mut plain, 2_147_483_646, b"x")? == -39);
+    assert!(rt;
+        write(&mut plain, 2_147_483_647, b"x")? == -50
+            && write(&mut plain, 2_147_483_646, b"x")? == -39
+    );
     let many = sevens(rt.alloc(), 65_537)?;
     assert!(rt; write(&mut plain, 0, &many)? == -50 && write(&mut plain, 1, &many[1..])? == -39);
     assert!(rt; write(&mut plain, 0, &many[1..])? == 0);
-    assert!(rt; lengths(&plain) == Some((65_536, 0, 7)) && physical_lengths(&plain) == Some((65_536, 0)));
+    assert!(rt;
+        lengths(&plain) == Some((65_536, 0, 7)) && physical_lengths(&plain) == Some((65_536, 0))
+    );
     Ok(())
 }
 
@@ -136,9 +149,17 @@ fn files_are_refused(rt: HostRuntime) -> Result<(), Fail> {
     let mut plain = with_a(rt.alloc())?;
     plain.dir_create(2, b"d", 1)?;
     plain.set_lock(true, 2, b"a", 1);
-    assert!(rt; set_eof(&mut plain, b"a", Fork::DataFork, 1)? == -45 && write(&mut plain, 0, b"x")? == -45);
-    assert!(rt; set_eof(&mut plain, b"d", Fork::DataFork, 1)? == -43 && set_eof(&mut plain, b"b", Fork::DataFork, 1)? == -43);
-    assert!(rt; set_eof(&mut plain, b"A:B", Fork::DataFork, 1)? == -37 && codes_in(&mut plain, 9, b"a")? == (-120, -120));
+    assert!(rt;
+        set_eof(&mut plain, b"a", Fork::DataFork, 1)? == -45 && write(&mut plain, 0, b"x")? == -45
+    );
+    assert!(rt;
+        set_eof(&mut plain, b"d", Fork::DataFork, 1)? == -43
+            && set_eof(&mut plain, b"b", Fork::DataFork, 1)? == -43
+    );
+    assert!(rt;
+        set_eof(&mut plain, b"A:B", Fork::DataFork, 1)? == -37
+            && codes_in(&mut plain, 9, b"a")? == (-120, -120)
+    );
     assert!(rt; plain.changed() == 1);
     Ok(())
 }
@@ -152,8 +173,12 @@ fn codes_in(plain: &mut PlainVolume, dir: u32, name: &[u8]) -> Result<(i16, i16)
 
 /// The codes of a SetEof and a WriteFork that are too long.
 fn codes_past_the_most(plain: &mut PlainVolume) -> Result<(i16, i16), Fail> {
-    let set = plain.set_eof(9, b"A:B", Fork::DataFork, 2_147_483_648, 9)?.code;
-    let written = plain.write_fork(9, b"A:B", Fork::DataFork, 2_147_483_647, b"x", 9)?.code;
+    let set = plain
+        .set_eof(9, b"A:B", Fork::DataFork, 2_147_483_648, 9)?
+        .code;
+    let written = plain
+        .write_fork(9, b"A:B", Fork::DataFork, 2_147_483_647, b"x", 9)?
+        .code;
     Ok((set, written))
 }
 
@@ -163,12 +188,20 @@ fn the_first_code_is_told(rt: HostRuntime) -> Result<(), Fail> {
     let mut plain = with_a(rt.alloc())?;
     plain.set_lock(true, 2, b"a", 1);
     plain.set_locks(true, true);
-    assert!(rt; codes_past_the_most(&mut plain)? == (-50, -50) && codes_in(&mut plain, 9, b"A:B")? == (-44, -44));
+    assert!(rt;
+        codes_past_the_most(&mut plain)? == (-50, -50)
+            && codes_in(&mut plain, 9, b"A:B")? == (-44, -44)
+    );
     plain.set_locks(false, true);
     assert!(rt; codes_in(&mut plain, 9, b"A:B")? == (-46, -46));
     plain.set_locks(false, false);
-    assert!(rt; codes_in(&mut plain, 9, b"A:B")? == (-37, -37) && codes_in(&mut plain, 9, b"b")? == (-120, -120));
-    assert!(rt; codes_in(&mut plain, 2, b"b")? == (-43, -43) && codes_in(&mut plain, 2, b"a")? == (-45, -45));
+    assert!(rt;
+        codes_in(&mut plain, 9, b"A:B")? == (-37, -37)
+            && codes_in(&mut plain, 9, b"b")? == (-120, -120)
+    );
+    assert!(rt;
+        codes_in(&mut plain, 2, b"b")? == (-43, -43) && codes_in(&mut plain, 2, b"a")? == (-45, -45)
+    );
     plain.set_lock(false, 2, b"a", 1);
     assert!(rt; write(&mut plain, 1, b"x")? == -39 && lengths(&plain) == Some((0, 0, 1)));
     Ok(())
@@ -179,7 +212,9 @@ fn the_first_code_is_told(rt: HostRuntime) -> Result<(), Fail> {
 fn blocks_have_a_size(rt: HostRuntime) -> Result<(), Fail> {
     let mut plain = with_a(rt.alloc())?;
     plain.set_block_size(1024);
-    assert!(rt; write(&mut plain, 0, b"hello")? == 0 && set_eof(&mut plain, b"a", Fork::ResFork, 1025)? == 0);
+    assert!(rt;
+        write(&mut plain, 0, b"hello")? == 0 && set_eof(&mut plain, b"a", Fork::ResFork, 1025)? == 0
+    );
     assert!(rt; physical_lengths(&plain) == Some((1024, 2048)));
     plain.set_block_size(0);
     assert!(rt; set_eof(&mut plain, b"a", Fork::DataFork, 2)? == 0 && is_data(&plain, b"he")?);

@@ -1,6 +1,7 @@
 //! The calls that write forks.
 ghost use Rattle.std.specs.Prelude.{◌≡◌, ◌+◌, ◌≤◌, length, OnOk, OnErr};
 ghost use Rattle.hfs_fork_calls.specs.ForkCalls.{file_to_write, to_set_eof, to_write_fork, set_eof, write_fork};
+ghost use Rattle.hfs_model.specs.Lawful.{IsLawful};
 ghost use Rattle.hfs_store.specs.PlainVolume.{GivesOutcome, IsPlaceIn};
 
 use super::PlainVolume;
@@ -59,6 +60,7 @@ impl PlainVolume {
 
     /// Makes a file's fork its first `length` bytes, with zeros after them where it was shorter, and its physical length that of
     /// the allocation blocks that these take. `Err` only where memory is wanting, and then the volume is as it was.
+    /// A lawful volume stays lawful.
     #[tactic(auto, unfolding(hfs_fork_calls::specs::ForkCalls::set_eof))]
     pub fn set_eof(
         &mut self,
@@ -71,6 +73,7 @@ impl PlainVolume {
         ensures ok { GivesOutcome (set_eof self.old.block_size self.old dir name.now fork length now)
             self.new result }
         ensures err { OnErr result (self.new ≡ self.old) }
+        ensures lawful { IsLawful self.old → IsLawful self.new }
     {
         match self.to_set_eof(dir, name, length) {
             Ok(at) => {
@@ -86,6 +89,7 @@ impl PlainVolume {
 
     /// Writes bytes into a file's fork from an offset on, which lengthens the fork where they go past its end. `Err` only where
     /// memory is wanting, and then the volume is as it was.
+    /// A lawful volume stays lawful.
     #[tactic(auto, unfolding(hfs_fork_calls::specs::ForkCalls::write_fork))]
     pub fn write_fork(
         &mut self,
@@ -99,6 +103,7 @@ impl PlainVolume {
         ensures ok { GivesOutcome (write_fork self.old.block_size self.old dir name.now fork offset bytes.now now)
             self.new result }
         ensures err { OnErr result (self.new ≡ self.old) }
+        ensures lawful { IsLawful self.old → IsLawful self.new }
     {
         match self.to_write_fork(dir, name, fork, offset, bytes) {
             Ok(at) => {
