@@ -1,8 +1,9 @@
 -- What a store is after a change of a file's fork.
-use Rattle.std.proofs.Common.{◌≡◌, ℕ, ◌<◌, List, length, get_or, sym, ◌∙◌, ap, subst, Result, Ok, ℤ}
+use Rattle.std.proofs.Common.{◌≡◌, ℕ, ◌<◌, List, length, get_or, set, refl, sym, ◌∙◌, ap, subst, Result, Ok, ℤ}
 use Rattle.std.specs.FinMap as map
 use Rattle.hfs_store.specs.declared.plain_volume.PlainVolume.TheInside.{Inside}
 use Rattle.hfs_model.specs.declared.item.Item.{Item}
+use Rattle.hfs_model.specs.declared.item.Kind.{Kind}
 use Rattle.hfs_model.specs.declared.call.Fork.{Fork}
 use Rattle.hfs_model.specs.declared.reply.Reply.{Reply}
 use Rattle.hfs_model.specs.declared.reply.Value.TheVariants as value
@@ -11,14 +12,22 @@ use Rattle.hfs_model.specs.Children.{entries_of}
 use Rattle.hfs_model.specs.Lawful.{IsLawful}
 use Rattle.hfs_model.specs.Replies.{success}
 use Rattle.hfs_model.specs.Changes.{Outcome, change}
-use Rattle.hfs_fork_calls.specs.Forks.{fork_bytes, item_with_fork}
+use Rattle.hfs_fork_calls.specs.Forks.{fork_bytes, kind_with_fork, item_with_fork}
 use Rattle.hfs_store.specs.Found.{IsPlaceOf}
 use Rattle.hfs_store.specs.PlainVolume.{AreEntries, Becomes, ItemBecomes, IsPlainVolume, volume_of}
+use Rattle.hfs_store.proofs.Kept.{becomes_read_edited}
 use Rattle.hfs_store.proofs.Outcomes.{entries_are, within, still_entries}
 
 -- an item's fork, made anew of its bytes
 abbrev pub edits : ℕ → Fork → (List ℕ → List ℕ) → ℕ → Entry → Items → Items
 edits size fork make now e m = map.insert m e.0 (item_with_fork size fork (make (fork_bytes fork e.1.kind)) now e.1)
+
+-- a fork of the item at a place, where the code has read the entry e
+pub becomes_read_fork : (es : List Entry) (i : ℕ) (e d : Entry) (size : ℕ) (fork : Fork) (bytes : List ℕ) (now : ℕ) (k : Kind) → k ≡ kind_with_fork size fork bytes e.1.kind → e ≡ get_or es i e → i < length es
+    → Becomes es (set es i (e.0, record e.1 { modified = now; kind = k })) (λ m. map.insert m (get_or es i d).0 (item_with_fork size fork bytes now (get_or es i d).1))
+becomes_read_fork es i e d size fork bytes now k is value lt =
+    subst (λ (x : Kind). Becomes es (set es i (e.0, record e.1 { modified = now; kind = x })) (λ m. map.insert m (get_or es i d).0 (item_with_fork size fork bytes now (get_or es i d).1))) (sym is)
+    (becomes_read_edited es i e d (λ (x : Item). item_with_fork size fork bytes now x) value lt (λ x. refl))
 
 module _ (a : Inside) (v : Volume) (is : volume_of a ≡ v) (h : IsPlainVolume a) (chosen : Result Entry ℤ) (at : ℕ) (place : IsPlaceOf (entries_of v) chosen (Ok at)) where
   pub fork_entries : (fork : Fork) (bytes : List ℕ) (now : ℕ) (new : List Entry) → ItemBecomes a.items.items new at (item_with_fork a.block_size fork bytes now) → AreEntries new a.next_id
