@@ -1,5 +1,6 @@
 -- What a store is after a change of a file's fork.
 use Rattle.std.proofs.Common.{◌≡◌, ℕ, ◌<◌, List, length, get_or, set, refl, sym, ◌∙◌, ap, subst, Result, Ok, ℤ}
+use Rattle.std.specs.Ordering.{nat_cmp}
 use Rattle.std.specs.FinMap as map
 use Rattle.hfs_store.specs.declared.plain_volume.PlainVolume.TheInside.{Inside}
 use Rattle.hfs_model.specs.declared.item.Item.{Item}
@@ -40,8 +41,8 @@ module _ (a : Inside) (v : Volume) (is : volume_of a ≡ v) (h : IsPlainVolume a
       let size = a.block_size in
       let here : e ≡ get_or a.items.items at e = read ∙ ap (λ (l : List Entry). get_or l at e) (same ∙ entries_are a v is h) in
       let chosen_is : chosen ≡ Ok e = (subst (λ (l : List Entry). IsPlaceOf l chosen (Ok at)) (entries_are a v is h) place).1 e ∙ ap (λ (x : Entry). Ok x) (sym here) in
-      let put = subst (λ (x : Entry). map.from_sorted new ≡ map.insert (map.from_sorted a.items.items) x.0 (item_with_fork size fork bytes now x.1)) (sym here) ((becomes e).is a.next_id h) in
-      let items_are = put ∙ ap (λ (b : List ℕ). map.insert (map.from_sorted a.items.items) e.0 (item_with_fork size fork b now e.1)) (bytes_is ∙ ap make old_is) in
+      let put = subst (λ (x : Entry). map.from_sorted {R = nat_cmp} new ≡ map.insert (map.from_sorted {R = nat_cmp} a.items.items) x.0 (item_with_fork size fork bytes now x.1)) (sym here) ((becomes e).is a.next_id h) in
+      let items_are = put ∙ ap (λ (b : List ℕ). map.insert (map.from_sorted {R = nat_cmp} a.items.items) e.0 (item_with_fork size fork b now e.1)) (bytes_is ∙ ap make old_is) in
       let made : ◌≡◌ {A = Outcome} (record (volume_of a) { items = map.from_sorted new; changed = now }, reply) (change (volume_of a) (Ok e) (edits size fork make now) now) = λ i. (record (volume_of a) { items = items_are i; changed = now }, answered i) in
       made ∙ (λ i. change (is i) (sym chosen_is i) (edits (is i).block_size fork make now) now)
 
