@@ -21,8 +21,8 @@ pub returns-in_ok-bytes-in-Ok-clause-ok : goal.returns-in_ok-bytes-in-Ok-clause-
 unfolding set_eof
 returns-in_ok-bytes-in-Ok-clause-ok c =
     fork_changes c.self.inside c.args.self.now c.self.view_is c.self.invariant _ c.in-Ok.at c.in-Ok.ensures.place
-    c.args.fork (resized c.args.length) c.args.now c.entries.result.now c.index-entries-at.result c.fork_bytes.result.now c.in_ok-bytes-in-Ok.bytes.items c.set_fork.new.items.items c.success.result
-    c.entries.ensures.entries c.index-entries-at.is c.fork_bytes.ensures.bytes c.in_ok-bytes-in-Ok.ensures.bytes c.set_fork.ensures c.success.ensures
+    c.args.fork (resized c.args.length) c.args.now c.entries.result.now c.index-entries-at.result c.fork_bytes-old.result.now c.in_ok-bytes-in-Ok.bytes.items c.set_fork.new.items.items c.success.result
+    c.entries.ensures.entries c.index-entries-at.is c.fork_bytes-old.ensures.bytes c.in_ok-bytes-in-Ok.ensures.bytes c.set_fork.ensures c.success.ensures
 
 pub returns-in_ok-bytes-in-Ok-clause-lawful : goal.returns-in_ok-bytes-in-Ok-clause-lawful
 returns-in_ok-bytes-in-Ok-clause-lawful c =
