@@ -35,14 +35,14 @@ module _ (a : Inside) (v : Volume) (is : volume_of a ≡ v) (h : IsPlainVolume a
   fork_entries fork bytes now new becomes = still_entries a v is h chosen at place (λ (e : Entry) (m : Items). map.insert m e.0 (item_with_fork a.block_size fork bytes now e.1)) new becomes
 
   pub fork_changes : (fork : Fork) (make : List ℕ → List ℕ) (now : ℕ) (es : List Entry) (e : Entry) (old bytes : List ℕ) (new : List Entry) (reply : Reply)
-      → es ≡ entries_of v → e ≡ get_or es at e → old ≡ fork_bytes fork e.1.kind → bytes ≡ make old → ItemBecomes a.items.items new at (item_with_fork a.block_size fork bytes now) → reply ≡ success value.Nothing
+      → es ≡ entries_of v → e ≡ get_or es at e → old ≡ fork_bytes fork (get_or es at e).1.kind → bytes ≡ make old → ItemBecomes a.items.items new at (item_with_fork a.block_size fork bytes now) → reply ≡ success value.Nothing
       → ◌≡◌ {A = Outcome} (record (volume_of a) { items = map.from_sorted new; changed = now }, reply) (change v chosen (edits v.block_size fork make now) now)
   fork_changes fork make now es e old bytes new reply same read old_is bytes_is becomes answered =
       let size = a.block_size in
       let here : e ≡ get_or a.items.items at e = read ∙ ap (λ (l : List Entry). get_or l at e) (same ∙ entries_are a v is h) in
       let chosen_is : chosen ≡ Ok e = (subst (λ (l : List Entry). IsPlaceOf l chosen (Ok at)) (entries_are a v is h) place).1 e ∙ ap (λ (x : Entry). Ok x) (sym here) in
       let put = subst (λ (x : Entry). map.from_sorted {R = nat_cmp} new ≡ map.insert (map.from_sorted {R = nat_cmp} a.items.items) x.0 (item_with_fork size fork bytes now x.1)) (sym here) ((becomes e).is a.next_id h) in
-      let items_are = put ∙ ap (λ (b : List ℕ). map.insert (map.from_sorted {R = nat_cmp} a.items.items) e.0 (item_with_fork size fork b now e.1)) (bytes_is ∙ ap make old_is) in
+      let items_are = put ∙ ap (λ (b : List ℕ). map.insert (map.from_sorted {R = nat_cmp} a.items.items) e.0 (item_with_fork size fork b now e.1)) (bytes_is ∙ ap make (old_is ∙ ap (λ (x : Entry). fork_bytes fork x.1.kind) (sym read))) in
       let made : ◌≡◌ {A = Outcome} (record (volume_of a) { items = map.from_sorted new; changed = now }, reply) (change (volume_of a) (Ok e) (edits size fork make now) now) = λ i. (record (volume_of a) { items = items_are i; changed = now }, answered i) in
       made ∙ (λ i. change (is i) (sym chosen_is i) (edits (is i).block_size fork make now) now)
 
