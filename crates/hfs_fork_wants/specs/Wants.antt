@@ -1,5 +1,5 @@
 -- What a call that writes a fork wants of a volume, and what is told where that is wanting.
-use Rattle.std.specs.Prelude.{◌≡◌, ◌×◌, ℕ, ◌+◌, ◌-◌, ◌<◌, ◌≤◌, max, nat_lt, if◌then◌else◌, IsTrue, List, length, Option, Some, None, IfSome, ⊥}
+use Rattle.std.specs.Prelude.{◌≡◌, ℕ, ◌+◌, ◌-◌, ◌<◌, ◌≤◌, max, nat_lt, if◌then◌else◌, IsTrue, List, length, Option, Some, None, IfSome}
 use Rattle.std.specs.Int.{div_ceil}
 use Rattle.hfs_model.specs.declared.call.Fork.{Fork}
 use Rattle.hfs_model.specs.declared.journal.Want.{Want}
