@@ -11,3 +11,5 @@ mod growing;
 mod leaving;
 #[cfg(test)]
 mod trees;
+#[cfg(test)]
+mod wants;

@@ -3,6 +3,7 @@ use Rattle.std.proofs.Common.{◌≡◌, ℕ, ◌+◌, ◌-◌, ◌^◌, ◌<◌
 use Rattle.std.specs.Prelude.{max}
 use Rattle.std.proofs.lemmas.List.{take_all, take_at, drop_at, length-replicate}
 use Rattle.std.proofs.lemmas.Bool.{ltb-true}
+use Rattle.byteorder.specs.Endian.{big_bytes}
 use Rattle.hfs_model.specs.declared.item.Kind.{Kind}
 use Rattle.hfs_model.specs.declared.item.Kind.TheVariants as kind
 use Rattle.hfs_model.specs.declared.call.Fork.{Fork}
@@ -16,6 +17,10 @@ use Rattle.hfs_model.proofs.Facts.{true_false}
 use Rattle.hfs_fork_calls.specs.Forks.{resized, laid_over, written, fork_bytes, kind_with_fork}
 
 -- ---- bytes
+
+-- the lowest four of the lowest eight
+pub four_of_eight : (n : ℕ) → drop 4 (big_bytes 8 n) ≡ big_bytes 4 n
+four_of_eight n = refl
 
 pub length-resized : (n : ℕ) (bytes : List ℕ) → length (resized n bytes) ≡ n
 unfolding resized

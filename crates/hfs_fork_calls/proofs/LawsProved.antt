@@ -18,7 +18,7 @@ use Rattle.hfs_fork_calls.specs.Forks.{resized, written, fork_bytes, item_with_f
 use Rattle.hfs_fork_calls.specs.ForkCalls.{to_set_eof, to_write_fork, set_eof, write_fork}
 use Rattle.hfs_fork_calls.specs.Laws.{IsLawfulChange, SetEofIsLawful, WriteForkIsLawful, fork_named, HasChangedFork, SetEofResizes, SetEofToItsLength, WriteForkIsSetEofAndBytes, WrittenIsRead}
 use Rattle.hfs_fork_calls.proofs.ForkLemmas.{resized-same, written-part, same-sort, file-part}
-use Rattle.hfs_fork_calls.proofs.Refusals.{IsTold, set_eof_told, write_fork_told, accepted, leaves, never_full}
+use Rattle.hfs_fork_calls.proofs.Refusals.{IsTold, set_eof_told, write_fork_told, accepted, leaves, never_full, same_size}
 use Rattle.hfs_fork_calls.proofs.Tested.{IsFileNamed, set_eof_tested, write_fork_tested}
 use Rattle.hfs_fork_calls.proofs.Afterwards.{new, there, folder_still, was, changed}
 
@@ -40,6 +40,7 @@ module _ (size : ℕ) (v : Volume) (dir : ℕ) (name : List ℕ) (fork : Fork) (
     lawful = edit_keeps v chosen (edited size fork make now) now (is_edit size fork make now) (λ e is. (found_has v.items (is_child_named dir name) e (tested e is).item.child).0);
     refused = leaves v chosen (edits size fork make now) now;
     never_full = never_full v chosen (edits size fork make now) now told;
+    block_size = same_size v chosen (edits size fork make now) now;
   }
 
   has_changed : (e : Entry) → chosen ≡ Ok e → HasChangedFork v dir name fork (make (fork_named v dir name fork)) (change v chosen (edits size fork make now) now).0

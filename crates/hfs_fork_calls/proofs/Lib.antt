@@ -2,4 +2,4 @@ mod Tested
 mod Refusals
 mod Afterwards
 pub mod ForkLemmas
-mod LawsProved
+pub mod LawsProved

@@ -87,6 +87,10 @@ pub leaves : (v : Volume) (r : Result Entry ℤ) (make : Entry → Items → Ite
 leaves v (Ok e) make now other = absurd (other refl)
 leaves v (Err code) make now other = refl
 
+pub same_size : (v : Volume) (r : Result Entry ℤ) (make : Entry → Items → Items) (now : ℕ) → (change v r make now).0.block_size ≡ v.block_size
+same_size v (Ok e) make now = refl
+same_size v (Err code) make now = refl
+
 -- whether it is 0 or above
 is_positive : ℤ → Bool
 is_positive (pos n) = true

@@ -15,11 +15,12 @@ use Rattle.hfs_fork_calls.specs.ForkCalls.{set_eof, write_fork}
 
 -- ---- both calls
 
--- a lawful volume stays lawful; a code other than 0 leaves any volume; -34 is none of the codes
+-- a lawful volume stays lawful; a code other than 0 leaves any volume; -34 is none of the codes; allocation blocks stay as large
 pub record IsLawfulChange (v : Volume) (made : Outcome) : Type 0 where
   pub lawful : IsLawful v → IsLawful made.0
   pub refused : made.1.code ≢ pos 0 → made.0 ≡ v
   pub never_full : made.1.code ≢ DISK_FULL
+  pub block_size : made.0.block_size ≡ v.block_size
 
 abbrev pub SetEofIsLawful : Type 0
 SetEofIsLawful = (size : ℕ) (v : Volume) (dir : ℕ) (name : List ℕ) (fork : Fork) (length now : ℕ) → IsLawfulChange v (set_eof size v dir name fork length now)

@@ -6,6 +6,8 @@
 #[cfg(test)]
 mod fixture;
 #[cfg(test)]
+mod forks;
+#[cfg(test)]
 mod names;
 #[cfg(test)]
 mod nodes;

@@ -5,3 +5,4 @@ pub mod Kept
 pub mod Outcomes
 pub mod Runs
 pub mod Laid
+pub mod ForkOutcomes

@@ -1,14 +1,17 @@
 //! Changes of the list of items.
-ghost use Rattle.std.specs.Prelude.{◌≡◌, ◌<◌, length, OnOk, OnErr};
+ghost use Rattle.std.specs.Prelude.{◌≡◌, ◌<◌, ◌≤◌, ◌^◌, length, OnOk, OnErr};
 ghost use Rattle.std.specs.FinMap as map;
 ghost use Rattle.hfs_model.specs.Changes.{touched, moved};
 ghost use Rattle.hfs_model.specs.FileIds.{with_thread_bit, set_thread};
 ghost use Rattle.hfs_model.specs.Children.{valence};
+ghost use Rattle.hfs_fork_calls.specs.Forks.{laid_over, physical_length, with_physical_length, with_fork, item_with_fork};
+ghost use Rattle.byteorder.specs.Endian.{big_bytes};
 ghost use Rattle.hfs_store.specs.PlainVolume.{Becomes, BecomesAt, ItemBecomes, InfoBecomes, Gains, removed, with_first_info, with_item_lock};
 
 use crate::entries::place_of;
+use byteorder::{BigEndian, ByteOrder};
 use hfs_fields::{FileFlags, Name};
-use hfs_model::{Item, Kind};
+use hfs_model::{Content, File, Fork, Item, Kind};
 use std::alloc::AllocError;
 
 /// Sets a folder's modified date.
@@ -118,6 +121,73 @@ pub fn set_thread(items: &mut Vec<(u32, Item)>, at: usize, there: bool)
     if let Kind::File(file) = &mut items[at].1.kind {
         set_thread_bit(&mut file.kept, there);
         file.has_thread = there;
+    }
+}
+
+/// Writes the four lowest bytes of a number over a file's kept bytes, the highest of them first.
+#[tactic(auto, using(hfs_fork_calls::proofs::ForkLemmas::four_of_eight))]
+fn put_number(kept: &mut [u8; 102], at: usize, number: u64)
+    requires { at ≤ 98 }
+    ensures { kept.new ≡ laid_over at (big_bytes 4 number) kept.old }
+{
+    let mut bytes = [0; 8];
+    BigEndian::write_u64(&mut bytes, number);
+    kept[at..at + 4].copy_from_slice(&bytes[4..]);
+}
+
+/// Sets the physical length of a fork among a file's kept bytes.
+#[tactic(auto, unfolding(hfs_fork_calls::specs::Forks::with_physical_length))]
+fn set_physical_length(kept: &mut [u8; 102], fork: Fork, bytes: u64)
+    ensures { kept.new ≡ with_physical_length fork bytes kept.old }
+{
+    match fork {
+        Fork::DataFork => put_number(kept, 30, bytes),
+        Fork::ResFork => put_number(kept, 40, bytes),
+    }
+}
+
+/// How many bytes the allocation blocks have that so many bytes take; none where a block has none.
+fn physical_length(block_size: u32, length: u32) -> u64
+    ensures { result ≡ physical_length block_size length }
+{
+    if block_size == 0 {
+        0
+    } else {
+        u64::from(length.div_ceil(block_size)) * u64::from(block_size)
+    }
+}
+
+/// Gives a fork of a file these bytes, and the physical length of the blocks that they take.
+fn set_bytes(file: &mut File, block_size: u32, fork: Fork, bytes: Vec<u8>)
+    requires { length bytes.items < 2 ^ 32 }
+    ensures { file.new ≡ with_fork block_size fork bytes.items file.old }
+{
+    let physical = physical_length(block_size, bytes.len() as u32);
+    set_physical_length(&mut file.kept, fork, physical);
+    match fork {
+        Fork::DataFork => file.data = Content::new(bytes),
+        Fork::ResFork => file.resource = Content::new(bytes),
+    }
+}
+
+/// Gives a fork of the file at a place these bytes, and sets the file's modified date.
+pub fn set_fork(
+    items: &mut Vec<(u32, Item)>,
+    at: usize,
+    block_size: u32,
+    fork: Fork,
+    bytes: Vec<u8>,
+    now: u32,
+)
+    requires within { at < length items.old.items }
+    requires short { length bytes.items < 2 ^ 32 }
+    ensures { ItemBecomes items.old.items items.new.items at
+        (item_with_fork block_size fork bytes.items now) }
+{
+    let item = &mut items[at].1;
+    item.modified = now;
+    if let Kind::File(file) = &mut item.kind {
+        set_bytes(file, block_size, fork, bytes);
     }
 }
 

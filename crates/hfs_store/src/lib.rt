@@ -2,6 +2,7 @@
 //! the definitions of `hfs_model` say. It shows that these can be met, and tests compare with it.
 #![tactic(auto)]
 
+mod bytes;
 mod changes;
 mod entries;
 mod plain_volume;

@@ -1,4 +1,6 @@
 //! A plain, slow volume in memory, which answers every call exactly as the definitions say.
+mod forks;
+
 ghost use Rattle.std.specs.Prelude.{◌≡◌, ℕ, ◌+◌, ◌<◌, ◌≤◌, false, IsTrue, Ok, IfOk, OnOk, OnErr};
 ghost use Rattle.std.specs.FinMap as map;
 ghost use Rattle.hfs_model.specs.Runs.{run};

@@ -1,0 +1,71 @@
+//! What is there, what comes, and whether that is enough.
+ghost use Rattle.std.specs.Prelude.{◌≡◌};
+ghost use Rattle.hfs_fork_wants.specs.Wants.{blocks_wanted, want_of, ForkWantsAreTold, SetEofWantsAreTold, WriteForkWantsAreTold};
+
+use hfs_extents_edits::extents_need;
+use hfs_fork_calls::BlockSize;
+use hfs_model::Want;
+
+/// What a volume has for forks that grow.
+#[derive(Clone, Copy)]
+pub struct Supply {
+    /// The free allocation blocks.
+    pub blocks: u32,
+    /// The free nodes of the extents tree.
+    pub nodes: u32,
+    /// The levels of the extents tree.
+    pub depth: u16,
+    /// The records of the extents tree.
+    pub records: u32,
+}
+
+/// What comes to a fork that grows.
+#[derive(Clone, Copy)]
+pub struct Growth {
+    /// Allocation blocks.
+    pub blocks: u32,
+    /// Records of the extents tree.
+    pub records: u32,
+}
+
+/// How many allocation blocks come to a fork that has `have` of them, and gets so many bytes.
+pub fn blocks_wanted(block_size: BlockSize, have: u32, length: u32) -> u32
+    ensures { result ≡ blocks_wanted block_size have length }
+{
+    block_size.blocks(length).saturating_sub(have)
+}
+
+/// What is wanting, if something is: allocation blocks first, then nodes of the extents tree for the records that come to it.
+pub fn fork_want(supply: Supply, growth: Growth) -> Option<Want>
+    ensures { result ≡ want_of supply growth }
+{
+    if supply.blocks < growth.blocks {
+        return Some(Want::Room {
+            free: supply.blocks,
+            wanted: growth.blocks,
+        });
+    }
+    if u64::from(supply.nodes) < extents_need(growth.records, supply.depth, supply.records) {
+        return Some(Want::ExtentNodes {
+            free: supply.nodes,
+            depth: u32::from(supply.depth),
+        });
+    }
+    None
+}
+
+/// Of a fork that gets at most so many allocation blocks, where no more blocks come, and no more records than there are threes of
+/// them, too few blocks are told with what is wanted of them, and too few nodes where one record or more wants them.
+pub fn fork_wants_are_told()
+    ensures { ForkWantsAreTold }
+{}
+
+/// What a SetEof that would be done otherwise may meet want of is such a want of a fork of the new length.
+pub fn set_eof_wants_are_told()
+    ensures { SetEofWantsAreTold }
+{}
+
+/// So is what a WriteFork may meet want of; the new length is the greater of the fork's length and where the bytes end.
+pub fn write_fork_wants_are_told()
+    ensures { WriteForkWantsAreTold }
+{}
