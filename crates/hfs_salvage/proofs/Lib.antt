@@ -17,5 +17,3 @@ mod JoinLemmas
 mod TakenPathLemmas
 pub mod LawsProved
 mod HeldLemmas
-mod WrittenLemmas
-mod UnfoundLemmas
