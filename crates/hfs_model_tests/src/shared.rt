@@ -13,6 +13,6 @@ fn part_of_five(alloc: Global) -> Result<SharedBytes, AllocError> {
 #[test]
 fn a_part_is_shared(rt: HostRuntime) -> Result<(), Fail> {
     let part = part_of_five(rt.alloc())?;
-    assert!(rt; part.as_slice() == b"bcd");
+    assert!(rt; part.as_slice() == b"bcd".as_slice());
     Ok(())
 }
