@@ -24,7 +24,7 @@ use Rattle.hfs_rescue_items.specs.declared.reading.Reading.{Reading}
 use Rattle.hfs_rescue_items.specs.Bytes.{HasBytes, bytes_by, image_in, taken_bytes}
 use Rattle.hfs_rescue_items.specs.Lines.{item_line, lines_of, remains_line, remains_text, table_text}
 use Rattle.hfs_rescue_items.specs.Reading.{Reads, lines_rest, reading_rest}
-use Rattle.hfs_rescue_items.specs.Sources.{above_of, came_item, finder_told, is_alone, item_with, name_of, part_bytes, part_stream, part_told, planned_item, source_of}
+use Rattle.hfs_rescue_items.specs.Sources.{above_of, came_item, finder_told, modified_told, is_alone, item_with, name_of, part_bytes, part_stream, part_told, planned_item, source_of}
 
 -- ---- lengths
 
