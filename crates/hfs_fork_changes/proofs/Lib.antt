@@ -1,0 +1,4 @@
+mod Files
+mod TreeKeys
+mod Overflows
+mod Beside
