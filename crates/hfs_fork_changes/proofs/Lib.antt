@@ -2,3 +2,8 @@ mod Files
 mod TreeKeys
 mod Overflows
 mod Beside
+mod Rooms
+mod Changed
+mod Contents
+mod Whole
+mod LawsProved

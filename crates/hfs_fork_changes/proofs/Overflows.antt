@@ -38,17 +38,17 @@ in_any p (y ∷ ys) x there is = ⊎_elim
 pub any_one : {X : Type 0} (p : X → Bool) (xs : List X) → list_any p xs ≡ true → (x : X) × In x xs × (p x ≡ true)
 any_one p [] e = absurd (true≢false (sym e))
 any_one {X} p (x ∷ xs) e = ⊎_elim
-    (λ (here : p x ≡ true). let found : (y : X) × In y (x ∷ xs) × (p y ≡ true) = (x, (inl refl, here)) in found)
-    (λ (later : list_any p xs ≡ true). let rest = any_one p xs later in let found : (y : X) × In y (x ∷ xs) × (p y ≡ true) = (rest.0, (inr rest.1, rest.2)) in found)
+    (λ (here : p x ≡ true). let found : (y : X) × In y (x ∷ xs) × (p y ≡ true) = (x, inl refl, here) in found)
+    (λ (later : list_any p xs ≡ true). let rest = any_one p xs later in let found : (y : X) × In y (x ∷ xs) × (p y ≡ true) = (rest.0, inr rest.1, rest.2) in found)
     (or_cases _ _ e)
 
 filtered : {X : Type 0} (p : X → Bool) (xs : List X) (x : X) → In x (filter p xs) → In x xs
 filtered p [] x there = absurd there
-filtered {X} p (y ∷ ys) x there = by (p y) there
+filtered {X} p (y ∷ ys) x there = by (p y) there (filtered p ys x)
   where
-    by : (t : Bool) → In x (cond t (y ∷ filter p ys) (filter p ys)) → In x (y ∷ ys)
-    by true i = ⊎_elim (λ (here : y ≡ x). let both : In x (y ∷ ys) = inl here in both) (λ (later : In x (filter p ys)). let both : In x (y ∷ ys) = inr (filtered p ys x later) in both) i
-    by false i = inr (filtered p ys x i)
+    by : (t : Bool) → In x (cond t (y ∷ filter p ys) (filter p ys)) → (In x (filter p ys) → In x ys) → In x (y ∷ ys)
+    by true i rest = ⊎_elim (λ (here : y ≡ x). let both : In x (y ∷ ys) = inl here in both) (λ (later : In x (filter p ys)). let both : In x (y ∷ ys) = inr (rest later) in both) i
+    by false i rest = inr (rest i)
 
 passing : {X : Type 0} (p : X → Bool) (xs : List X) (x : X) → In x xs → p x ≡ true → In x (filter p xs)
 passing p [] x there is = absurd there
@@ -100,14 +100,15 @@ going f k block x e =
 
 pub run_in : (f k : ℕ) (xs : Overflow) (block : ℕ) (q : ExtRecord) → In q (run_on f k block xs) → (is_of_fork f k q ≡ true) × (0 < block_total (record_extents q.1))
 run_in f k [] block q there = absurd there
-run_in f k (x ∷ xs) block q there = by (goes_on f k block x) refl there
+run_in f k (x ∷ xs) block q there = by (goes_on f k block x) refl there (λ n. run_in f k xs n q)
   where
-    by : (t : Bool) → goes_on f k block x ≡ t → In q (cond t (x ∷ run_on f k (block + block_total (record_extents x.1)) xs) (run_on f k block xs)) → (is_of_fork f k q ≡ true) × (0 < block_total (record_extents q.1))
-    by true e i = ⊎_elim
+    by : (t : Bool) → goes_on f k block x ≡ t → In q (cond t (x ∷ run_on f k (block + block_total (record_extents x.1)) xs) (run_on f k block xs))
+        → ((n : ℕ) → In q (run_on f k n xs) → (is_of_fork f k q ≡ true) × (0 < block_total (record_extents q.1))) → (is_of_fork f k q ≡ true) × (0 < block_total (record_extents q.1))
+    by true e i rest = ⊎_elim
         (λ (here : x ≡ q). subst (λ (y : ExtRecord). (is_of_fork f k y ≡ true) × (0 < block_total (record_extents y.1))) here (going f k block x e))
-        (λ (later : In q (run_on f k (block + block_total (record_extents x.1)) xs)). run_in f k xs (block + block_total (record_extents x.1)) q later)
+        (λ (later : In q (run_on f k (block + block_total (record_extents x.1)) xs)). rest (block + block_total (record_extents x.1)) later)
         i
-    by false e i = run_in f k xs block q i
+    by false e i rest = rest block i
 
 -- ---- the blocks of records
 
@@ -119,7 +120,7 @@ one_has b x = owners (extent_blocks (record_extents x.1)) b
 
 have_if : (b : ℕ) (t : Bool) (x : ExtRecord) (ys : Overflow) → have b (cond t (x ∷ ys) ys) ≡ cond t (one_has b x) 0 + have b ys
 have_if b true x ys = extents_parts (record_extents x.1) (flat_map (λ r. record_extents r.1) ys) b
-have_if b false x ys = refl
+have_if b false x ys = omega arith
 
 parted : (h : ℕ) (t u v : Bool) → ((u ≡ true) × (v ≡ false)) ⊎ ((u ≡ false) × (v ≡ true)) → cond t h 0 ≡ cond (t && u) h 0 + cond (t && v) h 0
 parted h false u v either = refl
