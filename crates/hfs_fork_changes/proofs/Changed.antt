@@ -8,7 +8,7 @@ use Rattle.hfs_fields.specs.declared.mdb.Mdb.{Mdb}
 use Rattle.hfs_fields.specs.declared.extent.Extent.{Extent}
 use Rattle.hfs_fields.specs.declared.file_record.FileRecord.{FileRecord}
 use Rattle.hfs_fields.specs.Keys.{cat_cmp, cat_cmp_total}
-use Rattle.hfs_fields.specs.Records.{is_file, is_item, item_id, file_record_of}
+use Rattle.hfs_fields.specs.Records.{is_dir, is_file, is_item, item_id, dir_record_of, file_record_of}
 use Rattle.hfs_fields.specs.RecordForms.{file_record_bytes}
 use Rattle.hfs_fields.proofs.OrderLemmas.{equal-own}
 use Rattle.hfs_scans.specs.Each.{Each}
@@ -35,7 +35,7 @@ use Rattle.hfs_catalog_edits.proofs.EditedLemmas.{at_equal_key, with_replaced-sw
 use Rattle.hfs_check.specs.Parts.{Blocks, mdb_in, extents_nodes, overflow_in, catalog_extents, catalog_in, owned_in}
 use Rattle.hfs_check.specs.Sound.{IsForkKey, EachKey, AreBlocksSound}
 use Rattle.hfs_check.proofs.LawTypes.{CatalogIsSound}
-use Rattle.hfs_changes.proofs.ChangeLemmas.{HasSet}
+use Rattle.hfs_changes.proofs.ChangesLaws.{IsAlike}
 use Rattle.hfs_changes.proofs.DeletedFrames.{record_owns}
 use Rattle.hfs_changes.proofs.Linked.{sound_once}
 use Rattle.hfs_changes.proofs.Made.{file_alike, file_id, file-is, file-read, file-not_dir}
@@ -136,8 +136,11 @@ module _ (catalogs : CatalogIsSound) (total id : ℕ) (fork : Fork) (r : Record)
   pub swap : Swaps (Some r) (Some s) (catalog_in old) (catalog_in new)
   swap = subst (Swaps (Some r) (Some s) (catalog_in old)) (sym d.set.content) (with_replaced-swaps cat_cmp r.0 (file_record_bytes g) (catalog_in old) r stands)
 
-  pub set : HasSet id r s (catalog_in old) (catalog_in new)
-  set = record { swap = swap; was = was; alike = file_alike r g d.was d.set.value g_id; valence = λ e. absurd (true≢false (sym e ∙ file-not_dir r.1 d.was)) }
+  pub alike : IsAlike r s
+  alike = file_alike r g d.was d.set.value g_id
+
+  pub valence : is_dir r.1 ≡ true → (dir_record_of s.1).valence ≡ (dir_record_of r.1).valence
+  valence e = absurd (true≢false (sym e ∙ file-not_dir r.1 d.was))
 
   abbrev before : Catalog
   before = swap.before

@@ -7,3 +7,5 @@ mod Changed
 mod Contents
 mod Whole
 mod LawsProved
+mod Bytes
+mod Moves

@@ -1,9 +1,9 @@
 -- A sound volume of which one fork was changed is sound, keeps what calls keep but for the blocks that were written, and is the one that
 -- the call makes.
-use Rattle.std.proofs.Common.{◌≡◌, inl, inr, ◌⊎◌, ℕ, ◌+◌, ◌*◌, ◌<◌, ◌≤◌, Bool, true, false, cond, ◌&&◌, eqb, List, refl, sym, ◌∙◌, ap, subst, arith, Option, Some, None, Ok}
+use Rattle.std.proofs.Common.{◌≡◌, inl, inr, ◌⊎◌, ℕ, ◌+◌, ◌*◌, ◌<◌, ◌≤◌, Bool, true, false, cond, ◌&&◌, ◌||◌, eqb, List, refl, sym, ◌∙◌, ap, subst, arith, Option, Some, None, Ok}
 use Rattle.std.specs.Prelude.{Result, ℤ, ◌==◌}
 use Rattle.std.specs.Cmp.{nat_cmp_total}
-use Rattle.std.specs.Option.{option_map}
+use Rattle.std.specs.Option.{option_map, option_or}
 use Rattle.std.specs.FinMap as map
 use Rattle.std.proofs.lemmas.Bool.{cases_lt, ne_eqb, eq-eqb, true≢false}
 use Rattle.hfs_fields.specs.declared.mdb.Mdb.{Mdb}
@@ -24,7 +24,7 @@ use Rattle.hfs_model.specs.Volume.{Volume, Items, Entry}
 use Rattle.hfs_model.specs.Lawful.{AreLawful, IsLawful, Has}
 use Rattle.hfs_model.specs.Changes.{change, changed_to}
 use Rattle.hfs_model.proofs.KeepsCalls.{edit_keeps, same_entry}
-use Rattle.hfs_catalog.specs.Records.{Record, Catalog, item_with, has_thread}
+use Rattle.hfs_catalog.specs.Records.{Record, has_id, item_with, has_thread}
 use Rattle.hfs_catalog.specs.Lookups.{thread_of}
 use Rattle.hfs_catalog.specs.Items.{file_of, item_of, items_in}
 use Rattle.hfs_catalog.specs.Sound.{AreIdsSound, AreCountsSound, IsSoundCatalog}
@@ -45,7 +45,8 @@ use Rattle.hfs_changes.proofs.SetItems as setting
 use Rattle.hfs_changes.proofs.SetMakes.{set_numbers}
 use Rattle.hfs_changes.proofs.Linked.{sound_once}
 use Rattle.hfs_changes.proofs.Space.{owned_each, each_owned, owned_distinct, distinct_owned}
-use Rattle.hfs_changes.proofs.StepLemmas.{with_one, item_after}
+use Rattle.hfs_catalog_edits.specs.Swaps.{Swaps}
+use Rattle.hfs_catalog_edits.proofs.SwapLemmas.{swapped_find}
 use Rattle.hfs_fork_calls.specs.Forks.{resized, written, fork_bytes, item_with_fork}
 use Rattle.hfs_fork_calls.specs.ForkCalls.{to_set_eof, to_write_fork, set_eof, write_fork}
 use Rattle.hfs_fork_calls.proofs.ForkLemmas.{same-sort}
@@ -66,14 +67,14 @@ space_moved : (blocks after : ℕ → List ℕ) (old new : Mdb) (owned now_owned
 space_moved blocks after old new owned now_owned come go moved once none set others free h = record {
   once = distinct_owned now_owned (λ b. elim (cases_lt 0 (owners come b)) [
     | inl some ↦ omega (arith, moved b, once b, none b some)
-    | inr no ↦ omega (arith, moved b, no, owned_distinct owned h.once b)
+    | inr none_came ↦ omega (arith, moved b, none_came, owned_distinct owned h.once b)
   ]);
   marked = each_owned _ now_owned (λ b some. elim (cases_lt 0 (owners come b)) [
     | inl came ↦ set b came
-    | inr no ↦
-        let before : 0 < owners owned b = omega (arith, moved b, no, some) in
-        let stays : owners go b ≡ 0 = omega (arith, moved b, no, some, owned_distinct owned h.once b) in
-        others b before (omega (arith, no)) stays ∙ owned_each _ owned h.marked b before
+    | inr none_came ↦
+        let before : 0 < owners owned b = omega (arith, moved b, none_came, some) in
+        let stays : owners go b ≡ 0 = omega (arith, moved b, none_came, some, owned_distinct owned h.once b) in
+        others b before (omega (arith, none_came)) stays ∙ owned_each _ owned h.marked b before
   ]);
   counted = free;
 }
@@ -86,15 +87,15 @@ stray_moved : (blocks after : ℕ → List ℕ) (old new : Mdb) (owned now_owned
 unfolding is_stray_block
 stray_moved blocks after old new owned now_owned came went b moved once none clear cleared apart others = elim (cases_lt 0 came) [
   | inl some ↦
-      let owned_now : (owners now_owned b == 0) ≡ false = ne_eqb (owners now_owned b) 0 (λ e. let no_went = apart in elim (cases_lt 0 went) [ inl gone ↦ omega (arith, apart gone, some) | inr stays ↦ omega (arith, moved, e, some, stays) ]) in
+      let owned_now : (owners now_owned b == 0) ≡ false = ne_eqb (owners now_owned b) 0 (λ e. elim (cases_lt 0 went) [ inl gone ↦ omega (arith, apart gone, some) | inr stays ↦ omega (arith, moved, e, some, stays) ]) in
       (λ i. owned_now i && is_used after new.bitmap_start b) ∙ sym (and_false (owners owned b == 0)) ∙ (λ i. (owners owned b == 0) && sym (clear some) i)
-  | inr no ↦ elim (cases_lt 0 went) [
+  | inr none_came ↦ elim (cases_lt 0 went) [
     | inl gone ↦
-        let had : (owners owned b == 0) ≡ false = ne_eqb (owners owned b) 0 (λ e. omega (arith, moved, e, no, gone)) in
+        let had : (owners owned b == 0) ≡ false = ne_eqb (owners owned b) 0 (λ e. omega (arith, moved, e, none_came, gone)) in
         (λ i. (owners now_owned b == 0) && cleared gone i) ∙ and_false (owners now_owned b == 0) ∙ (λ i. sym had i && is_used blocks old.bitmap_start b)
     | inr stays ↦
-        let same : owners now_owned b ≡ owners owned b = omega (arith, moved, no, stays) in
-        λ i. (same i == 0) && others (omega (arith, no)) (omega (arith, stays)) i
+        let same : owners now_owned b ≡ owners owned b = omega (arith, moved, none_came, stays) in
+        λ i. (same i == 0) && others (omega (arith, none_came)) (omega (arith, stays)) i
   ]
 ]
   where
@@ -133,15 +134,18 @@ module _ (law : OwnedAreWithin) (records : ItemsAreRecords) (catalogs : CatalogI
 
   -- ---- the catalog
 
+  swap : Swaps (Some r) (Some s) (catalog_in old) (catalog_in new)
+  swap = changed.swap catalogs total id fork r bytes now wrote old new h was d
+
   rises : Rises cat_cmp (catalog_in new)
   unfolding catalog_in
   rises = d.set.tree.ordered.rises
 
   pub near : IsNearlySound (catalog_in new)
-  near = setting.near records mdb.next_id id r s (catalog_in old) (catalog_in new) old_catalog rises (changed.set catalogs total id fork r bytes now wrote old new h was d)
+  near = setting.near records mdb.next_id id r s (catalog_in old) (catalog_in new) old_catalog rises (record { swap = swap; was = was; alike = changed.alike catalogs total id fork r bytes now wrote old new h was d; valence = changed.valence catalogs total id fork r bytes now wrote old new h was d })
 
   numbers : AreCountsSound m (catalog_in new)
-  numbers = set_numbers id r s (catalog_in old) (catalog_in new) (changed.set catalogs total id fork r bytes now wrote old new h was d) mdb m refl refl refl refl h.counts
+  numbers = set_numbers id r s (catalog_in old) (catalog_in new) (record { swap = swap; was = was; alike = changed.alike catalogs total id fork r bytes now wrote old new h was d; valence = changed.valence catalogs total id fork r bytes now wrote old new h was d }) mdb m refl refl refl refl h.counts
 
   -- ---- space
 
@@ -268,13 +272,26 @@ module _ (law : OwnedAreWithin) (records : ItemsAreRecords) (catalogs : CatalogI
 
   -- ---- the items
 
-  items_after : (q : ℕ) → item_with (catalog_in new) q ≡ with_one (item_with (catalog_in old)) id (Some s) q
-  items_after =
-      let set = changed.set catalogs total id fork r bytes now wrote old new h was d in
-      item_after id (Some r) (Some s) (catalog_in old) (catalog_in new) (sound_once mdb.next_id (catalog_in old) old_catalog) (setting.edit_step id r s (catalog_in old) (catalog_in new) set.swap was set.alike)
+  id_of : (q : ℕ) → (has_id q r ≡ eqb id q) × (has_id q s ≡ eqb id q)
+  id_of q =
+      let own = with_id (catalog_in old) id r was in
+      let same = changed.alike catalogs total id fork r bytes now wrote old new h was d in
+      let one : has_id q r ≡ eqb id q = λ i. own.1 i && eqb (own.2 i) q in
+      (one, (λ i. (same.dir i || same.file i) && eqb (same.id i) q) ∙ one)
+
+  items_after : (q : ℕ) → item_with (catalog_in new) q ≡ cond (eqb id q) (Some s) (item_with (catalog_in old) q)
+  items_after q =
+      let both = id_of q in
+      swapped_find (has_id q) (Some r) (Some s) (catalog_in old) (catalog_in new) swap ((sound_once mdb.next_id (catalog_in old) old_catalog).items q) (near.once q)
+      ∙ (λ i. option_or (cond (both.1 i) (Some s) None) (cond (both.0 i) None (item_with (catalog_in old) q)))
+      ∙ by (eqb id q) (item_with (catalog_in old) q)
+    where
+      by : (t : Bool) (o : Option Record) → option_or (cond t (Some s) None) (cond t None o) ≡ cond t (Some s) o
+      by true o = refl
+      by false o = refl
 
   threads : (k : ℕ) → thread_of (catalog_in new) k ≡ thread_of (catalog_in old) k
-  threads = setting.threads records mdb.next_id id r s (catalog_in old) (catalog_in new) old_catalog rises (changed.set catalogs total id fork r bytes now wrote old new h was d)
+  threads = setting.threads records mdb.next_id id r s (catalog_in old) (catalog_in new) old_catalog rises (record { swap = swap; was = was; alike = changed.alike catalogs total id fork r bytes now wrote old new h was d; valence = changed.valence catalogs total id fork r bytes now wrote old new h was d })
 
   kept_items : items_in (contents_in new) (catalog_in new) ≡ map.insert (items_in (contents_in old) (catalog_in old)) id (item_of (contents_in new) (catalog_in new) s)
   kept_items = map.same_map nat_cmp_total map.nat_cmp-IsAntisymmetric (items_in (contents_in new) (catalog_in new)) (map.insert (items_in (contents_in old) (catalog_in old)) id (item_of (contents_in new) (catalog_in new) s)) (λ q.
@@ -298,9 +315,6 @@ module _ (law : OwnedAreWithin) (records : ItemsAreRecords) (catalogs : CatalogI
 
   abbrev item : Item
   item = item_of (contents_in old) (catalog_in old) r
-
-  threaded : Bool
-  threaded = has_thread (catalog_in old) f.id
 
   item_now : item_of (contents_in new) (catalog_in new) s ≡ item_with_fork mdb.allocation_block_size fork bytes now item
   item_now =
