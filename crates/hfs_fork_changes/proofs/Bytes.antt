@@ -1,12 +1,12 @@
 -- What zeros and bytes over a fork's blocks make of the fork's bytes.
-use Rattle.std.proofs.Common.{◌≡◌, ℕ, ◌+◌, ◌-◌, ◌≤◌, List, [], ◌∷◌, ◌++◌, length, take, drop, replicate, refl, sym, ◌∙◌, ap, arith}
+use Rattle.std.proofs.Common.{◌≡◌, ℕ, suc, ◌+◌, ◌-◌, ◌≤◌, List, [], ◌∷◌, ◌++◌, length, take, drop, replicate, refl, sym, ◌∙◌, ap, arith}
 use Rattle.std.specs.Prelude.{max}
 use Rattle.std.proofs.lemmas.List.{length-append, length-take-le, length-replicate, take-append-le, take-replicate, take_all, take-take, append_assoc, append-nil, drop-take}
 use Rattle.hfs_fork_calls.specs.Forks.{resized, laid_over, written}
 
 take_past : (xs ys : List ℕ) (k : ℕ) → take (length xs + k) (xs ++ ys) ≡ xs ++ take k ys
 take_past [] ys k = ap (λ (n : ℕ). take n ys) (let e : 0 + k ≡ k = omega arith in e)
-take_past (x ∷ xs) ys k = ap (λ (n : ℕ). take n (x ∷ xs ++ ys)) (let e : length (x ∷ xs) + k ≡ length xs + k + 1 = omega arith in e) ∙ (λ i. x ∷ take_past xs ys k i)
+take_past (x ∷ xs) ys k = ap (λ (n : ℕ). take n (x ∷ xs ++ ys)) (let e : length (x ∷ xs) + k ≡ suc (length xs + k) = omega arith in e) ∙ (λ i. x ∷ take_past xs ys k i)
 
 -- zeros from where the fork ended make it longer
 pub zeros_lengthen : (all : List ℕ) (len n k : ℕ) → len ≤ length all → len ≤ n → n ≤ len + k → take n (take len all ++ replicate k 0 ++ drop (len + length (replicate {A = ℕ} k 0)) all) ≡ resized n (take len all)

@@ -114,7 +114,7 @@ module _ (catalogs : CatalogIsSound) (total id : ℕ) (fork : Fork) (r : Record)
   -- a block that comes was nobody's
   pub none_come : (a : ℕ) → 0 < owners (owned_in old) a → owners d.come a ≡ 0
   none_come a some = elim (cases_lt 0 (owners d.come a)) [
-    | inl came ↦ absurd (true≢false (sym (owned_each (λ b. is_used old mdb.bitmap_start b ≡ true) (owned_in old) h.space.marked a some) ∙ d.moves.free.free a came))
+    | inl came ↦ absurd (true≢false (sym (owned_each (λ b. is_used old mdb.bitmap_start b ≡ true) (owned_in old) h.space.marked a some) ∙ d.moves.free a came))
     | inr none ↦ omega (arith, none)
   ]
 

@@ -8,4 +8,3 @@ mod Contents
 mod Whole
 mod LawsProved
 mod Bytes
-mod Moves

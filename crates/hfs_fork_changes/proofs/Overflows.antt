@@ -187,7 +187,7 @@ module _ (file fork : ℕ) (o p : Overflow) (keeps : (f k : ℕ) → (f ≡ file
         let of = (run_in f.file f.fork o (block_total f.first) one.0 one.1).0 in
         let parts = and_parts (eqb one.0.0.file f.file) (eqb one.0.0.fork f.fork) of in
         let is : is_of_fork file fork q ≡ true = λ i.
-            eq-eqb q.0.file file (keys.0 ∙ eqb-true one.0.0.file f.file parts.0 ∙ same_file) i && eq-eqb q.0.fork fork (keys.1 ∙ eqb-true one.0.0.fork f.fork parts.1 ∙ same_fork) i in
+        eq-eqb q.0.file file (keys.0 ∙ eqb-true one.0.0.file f.file parts.0 ∙ same_file) i && eq-eqb q.0.fork fork (keys.1 ∙ eqb-true one.0.0.fork f.fork parts.1 ∙ same_fork) i in
         true≢false (sym is ∙ other)
 
     still : (q : ExtRecord) → is_of_fork file fork q ≡ false → goes_on_with o old_forks q ≡ true → goes_on_with p new_forks q ≡ true

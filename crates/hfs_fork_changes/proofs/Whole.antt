@@ -169,7 +169,7 @@ module _ (law : OwnedAreWithin) (records : ItemsAreRecords) (catalogs : CatalogI
 
   space : IsSpaceSound new m owned_now
   space =
-      space_moved old new mdb m (owned_in old) owned_now d.come d.go moved d.moves.free.once unmarked d.bits.set
+      space_moved old new mdb m (owned_in old) owned_now d.come d.go moved d.moves.once unmarked d.bits.set
       (λ b some none stays. let within = low b some in d.bits.others b (omega (arith, within)) none stays) d.volume.counted h.space
 
   -- ---- the whole
@@ -255,7 +255,7 @@ module _ (law : OwnedAreWithin) (records : ItemsAreRecords) (catalogs : CatalogI
   stray_same : (b : ℕ) → b < mdb.allocation_blocks → is_stray_in new b ≡ is_stray_in old b
   stray_same b within =
       stray_moved old new mdb (mdb_in new) (owned_in old) (owned_in new) (owners d.come b) (owners d.go b) b (owned_same b) (owned_distinct (owned_in old) h.space.once b) (unmarked b)
-      (d.moves.free.free b) (λ some. here b ∙ d.bits.clear b some)
+      (d.moves.free b) (λ some. here b ∙ d.bits.clear b some)
       (λ some. let owns = gone_owned b in contents.none_come catalogs total id fork r bytes now wrote old new h was d b (omega (arith, owns, some)))
       (λ none stays. here b ∙ d.bits.others b (omega (arith, within)) none stays)
 

@@ -1,6 +1,6 @@
 -- What the edits of a call that changes one fork make of a volume's blocks: its record in the catalog, its extents, the volume bitmap, and
 -- the bytes of its blocks.
-use Rattle.std.specs.Prelude.{◌≡◌, ℕ, ◌*◌, ◌<◌, true, false, List, ◌++◌, length}
+use Rattle.std.specs.Prelude.{◌≡◌, ℕ, ◌*◌, ◌<◌, ◌≤◌, true, false, List, ◌++◌, length}
 use Rattle.hfs_fields.specs.declared.extent.Extent.{Extent}
 use Rattle.hfs_fields.specs.declared.file_record.FileRecord.{FileRecord}
 use Rattle.hfs_fields.specs.declared.mdb.Mdb.{Mdb}
@@ -17,7 +17,6 @@ use Rattle.hfs_space.specs.Bitmap.{bitmap_len, is_used, clear_count}
 use Rattle.hfs_space.specs.Extents.{extent_blocks, fork_byte, fork_extents}
 use Rattle.hfs_space.specs.ForkLaws.{block_numbers}
 use Rattle.hfs_space.specs.Owners.{owners}
-use Rattle.hfs_claims.specs.Claimed.{AreFree}
 use Rattle.hfs_fork_extents.specs.Whole.{IsWhole, EditsFork}
 use Rattle.hfs_catalog.specs.Records.{Record}
 use Rattle.hfs_catalog.specs.Tree.{cat_keys, IsCatalogTree}
@@ -56,12 +55,13 @@ pub record SetsRecord (r : Record) (file : FileRecord) (old new : Blocks) : Type
   pub frame : KeepsFrame cat_keys (catalog_nodes old) (catalog_nodes new)
   pub index : Each IsIndexKeyName (index_keys cat_keys (catalog_nodes new))
 
--- the first of the fork's blocks stay; behind them some come, which are free, and of the others these go
+-- the first of the fork's blocks stay; behind them these come, which were free, each once, and of the others these go
 pub record MovesBlocks (fork : Fork) (was now : FileRecord) (come go : List ℕ) (old new : Blocks) : Type 0 where
   pub stay : List ℕ
   pub before : blocks_of old fork was ≡ stay ++ go
   pub after : blocks_of new fork now ≡ stay ++ come
-  pub free : AreFree old (mdb_in old).bitmap_start come
+  pub once : (b : ℕ) → owners come b ≤ 1
+  pub free : (b : ℕ) → 0 < owners come b → is_used old (mdb_in old).bitmap_start b ≡ false
   pub within : (b : ℕ) → 0 < owners come b → b < (mdb_in old).allocation_blocks
 
 -- the extents tree is sound, over the same nodes; every other fork has its records there, and this one goes on with each of its own
