@@ -1,0 +1,10 @@
+mod Files
+mod TreeKeys
+mod Overflows
+mod Beside
+mod Rooms
+mod Changed
+mod Contents
+mod Whole
+mod LawsProved
+mod Bytes
