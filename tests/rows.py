@@ -256,7 +256,8 @@ def unread_images(place, library):
             ensure(lines[:-1] == bare[:len(lines) - 1] and lines[-1] == bare[-1].replace(b'"whole":1', b'"whole":0'), f'a read that fails, block {block}: {lines}')
             ensure(whole_images(b''.join(lines)) == {}, 'a half read image is told to be whole')
         ends.add(len(lines))
-    ensure(len(ends) > 1 and 0 in ends, f'reads that fail leave {ends} lines')
+    # Its own row, of its name and length, goes out before its blocks are read, and all of a volume comes when its table is known.
+    ensure(ends == {2}, f'reads that fail leave {ends} lines')
     ensure(done(place, 'one.img') == whole, 'the image as it was')
 
 
