@@ -60,9 +60,13 @@ way_text (Found container) = container_text container
 way_text WrongSum = codes "disk copy, sum wrong"
 way_text Lost = codes "lost"
 
+-- so many raw sectors have no user data
+abbrev pub other_mode_text : ℕ → List ℕ
+other_mode_text others = codes ", other mode " ++ decimal others
+
 -- how many raw sectors have no user data, where there are some
 unfoldable pub others_text : ℕ → List ℕ
-others_text others = if others == 0 then [] else codes ", other mode " ++ decimal others
+others_text others = if others == 0 then [] else other_mode_text others
 
 abbrev pub place_text : VolumePlace → List ℕ
 place_text place = way_text place.way ++ others_text place.others

@@ -4,7 +4,7 @@ ghost use Rattle.hfs_rows.specs.declared.value.RowValue.TheVariants.{Text};
 ghost use Rattle.hfs_commands.specs.Volumes.{container_text, name_text};
 ghost use Rattle.hfs_texts.specs.Texts.{Gains};
 ghost use Rattle.hfs_collection.specs.Values.{text_value};
-ghost use Rattle.hfs_collection.specs.Volumes.{block_values, directory_values, name_values, no_directory, others_text, place_text, range_values, verdict_text, volume_values, way_text};
+ghost use Rattle.hfs_collection.specs.Volumes.{block_values, directory_values, name_values, no_directory, other_mode_text, others_text, place_text, range_values, verdict_text, volume_values, way_text};
 
 use crate::places::{VolumePlace, Way};
 use crate::values::{
@@ -43,6 +43,14 @@ fn way_word(way: Way) -> &'static str
     }
 }
 
+/// Appends that so many raw sectors have no user data.
+fn push_other_mode(text: &mut String, others: u64) -> Result<(), AllocError>
+    ensures { OnOk result (Gains text.old text.new (other_mode_text others)) }
+{
+    text.push_str(", other mode ")?;
+    write!(text, "{}", others)
+}
+
 /// Appends how many raw sectors have no user data, where there are some.
 #[tactic(auto, unfolding(crate::specs::Volumes::others_text))]
 fn push_others(text: &mut String, others: u64) -> Result<(), AllocError>
@@ -51,8 +59,7 @@ fn push_others(text: &mut String, others: u64) -> Result<(), AllocError>
     if others == 0 {
         return Ok(());
     }
-    text.push_str(", other mode ")?;
-    write!(text, "{}", others)
+    push_other_mode(text, others)
 }
 
 /// How a volume lies in its file, and how many raw sectors have no user data.
