@@ -1,14 +1,19 @@
 //! The bag of what remains.
-ghost use Rattle.std.specs.Prelude.{◌≡◌, ◌++◌, IfErr, IfOk, OnErr, OnOk, string_bytes};
+ghost use Rattle.std.specs.Prelude.{◌≡◌, ◌++◌, List, IfErr, IfOk, OnErr, OnOk, string_bytes};
 ghost use Rattle.std.specs.Option.{option_map};
 ghost use Rattle.hfs_needed.specs.Known.{OfKnown};
 ghost use Rattle.hfs_shelves.specs.Entries.{IsBeginning};
+ghost use Rattle.hfs_shelves.specs.MadeFolders.{made_in};
+ghost use Rattle.hfs_shelves.specs.Removals.{IsPlaced};
+ghost use Rattle.hfs_shelves.specs.ShelfPaths.{IsNewFolder};
+ghost use Rattle.hfs_shelves.specs.SystemSteps.{SystemStep};
 ghost use Rattle.hfs_take.specs.Bags.{text_in};
 ghost use Rattle.hfs_take.specs.Faults.{IsTakeFault};
 ghost use Rattle.hfs_salvage.specs.Answers.{IsKnownAnswer};
 ghost use Rattle.hfs_salvage.specs.Bags.{IsToldOf, IsUnfilled, OfKnownBag};
 ghost use Rattle.hfs_salvage.specs.Found.{IsFoundOf};
 ghost use Rattle.hfs_salvage.specs.Words.{as_take_words, limit_of};
+ghost use Rattle.hfs_salvage.specs.Written.{IsBagAway, IsBagPlaced, IsBagUnplaced};
 
 use crate::answer::{RescueAnswer, Rescued};
 use crate::facts::{Told, told_of};
@@ -18,6 +23,7 @@ use crate::loading::{Loaded, LoadedImage, load_image};
 use crate::watched::Watched;
 use crate::words::BagWords;
 use hfs_bag::{BagFacts, BagFault, give_bag};
+use hfs_commands::Fault;
 use hfs_finds::salvage_of;
 use hfs_rescue_items::{Found, RescueItems};
 use hfs_shelves::{FileShelf, FileSystem, Shelf, SystemFiles};
@@ -113,34 +119,129 @@ pub fn give_remains<S: BlockSource + Drop, T: Shelf, W: Watch>(
     Ok(answer)
 }
 
+/// A bag that was written: the system back, and what is told of its image.
+#[derive(Drop)]
+struct WrittenBag<Y> {
+    system: Y,
+    answer: RescueAnswer,
+}
+
+/// The system back, where a bag was not written, and why it was not.
+#[derive(Drop)]
+struct UnwrittenBag<'a, Y> {
+    system: Y,
+    fault: TakeFault<'a>,
+}
+
+/// Gives a folder its place in which a bag lies. At a fault it is taken away.
+#[tactic(auto, using(crate::proofs::WrittenLemmas::left_away))]
+fn place_bag<'a, Y: FileSystem + Drop>(
+    shelf: FileShelf<Y>,
+    answer: RescueAnswer,
+    words: &BagWords<'a>,
+) -> Result<WrittenBag<Y>, UnwrittenBag<'a, Y>>
+    requires { IsNewFolder words.now.folder.now (string_bytes shelf.folder) }
+    ensures placed { IfOk result (λ written. IsPlaced words.now.folder.now (string_bytes shelf.folder)
+        (made_in (string_bytes shelf.folder) (Y.did shelf.system)) (Y.did written.system)) }
+    ensures answer { IfOk result (λ written. written.answer ≡ answer) }
+    ensures fault { IfErr result (λ back. IsTakeFault (as_take_words words.now) back.fault) }
+    ensures away { (old : List SystemStep) → IfErr result
+        (λ back. IsBagAway words.now.folder.now back.fault old (Y.did back.system)) }
+{
+    match shelf.place(words.folder) {
+        Ok(system) => Ok(WrittenBag { system, answer }),
+        Err(back) => Err(UnwrittenBag {
+            system: back.system,
+            fault: TakeFault::of_shelf(back.fault),
+        }),
+    }
+}
+
+/// Takes away what was written of a bag, for this fault, which stays, but where memory was refused for that.
+#[tactic(auto, using(crate::proofs::WrittenLemmas::taken_away, crate::proofs::WrittenLemmas::removed_away))]
+fn take_away_for<'a, Y: FileSystem + Drop>(
+    shelf: FileShelf<Y>,
+    fault: TakeFault<'a>,
+    words: &BagWords<'a>,
+) -> UnwrittenBag<'a, Y>
+    requires { IsNewFolder words.now.folder.now (string_bytes shelf.folder) }
+    ensures fault { IsTakeFault (as_take_words words.now) fault
+        → IsTakeFault (as_take_words words.now) result.fault }
+    ensures away { (old : List SystemStep)
+        → IsBagAway words.now.folder.now result.fault old (Y.did result.system) }
+{
+    match shelf.take_away() {
+        Ok(system) => UnwrittenBag { system, fault },
+        Err(system) => UnwrittenBag {
+            system,
+            fault: TakeFault::Image(Fault::NoMemory),
+        },
+    }
+}
+
 /// Writes the bag of an image: to a folder beside its place, which gets its place when it is whole, and is taken away at a fault.
+#[tactic(auto, using(crate::proofs::WrittenLemmas::bag_placed))]
 fn write_bag<'a, Y: FileSystem + Drop, S: BlockSource + Drop, W: Watch>(
     alloc: Global,
     system: Y,
     image: RescuedImage<S>,
     words: &BagWords<'a>,
     watch: &W,
-) -> Result<RescueAnswer, TakeFault<'a>>
-    ensures fault { IfErr result (IsTakeFault (as_take_words words.now)) }
-    ensures answer { IfOk result (IsKnownAnswer (S.image image.source) image.len words.now.words) }
+) -> Result<WrittenBag<Y>, UnwrittenBag<'a, Y>>
+    ensures placed { IfOk result (λ written. IsBagPlaced (S.image image.source) image.len
+        (option_map string_bytes image.line) words.now (Y.did written.system)) }
+    ensures answer { IfOk result (λ written. IsKnownAnswer (S.image image.source) image.len
+        words.now.words written.answer) }
+    ensures fault { IfErr result (λ back. IsTakeFault (as_take_words words.now) back.fault) }
+    ensures away { IfErr result (λ back. IsBagAway words.now.folder.now back.fault
+        (Y.did system) (Y.did back.system)) }
 {
     let mut shelf = match FileShelf::create(alloc, system, words.folder) {
         Ok(shelf) => shelf,
-        Err(back) => return Err(TakeFault::of_shelf(back.fault)),
+        Err(back) => {
+            return Err(UnwrittenBag {
+                system: back.system,
+                fault: TakeFault::of_shelf(back.fault),
+            });
+        }
     };
     match give_remains(alloc, &mut shelf, image, words, watch) {
-        Ok(answer) => match shelf.place(words.folder) {
-            Ok(_system) => Ok(answer),
-            Err(back) => Err(TakeFault::of_shelf(back.fault)),
-        },
+        Ok(answer) => {
+            let written = place_bag(shelf, answer, words)?;
+            Ok(written)
+        }
         Err(fault) => {
-            let _system = shelf.take_away();
-            Err(TakeFault::of_bag(fault, words.words.image))
+            let told = TakeFault::of_bag(fault, words.words.image);
+            Err(take_away_for(shelf, told, words))
         }
     }
 }
 
 /// Writes the bag of an image that was loaded, where nothing has the folder's name. Faults: `IsThere`; as [`write_bag`] has them.
+fn write_loaded<'a, Y: FileSystem + Drop, S: BlockSource + Drop, W: Watch>(
+    alloc: Global,
+    system: Y,
+    image: RescuedImage<S>,
+    words: &BagWords<'a>,
+    watch: &W,
+) -> Result<WrittenBag<Y>, UnwrittenBag<'a, Y>>
+    ensures placed { IfOk result (λ written. IsBagPlaced (S.image image.source) image.len
+        (option_map string_bytes image.line) words.now (Y.did written.system)) }
+    ensures answer { IfOk result (λ written. IsKnownAnswer (S.image image.source) image.len
+        words.now.words written.answer) }
+    ensures fault { IfErr result (λ back. IsTakeFault (as_take_words words.now) back.fault) }
+    ensures unplaced { IfErr result (λ back. IsBagUnplaced words.now back.fault
+        (Y.did system) (Y.did back.system)) }
+{
+    let mut system = system;
+    if system.is_there(words.folder) {
+        let fault = TakeFault::IsThere(words.folder);
+        return Err(UnwrittenBag { system, fault });
+    }
+    write_bag(alloc, system, image, words, watch)
+}
+
+/// Writes the bag of an image that was loaded to the system's own files, as [`write_loaded`] writes it.
 fn rescue_loaded<'a, R: Files + AllocGlobal, S: BlockSource + Drop, W: Watch>(
     rt: &R,
     image: RescuedImage<S>,
@@ -150,11 +251,10 @@ fn rescue_loaded<'a, R: Files + AllocGlobal, S: BlockSource + Drop, W: Watch>(
     ensures fault { IfErr result (IsTakeFault (as_take_words words.now)) }
     ensures answer { IfOk result (IsKnownAnswer (S.image image.source) image.len words.now.words) }
 {
-    let mut system = SystemFiles::new(rt);
-    if system.is_there(words.folder) {
-        return Err(TakeFault::IsThere(words.folder));
+    match write_loaded(rt.alloc(), SystemFiles::new(rt), image, words, watch) {
+        Ok(written) => Ok(written.answer),
+        Err(back) => Err(back.fault),
     }
-    write_bag(rt.alloc(), system, image, words, watch)
 }
 
 /// Makes a folder the bag of what remains of an image, and answers what is told of it. Faults, the first that holds: the image can't be read;

@@ -18,6 +18,6 @@ returns-in-Err-give_remains-clause-fault g c =
     let image = c.args.image in
     let line = option_map (string_bytes {Z = Global}) image.line in
     let new = string_bytes {Z = Global} c.in-Ok.shelf.folder in
-    of_bag (as_take_words c.args.words.now) c.in-Err-give_remains.fault c.of_bag.result new c.in-Ok.ensures.beside
-    (λ why same. subst (IsUnfilled (TellsWithin new) (g.S.BlockSource.image image.source) image.len line c.args.words.now) same c.in-Err-give_remains.ensures.fault) c.of_bag.ensures.read c.of_bag.ensures.memory
-    c.of_bag.ensures.shelf c.of_bag.ensures.large
+    c.take_away_for.ensures.fault (of_bag (as_take_words c.args.words.now) c.in-Err-give_remains.fault c.of_bag-told.result new c.in-Ok.ensures.beside
+    (λ why same. subst (IsUnfilled (TellsWithin new) (g.S.BlockSource.image image.source) image.len line c.args.words.now) same c.in-Err-give_remains.ensures.fault)
+    c.of_bag-told.ensures.read c.of_bag-told.ensures.memory c.of_bag-told.ensures.shelf c.of_bag-told.ensures.large)
