@@ -18,3 +18,4 @@ mod TakenPathLemmas
 pub mod LawsProved
 mod HeldLemmas
 mod WrittenLemmas
+mod UnfoundLemmas
