@@ -8,3 +8,4 @@ mod Contents
 mod Whole
 mod LawsProved
 mod Bytes
+mod Moves
