@@ -73,14 +73,13 @@ refuse_each() {
             exit 1
         fi
         if [[ $errors == *': lagged at '* ]]; then lagged=$((lagged + 1)); fi
-        if [[ $errors == *': lagged at 1' ]]; then first=yes; fi
         [ -s "$folder/refused" ] || break
         whole=$((whole + 1))
     done
     refused=$((refused + n - 1))
 }
 
-refused=0 whole=0 lagged=0 first=''
+refused=0 whole=0 lagged=0
 for program in "${programs[@]}"; do
     built=$(program "$program")
     if [ "$program" = hfs_tool ]; then
@@ -92,9 +91,10 @@ for program in "${programs[@]}"; do
     done < "crates/$program/stdin" 4< "crates/$program/stdout"
 done
 if [[ " ${programs[*]} " == *' hfs_refused_memory '* ]]; then
-    if [ -z "$first" ]; then
-        echo "no publish lagged behind the first call"
+    # A copy of a call takes no memory, and the rows of a new volume have room for three more: what publishes them asks for none.
+    if [ "$lagged" != 0 ]; then
+        echo "$lagged publishes lagged"
         exit 1
     fi
-    echo "$refused allocations refused in turn: $whole met what is tried, which was as said, and $lagged let a publish lag; the others what is laid before"
+    echo "$refused allocations refused in turn: $whole met what is tried, which was as said; the others what is laid before"
 fi
