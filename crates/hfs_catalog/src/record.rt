@@ -2,14 +2,14 @@
 ghost use Rattle.std.specs.Prelude.{◌≡◌};
 
 use hfs_fields::CatKey;
-use hfs_model::Bytes;
+use hfs_model::OwnedBytes;
 use std::marker::Model;
 
 /// A record of the catalog's leaves: a key, and the body under it. Contracts see the pair of the two.
 #[derive(Drop)]
 pub struct CatalogRecord {
     key: CatKey,
-    body: Bytes,
+    body: OwnedBytes,
 }
 
 impl Model for CatalogRecord {
@@ -22,7 +22,7 @@ impl Model for CatalogRecord {
 
 impl CatalogRecord {
     /// The record of this key and this body.
-    pub fn new(key: CatKey, body: Bytes) -> Self
+    pub fn new(key: CatKey, body: OwnedBytes) -> Self
         ensures { result ≡ (key, body) }
     {
         CatalogRecord { key, body }

@@ -7,7 +7,7 @@ ghost use Rattle.hfs_catalog.specs.Tree.{cat_keys, catalog_of};
 use crate::record::CatalogRecord;
 use hfs_btree::{Nodes, Walk};
 use hfs_fields::CatKey;
-use hfs_model::Bytes;
+use hfs_model::OwnedBytes;
 use std::alloc::{AllocError, Global};
 
 /// Copies a walk's next record, if it has one.
@@ -19,7 +19,7 @@ fn next_record<N: Nodes>(
 {
     match walk.pair() {
         Some(pair) => {
-            let body = Bytes::from_slice(alloc, pair.body)?;
+            let body = OwnedBytes::from_slice(alloc, pair.body)?;
             Ok(Some(CatalogRecord::new(pair.key, body)))
         }
         None => Ok(None),

@@ -15,7 +15,7 @@ ghost use Rattle.hfs_collection.specs.Giving.{AreDigests};
 use crate::fault::CollectFault;
 use hfs_containers::ReadAt;
 use hfs_digests::DigestWriter;
-use hfs_model::{Bytes, Fork, Info, ItemKind};
+use hfs_model::{Fork, Info, ItemKind, OwnedBytes};
 use hfs_needed::OpenedImage;
 use hfs_rows::RowValue;
 use hfs_sparse::{BlockSource, CopyFault, SparseFault};
@@ -36,7 +36,7 @@ pub(crate) fn digest_text(alloc: Global, digest: &[u8; 32]) -> Result<RowValue, 
     ensures { IfOk result (λ value. value ≡ Text (encode_lower digest.now)) }
 {
     let digits = hex::encode(alloc, digest.as_slice())?;
-    Ok(RowValue::Text(Bytes::new(digits.into_bytes())))
+    Ok(RowValue::Text(OwnedBytes::new(digits.into_bytes())))
 }
 
 /// Gives `count` bytes from `place` on to a digest.

@@ -16,7 +16,7 @@ use crate::fault::CollectFault;
 use crate::remaining::Remaining;
 use crate::remains::{ForkTold, remains_values};
 use hfs_finds::fork_digest;
-use hfs_model::{Bytes, Info};
+use hfs_model::{Info, OwnedBytes};
 use hfs_remains::FoundFork;
 use hfs_rescue_items::names_at;
 use hfs_rows::RowValue;
@@ -164,5 +164,5 @@ fn verdict_value(alloc: Global, verdict: &Verdict) -> Result<RowValue, AllocErro
 {
     let mut text = String::new(alloc);
     push_verdict(alloc, &mut text, verdict)?;
-    Ok(RowValue::Text(Bytes::new(text.into_bytes())))
+    Ok(RowValue::Text(OwnedBytes::new(text.into_bytes())))
 }

@@ -6,7 +6,7 @@ ghost use Rattle.hfs_table.specs.Columns.{moment_cell};
 ghost use Rattle.hfs_rows.specs.declared.value.RowValue.TheVariants.{Empty, Number, Text};
 ghost use Rattle.hfs_collection.specs.Values.{cell_value, text_value};
 
-use hfs_model::Bytes;
+use hfs_model::OwnedBytes;
 use hfs_names::{push_hex, push_moment, push_plain_text};
 use hfs_rows::RowValue;
 use std::alloc::{AllocError, Global};
@@ -37,7 +37,7 @@ pub(crate) fn push_number(values: &mut Vec<RowValue>, number: u64) -> Result<(),
 pub(crate) fn push_whole_text(values: &mut Vec<RowValue>, text: String) -> Result<(), AllocError>
     ensures { OnOk result (values.new.items ≡ values.old.items ++ Text (string_bytes text) ∷ []) }
 {
-    push_value(values, RowValue::Text(Bytes::new(text.into_bytes())))
+    push_value(values, RowValue::Text(OwnedBytes::new(text.into_bytes())))
 }
 
 /// Appends a text, and nothing where it is empty.

@@ -8,7 +8,7 @@ ghost use Rattle.hfs_commands.specs.Faults.{IsUnprinted};
 ghost use Rattle.hfs_commands.specs.Entries.{entries_in};
 
 use crate::fault::Fault;
-use hfs_model::{Bytes, Fork, Reply, Value};
+use hfs_model::{Fork, OwnedBytes, Reply, Value};
 use hfs_texts::put;
 use hfs_volume::{OpenFork, Opened, Volume};
 use std::alloc::Global;
@@ -74,6 +74,6 @@ fn write_piece<W: Write>(
     };
     Ok(Reply {
         code: 0,
-        value: Value::Bytes(Bytes::new(bytes)),
+        value: Value::Bytes(OwnedBytes::new(bytes)),
     })
 }

@@ -13,8 +13,8 @@ use crate::place::Place;
 use crate::row::{Row, RowFork, RowKind};
 use hfs_fields::{Mdb, Name};
 use hfs_model::{
-    BAD_NAME, Bytes, END_OF_FILE, Fork, Info, Infos, ItemKind, NOT_A_FOLDER, NOT_FOUND, PARAMETER,
-    Reply, Value,
+    BAD_NAME, END_OF_FILE, Fork, Info, Infos, ItemKind, NOT_A_FOLDER, NOT_FOUND, OwnedBytes,
+    PARAMETER, Reply, Value,
 };
 use hfs_volume::Base;
 use std::alloc::{AllocError, Global};
@@ -68,7 +68,7 @@ fn part_reply(bytes: Vec<u8>, size: u32, offset: u32, count: u32) -> Reply
     };
     Reply {
         code,
-        value: Value::Bytes(Bytes::new(bytes)),
+        value: Value::Bytes(OwnedBytes::new(bytes)),
     }
 }
 

@@ -10,7 +10,7 @@ use hfs_btree_checks::{TreeFault, check_shape};
 use hfs_catalog::{CatalogRecord, is_item, is_thread, read_records};
 use hfs_catalog_checks::record_fault;
 use hfs_fields::{CatKey, Extent};
-use hfs_model::Bytes;
+use hfs_model::OwnedBytes;
 use hfs_space::is_tree_file;
 use std::alloc::{AllocError, Global};
 
@@ -56,7 +56,7 @@ fn push_found(
     if !is_catalog_body(body) {
         return Ok(());
     }
-    let entry = CatalogRecord::new(key, Bytes::from_slice(alloc, body)?);
+    let entry = CatalogRecord::new(key, OwnedBytes::from_slice(alloc, body)?);
     let old = leaf.old;
     records.push(FoundRecord { old, entry })?;
     Ok(())

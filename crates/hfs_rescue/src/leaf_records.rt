@@ -11,7 +11,7 @@ ghost use Rattle.hfs_rescue.specs.LeafRecords as spec;
 use crate::in_use::NodesInUse;
 use crate::nodes::{FileNodes, block_at};
 use hfs_blocks::Blocks;
-use hfs_model::Bytes;
+use hfs_model::OwnedBytes;
 use hfs_node::{NodeKind, NodeView, view};
 use std::alloc::{AllocError, Global};
 
@@ -21,7 +21,7 @@ pub struct LeafRecord {
     /// Whether the leaf is old.
     pub old: bool,
     /// The record's bytes, key and body.
-    pub bytes: Bytes,
+    pub bytes: OwnedBytes,
 }
 
 /// Whether a node is a leaf of height 1.
@@ -44,7 +44,7 @@ fn push_records(
     ensures { OnOk result (spec.Adds (spec.with_age old node.now.records) records.old records.new) }
 {
     for i in 0..node.len() {
-        let bytes = Bytes::from_slice(alloc, node.record(i))?;
+        let bytes = OwnedBytes::from_slice(alloc, node.record(i))?;
         records.push(LeafRecord { old, bytes })?;
     }
     Ok(())

@@ -15,7 +15,7 @@ use hfs_blocks::Blocks;
 use hfs_btree::{Nodes, Walk};
 use hfs_check::{MountFault, check_extents_tree};
 use hfs_fields::{ExtKey, Extent};
-use hfs_model::Bytes;
+use hfs_model::OwnedBytes;
 use hfs_space::is_tree_file;
 use std::alloc::{AllocError, Global};
 use std::marker::Model;
@@ -24,7 +24,7 @@ use std::marker::Model;
 #[derive(Drop)]
 pub struct OverflowRecord {
     key: ExtKey,
-    body: Bytes,
+    body: OwnedBytes,
 }
 
 impl Model for OverflowRecord {
@@ -38,7 +38,7 @@ impl Model for OverflowRecord {
 
 impl OverflowRecord {
     /// The record of this key and this body.
-    fn new(key: ExtKey, body: Bytes) -> Self
+    fn new(key: ExtKey, body: OwnedBytes) -> Self
         ensures { result ≡ (key, body) }
     {
         OverflowRecord { key, body }
@@ -68,7 +68,7 @@ fn next_record<N: Nodes>(
 {
     match walk.pair() {
         Some(pair) => {
-            let body = Bytes::from_slice(alloc, pair.body)?;
+            let body = OwnedBytes::from_slice(alloc, pair.body)?;
             Ok(Some(OverflowRecord::new(pair.key, body)))
         }
         None => Ok(None),
@@ -101,7 +101,7 @@ fn push_overflow(
     let Some((key, start)) = ExtKey::read_leaf(bytes) else {
         return Ok(());
     };
-    let body = Bytes::from_slice(alloc, &bytes[start..])?;
+    let body = OwnedBytes::from_slice(alloc, &bytes[start..])?;
     records.push(OverflowRecord::new(key, body))?;
     Ok(())
 }

@@ -5,7 +5,7 @@ ghost use Rattle.hfs_rows.specs.StoredRows.{stored_rows};
 use crate::fault::TakerFault;
 use crate::taker::RowTaker;
 use crate::value::{RowValue, Table};
-use hfs_model::Bytes;
+use hfs_model::OwnedBytes;
 use std::alloc::{AllocError, Global};
 
 /// A row that was taken.
@@ -41,7 +41,7 @@ fn copied(alloc: Global, value: &RowValue) -> Result<RowValue, AllocError>
     match value {
         RowValue::Empty => Ok(RowValue::Empty),
         RowValue::Number(n) => Ok(RowValue::Number(*n)),
-        RowValue::Text(text) => Ok(RowValue::Text(Bytes::from_slice(alloc, text.as_slice())?)),
+        RowValue::Text(text) => Ok(RowValue::Text(OwnedBytes::from_slice(alloc, text.as_slice())?)),
     }
 }
 

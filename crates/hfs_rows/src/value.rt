@@ -1,6 +1,6 @@
 //! Rows of a collection.
 
-use hfs_model::Bytes;
+use hfs_model::OwnedBytes;
 
 /// The tables of a collection.
 #[derive(Clone, Copy, Debug, PartialEq, Eq)]
@@ -21,5 +21,5 @@ pub enum RowValue {
     /// A number.
     Number(u64),
     /// A text in UTF-8.
-    Text(Bytes),
+    Text(OwnedBytes),
 }

@@ -8,28 +8,28 @@ ghost use Rattle.hfs_scripts.specs.Results.{GainsItems, GivesItems};
 ghost use Rattle.hfs_scripts.specs.Readable.{Reads, ReadsBytes, IsReadable};
 ghost use Rattle.hfs_scripts.specs.Texts.{arguments, fork_text, read_fields, info_fields, word_for};
 
-use hfs_model::{Bytes, Call, Fork, SharedBytes};
+use hfs_model::{Call, Fork, OwnedBytes, SharedBytes};
 use std::alloc::{AllocError, Global};
 
 /// The most fields that stand behind a word.
 const MOST_FIELDS: usize = 6;
 
 /// A number without leading zeros.
-pub(crate) fn number_field(alloc: Global, number: u32) -> Result<Bytes, AllocError>
+pub(crate) fn number_field(alloc: Global, number: u32) -> Result<OwnedBytes, AllocError>
     ensures text { IfOk result (λ field. field ≡ decimal number) }
     ensures reads { IfOk result (λ field. Reads number) }
 {
     let text = format!(in alloc; "{number}")?;
-    Ok(Bytes::new(text.into_bytes()))
+    Ok(OwnedBytes::new(text.into_bytes()))
 }
 
 /// Bytes as hexadecimal digits in lower case.
-fn hex_field(alloc: Global, bytes: &[u8]) -> Result<Bytes, AllocError>
+fn hex_field(alloc: Global, bytes: &[u8]) -> Result<OwnedBytes, AllocError>
     ensures text { IfOk result (λ field. field ≡ encode_lower bytes.now) }
     ensures reads { IfOk result (λ field. ReadsBytes (length bytes.now) bytes.now) }
 {
     let text = hex::encode(alloc, bytes)?;
-    Ok(Bytes::new(text.into_bytes()))
+    Ok(OwnedBytes::new(text.into_bytes()))
 }
 
 fn fork_text(fork: Fork) -> &'static [u8]
@@ -42,42 +42,54 @@ fn fork_text(fork: Fork) -> &'static [u8]
 }
 
 /// The fields, with one more behind them.
-fn with_field(mut fields: Vec<Bytes>, field: Bytes) -> Result<Vec<Bytes>, AllocError>
+fn with_field(mut fields: Vec<OwnedBytes>, field: OwnedBytes) -> Result<Vec<OwnedBytes>, AllocError>
     ensures { GainsItems fields (field ∷ []) result }
 {
     fields.push(field)?;
     Ok(fields)
 }
 
-fn with_number(alloc: Global, fields: Vec<Bytes>, number: u32) -> Result<Vec<Bytes>, AllocError>
+fn with_number(
+    alloc: Global,
+    fields: Vec<OwnedBytes>,
+    number: u32,
+) -> Result<Vec<OwnedBytes>, AllocError>
     ensures fields { GainsItems fields (decimal number ∷ []) result }
     ensures reads { IfOk result (λ all. Reads number) }
 {
     with_field(fields, number_field(alloc, number)?)
 }
 
-fn with_text(alloc: Global, fields: Vec<Bytes>, text: &[u8]) -> Result<Vec<Bytes>, AllocError>
+fn with_text(
+    alloc: Global,
+    fields: Vec<OwnedBytes>,
+    text: &[u8],
+) -> Result<Vec<OwnedBytes>, AllocError>
     ensures { GainsItems fields (text.now ∷ []) result }
 {
-    with_field(fields, Bytes::from_slice(alloc, text)?)
+    with_field(fields, OwnedBytes::from_slice(alloc, text)?)
 }
 
 /// The fields, with bytes as hexadecimal digits behind them.
-fn with_bytes(alloc: Global, fields: Vec<Bytes>, bytes: &[u8]) -> Result<Vec<Bytes>, AllocError>
+fn with_bytes(
+    alloc: Global,
+    fields: Vec<OwnedBytes>,
+    bytes: &[u8],
+) -> Result<Vec<OwnedBytes>, AllocError>
     ensures fields { GainsItems fields (encode_lower bytes.now ∷ []) result }
     ensures reads { IfOk result (λ all. ReadsBytes (length bytes.now) bytes.now) }
 {
     with_field(fields, hex_field(alloc, bytes)?)
 }
 
-fn one_number(alloc: Global, number: u32) -> Result<Vec<Bytes>, AllocError>
+fn one_number(alloc: Global, number: u32) -> Result<Vec<OwnedBytes>, AllocError>
     ensures fields { GivesItems (decimal number ∷ []) result }
     ensures reads { IfOk result (λ fields. Reads number) }
 {
     with_number(alloc, Vec::with_capacity(alloc, MOST_FIELDS)?, number)
 }
 
-fn two_numbers(alloc: Global, dir: u32, index: u32) -> Result<Vec<Bytes>, AllocError>
+fn two_numbers(alloc: Global, dir: u32, index: u32) -> Result<Vec<OwnedBytes>, AllocError>
     ensures fields { GivesItems (decimal dir ∷ decimal index ∷ []) result }
     ensures dir { IfOk result (λ fields. Reads dir) }
     ensures index { IfOk result (λ fields. Reads index) }
@@ -86,7 +98,7 @@ fn two_numbers(alloc: Global, dir: u32, index: u32) -> Result<Vec<Bytes>, AllocE
     with_number(alloc, fields, index)
 }
 
-fn target(alloc: Global, dir: u32, name: &SharedBytes) -> Result<Vec<Bytes>, AllocError>
+fn target(alloc: Global, dir: u32, name: &SharedBytes) -> Result<Vec<OwnedBytes>, AllocError>
     ensures fields { GivesItems (decimal dir ∷ name.now ∷ []) result }
     ensures reads { IfOk result (λ fields. Reads dir) }
 {
@@ -100,7 +112,7 @@ fn renaming(
     dir: u32,
     name: &SharedBytes,
     new_name: &SharedBytes,
-) -> Result<Vec<Bytes>, AllocError>
+) -> Result<Vec<OwnedBytes>, AllocError>
     ensures fields { GivesItems (decimal dir ∷ name.now ∷ new_name.now ∷ []) result }
     ensures reads { IfOk result (λ fields. Reads dir) }
 {
@@ -114,7 +126,7 @@ fn moving(
     dir: u32,
     name: &SharedBytes,
     new_dir: u32,
-) -> Result<Vec<Bytes>, AllocError>
+) -> Result<Vec<OwnedBytes>, AllocError>
     ensures fields { GivesItems (decimal dir ∷ name.now ∷ decimal new_dir ∷ []) result }
     ensures dir { IfOk result (λ fields. Reads dir) }
     ensures new_dir { IfOk result (λ fields. Reads new_dir) }
@@ -129,7 +141,7 @@ fn target_and_info(
     dir: u32,
     name: &SharedBytes,
     info: &[u8],
-) -> Result<Vec<Bytes>, AllocError>
+) -> Result<Vec<OwnedBytes>, AllocError>
     ensures fields { GivesItems (decimal dir ∷ name.now ∷ encode_lower info.now ∷ []) result }
     ensures dir { IfOk result (λ fields. Reads dir) }
     ensures info { IfOk result (λ fields. ReadsBytes (length info.now) info.now) }
@@ -146,7 +158,7 @@ fn part_of_fork(
     fork: Fork,
     offset: u32,
     count: u32,
-) -> Result<Vec<Bytes>, AllocError>
+) -> Result<Vec<OwnedBytes>, AllocError>
     ensures fields { GivesItems (read_fields dir name.now fork offset count) result }
     ensures dir { IfOk result (λ fields. Reads dir) }
     ensures offset { IfOk result (λ fields. Reads offset) }
@@ -161,12 +173,12 @@ fn part_of_fork(
 /// Dates and Finder bytes, behind DIR and NAME.
 fn dates_and_info(
     alloc: Global,
-    fields: Vec<Bytes>,
+    fields: Vec<OwnedBytes>,
     created: u32,
     modified: u32,
     backup: u32,
     info: &[u8],
-) -> Result<Vec<Bytes>, AllocError>
+) -> Result<Vec<OwnedBytes>, AllocError>
     ensures fields { GainsItems fields (info_fields created modified backup info.now) result }
     ensures created { IfOk result (λ all. Reads created) }
     ensures modified { IfOk result (λ all. Reads modified) }
@@ -180,7 +192,7 @@ fn dates_and_info(
 }
 
 /// The fields of a call that only reads.
-fn reading_fields(alloc: Global, call: &Call) -> Result<Vec<Bytes>, AllocError>
+fn reading_fields(alloc: Global, call: &Call) -> Result<Vec<OwnedBytes>, AllocError>
     requires { IsTrue (is_reading call.now) }
     ensures fields { GivesItems (arguments call.now) result }
     ensures reads { IfOk result (λ fields. IsReadable call.now) }
@@ -213,7 +225,7 @@ fn reading_fields(alloc: Global, call: &Call) -> Result<Vec<Bytes>, AllocError>
 }
 
 /// The fields of a call that sets dates and Finder bytes.
-fn set_info_fields(alloc: Global, call: &Call) -> Result<Vec<Bytes>, AllocError>
+fn set_info_fields(alloc: Global, call: &Call) -> Result<Vec<OwnedBytes>, AllocError>
     requires { word_for call.now ≡ SetInfo }
     ensures fields { GivesItems (arguments call.now) result }
     ensures reads { IfOk result (λ fields. IsReadable call.now) }
@@ -235,7 +247,7 @@ fn set_info_fields(alloc: Global, call: &Call) -> Result<Vec<Bytes>, AllocError>
 }
 
 /// The fields of a call that may change the volume.
-fn changing_fields(alloc: Global, call: &Call) -> Result<Vec<Bytes>, AllocError>
+fn changing_fields(alloc: Global, call: &Call) -> Result<Vec<OwnedBytes>, AllocError>
     requires { is_reading call.now ≡ false }
     ensures fields { GivesItems (arguments call.now) result }
     ensures reads { IfOk result (λ fields. IsReadable call.now) }
@@ -277,7 +289,7 @@ fn changing_fields(alloc: Global, call: &Call) -> Result<Vec<Bytes>, AllocError>
 }
 
 /// The fields behind the call's word.
-pub(crate) fn argument_fields(alloc: Global, call: &Call) -> Result<Vec<Bytes>, AllocError>
+pub(crate) fn argument_fields(alloc: Global, call: &Call) -> Result<Vec<OwnedBytes>, AllocError>
     ensures fields { IfOk result (λ fields. fields.items ≡ arguments call.now) }
     ensures reads { IfOk result (λ fields. IsReadable call.now) }
 {

@@ -12,7 +12,7 @@ use crate::lines::{Caller, ScriptLine};
 use crate::reading::MAX_BYTES;
 use crate::words::word_text;
 use crate::writable::{is_writable, word_for};
-use hfs_model::Bytes;
+use hfs_model::OwnedBytes;
 use std::alloc::{AllocError, Global};
 
 fn push_bytes(text: &mut Vec<u8>, bytes: &[u8]) -> Result<(), AllocError>
@@ -49,7 +49,7 @@ fn push_tabbed(text: &mut Vec<u8>, field: &[u8]) -> Result<(), AllocError>
     push_bytes(text, field)
 }
 
-fn push_fields(text: &mut Vec<u8>, fields: &[Bytes]) -> Result<(), AllocError>
+fn push_fields(text: &mut Vec<u8>, fields: &[OwnedBytes]) -> Result<(), AllocError>
     ensures { OnOk result (text.new.items ≡ text.old.items ++ flat_map tabbed fields.now) }
 {
     for field in fields {
@@ -59,7 +59,7 @@ fn push_fields(text: &mut Vec<u8>, fields: &[Bytes]) -> Result<(), AllocError>
 }
 
 /// Appends the rest of a line: these fields and its line feed.
-fn push_rest(text: &mut Vec<u8>, rest: &[Bytes]) -> Result<(), AllocError>
+fn push_rest(text: &mut Vec<u8>, rest: &[OwnedBytes]) -> Result<(), AllocError>
     ensures { OnOk result (text.new.items ≡ text.old.items ++ flat_map tabbed rest.now ++ 10 ∷ []) }
 {
     push_fields(text, rest)?;

@@ -1,6 +1,8 @@
 //! The bytes of blocks, one after the other.
 ghost use Rattle.std.specs.Prelude.{◌≡◌, ◌+◌, ◌≤◌, OnOk, IfOk};
 ghost use Rattle.hfs_blocks.specs.Blocks.{AreRunsWithin};
+ghost use Rattle.hfs_source.specs.Images.{OfEach};
+ghost use Rattle.hfs_sparse.specs.Seen.{EachKnown};
 ghost use Rattle.hfs_sparse.specs.Sparse.{AddsRange, HoldsRuns};
 
 use crate::fetching::SparseFault;
@@ -17,6 +19,9 @@ fn append_range<S: BlockSource>(
 ) -> Result<(), SparseFault>
     ensures gains { OnOk result (AddsRange (S.image source.old) first count bytes.old bytes.new) }
     ensures image { S.image source.new ≡ S.image source.old }
+    ensures each { OnOk result (EachKnown (S.Holds source.new)
+        (λ known. AddsRange known first count bytes.old bytes.new)) }
+    ensures narrows { OfEach (S.Holds source.new) (S.Holds source.old) }
 {
     let from = bytes.len();
     let to = from + count as usize * 512;
@@ -38,6 +43,9 @@ pub fn read_runs<S: BlockSource>(
     requires { AreRunsWithin runs.now 4294967296 }
     ensures bytes { IfOk result (HoldsRuns (S.image source.old) runs.now) }
     ensures image { S.image source.new ≡ S.image source.old }
+    ensures each { IfOk result (λ bytes. EachKnown (S.Holds source.new)
+        (λ known. HoldsRuns known runs.now bytes)) }
+    ensures narrows { OfEach (S.Holds source.new) (S.Holds source.old) }
 {
     let mut bytes = Vec::new(alloc);
     for run in runs {

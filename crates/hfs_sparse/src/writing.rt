@@ -2,6 +2,8 @@
 ghost use Rattle.std.specs.Prelude.{◌≡◌, ◌≢◌, ◌-◌, ◌*◌, ◌+◌, ◌<◌, ◌≤◌, Err, IfOk, OnErr, OnOk, length};
 ghost use Rattle.std.specs.List.{flat_map, range_with_len};
 ghost use Rattle.hfs_blocks.specs.Blocks.{run_of, AreRunsWithin};
+ghost use Rattle.hfs_source.specs.Images.{OfEach};
+ghost use Rattle.hfs_sparse.specs.Seen.{EachKnown};
 ghost use Rattle.hfs_sparse.specs.Writing.{WritesBlocks, WritesRuns, WritesSome, WritesSomeRuns};
 
 use crate::source::BlockSource;
@@ -48,6 +50,11 @@ fn copy_piece<S: BlockSource, W: Write>(
     ensures memory { result ≢ Err CopyFault.Memory }
     ensures room { length buffer.new ≡ length buffer.old }
     ensures image { S.image source.new ≡ S.image source.old }
+    ensures each { OnOk result (EachKnown (S.Holds source.new) (λ known. WritesBlocks known
+        (W.contents writer.old) (W.contents writer.new) (range_with_len first count) left)) }
+    ensures each_part { OnErr result (EachKnown (S.Holds source.new) (λ known. WritesSome known
+        (W.contents writer.old) (W.contents writer.new) (range_with_len first count) left)) }
+    ensures narrows { OfEach (S.Holds source.new) (S.Holds source.old) }
 {
     let len = count as usize * 512;
     let piece = &mut buffer[..len];
@@ -90,6 +97,11 @@ fn copy_run<S: BlockSource, W: Write>(
     ensures memory { result ≢ Err CopyFault.Memory }
     ensures room { length buffer.new ≡ length buffer.old }
     ensures image { S.image source.new ≡ S.image source.old }
+    ensures each { OnOk result (EachKnown (S.Holds source.new) (λ known. WritesBlocks known
+        (W.contents writer.old) (W.contents writer.new) (run_of run.now) left)) }
+    ensures each_part { OnErr result (EachKnown (S.Holds source.new) (λ known. WritesSome known
+        (W.contents writer.old) (W.contents writer.new) (run_of run.now) left)) }
+    ensures narrows { OfEach (S.Holds source.new) (S.Holds source.old) }
 {
     let mut rest = left;
     let mut behind = run.count;
@@ -126,6 +138,11 @@ pub fn copy_runs<S: BlockSource, W: Write>(
     ensures memory { result ≡ Err CopyFault.Memory → writer.new ≡ writer.old }
     ensures none { result ≡ Err CopyFault.ReadFailed → writer.new ≡ writer.old }
     ensures image { S.image source.new ≡ S.image source.old }
+    ensures each { OnOk result (EachKnown (S.Holds source.new) (λ known. WritesRuns known
+        (W.contents writer.old) (W.contents writer.new) runs.now size)) }
+    ensures each_part { OnErr result (EachKnown (S.Holds source.new) (λ known. WritesSomeRuns known
+        (W.contents writer.old) (W.contents writer.new) runs.now size)) }
+    ensures narrows { OfEach (S.Holds source.new) (S.Holds source.old) }
 {
     if size == 0 {
         return Ok(());

@@ -11,8 +11,8 @@ use crate::entries::{
 };
 use hfs_fields::is_item_name;
 use hfs_model::{
-    BAD_NAME, Bytes, END_OF_FILE, FILE_ID_NOT_FOUND, Fork, Infos, Item, Kind, NOT_A_FILE,
-    NOT_A_FOLDER, NOT_FOUND, PARAMETER, Reply, Value,
+    BAD_NAME, END_OF_FILE, FILE_ID_NOT_FOUND, Fork, Infos, Item, Kind, NOT_A_FILE, NOT_A_FOLDER,
+    NOT_FOUND, OwnedBytes, PARAMETER, Reply, Value,
 };
 use std::alloc::{AllocError, Global};
 
@@ -124,7 +124,7 @@ fn part_of(alloc: Global, bytes: &[u8], offset: u32, count: u32) -> Result<Reply
     };
     Ok(Reply {
         code,
-        value: Value::Bytes(Bytes::from_slice(alloc, part)?),
+        value: Value::Bytes(OwnedBytes::from_slice(alloc, part)?),
     })
 }
 

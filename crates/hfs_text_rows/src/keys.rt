@@ -2,7 +2,7 @@
 ghost use Rattle.std.specs.Prelude.{◌≡◌, IfOk, OnOk};
 ghost use Rattle.hfs_text_rows.specs.Keys.{keys_after, no_keys, value_at};
 
-use hfs_model::Bytes;
+use hfs_model::OwnedBytes;
 use hfs_rows::{RowValue, Table};
 use std::alloc::{AllocError, Global};
 
@@ -22,7 +22,7 @@ fn copied(alloc: Global, values: &[RowValue], place: usize) -> Result<RowValue, 
     ensures { IfOk result (λ copy. copy ≡ value_at values.now place) }
 {
     match values.get(place) {
-        Some(RowValue::Text(text)) => Ok(RowValue::Text(Bytes::from_slice(
+        Some(RowValue::Text(text)) => Ok(RowValue::Text(OwnedBytes::from_slice(
             alloc,
             text.as_slice(),
         )?)),

@@ -11,7 +11,7 @@ ghost use Rattle.hfs_volume.specs.ForkParts.{IsForkOf, bytes_of_fork, part_reply
 use hfs_blocks::Blocks;
 use hfs_btree::Nodes;
 use hfs_fields::{FileRecord, ForkRecord, Mdb};
-use hfs_model::{Bytes, END_OF_FILE, Fork, Reply, Value};
+use hfs_model::{END_OF_FILE, Fork, OwnedBytes, Reply, Value};
 use hfs_space::{ForkKind, fork_extents, read_fork};
 use std::alloc::{AllocError, Global};
 
@@ -27,7 +27,7 @@ fn part_reply(bytes: Vec<u8>, length: u32, offset: u32, count: u32) -> Reply
     };
     Reply {
         code,
-        value: Value::Bytes(Bytes::new(bytes)),
+        value: Value::Bytes(OwnedBytes::new(bytes)),
     }
 }
 

@@ -3,6 +3,8 @@ use Rattle.std.specs.Prelude.{◌≡◌, ◌+◌, ◌-◌, ◌*◌, ◌≤◌, l
 use Rattle.std.specs.List.{range_with_len}
 use Rattle.hfs_blocks.specs.Blocks.{run_of}
 use Rattle.hfs_sparse.specs.Writing.{blocks_of}
+use Rattle.hfs_source.specs.Images.{OfEach}
+use Rattle.hfs_sparse.specs.Seen.{EachKnown}
 use Rattle.hfs_sparse.proofs.Written.{GoesOnWith, AreWholeSoFar}
 use Rattle.hfs_sparse.proofs.writing.copy_run.Given as goal
 
@@ -13,6 +15,10 @@ invariant-loop-behind g l = record {
   whole : AreWholeSoFar (g.S.BlockSource.image l.initial.source) l.run.first (l.run.count - l.behind);
   on : GoesOnWith (g.S.BlockSource.image l.initial.source) (g.W.Write.contents l.initial.writer) (g.W.Write.contents l.writer)
       (range_with_len (l.run.first + (l.run.count - l.behind)) l.behind) l.rest (λ image. take l.left (blocks_of image (run_of l.run)));
+  whole_each : EachKnown (g.S.BlockSource.Holds l.source) (λ known. AreWholeSoFar known l.run.first (l.run.count - l.behind));
+  on_each : EachKnown (g.S.BlockSource.Holds l.source) (λ known. GoesOnWith known (g.W.Write.contents l.initial.writer) (g.W.Write.contents l.writer)
+      (range_with_len (l.run.first + (l.run.count - l.behind)) l.behind) l.rest (λ image. take l.left (blocks_of image (run_of l.run))));
+  narrows : OfEach (g.S.BlockSource.Holds l.source) (g.S.BlockSource.Holds l.initial.source);
   none : l.rest ≡ l.all → l.writer ≡ l.initial.writer;
   room : length l.buffer ≡ length l.initial.buffer;
   image : g.S.BlockSource.image l.source ≡ g.S.BlockSource.image l.initial.source;
