@@ -43,7 +43,7 @@ def main(checkout, log=None):
     proved = {it.name for it in crates}
     if log:
         with open(log, encoding="utf-8", errors="replace") as said:
-            proved = set(re.findall(r"(?m)^rt: (\w+) proved$", said.read()))
+            proved = set(re.findall(r"(?m)^rt: (\w+) (?:proved$|is kept: )", said.read()))
     same, taken, here = {}, [], 0
     for crate in sorted(crates, key=lambda it: len(it.below())):
         there = f"{checkout}/crates/{crate.name}"
