@@ -1,12 +1,12 @@
 -- Markup that is read piece by piece.
 use Rattle.std.proofs.Common.{◌≡◌, ◌≢◌, ◌∙◌, sym, ap, refl, ℕ, zero, suc, Bool, true, false, not, ◌&&◌, List, [], ◌∷◌, ◌++◌, Option, Some, None, decimal, arith}
-use Rattle.std.specs.Prelude.{◌==◌, ◌+◌, ◌/◌, ◌%◌, ◌<◌, nat_lt, if◌then◌else◌, codes}
+use Rattle.std.specs.Prelude.{◌==◌, ◌+◌, ◌/◌, ◌%◌, ◌<◌, if◌then◌else◌}
 use Rattle.std.specs.List.{list_all}
 use Rattle.std.proofs.lemmas.Bool.{and_from, and_parts, true≢false, lt-ltb, ne_eqb}
 use Rattle.std.proofs.lemmas.List.{append_assoc}
 use Rattle.std.specs.Fmt.{digits, digits_onto, digit_glyph}
 use Rattle.hfs_page.specs.Laws.{is_no_delimiter}
-use Rattle.hfs_page.specs.Markup.{IsNested, Leads, Place, Reading, behind_byte, behind_bytes, behind_tag, between, in_text, in_name, behind_name}
+use Rattle.hfs_page.specs.Markup.{IsNested, Leads, Reading, behind_byte, behind_bytes, behind_tag, between, in_name, behind_name}
 
 -- ---- pieces
 
@@ -32,7 +32,6 @@ behind_bytes-append (Some reading) [] y = refl
 behind_bytes-append (Some reading) (b ∷ x) y = behind_bytes-append (behind_byte reading.opened reading.place b) x y
 
 infixl 5 ◌▹◌
-
 pub ◌▹◌ : {from via to : At} {x y : List ℕ} → Goes from via x → Goes via to y → Goes from to (x ++ y)
 ◌▹◌ {from} {via} {to} {x} {y} first second = record {
   goes = λ outer. behind_bytes-append (Some (from outer)) x y ∙ ap (λ (r : Option Reading). behind_bytes r y) (first.goes outer) ∙ second.goes outer;
@@ -46,9 +45,9 @@ constant from to bytes is = record { goes = is }
 pub inside : (around before behind : List (List ℕ)) (x : List ℕ) → Leads before behind x → Passes (before ++ around) (behind ++ around) x
 inside around before behind x leads = record {
   goes = λ outer.
-    (λ i. behind_bytes (Some (between (append_assoc before around outer i))) x)
-    ∙ leads (around ++ outer)
-    ∙ (λ i. Some (between (sym (append_assoc behind around outer) i)));
+      (λ i. behind_bytes (Some (between (append_assoc before around outer i))) x)
+      ∙ leads (around ++ outer)
+      ∙ (λ i. Some (between (sym (append_assoc behind around outer) i)));
 }
 
 -- a whole page
@@ -110,6 +109,7 @@ digits-plain (suc k) n acc h =
   where
     more : list_all is_no_delimiter (digit_glyph false (n % 10) ∷ acc) ≡ true
     more = and_from _ _ (glyph n) h
+
     ends : (x : Bool) → list_all is_no_delimiter (digits_onto k 10 false (n / 10) (digit_glyph false (n % 10) ∷ acc)) ≡ true
         → list_all is_no_delimiter (if x then digit_glyph false (n % 10) ∷ acc else digits_onto k 10 false (n / 10) (digit_glyph false (n % 10) ∷ acc)) ≡ true
     ends true rest = and_from _ _ (glyph n) h

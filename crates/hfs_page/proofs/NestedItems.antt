@@ -1,8 +1,8 @@
 -- The markup of items nests.
-use Rattle.std.proofs.Common.{◌≡◌, ◌∙◌, sym, ap, subst, refl, ℕ, zero, suc, Bool, true, false, List, [], ◌∷◌, ◌++◌, length, Option, Some, None, decimal, arith}
-use Rattle.std.specs.Prelude.{◌==◌, ◌+◌, ◌-◌, ◌/◌, ◌%◌, ◌*◌, ◌≤◌, nat_lt, nat_le, ◌&&◌, min, if◌then◌else◌, codes, take, drop}
+use Rattle.std.proofs.Common.{◌≡◌, ◌∙◌, ap, subst, refl, ℕ, zero, suc, Bool, true, false, List, [], ◌∷◌, Option, Some, None, decimal, arith}
+use Rattle.std.specs.Prelude.{◌==◌, ◌+◌, ◌-◌, ◌/◌, ◌%◌, ◌*◌, ◌≤◌, nat_lt, nat_le, ◌&&◌, if◌then◌else◌, codes, take, drop}
 use Rattle.std.specs.Borrow.{Bor}
-use Rattle.std.specs.List.{list_all, flat_map}
+use Rattle.std.specs.List.{list_all}
 use Rattle.hfs_model.specs.declared.reply.Info.{Info}
 use Rattle.hfs_model.specs.declared.reply.ItemKind.{ItemKind}
 use Rattle.hfs_model.specs.declared.reply.ItemKind.TheVariants.{Folder, File}
@@ -10,14 +10,14 @@ use Rattle.hfs_names.specs.Moments.{moment}
 use Rattle.hfs_names.specs.PlainTexts.{plain_text}
 use Rattle.hfs_inventory.specs.Told.{ToldRow}
 use Rattle.hfs_page.specs.Escapes.{escaped}
-use Rattle.hfs_page.specs.Laws.{AreTexts, is_no_delimiter}
+use Rattle.hfs_page.specs.Laws.{is_no_delimiter}
 use Rattle.hfs_page.specs.Links.{bag_path, link_end, link_start, link_text, url_text}
 use Rattle.hfs_page.specs.Sizes.{size_text, tenths_text, told_size}
-use Rattle.hfs_page.specs.Texts.{date_text, shown, told_date, told_number, told_text}
+use Rattle.hfs_page.specs.Texts.{date_text, told_date, told_number, told_text}
 use Rattle.hfs_page.specs.Items as item
 use Rattle.hfs_page.specs.Items.{closings, depth_in, item_by, open_by, open_behind, rows_text}
 use Rattle.hfs_page.proofs.EscapeLemmas.{texts-escaped}
-use Rattle.hfs_page.proofs.MarkupLemmas.{At, Goes, Passes, ◌▹◌, at, constant, decimal-plain, goes-if, in-tag, tag-goes, text-goes}
+use Rattle.hfs_page.proofs.MarkupLemmas.{Passes, ◌▹◌, at, constant, decimal-plain, goes-if, in-tag, tag-goes, text-goes}
 
 -- ---- texts
 

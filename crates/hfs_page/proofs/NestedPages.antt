@@ -1,6 +1,6 @@
 -- The markup of pages nests.
-use Rattle.std.proofs.Common.{◌≡◌, ◌∙◌, sym, ap, refl, ℕ, zero, suc, Bool, true, false, List, [], ◌∷◌, ◌++◌, length, Option, Some, None, decimal}
-use Rattle.std.specs.Prelude.{◌==◌, ◌+◌, ◌/◌, ◌%◌, ◌*◌, if◌then◌else◌, codes}
+use Rattle.std.proofs.Common.{◌≡◌, refl, ℕ, true, List, [], ◌∷◌, length, Option, Some, None, decimal}
+use Rattle.std.specs.Prelude.{◌==◌, ◌+◌, ◌/◌, ◌%◌, ◌*◌, codes}
 use Rattle.std.specs.Borrow.{Bor}
 use Rattle.std.specs.Int.{div_ceil}
 use Rattle.std.specs.List.{flat_map, list_all, slice_get}
@@ -24,19 +24,17 @@ use Rattle.hfs_page.specs.declared.parts.Part.TheVariants as part
 use Rattle.hfs_page.specs.Disk.{cells_in, holdings_in, page_in}
 use Rattle.hfs_page.specs.Document.{back_text, end_text, front_text, refused_page, version_text, volume_name}
 use Rattle.hfs_page.specs.Dress.{IsDress}
-use Rattle.hfs_page.specs.Escapes.{escaped}
 use Rattle.hfs_page.specs.Extents.{extent_text, extents_text, owned_text, placed_text}
 use Rattle.hfs_page.specs.Facts as fact
 use Rattle.hfs_page.specs.Facts.{digest_row, facts_text, head_text, image_rows, row_head}
 use Rattle.hfs_page.specs.Items.{rows_text}
 use Rattle.hfs_page.specs.Laws.{is_no_delimiter}
-use Rattle.hfs_page.specs.Markup.{IsNested, Leads}
+use Rattle.hfs_page.specs.Markup.{Leads}
 use Rattle.hfs_page.specs.Nested.{RefusedPagesNest, VolumePagesNest}
 use Rattle.hfs_page.specs.Parts.{rank}
 use Rattle.hfs_page.specs.Picture as drawn
 use Rattle.hfs_page.specs.Picture.{cells_text, fork_text, name_of, owner_text, part_text, picture_text}
-use Rattle.hfs_page.specs.Sizes.{size_text}
-use Rattle.hfs_page.specs.Texts.{date_text, shown, told_number}
+use Rattle.hfs_page.specs.Texts.{shown, told_number}
 use Rattle.hfs_page.proofs.MarkupLemmas.{At, Goes, Passes, ◌▹◌, at, constant, decimal-plain, goes-if, in-tag, inside, nested, tag-goes, text-goes}
 use Rattle.hfs_page.proofs.NestedItems.{date-passes, decimal-passes, escaped-passes, escaped-plain, label-passes, number-passes, rows-pass, size-passes}
 
