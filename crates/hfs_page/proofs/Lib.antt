@@ -1,4 +1,7 @@
 mod EscapeLemmas
+mod MarkupLemmas
+mod NestedItems
+mod NestedPages
 mod HoldingLemmas
 mod UseLemmas
 mod ItemLemmas

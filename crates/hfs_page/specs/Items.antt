@@ -42,7 +42,7 @@ file_name base path info = codes "<b>" ++ link_start base (bag_path path) ++ sho
 unfoldable pub file_text : Option (Bor (List ℕ)) → List (List ℕ) → Info → List ℕ
 file_text base path info = file_name base path info ++ sizes_text info ++ type_text info ++ modified_text info.modified
 
--- ---- rows. The depth of an item is the number of folders in which it lies; at most 100 of them open and close
+-- ---- rows. The depth of an item is the number of open folders in which it lies; at most 100 of them open and close
 
 -- with the item's ID as that of its element
 unfoldable pub row_start : Info → List ℕ
@@ -76,18 +76,22 @@ closings zero = []
 closings (suc n) = codes "</ul></details></li>\n" ++ closings n
 
 abbrev pub open_by : ItemKind → ℕ → ℕ
-open_by Folder depth = min 100 (depth + 1)
-open_by File depth = min 100 depth
+open_by Folder depth = if nat_lt depth 100 then depth + 1 else depth
+open_by File depth = depth
 
 -- how many folders stand open behind an item
 abbrev pub open_behind : ℕ → Info → ℕ
 open_behind depth info = open_by info.kind depth
 
+-- in how many of the folders that stand open an item lies
+abbrev pub depth_in : ℕ → List (List ℕ) → ℕ
+depth_in opened path = min opened (length path - 1)
+
 -- the row of an item where so many folders stand open: the ends of those in which it doesn't lie, and the item
 unfoldable pub row_text : Option (Bor (List ℕ)) → ℕ → List (List ℕ) → Info → List ℕ
-row_text base opened path info = closings (opened - min 100 (length path - 1)) ++ item_text base path (length path - 1) info
+row_text base opened path info = closings (opened - depth_in opened path) ++ item_text base path (depth_in opened path) info
 
 -- the rows of a table, where so many folders stand open
 abbrev pub rows_text : Option (Bor (List ℕ)) → ℕ → List ToldRow → List ℕ
 rows_text base opened [] = closings opened
-rows_text base opened (row ∷ rows) = row_text base opened row.path row.info ++ rows_text base (open_behind (length row.path - 1) row.info) rows
+rows_text base opened (row ∷ rows) = row_text base opened row.path row.info ++ rows_text base (open_behind (depth_in opened row.path) row.info) rows

@@ -15,4 +15,7 @@ pub mod Picture
 pub mod Extents
 pub mod Document
 pub mod Rows
+pub mod Markup
+pub mod Dress
 pub mod Disk
+pub mod Nested

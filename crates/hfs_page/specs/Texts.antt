@@ -11,7 +11,7 @@ shown bytes = escaped (plain_text bytes)
 
 -- YYYY-MM-DD hh:mm:ss; nothing where there is no date
 unfoldable pub date_text : ℕ → List ℕ
-date_text date = if date == 0 then [] else take 10 (moment date) ++ codes " " ++ drop 11 (moment date)
+date_text date = if date == 0 then [] else escaped (take 10 (moment date)) ++ codes " " ++ escaped (drop 11 (moment date))
 
 -- texts, dates and numbers behind what says what they are
 unfoldable pub told_text : List ℕ → List ℕ → List ℕ

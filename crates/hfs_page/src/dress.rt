@@ -1,5 +1,7 @@
 //! What a page wears: a page asks for nothing from elsewhere, and does without its script.
-ghost use Rattle.std.specs.Prelude.{◌≡◌};
+ghost use Rattle.std.specs.Prelude.{◌≡◌, [], ◌∷◌, codes};
+ghost use Rattle.hfs_page.specs.Dress.{IsDress};
+ghost use Rattle.hfs_page.specs.Markup.{Leads};
 
 use crate::page_image::PageImage;
 use crate::page_texts::PageTexts;
@@ -8,7 +10,9 @@ use crate::style::style;
 
 /// The heading of the items, the field of the search, which the script shows, and the heads of the
 /// items' columns, of which the script makes buttons.
-fn columns() -> &'static [u8] {
+fn columns() -> &'static [u8]
+    ensures { Leads [] (codes "section" ∷ []) result.now }
+{
     b"<section id=\"list\">
 <h2>Items</h2>
 <p id=\"find\" hidden><label for=\"search\">Search names, types and creators</label>
@@ -19,7 +23,9 @@ fn columns() -> &'static [u8] {
 
 /// Where the script says what was chosen, what the picture shows, the legend, and the patterns of
 /// the squares.
-fn legend() -> &'static [u8] {
+fn legend() -> &'static [u8]
+    ensures { Leads (codes "section" ∷ []) [] result.now }
+{
     b"<p id=\"chosen\"></p>
 <p class=\"note\">Each square is an allocation block, or several where the disk has more than 4,096. It
 shows the first of these uses that one of its blocks has.</p>
@@ -47,6 +53,7 @@ shows the first of these uses that one of its blocks has.</p>
 pub fn standard_texts<'a>(version: &'a [u8], image: PageImage<'a>) -> PageTexts<'a>
     ensures version { result.version.now ≡ version.now }
     ensures image { result.image ≡ image.entry }
+    ensures dress { IsDress result }
 {
     PageTexts {
         style: style(),

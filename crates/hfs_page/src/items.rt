@@ -1,9 +1,9 @@
 //! The items of a page, as a tree that opens and closes.
-ghost use Rattle.std.specs.Prelude.{◌≡◌, ◌+◌, ◌<◌, ◌^◌, OnOk, codes};
+ghost use Rattle.std.specs.Prelude.{◌≡◌, ◌+◌, OnOk, codes};
 ghost use Rattle.hfs_page.specs.Pieces.{Gains};
 ghost use Rattle.hfs_page.specs.Sizes.{told_size};
 ghost use Rattle.hfs_page.specs.Texts.{told_number};
-ghost use Rattle.hfs_page.specs.Items.{closings, file_name, file_text, flat_text, folder_text, item_text, items_word, leaf_text, modified_text, name_tagged, nested_text, open_behind, opening, row_start, row_text, sizes_text, type_text};
+ghost use Rattle.hfs_page.specs.Items.{closings, depth_in, file_name, file_text, flat_text, folder_text, item_text, items_word, leaf_text, modified_text, name_tagged, nested_text, open_behind, opening, row_start, row_text, sizes_text, type_text};
 
 use crate::links::{push_bag_link, push_link_end};
 use crate::pieces::push_bytes;
@@ -235,15 +235,21 @@ fn push_item(
     }
 }
 
-/// How many folders stand open behind an item that lies in so many.
+/// How many folders stand open behind an item that lies in so many of those that do.
 pub(crate) fn open_behind(depth: usize, info: &Info) -> usize
-    requires { depth < 2 ^ 63 }
     ensures { result ≡ open_behind depth info.now }
 {
     match info.kind {
-        ItemKind::Folder => MOST_OPEN.min(depth + 1),
-        ItemKind::File => MOST_OPEN.min(depth),
+        ItemKind::Folder => { if depth < MOST_OPEN { depth + 1 } else { depth } }
+        ItemKind::File => depth,
     }
+}
+
+/// In how many of the folders that stand open the item lies to which these names lead.
+pub(crate) fn depth_in(opened: usize, path: &[Name]) -> usize
+    ensures { result ≡ depth_in opened path.now }
+{
+    opened.min(path.len().saturating_sub(1))
 }
 
 /// Appends the row of an item with the names that lead to it, where so many folders stand open: the
@@ -259,7 +265,7 @@ pub(crate) fn push_row(
 ) -> Result<(), AllocError>
     ensures { OnOk result (Gains page.old page.new (row_text base.entry opened path.now info.now)) }
 {
-    let depth = path.len().saturating_sub(1);
-    push_closings(page, opened.saturating_sub(MOST_OPEN.min(depth)))?;
+    let depth = depth_in(opened, path);
+    push_closings(page, opened.saturating_sub(depth))?;
     push_item(alloc, page, base, path, depth, info)
 }

@@ -32,7 +32,7 @@ pub use document::push_refused_page;
 pub use dress::standard_texts;
 pub use escaping::push_escaped;
 pub use holdings::volume_holdings;
-pub use laws::escaped_texts_are_text;
+pub use laws::{escaped_texts_are_text, refused_pages_nest, volume_pages_nest};
 pub use page_image::PageImage;
 pub use page_texts::PageTexts;
 pub use parts::{BlockUse, FileFork, Holding, Part};

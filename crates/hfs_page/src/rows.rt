@@ -5,7 +5,7 @@ ghost use Rattle.hfs_page.specs.Items.{closings, rows_text};
 ghost use Rattle.hfs_page.specs.Rows.{MovesRow};
 ghost use Rattle.hfs_texts.specs.Writing.{AppendsFront};
 
-use crate::items::{open_behind, push_closings, push_row};
+use crate::items::{depth_in, open_behind, push_closings, push_row};
 use hfs_inventory::Inventory;
 use hfs_texts::put;
 use std::alloc::{AllocError, Global};
@@ -40,8 +40,7 @@ fn push_next(
     };
     let path = items.path();
     push_row(alloc, text, base, opened, path, &info)?;
-    let depth = path.len().saturating_sub(1);
-    Ok(Some(open_behind(depth, &info)))
+    Ok(Some(open_behind(depth_in(opened, path), &info)))
 }
 
 /// [`push_next`] with the fault of a page.

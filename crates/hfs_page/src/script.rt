@@ -1,8 +1,13 @@
-//! The script of a page, which does without it but for these things.
+//! The script of a page, which does without it but for these things. It has no `<`, so that each reader of
+//! markup finds its end.
+ghost use Rattle.std.specs.Prelude.{[]};
+ghost use Rattle.hfs_page.specs.Markup.{Leads};
 
 /// The script: it searches names, types and creators, sorts the items of each folder, marks the
 /// blocks of a file that is chosen, and goes from square to square by the arrow keys.
-pub(crate) fn script() -> &'static [u8] {
+pub(crate) fn script() -> &'static [u8]
+    ensures { Leads [] [] result.now }
+{
     b"<script>
 \"use strict\";
 const found = document.getElementById(\"found\");
@@ -37,7 +42,7 @@ const search = () => {
   const wanted = field.value.toLowerCase();
   const kept = new Set();
   const count = items.filter(({ text }) => text.includes(wanted)).length;
-  const opens = wanted && count <= mostOpened;
+  const opens = wanted && mostOpened >= count;
   for (const folder of opened) folder.open = false;
   opened.clear();
   for (const { row, text, folder } of items) {
@@ -63,7 +68,7 @@ field.addEventListener(\"input\", () => {
 const orders = {
   Name: [\"up\", (a, b) => a.order - b.order],
   Size: [\"down\", (a, b) => a.size - b.size || b.order - a.order],
-  Modified: [\"down\", (a, b) => a.date < b.date ? -1 : a.date > b.date ? 1 : b.order - a.order]
+  Modified: [\"down\", (a, b) => b.date > a.date ? -1 : a.date > b.date ? 1 : b.order - a.order]
 };
 const sort = (by, order) => {
   prepare();
@@ -135,11 +140,11 @@ const choose = other => {
     row.className = \"picked\";
     const all = extentsOf(row);
     for (const [first, count] of all) {
-      for (let place = Math.floor(first / width()); place <= Math.floor((first + count - 1) / width()); place++) places.add(place);
+      for (let place = Math.floor(first / width()); Math.floor((first + count - 1) / width()) >= place; place++) places.add(place);
     }
     const blocks = all.reduce((sum, [, count]) => sum + count, 0);
     text = row.firstElementChild.textContent + \": \" + (blocks ? blocks + (blocks === 1 ? \" block\" : \" blocks\") + \" in \" + all.length + (all.length === 1 ? \" piece\" : \" pieces\") : \"no blocks\");
-    if (all.length && all.length <= 8) text += \", \" + all.map(([first, count]) => count > 1 ? first + \" to \" + (first + count - 1) : first).join(\", \");
+    if (all.length && 9 > all.length) text += \", \" + all.map(([first, count]) => count > 1 ? first + \" to \" + (first + count - 1) : first).join(\", \");
   }
   mark(\"chosen\", places);
   picture.classList.toggle(\"choosing\", places.size > 0);
@@ -158,7 +163,7 @@ const ready = row => {
 const reach = folder => {
   if (!folder.open) return;
   const rows = folder.lastElementChild.children;
-  for (let k = 0; k < rows.length && k < mostReady; k++) ready(rows[k]);
+  for (let k = 0; rows.length > k && mostReady > k; k++) ready(rows[k]);
 };
 list.addEventListener(\"toggle\", event => reach(event.target), true);
 list.addEventListener(\"contentvisibilityautostatechange\", event => {

@@ -1,8 +1,12 @@
 //! The style of a page.
+ghost use Rattle.std.specs.Prelude.{[]};
+ghost use Rattle.hfs_page.specs.Markup.{Leads};
 
 /// The style in the head, in light and in dark. A wide page has the items in columns, beside the
 /// picture; a narrow one has them before it. Uses of blocks differ in contrast and in pattern.
-pub(crate) fn style() -> &'static [u8] {
+pub(crate) fn style() -> &'static [u8]
+    ensures { Leads [] [] result.now }
+{
     b"
 :root{color-scheme:light dark;
 --paper:#fbfaf7;--ink:#24221f;--faint:#5f5a52;--line:#ddd8ce;--edge:#8a857b;--mark:#2c5f8f;

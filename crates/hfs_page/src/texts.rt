@@ -1,6 +1,7 @@
 //! Texts and numbers of a page.
 ghost use Rattle.std.specs.Prelude.{◌≡◌, ◌++◌, OnOk, codes, drop, take};
 ghost use Rattle.std.specs.Fmt.{decimal};
+ghost use Rattle.hfs_page.specs.Escapes.{escaped};
 ghost use Rattle.hfs_page.specs.Pieces.{Gains};
 ghost use Rattle.hfs_page.specs.Texts.{date_text, shown, told_date, told_number, told_text};
 
@@ -34,11 +35,12 @@ fn time_of(moment: &[u8]) -> &[u8]
 
 /// Appends the day of a moment, a blank, and the time.
 fn push_day_and_time(page: &mut Vec<u8>, moment: &[u8]) -> Result<(), AllocError>
-    ensures { OnOk result (Gains page.old page.new (take 10 moment.now ++ codes " " ++ drop 11 moment.now)) }
+    ensures { OnOk result (Gains page.old page.new
+        (escaped (take 10 moment.now) ++ codes " " ++ escaped (drop 11 moment.now))) }
 {
-    push_bytes(page, day_of(moment))?;
+    push_escaped(page, day_of(moment))?;
     push_bytes(page, b" ")?;
-    push_bytes(page, time_of(moment))
+    push_escaped(page, time_of(moment))
 }
 
 /// Appends a date as YYYY-MM-DD hh:mm:ss; nothing where there is none.
