@@ -2,7 +2,7 @@
 
 /// The style in the head, in light and in dark. A wide page has the items in columns, beside the
 /// picture; a narrow one has them before it. Uses of blocks differ in contrast and in pattern.
-pub(crate) fn style() -> &'static [u8] {
+pub fn page_style() -> &'static [u8] {
     b"
 :root{color-scheme:light dark;
 --paper:#fbfaf7;--ink:#24221f;--faint:#5f5a52;--line:#ddd8ce;--edge:#8a857b;--mark:#2c5f8f;
