@@ -272,7 +272,7 @@ def databases(folder):
         path.unlink(missing_ok=True)
         subprocess.run([COLLECT, str(path), str(image)], check=True, stdout=subprocess.DEVNULL)
 
-    refuses('there is no collection in it to compare with\n', folder / 'none.db', ('--compare',))
+    refuses('there is no collection in it\n', folder / 'none.db', ('--compare',))
     path.write_text('this is a text and no database\n' * 50)
     refuses('it is no database of SQLite\n')
     path.write_text('short')

@@ -103,6 +103,7 @@ offered() {
 [ "$(offered hfs_tool items disk.img --format j)" = 'json ' ] || fail 'the completion of a format that was begun'
 [ "$(PATH=$(dirname "$tool"):$PATH offered hfs_tool ls tests/volumes/hfsutils-800k.img --volume '')" = '1 ' ] || fail 'the completion of a volume'
 [ -z "$(PATH=$(dirname "$tool"):$PATH offered hfs_tool ls tests/package.sh --volume '' | tr -d ' ')" ] || fail 'the completion of a volume where there is none'
+[ "$(offered hfs_collect page --)" = '--base --help ' ] || fail 'the completion of an option of hfs_collect page'
 [ "$(offered hfs_collect rows --)" = '--format --help --no-digest --table ' ] || fail 'the completion of an option of hfs_collect rows'
 for program in 'hfs_tool check' hfs_collect; do
     [ -n "$(offered $program tests/vol)" ] || fail "the completion of a path behind $program"

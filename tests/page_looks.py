@@ -5,11 +5,12 @@ Of pages that `page` prints it asks that they ask for nothing, aren't wider than
 in the browser what the manual says: the search finds names, types and creators, and says how many; a click on a column's head
 sorts; a file that is chosen, by the mouse or by the keyboard, has its own squares marked; arrow keys tell what a square is; the
 tree stands beside the picture in a wide window and before it in a narrow one; a file whose name is a link is chosen beside it, or
-as the keyboard comes to it. The page of a large volume is opened by the processor in at most 1.5 seconds, and searched and sorted
+as the keyboard comes to it. Of the page of a collection of 10,000 volumes, by hfs_collect, the search finds lines by their texts,
+and it is opened in at most a second. The page of a large volume is opened by the processor in at most 1.5 seconds, and searched and sorted
 in as many, or --slowness times as many. The colours are as legible as they are to be, by the formula
 of the Web Content Accessibility Guidelines, in light and in dark.
 
-tests/page_looks.py [--items N] [--kept FOLDER]      runs $HFS_TOOL, or the program as it is built in crates/hfs_tool/out
+tests/page_looks.py [--items N] [--volumes N] [--kept FOLDER]      runs $HFS_TOOL and $HFS_COLLECT, or the programs as they are built
 tests/page_looks.py --kept FOLDER PAGE.. [--open]    looks at these pages, with all their folders open
 
 FOLDER gets pictures in light and in dark, NAME-WIDTH-SCHEME.png, and the accessibility tree, NAME.tree. It prints a line for
@@ -28,6 +29,7 @@ import tempfile
 from itertools import combinations
 from pathlib import Path
 
+from collection_page import COLLECT, large
 from items import Differs, ensure, told
 from page import VOLUMES, every_part
 from slow_volumes import Volume
@@ -35,7 +37,7 @@ from slow_volumes import plain as plain_volume
 
 WIDTHS, HEIGHT = (400, 1_280), 1_400
 SCHEMES = ('light', 'dark')
-LIMIT, PATIENCE = 1_500, 300
+LIMIT, COLLECTION_LIMIT, PATIENCE = 1_500, 1_000, 300
 USES = [f'p{it}' for it in range(7)]
 BROWSER = next(filter(None, map(shutil.which, ('chromium', 'chromium-browser', 'google-chrome'))), None)
 
@@ -153,13 +155,13 @@ class Browser:
 
 # ---- what is asked of each page
 
-def look_at(browser, page, kept, is_open=False):
+def look_at(browser, page, kept, is_open=False, limit=None):
     """Looks at a page: what it asks for, how wide it is, and how soon it is open."""
     asked = browser.go(page)
     ensure(not asked, f'{page.name} asks for {asked}')
     milliseconds = browser.value('performance.timing.domContentLoadedEventEnd - performance.timing.navigationStart')
     busy = browser.busy()
-    ensure(busy < LIMIT, f'{page.name} takes {busy} ms of the processor to open')
+    ensure(busy < (limit or LIMIT), f'{page.name} takes {busy} ms of the processor to open')
     if is_open:
         browser.value('for (const it of document.querySelectorAll("details")) it.open = true')
     for width in WIDTHS:
@@ -308,7 +310,35 @@ def read_many(browser, page, kept):
     print(f'{page.name}: {count} items, a search in {searched} ms of the processor, sorted in {ordered}, its root opened in {opened}')
 
 
-def look_at_own(browser, folder, kept, items):
+def read_collection(browser, folder, kept, volumes):
+    """The page of a collection of so many volumes: how soon it is open, and what its search finds."""
+    database, page = folder / 'disks.db', folder / 'disks.html'
+    large(database, volumes)
+    with open(page, 'wb') as out:
+        subprocess.run([COLLECT, 'page', str(database), '--base', 'pages'], stdout=out, check=True)
+    look_at(browser, page, kept, limit=COLLECTION_LIMIT)
+    browser.resize(1_280)
+    ensure(browser.value('document.querySelectorAll("#volumes li").length') == volumes, 'the page has other lines')
+    ensure(browser.value('getComputedStyle(document.querySelector("main")).display') == 'block', 'the volumes stand in half of the window')
+    first, last = box(browser, '#volumes li b'), box(browser, '#volumes li span:last-child')
+    ensure(first[2] < last[0] and last[1] < first[3], 'a line has no columns in a wide window')
+    for text, count in (('VOLUME 7', sum(f'volume {it}'.startswith('volume 7') for it in range(volumes))), ('number 00042.img', 1), ('check c7', -(-volumes // 10)), ('none', 0)):
+        before = browser.busy()
+        said = typed(browser, text)
+        took = browser.busy() - before
+        ensure(said == f'{count} of {volumes}', f'a search for {text!r} says {said!r}')
+        shown = browser.value('[...document.querySelectorAll("#volumes li")].filter(it => !it.hidden && !it.parentElement.hidden).length')
+        ensure(shown == count and took < COLLECTION_LIMIT, f'a search for {text!r} shows {shown} lines in {took} ms')
+    if kept:
+        typed(browser, 'number 0004')
+        (kept / f'{page.stem}-search.png').write_bytes(browser.picture())
+    ensure(typed(browser, '') == '' and not browser.value('document.querySelectorAll("#volumes [hidden]").length'), 'lines stay hidden')
+    ensure(browser.value('document.querySelector("#volumes a").getAttribute("href")') == 'pages/images/shelf%20000/Disk%20number%2000000.img.html', 'a line leads elsewhere')
+    ensure(browser.value('document.querySelectorAll("#contents li").length') == min(1_000, volumes), 'the contents are others') if volumes >= 10_000 else None
+    print(f'{page.name}: {volumes} volumes, the last search in {took} ms of the processor')
+
+
+def look_at_own(browser, folder, kept, items, volumes):
     """Pages of the volumes in tests/volumes, of one with each part, and of a large one."""
     def printed(image, status=0, words=(), name=''):
         answer = told('page', image, *words)
@@ -329,6 +359,7 @@ def look_at_own(browser, folder, kept, items):
     plain_volume(volume, items)
     volume.write(many)
     read_many(browser, printed(many), kept)
+    read_collection(browser, folder, kept, volumes)
 
 
 def main():
@@ -336,11 +367,12 @@ def main():
     parser.add_argument('pages', nargs='*', type=Path)
     parser.add_argument('--kept', type=Path, help='a folder that gets pictures')
     parser.add_argument('--items', type=int, default=60_000, help='how many items the large volume has')
+    parser.add_argument('--volumes', type=int, default=10_000, help='how many volumes the large collection has')
     parser.add_argument('--slowness', type=int, default=1, help='how many times as long a page may take as it does alone on a machine')
     parser.add_argument('--open', action='store_true', help='open all folders of the pages')
     words = parser.parse_args()
-    global LIMIT
-    LIMIT *= words.slowness
+    global LIMIT, COLLECTION_LIMIT
+    LIMIT, COLLECTION_LIMIT = LIMIT * words.slowness, COLLECTION_LIMIT * words.slowness
     if not BROWSER:
         print('skipped: there is no Chromium, and no page was looked at')
         return 0
@@ -352,7 +384,7 @@ def main():
             for page in words.pages:
                 look_at(browser, page, words.kept, words.open)
             if not words.pages:
-                look_at_own(browser, Path(home), words.kept, words.items)
+                look_at_own(browser, Path(home), words.kept, words.items, words.volumes)
         except Differs as differs:
             print(f'a page is not as it is to be: {differs}')
             return 1

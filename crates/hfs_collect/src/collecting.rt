@@ -51,7 +51,7 @@ impl From<RunFault> for Stopped {
 }
 
 /// Prints that a database can't be opened, and tells at a terminal why.
-fn refuse(rt: &HostRuntime, path: &str, why: Obstacle) -> Result<u8, Fault<'static>> {
+pub fn refuse(rt: &HostRuntime, path: &str, why: Obstacle) -> Result<u8, Fault<'static>> {
     let Ok(line) = format!(in rt.alloc(); "cannot open {}\n", ShownPath(path)) else {
         return Err(Fault::NoMemory);
     };
@@ -83,8 +83,19 @@ fn open_database(
     }
 }
 
+/// Opens a database that has a collection already.
+pub fn open_collection(
+    rt: &HostRuntime,
+    files: &DatabaseFiles,
+) -> Result<FileCollection, RunFault> {
+    if !files.are_there(rt) {
+        return Err(RunFault::CannotOpen(Obstacle::NoTables));
+    }
+    open_database(rt, files, false)
+}
+
 /// Closes the database.
-fn close_database(
+pub fn close_database(
     rt: &HostRuntime,
     files: &DatabaseFiles,
     database: FileCollection,
@@ -187,10 +198,7 @@ fn print_unread(rt: &HostRuntime, path: &str) -> Result<(), Fault<'static>> {
 /// Compares the images with what the database has of them, and answers the exit status.
 fn run_comparison(rt: &HostRuntime, words: &CollectWords<'_>) -> Result<u8, Stopped> {
     let files = files_of(rt, words)?;
-    if !files.are_there(rt) {
-        return Err(Stopped::Running(RunFault::CannotOpen(Obstacle::NoTables)));
-    }
-    let mut database = open_database(rt, &files, false)?;
+    let mut database = open_collection(rt, &files)?;
     let ran = if words.images.is_empty() {
         compare_all(rt, &mut database, &files)
     } else {

@@ -1,14 +1,17 @@
-//! A program that puts HFS images into one database, compares them with what it has of them, or tells their rows as text.
+//! A program that puts HFS images into one database, compares them with what it has of them, prints its page, or tells their rows as text.
 #![tactic(auto)]
 
 mod collecting;
+mod page;
 mod progress;
 mod reading;
+mod reading_page;
 mod reading_rows;
 mod rows;
 mod telling;
 
 use crate::collecting::collect;
+use crate::page::page;
 use crate::reading::{Words, read_words};
 use crate::rows::rows;
 use hfs_commands::Fault;
@@ -30,6 +33,10 @@ fn answer(rt: &HostRuntime) -> u8 {
     };
     match read_words(rt.alloc(), arguments.as_slice()) {
         Ok(Words::Collect(words)) => match collect(rt, &words) {
+            Ok(status) => status,
+            Err(fault) => refused(rt, &fault),
+        },
+        Ok(Words::Page(words)) => match page(rt, &words) {
             Ok(status) => status,
             Err(fault) => refused(rt, &fault),
         },

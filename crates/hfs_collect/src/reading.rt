@@ -1,5 +1,6 @@
 //! What the program is asked for, and from the command line to that.
 
+use crate::reading_page::{PageWords, page_command, page_words};
 use crate::reading_rows::{RowsWords, rows_command, rows_words};
 use clap::{ArgMatches, Command, Error};
 use hfs_arguments::{Argument, NoValue, Program, Takes, Word, with_word};
@@ -11,6 +12,8 @@ use std::alloc::{AllocError, Global};
 pub enum Words<'a> {
     /// Images in a database.
     Collect(CollectWords<'a>),
+    /// A page of a database.
+    Page(PageWords<'a>),
     /// The rows of images as text.
     Rows(RowsWords<'a>),
 }
@@ -85,7 +88,8 @@ Examples:
   hfs_collect disks.db disk.img hard_disk.img
   hfs_collect disks.db --no-digest images/*.img
   hfs_collect disks.db --compare
-  hfs_collect disks.db --compare disk.img";
+  hfs_collect disks.db --compare disk.img
+  hfs_collect page disks.db > disks.html";
 
 /// The program, without its words.
 const COLLECT: Program = Program {
@@ -103,13 +107,17 @@ fn command<'a>(alloc: Global) -> Result<Command<'a>, AllocError> {
     let bare = COLLECT
         .command(alloc)?
         .args_conflicts_with_subcommands(true);
-    with_word(Ok(bare), rows_command(alloc))
+    with_word(
+        with_word(Ok(bare), rows_command(alloc)),
+        page_command(alloc),
+    )
 }
 
 /// Reads the words, the first of which is the program's own name.
 pub fn read_words<'a>(alloc: Global, words: &'a [String]) -> Result<Words<'a>, WordsFault> {
     let matches = matches_of(alloc, words)?;
     match matches.subcommand() {
+        Some(("page", inner)) => Ok(Words::Page(page_words(inner)?)),
         Some(("rows", inner)) => Ok(Words::Rows(rows_words(alloc, inner)?)),
         Some(_) => Err(WordsFault::from(NoValue("COMMAND"))),
         None => Ok(Words::Collect(words_of(alloc, &matches)?)),

@@ -37,7 +37,7 @@ fn tell_why(rt: &HostRuntime, path: &str, why: Obstacle) {
         Obstacle::OtherTables => eprintln!(rt;
             "it has another table or index named image, volume, item, item_data or item_resource, as of another version"
         ),
-        Obstacle::NoTables => eprintln!(rt; "there is no collection in it to compare with"),
+        Obstacle::NoTables => eprintln!(rt; "there is no collection in it"),
         Obstacle::Damaged => eprintln!(rt; "it is damaged"),
         Obstacle::Unreadable => {
             tell_unreadable(rt, path);

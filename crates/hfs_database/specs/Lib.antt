@@ -4,6 +4,7 @@ pub mod Doing
 pub mod Rows
 pub mod Comparing
 pub mod Asking
+pub mod Listing
 pub mod Transactions
 pub mod Tables
 pub mod FileNames

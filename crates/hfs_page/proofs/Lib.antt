@@ -1,7 +1,7 @@
 mod EscapeLemmas
-mod MarkupLemmas
-mod NestedItems
-mod NestedPages
+pub mod MarkupLemmas
+pub mod NestedItems
+pub mod NestedPages
 mod HoldingLemmas
 mod UseLemmas
 mod ItemLemmas

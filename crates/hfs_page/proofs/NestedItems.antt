@@ -64,7 +64,7 @@ size-passes names bytes =
 -- ---- what is told of an item
 
 module _ (names : List (List ℕ)) where
-  abbrev bold : List (List ℕ)
+  abbrev pub bold : List (List ℕ)
   bold = codes "b" ∷ names
 
   abbrev span : List (List ℕ)
@@ -92,11 +92,11 @@ module _ (names : List (List ℕ)) where
       ▹ items-pass info.valence ▹ constant (at names) (at names) (codes "<span>folder</span>") (λ outer. refl) ▹ modified-passes info.modified
 
   -- inside a link, where there is one
-  abbrev linked : Option (Bor (List ℕ)) → List (List ℕ)
+  abbrev pub linked : Option (Bor (List ℕ)) → List (List ℕ)
   linked None = bold
   linked (Some base) = codes "a" ∷ bold
 
-  link-start-passes : (base : Option (Bor (List ℕ))) (path : List ℕ) → Passes bold (linked base) (link_start base path)
+  pub link-start-passes : (base : Option (Bor (List ℕ))) (path : List ℕ) → Passes bold (linked base) (link_start base path)
   unfolding link_text
   link-start-passes None path = constant (at bold) (at bold) [] (λ outer. refl)
   link-start-passes (Some base) path =
@@ -104,7 +104,7 @@ module _ (names : List (List ℕ)) where
       ▹ tag-goes (codes "a") bold (escaped (url_text base.now path)) (escaped-plain (url_text base.now path))
       ▹ constant (in-tag (codes "a") bold) (at (codes "a" ∷ bold)) (codes "\">") (λ outer. refl)
 
-  link-end-passes : (base : Option (Bor (List ℕ))) → Passes (linked base) bold (link_end base)
+  pub link-end-passes : (base : Option (Bor (List ℕ))) → Passes (linked base) bold (link_end base)
   link-end-passes None = constant (at bold) (at bold) [] (λ outer. refl)
   link-end-passes (Some base) = constant (at (codes "a" ∷ bold)) (at bold) (codes "</a>") (λ outer. refl)
 

@@ -102,7 +102,8 @@ module _ (names : List (List ℕ)) where
   unfolding fact.counts_text
   counts-pass mdb = count-row-passes (codes "Files") mdb.files refl ▹ count-row-passes (codes "Folders") mdb.folders refl
 
-abbrev body : List (List ℕ)
+-- what stands open in a page behind its head
+abbrev pub body : List (List ℕ)
 body = codes "main" ∷ codes "body" ∷ codes "html" ∷ []
 
 abbrev facts : List (List ℕ)
@@ -123,7 +124,7 @@ in-style = codes "style" ∷ codes "head" ∷ codes "html" ∷ []
 abbrev in-heading : List (List ℕ)
 in-heading = codes "h1" ∷ body
 
-page-head-passes : (style title : List ℕ) → Leads [] [] style → list_all is_no_delimiter title ≡ true → Passes [] body (head_text style title)
+pub page-head-passes : (style title : List ℕ) → Leads [] [] style → list_all is_no_delimiter title ≡ true → Passes [] body (head_text style title)
 unfolding head_text fact.start_text
 page-head-passes style title clean plain =
     constant (at []) (at in-title) fact.start_text (λ outer. refl) ▹ text-goes in-title title plain ▹ constant (at in-title) (at in-style) (codes "</title>\n<style>") (λ outer. refl)

@@ -6,7 +6,7 @@ ghost use Rattle.hfs_page.specs.Markup.{Leads};
 use crate::page_image::PageImage;
 use crate::page_texts::PageTexts;
 use crate::script::script;
-use crate::style::style;
+use crate::style::page_style;
 
 /// The heading of the items, the field of the search, which the script shows, and the heads of the
 /// items' columns, of which the script makes buttons.
@@ -56,7 +56,7 @@ pub fn standard_texts<'a>(version: &'a [u8], image: PageImage<'a>) -> PageTexts<
     ensures dress { IsDress result }
 {
     PageTexts {
-        style: style(),
+        style: page_style(),
         columns: columns(),
         legend: legend(),
         script: script(),

@@ -203,8 +203,8 @@ fn push_start(page: &mut Vec<u8>) -> Result<(), AllocError>
     )
 }
 
-/// Appends the beginning of a page with this title and this dress.
-pub(crate) fn push_head(page: &mut Vec<u8>, style: &[u8], title: &[u8]) -> Result<(), AllocError>
+/// Appends the beginning of a page with this title, which is markup, and this style.
+pub fn push_head(page: &mut Vec<u8>, style: &[u8], title: &[u8]) -> Result<(), AllocError>
     ensures { OnOk result (Gains page.old page.new (head_text style.now title.now)) }
 {
     push_start(page)?;

@@ -4,7 +4,7 @@ ghost use Rattle.hfs_page.specs.Markup.{Leads};
 
 /// The style in the head, in light and in dark. A wide page has the items in columns, beside the
 /// picture; a narrow one has them before it. Uses of blocks differ in contrast and in pattern.
-pub(crate) fn style() -> &'static [u8]
+pub fn page_style() -> &'static [u8]
     ensures { Leads [] [] result.now }
 {
     b"

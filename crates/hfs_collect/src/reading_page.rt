@@ -1,0 +1,63 @@
+//! The word `page`, from the command line to what it asks for.
+
+use clap::{ArgMatches, Command};
+use hfs_arguments::{Argument, NoValue, Takes, Word};
+use std::alloc::{AllocError, Global};
+
+/// A database whose page is printed.
+#[derive(Clone, Copy, Drop)]
+pub struct PageWords<'a> {
+    /// The path of the database.
+    pub database: &'a str,
+    /// The URL of the folder that has the pages of disks.
+    pub base: Option<&'a str>,
+}
+
+/// The path of the database, which has to be one already.
+const DATABASE: Argument = Argument {
+    name: "DATABASE",
+    takes: Takes::Text,
+    help: "The file of SQLite that has the collection",
+    excludes: &[],
+};
+
+/// The URL of the folder of pages.
+const BASE: Argument = Argument {
+    name: "base",
+    takes: Takes::TextOption { value: "URL" },
+    help: "Each image's path is a link to its page below this URL, which begins with http: or https:, or is relative",
+    excludes: &[],
+};
+
+/// What the help says behind the arguments.
+const PAGE_HELP: &str = "The page is one document of HTML by itself: it asks for nothing from
+elsewhere, and may be put on a web site as it is. It has a line for each
+volume: its image, its name, how many files there are and how many of
+them are damaged, its free space, when it was created and modified, and
+its verdict. Below them are the contents of forks that lie on most
+volumes, 1,000 at most: one path of each, its bytes and its digest.
+
+With --base URL the page of images/disk.img is URL/images/disk.img.html,
+as hfs_tool page prints it. Where an image has several volumes, that of
+the N-th is URL/images/disk.img.N.html.";
+
+/// The word `page`.
+const PAGE: Word = Word {
+    name: "page",
+    about: "Prints a page for a browser: the volumes of a collection, and what lies on several of them",
+    after_help: Some(PAGE_HELP),
+    arguments: &[DATABASE, BASE],
+};
+
+/// The command of `page`.
+pub fn page_command<'a>(alloc: Global) -> Result<Command<'a>, AllocError> {
+    PAGE.command(alloc)
+}
+
+/// What `page` asks for.
+pub fn page_words<'a>(matches: &ArgMatches<'a>) -> Result<PageWords<'a>, NoValue> {
+    Ok(PageWords {
+        database: DATABASE.text(matches)?,
+        base: BASE.given_text(matches),
+    })
+}

@@ -1,0 +1,28 @@
+//! The style of a collection's page, beside that of all pages.
+ghost use Rattle.std.specs.Prelude.{[]};
+ghost use Rattle.hfs_page.specs.Markup.{Leads};
+
+/// The style behind that of all pages. Volumes stand in lists of 100 lines, of which a browser lays out those alone that are
+/// seen; a wide page has them in columns.
+pub(crate) fn style() -> &'static [u8]
+    ensures { Leads [] [] result.now }
+{
+    b"main{display:block;max-width:108rem}
+output{color:var(--faint);font-size:.875rem}
+ul[hidden],.lines li[hidden]{display:none}
+.lines ul{content-visibility:auto;contain-intrinsic-block-size:calc(var(--lines,100)*3.8rem)}
+.lines li{padding:.35rem 0;border-top:1px solid var(--line)}
+.lines b{display:block;font-weight:600;white-space:pre-wrap}
+.lines a{color:inherit;text-decoration-color:var(--edge)}
+.lines a:hover{color:var(--mark)}
+.lines span{color:var(--faint);font-size:.875rem;font-variant-numeric:tabular-nums;white-space:pre-wrap}
+.lines span:not(:empty){margin-right:1.25em}
+@media (min-width:72rem){
+.lines ul{contain-intrinsic-block-size:calc(var(--lines,100)*2.3rem)}
+.lines li:not([hidden]){display:grid;column-gap:1rem;align-items:baseline;
+grid-template-columns:minmax(12rem,3fr) minmax(8rem,2fr) 6.5rem 6.5rem 7rem 9rem 9rem minmax(6rem,2fr)}
+#contents li{grid-template-columns:minmax(12rem,3fr) 7rem 9rem minmax(12rem,2fr)!important}
+.lines span:not(:empty){margin:0}
+}
+"
+}

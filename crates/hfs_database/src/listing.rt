@@ -1,0 +1,56 @@
+//! What a page of a collection lists: rows of texts.
+ghost use Rattle.std.specs.Prelude.{◌≡◌, IfOk};
+ghost use Rattle.sqlite.specs.Held.{state};
+ghost use Rattle.hfs_database.specs.Listing.{IsListed, IsShown, listing_text};
+
+use crate::collection::Collection;
+use crate::fault::{DatabaseFault, writing_fault};
+use sqlite::{Alter, Connection, Row};
+
+/// What is listed of a collection. A row has texts, or NULL where there is nothing to tell.
+#[derive(Clone, Copy, Debug, PartialEq, Eq)]
+pub enum Listing {
+    /// Each volume, in the order of images and numbers: the path of its page, the image's path, the volume's name, files, damaged
+    /// ones if there are any, free space, the days when it was created and modified, its verdict.
+    Volumes,
+    /// The 1,000 digests of forks that lie on most volumes, of which there are two or more: a path, how many volumes, how many bytes,
+    /// the digest.
+    Copies,
+}
+
+/// The question that a listing answers.
+#[tactic(auto, unfolding(crate::specs::Listing::volumes_text, crate::specs::Listing::copies_text))]
+fn listing_text(listing: Listing) -> &'static str
+    ensures { result.now ≡ listing_text listing }
+{
+    match listing {
+        Listing::Volumes => {
+            "SELECT image.path || CASE WHEN (SELECT count(*) FROM volume AS other WHERE other.image = volume.image) = 1 THEN '' ELSE '.' || volume.number END || '.html', image.path, volume.name, 'files ' || (SELECT count(*) FROM item WHERE item.volume = volume.id AND item.kind = 'file'), 'damaged ' || nullif((SELECT count(*) FROM item WHERE item.volume = volume.id AND (item.data_verdict <> 'whole' OR item.resource_verdict <> 'whole')), 0), 'free ' || CASE WHEN volume.free_blocks * volume.block_bytes < 1048576 THEN ((volume.free_blocks * volume.block_bytes + 512) / 1024) || ' KB' ELSE ((volume.free_blocks * volume.block_bytes + 524288) / 1048576) || ' MB' END, 'created ' || substr(volume.created, 1, 10), 'modified ' || substr(volume.modified, 1, 10), volume.verdict FROM volume JOIN image ON image.id = volume.image ORDER BY image.path, volume.number"
+        }
+        Listing::Copies => {
+            "SELECT path, 'volumes ' || volumes, bytes || ' bytes', digest FROM (SELECT min(path) AS path, count(DISTINCT volume) AS volumes, min(bytes) AS bytes, digest FROM (SELECT volume, coalesce(path, bag_path) AS path, data_bytes AS bytes, data_sha256 AS digest FROM item WHERE data_bytes > 0 AND data_sha256 IS NOT NULL UNION ALL SELECT volume, coalesce(path, bag_path), resource_bytes, resource_sha256 FROM item WHERE resource_bytes > 0 AND resource_sha256 IS NOT NULL) AS fork GROUP BY digest HAVING count(DISTINCT volume) > 1) AS content ORDER BY volumes DESC, digest LIMIT 1000"
+        }
+    }
+}
+
+/// All rows that a database answers to a question. Faults: `CannotWrite` where it can't be read, `NoMemory`.
+fn shown<S: Alter>(conn: &mut Connection<S>, text: &str) -> Result<Vec<Row>, DatabaseFault>
+    ensures { IfOk result (λ rows. IsShown (state S.Store conn.old) (state S.Store conn.new)
+        text.now rows.items) }
+{
+    match conn.query_all(text, &[]) {
+        Ok(rows) => Ok(rows),
+        Err(error) => Err(writing_fault(&error)),
+    }
+}
+
+/// The rows of a listing. Faults: `CannotWrite` where the database can't be read, `NoMemory`.
+pub fn listed<S: Alter>(
+    collection: &mut Collection<S>,
+    listing: Listing,
+) -> Result<Vec<Row>, DatabaseFault>
+    ensures { IfOk result (λ rows. IsListed (state S.Store collection.old.conn)
+        (state S.Store collection.new.conn) listing rows.items) }
+{
+    shown(&mut collection.conn, listing_text(listing))
+}
