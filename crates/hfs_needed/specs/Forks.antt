@@ -92,14 +92,6 @@ abbrev pub OfForkNamed : Option (List ℕ) → ℕ → ℕ → List ℕ → Fork
 OfForkNamed known len dir name fork Fact =
     OfKnown known len (λ image. (bytes : List ℕ) × (named_fork (entries_of (volume_of image)) dir name fork ≡ Ok bytes) × Fact bytes)
 
--- what is found under that name, where it is bytes, is the fork's
-abbrev pub FindsForkNamed : Option (List ℕ) → ℕ → ℕ → List ℕ → Fork → Result (Vec ℕ Global) Reply → Type 0
-FindsForkNamed known len dir name fork = λ found. IfOk found (λ bytes. IsForkNamed known len dir name fork (Ok bytes.items))
-
--- and where it is a reply, refuses the fork
-abbrev pub RefusesForkNamed : Option (List ℕ) → ℕ → ℕ → List ℕ → Fork → Result (Vec ℕ Global) Reply → Type 0
-RefusesForkNamed known len dir name fork = λ found. IfErr found (λ reply. IsForkNamed known len dir name fork (Err reply))
-
 -- the bytes are those of a fork of the image, where it is known and whole
 abbrev pub HoldsFork : Option (List ℕ) → ℕ → Numbered → ℕ → ForkKind → ForkRecord → Vec ℕ Global → Type 0
 HoldsFork known total read file kind fork = λ bytes. OfWhole known total (λ image. bytes.items ≡ bytes_by read image file kind fork)
