@@ -1,6 +1,5 @@
 -- What the blocks that were read tell of a file is so in each image that has them.
-use Rattle.std.proofs.Common.{◌≡◌, ℕ, ◌/◌, List, length, Option, Some, Result, Ok, Err, refl, sym, subst}
-use Rattle.std.specs.Prelude.{IfSome}
+use Rattle.std.proofs.Common.{◌≡◌, ℕ, ◌/◌, List, length, Option, Some, Ok, Err, refl, sym, subst}
 use Rattle.hfs_fields.specs.declared.file_record.FileRecord.{FileRecord}
 use Rattle.hfs_blocks.specs.Blocks.{block_count}
 use Rattle.hfs_model.specs.declared.call.Fork.{Fork}
@@ -13,7 +12,6 @@ use Rattle.hfs_check.specs.Sound.{AreBlocksSound}
 use Rattle.hfs_check.specs.VolumeOf.{volume_of}
 use Rattle.hfs_queries.proofs.QueriesLaws.{RecordsAreEntries}
 use Rattle.hfs_queries.specs.Told.{cat_info, file_named}
-use Rattle.hfs_source.specs.Images.{HasLength, OfEach}
 use Rattle.hfs_sparse.specs.Sparse.{sparse}
 use Rattle.hfs_needed.specs.declared.opening.NeededVolume.{NeededVolume}
 use Rattle.hfs_needed.specs.Forks.{HasWhole, fork_by}
@@ -31,14 +29,6 @@ read_of_each Holds len volume is = record {
   seen = is.seen;
   blocks = λ image h.
       subst (λ (n : ℕ). block_count image ≡ n) (sym is.opened.whole) (subst (λ (n : ℕ). n / 512 ≡ len / 512) (sym (is.long image h)) refl);
-}
-
--- and stays so when more is read
-pub still_seen : (old new : List ℕ → Type 0) (len : ℕ) (volume : NeededVolume) → OfEach new old → IsSeenAs old len volume → IsSeenAs new len volume
-still_seen old new len volume narrows is = record {
-  opened = is.opened;
-  seen = λ image h. is.seen image (narrows image h);
-  long = λ image h. is.long image (narrows image h);
 }
 
 module _ (law : NoBlocksFault) (enough : GatheredIsEnough) (answers : RecordsAreEntries) (Holds : List ℕ → Type 0) (volume : NeededVolume) (known : Option (List ℕ))

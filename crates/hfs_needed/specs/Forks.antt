@@ -1,5 +1,5 @@
 -- The bytes of a file's fork, of an image of which only the needed blocks and the fork's own are read.
-use Rattle.std.specs.Prelude.{◌≡◌, ℕ, ◌<◌, not, if◌then◌else◌, List, length, Result, Ok, Err, Option, IfSome, IfOk, IfErr, OnOk, ⊤}
+use Rattle.std.specs.Prelude.{◌≡◌, ℕ, ◌<◌, not, if◌then◌else◌, List, length, Result, Ok, Err, Option, IfSome, IfErr, OnOk, ⊤}
 use Rattle.std.proofs.Common.{Vec, Global}
 use Rattle.std.specs.Option.{option_map_or}
 use Rattle.std.specs.Io.KnownBytes.{Appends}
