@@ -37,7 +37,7 @@ pub use fault::{Fault, Status};
 pub use files::{WatchedImage, load_file, load_script, open_watched};
 pub use forks::write_fork;
 pub use hfs_containers::{ByteRange, Counted, Layout, NumberedRange, RawFile, ReadAt, Window};
-pub use hfs_needed::{NeededFault, NeededFile, OpenedImage, SeenImage, Unopened};
+pub use hfs_needed::{NeededFault, NeededFile, SeenImage, Unopened};
 pub use hfs_refusals::{Hint, Refusal};
 pub use hfs_runs::{Answers, Gate, Ran, ScriptFault, run_script, run_script_at};
 pub use hfs_sparse::{BlockSource, ByteSource, CopyFault, SparseFault};
