@@ -9,7 +9,7 @@ use crate::running::run_script_of;
 use crate::saving::{save, save_as_read, tell};
 use crate::taking::take_volume;
 use crate::volumes::print_volumes;
-use crate::words::{FileWords, ForkWords, NewVolume, Words};
+use crate::words::{NewVolume, Words};
 use hfs_check::MountFault;
 use hfs_commands::{
     CheckAnswer, Fault, Format, NeededFile, NeededRepair, PartBlocks, PartImage, RepairAnswer,
