@@ -1,39 +1,21 @@
 //! The item that the text of a path leads to.
 ghost use Rattle.std.specs.Prelude.{◌≡◌, IfOk};
-ghost use Rattle.hfs_needed.specs.Known.{OfKnown};
 ghost use Rattle.hfs_commands.specs.ByPath.{IsFilePathReply, IsPathReply, file_reply, is_folder_kind, tells_folder};
 ghost use Rattle.hfs_source.specs.Images.{OfEach};
 
 use hfs_model::{ItemKind, NOT_FOUND, Reply, Value};
-use hfs_needed::{OpenedImage, SeenImage};
+use hfs_needed::SeenImage;
 use hfs_paths::path_names;
 use hfs_queries::refusal;
 use hfs_source::PlacedBlocks;
-use hfs_sparse::BlockSource;
 use std::alloc::{AllocError, Global};
 
-/// What is told of the item that a Mac path leads to, the volume's name first, in an image that was opened: the reply to GetCatInfo of it,
-/// or to GetDirInfo of the root. A path that begins with `:` leaves the volume's name out, and `:` is the root. -43 where the text is no
-/// path, leads nowhere or begins with another name; -120 where it goes through a file. The only error is want of memory.
+/// What is told of the item that a Mac path leads to, the volume's name first, in each image that has the bytes which were read of one that
+/// was opened: the reply to GetCatInfo of it, or to GetDirInfo of the root. A path that begins with `:` leaves the volume's name out, and
+/// `:` is the root. -43 where the text is no path, leads nowhere or begins with another name; -120 where it goes through a file. The only
+/// error is want of memory.
 #[tactic(auto, using(crate::proofs::PathReplies::by_names, crate::proofs::PathReplies::by_none))]
-pub fn path_reply<S: BlockSource + Drop>(
-    alloc: Global,
-    image: &OpenedImage<S>,
-    path: &str,
-) -> Result<Reply, AllocError>
-    ensures { IfOk result (λ reply. OfKnown image.now.known image.now.len
-        (IsPathReply path.now reply)) }
-{
-    let found = path_names(alloc, path.as_bytes())?;
-    match found {
-        Some(names) => Ok(image.item_at(&names)),
-        None => Ok(refusal(NOT_FOUND)),
-    }
-}
-
-/// What [`path_reply`] answers, of each image that has the bytes which were read of one that was opened. The only error is want of memory.
-#[tactic(auto, using(crate::proofs::PathReplies::seen_names, crate::proofs::PathReplies::seen_none))]
-pub fn seen_path_reply<S: PlacedBlocks + Drop>(
+pub fn path_reply<S: PlacedBlocks + Drop>(
     alloc: Global,
     image: &SeenImage<S>,
     path: &str,
@@ -78,13 +60,12 @@ fn file_reply(reply: Reply) -> Reply
 
 /// As [`path_reply`], but -43 where the path leads to a folder, which has no forks.
 #[tactic(auto, using(crate::proofs::PathReplies::of_file))]
-pub fn file_path_reply<S: BlockSource + Drop>(
+pub fn file_path_reply<S: PlacedBlocks + Drop>(
     alloc: Global,
-    image: &OpenedImage<S>,
+    image: &SeenImage<S>,
     path: &str,
 ) -> Result<Reply, AllocError>
-    ensures { IfOk result (λ reply. OfKnown image.now.known image.now.len
-        (IsFilePathReply path.now reply)) }
+    ensures { IfOk result (λ reply. OfEach (S.Holds image.now) (IsFilePathReply path.now reply)) }
 {
     let reply = path_reply(alloc, image, path)?;
     Ok(file_reply(reply))

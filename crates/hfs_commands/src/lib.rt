@@ -29,7 +29,7 @@ mod watched;
 
 pub use answers::write_answers;
 pub use beside::Leftover;
-pub use by_path::{file_path_reply, path_reply, seen_path_reply};
+pub use by_path::{file_path_reply, path_reply};
 pub use checking::{CheckAnswer, check_answer, needed_check_answer, refused_text, report_answer};
 pub use contents::{Contents, ReadContents, UnwrittenFault};
 pub use extracting::{ImageContents, extracted_text, need_volume, write_range};
@@ -37,7 +37,7 @@ pub use fault::{Fault, Status};
 pub use files::{WatchedImage, load_file, load_script, open_watched};
 pub use forks::write_fork;
 pub use hfs_containers::{ByteRange, Counted, Layout, NumberedRange, RawFile, ReadAt, Window};
-pub use hfs_needed::{NeededFault, NeededFile, OpenedImage, SeenImage, Unopened, needed_file};
+pub use hfs_needed::{NeededFault, NeededFile, SeenImage, Unopened};
 pub use hfs_refusals::{Hint, Refusal};
 pub use hfs_runs::{Answers, Gate, Ran, ScriptFault, run_script, run_script_at};
 pub use hfs_sparse::{BlockSource, ByteSource, CopyFault, SparseFault};

@@ -19,3 +19,4 @@ pub mod SoundTrees
 pub mod LawsProved
 pub mod GatheredLaws
 pub mod SeenStart
+pub mod SeenFiles

@@ -17,7 +17,7 @@ use Rattle.hfs_sparse.specs.Sparse.{sparse, IsOf}
 use Rattle.hfs_needed.specs.Gathered.{HasNeeded, IsOfKnown}
 use Rattle.hfs_needed.proofs.GatheredLaws.{GatheredIsEnough}
 use Rattle.hfs_needed.specs.Known.{OfKnown}
-use Rattle.hfs_needed.specs.Paths.{told_at, path_told, IsToldAt}
+use Rattle.hfs_needed.specs.Paths.{told_at, path_told}
 use Rattle.hfs_needed.proofs.Listed.{held, entries-are}
 
 module _ (law : NoBlocksFault) (enough : GatheredIsEnough) (answers : RecordsAreEntries) (bytes : List ℕ) (read : Numbered)
@@ -47,7 +47,8 @@ told-known law enough answers (Some bytes) len read needed of sound dir name rep
 
 pub path-known : NoBlocksFault → GatheredIsEnough → RecordsAreEntries → (known : Option (List ℕ)) (len : ℕ) (read : Numbered) → HasNeeded (len / 512) read
     → IsOfKnown known read → AreBlocksSound (len / 512) (sparse read) → (names : List (List ℕ)) (reply : Reply)
-    → reply ≡ told_at (cat_info (catalog_in (sparse read))) (dir_info (catalog_in (sparse read)) 2) names → IsToldAt known len names reply
+    → reply ≡ told_at (cat_info (catalog_in (sparse read))) (dir_info (catalog_in (sparse read)) 2) names
+    → OfKnown known len (λ bytes. reply ≡ path_told (entries_of (volume_of bytes)) names)
 path-known law enough answers None len read needed of sound names reply e = tt
 path-known law enough answers (Some bytes) len read needed of sound names reply e = λ same.
     e

@@ -1,5 +1,5 @@
 -- The bytes of a file's fork, of an image of which only the needed blocks and the fork's own are read.
-use Rattle.std.specs.Prelude.{◌≡◌, ℕ, ◌<◌, not, if◌then◌else◌, List, length, Result, Ok, Err, Option, IfSome, IfOk, IfErr, OnOk, ⊤}
+use Rattle.std.specs.Prelude.{◌≡◌, ℕ, ◌<◌, not, if◌then◌else◌, List, length, Result, Ok, Err, Option, IfSome, IfErr, OnOk, ⊤}
 use Rattle.std.proofs.Common.{Vec, Global}
 use Rattle.std.specs.Option.{option_map_or}
 use Rattle.std.specs.Io.KnownBytes.{Appends}
@@ -91,14 +91,6 @@ pub record AreForkRuns (read : Numbered) (count file : ℕ) (kind : ForkKind) (f
 abbrev pub OfForkNamed : Option (List ℕ) → ℕ → ℕ → List ℕ → Fork → (List ℕ → Type 0) → Type 0
 OfForkNamed known len dir name fork Fact =
     OfKnown known len (λ image. (bytes : List ℕ) × (named_fork (entries_of (volume_of image)) dir name fork ≡ Ok bytes) × Fact bytes)
-
--- what is found under that name, where it is bytes, is the fork's
-abbrev pub FindsForkNamed : Option (List ℕ) → ℕ → ℕ → List ℕ → Fork → Result (Vec ℕ Global) Reply → Type 0
-FindsForkNamed known len dir name fork = λ found. IfOk found (λ bytes. IsForkNamed known len dir name fork (Ok bytes.items))
-
--- and where it is a reply, refuses the fork
-abbrev pub RefusesForkNamed : Option (List ℕ) → ℕ → ℕ → List ℕ → Fork → Result (Vec ℕ Global) Reply → Type 0
-RefusesForkNamed known len dir name fork = λ found. IfErr found (λ reply. IsForkNamed known len dir name fork (Err reply))
 
 -- the bytes are those of a fork of the image, where it is known and whole
 abbrev pub HoldsFork : Option (List ℕ) → ℕ → Numbered → ℕ → ForkKind → ForkRecord → Vec ℕ Global → Type 0

@@ -10,6 +10,6 @@ pub mod Finding
 pub mod Listing
 pub mod TreeReads
 pub mod OpenedValues
-pub mod WholeFiles
+pub mod SeenFiles
 pub mod Paths
 pub mod ForkRuns

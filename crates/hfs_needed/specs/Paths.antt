@@ -1,5 +1,5 @@
 -- What is told of the item that the names of a path lead to.
-use Rattle.std.specs.Prelude.{◌≡◌, ℕ, Bool, false, ◌||◌, ◌==◌, if◌then◌else◌, List, [], ◌∷◌, length, Option}
+use Rattle.std.specs.Prelude.{ℕ, Bool, false, ◌||◌, ◌==◌, if◌then◌else◌, List, [], ◌∷◌, length}
 use Rattle.std.specs.List.{fold}
 use Rattle.hfs_fields.specs.Names.{is_item_name}
 use Rattle.hfs_fields.specs.Order.{same_name}
@@ -7,12 +7,9 @@ use Rattle.hfs_model.specs.declared.codes.TheConstants.{NOT_FOUND}
 use Rattle.hfs_model.specs.declared.reply.Reply.{Reply}
 use Rattle.hfs_model.specs.declared.reply.Value.{Value}
 use Rattle.hfs_model.specs.declared.reply.Value.TheVariants.{Nothing, Id, One, Many, Bytes, Full, Place}
-use Rattle.hfs_model.specs.Children.{entries_of}
 use Rattle.hfs_model.specs.Reading.{get_cat_info, get_dir_info}
 use Rattle.hfs_model.specs.Replies.{refusal}
 use Rattle.hfs_model.specs.Volume.{Entry}
-use Rattle.hfs_check.specs.VolumeOf.{volume_of}
-use Rattle.hfs_needed.specs.Known.{OfKnown}
 
 -- of the item of that name in the folder of that ID, by this; a name that no item may have leads nowhere: -43
 abbrev pub told_child : (ℕ → List ℕ → Reply) → ℕ → List ℕ → Reply
@@ -50,7 +47,3 @@ told_at child root (first ∷ below) = if is_root_name first root.value then fol
 -- by the items of a volume, whose root has the ID 2
 abbrev pub path_told : List Entry → List (List ℕ) → Reply
 path_told es names = told_at (get_cat_info es) (get_dir_info es 2) names
-
--- where the image's bytes are known, and are so many, this is told of the item
-abbrev pub IsToldAt : Option (List ℕ) → ℕ → List (List ℕ) → Reply → Type 0
-IsToldAt known len names reply = OfKnown known len (λ image. reply ≡ path_told (entries_of (volume_of image)) names)

@@ -1,16 +1,19 @@
 //! The bytes of forks, by the needed blocks of an image.
-ghost use Rattle.std.specs.Prelude.{◌≡◌, ℕ, ◌/◌, Err, IfOk, IfErr, OnErr, OnOk};
+ghost use Rattle.std.specs.Prelude.{◌≡◌, ℕ, ◌/◌, Err, None, IfOk, OnErr, OnOk};
 ghost use Rattle.std.specs.Io.KnownBytes.{Appends};
 ghost use Rattle.hfs_texts.specs.Writing.{AppendsFront};
 ghost use Rattle.hfs_check.specs.Parts.{mdb_in, catalog_in};
 ghost use Rattle.hfs_check.specs.Sound.{AreBlocksSound};
 ghost use Rattle.hfs_check.specs.Trees.{HasTrees};
 ghost use Rattle.hfs_queries.specs.Told as told;
+ghost use Rattle.hfs_source.specs.Images.{OfEach};
+ghost use Rattle.hfs_sparse.specs.Seen.{EachKnown};
 ghost use Rattle.hfs_sparse.specs.Sparse.{sparse};
-ghost use Rattle.hfs_needed.specs.Forks.{AreForkRuns, AreForksIn, FindsForkNamed, HoldsFork, HoldsForkOf, IsForkIn, OfFork, OfForkNamed, OfForkOf, RefusesForkNamed, RefusesWriting, WritesForkNamed};
-ghost use Rattle.hfs_needed.specs.Opened.{IsOpenedOf, IsRefusedFor, IsSoundOf};
+ghost use Rattle.hfs_needed.specs.Forks.{AreForkRuns, AreForksIn, HoldsFork, HoldsForkOf, IsForkIn, OfFork, OfForkNamed, OfForkOf, RefusesWriting, WritesForkNamed};
+ghost use Rattle.hfs_needed.specs.Opened.{IsOpenedOf};
+ghost use Rattle.hfs_needed.specs.SeenFiles.{HasForkOf, IsForkFound, IsForkWritten, IsReadOfEach};
 
-use crate::opening::{NeededFault, NeededVolume, open_needed};
+use crate::opening::NeededVolume;
 use hfs_blocks::Run;
 use hfs_btree::RunNodes;
 use hfs_check::{SoundVolume, VolumeTrees};
@@ -63,8 +66,9 @@ fn read_kind<S: BlockSource>(
     requires directory { sound.now.mdb ≡ mdb_in (sparse read.now) }
     requires trees { HasTrees count (sparse read.now) sound.now.trees }
     requires fork { IsForkIn (sparse read.now) file kind fork.now }
-    ensures bytes { IfOk result (HoldsFork (S.image source.old) count read.now file kind fork.now) }
-    ensures image { S.image source.new ≡ S.image source.old }
+    ensures bytes { IfOk result (λ bytes. EachKnown (S.Holds source.new)
+        (λ known. HoldsFork known count read.now file kind fork.now bytes)) }
+    ensures narrows { OfEach (S.Holds source.new) (S.Holds source.old) }
 {
     let Ok(runs) = kind_runs(alloc, read, count, sound, file, kind, fork) else {
         return Err(SparseFault::Memory);
@@ -89,8 +93,9 @@ pub(crate) fn read_file<S: BlockSource>(
     requires directory { sound.now.mdb ≡ mdb_in (sparse read.now) }
     requires trees { HasTrees count (sparse read.now) sound.now.trees }
     requires forks { AreForksIn (sparse read.now) file.now }
-    ensures bytes { IfOk result (HoldsForkOf (S.image source.old) count read.now file.now fork) }
-    ensures image { S.image source.new ≡ S.image source.old }
+    ensures bytes { IfOk result (λ bytes. EachKnown (S.Holds source.new)
+        (λ known. HoldsForkOf known count read.now file.now fork bytes)) }
+    ensures narrows { OfEach (S.Holds source.new) (S.Holds source.old) }
 {
     let id = file.id;
     match fork {
@@ -135,53 +140,20 @@ pub(crate) fn opened_fork<S: BlockSource>(
     name: &[u8],
     fork: Fork,
 ) -> Result<Result<Vec<u8>, Reply>, SparseFault>
-    requires { IsOpenedOf (S.image source.old) volume.now.count volume.now }
-    ensures bytes { (len : ℕ) → len / 512 ≡ volume.now.count
-        → IfOk result (FindsForkNamed (S.image source.old) len dir name.now fork) }
-    ensures unread { (len : ℕ) → len / 512 ≡ volume.now.count
-        → IfOk result (RefusesForkNamed (S.image source.old) len dir name.now fork) }
-    ensures image { S.image source.new ≡ S.image source.old }
+    requires opened { IsOpenedOf None volume.now.count volume.now }
+    requires seen { IsReadOfEach (S.Holds source.old) volume.now }
+    ensures found { IfOk result (λ found. OfEach (S.Holds source.new)
+        (IsForkFound dir name.now fork found)) }
+    ensures narrows { OfEach (S.Holds source.new) (S.Holds source.old) }
 {
-    let sound = &volume.sound;
-    let file = match find_file(&volume.read, volume.count, &sound.trees, dir, name) {
+    let (read, count, sound) = (&volume.read, volume.count, &volume.sound);
+    let file = match find_file(read, count, &sound.trees, dir, name) {
         Ok(file) => file,
         Err(reply) => return Ok(Err(reply)),
     };
-    match read_file(
-        alloc,
-        source,
-        &volume.read,
-        volume.count,
-        sound,
-        &file,
-        fork,
-    ) {
+    match read_file(alloc, source, read, count, sound, &file, fork) {
         Ok(bytes) => Ok(Ok(bytes)),
         Err(fault) => Err(fault),
-    }
-}
-
-/// The bytes of a file's fork in an image of `len` bytes, of which only the blocks are read that its checks need and those of the fork; or
-/// what a call that reads the fork answers where there is none: -37, -120 or -43. Errors: a read failed, memory was refused, or the image is
-/// refused.
-pub fn needed_fork<S: BlockSource>(
-    alloc: Global,
-    source: &mut S,
-    len: u64,
-    dir: u32,
-    name: &[u8],
-    fork: Fork,
-) -> Result<Result<Vec<u8>, Reply>, NeededFault>
-    ensures bytes { IfOk result (FindsForkNamed (S.image source.old) len dir name.now fork) }
-    ensures unread { IfOk result (RefusesForkNamed (S.image source.old) len dir name.now fork) }
-    ensures sound { IfOk result (λ told. IsSoundOf (S.image source.old) len) }
-    ensures refused { IfErr result (λ fault. IsRefusedFor (S.image source.old) len fault) }
-    ensures image { S.image source.new ≡ S.image source.old }
-{
-    let volume = open_needed(alloc, source, len)?;
-    match opened_fork(alloc, source, &volume, dir, name, fork) {
-        Ok(found) => Ok(found),
-        Err(fault) => Err(NeededFault::of_sparse(fault)),
     }
 }
 
@@ -208,6 +180,11 @@ fn write_kind<S: BlockSource, W: Write>(
     ensures none { result ≡ Err CopyFault.ReadFailed → writer.new ≡ writer.old }
     ensures memory { result ≡ Err CopyFault.Memory → writer.new ≡ writer.old }
     ensures image { S.image source.new ≡ S.image source.old }
+    ensures each { OnOk result (EachKnown (S.Holds source.new) (λ known. OfFork known count read.now
+        file kind fork.now (Appends (W.contents writer.old) (W.contents writer.new)))) }
+    ensures each_part { OnErr result (EachKnown (S.Holds source.new) (λ known. OfFork known count
+        read.now file kind fork.now (AppendsFront (W.contents writer.old) (W.contents writer.new)))) }
+    ensures narrows { OfEach (S.Holds source.new) (S.Holds source.old) }
 {
     let Ok(runs) = kind_runs(alloc, read, count, sound, file, kind, fork) else {
         return Err(CopyFault::Memory);
@@ -238,6 +215,11 @@ fn write_file<S: BlockSource, W: Write>(
     ensures none { result ≡ Err CopyFault.ReadFailed → writer.new ≡ writer.old }
     ensures memory { result ≡ Err CopyFault.Memory → writer.new ≡ writer.old }
     ensures image { S.image source.new ≡ S.image source.old }
+    ensures each { OnOk result (EachKnown (S.Holds source.new) (λ known. OfForkOf known count
+        read.now file.now fork (Appends (W.contents writer.old) (W.contents writer.new)))) }
+    ensures each_part { OnErr result (EachKnown (S.Holds source.new) (λ known. OfForkOf known count
+        read.now file.now fork (AppendsFront (W.contents writer.old) (W.contents writer.new)))) }
+    ensures narrows { OfEach (S.Holds source.new) (S.Holds source.old) }
 {
     let id = file.id;
     match fork {
@@ -278,6 +260,13 @@ pub(crate) fn write_opened<S: BlockSource, W: Write>(
     ensures none { result ≡ Err CopyFault.ReadFailed → writer.new ≡ writer.old }
     ensures memory { result ≡ Err CopyFault.Memory → writer.new ≡ writer.old }
     ensures image { S.image source.new ≡ S.image source.old }
+    ensures each { IsReadOfEach (S.Holds source.old) volume.now → IfOk result (λ found.
+        OfEach (S.Holds source.new) (IsForkWritten dir name.now fork (W.contents writer.old)
+        (W.contents writer.new) found)) }
+    ensures each_part { IsReadOfEach (S.Holds source.old) volume.now → OnErr result
+        (OfEach (S.Holds source.new) (HasForkOf dir name.now fork
+        (AppendsFront (W.contents writer.old) (W.contents writer.new)))) }
+    ensures narrows { OfEach (S.Holds source.new) (S.Holds source.old) }
 {
     let (read, count, sound) = (&volume.read, volume.count, &volume.sound);
     let file = match find_file(read, count, &sound.trees, dir, name) {

@@ -18,7 +18,6 @@ mod tree_nodes;
 mod whole_files;
 
 pub use crate::fork_runs::{FileRuns, ForkRuns};
-pub use crate::forks::needed_fork;
 pub use crate::gathering::gather_needed;
 pub use crate::laws::{marked_nodes_decide, needed_is_enough, needed_of_images};
 pub use crate::listing::needed_list;
@@ -26,4 +25,4 @@ pub use crate::opened::OpenedImage;
 pub use crate::opening::{NeededFault, NeededVolume};
 pub use crate::reporting::needed_report;
 pub use crate::seen::{SeenImage, Unopened};
-pub use crate::whole_files::{NeededFile, needed_file};
+pub use crate::whole_files::NeededFile;

@@ -5,27 +5,22 @@ ghost use Rattle.hfs_blocks.specs.Blocks.{AreRunsWithin};
 ghost use Rattle.hfs_model.specs.declared.call.Fork.TheVariants.{DataFork, ResFork};
 ghost use Rattle.hfs_sparse.specs.Sparse.{HoldsFrom};
 ghost use Rattle.hfs_needed.specs.ForkRuns.{AreRunsNamed, RefusesForks};
-ghost use Rattle.hfs_needed.specs.Forks.{FindsForkNamed, OfForkNamed, RefusesForkNamed, RefusesWriting, WritesForkNamed};
+ghost use Rattle.hfs_needed.specs.Forks.{OfForkNamed, RefusesWriting, WritesForkNamed};
 ghost use Rattle.hfs_needed.specs.Listing.{HoldsCatalog, HoldsTable};
 ghost use Rattle.hfs_needed.specs.Known.{IsReportOf};
 ghost use Rattle.hfs_needed.specs.Opened.{IsRefusedFor, IsSoundOf, IsOpenedOf};
 ghost use Rattle.hfs_needed.specs.OpenedValues.{opened_value};
-ghost use Rattle.hfs_needed.specs.Paths.{IsToldAt};
-ghost use Rattle.hfs_needed.specs.WholeFiles.{HoldsDataNamed, HoldsResourceNamed, RefusesFileNamed, TellsOfFile};
 
 use crate::fork_runs::{FileRuns, opened_runs};
-use crate::forks::{opened_fork, write_opened};
+use crate::forks::write_opened;
 use crate::listing::catalog_records;
 use crate::opening::{NeededFault, NeededVolume, open_needed};
-use crate::paths::told_in;
 use crate::reporting::{ReportedVolume, open_reported};
-use crate::whole_files::{NeededFile, opened_file};
 use hfs_catalog::CatalogRecord;
 use hfs_check::Report;
-use hfs_fields::Name;
 use hfs_inventory::Inventory;
 use hfs_model::{Fork, Reply};
-use hfs_sparse::{BlockSource, CopyFault, SparseFault};
+use hfs_sparse::{BlockSource, CopyFault};
 use std::alloc::{AllocError, Global};
 use std::io;
 use std::io::Write;
@@ -99,16 +94,6 @@ impl<S: BlockSource + Drop> OpenedImage<S> {
         &self.volume
     }
 
-    /// What is told of the item that the names of a path lead to, from the root's down: the reply to GetCatInfo of it, or to GetDirInfo of
-    /// the root. An empty first name stands for the root's. -43 where the first name isn't the root's or a name leads nowhere, -120
-    /// where the way goes through a file. Nothing is read.
-    pub fn item_at(&self, names: &[Name]) -> Reply
-        ensures { IsToldAt self.now.known self.now.len names.now result }
-    {
-        let volume = &self.volume;
-        told_in(&volume.read, volume.count, &volume.sound.trees, names)
-    }
-
     /// All records of the catalog, in the order of its leaves: those of the items, and of their threads. Nothing is read. Error: memory was
     /// refused.
     pub fn records(&self, alloc: Global) -> Result<Vec<CatalogRecord>, AllocError>
@@ -125,42 +110,6 @@ impl<S: BlockSource + Drop> OpenedImage<S> {
         let volume = &self.volume;
         let records = catalog_records(alloc, &volume.read, volume.count, &volume.sound.trees)?;
         Inventory::new(alloc, records)
-    }
-
-    /// The bytes of a file's fork, whose own blocks alone are read; or what a call that reads the fork answers where there is none: -37,
-    /// -120 or -43. Errors: a read failed, memory was refused.
-    pub fn fork(
-        &mut self,
-        alloc: Global,
-        dir: u32,
-        name: &[u8],
-        fork: Fork,
-    ) -> Result<Result<Vec<u8>, Reply>, SparseFault>
-        ensures bytes { IfOk result
-            (FindsForkNamed self.old.known self.old.len dir name.now fork) }
-        ensures unread { IfOk result
-            (RefusesForkNamed self.old.known self.old.len dir name.now fork) }
-        ensures kept { self.new ≡ self.old }
-    {
-        opened_fork(alloc, &mut self.source, &self.volume, dir, name, fork)
-    }
-
-    /// What is told of a file, and the bytes of both its forks, whose own blocks alone are read; or what a call that reads a fork answers
-    /// where there is no such file: -37, -120 or -43. Errors: a read failed, memory was refused.
-    pub fn file(
-        &mut self,
-        alloc: Global,
-        dir: u32,
-        name: &[u8],
-    ) -> Result<Result<NeededFile, Reply>, SparseFault>
-        ensures told { IfOk result (TellsOfFile self.old.known self.old.len dir name.now) }
-        ensures data_fork { IfOk result (HoldsDataNamed self.old.known self.old.len dir name.now) }
-        ensures resource_fork { IfOk result
-            (HoldsResourceNamed self.old.known self.old.len dir name.now) }
-        ensures unread { IfOk result (RefusesFileNamed self.old.known self.old.len dir name.now) }
-        ensures kept { self.new ≡ self.old }
-    {
-        opened_file(alloc, &mut self.source, &self.volume, dir, name)
     }
 
     /// Writes the bytes of a file's fork piece by piece, as they are read, at most 65,536 at a time: memory doesn't grow with the fork. Or answers

@@ -1,5 +1,6 @@
 //! An image that is opened and checked once, of which what is answered holds for each image that has the bytes which were read.
-ghost use Rattle.std.specs.Prelude.{◌≡◌, IfErr, IfOk, None};
+ghost use Rattle.std.specs.Prelude.{◌≡◌, Err, IfErr, IfOk, None, OnErr};
+ghost use Rattle.hfs_texts.specs.Writing.{AppendsFront};
 ghost use Rattle.hfs_model.specs.Children.{entries_of};
 ghost use Rattle.hfs_check.specs.VolumeOf.{volume_of};
 ghost use Rattle.hfs_inventory.specs.Told.{told_rows};
@@ -8,16 +9,20 @@ ghost use Rattle.hfs_needed.specs.Listing.{brief_list};
 ghost use Rattle.hfs_needed.specs.Opened.{IsOpenedOf};
 ghost use Rattle.hfs_needed.specs.Paths.{path_told};
 ghost use Rattle.hfs_needed.specs.Seen.{HasNoFault, IsOpenedBy, IsRefusedBy};
+ghost use Rattle.hfs_needed.specs.SeenFiles.{HasForkOf, IsFileFound, IsForkFound, IsForkWritten};
 
+use crate::forks::{opened_fork, write_opened};
 use crate::listing::{catalog_records, list_in_brief};
 use crate::opening::{NeededFault, NeededVolume, open_needed};
 use crate::paths::told_in;
+use crate::whole_files::{NeededFile, opened_file};
 use hfs_fields::Name;
 use hfs_inventory::Inventory;
-use hfs_model::Reply;
+use hfs_model::{Fork, Reply};
 use hfs_source::PlacedBlocks;
-use hfs_sparse::SeenBlocks;
+use hfs_sparse::{CopyFault, SeenBlocks, SparseFault};
 use std::alloc::{AllocError, Global};
+use std::io::Write;
 use std::marker::Model;
 
 /// A sound image whose needed blocks were read and checked once. What it answers is what each image answers that has the bytes which were
@@ -109,5 +114,60 @@ impl<S: PlacedBlocks> SeenImage<S> {
         let volume = &self.volume;
         let records = catalog_records(alloc, &volume.read, volume.count, &volume.sound.trees)?;
         Inventory::new(alloc, records)
+    }
+    /// The bytes of a file's fork, whose own blocks alone are read; or what a call that reads the fork answers where there is none: -37,
+    /// -120 or -43. Errors: a read failed, memory was refused.
+    pub fn fork(
+        &mut self,
+        alloc: Global,
+        dir: u32,
+        name: &[u8],
+        fork: Fork,
+    ) -> Result<Result<Vec<u8>, Reply>, SparseFault>
+        ensures found { IfOk result (λ found. OfEach (S.Holds self.new)
+            (IsForkFound dir name.now fork found)) }
+        ensures narrows { OfEach (S.Holds self.new) (S.Holds self.old) }
+    {
+        opened_fork(alloc, &mut self.source, &self.volume, dir, name, fork)
+    }
+
+    /// What is told of a file, and the bytes of both its forks, whose own blocks alone are read; or what a call that reads a fork answers
+    /// where there is no such file: -37, -120 or -43. Errors: a read failed, memory was refused.
+    pub fn file(
+        &mut self,
+        alloc: Global,
+        dir: u32,
+        name: &[u8],
+    ) -> Result<Result<NeededFile, Reply>, SparseFault>
+        ensures found { IfOk result (λ found. OfEach (S.Holds self.new)
+            (IsFileFound dir name.now found)) }
+        ensures narrows { OfEach (S.Holds self.new) (S.Holds self.old) }
+    {
+        opened_file(alloc, &mut self.source, &self.volume, dir, name)
+    }
+
+    /// Writes the bytes of a file's fork piece by piece, as they are read, at most 65,536 at a time: memory doesn't grow with the fork. Or answers
+    /// what a call that reads the fork answers where there is none: -37, -120 or -43, and nothing is written. Errors: a read failed or
+    /// memory was refused, before anything was written; a read failed behind bytes that were written, or the writer failed: then a part
+    /// of the fork may have gone out, from its beginning on, and nothing else.
+    pub fn write_fork<W: Write>(
+        &mut self,
+        alloc: Global,
+        dir: u32,
+        name: &[u8],
+        fork: Fork,
+        writer: &mut W,
+    ) -> Result<Result<(), Reply>, CopyFault>
+        ensures written { IfOk result (λ found. OfEach (S.Holds self.new) (IsForkWritten dir name.now
+            fork (W.contents writer.old) (W.contents writer.new) found)) }
+        ensures part { OnErr result (OfEach (S.Holds self.new) (HasForkOf dir name.now fork
+            (AppendsFront (W.contents writer.old) (W.contents writer.new)))) }
+        ensures unwritten { IfOk result (λ found. OnErr found (writer.new ≡ writer.old)) }
+        ensures none { result ≡ Err CopyFault.ReadFailed → writer.new ≡ writer.old }
+        ensures memory { result ≡ Err CopyFault.Memory → writer.new ≡ writer.old }
+        ensures narrows { OfEach (S.Holds self.new) (S.Holds self.old) }
+    {
+        let (source, volume) = (&mut self.source, &self.volume);
+        write_opened(alloc, source, volume, dir, name, fork, writer)
     }
 }

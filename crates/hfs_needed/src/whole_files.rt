@@ -1,15 +1,16 @@
 //! What is told of a file, and both its forks, by the needed blocks of an image.
-ghost use Rattle.std.specs.Prelude.{◌≡◌, ℕ, ◌/◌, IfOk, IfErr};
+ghost use Rattle.std.specs.Prelude.{◌≡◌, None, IfOk};
 ghost use Rattle.hfs_check.specs.Parts.{catalog_in};
 ghost use Rattle.hfs_check.specs.Sound.{AreBlocksSound};
 ghost use Rattle.hfs_check.specs.Trees.{HasTrees};
 ghost use Rattle.hfs_queries.specs.Told as told;
+ghost use Rattle.hfs_source.specs.Images.{OfEach};
 ghost use Rattle.hfs_sparse.specs.Sparse.{sparse};
-ghost use Rattle.hfs_needed.specs.Opened.{IsOpenedOf, IsRefusedFor, IsSoundOf};
-ghost use Rattle.hfs_needed.specs.WholeFiles.{HoldsDataNamed, HoldsResourceNamed, RefusesFileNamed, TellsOfFile};
+ghost use Rattle.hfs_needed.specs.Opened.{IsOpenedOf};
+ghost use Rattle.hfs_needed.specs.SeenFiles.{IsFileFound, IsReadOfEach};
 
 use crate::forks::{find_file, read_file};
-use crate::opening::{NeededFault, NeededVolume, open_needed};
+use crate::opening::NeededVolume;
 use hfs_btree::RunNodes;
 use hfs_check::VolumeTrees;
 use hfs_model::{Fork, Reply};
@@ -50,16 +51,11 @@ pub(crate) fn opened_file<S: BlockSource>(
     dir: u32,
     name: &[u8],
 ) -> Result<Result<NeededFile, Reply>, SparseFault>
-    requires { IsOpenedOf (S.image source.old) volume.now.count volume.now }
-    ensures told { (len : ℕ) → len / 512 ≡ volume.now.count
-        → IfOk result (TellsOfFile (S.image source.old) len dir name.now) }
-    ensures data_fork { (len : ℕ) → len / 512 ≡ volume.now.count
-        → IfOk result (HoldsDataNamed (S.image source.old) len dir name.now) }
-    ensures resource_fork { (len : ℕ) → len / 512 ≡ volume.now.count
-        → IfOk result (HoldsResourceNamed (S.image source.old) len dir name.now) }
-    ensures unread { (len : ℕ) → len / 512 ≡ volume.now.count
-        → IfOk result (RefusesFileNamed (S.image source.old) len dir name.now) }
-    ensures image { S.image source.new ≡ S.image source.old }
+    requires opened { IsOpenedOf None volume.now.count volume.now }
+    requires seen { IsReadOfEach (S.Holds source.old) volume.now }
+    ensures found { IfOk result (λ found. OfEach (S.Holds source.new)
+        (IsFileFound dir name.now found)) }
+    ensures narrows { OfEach (S.Holds source.new) (S.Holds source.old) }
 {
     let (read, count, sound) = (&volume.read, volume.count, &volume.sound);
     let file = match find_file(read, count, &sound.trees, dir, name) {
@@ -75,30 +71,5 @@ pub(crate) fn opened_file<S: BlockSource>(
             resource,
         })),
         Err(fault) => Err(fault),
-    }
-}
-
-/// What is told of a file in an image of `len` bytes, and the bytes of both its forks: only the blocks are read that its checks need and those
-/// of the forks. Or what a call that reads a fork answers where there is no such file: -37, -120 or -43. Errors: a read failed, memory was
-/// refused, or the image is refused.
-pub fn needed_file<S: BlockSource>(
-    alloc: Global,
-    source: &mut S,
-    len: u64,
-    dir: u32,
-    name: &[u8],
-) -> Result<Result<NeededFile, Reply>, NeededFault>
-    ensures told { IfOk result (TellsOfFile (S.image source.old) len dir name.now) }
-    ensures data_fork { IfOk result (HoldsDataNamed (S.image source.old) len dir name.now) }
-    ensures resource_fork { IfOk result (HoldsResourceNamed (S.image source.old) len dir name.now) }
-    ensures unread { IfOk result (RefusesFileNamed (S.image source.old) len dir name.now) }
-    ensures sound { IfOk result (λ told. IsSoundOf (S.image source.old) len) }
-    ensures refused { IfErr result (λ fault. IsRefusedFor (S.image source.old) len fault) }
-    ensures image { S.image source.new ≡ S.image source.old }
-{
-    let volume = open_needed(alloc, source, len)?;
-    match opened_file(alloc, source, &volume, dir, name) {
-        Ok(found) => Ok(found),
-        Err(fault) => Err(NeededFault::of_sparse(fault)),
     }
 }

@@ -1,8 +1,8 @@
 //! What the words do on an image, or on the volume in it that is asked for or lies alone in it.
 
 use crate::commands::{
-    print_info_of, print_needed_check, print_needed_fork, print_needed_macbinary, print_refused,
-    print_table, print_told,
+    print_fork, print_info_of, print_macbinary, print_needed_check, print_refused, print_table,
+    print_told,
 };
 use crate::volumes::print_volume_info;
 use crate::words::{FileWords, ForkWords};
@@ -57,14 +57,14 @@ pub fn tell_items<'a>(
 
 /// Prints the bytes of a file's fork.
 pub fn tell_fork<'a>(rt: &HostRuntime, file: &ForkWords<'a>) -> Result<u8, Fault<'a>> {
-    let part = open_part(rt, file.image, file.volume)?;
-    let len = part.len();
-    print_needed_fork(rt, file, part, len)
+    let mut image = open_seen(rt, file.image, file.volume)?;
+    let (name, fork) = (file.name.as_bytes(), file.fork);
+    print_fork(rt, &mut image, file.image, file.dir, name, fork)
 }
 
 /// Prints a file with both forks.
 pub fn tell_macbinary<'a>(rt: &HostRuntime, file: &FileWords<'a>) -> Result<u8, Fault<'a>> {
-    let mut part = open_part(rt, file.image, file.volume)?;
-    let len = part.len();
-    print_needed_macbinary(rt, file, &mut part, len)
+    let mut image = open_seen(rt, file.image, file.volume)?;
+    let name = file.name.as_bytes();
+    print_macbinary(rt, &mut image, file.image, file.dir, name)
 }

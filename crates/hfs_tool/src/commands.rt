@@ -9,17 +9,16 @@ use crate::running::run_script_of;
 use crate::saving::{save, save_as_read, tell};
 use crate::taking::take_volume;
 use crate::volumes::print_volumes;
-use crate::words::{FileWords, ForkWords, NewVolume, Words};
+use crate::words::{NewVolume, Words};
 use hfs_check::MountFault;
 use hfs_commands::{
-    BlockSource, CheckAnswer, Fault, Format, NeededFile, NeededRepair, OpenedImage, PartBlocks,
-    PartImage, RepairAnswer, Status, WatchedFile, WatchedImage, code_text, needed_check_answer,
-    needed_file, needed_repair_answer, open_watched, put_macbinary, refused_text, repair_answer,
-    run_info, write_items,
+    CheckAnswer, Fault, Format, NeededFile, NeededRepair, PartBlocks, PartImage, RepairAnswer,
+    Status, WatchedFile, WatchedImage, code_text, needed_check_answer, needed_repair_answer,
+    open_watched, put_macbinary, refused_text, repair_answer, run_info, write_items,
 };
 use hfs_console::{print_lines, tell_hint};
 use hfs_format::{FormatPlan, format};
-use hfs_model::Reply;
+use hfs_model::{Fork, Reply};
 use std::alloc::AllocError;
 use std::fs::File;
 use std::io::{Read, Seek, Write};
@@ -123,24 +122,22 @@ pub fn print_table<F: Read + Seek + Drop>(
     Ok(Status::Done.number())
 }
 
-/// Prints a file with both forks, of which the blocks are read where they are needed.
-pub fn print_needed_macbinary<'a, S: BlockSource>(
+/// Prints a file of an opened image with both forks, or the code of the call that was refused.
+pub fn print_macbinary<'a, F: Read + Seek + Drop>(
     rt: &HostRuntime,
-    file: &FileWords<'a>,
-    source: &mut S,
-    len: u64,
+    image: &mut PartImage<F>,
+    path: &'a str,
+    dir: u32,
+    name: &[u8],
 ) -> Result<u8, Fault<'a>> {
-    match needed_file(rt.alloc(), source, len, file.dir, file.name.as_bytes()) {
+    match image.file(rt.alloc(), dir, name) {
         Ok(found) => print_found(rt, found),
-        Err(fault) => Err(Fault::of_needed(fault, file.image)),
+        Err(fault) => Err(Fault::of_sparse(fault, path)),
     }
 }
 
 /// Prints a file with both forks, or the code of the call that was refused.
-pub fn print_found(
-    rt: &HostRuntime,
-    found: Result<NeededFile, Reply>,
-) -> Result<u8, Fault<'static>> {
+fn print_found(rt: &HostRuntime, found: Result<NeededFile, Reply>) -> Result<u8, Fault<'static>> {
     match found {
         Ok(file) => print_file(rt, &file),
         Err(reply) => print_code(rt, &reply),
@@ -157,26 +154,23 @@ fn print_file(rt: &HostRuntime, file: &NeededFile) -> Result<u8, Fault<'static>>
     }
 }
 
-/// Prints the bytes of a file's fork, piece by piece as they are read.
-pub fn print_needed_fork<'a, S: BlockSource + Drop>(
+/// Prints the bytes of a file's fork of an opened image, piece by piece as they are read, or the code of the call that was refused.
+pub fn print_fork<'a, F: Read + Seek + Drop>(
     rt: &HostRuntime,
-    file: &ForkWords<'a>,
-    source: S,
-    len: u64,
+    image: &mut PartImage<F>,
+    path: &'a str,
+    dir: u32,
+    name: &[u8],
+    fork: Fork,
 ) -> Result<u8, Fault<'a>> {
-    let mut image = match OpenedImage::open(rt.alloc(), source, len) {
-        Ok(image) => image,
-        Err(fault) => return Err(Fault::of_needed(fault, file.image)),
-    };
-    let (name, fork) = (file.name.as_bytes(), file.fork);
-    match image.write_fork(rt.alloc(), file.dir, name, fork, &mut rt.stdout()) {
+    match image.write_fork(rt.alloc(), dir, name, fork, &mut rt.stdout()) {
         Ok(told) => print_refusal(rt, told),
-        Err(fault) => Err(Fault::of_copy(fault, file.image)),
+        Err(fault) => Err(Fault::of_copy(fault, path)),
     }
 }
 
 /// Prints the code of the call that refused a fork, where it was not written.
-pub fn print_refusal(rt: &HostRuntime, told: Result<(), Reply>) -> Result<u8, Fault<'static>> {
+fn print_refusal(rt: &HostRuntime, told: Result<(), Reply>) -> Result<u8, Fault<'static>> {
     match told {
         Ok(()) => Ok(Status::Done.number()),
         Err(reply) => print_code(rt, &reply),

@@ -1,5 +1,5 @@
 -- The first blocks of the fork's extents have its bytes.
-use Rattle.std.proofs.Common.{◌≡◌, ◌∙◌, sym, ap, subst, List}
+use Rattle.std.proofs.Common.{◌≡◌, ◌∙◌, sym, ap, subst, List, Some}
 use Rattle.std.specs.List.{flat_map}
 use Rattle.hfs_blocks.specs.declared.run.Run.{Run}
 use Rattle.hfs_blocks.specs.Blocks.{run_of, AreRunsWithin}
@@ -10,9 +10,9 @@ use Rattle.hfs_needed.proofs.ForkBytes.{fork-known}
 use Rattle.hfs_needed.proofs.forks.read_kind.Goals as goal
 
 pub returns-clause-bytes : goal.returns-clause-bytes
-returns-clause-bytes g c =
-    fork-known (g.S.BlockSource.image c.args.source.now) c.args.count c.deref.result.now
+returns-clause-bytes g c = λ image h.
+    fork-known (Some image) c.args.count c.deref.result.now
     (subst (λ (runs : List Run). AreRunsWithin runs c.args.count) (sym c.deref.ensures.value) c.in-Ok.ensures.within) (mdb_in (sparse c.args.read.now))
     (fork_extents (overflow_in (sparse c.args.read.now)) c.args.file (fork_byte c.args.kind) c.args.fork.now.extents) c.args.fork.now.length
-    (ap (flat_map run_of) c.deref.ensures.value ∙ c.in-Ok.ensures.numbers) c.in_ok-bytes.bytes.items c.truncate.new.self.items c.in_ok-bytes.ensures.bytes
+    (ap (flat_map run_of) c.deref.ensures.value ∙ c.in-Ok.ensures.numbers) c.in_ok-bytes.bytes.items c.truncate.new.self.items (c.in_ok-bytes.ensures.each image h)
     c.truncate.ensures.items

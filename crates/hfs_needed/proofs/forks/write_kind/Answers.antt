@@ -1,5 +1,5 @@
 -- The first blocks of the fork's extents have its bytes.
-use Rattle.std.proofs.Common.{◌≡◌, ◌∙◌, sym, ap, subst, List, ℕ}
+use Rattle.std.proofs.Common.{◌≡◌, ◌∙◌, sym, ap, subst, List, ℕ, Some}
 use Rattle.std.specs.List.{flat_map}
 use Rattle.std.specs.Io.KnownBytes.{Appends}
 use Rattle.hfs_texts.specs.Writing.{AppendsFront}
@@ -35,3 +35,28 @@ returns-clause-part g c =
     (fork_extents (overflow_in (sparse c.args.read.now)) c.args.file (fork_byte c.args.kind) c.args.fork.now.extents) c.args.fork.now.length
     (ap (flat_map run_of) c.deref.ensures.value ∙ c.in-Ok.ensures.numbers)
     (AppendsFront (g.W.Write.contents c.args.writer.now) (g.W.Write.contents c.copy_runs.new.writer))) c.copy_runs.ensures.part
+
+pub returns-in_default-clause-each_part : goal.returns-in_default-clause-each_part
+returns-in_default-clause-each_part g c = λ image h.
+    fork-unwritten (Some image) c.args.count (λ image. bytes_by c.args.read.now image c.args.file c.args.kind c.args.fork.now)
+    (g.W.Write.contents c.args.writer.now)
+
+pub returns-clause-each : goal.returns-clause-each
+returns-clause-each g c =
+    on-ok c.copy_runs.result
+    (λ each image h.
+    fork-fact (Some image) c.args.count c.deref.result.now
+    (subst (λ (runs : List Run). AreRunsWithin runs c.args.count) (sym c.deref.ensures.value) c.in-Ok.ensures.within) (mdb_in (sparse c.args.read.now))
+    (fork_extents (overflow_in (sparse c.args.read.now)) c.args.file (fork_byte c.args.kind) c.args.fork.now.extents) c.args.fork.now.length
+    (ap (flat_map run_of) c.deref.ensures.value ∙ c.in-Ok.ensures.numbers)
+    (Appends (g.W.Write.contents c.args.writer.now) (g.W.Write.contents c.copy_runs.new.writer)) (each image h)) c.copy_runs.ensures.each
+
+pub returns-clause-each_part : goal.returns-clause-each_part
+returns-clause-each_part g c =
+    on-error c.copy_runs.result
+    (λ each image h.
+    fork-fact (Some image) c.args.count c.deref.result.now
+    (subst (λ (runs : List Run). AreRunsWithin runs c.args.count) (sym c.deref.ensures.value) c.in-Ok.ensures.within) (mdb_in (sparse c.args.read.now))
+    (fork_extents (overflow_in (sparse c.args.read.now)) c.args.file (fork_byte c.args.kind) c.args.fork.now.extents) c.args.fork.now.length
+    (ap (flat_map run_of) c.deref.ensures.value ∙ c.in-Ok.ensures.numbers)
+    (AppendsFront (g.W.Write.contents c.args.writer.now) (g.W.Write.contents c.copy_runs.new.writer)) (each image h)) c.copy_runs.ensures.each_part
