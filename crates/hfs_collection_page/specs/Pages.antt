@@ -14,16 +14,10 @@ style_text texts = texts.shared_style.now ++ texts.style.now
 unfoldable pub front_text : CollectionTexts → List ℕ
 front_text texts = head_text (style_text texts) (escaped texts.name.now) ++ texts.columns.now
 
--- the end of the lines of contents, and which program printed the page
-unfoldable pub footer_start : List ℕ
-footer_start = codes "</ul>\n</section>\n<footer>Printed by hfs_collect "
-
-unfoldable pub page_end : List ℕ
-page_end = codes "</main>\n</body>\n</html>\n"
-
 -- behind the lines of contents: the version, the script, and the end
 unfoldable pub end_text : CollectionTexts → List ℕ
-end_text texts = footer_start ++ escaped texts.version.now ++ codes "</footer>\n" ++ texts.script.now ++ page_end
+end_text texts =
+    codes "</ul>\n</section>\n<footer>Printed by hfs_collect " ++ escaped texts.version.now ++ codes "</footer>\n" ++ texts.script.now ++ codes "</main>\n</body>\n</html>\n"
 
 -- with these rows of volumes, and these of contents
 unfoldable pub collection_page : CollectionTexts → List Row → List Row → List ℕ

@@ -2,7 +2,7 @@
 ghost use Rattle.std.specs.Prelude.{◌≡◌, IfOk, OnOk};
 ghost use Rattle.hfs_page.specs.Escapes.{escaped};
 ghost use Rattle.hfs_page.specs.Pieces.{Gains};
-ghost use Rattle.hfs_collection_page.specs.Pages.{collection_page, end_text, footer_start, front_text, page_end, style_text};
+ghost use Rattle.hfs_collection_page.specs.Pages.{collection_page, end_text, front_text, style_text};
 
 use crate::collection_texts::CollectionTexts;
 use crate::lines::{push_contents, push_volumes};
@@ -44,32 +44,16 @@ fn push_front(
     push_bytes(page, texts.columns)
 }
 
-/// Appends the end of the lines of contents, and which program printed the page.
-#[tactic(auto, unfolding(crate::specs::Pages::footer_start))]
-fn push_footer_start(page: &mut Vec<u8>) -> Result<(), AllocError>
-    ensures { OnOk result (Gains page.old page.new footer_start) }
-{
-    push_bytes(page, b"</ul>\n</section>\n<footer>Printed by hfs_collect ")
-}
-
-/// Appends what stands behind the script.
-#[tactic(auto, unfolding(crate::specs::Pages::page_end))]
-fn push_page_end(page: &mut Vec<u8>) -> Result<(), AllocError>
-    ensures { OnOk result (Gains page.old page.new page_end) }
-{
-    push_bytes(page, b"</main>\n</body>\n</html>\n")
-}
-
 /// Appends all that stands behind the lines of contents.
-#[tactic(auto, unfolding(crate::specs::Pages::end_text))]
 fn push_end(page: &mut Vec<u8>, texts: &CollectionTexts<'_>) -> Result<(), AllocError>
     ensures { OnOk result (Gains page.old page.new (end_text texts.now)) }
 {
-    push_footer_start(page)?;
+    push_bytes(page, b"</ul>\n</section>\n<footer>Printed by hfs_collect ")?;
     push_escaped(page, texts.version)?;
     push_bytes(page, b"</footer>\n")?;
     push_bytes(page, texts.script)?;
-    push_page_end(page)
+    push_bytes(page, b"</main>\n</body>\n</html>\n")?;
+    Ok(())
 }
 
 /// Appends the page of a collection with these rows.
