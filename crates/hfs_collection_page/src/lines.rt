@@ -12,7 +12,7 @@ use std::alloc::{AllocError, Global};
 
 /// A text, and nothing of any other value.
 fn text_of(value: ValueRef<'_>) -> &[u8]
-    ensures { result.now ≡ text_of (owned value) }
+    ensures { result.now ≡ text_of (owned value.entry) }
 {
     match value {
         ValueRef::Text(text) => text,

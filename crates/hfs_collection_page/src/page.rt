@@ -44,8 +44,7 @@ fn push_front(
     push_bytes(page, texts.columns)
 }
 
-/// Appends the end of a page.
-#[tactic(auto, unfolding(crate::specs::Pages::end_text))]
+/// Appends all that stands behind the lines of contents.
 fn push_end(page: &mut Vec<u8>, texts: &CollectionTexts<'_>) -> Result<(), AllocError>
     ensures { OnOk result (Gains page.old page.new (end_text texts.now)) }
 {
@@ -53,7 +52,8 @@ fn push_end(page: &mut Vec<u8>, texts: &CollectionTexts<'_>) -> Result<(), Alloc
     push_escaped(page, texts.version)?;
     push_bytes(page, b"</footer>\n")?;
     push_bytes(page, texts.script)?;
-    push_bytes(page, b"</main>\n</body>\n</html>\n")
+    push_bytes(page, b"</main>\n</body>\n</html>\n")?;
+    Ok(())
 }
 
 /// Appends the page of a collection with these rows.
