@@ -2,10 +2,12 @@
 
 use crate::collecting::{close_database, open_collection, refuse};
 use crate::reading_page::PageWords;
-use hfs_collection_page::{CollectionFault, is_base, standard_texts, write_collection_page};
+use hfs_collection_page::{
+    CollectionFault, DatabaseFault, is_base, standard_texts, write_collection_page,
+};
 use hfs_commands::{Fault, ShownPath, Status};
 use hfs_console::VERSION;
-use hfs_word_collect::{DatabaseFault, DatabaseFiles, FileCollection, RunFault};
+use hfs_word_collect::{DatabaseFiles, FileCollection, RunFault};
 use std::path::Path;
 
 /// Prints the page of a collection. Links that no URL of a server or of a page may begin are refused, as words are.

@@ -15,4 +15,5 @@ pub use crate::dress::standard_texts;
 pub use crate::laws::collection_pages_nest;
 pub use crate::page::collection_page;
 pub use crate::writing::{CollectionFault, write_collection_page};
+pub use hfs_database::DatabaseFault;
 pub use hfs_page::is_base;

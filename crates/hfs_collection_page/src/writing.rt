@@ -1,5 +1,6 @@
 //! The page of a collection, out of its database.
 ghost use Rattle.std.specs.Prelude.{◌≡◌, Err, IfErr, IfOk, OnOk};
+ghost use Rattle.hfs_collection_page.specs.Pages.{collection_page};
 ghost use Rattle.hfs_collection_page.specs.Writing.{IsPage, WritesPage, WritesPageFront};
 
 use crate::collection_texts::CollectionTexts;

@@ -18,8 +18,7 @@ pub use crate::watched::{ReadWatch, WatchedFile};
 pub use crate::writing::{write_image, write_image_at};
 pub use hfs_collection::ImageCounts;
 pub use hfs_database::{
-    Collection, Comparison, DatabaseFault, DatabaseFiles, FileCollection, Obstacle,
-    is_no_file_name, next_path,
+    Collection, Comparison, DatabaseFiles, FileCollection, Obstacle, is_no_file_name, next_path,
 };
 pub use hfs_rows::{Table, TakerFault};
 pub use hfs_text_rows::{Form, TextTaker, write_head};
