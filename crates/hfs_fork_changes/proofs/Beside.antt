@@ -1,5 +1,5 @@
 -- The files beside one file, of one fork of which the record has others.
-use Rattle.std.proofs.Common.{◌≡◌, inl, inr, ⊎_elim, ℕ, ◌+◌, ◌*◌, ◌<◌, ◌≤◌, Bool, true, false, cond, ◌&&◌, ◌||◌, eqb, List, [], ◌∷◌, ◌++◌, count_by, refl, sym, ◌∙◌, ap, subst, arith, Some}
+use Rattle.std.proofs.Common.{◌≡◌, inl, inr, ⊎_elim, ◌⊎◌, ℕ, ◌+◌, ◌*◌, ◌<◌, ◌≤◌, Bool, true, false, cond, ◌&&◌, ◌||◌, eqb, List, [], ◌∷◌, ◌++◌, count_by, refl, sym, ◌∙◌, ap, subst, arith, Some}
 use Rattle.std.specs.List.{flat_map, sum_by}
 use Rattle.std.proofs.lemmas.Bool.{eq-eqb, true≢false}
 use Rattle.std.proofs.lemmas.List.Sums.{sum_by-append, sum_by-cons}
@@ -56,6 +56,12 @@ pub fork_there : (fork : Fork) (f : FileRecord) → In (fork_in fork f) (forks_o
 unfolding forks_of_file
 fork_there DataFork f = inl refl
 fork_there ResFork f = inr (inl refl)
+
+-- a fork of a file's record is the one or the other
+pub which_fork : (fork : Fork) (f : FileRecord) (x : ForkOf) → In x (forks_of_file f) → (fork_in fork f ≡ x) ⊎ (fork_in (other_fork fork) f ≡ x)
+unfolding forks_of_file
+which_fork DataFork f x there = ⊎_elim (λ (a : fork_in DataFork f ≡ x). inl a) (λ rest. ⊎_elim (λ (b : fork_in ResFork f ≡ x). inr b) (λ none. absurd none) rest) there
+which_fork ResFork f x there = ⊎_elim (λ (a : fork_in DataFork f ≡ x). inr a) (λ rest. ⊎_elim (λ (b : fork_in ResFork f ≡ x). inl b) (λ none. absurd none) rest) there
 
 -- what the forks of a file have
 pub both_have : (mdb : Mdb) (overflow : Overflow) (b : ℕ) (fork : Fork) (f : FileRecord)

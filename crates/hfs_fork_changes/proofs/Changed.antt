@@ -31,6 +31,7 @@ use Rattle.hfs_catalog.specs.Records.{Record, Catalog, has_id, item_with}
 use Rattle.hfs_catalog.specs.Sound.{IsRoot, IsGiven, IsSoundCatalog}
 use Rattle.hfs_catalog.proofs.Held.{with_id}
 use Rattle.hfs_catalog_edits.specs.Swaps.{Swaps}
+use Rattle.hfs_catalog_edits.proofs.KeepLemmas.{in_left, in_right}
 use Rattle.hfs_catalog_edits.proofs.EditedLemmas.{at_equal_key, with_replaced-swaps}
 use Rattle.hfs_check.specs.Parts.{Blocks, mdb_in, extents_nodes, overflow_in, catalog_extents, catalog_in, owned_in}
 use Rattle.hfs_check.specs.Sound.{IsForkKey, EachKey, AreBlocksSound}
@@ -45,39 +46,9 @@ use Rattle.hfs_fork_extents.specs.Records.{of_fork}
 use Rattle.hfs_fork_changes.specs.Files.{fork_of, file_with}
 use Rattle.hfs_fork_changes.specs.Edits.{byte_of, extents_of, blocks_of, ChangesFork}
 use Rattle.hfs_fork_changes.proofs.TreeKeys.{content_keys}
-use Rattle.hfs_fork_changes.proofs.Overflows.{IsAway, same_extents, same_bad, records_sound}
+use Rattle.hfs_fork_changes.proofs.Overflows.{IsAway, in_flat, flat_in, same_extents, same_bad, records_sound}
 use Rattle.hfs_fork_changes.proofs.Rooms.{extents_within, has_room}
-use Rattle.hfs_fork_changes.proofs.Beside.{fork_in, other_fork, other_byte, each_fork, one_each, fork_there, both_have, file_forks, other_same, id_same, len_same, IsOtherFile, others_before, others_behind, fork_carried, record_carried, sum_carried}
-
--- ---- lists in lists
-
-in_left : {X : Type 0} (xs ys : List X) (x : X) → In x xs → In x (xs ++ ys)
-in_left [] ys x there = absurd there
-in_left (z ∷ xs) ys x there = ⊎_elim (λ (here : z ≡ x). let both : In x (z ∷ xs ++ ys) = inl here in both) (λ (later : In x xs). let both : In x (z ∷ xs ++ ys) = inr (in_left xs ys x later) in both) there
-
-in_right : {X : Type 0} (xs ys : List X) (x : X) → In x ys → In x (xs ++ ys)
-in_right [] ys x there = there
-in_right (z ∷ xs) ys x there = inr (in_right xs ys x there)
-
-in_flat : {X Y : Type 0} (f : X → List Y) (xs : List X) (y : Y) → In y (flat_map f xs) → (x : X) × In x xs × In y (f x)
-in_flat f [] y there = absurd there
-in_flat {X} f (x ∷ xs) y there = ⊎_elim
-    (λ (here : In y (f x)). let found : (z : X) × In z (x ∷ xs) × In y (f z) = (x, inl refl, here) in found)
-    (λ (later : In y (flat_map f xs)). let rest = in_flat f xs y later in let found : (z : X) × In z (x ∷ xs) × In y (f z) = (rest.0, inr rest.1, rest.2) in found)
-    (in_parts y (f x) (flat_map f xs) there)
-
-flat_in : {X Y : Type 0} (f : X → List Y) (xs : List X) (x : X) (y : Y) → In x xs → In y (f x) → In y (flat_map f xs)
-flat_in f [] x y there is = absurd there
-flat_in f (z ∷ xs) x y there is = ⊎_elim
-    (λ (here : z ≡ x). in_left (f z) (flat_map f xs) y (subst (λ w. In y (f w)) (sym here) is))
-    (λ (later : In x xs). in_right (f z) (flat_map f xs) y (flat_in f xs x y later is))
-    there
-
--- a fork of a file's record is the one or the other
-which_fork : (fork : Fork) (f : FileRecord) (x : ForkOf) → In x (forks_of_file f) → (fork_in fork f ≡ x) ⊎ (fork_in (other_fork fork) f ≡ x)
-unfolding forks_of_file
-which_fork DataFork f x there = ⊎_elim (λ (a : fork_in DataFork f ≡ x). inl a) (λ rest. ⊎_elim (λ (b : fork_in ResFork f ≡ x). inr b) (λ none. absurd none) rest) there
-which_fork ResFork f x there = ⊎_elim (λ (a : fork_in DataFork f ≡ x). inr a) (λ rest. ⊎_elim (λ (b : fork_in ResFork f ≡ x). inl b) (λ none. absurd none) rest) there
+use Rattle.hfs_fork_changes.proofs.Beside.{fork_in, other_fork, other_byte, which_fork, each_fork, one_each, fork_there, both_have, file_forks, other_same, id_same, len_same, IsOtherFile, others_before, others_behind, fork_carried, record_carried, sum_carried}
 
 fork_key : (fork : Fork) → (byte_of fork ≡ 0) ⊎ (byte_of fork ≡ 255)
 fork_key DataFork = inl refl
@@ -252,15 +223,15 @@ module _ (catalogs : CatalogIsSound) (total id : ℕ) (fork : Fork) (r : Record)
 
     carry_file : (x : ForkOf) → (x.file ≡ g.id → x.fork ≡ byte_of fork → ⊥) → (y : Record) → In y (before ++ (r ∷ behind)) → In x (forks_of y) → In x (flat_map forks_of (catalog_in new))
     carry_file x far y there is = ⊎_elim
-        (λ (front : In y before). of_new x y (in_left before (s ∷ behind) y front) is)
+        (λ (front : In y before). of_new x y (in_left y before (s ∷ behind) front) is)
         (λ (rest : In y (r ∷ behind)). ⊎_elim
         (λ (here : r ≡ y). let of_f : In x (forks_of_file f) = subst (In x) forks_r (subst (λ (z : Record). In x (forks_of z)) (sym here) is) in ⊎_elim
         (λ (one : fork_in fork f ≡ x). absurd (far (sym (ap (λ (z : ForkOf). z.file) one) ∙ sym g_id) (sym (ap (λ (z : ForkOf). z.fork) one))))
         (λ (two : fork_in (other_fork fork) f ≡ x).
-        of_new x s (in_right before (s ∷ behind) s (inl refl))
+        of_new x s (in_right s before (s ∷ behind) (inl refl))
         (subst (λ (z : ForkOf). In z (forks_of s)) (other_is ∙ two) (subst (In (fork_in (other_fork fork) g)) (sym forks_s) (fork_there (other_fork fork) g))))
         (which_fork fork f x of_f))
-        (λ (back : In y behind). of_new x y (in_right before (s ∷ behind) y (inr back)) is)
+        (λ (back : In y behind). of_new x y (in_right y before (s ∷ behind) (inr back)) is)
         rest)
         (in_parts y before (r ∷ behind) there)
 
@@ -277,7 +248,7 @@ module _ (catalogs : CatalogIsSound) (total id : ℕ) (fork : Fork) (r : Record)
         there
 
     own_there : In (fork_in fork g) (all_forks m (catalog_in new))
-    own_there = inr (of_new (fork_in fork g) s (in_right before (s ∷ behind) s (inl refl)) (subst (In (fork_in fork g)) (sym forks_s) (fork_there fork g)))
+    own_there = inr (of_new (fork_in fork g) s (in_right s before (s ∷ behind) (inl refl)) (subst (In (fork_in fork g)) (sym forks_s) (fork_there fork g)))
 
     whole_run : of_fork g.id (byte_of fork) p ≡ run_on g.id (byte_of fork) (block_total (fork_of fork g).extents) p
     unfolding overflow_in

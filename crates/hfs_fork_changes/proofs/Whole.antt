@@ -10,7 +10,7 @@ use Rattle.hfs_fields.specs.declared.mdb.Mdb.{Mdb}
 use Rattle.hfs_fields.specs.declared.extent.Extent.{Extent}
 use Rattle.hfs_fields.specs.declared.file_record.FileRecord.{FileRecord}
 use Rattle.hfs_fields.specs.Keys.{cat_cmp}
-use Rattle.hfs_fields.specs.Records.{is_dir, is_bit_set, file_record_of}
+use Rattle.hfs_fields.specs.Records.{is_dir, is_file, is_bit_set, file_record_of}
 use Rattle.hfs_btree.specs.Pairs.{Rises}
 use Rattle.hfs_space.specs.Bitmap.{bitmap_len, is_used, clear_count}
 use Rattle.hfs_space.specs.Extents.{Overflow}
@@ -102,6 +102,15 @@ stray_moved blocks after old new owned now_owned came went b moved once none cle
     and_false : (t : Bool) → (t && false) ≡ false
     and_false true = refl
     and_false false = refl
+
+-- a fork of the record's item has the bytes of the file's
+pub is_file_bytes : (old : Blocks) (fork : Fork) (r : Record) → is_file r.1 ≡ true → fork_bytes fork (item_of (contents_in old) (catalog_in old) r).kind ≡ bytes_of old fork (file_record_of r.1)
+unfolding file_of contents_in
+is_file_bytes old fork r is = ap (λ (x : Item). fork_bytes fork x.kind) (file_item (contents_in old) (catalog_in old) r (file-not_dir r.1 is)) ∙ by fork
+  where
+    by : (k : Fork) → fork_bytes k (file_of (has_thread (catalog_in old) (file_record_of r.1).id) (contents_in old (file_record_of r.1)) r.0 (file_record_of r.1)).kind ≡ bytes_of old k (file_record_of r.1)
+    by DataFork = refl
+    by ResFork = refl
 
 -- ---- one fork was changed
 
@@ -336,14 +345,6 @@ module _ (law : OwnedAreWithin) (records : ItemsAreRecords) (catalogs : CatalogI
   unfolding volume_in
   made = λ i. volume_with (held i) (d.volume.mdb i)
 
-  pub is_file_bytes : fork_bytes fork item.kind ≡ bytes_of old fork f
-  unfolding file_of contents_in
-  is_file_bytes = ap (λ (x : Item). fork_bytes fork x.kind) (file_item (contents_in old) (catalog_in old) r (file-not_dir r.1 d.was)) ∙ by fork
-    where
-      by : (k : Fork) → fork_bytes k (file_of (has_thread (catalog_in old) f.id) (contents_in old f) r.0 f).kind ≡ bytes_of old k f
-      by DataFork = refl
-      by ResFork = refl
-
 -- ---- a call
 
 module _ (law : OwnedAreWithin) (records : ItemsAreRecords) (catalogs : CatalogIsSound) (lawful : SoundIsLawful) (make : List ℕ → List ℕ) (chosen : Result Entry ℤ) (total : ℕ) (fork : Fork) (r : Record) (now : ℕ) (wrote : List ℕ) (old new : Blocks)
@@ -364,7 +365,7 @@ module _ (law : OwnedAreWithin) (records : ItemsAreRecords) (catalogs : CatalogI
   edited = ap (λ (e : Result Entry ℤ). (change (volume_in old) e (λ e m. map.insert m e.0 (edit e.1)) now).0) c.is
 
   bytes_same : make (fork_bytes fork before.kind) ≡ make (bytes_of old fork (file_record_of r.1))
-  bytes_same = ap make (is_file_bytes law records catalogs total c.id fork r (make (bytes_of old fork (file_record_of r.1))) now wrote old new h c.was d)
+  bytes_same = ap make (is_file_bytes old fork r d.was)
 
   is_outcome : volume_in new ≡ outcome
   is_outcome =

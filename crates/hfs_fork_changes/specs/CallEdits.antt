@@ -78,6 +78,7 @@ abbrev pub EditsLeaveNoOldByte : Type 0
 EditsLeaveNoOldByte =
     (total : ℕ) (chosen : Result Entry ℤ) (fork : Fork) (r : Record) (len now offset : ℕ) (part written : List ℕ) (old new : Blocks) → AreBlocksSound total old → AreFull total old
     → IsChoice old chosen r
+    → offset ≤ (fork_of fork (file_record_of r.1)).length
     → offset + length part ≤ len
     → (s : SetsFork fork r len now offset part written old new)
     → HasLaid fork (file_record_of r.1) s.file len offset part old new

@@ -1,5 +1,5 @@
 -- What the edits of the extents tree and of the volume bitmap make of a fork that gets another number of allocation blocks.
-use Rattle.std.specs.Prelude.{◌≡◌, ◌⊎◌, ℕ, ◌+◌, ◌<◌, ◌≤◌, List, length}
+use Rattle.std.specs.Prelude.{◌≡◌, ◌⊎◌, ℕ, ◌+◌, ◌<◌, ◌≤◌, List, [], length}
 use Rattle.hfs_fields.specs.declared.extent.Extent.{Extent}
 use Rattle.hfs_fields.specs.declared.file_record.FileRecord.{FileRecord}
 use Rattle.hfs_space.specs.Bitmap.{bitmap_len, is_used, clear_count}
@@ -54,12 +54,13 @@ GetsBlocks fork was first n old new = Gains fork was first n old new ⊎ (Loses 
 
 -- ---- what the volume is then
 
--- The fork, whose record is this now, has n blocks: the first of those that it had, and behind them those that came. The extents tree, the
--- bitmap and its clear bits are right for that.
+-- The fork, whose record is this now, has n blocks: those that it had and behind them those that came, or the first of those that it had.
+-- The extents tree, the bitmap and its clear bits are right for that.
 pub record HasBlocks (fork : Fork) (was now : FileRecord) (n : ℕ) (old new : Blocks) : Type 0 where
   pub extents : SetsExtents fork now old new
   pub come : List ℕ
   pub go : List ℕ
+  pub one_way : (come ≡ []) ⊎ (go ≡ [])
   pub moves : MovesBlocks fork was now come go old new
   pub bits : SetsBits come go old new
   pub exact : length (blocks_of new fork now) ≡ n
