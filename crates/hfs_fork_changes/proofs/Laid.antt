@@ -140,7 +140,7 @@ module _ (catalogs : CatalogIsSound) (total id : ℕ) (fork : Fork) (r : Record)
   has_long = bytes_long total old es h full new_within ∙ ap (λ (k : ℕ). k * size) b.exact
 
   abbrev of_blocks : List ℕ → List ℕ
-  of_blocks as = joined (flat_map (allocation_block old mdb) as)
+  of_blocks bs = joined (flat_map (allocation_block old mdb) bs)
 
   of_parts : (xs ys : List ℕ) → of_blocks (xs ++ ys) ≡ of_blocks xs ++ of_blocks ys
   of_parts xs ys = ap joined (flat_map-append (allocation_block old mdb) xs ys) ∙ flat_map-append (λ (x : List ℕ). x) (flat_map (allocation_block old mdb) xs) (flat_map (allocation_block old mdb) ys)
@@ -160,8 +160,8 @@ module _ (catalogs : CatalogIsSound) (total id : ℕ) (fork : Fork) (r : Record)
       ap (take same) had_is ∙ take_at (of_blocks b.moves.stay) (of_blocks b.go) same refl
       ∙ sym (ap (take same) has_is ∙ take_at (of_blocks b.moves.stay) (of_blocks b.come) same refl)
 
-  all_stay : (xs : List ℕ) (as : List ℕ) → xs ≡ of_blocks b.moves.stay ++ of_blocks as → as ≡ [] → length xs ≡ same
-  all_stay xs as are none =
+  all_stay : (xs : List ℕ) (bs : List ℕ) → xs ≡ of_blocks b.moves.stay ++ of_blocks bs → bs ≡ [] → length xs ≡ same
+  all_stay xs bs are none =
       ap (λ (l : List ℕ). length l) (are ∙ ap (λ (l : List ℕ). of_blocks b.moves.stay ++ of_blocks l) none)
       ∙ length-append (of_blocks b.moves.stay) (of_blocks [])
       ∙ (let nothing : length (of_blocks []) ≡ 0 = refl in let e : same + length (of_blocks []) ≡ same = omega (arith, nothing) in e)
