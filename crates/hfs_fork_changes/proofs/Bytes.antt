@@ -1,6 +1,6 @@
 -- What zeros and bytes over a fork's blocks make of the fork's bytes.
-use Rattle.std.proofs.Common.{◌≡◌, inl, inr, ◌⊎◌, ℕ, suc, ◌+◌, ◌-◌, ◌*◌, ◌<◌, ◌≤◌, Bool, true, false, cond, ltb, List, [], ◌∷◌, ◌++◌, length, get_or, take, drop, replicate, refl, sym, ◌∙◌, ap, subst, arith}
-use Rattle.std.specs.Prelude.{max, min}
+use Rattle.std.proofs.Common.{◌≡◌, inl, inr, ◌⊎◌, ℕ, suc, ◌+◌, ◌-◌, ◌*◌, ◌<◌, ◌≤◌, Bool, true, false, cond, ltb, List, [], ◌∷◌, ◌++◌, length, get_or, take, drop, replicate, sym, ◌∙◌, ap, arith}
+use Rattle.std.specs.Prelude.{max}
 use Rattle.std.proofs.lemmas.Bool.{cases_lt, cases_Bool, ltb-true, lt-ltb}
 use Rattle.std.proofs.lemmas.List.{length-append, length-take, length-take-le, length-replicate, take-append-le, take-replicate, take_all, take-take, append_assoc, append-nil, drop-take, drop_all}
 use Rattle.std.proofs.Math.Nat.{mul-le-mul_right, suc-mul}
@@ -9,7 +9,7 @@ use Rattle.hfs_fork_calls.proofs.ForkLemmas.{length-resized, resized-same}
 use Rattle.hfs_fork_bytes.specs.Parts.{with_part, zeros}
 use Rattle.hfs_fork_bytes.proofs.PartLemmas.{length-with_part, with_part-before, with_part-inside, with_part-after}
 use Rattle.hfs_fork_bytes.proofs.ForkLemmas.{with_part-nothing}
-use Rattle.hfs_fork_bytes.proofs.CoverLemmas.{length-zeros, length-cleared, cleared-in, cleared-out}
+use Rattle.hfs_fork_bytes.proofs.CoverLemmas.{length-cleared, cleared-in, cleared-out}
 use Rattle.hfs_fork_changes.specs.Laid.{AreZeros, AreLaid}
 
 take_past : (xs ys : List ℕ) (k : ℕ) → take (length xs + k) (xs ++ ys) ≡ xs ++ take k ys

@@ -1,5 +1,5 @@
 -- All edits of a call that writes a fork make of a sound volume the one that the call makes.
-use Rattle.std.proofs.Common.{◌≡◌, inl, inr, ◌⊎◌, ℕ, ◌+◌, ◌*◌, ◌<◌, ◌≤◌, true, false, ltb, List, [], length, take, refl, sym, ◌∙◌, ap, subst, arith, Ok}
+use Rattle.std.proofs.Common.{◌≡◌, inl, inr, ℕ, ◌+◌, ◌*◌, ◌≤◌, true, false, ltb, List, [], length, take, refl, sym, ◌∙◌, ap, subst, arith, Ok}
 use Rattle.std.specs.Prelude.{Result, ℤ, max}
 use Rattle.std.proofs.lemmas.Bool.{cases_lt, lt-ltb, true≢false}
 use Rattle.std.proofs.lemmas.Grind.{div_ceil_times}
@@ -13,9 +13,6 @@ use Rattle.hfs_scans.specs.Members.{In}
 use Rattle.hfs_scans.proofs.ElementLemmas.{each-left, each-right}
 use Rattle.hfs_scans.proofs.MemberLemmas.{each_in}
 use Rattle.hfs_btree.specs.Sound.{IsOther}
-use Rattle.hfs_space.specs.Bitmap.{clear_count}
-use Rattle.hfs_space.specs.Forks.{fork_bytes as bytes_of_fork}
-use Rattle.hfs_space.specs.ForkLaws.{block_numbers}
 use Rattle.hfs_space.specs.ForkLengths.{all_bytes}
 use Rattle.hfs_model.specs.declared.call.Fork.{Fork}
 use Rattle.hfs_model.specs.declared.call.Fork.TheVariants.{DataFork, ResFork}
@@ -23,12 +20,12 @@ use Rattle.hfs_model.specs.declared.item.Item.{Item}
 use Rattle.hfs_model.specs.Volume.{Volume, Entry}
 use Rattle.hfs_model.proofs.Facts.{not_refused}
 use Rattle.hfs_model.proofs.KeepsCalls.{same_entry, chained}
-use Rattle.hfs_catalog.specs.Records.{Record, item_with}
+use Rattle.hfs_catalog.specs.Records.{Record}
 use Rattle.hfs_catalog.specs.Items.{item_of}
 use Rattle.hfs_check.specs.Parts.{Blocks, mdb_in, catalog_in}
 use Rattle.hfs_check.specs.Sound.{AreBlocksSound}
-use Rattle.hfs_check.specs.VolumeOf.{bytes_in, contents_in, volume_in}
-use Rattle.hfs_check.specs.Agree.{IsBeside, IsBesideAll, changing_blocks}
+use Rattle.hfs_check.specs.VolumeOf.{contents_in, volume_in}
+use Rattle.hfs_check.specs.Agree.{changing_blocks}
 use Rattle.hfs_check.proofs.LawTypes.{CatalogIsSound}
 use Rattle.hfs_changes.specs.SettingLaws.{IsChoice}
 use Rattle.hfs_fork_bytes.specs.Parts.{with_part, zeros}
@@ -36,7 +33,7 @@ use Rattle.hfs_fork_bytes.proofs.ForkLemmas.{with_part-nothing}
 use Rattle.hfs_fork_calls.specs.Forks.{blocks, resized, written, fork_bytes}
 use Rattle.hfs_fork_calls.specs.ForkCalls.{to_set_eof, to_write_fork}
 use Rattle.hfs_fork_calls.proofs.ForkLemmas.{length-resized, length-written}
-use Rattle.hfs_fork_changes.specs.Files.{kind_of, fork_of, file_with}
+use Rattle.hfs_fork_changes.specs.Files.{fork_of, file_with}
 use Rattle.hfs_fork_changes.specs.Edits.{extents_of, blocks_of, bytes_of, ChangesFork, SetsVolume}
 use Rattle.hfs_fork_changes.specs.Laws.{ForkEditsAreSetEof, ForkEditsAreWriteFork}
 use Rattle.hfs_fork_changes.specs.Sized.{HasBlocks}
@@ -46,7 +43,7 @@ use Rattle.hfs_fork_changes.proofs.Beside.{id_same, len_same}
 use Rattle.hfs_fork_changes.proofs.Bytes.{zeros_resize, laid_write, zeros_reach, zeros_fit, bytes_laid}
 use Rattle.hfs_fork_changes.proofs.Moves.{has_blocks}
 use Rattle.hfs_fork_changes.proofs.Whole.{is_file_bytes}
-use Rattle.hfs_fork_changes.proofs.Laid.{laid_stays, had_long, has_long, same, front, held, either}
+use Rattle.hfs_fork_changes.proofs.Laid.{bytes_by, bytes_were, laid_stays, had_long, has_long, same, front, held, either}
 
 -- the record has these first extents
 first_same : (size : ℕ) (fork : Fork) (len : ℕ) (first : List Extent) (now : ℕ) (f : FileRecord) → (fork_of fork (file_with size fork len first now f)).extents ≡ first
@@ -99,12 +96,10 @@ module _ (catalogs : CatalogIsSound) (total : ℕ) (chosen : Result Entry ℤ) (
       ∙ s.lays.bytes.given ∙ ap (with_part offset part) s.lays.zeros.zeros
 
   new_bytes : bytes_of new fork s.file ≡ take len (with_part offset part (with_part s.from (zeros s.count) has))
-  unfolding bytes_in bytes_of_fork
-  new_bytes = (λ i. bytes_of_fork new (s.counts.mdb i) es (fork_of fork s.file).length) ∙ (λ i. take (long i) (all_laid i))
+  new_bytes = bytes_by fork s.file new mdb now s.free s.counts.mdb ∙ (λ i. take (long i) (all_laid i))
 
   old_bytes : bytes_of old fork f ≡ take was_length had
-  unfolding bytes_in bytes_of_fork
-  old_bytes = refl
+  old_bytes = bytes_were fork f old
 
   pub old_long : length (bytes_of old fork f) ≡ was_length
   old_long = ap (λ (l : List ℕ). length l) old_bytes ∙ length-take-le was_length had (held catalogs total c.id fork r n s.file old new h full c.was s.was moved)

@@ -1,6 +1,6 @@
 -- What zeros and bytes over the blocks of a fork make of a sound volume in which the fork has other blocks.
-use Rattle.std.proofs.Common.{◌≡◌, inl, inr, ◌⊎◌, ℕ, ◌+◌, ◌*◌, ◌%◌, ◌<◌, ◌≤◌, List, [], ◌++◌, length, length-append, length-map, take, refl, sym, ◌∙◌, ap, subst, arith, Some}
-use Rattle.std.specs.List.{flat_map, sum_by}
+use Rattle.std.proofs.Common.{◌≡◌, inl, inr, ◌⊎◌, ℕ, ◌+◌, ◌*◌, ◌<◌, ◌≤◌, List, [], ◌++◌, length, length-append, length-map, take, refl, sym, ◌∙◌, ap, arith, Some}
+use Rattle.std.specs.List.{flat_map}
 use Rattle.std.proofs.lemmas.Bool.{cases_lt, true≢false}
 use Rattle.std.proofs.lemmas.Grind.{flat_map-append}
 use Rattle.std.proofs.lemmas.List.{take_at}
@@ -8,14 +8,13 @@ use Rattle.hfs_fields.specs.declared.mdb.Mdb.{Mdb}
 use Rattle.hfs_fields.specs.declared.extent.Extent.{Extent}
 use Rattle.hfs_fields.specs.declared.file_record.FileRecord.{FileRecord}
 use Rattle.hfs_fields.specs.Records.{is_file, file_record_of}
-use Rattle.hfs_scans.specs.Each.{Each}
 use Rattle.hfs_blocks.specs.Blocks.{nodes_in}
 use Rattle.hfs_space.specs.Bitmap.{is_used}
 use Rattle.hfs_space.specs.Extents.{Overflow, block_total, extent_blocks, AreExtentsWithin}
-use Rattle.hfs_space.specs.Forks.{blocks_each, file_blocks, joined}
+use Rattle.hfs_space.specs.Forks.{blocks_each, file_blocks, joined, fork_bytes}
 use Rattle.hfs_space.specs.ForkLaws.{block_numbers}
 use Rattle.hfs_space.specs.ForkLengths.{all_bytes}
-use Rattle.hfs_space.specs.Owners.{extents_in, bad_extents, owners}
+use Rattle.hfs_space.specs.Owners.{extents_in, owners}
 use Rattle.hfs_space.proofs.FileLengthLemmas.{length-file_blocks}
 use Rattle.hfs_space.proofs.ForkLawLemmas.{allocation_block, file_blocks-in_order}
 use Rattle.hfs_space.proofs.ForkLengthLemmas.{byte_total}
@@ -24,22 +23,23 @@ use Rattle.hfs_model.specs.declared.call.Fork.{Fork}
 use Rattle.hfs_catalog.specs.Records.{Record, item_with}
 use Rattle.hfs_check.specs.Parts.{Blocks, mdb_in, overflow_in, catalog_extents, catalog_in, owned_in}
 use Rattle.hfs_check.specs.Sound.{AreBlocksSound}
+use Rattle.hfs_check.specs.VolumeOf.{bytes_in}
 use Rattle.hfs_check.specs.Agree.{IsBeside}
 use Rattle.hfs_check.proofs.LawTypes.{CatalogIsSound}
 use Rattle.hfs_changes.proofs.CatalogEdits.{part_of_sum}
 use Rattle.hfs_changes.proofs.DeletedFrames.{once}
 use Rattle.hfs_changes.proofs.Frames.{block_in, same_file}
-use Rattle.hfs_changes.proofs.Space.{record_has, forks_have, others_have, owners_sum, extents_parts, owned_each, each_owned}
-use Rattle.hfs_fork_bytes.specs.Parts.{with_part, zeros}
+use Rattle.hfs_changes.proofs.Space.{record_has, forks_have, owners_sum, extents_parts, owned_each, each_owned}
+use Rattle.hfs_fork_bytes.specs.Parts.{zeros}
 use Rattle.hfs_fork_bytes.proofs.WholeLemmas.{all-length}
 use Rattle.hfs_fork_changes.specs.Files.{fork_of}
-use Rattle.hfs_fork_changes.specs.Edits.{extents_of, blocks_of}
+use Rattle.hfs_fork_changes.specs.Edits.{extents_of, blocks_of, bytes_of}
 use Rattle.hfs_fork_changes.specs.Sized.{HasBlocks}
-use Rattle.hfs_fork_changes.specs.Laid.{AreFull, Lays}
+use Rattle.hfs_fork_changes.specs.Laid.{AreFull}
 use Rattle.hfs_fork_changes.proofs.Beside.{fork_in, other_fork, both_have}
 use Rattle.hfs_fork_changes.proofs.BesideTrees.{is_beside}
 use Rattle.hfs_fork_changes.proofs.Rooms.{length-blocks, extents_within}
-use Rattle.hfs_fork_changes.proofs.SoundForks.{own, forks_r, own_owns, own_sound}
+use Rattle.hfs_fork_changes.proofs.SoundForks.{own, forks_r, own_sound}
 use Rattle.hfs_fork_changes.proofs.Moves.{within_each}
 
 -- how many bytes the blocks of extents have
@@ -53,6 +53,16 @@ bytes_long total old es h full within =
     let size = byte_total mdb (block_total es) h.mdb.whole_size in
     let count = ap (λ (k : ℕ). k * mdb.allocation_block_size) (length-blocks es) in
     omega (arith, all, numbers, size, count)
+
+-- a fork's bytes are the first of those of its blocks
+pub bytes_by : (fork : Fork) (now : FileRecord) (new : Blocks) (mdb : Mdb) (modified free : ℕ) → mdb_in new ≡ record mdb { modified = modified; free_blocks = free }
+    → bytes_of new fork now ≡ take (fork_of fork now).length (all_bytes new mdb (extents_of new fork now))
+unfolding bytes_in fork_bytes
+bytes_by fork now new mdb modified free is = λ i. fork_bytes new (is i) (extents_of new fork now) (fork_of fork now).length
+
+pub bytes_were : (fork : Fork) (f : FileRecord) (old : Blocks) → bytes_of old fork f ≡ take (fork_of fork f).length (all_bytes old (mdb_in old) (extents_of old fork f))
+unfolding bytes_in fork_bytes
+bytes_were fork f old = refl
 
 module _ (catalogs : CatalogIsSound) (total id : ℕ) (fork : Fork) (r : Record) (n : ℕ) (now : FileRecord) (old new : Blocks) (h : AreBlocksSound total old) (full : AreFull total old)
     (there : item_with (catalog_in old) id ≡ Some r) (is : is_file r.1 ≡ true) (b : HasBlocks fork (file_record_of r.1) now n old new) where
@@ -168,8 +178,8 @@ module _ (catalogs : CatalogIsSound) (total id : ℕ) (fork : Fork) (r : Record)
 
   pub held : was_length ≤ length had
   held =
-      let room = (own_sound catalogs total id fork r old h there is).room in
-      let count = ap (λ (k : ℕ). k * size) (length-blocks (extents_of old fork was)) in
+      let room : was_length ≤ block_total (extents_of old fork was) * size = (own_sound catalogs total id fork r old h there is).room in
+      let count : length (blocks_of old fork was) * size ≡ block_total (extents_of old fork was) * size = ap (λ (k : ℕ). k * size) (length-blocks (extents_of old fork was)) in
       omega (arith, room, count, had_long)
 
   -- they are all that the fork had, or all that it has

@@ -1,5 +1,5 @@
 -- What the edits of the extents tree and of the bitmap make of the blocks of a fork of a sound volume.
-use Rattle.std.proofs.Common.{◌≡◌, inl, inr, ◌⊎◌, ℕ, ◌+◌, ◌-◌, ◌*◌, ◌/◌, ◌%◌, ◌<◌, ◌≤◌, Bool, not, List, [], ◌++◌, length, length-append, length-drop, take, drop, append-nil, refl, sym, ◌∙◌, ap, subst, arith, Some}
+use Rattle.std.proofs.Common.{◌≡◌, inl, inr, ℕ, ◌+◌, ◌-◌, ◌*◌, ◌/◌, ◌%◌, ◌<◌, ◌≤◌, not, List, [], ◌++◌, length, length-append, take, drop, append-nil, refl, sym, ◌∙◌, ap, subst, arith, Some}
 use Rattle.std.specs.List.{range_with_len}
 use Rattle.std.proofs.lemmas.List.{take-append-drop, length-take-le}
 use Rattle.hfs_fields.specs.declared.extent.Extent.{Extent}
@@ -27,7 +27,7 @@ use Rattle.hfs_claims.specs.Claimed.{AreFree}
 use Rattle.hfs_fork_extents.specs.Whole.{IsWhole, EditsFork}
 use Rattle.hfs_fork_extents.proofs.TreeEdits.{edits-none}
 use Rattle.hfs_fork_changes.specs.Files.{fork_of}
-use Rattle.hfs_fork_changes.specs.Edits.{byte_of, extents_of, blocks_of, MovesBlocks, SetsExtents, SetsBits}
+use Rattle.hfs_fork_changes.specs.Edits.{byte_of, extents_of, blocks_of, SetsExtents}
 use Rattle.hfs_fork_changes.specs.Sized.{HasBitmapOf, Gains, Loses, Stays, GetsBlocks, HasBlocks}
 use Rattle.hfs_fork_changes.proofs.SoundForks.{own_sound, own_once, own_marked, own_whole}
 

@@ -1,23 +1,21 @@
 -- A fork of a file of a sound volume: it owns its blocks alone, they are the volume's and marked, and it goes on with each of its records.
-use Rattle.std.proofs.Common.{◌≡◌, inl, inr, ⊎_elim, ◌⊎◌, ℕ, ◌+◌, ◌*◌, ◌<◌, ◌≤◌, Bool, true, false, cond, ◌&&◌, ◌||◌, eqb, ltb, List, [], ◌∷◌, ◌++◌, length, refl, sym, ◌∙◌, ap, subst, arith, Some}
+use Rattle.std.proofs.Common.{◌≡◌, inl, inr, ⊎_elim, ◌⊎◌, ℕ, ◌+◌, ◌<◌, ◌≤◌, Bool, true, false, cond, eqb, [], ◌∷◌, refl, sym, ◌∙◌, ap, subst, arith, Some}
 use Rattle.std.specs.Prelude.{not}
 use Rattle.std.specs.List.{flat_map, list_any}
-use Rattle.std.specs.declared.cmp.Ordering.{Ordering}
-use Rattle.std.specs.declared.cmp.Ordering.TheVariants.{Less, Equal, Greater}
-use Rattle.std.specs.Ordering.{is_eq}
+use Rattle.std.specs.declared.cmp.Ordering.TheVariants.{Less}
+use Rattle.std.specs.Ordering.{is_eq, ordering_reverse}
 use Rattle.std.proofs.lemmas.Bool.{eqb-true, ne_eqb, and_parts, or_right, true≢false}
 use Rattle.hfs_fields.specs.declared.mdb.Mdb.{Mdb}
 use Rattle.hfs_fields.specs.declared.file_record.FileRecord.{FileRecord}
 use Rattle.hfs_fields.specs.Keys.{ext_cmp, ext_cmp_total}
 use Rattle.hfs_fields.specs.Records.{is_dir, is_file, is_item, item_id, file_record_of}
-use Rattle.hfs_fields.proofs.OrderLemmas.{eq_is}
 use Rattle.hfs_scans.specs.Each.{Each}
 use Rattle.hfs_scans.specs.Members.{In}
 use Rattle.hfs_scans.proofs.MemberLemmas.{each_in}
 use Rattle.hfs_btree.specs.Pairs.{Rises}
 use Rattle.hfs_space.specs.Bitmap.{is_used}
-use Rattle.hfs_space.specs.Extents.{Overflow, block_total, extent_blocks, record_extents, AreExtentsWithin, goes_on, run_on}
-use Rattle.hfs_space.specs.Owners.{Fork as ForkOf, forks_of_file, forks_of, catalog_fork, all_forks, extents_in, records_in, is_bad_blocks, goes_on_with, owners}
+use Rattle.hfs_space.specs.Extents.{Overflow, block_total, record_extents, goes_on, run_on}
+use Rattle.hfs_space.specs.Owners.{Fork as ForkOf, forks_of_file, forks_of, catalog_fork, all_forks, records_in, is_bad_blocks, goes_on_with, owners}
 use Rattle.hfs_space.specs.Runs.{is_of_fork}
 use Rattle.hfs_space.specs.Sound.{IsForkSound, IsOverflowSound}
 use Rattle.hfs_space.proofs.RunSteps.{Record as ExtRecord}
@@ -38,7 +36,7 @@ use Rattle.hfs_changes.proofs.Space.{record_has, forks_have, owned_each, owned_d
 use Rattle.hfs_fork_extents.specs.Records.{of_fork}
 use Rattle.hfs_fork_extents.specs.Whole.{IsWhole}
 use Rattle.hfs_fork_changes.specs.Files.{fork_of}
-use Rattle.hfs_fork_changes.specs.Edits.{byte_of, extents_of, blocks_of}
+use Rattle.hfs_fork_changes.specs.Edits.{byte_of, blocks_of}
 use Rattle.hfs_fork_changes.proofs.Overflows.{any_one, in_flat, run_in, equal_keys, going}
 use Rattle.hfs_fork_changes.proofs.Beside.{fork_in, other_fork, other_byte, which_fork, one_each, both_have, file_forks}
 
@@ -58,7 +56,7 @@ below_not_equal : (x y : ExtRecord) → ext_cmp x.0 y.0 ≡ Less → is_eq (ext_
 below_not_equal x y less is = true≢false (sym is ∙ ap is_eq less)
 
 above_not_equal : (x y : ExtRecord) → ext_cmp x.0 y.0 ≡ Less → is_eq (ext_cmp y.0 x.0) ≡ true → ⊥
-above_not_equal x y less is = true≢false (sym is ∙ ap is_eq (ext_cmp_total.antisymm y.0 x.0 ∙ ap Rattle.std.specs.Ordering.ordering_reverse less))
+above_not_equal x y less is = true≢false (sym is ∙ ap is_eq (ext_cmp_total.antisymm y.0 x.0 ∙ ap ordering_reverse less))
 
 module _ (file fork : ℕ) where
   -- the record has the key of one that the fork goes on with

@@ -2,7 +2,6 @@
 use Rattle.std.specs.Prelude.{◌≡◌, true, ℕ, ℤ, ◌+◌, ◌*◌, ◌≤◌, max, List, [], length, Result}
 use Rattle.hfs_fields.specs.declared.extent.Extent.{Extent}
 use Rattle.hfs_fields.specs.declared.file_record.FileRecord.{FileRecord}
-use Rattle.hfs_fields.specs.declared.mdb.Mdb.{Mdb}
 use Rattle.hfs_fields.specs.Counts.{SameBesideCounts}
 use Rattle.hfs_fields.specs.Records.{is_file, file_record_of}
 use Rattle.hfs_space.specs.ForkLaws.{block_numbers}
