@@ -39,8 +39,7 @@ use Rattle.hfs_fork_changes.specs.Laid.{AreFull}
 use Rattle.hfs_fork_changes.proofs.Beside.{fork_in, other_fork, both_have}
 use Rattle.hfs_fork_changes.proofs.BesideTrees.{is_beside}
 use Rattle.hfs_fork_changes.proofs.Rooms.{length-blocks, extents_within}
-use Rattle.hfs_fork_changes.proofs.SoundForks.{own, forks_r, own_sound}
-use Rattle.hfs_fork_changes.proofs.Moves.{within_each}
+use Rattle.hfs_fork_changes.proofs.SoundForks.{own, forks_r, own_sound, own_within}
 
 -- how many bytes the blocks of extents have
 bytes_long : (total : ℕ) (old : Blocks) (es : List Extent) → AreBlocksSound total old → AreFull total old → AreExtentsWithin (mdb_in old).allocation_blocks es
@@ -134,7 +133,7 @@ module _ (catalogs : CatalogIsSound) (total id : ℕ) (fork : Fork) (r : Record)
   new_within : AreExtentsWithin mdb.allocation_blocks es
   new_within = extents_within mdb.allocation_blocks es (each_owned (λ (x : ℕ). x < mdb.allocation_blocks) (blocks_of new fork now) (λ a some. elim (cases_lt 0 (owners b.come a)) [
     | inl came ↦ b.moves.within a came
-    | inr none ↦ within_each mdb.allocation_blocks a (extents_of old fork was) (own_sound catalogs total id fork r old h there is).within (omega (arith, parts a, parts_old a, some, none))
+    | inr none ↦ own_within catalogs total id fork r old h there is a (omega (arith, parts a, parts_old a, some, none))
   ]))
 
   abbrev pub had : List ℕ

@@ -1,18 +1,13 @@
 -- What the edits of the extents tree and of the bitmap make of the blocks of a fork of a sound volume.
 use Rattle.std.proofs.Common.{◌≡◌, inl, inr, ℕ, ◌+◌, ◌-◌, ◌*◌, ◌/◌, ◌%◌, ◌<◌, ◌≤◌, not, List, [], ◌++◌, length, length-append, take, drop, append-nil, refl, sym, ◌∙◌, ap, subst, arith, Some}
-use Rattle.std.specs.List.{range_with_len}
 use Rattle.std.proofs.lemmas.List.{take-append-drop, length-take-le}
 use Rattle.hfs_fields.specs.declared.extent.Extent.{Extent}
 use Rattle.hfs_fields.specs.declared.file_record.FileRecord.{FileRecord}
 use Rattle.hfs_fields.specs.Records.{is_file, file_record_of}
-use Rattle.hfs_scans.proofs.ElementLemmas.{each-mono}
-use Rattle.hfs_scans.proofs.PartLemmas.{flat-each}
 use Rattle.hfs_space.specs.Bitmap.{bitmap_len, is_used, is_marked, clear_count}
-use Rattle.hfs_space.specs.Extents.{extent_blocks, fork_extents, IsExtentWithin, AreExtentsWithin}
+use Rattle.hfs_space.specs.Extents.{extent_blocks, fork_extents}
 use Rattle.hfs_space.specs.Owners.{owners}
 use Rattle.hfs_space.specs.TreeKeys.{overflow_of}
-use Rattle.hfs_space.proofs.Decided.{each_from_all}
-use Rattle.hfs_space.proofs.OwnedOnce.{each-range}
 use Rattle.hfs_space.proofs.CountingLemmas.{count_below-same}
 use Rattle.hfs_space.proofs.OwnerLemmas.{append}
 use Rattle.hfs_space_edits.specs.Released.{AreAlone}
@@ -22,14 +17,14 @@ use Rattle.hfs_check.specs.Parts.{Blocks, mdb_in, extents_nodes, overflow_in, ca
 use Rattle.hfs_check.specs.Sound.{AreBlocksSound}
 use Rattle.hfs_check.proofs.LawTypes.{CatalogIsSound}
 use Rattle.hfs_check.proofs.LawfulVolume.{sound_trees}
-use Rattle.hfs_changes.proofs.Space.{owned_each}
 use Rattle.hfs_claims.specs.Claimed.{AreFree}
 use Rattle.hfs_fork_extents.specs.Whole.{IsWhole, EditsFork}
 use Rattle.hfs_fork_extents.proofs.TreeEdits.{edits-none}
 use Rattle.hfs_fork_changes.specs.Files.{fork_of}
-use Rattle.hfs_fork_changes.specs.Edits.{byte_of, extents_of, blocks_of, SetsExtents}
+use Rattle.hfs_fork_changes.specs.Edits.{byte_of, blocks_of, SetsExtents}
 use Rattle.hfs_fork_changes.specs.Sized.{HasBitmapOf, Gains, Loses, Stays, GetsBlocks, HasBlocks}
-use Rattle.hfs_fork_changes.proofs.SoundForks.{own_sound, own_once, own_marked, own_whole}
+use Rattle.hfs_fork_changes.proofs.SoundForks.{own_once, own_marked, own_within, own_whole}
+use Rattle.hfs_fork_changes.proofs.Rooms.{within_each}
 
 -- ---- the bitmap is as it is in other blocks
 
@@ -42,11 +37,6 @@ module _ (old bits new : Blocks) (same : HasBitmapOf old bits new) where
   clear_same : clear_count new (mdb_in old).bitmap_start (mdb_in old).allocation_blocks ≡ clear_count bits (mdb_in old).bitmap_start (mdb_in old).allocation_blocks
   clear_same =
       count_below-same (λ b. not (is_used new (mdb_in old).bitmap_start b)) (λ b. not (is_used bits (mdb_in old).bitmap_start b)) (mdb_in old).allocation_blocks (λ b low. ap not (bit_same b (omega (arith, low))))
-
--- a block of extents that lie in the volume is the volume's
-pub within_each : (n : ℕ) (b : ℕ) (es : List Extent) → AreExtentsWithin n es → 0 < owners (extent_blocks es) b → b < n
-within_each n b es within some = owned_each (λ (x : ℕ). x < n) (extent_blocks es) (flat-each (λ (x : ℕ). x < n) (λ (e : Extent). range_with_len e.first e.count) es
-    (each-mono _ _ es (λ e inside. each-range (λ (x : ℕ). x < n) e.first e.count (λ x from to. omega (arith, inside (omega (arith, from, to)), to))) (each_from_all (IsExtentWithin n) es within))) b some
 
 -- a fork's blocks by its first extents
 blocks_by : (fork : Fork) (was now : FileRecord) (first : List Extent) (new : Blocks) → now.id ≡ was.id → (fork_of fork now).extents ≡ first
@@ -135,7 +125,7 @@ module _ (catalogs : CatalogIsSound) (total id : ℕ) (fork : Fork) (r : Record)
     owned b = let parts = ap (λ (xs : List ℕ). owners xs b) split ∙ append b (take n (blocks_of old fork was)) went in omega (arith, parts)
 
     went_within : (b : ℕ) → 0 < owners went b → b < blocks
-    went_within b some = within_each blocks b (extents_of old fork was) (own_sound catalogs total id fork r old h there is).within (omega (arith, owned b, some))
+    went_within b some = own_within catalogs total id fork r old h there is b (omega (arith, owned b, some))
 
     left : blocks_of new fork now ≡ take n (blocks_of old fork was)
     left =

@@ -1,5 +1,5 @@
 -- A fork of a file of a sound volume: it owns its blocks alone, they are the volume's and marked, and it goes on with each of its records.
-use Rattle.std.proofs.Common.{◌≡◌, inl, inr, ⊎_elim, ◌⊎◌, ℕ, ◌+◌, ◌<◌, ◌≤◌, Bool, true, false, cond, eqb, [], ◌∷◌, refl, sym, ◌∙◌, ap, subst, arith, Some}
+use Rattle.std.proofs.Common.{◌≡◌, inl, inr, ⊎_elim, ◌⊎◌, ℕ, ◌+◌, ◌<◌, ◌≤◌, Bool, true, false, cond, eqb, [], ◌∷◌, length, refl, sym, ◌∙◌, ap, subst, arith, Some}
 use Rattle.std.specs.Prelude.{not}
 use Rattle.std.specs.List.{flat_map, list_any}
 use Rattle.std.specs.declared.cmp.Ordering.TheVariants.{Less}
@@ -36,7 +36,8 @@ use Rattle.hfs_changes.proofs.Space.{record_has, forks_have, owned_each, owned_d
 use Rattle.hfs_fork_extents.specs.Records.{of_fork}
 use Rattle.hfs_fork_extents.specs.Whole.{IsWhole}
 use Rattle.hfs_fork_changes.specs.Files.{fork_of}
-use Rattle.hfs_fork_changes.specs.Edits.{byte_of, blocks_of}
+use Rattle.hfs_fork_changes.specs.Edits.{byte_of, extents_of, blocks_of}
+use Rattle.hfs_fork_changes.proofs.Rooms.{room_left, within_each}
 use Rattle.hfs_fork_changes.proofs.Overflows.{any_one, in_flat, run_in, equal_keys, going}
 use Rattle.hfs_fork_changes.proofs.Beside.{fork_in, other_fork, other_byte, which_fork, one_each, both_have, file_forks}
 
@@ -161,6 +162,16 @@ module _ (catalogs : CatalogIsSound) (total id : ℕ) (fork : Fork) (r : Record)
 
   pub own_marked : (b : ℕ) → 0 < owners (blocks_of old fork f) b → is_used old mdb.bitmap_start b ≡ true
   own_marked b some = owned_each (λ (x : ℕ). is_used old mdb.bitmap_start x ≡ true) (owned_in old) h.space.marked b (omega (arith, own_owns b, some))
+
+  pub own_within : (b : ℕ) → 0 < owners (blocks_of old fork f) b → b < mdb.allocation_blocks
+  own_within b some = within_each mdb.allocation_blocks b (extents_of old fork f) own_sound.within some
+
+  -- with the free blocks they are no more than the volume has
+  pub own_few : mdb.free_blocks + length (blocks_of old fork f) ≤ mdb.allocation_blocks
+  own_few =
+      let counted = h.space.counted in
+      let few = room_left (is_used old mdb.bitmap_start) mdb.allocation_blocks (blocks_of old fork f) own_once own_within own_marked in
+      omega (arith, counted, few)
 
   -- ---- its records
 
