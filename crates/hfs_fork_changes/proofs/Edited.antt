@@ -1,5 +1,5 @@
 -- All edits of a call that writes a fork make of a sound volume the one that the call makes.
-use Rattle.std.proofs.Common.{◌≡◌, inl, inr, ℕ, ◌+◌, ◌*◌, ◌≤◌, true, false, ltb, List, [], length, take, refl, sym, ◌∙◌, ap, subst, arith, Ok}
+use Rattle.std.proofs.Common.{◌≡◌, inl, inr, ℕ, ◌+◌, ◌*◌, ◌≤◌, true, false, ◌||◌, ltb, List, [], length, take, refl, sym, ◌∙◌, ap, subst, arith, Ok}
 use Rattle.std.specs.Prelude.{Result, ℤ, max}
 use Rattle.std.proofs.lemmas.Bool.{cases_lt, lt-ltb, true≢false}
 use Rattle.std.proofs.lemmas.Grind.{div_ceil_times}
@@ -17,7 +17,9 @@ use Rattle.hfs_space.specs.ForkLengths.{all_bytes}
 use Rattle.hfs_model.specs.declared.call.Fork.{Fork}
 use Rattle.hfs_model.specs.declared.call.Fork.TheVariants.{DataFork, ResFork}
 use Rattle.hfs_model.specs.declared.item.Item.{Item}
+use Rattle.hfs_model.specs.declared.codes.TheConstants.{END_OF_FILE, PARAMETER}
 use Rattle.hfs_model.specs.Volume.{Volume, Entry}
+use Rattle.hfs_model.specs.Choices.{and_then}
 use Rattle.hfs_model.proofs.Facts.{not_refused}
 use Rattle.hfs_model.proofs.KeepsCalls.{same_entry, chained}
 use Rattle.hfs_catalog.specs.Records.{Record}
@@ -31,7 +33,7 @@ use Rattle.hfs_changes.specs.SettingLaws.{IsChoice}
 use Rattle.hfs_fork_bytes.specs.Parts.{with_part, zeros}
 use Rattle.hfs_fork_bytes.proofs.ForkLemmas.{with_part-nothing}
 use Rattle.hfs_fork_calls.specs.Forks.{blocks, resized, written, fork_bytes}
-use Rattle.hfs_fork_calls.specs.ForkCalls.{to_set_eof, to_write_fork}
+use Rattle.hfs_fork_calls.specs.ForkCalls.{file_to_write, unless_past_end, to_set_eof, to_write_fork}
 use Rattle.hfs_fork_calls.proofs.ForkLemmas.{length-resized, length-written}
 use Rattle.hfs_fork_changes.specs.Files.{fork_of, file_with}
 use Rattle.hfs_fork_changes.specs.Edits.{extents_of, blocks_of, bytes_of, ChangesFork, SetsVolume}
@@ -200,9 +202,9 @@ module _ (catalogs : CatalogIsSound) (total : ℕ) (chosen : Result Entry ℤ) (
 not_past : (v : Volume) (dir : ℕ) (name : List ℕ) (fork : Fork) (offset : ℕ) (bytes : List ℕ) (e : Entry) → to_write_fork v dir name fork offset bytes ≡ Ok e → offset ≤ length (fork_bytes fork e.1.kind)
 unfolding to_write_fork
 not_past v dir name fork offset bytes e is =
-    let test = not_refused _ _ _ e is in
-    let step = chained _ _ e test.1 in
-    let within = not_refused _ _ _ e step.2 in
+    let test = not_refused (ltb 65536 (length bytes) || ltb 2147483647 (offset + length bytes)) PARAMETER (and_then (file_to_write v dir name) (unless_past_end fork offset)) e is in
+    let step = chained (file_to_write v dir name) (unless_past_end fork offset) e test.1 in
+    let within = not_refused (ltb (length (fork_bytes fork step.0.1.kind)) offset) END_OF_FILE (Ok step.0) e step.2 in
     not_below (length (fork_bytes fork e.1.kind)) offset (subst (λ (x : Entry). ltb (length (fork_bytes fork x.1.kind)) offset ≡ false) (same_entry step.0 e within.1) within.0)
   where
     not_below : (a b : ℕ) → ltb a b ≡ false → b ≤ a
