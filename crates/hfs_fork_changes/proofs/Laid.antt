@@ -1,5 +1,5 @@
 -- What zeros and bytes over the blocks of a fork make of a sound volume in which the fork has other blocks.
-use Rattle.std.proofs.Common.{◌≡◌, inl, inr, ◌⊎◌, ℕ, ◌+◌, ◌*◌, ◌<◌, ◌≤◌, true, List, [], ◌++◌, length, length-append, take, refl, sym, ◌∙◌, ap, arith, Some}
+use Rattle.std.proofs.Common.{◌≡◌, inl, inr, ◌⊎◌, ℕ, ◌+◌, ◌*◌, ◌%◌, ◌<◌, ◌≤◌, true, List, [], ◌++◌, length, length-append, take, refl, sym, ◌∙◌, ap, arith, Some}
 use Rattle.std.specs.List.{flat_map}
 use Rattle.std.proofs.lemmas.Bool.{cases_lt, true≢false}
 use Rattle.std.proofs.lemmas.Grind.{flat_map-append}
@@ -39,19 +39,22 @@ use Rattle.hfs_fork_changes.specs.Laid.{AreFull}
 use Rattle.hfs_fork_changes.proofs.Beside.{fork_in, other_fork, both_have}
 use Rattle.hfs_fork_changes.proofs.BesideTrees.{is_beside}
 use Rattle.hfs_fork_changes.proofs.Rooms.{length-blocks, extents_within}
-use Rattle.hfs_fork_changes.proofs.SoundForks.{own, forks_r, own_sound, own_within}
+use Rattle.hfs_fork_changes.proofs.SoundForks.{own, forks_r, own_owns, own_once, own_sound, own_within}
 
--- how many bytes the blocks of extents have
+-- how many blocks of 512 bytes extents have
+numbers_long : (mdb : Mdb) (es : List Extent) → mdb.allocation_block_size % 512 ≡ 0 → 512 * length (block_numbers mdb es) ≡ length (extent_blocks es) * mdb.allocation_block_size
+unfolding nodes_in
+numbers_long mdb es whole =
+    let blocks : ℕ → List ℕ = λ n. [] in
+    let numbers : length (block_numbers mdb es) ≡ block_total es * blocks_each mdb = sym (length-map (block_numbers mdb es) blocks) ∙ length-file_blocks blocks mdb es in
+    let size = byte_total mdb (block_total es) whole in
+    let count = ap (λ (k : ℕ). k * mdb.allocation_block_size) (length-blocks es) in
+    omega (arith, numbers, size, count)
+
+-- how many bytes their blocks have
 bytes_long : (total : ℕ) (old : Blocks) (es : List Extent) → AreBlocksSound total old → AreFull total old → AreExtentsWithin (mdb_in old).allocation_blocks es
     → length (all_bytes old (mdb_in old) es) ≡ length (extent_blocks es) * (mdb_in old).allocation_block_size
-unfolding nodes_in
-bytes_long total old es h full within =
-    let mdb = mdb_in old in
-    let all = all-length mdb es total old h.mdb.area within full in
-    let numbers : length (block_numbers mdb es) ≡ block_total es * blocks_each mdb = sym (length-map old (block_numbers mdb es)) ∙ length-file_blocks old mdb es in
-    let size = byte_total mdb (block_total es) h.mdb.whole_size in
-    let count = ap (λ (k : ℕ). k * mdb.allocation_block_size) (length-blocks es) in
-    omega (arith, all, numbers, size, count)
+bytes_long total old es h full within = all-length (mdb_in old) es total old h.mdb.area within full ∙ numbers_long (mdb_in old) es h.mdb.whole_size
 
 -- a fork's bytes are the first of those of its blocks
 pub bytes_by : (fork : Fork) (now : FileRecord) (new : Blocks) (mdb : Mdb) (modified free : ℕ) → mdb_in new ≡ record mdb { modified = modified; free_blocks = free }
@@ -130,11 +133,20 @@ module _ (catalogs : CatalogIsSound) (total id : ℕ) (fork : Fork) (r : Record)
 
   -- ---- the bytes of before
 
-  new_within : AreExtentsWithin mdb.allocation_blocks es
+  pub new_within : AreExtentsWithin mdb.allocation_blocks es
   new_within = extents_within mdb.allocation_blocks es (each_owned (λ (x : ℕ). x < mdb.allocation_blocks) (blocks_of new fork now) (λ a some. elim (cases_lt 0 (owners b.come a)) [
     | inl came ↦ b.moves.within a came
     | inr none ↦ own_within catalogs total id fork r old h there is a (omega (arith, parts a, parts_old a, some, none))
   ]))
+
+  pub new_once : (a : ℕ) → owners (blocks_of new fork now) a ≤ 1
+  new_once a = elim (cases_lt 0 (owners b.come a)) [
+    | inl came ↦ omega (arith, parts a, parts_old a, come_nobodys a came, own_owns catalogs total id fork r old h there is a, b.moves.once a)
+    | inr none ↦ omega (arith, parts a, parts_old a, none, own_once catalogs total id fork r old h there is a)
+  ]
+
+  pub new_numbers : 512 * length (block_numbers mdb es) ≡ n * size
+  new_numbers = numbers_long mdb es h.mdb.whole_size ∙ ap (λ (k : ℕ). k * size) b.exact
 
   abbrev pub had : List ℕ
   had = all_bytes old mdb (extents_of old fork was)

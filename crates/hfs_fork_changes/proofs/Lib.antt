@@ -8,8 +8,8 @@ pub mod SoundForks
 mod Changed
 mod Contents
 mod Whole
-mod Moves
+pub mod Moves
 mod Bytes
-mod Laid
-mod Edited
+pub mod Laid
+pub mod Edited
 mod LawsProved
