@@ -27,7 +27,7 @@ use Rattle.hfs_catalog.specs.Items.{item_of}
 use Rattle.hfs_check.specs.Parts.{Blocks, mdb_in, catalog_in}
 use Rattle.hfs_check.specs.Sound.{AreBlocksSound}
 use Rattle.hfs_check.specs.VolumeOf.{contents_in, volume_in}
-use Rattle.hfs_check.specs.Agree.{changing_blocks}
+use Rattle.hfs_check.specs.Agree.{changing_blocks, IsBeside}
 use Rattle.hfs_check.proofs.LawTypes.{CatalogIsSound}
 use Rattle.hfs_changes.specs.SettingLaws.{IsChoice}
 use Rattle.hfs_fork_bytes.specs.Parts.{with_part, zeros}
@@ -39,7 +39,7 @@ use Rattle.hfs_fork_changes.specs.Files.{fork_of, file_with}
 use Rattle.hfs_fork_changes.specs.Edits.{extents_of, blocks_of, bytes_of, ChangesFork, SetsVolume}
 use Rattle.hfs_fork_changes.specs.Laws.{ForkEditsAreSetEof, ForkEditsAreWriteFork}
 use Rattle.hfs_fork_changes.specs.Sized.{HasBlocks}
-use Rattle.hfs_fork_changes.specs.Laid.{AreFull, AreZeros, AreLaid}
+use Rattle.hfs_fork_changes.specs.Laid.{AreFull, ChangesAsCallsDo, AreZeros, AreLaid}
 use Rattle.hfs_fork_changes.specs.CallEdits.{SetsFork, HasLaid, EditsAreSetEof, EditsAreWriteFork, EditsLeaveNoOldByte}
 use Rattle.hfs_fork_changes.proofs.Beside.{id_same, len_same}
 use Rattle.hfs_fork_changes.proofs.Bytes.{zeros_resize, laid_write, zeros_reach, zeros_fit, bytes_laid}
@@ -92,10 +92,13 @@ module _ (catalogs : CatalogIsSound) (total : ℕ) (chosen : Result Entry ℤ) (
 
   -- ---- the bytes
 
+  stays : (laid later : Blocks) → ChangesAsCallsDo old laid later → all_bytes later mdb es ≡ all_bytes laid mdb es
+  stays = laid_stays catalogs total c.id fork r n s.file old new h full c.was s.was moved
+
   all_laid : all_bytes new mdb es ≡ with_part offset part (with_part s.from (zeros s.count) has)
   all_laid =
-      laid_stays catalogs total c.id fork r n s.file old new h full c.was s.was moved s.laid s.others
-      ∙ s.lays.bytes.given ∙ ap (with_part offset part) s.lays.zeros.zeros
+      stays s.lays.laid new s.lays.ends ∙ s.lays.bytes.given
+      ∙ ap (with_part offset part) (stays s.lays.cleared s.lays.between s.lays.goes_on ∙ s.lays.zeros.zeros ∙ ap (with_part s.from (zeros s.count)) (stays old s.lays.before s.lays.begins))
 
   new_bytes : bytes_of new fork s.file ≡ take len (with_part offset part (with_part s.from (zeros s.count) has))
   new_bytes = bytes_by fork s.file new mdb now s.free s.counts.mdb ∙ (λ i. take (long i) (all_laid i))
@@ -124,10 +127,13 @@ module _ (catalogs : CatalogIsSound) (total : ℕ) (chosen : Result Entry ℤ) (
   not_written : (k : ℕ) → Each (IsOther k) wrote → (x : ℕ) → In x wrote → x ≡ k → ⊥
   not_written k apart x there = each_in (IsOther k) wrote x apart there
 
-  laid_beside : (k : ℕ) → Each (IsOther k) wrote → s.laid k ≡ old k
-  laid_beside k apart =
-      s.lays.bytes.beside k (λ i has_byte within is. not_written k apart k (s.are_written.bytes k (record { place = i; within = within; is = is; has = has_byte })) refl)
+  beside_all : (k : ℕ) → Each (IsOther k) wrote → IsBeside old k → new k ≡ old k
+  beside_all k apart beside =
+      s.lays.ends k beside
+      ∙ s.lays.bytes.beside k (λ i has_byte within is. not_written k apart k (s.are_written.bytes k (record { place = i; within = within; is = is; has = has_byte })) refl)
+      ∙ s.lays.goes_on k beside
       ∙ s.lays.zeros.beside k (λ i has_byte within is. not_written k apart k (s.are_written.zeros k (record { place = i; within = within; is = is; has = has_byte })) refl)
+      ∙ s.lays.begins k beside
 
   volume : SetsVolume now wrote old new
   volume = record {
@@ -135,7 +141,7 @@ module _ (catalogs : CatalogIsSound) (total : ℕ) (chosen : Result Entry ℤ) (
     mdb = s.counts.mdb;
     counted = (let freed = s.freed in let clear = moved.clear in omega (arith, freed, clear));
     beside = s.counts.beside;
-    others = λ k beside. s.others k (each-right (IsOther k) wrote (changing_blocks old) beside) ∙ laid_beside k (each-left (IsOther k) wrote (changing_blocks old) beside);
+    others = λ k beside. beside_all k (each-left (IsOther k) wrote (changing_blocks old) beside) (each-right (IsOther k) wrote (changing_blocks old) beside);
   }
 
   pub changes : (bytes : List ℕ) → length bytes ≡ len → bytes_of new fork s.file ≡ bytes → ChangesFork fork r bytes now wrote old new

@@ -24,7 +24,6 @@ use Rattle.hfs_catalog.specs.Records.{Record, item_with}
 use Rattle.hfs_check.specs.Parts.{Blocks, mdb_in, overflow_in, catalog_extents, catalog_in, owned_in}
 use Rattle.hfs_check.specs.Sound.{AreBlocksSound}
 use Rattle.hfs_check.specs.VolumeOf.{bytes_in}
-use Rattle.hfs_check.specs.Agree.{IsBeside}
 use Rattle.hfs_check.proofs.LawTypes.{CatalogIsSound}
 use Rattle.hfs_changes.proofs.CatalogEdits.{part_of_sum}
 use Rattle.hfs_changes.proofs.DeletedFrames.{once}
@@ -35,7 +34,7 @@ use Rattle.hfs_fork_bytes.proofs.WholeLemmas.{all-length}
 use Rattle.hfs_fork_changes.specs.Files.{fork_of}
 use Rattle.hfs_fork_changes.specs.Edits.{extents_of, blocks_of, bytes_of}
 use Rattle.hfs_fork_changes.specs.Sized.{HasBlocks}
-use Rattle.hfs_fork_changes.specs.Laid.{AreFull}
+use Rattle.hfs_fork_changes.specs.Laid.{AreFull, ChangesAsCallsDo}
 use Rattle.hfs_fork_changes.proofs.Beside.{fork_in, other_fork, both_have}
 use Rattle.hfs_fork_changes.proofs.BesideTrees.{is_beside}
 use Rattle.hfs_fork_changes.proofs.Rooms.{length-blocks, extents_within}
@@ -125,9 +124,9 @@ module _ (catalogs : CatalogIsSound) (total id : ℕ) (fork : Fork) (r : Record)
   trees_none a some = let none = no_tree a some in let one = none.0 in let two = none.1 in omega (arith, one, two, extents_parts (catalog_extents old) mdb.extents_file a)
 
   -- what is laid over them, no other edit changes
-  pub laid_stays : (laid : Blocks) → ((k : ℕ) → IsBeside old k → new k ≡ laid k) → all_bytes new mdb es ≡ all_bytes laid mdb es
-  laid_stays laid others =
-      ap joined (same_file laid new mdb trees
+  pub laid_stays : (laid later : Blocks) → ChangesAsCallsDo old laid later → all_bytes later mdb es ≡ all_bytes laid mdb es
+  laid_stays laid later others =
+      ap joined (same_file laid later mdb trees
       (λ a j low none. others (block_in mdb a j) (is_beside total old h a j low (omega (arith, none, extents_parts (catalog_extents old) mdb.extents_file a)) (omega (arith, none, extents_parts (catalog_extents old) mdb.extents_file a))))
       es trees_none)
 

@@ -12,7 +12,6 @@ use Rattle.hfs_model.specs.Volume.{Entry}
 use Rattle.hfs_check.specs.Parts.{Blocks, mdb_in}
 use Rattle.hfs_check.specs.Sound.{AreBlocksSound}
 use Rattle.hfs_check.specs.VolumeOf.{volume_in}
-use Rattle.hfs_check.specs.Agree.{IsBeside}
 use Rattle.hfs_changes.specs.SettingLaws.{IsChoice}
 use Rattle.hfs_fork_calls.specs.Forks.{blocks}
 use Rattle.hfs_fork_calls.specs.ForkCalls.{to_set_eof, to_write_fork, set_eof, write_fork}
@@ -43,10 +42,8 @@ pub record SetsFork (fork : Fork) (r : Record) (len now offset : ℕ) (part writ
   pub from : ℕ
   pub count : ℕ
   pub are_zeros : AreZeros (mdb_in old).allocation_block_size (fork_of fork (file_record_of r.1)).length (length (blocks_of old fork (file_record_of r.1))) len (blocks (mdb_in old).allocation_block_size len) offset (length part) from count
-  pub laid : Blocks
-  pub lays : Lays (mdb_in old) (extents_of new fork file) from count offset part old laid
+  pub lays : Lays (extents_of new fork file) from count offset part old new
   pub are_written : AreWritten (block_numbers (mdb_in old) (extents_of new fork file)) from count offset (length part) written
-  pub others : (n : ℕ) → IsBeside old n → new n ≡ laid n
 
 -- byte by byte, the blocks of the fork, whose record is `now` then, have what they must
 abbrev pub HasLaid : Fork → FileRecord → FileRecord → ℕ → ℕ → List ℕ → Blocks → Blocks → Type 0

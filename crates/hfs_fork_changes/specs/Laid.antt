@@ -9,7 +9,8 @@ use Rattle.hfs_space.specs.ForkLengths.{all_bytes}
 use Rattle.hfs_fork_bytes.specs.Parts.{with_part}
 use Rattle.hfs_fork_bytes.specs.Written.{HasByteOf, KeepsBeside}
 use Rattle.hfs_fork_bytes.specs.Clearing.{HaveZeros, KeepOthers}
-use Rattle.hfs_check.specs.Parts.{Blocks}
+use Rattle.hfs_check.specs.Parts.{Blocks, mdb_in}
+use Rattle.hfs_check.specs.Agree.{IsBeside}
 
 -- each of the first so many blocks has 512 bytes
 abbrev pub AreFull : ℕ → Blocks → Type 0
@@ -27,11 +28,22 @@ pub record LaysBytes (mdb : Mdb) (extents : List Extent) (offset : ℕ) (part : 
   pub given : all_bytes new mdb extents ≡ with_part offset part (all_bytes old mdb extents)
   pub beside : KeepsBeside (block_numbers mdb extents) offset (length part) old new
 
--- first the zeros, and then the bytes
-pub record Lays (mdb : Mdb) (extents : List Extent) (from count offset : ℕ) (part : List ℕ) (old new : Blocks) : Type 0 where
+-- no block has changed but those that every call may change
+abbrev pub ChangesAsCallsDo : Blocks → Blocks → Blocks → Type 0
+ChangesAsCallsDo volume old new = (n : ℕ) → IsBeside volume n → new n ≡ old n
+
+-- First the zeros are laid over these extents of a volume, and then the bytes. Before them, between them and behind them every block may
+-- change that every call may change.
+pub record Lays (extents : List Extent) (from count offset : ℕ) (part : List ℕ) (old new : Blocks) : Type 0 where
+  pub before : Blocks
+  pub begins : ChangesAsCallsDo old old before
   pub cleared : Blocks
-  pub zeros : LaysZeros mdb extents from count old cleared
-  pub bytes : LaysBytes mdb extents offset part cleared new
+  pub zeros : LaysZeros (mdb_in old) extents from count before cleared
+  pub between : Blocks
+  pub goes_on : ChangesAsCallsDo old cleared between
+  pub laid : Blocks
+  pub bytes : LaysBytes (mdb_in old) extents offset part between laid
+  pub ends : ChangesAsCallsDo old laid new
 
 -- Which zeros a fork wants that had `was` bytes in `had` blocks of `size` bytes, and gets `len` in n blocks, so many of them given from
 -- `offset` on: none before its old end, all from there to where the given ones begin or from where they end; to the end of its last block,
