@@ -11,7 +11,7 @@ use Rattle.hfs_fields.specs.Records.{is_file, file_record_of}
 use Rattle.hfs_blocks.specs.Blocks.{nodes_in}
 use Rattle.hfs_space.specs.Bitmap.{is_used}
 use Rattle.hfs_space.specs.Extents.{Overflow, block_total, extent_blocks, AreExtentsWithin}
-use Rattle.hfs_space.specs.Forks.{blocks_each, file_blocks, joined, fork_bytes}
+use Rattle.hfs_space.specs.Forks.{blocks_each, joined, fork_bytes}
 use Rattle.hfs_space.specs.ForkLaws.{block_numbers}
 use Rattle.hfs_space.specs.ForkLengths.{all_bytes}
 use Rattle.hfs_space.specs.Owners.{extents_in, owners}
@@ -29,7 +29,6 @@ use Rattle.hfs_changes.proofs.CatalogEdits.{part_of_sum}
 use Rattle.hfs_changes.proofs.DeletedFrames.{once}
 use Rattle.hfs_changes.proofs.Frames.{block_in, same_file}
 use Rattle.hfs_changes.proofs.Space.{record_has, forks_have, owners_sum, extents_parts, owned_each, each_owned}
-use Rattle.hfs_fork_bytes.specs.Parts.{zeros}
 use Rattle.hfs_fork_bytes.proofs.WholeLemmas.{all-length}
 use Rattle.hfs_fork_changes.specs.Files.{fork_of}
 use Rattle.hfs_fork_changes.specs.Edits.{extents_of, blocks_of, bytes_of}

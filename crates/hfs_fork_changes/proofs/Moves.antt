@@ -1,5 +1,5 @@
 -- What the edits of the extents tree and of the bitmap make of the blocks of a fork of a sound volume.
-use Rattle.std.proofs.Common.{◌≡◌, inl, inr, ℕ, ◌+◌, ◌-◌, ◌*◌, ◌/◌, ◌%◌, ◌<◌, ◌≤◌, true, not, List, [], ◌++◌, length, length-append, take, drop, append-nil, refl, sym, ◌∙◌, ap, subst, arith, Some}
+use Rattle.std.proofs.Common.{◌≡◌, inl, inr, ℕ, ◌+◌, ◌*◌, ◌/◌, ◌%◌, ◌<◌, ◌≤◌, true, not, List, [], ◌++◌, length, length-append, take, drop, append-nil, refl, sym, ◌∙◌, ap, subst, arith, Some}
 use Rattle.std.proofs.lemmas.List.{take-append-drop, length-take-le}
 use Rattle.hfs_fields.specs.declared.extent.Extent.{Extent}
 use Rattle.hfs_fields.specs.declared.file_record.FileRecord.{FileRecord}

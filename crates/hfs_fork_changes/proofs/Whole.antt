@@ -1,6 +1,6 @@
 -- A sound volume of which one fork was changed is sound, keeps what calls keep but for the blocks that were written, and is the one that
 -- the call makes.
-use Rattle.std.proofs.Common.{◌≡◌, inl, inr, ◌⊎◌, ℕ, ◌+◌, ◌*◌, ◌<◌, ◌≤◌, Bool, true, false, cond, ◌&&◌, ◌||◌, eqb, List, refl, sym, ◌∙◌, ap, subst, arith, Option, Some, None, Ok}
+use Rattle.std.proofs.Common.{◌≡◌, inl, inr, ℕ, ◌+◌, ◌*◌, ◌<◌, ◌≤◌, Bool, true, false, cond, ◌&&◌, ◌||◌, eqb, List, refl, sym, ◌∙◌, ap, subst, arith, Option, Some, None}
 use Rattle.std.specs.Prelude.{Result, ℤ, ◌==◌}
 use Rattle.std.specs.Cmp.{nat_cmp_total}
 use Rattle.std.specs.Option.{option_map, option_or}
@@ -10,10 +10,9 @@ use Rattle.hfs_fields.specs.declared.mdb.Mdb.{Mdb}
 use Rattle.hfs_fields.specs.declared.extent.Extent.{Extent}
 use Rattle.hfs_fields.specs.declared.file_record.FileRecord.{FileRecord}
 use Rattle.hfs_fields.specs.Keys.{cat_cmp}
-use Rattle.hfs_fields.specs.Records.{is_dir, is_file, is_bit_set, file_record_of}
+use Rattle.hfs_fields.specs.Records.{is_file, is_bit_set, file_record_of}
 use Rattle.hfs_btree.specs.Pairs.{Rises}
 use Rattle.hfs_space.specs.Bitmap.{bitmap_len, is_used, clear_count}
-use Rattle.hfs_space.specs.Extents.{Overflow}
 use Rattle.hfs_space.specs.Owners.{catalog_fork, extents_in, owned_blocks, owners, is_stray_block}
 use Rattle.hfs_space.specs.Sound.{IsTreeFile, AreForksSound, IsSpaceSound}
 use Rattle.hfs_space.proofs.LawTypes.{OwnedAreWithin}
@@ -32,7 +31,7 @@ use Rattle.hfs_catalog.proofs.LawTypes.{ItemsAreRecords, SoundIsLawful}
 use Rattle.hfs_catalog.proofs.Held.{with_id}
 use Rattle.hfs_check.specs.Parts.{Blocks, mdb_in, extents_nodes, overflow_in, catalog_extents, catalog_nodes, catalog_in, owned_in, is_marked_in}
 use Rattle.hfs_check.specs.Sound.{IsMdbSound, IsExtentsSound, IsCatalogFileSound, AreBlocksSound}
-use Rattle.hfs_check.specs.VolumeOf.{bytes_in, contents_in, volume_in}
+use Rattle.hfs_check.specs.VolumeOf.{contents_in, volume_in}
 use Rattle.hfs_check.specs.Agree.{KeepsBut, is_stray_in}
 use Rattle.hfs_check.proofs.LawTypes.{CatalogIsSound}
 use Rattle.hfs_changes.specs.Sound.{IsNearlySound}
@@ -50,7 +49,6 @@ use Rattle.hfs_catalog_edits.proofs.SwapLemmas.{swapped_find}
 use Rattle.hfs_fork_calls.specs.Forks.{resized, written, fork_bytes, item_with_fork}
 use Rattle.hfs_fork_calls.specs.ForkCalls.{to_set_eof, to_write_fork, set_eof, write_fork}
 use Rattle.hfs_fork_calls.proofs.ForkLemmas.{same-sort}
-use Rattle.hfs_fork_changes.specs.Files.{kind_of, fork_of, file_with}
 use Rattle.hfs_fork_changes.specs.Edits.{bytes_of, ChangesFork}
 use Rattle.hfs_fork_changes.specs.Laws.{HasBecome, ForkEditsAreSetEof, ForkEditsAreWriteFork}
 use Rattle.hfs_fork_changes.proofs.Files.{with_content, changed_item}
