@@ -38,12 +38,11 @@ use Rattle.hfs_fork_calls.proofs.ForkLemmas.{length-resized, length-written}
 use Rattle.hfs_fork_changes.specs.Files.{fork_of, file_with}
 use Rattle.hfs_fork_changes.specs.Edits.{extents_of, blocks_of, bytes_of, ChangesFork, SetsVolume}
 use Rattle.hfs_fork_changes.specs.Laws.{ForkEditsAreSetEof, ForkEditsAreWriteFork}
-use Rattle.hfs_fork_changes.specs.Sized.{HasBlocks}
 use Rattle.hfs_fork_changes.specs.Laid.{AreFull, ChangesAsCallsDo, AreZeros, AreLaid}
 use Rattle.hfs_fork_changes.specs.CallEdits.{SetsFork, HasLaid, EditsAreSetEof, EditsAreWriteFork, EditsLeaveNoOldByte}
 use Rattle.hfs_fork_changes.proofs.Beside.{id_same, len_same}
 use Rattle.hfs_fork_changes.proofs.Bytes.{zeros_resize, laid_write, zeros_reach, zeros_fit, bytes_laid}
-use Rattle.hfs_fork_changes.proofs.Moves.{has_blocks}
+use Rattle.hfs_fork_changes.proofs.Moves.{HasBlocks, has_blocks}
 use Rattle.hfs_fork_changes.proofs.Whole.{is_file_bytes}
 use Rattle.hfs_fork_changes.proofs.Laid.{bytes_by, bytes_were, laid_stays, had_long, has_long, same, front, held, either}
 

@@ -32,10 +32,10 @@ use Rattle.hfs_changes.proofs.Space.{record_has, forks_have, owners_sum, extents
 use Rattle.hfs_fork_bytes.proofs.WholeLemmas.{all-length}
 use Rattle.hfs_fork_changes.specs.Files.{fork_of}
 use Rattle.hfs_fork_changes.specs.Edits.{extents_of, blocks_of, bytes_of}
-use Rattle.hfs_fork_changes.specs.Sized.{HasBlocks}
 use Rattle.hfs_fork_changes.specs.Laid.{AreFull, ChangesAsCallsDo}
 use Rattle.hfs_fork_changes.proofs.Beside.{fork_in, other_fork, both_have}
 use Rattle.hfs_fork_changes.proofs.BesideTrees.{is_beside}
+use Rattle.hfs_fork_changes.proofs.Moves.{HasBlocks}
 use Rattle.hfs_fork_changes.proofs.Rooms.{length-blocks, extents_within}
 use Rattle.hfs_fork_changes.proofs.SoundForks.{own, forks_r, own_owns, own_once, own_sound, own_within}
 

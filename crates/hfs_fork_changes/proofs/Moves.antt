@@ -1,5 +1,5 @@
 -- What the edits of the extents tree and of the bitmap make of the blocks of a fork of a sound volume.
-use Rattle.std.proofs.Common.{◌≡◌, inl, inr, ℕ, ◌+◌, ◌*◌, ◌/◌, ◌%◌, ◌<◌, ◌≤◌, true, not, List, [], ◌++◌, length, length-append, take, drop, append-nil, refl, sym, ◌∙◌, ap, subst, arith, Some}
+use Rattle.std.proofs.Common.{◌≡◌, inl, inr, ◌⊎◌, ℕ, ◌+◌, ◌*◌, ◌/◌, ◌%◌, ◌<◌, ◌≤◌, true, not, List, [], ◌++◌, length, length-append, take, drop, append-nil, refl, sym, ◌∙◌, ap, subst, arith, Some}
 use Rattle.std.proofs.lemmas.List.{take-append-drop, length-take-le}
 use Rattle.hfs_fields.specs.declared.extent.Extent.{Extent}
 use Rattle.hfs_fields.specs.declared.file_record.FileRecord.{FileRecord}
@@ -21,10 +21,22 @@ use Rattle.hfs_claims.specs.Claimed.{AreFree}
 use Rattle.hfs_fork_extents.specs.Whole.{IsWhole, EditsFork}
 use Rattle.hfs_fork_extents.proofs.TreeEdits.{edits-none}
 use Rattle.hfs_fork_changes.specs.Files.{fork_of}
-use Rattle.hfs_fork_changes.specs.Edits.{byte_of, blocks_of, SetsExtents}
-use Rattle.hfs_fork_changes.specs.Sized.{HasBitmapOf, Gains, Loses, Stays, GetsBlocks, HasBlocks}
+use Rattle.hfs_fork_changes.specs.Edits.{byte_of, blocks_of, MovesBlocks, SetsExtents, SetsBits}
+use Rattle.hfs_fork_changes.specs.Sized.{HasBitmapOf, Gains, Loses, Stays, GetsBlocks}
 use Rattle.hfs_fork_changes.proofs.SoundForks.{own_once, own_marked, own_within, own_whole}
 use Rattle.hfs_fork_changes.proofs.Rooms.{within_each}
+
+-- The fork, whose record is this now, has n blocks: those that it had and behind them those that came, or the first of those that it had.
+-- The extents tree, the bitmap and its clear bits are right for that.
+pub record HasBlocks (fork : Fork) (was now : FileRecord) (n : ℕ) (old new : Blocks) : Type 0 where
+  pub extents : SetsExtents fork now old new
+  pub come : List ℕ
+  pub go : List ℕ
+  pub one_way : (come ≡ []) ⊎ (go ≡ [])
+  pub moves : MovesBlocks fork was now come go old new
+  pub bits : SetsBits come go old new
+  pub exact : length (blocks_of new fork now) ≡ n
+  pub clear : clear_count new (mdb_in old).bitmap_start (mdb_in old).allocation_blocks + n ≡ (mdb_in old).free_blocks + length (blocks_of old fork was)
 
 -- ---- the bitmap is as it is in other blocks
 

@@ -17,7 +17,7 @@ use Rattle.hfs_space.specs.Owners.{owners}
 use Rattle.hfs_space.proofs.CountingLemmas.{count_below-suc}
 use Rattle.hfs_space.proofs.Decided.{each_from_all}
 use Rattle.hfs_space.proofs.OwnedOnce.{each-range}
-use Rattle.hfs_changes.proofs.Space.{owned_each}
+use Rattle.hfs_changes.proofs.Space.{cons, one, no, owned_each}
 use Rattle.hfs_fork_calls.specs.Forks.{blocks}
 
 pub length-blocks : (es : List Extent) → length (extent_blocks es) ≡ block_total es
@@ -56,9 +56,6 @@ within_each n b es within some = owned_each (λ (x : ℕ). x < n) (extent_blocks
 
 -- ---- marked blocks, each once, leave no more clear ones than there are others
 
-cons_has : (b x : ℕ) (xs : List ℕ) → owners (x ∷ xs) b ≡ cond (eqb x b) 1 0 + owners xs b
-cons_has b x xs = sum_by-cons (λ (o : ℕ). cond (eqb o b) 1 0) x xs
-
 -- all but those of number n
 abbrev others_than : ℕ → List ℕ → List ℕ
 others_than n xs = filter (λ x. not (eqb x n)) xs
@@ -66,29 +63,29 @@ others_than n xs = filter (λ x. not (eqb x n)) xs
 parted : (n : ℕ) (xs : List ℕ) → length xs ≡ length (others_than n xs) + owners xs n
 parted n [] = refl
 parted n (x ∷ xs) = elim (eqb x n) as (λ (t : Bool). eqb x n ≡ t → length (x ∷ xs) ≡ length (cond (not t) (x ∷ others_than n xs) (others_than n xs)) + owners (x ∷ xs) n) [
-  | true ↦ λ e. (let here : ◌≡◌ {A = ℕ} (cond (eqb x n) 1 0) 1 = ap (λ (b : Bool). cond b 1 0) e in omega (arith, parted n xs, cons_has n x xs, here))
-  | false ↦ λ e. (let here : ◌≡◌ {A = ℕ} (cond (eqb x n) 1 0) 0 = ap (λ (b : Bool). cond b 1 0) e in omega (arith, parted n xs, cons_has n x xs, here))
+  | true ↦ λ e. omega (arith, parted n xs, cons n x xs, one (eqb x n) e)
+  | false ↦ λ e. omega (arith, parted n xs, cons n x xs, no (eqb x n) e)
 ] refl
 
 others_have : (n b : ℕ) (xs : List ℕ) → owners (others_than n xs) b ≤ owners xs b
 others_have n b [] = omega arith
 others_have n b (x ∷ xs) = elim (eqb x n) as (λ (t : Bool). owners (cond (not t) (x ∷ others_than n xs) (others_than n xs)) b ≤ owners (x ∷ xs) b) [
-  | true ↦ omega (arith, others_have n b xs, cons_has b x xs)
-  | false ↦ omega (arith, others_have n b xs, cons_has b x xs, cons_has b x (others_than n xs))
+  | true ↦ omega (arith, others_have n b xs, cons b x xs)
+  | false ↦ omega (arith, others_have n b xs, cons b x xs, cons b x (others_than n xs))
 ]
 
 none_of : (n : ℕ) (xs : List ℕ) → owners (others_than n xs) n ≡ 0
 none_of n [] = refl
 none_of n (x ∷ xs) = elim (eqb x n) as (λ (t : Bool). eqb x n ≡ t → owners (cond (not t) (x ∷ others_than n xs) (others_than n xs)) n ≡ 0) [
   | true ↦ λ e. none_of n xs
-  | false ↦ λ e. (let here : ◌≡◌ {A = ℕ} (cond (eqb x n) 1 0) 0 = ap (λ (b : Bool). cond b 1 0) e in omega (arith, none_of n xs, cons_has n x (others_than n xs), here))
+  | false ↦ λ e. omega (arith, none_of n xs, cons n x (others_than n xs), no (eqb x n) e)
 ] refl
 
 pub room_left : (used : ℕ → Bool) (n : ℕ) (xs : List ℕ) → ((b : ℕ) → owners xs b ≤ 1) → ((b : ℕ) → 0 < owners xs b → b < n) → ((b : ℕ) → 0 < owners xs b → used b ≡ true)
     → count_below (λ b. not (used b)) n + length xs ≤ n
 room_left used zero [] once within marked = let none : count_below (λ b. not (used b)) 0 ≡ 0 = refl in omega (arith, none)
 room_left used zero (x ∷ xs) once within marked =
-    absurd (let here : ◌≡◌ {A = ℕ} (cond (eqb x x) 1 0) 1 = ap (λ (b : Bool). cond b 1 0) (eq-eqb x x refl) in let low = within x (omega (arith, cons_has x x xs, here)) in omega (arith, low))
+    absurd (let low = within x (omega (arith, cons x x xs, one (eqb x x) (eq-eqb x x refl))) in omega (arith, low))
 room_left used (suc n) xs once within marked =
     let ys = others_than n xs in
     let rest = room_left used n ys (λ b. omega (arith, once b, others_have n b xs))

@@ -1,8 +1,8 @@
 -- What the edits of the extents tree and of the volume bitmap make of a fork that gets another number of allocation blocks.
-use Rattle.std.specs.Prelude.{◌≡◌, ◌⊎◌, ℕ, ◌+◌, ◌<◌, ◌≤◌, List, [], length}
+use Rattle.std.specs.Prelude.{◌≡◌, ◌⊎◌, ℕ, ◌+◌, ◌<◌, ◌≤◌, List, length}
 use Rattle.hfs_fields.specs.declared.extent.Extent.{Extent}
 use Rattle.hfs_fields.specs.declared.file_record.FileRecord.{FileRecord}
-use Rattle.hfs_space.specs.Bitmap.{bitmap_len, is_used, clear_count}
+use Rattle.hfs_space.specs.Bitmap.{bitmap_len, is_used}
 use Rattle.hfs_space.specs.Extents.{extent_blocks}
 use Rattle.hfs_space_edits.specs.Released.{HasReleased}
 use Rattle.hfs_claims.specs.Choice.{AreFreeOnce}
@@ -13,7 +13,7 @@ use Rattle.hfs_fork_extents.specs.declared.shortening.ShortFork.{ShortFork}
 use Rattle.hfs_model.specs.declared.call.Fork.{Fork}
 use Rattle.hfs_check.specs.Parts.{Blocks, mdb_in, extents_nodes}
 use Rattle.hfs_fork_changes.specs.Files.{fork_of}
-use Rattle.hfs_fork_changes.specs.Edits.{byte_of, blocks_of, MovesBlocks, SetsExtents, SetsBits}
+use Rattle.hfs_fork_changes.specs.Edits.{byte_of, blocks_of}
 
 -- the bitmap is as it is in these blocks
 abbrev pub HasBitmapOf : Blocks → Blocks → Blocks → Type 0
@@ -51,17 +51,3 @@ pub record Stays (fork : Fork) (was : FileRecord) (first : List Extent) (n : ℕ
 
 abbrev pub GetsBlocks : Fork → FileRecord → List Extent → ℕ → Blocks → Blocks → Type 0
 GetsBlocks fork was first n old new = Gains fork was first n old new ⊎ (Loses fork was first n old new ⊎ Stays fork was first n old new)
-
--- ---- what the volume is then
-
--- The fork, whose record is this now, has n blocks: those that it had and behind them those that came, or the first of those that it had.
--- The extents tree, the bitmap and its clear bits are right for that.
-pub record HasBlocks (fork : Fork) (was now : FileRecord) (n : ℕ) (old new : Blocks) : Type 0 where
-  pub extents : SetsExtents fork now old new
-  pub come : List ℕ
-  pub go : List ℕ
-  pub one_way : (come ≡ []) ⊎ (go ≡ [])
-  pub moves : MovesBlocks fork was now come go old new
-  pub bits : SetsBits come go old new
-  pub exact : length (blocks_of new fork now) ≡ n
-  pub clear : clear_count new (mdb_in old).bitmap_start (mdb_in old).allocation_blocks + n ≡ (mdb_in old).free_blocks + length (blocks_of old fork was)
