@@ -12,16 +12,16 @@ module _ (offset n : ℕ) (bytes : List ℕ) (fits : offset + n ≤ length bytes
   room : offset + length (zeros n) ≤ length bytes
   room = let long = length-zeros n in omega (arith, fits, long)
 
-  length-cleared : length (with_part offset (zeros n) bytes) ≡ length bytes
+  pub length-cleared : length (with_part offset (zeros n) bytes) ≡ length bytes
   length-cleared = length-with_part offset (zeros n) bytes room
 
-  cleared-in : (j : ℕ) → offset ≤ j → j < offset + n → get_or (with_part offset (zeros n) bytes) j 0 ≡ 0
+  pub cleared-in : (j : ℕ) → offset ≤ j → j < offset + n → get_or (with_part offset (zeros n) bytes) j 0 ≡ 0
   cleared-in j ge lt =
       let zero_byte : ℕ = 0 in
       let long = length-zeros n in
       with_part-inside offset (zeros n) bytes room j 0 ge (omega (arith, lt, long)) ∙ get_or-replicate n (j - offset) zero_byte 0 (omega (arith, ge, lt))
 
-  cleared-out : (j : ℕ) → (j < offset) ⊎ (offset + n ≤ j) → get_or (with_part offset (zeros n) bytes) j 0 ≡ get_or bytes j 0
+  pub cleared-out : (j : ℕ) → (j < offset) ⊎ (offset + n ≤ j) → get_or (with_part offset (zeros n) bytes) j 0 ≡ get_or bytes j 0
   cleared-out j apart =
       let long = length-zeros n in
       elim apart [

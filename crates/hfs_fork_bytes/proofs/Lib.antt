@@ -1,11 +1,11 @@
-mod PartLemmas
+pub mod PartLemmas
 mod PartSteps
 mod Puts
 mod JoinedLemmas
 mod NumberLemmas
-mod ForkLemmas
+pub mod ForkLemmas
 mod ZeroLemmas
 mod ZeroSteps
-mod CoverLemmas
+pub mod CoverLemmas
 mod FromLemmas
-mod WholeLemmas
+pub mod WholeLemmas

@@ -1,32 +1,29 @@
 -- The files beside one file, of one fork of which the record has others.
-use Rattle.std.proofs.Common.{◌≡◌, inl, inr, ⊎_elim, ℕ, ◌+◌, ◌*◌, ◌<◌, ◌≤◌, Bool, true, false, cond, ◌&&◌, ◌||◌, eqb, List, [], ◌∷◌, ◌++◌, count_by, refl, sym, ◌∙◌, ap, subst, arith, Some}
+use Rattle.std.proofs.Common.{◌≡◌, inl, inr, ⊎_elim, ◌⊎◌, ℕ, ◌+◌, ◌*◌, ◌≤◌, Bool, true, false, cond, ◌&&◌, ◌||◌, List, [], ◌∷◌, ◌++◌, count_by, refl, sym, ◌∙◌, ap, subst, arith}
 use Rattle.std.specs.List.{flat_map, sum_by}
-use Rattle.std.proofs.lemmas.Bool.{eq-eqb, true≢false}
+use Rattle.std.proofs.lemmas.Bool.{eq-eqb}
 use Rattle.std.proofs.lemmas.List.Sums.{sum_by-append, sum_by-cons}
 use Rattle.hfs_fields.specs.declared.mdb.Mdb.{Mdb}
 use Rattle.hfs_fields.specs.declared.extent.Extent.{Extent}
 use Rattle.hfs_fields.specs.declared.file_record.FileRecord.{FileRecord}
 use Rattle.hfs_fields.specs.Records.{is_dir, is_file, is_item, item_id, file_record_of}
-use Rattle.hfs_fields.specs.RecordForms.{IsFileRecordValue, file_record_bytes}
 use Rattle.hfs_scans.specs.Each.{Each}
 use Rattle.hfs_scans.specs.Members.{In}
 use Rattle.hfs_scans.proofs.MemberLemmas.{each_in}
-use Rattle.hfs_scans.proofs.ElementLemmas.{each-append, each-left, each-right}
 use Rattle.hfs_space.specs.Extents.{Overflow, block_total, extent_blocks, AreExtentsWithin}
-use Rattle.hfs_space.specs.Owners.{Fork as ForkOf, forks_of_file, forks_of, catalog_fork, all_forks, extents_in, owned_blocks, owners}
+use Rattle.hfs_space.specs.Owners.{Fork as ForkOf, forks_of_file, forks_of, extents_in, owners}
 use Rattle.hfs_space.specs.Sound.{IsForkSound}
 use Rattle.hfs_model.specs.declared.call.Fork.{Fork}
 use Rattle.hfs_model.specs.declared.call.Fork.TheVariants.{DataFork, ResFork}
-use Rattle.hfs_catalog.specs.Records.{Record, Catalog, has_id, item_with}
+use Rattle.hfs_catalog.specs.Records.{Record, Catalog, has_id}
 use Rattle.hfs_changes.proofs.FromLawful.{each_of}
-use Rattle.hfs_changes.proofs.KeptSpace.{no_file_forks}
-use Rattle.hfs_changes.proofs.Made.{file_id, file-not_dir, file-is, file-read}
+use Rattle.hfs_changes.proofs.Made.{file_id, file-not_dir}
 use Rattle.hfs_changes.proofs.OnceLemmas.{counted}
-use Rattle.hfs_changes.proofs.Space.{record_has, forks_have, others_have, owners_sum, extents_parts}
+use Rattle.hfs_changes.proofs.Space.{record_has, forks_have, extents_parts}
 use Rattle.hfs_fork_extents.specs.Records.{of_fork}
 use Rattle.hfs_fork_changes.specs.Files.{fork_of, file_with}
 use Rattle.hfs_fork_changes.specs.Edits.{byte_of}
-use Rattle.hfs_fork_changes.proofs.Overflows.{IsAway, same_extents}
+use Rattle.hfs_fork_changes.proofs.Overflows.{same_extents}
 
 -- ---- the forks of a file's record
 
@@ -56,6 +53,12 @@ pub fork_there : (fork : Fork) (f : FileRecord) → In (fork_in fork f) (forks_o
 unfolding forks_of_file
 fork_there DataFork f = inl refl
 fork_there ResFork f = inr (inl refl)
+
+-- a fork of a file's record is the one or the other
+pub which_fork : (fork : Fork) (f : FileRecord) (x : ForkOf) → In x (forks_of_file f) → (fork_in fork f ≡ x) ⊎ (fork_in (other_fork fork) f ≡ x)
+unfolding forks_of_file
+which_fork DataFork f x there = ⊎_elim (λ (a : fork_in DataFork f ≡ x). inl a) (λ rest. ⊎_elim (λ (b : fork_in ResFork f ≡ x). inr b) (λ none. absurd none) rest) there
+which_fork ResFork f x there = ⊎_elim (λ (a : fork_in DataFork f ≡ x). inr a) (λ rest. ⊎_elim (λ (b : fork_in ResFork f ≡ x). inl b) (λ none. absurd none) rest) there
 
 -- what the forks of a file have
 pub both_have : (mdb : Mdb) (overflow : Overflow) (b : ℕ) (fork : Fork) (f : FileRecord)

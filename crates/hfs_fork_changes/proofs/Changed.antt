@@ -1,5 +1,5 @@
 -- Forks, owners and space of a sound volume of which one fork was changed.
-use Rattle.std.proofs.Common.{◌≡◌, inl, inr, ⊎_elim, ◌⊎◌, ℕ, ◌+◌, ◌*◌, ◌<◌, ◌≤◌, Bool, true, false, cond, ◌&&◌, ◌||◌, eqb, List, [], ◌∷◌, ◌++◌, length, count_by, refl, sym, ◌∙◌, ap, subst, arith, Some}
+use Rattle.std.proofs.Common.{◌≡◌, inl, inr, ⊎_elim, ◌⊎◌, ℕ, ◌+◌, ◌*◌, ◌<◌, ◌≤◌, true, ◌&&◌, List, [], ◌∷◌, ◌++◌, length, count_by, refl, sym, ◌∙◌, ap, subst, arith, Some}
 use Rattle.std.specs.List.{flat_map, sum_by, find}
 use Rattle.std.specs.Ordering.{is_eq}
 use Rattle.std.proofs.lemmas.Bool.{true≢false, eq-eqb, cases_lt}
@@ -8,15 +8,13 @@ use Rattle.hfs_fields.specs.declared.mdb.Mdb.{Mdb}
 use Rattle.hfs_fields.specs.declared.extent.Extent.{Extent}
 use Rattle.hfs_fields.specs.declared.file_record.FileRecord.{FileRecord}
 use Rattle.hfs_fields.specs.Keys.{cat_cmp, cat_cmp_total}
-use Rattle.hfs_fields.specs.Records.{is_dir, is_file, is_item, item_id, dir_record_of, file_record_of}
+use Rattle.hfs_fields.specs.Records.{is_dir, is_item, item_id, dir_record_of, file_record_of}
 use Rattle.hfs_fields.specs.RecordForms.{file_record_bytes}
 use Rattle.hfs_fields.proofs.OrderLemmas.{equal-own}
 use Rattle.hfs_scans.specs.Each.{Each}
 use Rattle.hfs_scans.specs.Members.{In}
-use Rattle.hfs_scans.proofs.MemberLemmas.{each_in}
 use Rattle.hfs_scans.proofs.ElementLemmas.{each-append, each-left, each-right}
 use Rattle.hfs_scans.proofs.PartLemmas.{in_parts}
-use Rattle.hfs_btree.specs.Pairs.{Rises}
 use Rattle.hfs_btree_edits.proofs.KeptKeyLemmas.{each-key-mono, key-holds}
 use Rattle.hfs_space.specs.Extents.{Overflow, block_total, extent_blocks, run_on}
 use Rattle.hfs_space.specs.Owners.{Fork as ForkOf, forks_of_file, forks_of, catalog_fork, all_forks, extents_in, owned_blocks, owners}
@@ -28,56 +26,27 @@ use Rattle.hfs_space.proofs.RunSteps.{Record as ExtRecord}
 use Rattle.hfs_model.specs.declared.call.Fork.{Fork}
 use Rattle.hfs_model.specs.declared.call.Fork.TheVariants.{DataFork, ResFork}
 use Rattle.hfs_catalog.specs.Records.{Record, Catalog, has_id, item_with}
-use Rattle.hfs_catalog.specs.Sound.{IsRoot, IsGiven, IsSoundCatalog}
+use Rattle.hfs_catalog.specs.Sound.{IsSoundCatalog}
 use Rattle.hfs_catalog.proofs.Held.{with_id}
 use Rattle.hfs_catalog_edits.specs.Swaps.{Swaps}
+use Rattle.hfs_catalog_edits.proofs.KeepLemmas.{in_left, in_right}
 use Rattle.hfs_catalog_edits.proofs.EditedLemmas.{at_equal_key, with_replaced-swaps}
 use Rattle.hfs_check.specs.Parts.{Blocks, mdb_in, extents_nodes, overflow_in, catalog_extents, catalog_in, owned_in}
 use Rattle.hfs_check.specs.Sound.{IsForkKey, EachKey, AreBlocksSound}
 use Rattle.hfs_check.proofs.LawTypes.{CatalogIsSound}
 use Rattle.hfs_changes.proofs.ChangesLaws.{IsAlike}
-use Rattle.hfs_changes.proofs.DeletedFrames.{record_owns}
 use Rattle.hfs_changes.proofs.Linked.{sound_once}
-use Rattle.hfs_changes.proofs.Made.{file_alike, file_id, file-is, file-read, file-not_dir}
+use Rattle.hfs_changes.proofs.Made.{file_alike, file-is, file-read, file-not_dir}
 use Rattle.hfs_changes.proofs.Space.{record_has, forks_have, others_have, owners_sum, each_owned, owned_each}
 use Rattle.hfs_fork_extents.specs.Whole.{IsKeyOfOr}
 use Rattle.hfs_fork_extents.specs.Records.{of_fork}
-use Rattle.hfs_fork_changes.specs.Files.{fork_of, file_with}
+use Rattle.hfs_fork_changes.specs.Files.{fork_of}
 use Rattle.hfs_fork_changes.specs.Edits.{byte_of, extents_of, blocks_of, ChangesFork}
 use Rattle.hfs_fork_changes.proofs.TreeKeys.{content_keys}
-use Rattle.hfs_fork_changes.proofs.Overflows.{IsAway, same_extents, same_bad, records_sound}
+use Rattle.hfs_fork_changes.proofs.Overflows.{in_flat, flat_in, same_extents, same_bad, records_sound}
 use Rattle.hfs_fork_changes.proofs.Rooms.{extents_within, has_room}
-use Rattle.hfs_fork_changes.proofs.Beside.{fork_in, other_fork, other_byte, each_fork, one_each, fork_there, both_have, file_forks, other_same, id_same, len_same, IsOtherFile, others_before, others_behind, fork_carried, record_carried, sum_carried}
-
--- ---- lists in lists
-
-in_left : {X : Type 0} (xs ys : List X) (x : X) → In x xs → In x (xs ++ ys)
-in_left [] ys x there = absurd there
-in_left (z ∷ xs) ys x there = ⊎_elim (λ (here : z ≡ x). let both : In x (z ∷ xs ++ ys) = inl here in both) (λ (later : In x xs). let both : In x (z ∷ xs ++ ys) = inr (in_left xs ys x later) in both) there
-
-in_right : {X : Type 0} (xs ys : List X) (x : X) → In x ys → In x (xs ++ ys)
-in_right [] ys x there = there
-in_right (z ∷ xs) ys x there = inr (in_right xs ys x there)
-
-in_flat : {X Y : Type 0} (f : X → List Y) (xs : List X) (y : Y) → In y (flat_map f xs) → (x : X) × In x xs × In y (f x)
-in_flat f [] y there = absurd there
-in_flat {X} f (x ∷ xs) y there = ⊎_elim
-    (λ (here : In y (f x)). let found : (z : X) × In z (x ∷ xs) × In y (f z) = (x, inl refl, here) in found)
-    (λ (later : In y (flat_map f xs)). let rest = in_flat f xs y later in let found : (z : X) × In z (x ∷ xs) × In y (f z) = (rest.0, inr rest.1, rest.2) in found)
-    (in_parts y (f x) (flat_map f xs) there)
-
-flat_in : {X Y : Type 0} (f : X → List Y) (xs : List X) (x : X) (y : Y) → In x xs → In y (f x) → In y (flat_map f xs)
-flat_in f [] x y there is = absurd there
-flat_in f (z ∷ xs) x y there is = ⊎_elim
-    (λ (here : z ≡ x). in_left (f z) (flat_map f xs) y (subst (λ w. In y (f w)) (sym here) is))
-    (λ (later : In x xs). in_right (f z) (flat_map f xs) y (flat_in f xs x y later is))
-    there
-
--- a fork of a file's record is the one or the other
-which_fork : (fork : Fork) (f : FileRecord) (x : ForkOf) → In x (forks_of_file f) → (fork_in fork f ≡ x) ⊎ (fork_in (other_fork fork) f ≡ x)
-unfolding forks_of_file
-which_fork DataFork f x there = ⊎_elim (λ (a : fork_in DataFork f ≡ x). inl a) (λ rest. ⊎_elim (λ (b : fork_in ResFork f ≡ x). inr b) (λ none. absurd none) rest) there
-which_fork ResFork f x there = ⊎_elim (λ (a : fork_in DataFork f ≡ x). inr a) (λ rest. ⊎_elim (λ (b : fork_in ResFork f ≡ x). inl b) (λ none. absurd none) rest) there
+use Rattle.hfs_fork_changes.proofs.SoundForks as sound_forks
+use Rattle.hfs_fork_changes.proofs.Beside.{fork_in, other_fork, other_byte, which_fork, each_fork, one_each, fork_there, both_have, file_forks, other_same, id_same, len_same, IsOtherFile, others_before, others_behind, fork_carried, record_carried, sum_carried}
 
 fork_key : (fork : Fork) → (byte_of fork ≡ 0) ⊎ (byte_of fork ≡ 255)
 fork_key DataFork = inl refl
@@ -113,20 +82,13 @@ module _ (catalogs : CatalogIsSound) (total id : ℕ) (fork : Fork) (r : Record)
   own = with_id (catalog_in old) id r was
 
   pub f_id : f.id ≡ id
-  f_id = sym (file_id r.1 (file-not_dir r.1 d.was)) ∙ own.2
+  f_id = sound_forks.f_id catalogs total id fork r old h was d.was
 
   pub g_id : g.id ≡ f.id
   g_id = ap (λ (x : FileRecord). x.id) d.file_is ∙ id_same mdb.allocation_block_size fork (length bytes) d.first now f
 
   pub given : 16 ≤ g.id
-  given =
-      let is = own.2 in
-      let one = g_id in
-      let two = f_id in
-      ⊎_elim
-      (λ (root : IsRoot r). absurd (true≢false (sym root.folder ∙ file-not_dir r.1 d.was)))
-      (λ (some : IsGiven mdb.next_id r). let low = some.least in omega (arith, low, is, one, two))
-      (each_in _ (catalog_in old) r sound.ids.each own.0 own.1)
+  given = let one = g_id in let low = sound_forks.given catalogs total id fork r old h was d.was in omega (arith, low, one)
 
   -- ---- the catalog
 
@@ -164,7 +126,7 @@ module _ (catalogs : CatalogIsSound) (total id : ℕ) (fork : Fork) (r : Record)
   beside_behind = named behind (others_behind id r before behind own_id once_id)
 
   forks_r : forks_of r ≡ forks_of_file f
-  forks_r = file_forks r d.was
+  forks_r = sound_forks.forks_r catalogs total id fork r old h was d.was
 
   pub forks_s : forks_of s ≡ forks_of_file g
   forks_s = file_forks s (file-is g d.set.value) ∙ ap forks_of_file (file-read g d.set.value)
@@ -179,7 +141,7 @@ module _ (catalogs : CatalogIsSound) (total id : ℕ) (fork : Fork) (r : Record)
   -- ---- forks
 
   old_right : Each (IsForkSound mdb o) (forks_of_file f)
-  old_right = subst (Each (IsForkSound mdb o)) forks_r (each_in (λ (x : Record). Each (IsForkSound mdb o) (forks_of x)) (catalog_in old) r h.forks.files own.0)
+  old_right = sound_forks.own_right catalogs total id fork r old h was d.was
 
   pub other_far : (fork_in (other_fork fork) f).file ≡ g.id → (fork_in (other_fork fork) f).fork ≡ byte_of fork → ⊥
   other_far e k = other_byte fork k
@@ -189,11 +151,7 @@ module _ (catalogs : CatalogIsSound) (total id : ℕ) (fork : Fork) (r : Record)
   owned_low law = law mdb o (catalog_in old) h.extents.file h.catalog.file h.forks
 
   pub old_owns : (b : ℕ) → owners (blocks_of old fork f) b ≤ owners (owned_in old) b
-  old_owns b =
-      let all = record_owns total old h r own.0 b in
-      let forks : record_has mdb o b r ≡ forks_have mdb o b (forks_of_file f) = ap (forks_have mdb o b) forks_r in
-      let two = both_have mdb o b fork f in
-      omega (arith, all, forks, two)
+  old_owns = sound_forks.own_owns catalogs total id fork r old h was d.was
 
   pub moved : (b : ℕ) → owners (blocks_of old fork f) b ≡ owners d.moves.stay b + owners d.go b
   moved b = ap (λ (l : List ℕ). owners l b) d.moves.before ∙ append b d.moves.stay d.go
@@ -252,15 +210,15 @@ module _ (catalogs : CatalogIsSound) (total id : ℕ) (fork : Fork) (r : Record)
 
     carry_file : (x : ForkOf) → (x.file ≡ g.id → x.fork ≡ byte_of fork → ⊥) → (y : Record) → In y (before ++ (r ∷ behind)) → In x (forks_of y) → In x (flat_map forks_of (catalog_in new))
     carry_file x far y there is = ⊎_elim
-        (λ (front : In y before). of_new x y (in_left before (s ∷ behind) y front) is)
+        (λ (front : In y before). of_new x y (in_left y before (s ∷ behind) front) is)
         (λ (rest : In y (r ∷ behind)). ⊎_elim
         (λ (here : r ≡ y). let of_f : In x (forks_of_file f) = subst (In x) forks_r (subst (λ (z : Record). In x (forks_of z)) (sym here) is) in ⊎_elim
         (λ (one : fork_in fork f ≡ x). absurd (far (sym (ap (λ (z : ForkOf). z.file) one) ∙ sym g_id) (sym (ap (λ (z : ForkOf). z.fork) one))))
         (λ (two : fork_in (other_fork fork) f ≡ x).
-        of_new x s (in_right before (s ∷ behind) s (inl refl))
+        of_new x s (in_right s before (s ∷ behind) (inl refl))
         (subst (λ (z : ForkOf). In z (forks_of s)) (other_is ∙ two) (subst (In (fork_in (other_fork fork) g)) (sym forks_s) (fork_there (other_fork fork) g))))
         (which_fork fork f x of_f))
-        (λ (back : In y behind). of_new x y (in_right before (s ∷ behind) y (inr back)) is)
+        (λ (back : In y behind). of_new x y (in_right y before (s ∷ behind) (inr back)) is)
         rest)
         (in_parts y before (r ∷ behind) there)
 
@@ -277,7 +235,7 @@ module _ (catalogs : CatalogIsSound) (total id : ℕ) (fork : Fork) (r : Record)
         there
 
     own_there : In (fork_in fork g) (all_forks m (catalog_in new))
-    own_there = inr (of_new (fork_in fork g) s (in_right before (s ∷ behind) s (inl refl)) (subst (In (fork_in fork g)) (sym forks_s) (fork_there fork g)))
+    own_there = inr (of_new (fork_in fork g) s (in_right s before (s ∷ behind) (inl refl)) (subst (In (fork_in fork g)) (sym forks_s) (fork_there fork g)))
 
     whole_run : of_fork g.id (byte_of fork) p ≡ run_on g.id (byte_of fork) (block_total (fork_of fork g).extents) p
     unfolding overflow_in

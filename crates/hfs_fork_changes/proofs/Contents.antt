@@ -1,43 +1,43 @@
 -- Of a sound volume of which one fork was changed, every other fork has its bytes.
-use Rattle.std.proofs.Common.{◌≡◌, inl, inr, ⊎_elim, ◌⊎◌, ℕ, ◌+◌, ◌*◌, ◌<◌, ◌≤◌, Bool, true, false, cond, ◌||◌, List, [], ◌∷◌, ◌++◌, length, refl, sym, ◌∙◌, ap, subst, arith, Some}
+use Rattle.std.proofs.Common.{◌≡◌, inl, inr, ⊎_elim, ℕ, ◌+◌, ◌<◌, ◌≤◌, Bool, true, ◌||◌, List, ◌∷◌, ◌++◌, sym, ◌∙◌, ap, subst, arith, Some}
 use Rattle.std.specs.List.{sum_by}
 use Rattle.std.proofs.lemmas.Bool.{true≢false, cases_lt}
 use Rattle.std.proofs.lemmas.List.Sums.{sum_by-append, sum_by-cons}
 use Rattle.hfs_fields.specs.declared.mdb.Mdb.{Mdb}
 use Rattle.hfs_fields.specs.declared.extent.Extent.{Extent}
 use Rattle.hfs_fields.specs.declared.file_record.FileRecord.{FileRecord}
-use Rattle.hfs_fields.specs.Records.{is_dir, is_file, item_id, file_record_of}
+use Rattle.hfs_fields.specs.Records.{is_file, item_id, file_record_of}
 use Rattle.hfs_scans.specs.Each.{Each}
 use Rattle.hfs_scans.specs.Members.{In}
 use Rattle.hfs_scans.proofs.MemberLemmas.{each_in}
 use Rattle.hfs_scans.proofs.ElementLemmas.{each-append}
 use Rattle.hfs_scans.proofs.PartLemmas.{in_parts}
 use Rattle.hfs_btree.specs.Sound.{IsOther}
-use Rattle.hfs_space.specs.Bitmap.{bitmap_len, is_used}
-use Rattle.hfs_space.specs.Extents.{Overflow, extent_blocks, fork_extents, fork_byte}
+use Rattle.hfs_space.specs.Bitmap.{is_used}
+use Rattle.hfs_space.specs.Extents.{Overflow, extent_blocks}
 use Rattle.hfs_space.specs.Forks.{blocks_each, fork_bytes}
 use Rattle.hfs_space.specs.ForkLaws.{block_numbers}
-use Rattle.hfs_space.specs.Owners.{Fork as ForkOf, forks_of, forks_of_file, extents_in, owned_blocks, owners}
+use Rattle.hfs_space.specs.Owners.{Fork as ForkOf, extents_in, owners}
 use Rattle.hfs_model.specs.declared.call.Fork.{Fork}
 use Rattle.hfs_model.specs.declared.call.Fork.TheVariants.{DataFork, ResFork}
-use Rattle.hfs_catalog.specs.Records.{Record, Catalog, item_with}
+use Rattle.hfs_catalog.specs.Records.{Record, item_with}
 use Rattle.hfs_catalog.proofs.Held.{with_id}
-use Rattle.hfs_check.specs.Parts.{Blocks, mdb_in, extents_nodes, overflow_in, catalog_extents, catalog_nodes, catalog_in, owned_in}
+use Rattle.hfs_check.specs.Parts.{Blocks, mdb_in, overflow_in, catalog_extents, catalog_in, owned_in}
 use Rattle.hfs_check.specs.Sound.{AreBlocksSound}
 use Rattle.hfs_check.specs.VolumeOf.{bytes_in, contents_in}
-use Rattle.hfs_check.specs.Agree.{bitmap_blocks, node_blocks, changing_blocks}
+use Rattle.hfs_check.specs.Agree.{changing_blocks}
 use Rattle.hfs_check.proofs.LawTypes.{CatalogIsSound}
-use Rattle.hfs_changes.proofs.CatalogEdits.{each_take, part_of_sum}
+use Rattle.hfs_changes.proofs.CatalogEdits.{part_of_sum}
 use Rattle.hfs_changes.proofs.ChangesLaws.{KeepsOthers}
 use Rattle.hfs_changes.proofs.DeletedFrames.{once, record_owns}
-use Rattle.hfs_changes.proofs.Frames.{each_range, block_in, beside_file, same_bytes}
+use Rattle.hfs_changes.proofs.Frames.{block_in, beside_file, same_bytes}
 use Rattle.hfs_changes.proofs.FromLawful.{each_of}
 use Rattle.hfs_changes.proofs.Made.{file_id}
 use Rattle.hfs_changes.proofs.Space.{record_has, forks_have, extents_parts, owned_each}
-use Rattle.hfs_fork_changes.specs.Files.{kind_of, fork_of}
 use Rattle.hfs_fork_changes.specs.Edits.{byte_of, extents_of, blocks_of, bytes_of, ChangesFork}
 use Rattle.hfs_fork_changes.proofs.Files.{with_content}
 use Rattle.hfs_fork_changes.proofs.Beside.{fork_in, other_fork, both_have, file_forks}
+use Rattle.hfs_fork_changes.proofs.BesideTrees.{is_beside}
 use Rattle.hfs_fork_changes.proofs.Overflows.{same_extents}
 use Rattle.hfs_fork_changes.proofs.Changed as changed
 
@@ -80,27 +80,13 @@ module _ (catalogs : CatalogIsSound) (total id : ℕ) (fork : Fork) (r : Record)
 
   -- ---- the logical blocks of other allocation blocks
 
-  far : (a j : ℕ) → mdb.bitmap_start + bitmap_len mdb.allocation_blocks ≤ block_in mdb a j
-  far a j = omega (arith, h.mdb.bitmap_before)
-
   beside : (a j : ℕ) → j < blocks_each mdb → owners (extent_blocks touched) a ≡ 0 → new (block_in mdb a j) ≡ old (block_in mdb a j)
-  unfolding changing_blocks
   beside a j low none =
       let parts = touched_parts a in
       let n = block_in mdb a j in
-      let behind = far a j in
-      let apart : IsOther n 2 = λ (two : 2 ≡ n). (let third = h.mdb.bitmap_behind in omega (arith, behind, two, third)) in
       let own : Each (IsOther n) (block_numbers mdb (extents_of new fork g)) = beside_file mdb (extents_of new fork g) a j low (omega (arith, parts, none)) in
       let first : Each (IsOther n) written = each_of (IsOther n) written (λ w there. each_in (IsOther n) (block_numbers mdb (extents_of new fork g)) w own (each_in (λ k. In k (block_numbers mdb (extents_of new fork g))) written w d.own there)) in
-      let bits : Each (IsOther n) (bitmap_blocks mdb) = each_range (IsOther n) mdb.bitmap_start (bitmap_len mdb.allocation_blocks) (λ k lt same. omega (arith, behind, lt, same)) in
-      let one : Each (IsOther n) (node_blocks mdb mdb.extents_file (extents_nodes old)) = each_take _ _ (block_numbers mdb mdb.extents_file) (beside_file mdb mdb.extents_file a j low (omega (arith, parts, none))) in
-      let two : Each (IsOther n) (node_blocks mdb (catalog_extents old) (catalog_nodes old)) = each_take _ _ (block_numbers mdb (catalog_extents old)) (beside_file mdb (catalog_extents old) a j low (omega (arith, parts, none))) in
-      d.volume.others n
-      (each-append (IsOther n) written (changing_blocks old) first (
-        apart,
-        each-append (IsOther n) (bitmap_blocks mdb ++ node_blocks mdb mdb.extents_file (extents_nodes old)) (node_blocks mdb (catalog_extents old) (catalog_nodes old))
-            (each-append (IsOther n) (bitmap_blocks mdb) (node_blocks mdb mdb.extents_file (extents_nodes old)) bits one) two,
-      ))
+      d.volume.others n (each-append (IsOther n) written (changing_blocks old) first (is_beside total old h a j low (omega (arith, parts, none)) (omega (arith, parts, none))))
 
   -- ---- forks
 

@@ -5,13 +5,12 @@ use Rattle.hfs_fields.specs.declared.extent.Extent.{Extent}
 use Rattle.hfs_fields.specs.declared.file_record.FileRecord.{FileRecord}
 use Rattle.hfs_fields.specs.Records.{is_bit_set}
 use Rattle.hfs_fields.specs.RecordForms.{file_record_bytes}
-use Rattle.hfs_model.specs.declared.item.Item.{Item}
 use Rattle.hfs_model.specs.declared.item.Kind.TheVariants as kind
 use Rattle.hfs_model.specs.declared.call.Fork.{Fork}
 use Rattle.hfs_model.specs.declared.call.Fork.TheVariants.{DataFork, ResFork}
 use Rattle.hfs_catalog.specs.Items.{file_of, file_kept}
 use Rattle.hfs_fork_calls.specs.Forks.{physical_length, with_physical_length, item_with_fork}
-use Rattle.hfs_fork_changes.specs.Files.{fork_of, file_with}
+use Rattle.hfs_fork_changes.specs.Files.{file_with}
 
 -- both forks' bytes, of which one fork's are these
 abbrev pub with_content : Fork → List ℕ → List ℕ × List ℕ → List ℕ × List ℕ

@@ -2,9 +2,14 @@ mod Files
 mod TreeKeys
 mod Overflows
 mod Beside
+mod BesideTrees
 mod Rooms
+pub mod SoundForks
 mod Changed
 mod Contents
 mod Whole
-mod LawsProved
+pub mod Moves
 mod Bytes
+pub mod Laid
+pub mod Edited
+mod LawsProved

@@ -1,6 +1,5 @@
 -- The records of an extents tree in which one fork has others.
-use Rattle.std.proofs.Common.{◌≡◌, ◌⊎◌, inl, inr, ⊎_elim, ℕ, ◌+◌, ◌<◌, ◌≤◌, Bool, true, false, cond, ◌&&◌, ◌||◌, eqb, ltb, List, [], ◌∷◌, ◌++◌, filter, refl, sym, ◌∙◌, ap, subst, arith}
-use Rattle.std.specs.Prelude.{not, IsTrue}
+use Rattle.std.proofs.Common.{◌≡◌, ◌⊎◌, inl, inr, ⊎_elim, ℕ, ◌+◌, ◌<◌, ◌≤◌, Bool, true, false, cond, ◌&&◌, eqb, ltb, List, [], ◌∷◌, filter, refl, sym, ◌∙◌, ap, subst, arith}
 use Rattle.std.specs.List.{flat_map, list_any}
 use Rattle.std.specs.declared.cmp.Ordering.{Ordering}
 use Rattle.std.specs.declared.cmp.Ordering.TheVariants.{Less, Equal, Greater}
@@ -8,17 +7,18 @@ use Rattle.std.specs.Ordering.{nat_cmp, is_eq, ordering_then}
 use Rattle.std.specs.Cmp.{unsigned_ties}
 use Rattle.std.proofs.lemmas.Bool.{eqb-true, eq-eqb, ne_eqb, and_parts, ltb-true, or_cases, or_left, or_right, true≢false}
 use Rattle.hfs_fields.specs.declared.mdb.Mdb.{Mdb}
-use Rattle.hfs_fields.specs.declared.extent.Extent.{Extent}
 use Rattle.hfs_fields.specs.declared.key.ExtKey.{ExtKey}
 use Rattle.hfs_fields.specs.Keys.{ext_cmp}
 use Rattle.hfs_scans.specs.Each.{Each}
 use Rattle.hfs_scans.specs.Members.{In}
 use Rattle.hfs_scans.proofs.MemberLemmas.{each_in}
+use Rattle.hfs_scans.proofs.PartLemmas.{in_parts}
 use Rattle.hfs_space.specs.Extents.{Overflow, block_total, extent_blocks, record_extents, AreExtentsWithin, goes_on, run_on}
 use Rattle.hfs_space.specs.Owners.{Fork, extents_in, records_in, is_bad_blocks, goes_on_with, bad_extents, owners}
 use Rattle.hfs_space.specs.Runs.{is_of_fork}
 use Rattle.hfs_space.specs.Sound.{IsOverflowSound}
 use Rattle.hfs_space.proofs.RunSteps.{Record as ExtRecord}
+use Rattle.hfs_catalog_edits.proofs.KeepLemmas.{in_left, in_right}
 use Rattle.hfs_check.specs.Sound.{IsForkKey}
 use Rattle.hfs_changes.proofs.FromLawful.{each_of}
 use Rattle.hfs_changes.proofs.NoForks.{has_key}
@@ -65,6 +65,22 @@ passing {X} p (y ∷ ys) x there is = ⊎_elim
     behind true i = inr i
     behind false i = i
 
+-- ---- lists in lists
+
+pub in_flat : {X Y : Type 0} (f : X → List Y) (xs : List X) (y : Y) → In y (flat_map f xs) → (x : X) × In x xs × In y (f x)
+in_flat f [] y there = absurd there
+in_flat {X} f (x ∷ xs) y there = ⊎_elim
+    (λ (here : In y (f x)). let found : (z : X) × In z (x ∷ xs) × In y (f z) = (x, inl refl, here) in found)
+    (λ (later : In y (flat_map f xs)). let rest = in_flat f xs y later in let found : (z : X) × In z (x ∷ xs) × In y (f z) = (rest.0, inr rest.1, rest.2) in found)
+    (in_parts y (f x) (flat_map f xs) there)
+
+pub flat_in : {X Y : Type 0} (f : X → List Y) (xs : List X) (x : X) (y : Y) → In x xs → In y (f x) → In y (flat_map f xs)
+flat_in f [] x y there is = absurd there
+flat_in f (z ∷ xs) x y there is = ⊎_elim
+    (λ (here : z ≡ x). in_left y (f z) (flat_map f xs) (subst (λ w. In y (f w)) (sym here) is))
+    (λ (later : In x xs). in_right y (f z) (flat_map f xs) (flat_in f xs x y later is))
+    there
+
 -- ---- keys
 
 then_parts : (o p : Ordering) → is_eq (ordering_then o p) ≡ true → (is_eq o ≡ true) × (is_eq p ≡ true)
@@ -72,7 +88,7 @@ then_parts Less p e = absurd (true≢false (sym e))
 then_parts Equal p e = (refl, e)
 then_parts Greater p e = absurd (true≢false (sym e))
 
-equal_keys : (x y : ExtKey) → is_eq (ext_cmp x y) ≡ true → (x.file ≡ y.file) × (x.fork ≡ y.fork)
+pub equal_keys : (x y : ExtKey) → is_eq (ext_cmp x y) ≡ true → (x.file ≡ y.file) × (x.fork ≡ y.fork)
 equal_keys x y e =
     let parts = then_parts (nat_cmp x.file y.file) _ e in
     let more = then_parts (nat_cmp x.fork y.fork) _ parts.1 in
@@ -91,7 +107,7 @@ own_key x = then_own (nat_cmp x.file x.file) _ (own_number x.file) (then_own (na
 
 -- ---- a record that a fork goes on with
 
-going : (f k block : ℕ) (x : ExtRecord) → goes_on f k block x ≡ true → (is_of_fork f k x ≡ true) × (0 < block_total (record_extents x.1))
+pub going : (f k block : ℕ) (x : ExtRecord) → goes_on f k block x ≡ true → (is_of_fork f k x ≡ true) × (0 < block_total (record_extents x.1))
 going f k block x e =
     let one = and_parts (is_of_fork f k x && eqb x.0.block block && ltb block 65536) (ltb 0 (block_total (record_extents x.1))) e in
     let two = and_parts (is_of_fork f k x && eqb x.0.block block) (ltb block 65536) one.0 in

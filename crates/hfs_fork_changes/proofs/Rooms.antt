@@ -1,5 +1,7 @@
 -- Extents by their blocks.
-use Rattle.std.proofs.Common.{◌≡◌, ℕ, zero, suc, ◌+◌, ◌-◌, ◌*◌, ◌<◌, ◌≤◌, Bool, true, false, cond, eqb, List, [], ◌∷◌, ◌++◌, length, length-append, refl, sym, ◌∙◌, ap, subst, arith}
+use Rattle.std.proofs.Common.{◌≡◌, inl, inr, ℕ, zero, suc, ◌+◌, ◌*◌, ◌<◌, ◌≤◌, Bool, true, false, cond, eqb, List, [], ◌∷◌, length, length-append, filter, refl, sym, ◌∙◌, ap, subst, arith}
+use Rattle.std.specs.Prelude.{not}
+use Rattle.std.proofs.lemmas.Bool.{cases_lt, eq-eqb}
 use Rattle.std.specs.List.{range_with_len}
 use Rattle.std.proofs.lemmas.Grind.{div_ceil_times}
 use Rattle.std.proofs.lemmas.List.Elements.{All-nil, All-cons}
@@ -7,8 +9,15 @@ use Rattle.std.proofs.lemmas.List.FromFn.{length-range_with_len}
 use Rattle.std.proofs.lemmas.List.Sums.{sum_by-cons}
 use Rattle.hfs_fields.specs.declared.extent.Extent.{Extent}
 use Rattle.hfs_scans.specs.Each.{Each}
-use Rattle.hfs_scans.proofs.ElementLemmas.{each-left, each-right}
+use Rattle.hfs_scans.proofs.ElementLemmas.{each-left, each-mono, each-right}
+use Rattle.hfs_scans.proofs.PartLemmas.{flat-each}
+use Rattle.hfs_space.specs.Bitmap.{count_below}
 use Rattle.hfs_space.specs.Extents.{block_total, extent_blocks, IsExtentWithin, AreExtentsWithin}
+use Rattle.hfs_space.specs.Owners.{owners}
+use Rattle.hfs_space.proofs.CountingLemmas.{count_below-suc}
+use Rattle.hfs_space.proofs.Decided.{each_from_all}
+use Rattle.hfs_space.proofs.OwnedOnce.{each-range}
+use Rattle.hfs_changes.proofs.Space.{cons, one, no, owned_each}
 use Rattle.hfs_fork_calls.specs.Forks.{blocks}
 
 pub length-blocks : (es : List Extent) → length (extent_blocks es) ≡ block_total es
@@ -39,3 +48,64 @@ pub has_room : (size len : ℕ) (es : List Extent) → 0 < size → length (exte
 has_room size len es least exact =
     let ceiling = div_ceil_times len size least in
     subst (λ (k : ℕ). len ≤ k * size) (sym exact ∙ length-blocks es) ceiling.0
+
+-- a block of extents that lie in the volume is the volume's
+pub within_each : (n : ℕ) (b : ℕ) (es : List Extent) → AreExtentsWithin n es → 0 < owners (extent_blocks es) b → b < n
+within_each n b es within some = owned_each (λ (x : ℕ). x < n) (extent_blocks es) (flat-each (λ (x : ℕ). x < n) (λ (e : Extent). range_with_len e.first e.count) es
+    (each-mono _ _ es (λ e inside. each-range (λ (x : ℕ). x < n) e.first e.count (λ x from to. omega (arith, inside (omega (arith, from, to)), to))) (each_from_all (IsExtentWithin n) es within))) b some
+
+-- ---- marked blocks, each once, leave no more clear ones than there are others
+
+-- all but those of number n
+abbrev others_than : ℕ → List ℕ → List ℕ
+others_than n xs = filter (λ x. not (eqb x n)) xs
+
+parted : (n : ℕ) (xs : List ℕ) → length xs ≡ length (others_than n xs) + owners xs n
+parted n [] = refl
+parted n (x ∷ xs) = elim (eqb x n) as (λ (t : Bool). eqb x n ≡ t → length (x ∷ xs) ≡ length (cond (not t) (x ∷ others_than n xs) (others_than n xs)) + owners (x ∷ xs) n) [
+  | true ↦ λ e. omega (arith, parted n xs, cons n x xs, one (eqb x n) e)
+  | false ↦ λ e. omega (arith, parted n xs, cons n x xs, no (eqb x n) e)
+] refl
+
+others_have : (n b : ℕ) (xs : List ℕ) → owners (others_than n xs) b ≤ owners xs b
+others_have n b [] = omega arith
+others_have n b (x ∷ xs) = elim (eqb x n) as (λ (t : Bool). owners (cond (not t) (x ∷ others_than n xs) (others_than n xs)) b ≤ owners (x ∷ xs) b) [
+  | true ↦ omega (arith, others_have n b xs, cons b x xs)
+  | false ↦ omega (arith, others_have n b xs, cons b x xs, cons b x (others_than n xs))
+]
+
+none_of : (n : ℕ) (xs : List ℕ) → owners (others_than n xs) n ≡ 0
+none_of n [] = refl
+none_of n (x ∷ xs) = elim (eqb x n) as (λ (t : Bool). eqb x n ≡ t → owners (cond (not t) (x ∷ others_than n xs) (others_than n xs)) n ≡ 0) [
+  | true ↦ λ e. none_of n xs
+  | false ↦ λ e. omega (arith, none_of n xs, cons n x (others_than n xs), no (eqb x n) e)
+] refl
+
+pub room_left : (used : ℕ → Bool) (n : ℕ) (xs : List ℕ) → ((b : ℕ) → owners xs b ≤ 1) → ((b : ℕ) → 0 < owners xs b → b < n) → ((b : ℕ) → 0 < owners xs b → used b ≡ true)
+    → count_below (λ b. not (used b)) n + length xs ≤ n
+room_left used zero [] once within marked = let none : count_below (λ b. not (used b)) 0 ≡ 0 = refl in omega (arith, none)
+room_left used zero (x ∷ xs) once within marked =
+    absurd (let low = within x (omega (arith, cons x x xs, one (eqb x x) (eq-eqb x x refl))) in omega (arith, low))
+room_left used (suc n) xs once within marked =
+    let ys = others_than n xs in
+    let rest = room_left used n ys (λ b. omega (arith, once b, others_have n b xs))
+    (λ b some. let low = within b (omega (arith, some, others_have n b xs)) in below b some (ne b some) low)
+    (λ b some. marked b (omega (arith, some, others_have n b xs))) in
+    let step = count_below-suc (λ b. not (used b)) n in
+    let all = parted n xs in
+    elim (cases_lt 0 (owners xs n)) [
+      | inl some ↦
+          let none : ◌≡◌ {A = ℕ} (cond (not (used n)) 1 0) 0 = ap (λ (b : Bool). cond (not b) 1 0) (marked n some) in
+          omega (arith, rest, step, all, none, once n)
+      | inr none ↦ omega (arith, rest, step, all, none, at_most_one (not (used n)))
+    ]
+  where
+    ne : (b : ℕ) → 0 < owners (others_than n xs) b → b ≡ n → ⊥
+    ne b some same = let none = none_of n xs in let few = subst (λ (k : ℕ). 0 < owners (others_than n xs) k) same some in omega (arith, none, few)
+
+    below : (b : ℕ) → 0 < owners (others_than n xs) b → (b ≡ n → ⊥) → b < suc n → b < n
+    below b some other low = elim (cases_lt b n) [ inl lt ↦ lt | inr ge ↦ absurd (other (omega (arith, ge, low))) ]
+
+    at_most_one : (t : Bool) → cond t 1 0 ≤ 1
+    at_most_one true = omega arith
+    at_most_one false = omega arith

@@ -1,6 +1,6 @@
 -- A sound volume of which one fork was changed is sound, keeps what calls keep but for the blocks that were written, and is the one that
 -- the call makes.
-use Rattle.std.proofs.Common.{◌≡◌, inl, inr, ◌⊎◌, ℕ, ◌+◌, ◌*◌, ◌<◌, ◌≤◌, Bool, true, false, cond, ◌&&◌, ◌||◌, eqb, List, refl, sym, ◌∙◌, ap, subst, arith, Option, Some, None, Ok}
+use Rattle.std.proofs.Common.{◌≡◌, inl, inr, ℕ, ◌+◌, ◌*◌, ◌<◌, ◌≤◌, Bool, true, false, cond, ◌&&◌, ◌||◌, eqb, List, refl, sym, ◌∙◌, ap, subst, arith, Option, Some, None}
 use Rattle.std.specs.Prelude.{Result, ℤ, ◌==◌}
 use Rattle.std.specs.Cmp.{nat_cmp_total}
 use Rattle.std.specs.Option.{option_map, option_or}
@@ -10,10 +10,9 @@ use Rattle.hfs_fields.specs.declared.mdb.Mdb.{Mdb}
 use Rattle.hfs_fields.specs.declared.extent.Extent.{Extent}
 use Rattle.hfs_fields.specs.declared.file_record.FileRecord.{FileRecord}
 use Rattle.hfs_fields.specs.Keys.{cat_cmp}
-use Rattle.hfs_fields.specs.Records.{is_dir, is_bit_set, file_record_of}
+use Rattle.hfs_fields.specs.Records.{is_file, is_bit_set, file_record_of}
 use Rattle.hfs_btree.specs.Pairs.{Rises}
 use Rattle.hfs_space.specs.Bitmap.{bitmap_len, is_used, clear_count}
-use Rattle.hfs_space.specs.Extents.{Overflow}
 use Rattle.hfs_space.specs.Owners.{catalog_fork, extents_in, owned_blocks, owners, is_stray_block}
 use Rattle.hfs_space.specs.Sound.{IsTreeFile, AreForksSound, IsSpaceSound}
 use Rattle.hfs_space.proofs.LawTypes.{OwnedAreWithin}
@@ -32,7 +31,7 @@ use Rattle.hfs_catalog.proofs.LawTypes.{ItemsAreRecords, SoundIsLawful}
 use Rattle.hfs_catalog.proofs.Held.{with_id}
 use Rattle.hfs_check.specs.Parts.{Blocks, mdb_in, extents_nodes, overflow_in, catalog_extents, catalog_nodes, catalog_in, owned_in, is_marked_in}
 use Rattle.hfs_check.specs.Sound.{IsMdbSound, IsExtentsSound, IsCatalogFileSound, AreBlocksSound}
-use Rattle.hfs_check.specs.VolumeOf.{bytes_in, contents_in, volume_in}
+use Rattle.hfs_check.specs.VolumeOf.{contents_in, volume_in}
 use Rattle.hfs_check.specs.Agree.{KeepsBut, is_stray_in}
 use Rattle.hfs_check.proofs.LawTypes.{CatalogIsSound}
 use Rattle.hfs_changes.specs.Sound.{IsNearlySound}
@@ -50,7 +49,6 @@ use Rattle.hfs_catalog_edits.proofs.SwapLemmas.{swapped_find}
 use Rattle.hfs_fork_calls.specs.Forks.{resized, written, fork_bytes, item_with_fork}
 use Rattle.hfs_fork_calls.specs.ForkCalls.{to_set_eof, to_write_fork, set_eof, write_fork}
 use Rattle.hfs_fork_calls.proofs.ForkLemmas.{same-sort}
-use Rattle.hfs_fork_changes.specs.Files.{kind_of, fork_of, file_with}
 use Rattle.hfs_fork_changes.specs.Edits.{bytes_of, ChangesFork}
 use Rattle.hfs_fork_changes.specs.Laws.{HasBecome, ForkEditsAreSetEof, ForkEditsAreWriteFork}
 use Rattle.hfs_fork_changes.proofs.Files.{with_content, changed_item}
@@ -102,6 +100,15 @@ stray_moved blocks after old new owned now_owned came went b moved once none cle
     and_false : (t : Bool) → (t && false) ≡ false
     and_false true = refl
     and_false false = refl
+
+-- a fork of the record's item has the bytes of the file's
+pub is_file_bytes : (old : Blocks) (fork : Fork) (r : Record) → is_file r.1 ≡ true → fork_bytes fork (item_of (contents_in old) (catalog_in old) r).kind ≡ bytes_of old fork (file_record_of r.1)
+unfolding file_of contents_in
+is_file_bytes old fork r is = ap (λ (x : Item). fork_bytes fork x.kind) (file_item (contents_in old) (catalog_in old) r (file-not_dir r.1 is)) ∙ by fork
+  where
+    by : (k : Fork) → fork_bytes k (file_of (has_thread (catalog_in old) (file_record_of r.1).id) (contents_in old (file_record_of r.1)) r.0 (file_record_of r.1)).kind ≡ bytes_of old k (file_record_of r.1)
+    by DataFork = refl
+    by ResFork = refl
 
 -- ---- one fork was changed
 
@@ -336,14 +343,6 @@ module _ (law : OwnedAreWithin) (records : ItemsAreRecords) (catalogs : CatalogI
   unfolding volume_in
   made = λ i. volume_with (held i) (d.volume.mdb i)
 
-  pub is_file_bytes : fork_bytes fork item.kind ≡ bytes_of old fork f
-  unfolding file_of contents_in
-  is_file_bytes = ap (λ (x : Item). fork_bytes fork x.kind) (file_item (contents_in old) (catalog_in old) r (file-not_dir r.1 d.was)) ∙ by fork
-    where
-      by : (k : Fork) → fork_bytes k (file_of (has_thread (catalog_in old) f.id) (contents_in old f) r.0 f).kind ≡ bytes_of old k f
-      by DataFork = refl
-      by ResFork = refl
-
 -- ---- a call
 
 module _ (law : OwnedAreWithin) (records : ItemsAreRecords) (catalogs : CatalogIsSound) (lawful : SoundIsLawful) (make : List ℕ → List ℕ) (chosen : Result Entry ℤ) (total : ℕ) (fork : Fork) (r : Record) (now : ℕ) (wrote : List ℕ) (old new : Blocks)
@@ -364,7 +363,7 @@ module _ (law : OwnedAreWithin) (records : ItemsAreRecords) (catalogs : CatalogI
   edited = ap (λ (e : Result Entry ℤ). (change (volume_in old) e (λ e m. map.insert m e.0 (edit e.1)) now).0) c.is
 
   bytes_same : make (fork_bytes fork before.kind) ≡ make (bytes_of old fork (file_record_of r.1))
-  bytes_same = ap make (is_file_bytes law records catalogs total c.id fork r (make (bytes_of old fork (file_record_of r.1))) now wrote old new h c.was d)
+  bytes_same = ap make (is_file_bytes old fork r d.was)
 
   is_outcome : volume_in new ≡ outcome
   is_outcome =

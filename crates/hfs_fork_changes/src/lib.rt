@@ -3,4 +3,7 @@
 
 mod laws;
 
-pub use laws::{fork_edits_are_set_eof, fork_edits_are_write_fork};
+pub use laws::{
+    edits_are_set_eof, edits_are_write_fork, edits_leave_no_old_byte, fork_edits_are_set_eof,
+    fork_edits_are_write_fork,
+};

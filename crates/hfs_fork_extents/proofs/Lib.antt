@@ -1,7 +1,7 @@
 mod CutLemmas
 mod AddLemmas
 pub mod RecordLemmas
-mod TreeEdits
+pub mod TreeEdits
 mod OwnRecords
 mod ThreeLemmas
 mod Chains

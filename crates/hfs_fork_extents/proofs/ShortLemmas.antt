@@ -14,7 +14,7 @@ use Rattle.hfs_fork_extents.specs.Whole.{HasExtents, LastMayChange, EditsFork}
 use Rattle.hfs_fork_extents.specs.Shortening.{IsCutTo, HasShortened}
 use Rattle.hfs_fork_extents.specs.declared.shortening.ShortFork.{ShortFork}
 use Rattle.hfs_fork_extents.proofs.AddLemmas.{blocks-append}
-use Rattle.hfs_fork_extents.proofs.CutLemmas.{cut-whole, gt-all, blocks-cut}
+use Rattle.hfs_fork_extents.proofs.CutLemmas.{cut-whole, gt-all, blocks-cut, blocks-surplus}
 use Rattle.hfs_fork_extents.proofs.ThreeLemmas.{total-cons, total-front, none-blocks, drop-more, three-at}
 use Rattle.hfs_fork_extents.proofs.Chains.{extents_of, IsForkChain, has-chain, chain-has, ends, take-chain, chain-threes, filter-chain, prefix, prefix-total}
 use Rattle.hfs_fork_extents.proofs.LastRecord.{own, count-records, drop-at}
@@ -203,6 +203,7 @@ shortened file fork first n threes short old mid new three h left edits free has
       now = is ∙ take-cut 3 n all ∙ ap (cut n) (front first three);
       extents = cut-to file fork first all n threes old three h left (fork_extents (overflow_of new) file fork short.first) has'.extents;
       blocks = left-blocks file fork first all n threes old three h left (fork_extents (overflow_of new) file fork short.first) has'.extents;
+      lost = ap (λ (es : List Extent). extent_blocks es) surplus ∙ blocks-surplus n all;
       rest = surplus;
       within = within;
       free = free;

@@ -1,5 +1,5 @@
 -- A fork of which only the first blocks stay.
-use Rattle.std.specs.Prelude.{◌≡◌, ℕ, ◌≤◌, List, ◌++◌, take}
+use Rattle.std.specs.Prelude.{◌≡◌, ℕ, ◌≤◌, List, ◌++◌, take, drop}
 use Rattle.hfs_fields.specs.declared.extent.Extent.{Extent}
 use Rattle.hfs_btree.specs.Tree.{Store}
 use Rattle.hfs_btree.specs.Header.{free_nodes}
@@ -23,6 +23,7 @@ pub record HasShortened (file fork : ℕ) (first : List Extent) (n : ℕ) (short
   pub now : short.first ≡ cut n first
   pub extents : IsCutTo n (fork_extents (overflow_of old) file fork first) (fork_extents (overflow_of new) file fork short.first)
   pub blocks : extent_blocks (fork_extents (overflow_of new) file fork short.first) ≡ take n (extent_blocks (fork_extents (overflow_of old) file fork first))
+  pub lost : extent_blocks short.surplus.items ≡ drop n (extent_blocks (fork_extents (overflow_of old) file fork first))
   pub rest : short.surplus.items ≡ surplus n (fork_extents (overflow_of old) file fork first)
   pub within : (m : ℕ) → AreExtentsWithin m (fork_extents (overflow_of old) file fork first) → AreExtentsWithin m short.surplus.items
   pub free : free_nodes old ≤ free_nodes new
