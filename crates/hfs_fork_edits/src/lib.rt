@@ -3,6 +3,8 @@
 #![tactic(auto)]
 
 mod choosing;
+mod overflow;
+mod recorded;
 mod records;
 
 pub use choosing::{FoundFile, to_set_eof, to_write_fork};
