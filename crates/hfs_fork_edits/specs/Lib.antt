@@ -1,0 +1,4 @@
+pub mod Found
+pub mod Counts
+pub mod Overflow
+pub mod Recorded

@@ -1,0 +1,10 @@
+//! What SetEof and WriteFork make of a volume's blocks, where the file was looked for already: which code refuses the call, what it
+//! wants of the volume, and the change.
+#![tactic(auto)]
+
+mod choosing;
+mod overflow;
+mod recorded;
+mod records;
+
+pub use choosing::{FoundFile, to_set_eof, to_write_fork};

@@ -1,0 +1,74 @@
+//! A file's record and the volume's counts, where a fork of the file changes.
+
+ghost use Rattle.std.specs.Prelude.{◌≡◌, ◌<◌, ◌^◌};
+ghost use Rattle.hfs_fork_calls.specs.Forks.{physical_length};
+ghost use Rattle.hfs_fork_changes.specs.Files as files;
+ghost use Rattle.hfs_fork_edits.specs.Counts.{counts_with};
+
+use hfs_fields::{Extent, FileRecord, ForkRecord, Mdb};
+use hfs_fork_calls::BlockSize;
+use hfs_model::Fork;
+use hfs_space::ForkKind;
+
+/// Which fork it is in the extents tree.
+pub(crate) fn kind_of(fork: Fork) -> ForkKind
+    ensures { result ≡ files.kind_of fork }
+{
+    match fork {
+        Fork::DataFork => ForkKind::Data,
+        Fork::ResFork => ForkKind::Resource,
+    }
+}
+
+/// The fork in a file's record.
+pub(crate) fn fork_of(fork: Fork, file: &FileRecord) -> ForkRecord
+    ensures { result ≡ files.fork_of fork file.now }
+{
+    match fork {
+        Fork::DataFork => file.data,
+        Fork::ResFork => file.resource,
+    }
+}
+
+/// The file's record with a fork of so many bytes, which has these first extents, modified now. Its first block stays.
+pub(crate) fn file_with(
+    block_size: BlockSize,
+    fork: Fork,
+    length: u32,
+    first: [Extent; 3],
+    now: u32,
+    file: &FileRecord,
+) -> FileRecord
+    requires { physical_length block_size length < 2 ^ 32 }
+    ensures { result ≡ files.file_with block_size fork length first now file.now }
+{
+    let changed = ForkRecord {
+        length,
+        physical_length: block_size.physical_length(length) as u32,
+        extents: first,
+        ..fork_of(fork, file)
+    };
+    match fork {
+        Fork::DataFork => FileRecord {
+            data: changed,
+            modified: now,
+            ..*file
+        },
+        Fork::ResFork => FileRecord {
+            resource: changed,
+            modified: now,
+            ..*file
+        },
+    }
+}
+
+/// The volume's counts with so many free blocks, last changed now.
+pub(crate) fn counts_with(mdb: &Mdb, free_blocks: u16, now: u32) -> Mdb
+    ensures { result ≡ counts_with free_blocks now mdb.now }
+{
+    Mdb {
+        modified: now,
+        free_blocks,
+        ..*mdb
+    }
+}
