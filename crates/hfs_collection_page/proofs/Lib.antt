@@ -1,1 +1,2 @@
 mod NestedLemmas
+mod WritingLemmas
