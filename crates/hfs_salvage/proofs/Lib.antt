@@ -17,3 +17,5 @@ mod JoinLemmas
 mod TakenPathLemmas
 pub mod LawsProved
 mod HeldLemmas
+mod PlacedLemmas
+mod UnfoundLemmas

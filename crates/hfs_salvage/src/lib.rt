@@ -11,15 +11,17 @@ mod laws;
 mod listing;
 mod loading;
 mod looking;
+mod rescuing;
 mod watched;
 mod words;
 
 pub use crate::answer::{RescueAnswer, Rescued};
-pub use crate::filling::{give_remains, rescue};
+pub use crate::filling::give_remains;
 pub use crate::held::HeldBytes;
 pub use crate::image::{HoldFault, RescuedImage};
 pub use crate::laws::{
     rescued_paths_are_lawful, sound_payloads_are_volumes, taken_paths_are_lawful,
 };
 pub use crate::listing::{list_rescue, write_remains};
+pub use crate::rescuing::{PlacedBag, UnplacedBag, rescue, rescue_opened};
 pub use crate::words::{BagWords, RescueWords};
