@@ -306,9 +306,10 @@ module _ (found : Found) where
 made-before-push : (found : Found) (before rest : List Planned) (part : Planned) → AreMadeBefore found before rest → LiesInMade found (before ++ rest) part
     → AreMadeBefore found before (rest ++ part ∷ [])
 made-before-push found before [] part are lies = (subst (λ (ps : List Planned). LiesInMade found ps part) (append-nil before) lies, tt)
-made-before-push found before (p ∷ rest) part are lies =
-    (are.0,
-    made-before-push found (before ++ p ∷ []) rest part are.1 (subst (λ (ps : List Planned). LiesInMade found ps part) (sym (append_assoc before (p ∷ []) rest)) lies))
+made-before-push found before (p ∷ rest) part are lies = (
+  are.0,
+  made-before-push found (before ++ p ∷ []) rest part are.1 (subst (λ (ps : List Planned). LiesInMade found ps part) (sym (append_assoc before (p ∷ []) rest)) lies),
+)
 
 pub folders_first : (found : Found) → AreMadeBefore found [] (whole_plan found)
 folders_first found = whole_holds found (AreMadeBefore found []) (λ parts part are lies. made-before-push found [] parts part are lies) tt

@@ -119,9 +119,9 @@ impl<S: BlockSource> BagSource for RescueItems<'_, S> {
     fn restart(&mut self) -> Result<(), SourceFault>
         ensures restarted { MatchResult result (λ _. HasRestarted
             (source_of (S.image self.old.source) self.old.found self.old.plan.items self.old.next self.old.came
-                self.old.reading)
+            self.old.reading)
             (source_of (S.image self.new.source) self.new.found self.new.plan.items self.new.next self.new.came
-                self.new.reading)) (λ _. ⊤) }
+            self.new.reading)) (λ _. ⊤) }
         ensures fault { IfErr result Never }
     {
         self.next = 0;
@@ -132,9 +132,9 @@ impl<S: BlockSource> BagSource for RescueItems<'_, S> {
     fn next_item(&mut self) -> Result<Option<BagHead>, SourceFault>
         ensures taken { MatchResult result (TakesItem
             (source_of (S.image self.old.source) self.old.found self.old.plan.items self.old.next self.old.came
-                self.old.reading)
+            self.old.reading)
             (source_of (S.image self.new.source) self.new.found self.new.plan.items self.new.next self.new.came
-                self.new.reading)) (λ _. ⊤) }
+            self.new.reading)) (λ _. ⊤) }
         ensures fault { IfErr result (FailsToComeAt self.old.found self.old.plan.items self.old.next) }
     {
         if self.next >= self.plan.len() {
@@ -159,9 +159,9 @@ impl<S: BlockSource> BagSource for RescueItems<'_, S> {
     fn open(&mut self, stream: Stream) -> Result<(), SourceFault>
         ensures opened { MatchResult result (λ _. HasOpened stream
             (source_of (S.image self.old.source) self.old.found self.old.plan.items self.old.next self.old.came
-                self.old.reading)
+            self.old.reading)
             (source_of (S.image self.new.source) self.new.found self.new.plan.items self.new.next self.new.came
-                self.new.reading)) (λ _. ⊤) }
+            self.new.reading)) (λ _. ⊤) }
         ensures fault { IfErr result (FailsToOpen stream) }
     {
         self.reading = open_stream(self.alloc, &self.found, self.came.planned, stream)?;
@@ -172,9 +172,9 @@ impl<S: BlockSource> BagSource for RescueItems<'_, S> {
     fn read(&mut self, piece: &mut Vec<u8>) -> Result<(), SourceFault>
         ensures read { MatchResult result (λ _. HasRead piece.new.items
             (source_of (S.image self.old.source) self.old.found self.old.plan.items self.old.next self.old.came
-                self.old.reading)
+            self.old.reading)
             (source_of (S.image self.new.source) self.new.found self.new.plan.items self.new.next self.new.came
-                self.new.reading)) (λ _. ⊤) }
+            self.new.reading)) (λ _. ⊤) }
         ensures fault { IfErr result (FailsToRead self.old.reading) }
     {
         read_next(

@@ -29,8 +29,12 @@ returns-in-Err-give_remains-clause-fault g c =
 pub returns-in-Err-give_remains-clause-away : goal.returns-in-Err-give_remains-clause-away
 returns-in-Err-give_remains-clause-away g c =
     let filled = c.give_remains.new.shelf in
-    inr (string_bytes {Z = Global} filled.folder, g.Y.FileSystem.did filled.system,
-    subst (IsNewFolder c.args.words.now.folder.now) (sym c.give_remains.ensures.place) c.in-Ok.ensures.beside, c.take_away.ensures.away)
+    inr (
+      string_bytes {Z = Global} filled.folder,
+      g.Y.FileSystem.did filled.system,
+      subst (IsNewFolder c.args.words.now.folder.now) (sym c.give_remains.ensures.place) c.in-Ok.ensures.beside,
+      c.take_away.ensures.away,
+    )
 
 pub returns-in-Ok-give_remains-clause-placed : goal.returns-in-Ok-give_remains-clause-placed
 returns-in-Ok-give_remains-clause-placed g c =
