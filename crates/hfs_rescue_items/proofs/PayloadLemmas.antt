@@ -1,5 +1,5 @@
 -- How much the payload of a plan has.
-use Rattle.std.proofs.Common.{◌≡◌, ℕ, ◌+◌, ◌-◌, ◌<◌, ◌≤◌, Bool, true, false, ◌||◌, ◌==◌, if◌then◌else◌, List, [], ◌∷◌, ◌++◌, length, length-append, length-drop, length-take, map, take, drop, replicate, Option, Some, None, inl, inr, refl, sym, ap, ◌∙◌, add-zero, arith}
+use Rattle.std.proofs.Common.{◌≡◌, ℕ, zero, suc, ◌+◌, ◌-◌, ◌<◌, ◌≤◌, Bool, true, false, ◌||◌, ◌==◌, if◌then◌else◌, List, [], ◌∷◌, ◌++◌, length, length-append, length-drop, length-take, map, take, drop, replicate, Option, Some, None, inl, inr, refl, sym, ap, subst, ◌∙◌, arith}
 use Rattle.std.specs.Prelude.{slice_get}
 use Rattle.std.specs.List.{flat_map, sum_by}
 use Rattle.std.specs.Option.{option_and_then, option_map_or}
@@ -34,9 +34,10 @@ use Rattle.hfs_rescue_items.specs.Found.{info_of, path_at, record_info, told, to
 use Rattle.hfs_rescue_items.specs.Laws.{HasCountedPayload, IsOfRecords, part_number}
 use Rattle.hfs_rescue_items.specs.Plan.{file_kind, own_kind, thing_kind, whole_plan}
 use Rattle.hfs_rescue_items.specs.Sources.{above_of, finder_told, is_alone, modified_told, name_of, planned_item}
-use Rattle.hfs_rescue_items.specs.Sums.{byte_number, bytes_at, taken_len}
+use Rattle.hfs_rescue_items.specs.Sums.{byte_number, bytes_at, file_number, files_at, folder_number, folders_at, of_first, root_of, taken_len, unless_root}
 use Rattle.hfs_rescue_items.proofs.PartLemmas.{HasKind, IsPart, own_path, plan_is}
 use Rattle.hfs_rescue_items.proofs.PlanSumLemmas.{plan_counts}
+use Rattle.hfs_rescue_items.proofs.SumLemmas.{more}
 
 -- ---- Finder bytes are 32
 
@@ -70,6 +71,27 @@ told-finder (Some item) = by (is_item item.entry.1) refl
     by : (b : Bool) → is_item item.entry.1 ≡ b → length (finder_told (if b then Some (info_of (catalog_item item.entry)) else None)) ≡ 32
     by true is = item-finder item is
     by false is = refl
+
+-- ---- an item is a file or a folder
+
+module _ (found : Found) where
+  one-of : (o : Option FileShares) → 1 ≡ file_number o + folder_number o
+  one-of None = refl
+  one-of (Some file) = refl
+
+  one-each : (i : ℕ) → unless_root found.items.now i 1 ≡ unless_root found.items.now i (files_at found i) + unless_root found.items.now i (folders_at found i)
+  one-each i = by (option_map_or (λ root. root == i) (root_of found.items.now) false)
+    where
+      by : (b : Bool) → (if b then 0 else 1) ≡ (if b then 0 else files_at found i) + (if b then 0 else folders_at found i)
+      by true = refl
+      by false = one-of (shares_at found.salvage.now i)
+
+  first-count : (m : ℕ) → of_first found (λ i. 1) m ≡ of_first found (files_at found) m + of_first found (folders_at found) m
+  first-count zero = refl
+  first-count (suc m) =
+      let e : m + 1 ≡ suc m = omega arith in
+      subst (λ (k : ℕ). of_first found (λ i. 1) k ≡ of_first found (files_at found) k + of_first found (folders_at found) k) e
+      (omega (arith, more found m (λ i. 1), more found m (files_at found), more found m (folders_at found), first-count m, one-each m))
 
 -- ---- what an item has
 
@@ -202,5 +224,5 @@ module _ (image : List ℕ) (found : Found) (records : List FoundRecord) (are : 
   pub payload_counts : HasCountedPayload found (map (planned_item image found) (whole_plan found))
   payload_counts = record {
     bytes_are = all-bytes (whole_plan found) (plan_is found).each ∙ plan_counts found (bytes_at found) records are;
-    doubles_are = all-doubles (whole_plan found) ∙ plan_counts found (λ i. 1) records are;
+    doubles_are = all-doubles (whole_plan found) ∙ plan_counts found (λ i. 1) records are ∙ first-count found (length found.items.now);
   }

@@ -99,21 +99,23 @@ behind-long items namings =
 -- the first of some is not before them
 position-low : (p : Thing → Bool) (k : ℕ) (xs : List Thing) (i : ℕ) → i < k → is_place (position_from p k xs) i ≡ false
 position-low p k [] i low = refl
-position-low p k (x ∷ xs) i low = by (p x)
+position-low p k (x ∷ xs) i low = by (p x) (position-low p (k + 1) xs i (omega (arith, low)))
   where
-    by : (b : Bool) → is_place (cond b (Some k) (position_from p (k + 1) xs)) i ≡ false
-    by true = ne_eqb k i (λ same. absurd (omega (arith, low, same)))
-    by false = position-low p (k + 1) xs i (omega (arith, low))
+    by : (b : Bool) → is_place (position_from p (k + 1) xs) i ≡ false → is_place (cond b (Some k) (position_from p (k + 1) xs)) i ≡ false
+    by true rest = ne_eqb k i (λ same. absurd (omega (arith, low, same)))
+    by false rest = rest
 
 root-from : (k : ℕ) (items : List FoundRecord) (more : List Thing) (i : ℕ) → i < k + length items
     → is_place (position_from is_root k (map thing_of items ++ more)) i ≡ is_place (position_from (λ item. is_root (thing_of item)) k items) i
 root-from k [] more i high = position-low is_root k more i (omega (arith, high))
-root-from k (item ∷ items) more i high = by (is_root (thing_of item))
+root-from k (item ∷ items) more i high = by (is_root (thing_of item)) (root-from (k + 1) items more i (omega (arith, high)))
   where
-    by : (b : Bool) → is_place (cond b (Some k) (position_from is_root (k + 1) (map thing_of items ++ more))) i
+    by : (b : Bool)
+        → is_place (position_from is_root (k + 1) (map thing_of items ++ more)) i ≡ is_place (position_from (λ item. is_root (thing_of item)) (k + 1) items) i
+        → is_place (cond b (Some k) (position_from is_root (k + 1) (map thing_of items ++ more))) i
         ≡ is_place (cond b (Some k) (position_from (λ item. is_root (thing_of item)) (k + 1) items)) i
-    by true = refl
-    by false = root-from (k + 1) items more i (omega (arith, high))
+    by true rest = refl
+    by false rest = rest
 
 pub root-same : (items : List FoundRecord) (namings : List Thing) (i : ℕ) → i < length items
     → is_place (root_of (things_of (map thing_of items) namings)) i ≡ is_place (items_root items) i

@@ -16,7 +16,7 @@ use Rattle.hfs_rescue_items.specs.declared.plan.Planned.{Planned}
 use Rattle.hfs_rescue_items.specs.Found.{path_at}
 use Rattle.hfs_rescue_items.specs.Plan.{is_made, own_kind, path_of, whole_plan}
 use Rattle.hfs_rescue_items.specs.Sources.{is_alone, planned_item}
-use Rattle.hfs_rescue_items.specs.Sums.{bytes_at, of_all}
+use Rattle.hfs_rescue_items.specs.Sums.{bytes_at, files_at, folders_at, of_all}
 
 -- ---- in which order
 
@@ -67,10 +67,10 @@ of_plan found number = sum_by (part_number number) (whole_plan found)
 abbrev pub PlansCountItems : Type 0
 PlansCountItems = (found : Found) (records : List FoundRecord) → IsOfRecords found records → (number : ℕ → ℕ) → of_plan found number ≡ of_all found number
 
--- the payload of what is planned has as many bytes as are counted, and an AppleDouble file for each item that is
+-- the payload of what is planned has as many bytes as are counted, and an AppleDouble file for each file and each folder
 pub record HasCountedPayload (found : Found) (items : List BagItem) : Type 0 where
   pub bytes_are : bytes_in (payload items) ≡ of_all found (bytes_at found)
-  pub doubles_are : doubles_told (map item_digests items) ≡ of_all found (λ i. 1)
+  pub doubles_are : doubles_told (map item_digests items) ≡ of_all found (files_at found) + of_all found (folders_at found)
 
 abbrev pub PayloadsHaveTheirSums : Type 0
 PayloadsHaveTheirSums =

@@ -14,6 +14,7 @@ mod pieces;
 mod plan;
 mod reading;
 mod sums;
+mod table_lines;
 mod told;
 
 pub use found::Found;

@@ -1,5 +1,5 @@
 //! What of a source is being read.
-ghost use Rattle.std.specs.Prelude.{◌≡◌, ◌+◌, ◌^◌, ◌<◌, ◌++◌, [], length, IfErr, OnOk};
+ghost use Rattle.std.specs.Prelude.{◌≡◌, ◌++◌, [], IfErr, OnOk};
 ghost use Rattle.std.specs.Option.{is_some};
 ghost use Rattle.hfs_table.specs.Lines.{bag_head};
 ghost use Rattle.hfs_rescue_items.specs.Bytes.{image_in};
@@ -10,24 +10,14 @@ ghost use Rattle.hfs_rescue_items.specs.Reading.{ReadsLines, Reads, reading_rest
 use crate::fork_reading::{ForkReading, read_fork};
 use crate::found::Found;
 use crate::lines::{push_item_line, push_remains_line};
+use crate::table_lines::Lines;
 use hfs_bag::SourceFault;
-use hfs_rescue::FoundRecord;
 use hfs_sparse::BlockSource;
 use hfs_table::push_bag_head;
 use std::alloc::Global;
 
 /// From how many bytes of text on a piece is whole.
 const PIECE: usize = 65_536;
-
-/// Where reading a table stands.
-#[derive(Clone, Copy, Drop)]
-pub(crate) struct Lines<'a> {
-    /// The number of the item whose line is next.
-    pub(crate) next: usize,
-    /// That item and those behind it.
-    pub(crate) items: &'a [FoundRecord],
-    ghost few: { next + length items.now < 2 ^ 64 },
-}
 
 /// The stream that is being read.
 #[derive(Drop)]

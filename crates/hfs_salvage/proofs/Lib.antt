@@ -19,3 +19,5 @@ pub mod LawsProved
 mod HeldLemmas
 mod PlacedLemmas
 mod UnfoundLemmas
+mod ThereLemmas
+mod BagSumLemmas

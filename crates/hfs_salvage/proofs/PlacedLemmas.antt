@@ -6,7 +6,7 @@ use Rattle.hfs_shelves.specs.declared.fault.ShelfFault.{ShelfFault}
 use Rattle.hfs_shelves.specs.declared.fault.ShelfFault.TheVariants as shelf
 use Rattle.hfs_shelves.specs.Entries.{ShelfEntry}
 use Rattle.hfs_shelves.specs.Left.{IsLeft}
-use Rattle.hfs_shelves.specs.Removals.{HasSince, IsPlaced, IsTakenAway, RemovesIn}
+use Rattle.hfs_shelves.specs.Removals.{IsPlaced}
 use Rattle.hfs_shelves.specs.ShelfPaths.{IsNewFolder}
 use Rattle.hfs_shelves.specs.SystemSteps.{SystemStep, done, looked}
 use Rattle.hfs_shelves.specs.Told.{Tells}
@@ -30,13 +30,6 @@ left_away shelf.NoMemory found folder old new told is = inr (told, is)
 pub unplaced_told : (words : BagWords) (fault : ShelfFault) (found : TakeFault) → found ≡ fault_of_shelf fault → Tells words.folder.now fault
     → IsTakeFault (as_take_words words) found
 unplaced_told words fault found told tells = of_shelf (as_take_words words) fault found told (unplaced words.folder.now fault tells)
-
--- one that was not filled
-pub taken_away : (found : TakeFault) (folder : List ℕ) (old new : List SystemStep) → IsTakenAway folder old new → IsAwayFor found folder old new
-taken_away found folder old new is = inl is
-
-pub removed_away : (folder : List ℕ) (old new : List SystemStep) → HasSince (RemovesIn folder) old new → IsAwayFor (take.Image NoMemory) folder old new
-removed_away folder old new is = inr (refl, is)
 
 -- memory may be refused in any image
 pub stays_told : (words : TakeWords) (was is : TakeFault) → StaysOrNoMemory was is → IsTakeFault words was → IsTakeFault words is

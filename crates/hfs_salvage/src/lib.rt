@@ -20,7 +20,8 @@ pub use crate::filling::give_remains;
 pub use crate::held::HeldBytes;
 pub use crate::image::{HoldFault, RescuedImage};
 pub use crate::laws::{
-    rescued_paths_are_lawful, sound_payloads_are_volumes, taken_paths_are_lawful,
+    remains_are_found, rescued_paths_are_lawful, sound_payloads_are_volumes, sums_are_of_bags,
+    taken_paths_are_lawful,
 };
 pub use crate::listing::{list_rescue, write_remains};
 pub use crate::rescuing::{PlacedBag, UnplacedBag, rescue, rescue_opened};

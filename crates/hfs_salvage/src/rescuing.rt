@@ -35,7 +35,6 @@ pub struct UnplacedBag<'a, Y> {
 }
 
 /// Gives a whole bag its place. At a fault it is taken away.
-#[tactic(auto, using(crate::proofs::PlacedLemmas::left_away, crate::proofs::PlacedLemmas::unplaced_told))]
 fn place_bag<'a, Y: FileSystem + Drop>(
     shelf: FileShelf<Y>,
     answer: RescueAnswer,
@@ -58,7 +57,6 @@ fn place_bag<'a, Y: FileSystem + Drop>(
 }
 
 /// Takes away what was written of a bag. The fault stays, but where memory is refused for that.
-#[tactic(auto, using(crate::proofs::PlacedLemmas::taken_away, crate::proofs::PlacedLemmas::removed_away))]
 fn take_away<'a, Y: FileSystem + Drop>(
     shelf: FileShelf<Y>,
     fault: TakeFault<'a>,
