@@ -1,6 +1,7 @@
 -- Why nothing is found of an image, and what is told of that.
-use Rattle.std.proofs.Common.{◌≡◌, ◌<◌, ℕ, List, length, Option, None, Some, refl, sym, subst, inl, inr}
+use Rattle.std.proofs.Common.{◌≡◌, ◌<◌, ℕ, List, length, Option, None, Some, Result, Ok, Err, refl, sym, subst, inl, inr}
 use Rattle.std.specs.Borrow.{Bor}
+use Rattle.std.specs.Prelude.{IfErr}
 use Rattle.hfs_check.specs.declared.mount_fault.MountFault.TheVariants as mount
 use Rattle.hfs_check.specs.Report.{report_of}
 use Rattle.hfs_commands.specs.declared.fault.Fault.{Fault}
@@ -28,16 +29,19 @@ pub unread_found : (path : Bor (List ℕ)) (known : Option (List ℕ)) (len : �
 unread_found path known len why (inl is) = (hold.ReadFailed, tt, is)
 unread_found path known len why (inr is) = (hold.NoMemory, tt, is)
 
--- after a look that leaves the same bytes
-pub looked_found : (path : Bor (List ℕ)) (known : Option (List ℕ)) (len : ℕ) (fault : HoldFault) (why : Fault) → IsUnheld known len fault → why ≡ told_fault path fault
-    → IsUnfound path known len why
-looked_found path known len fault why none told = (fault, none, told)
+-- of a look at so many bytes
+pub looked_found : (path : Bor (List ℕ)) (known : Option (List ℕ)) (len now : ℕ) (fault : HoldFault) (why : Fault) → now ≡ len → IsUnheld known now fault
+    → why ≡ told_fault path fault → IsUnfound path known len why
+looked_found path known len now fault why same none told = (fault, subst (λ (n : ℕ). IsUnheld known n fault) same none, told)
 
-pub still_found : (path : Bor (List ℕ)) (known now : Option (List ℕ)) (len : ℕ) (why : Fault) → now ≡ known → IsUnfound path now len why → IsUnfound path known len why
-still_found path known now len why same is = subst (λ (k : Option (List ℕ)). IsUnfound path k len why) same is
+-- what is held is what an image is of
+pub held_still : (known : Option (List ℕ)) (held source : List ℕ) → source ≡ held → IsHeldOf known held → IsHeldOf known source
+held_still known held source same is = subst (IsHeldOf known) (sym same) is
 
 pub too_large : (words : RescueWords) (known : Option (List ℕ)) (len : ℕ) → 2147483648 < len → IsUnloaded words known len (Refused mount.TooLarge)
 too_large words known len large = inl (large, refl)
 
-pub not_found : (words : RescueWords) (known : Option (List ℕ)) (len : ℕ) (why : Fault) → IsUnfound words.image known len why → IsUnloaded words known len why
-not_found words known len why is = inr is
+pub not-found : {T : Type 0} (words : RescueWords) (known : Option (List ℕ)) (len : ℕ) (came : Result T Fault) → IfErr came (IsUnfound words.image known len)
+    → IfErr came (IsUnloaded words known len)
+not-found words known len (Ok loaded) is = tt
+not-found words known len (Err why) is = inr is

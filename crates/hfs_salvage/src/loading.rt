@@ -100,13 +100,14 @@ fn fault_of<'a>(fault: HoldFault, words: &RescueWords<'a>) -> Fault<'a>
 {
     match fault {
         HoldFault::NoDirectory(Some(why)) => Fault::Refused(why),
-        HoldFault::NoDirectory(None) | HoldFault::ReadFailed => Fault::CannotRead(words.image),
+        HoldFault::NoDirectory(None) => Fault::CannotRead(words.image),
+        HoldFault::ReadFailed => Fault::CannotRead(words.image),
         HoldFault::NoMemory => Fault::NoMemory,
     }
 }
 
 /// An image all of whose bytes are held. A fault is its own: where there is no directory in it, it is what its check tells.
-#[tactic(auto, using(crate::proofs::UnfoundLemmas::unheld_found, crate::proofs::UnfoundLemmas::unread_found))]
+#[tactic(auto, using(crate::proofs::UnfoundLemmas::held_still, crate::proofs::UnfoundLemmas::unheld_found, crate::proofs::UnfoundLemmas::unread_found))]
 fn hold_image<'a, F: Read + Seek + Drop>(
     alloc: Global,
     bytes: Window<OpenedFile<F>>,
@@ -125,7 +126,7 @@ fn hold_image<'a, F: Read + Seek + Drop>(
     }
 }
 
-/// The same as what was loaded.
+/// An image all of whose bytes are held, as what was loaded.
 fn load_whole<'a, F: Read + Seek + Drop>(
     alloc: Global,
     bytes: Window<OpenedFile<F>>,
@@ -140,7 +141,6 @@ fn load_whole<'a, F: Read + Seek + Drop>(
 }
 
 /// An image that is read where it is needed, or held, where all its blocks must be looked at.
-#[tactic(auto, using(crate::proofs::UnfoundLemmas::looked_found, crate::proofs::UnfoundLemmas::still_found))]
 fn open_image<'a, F: Read + Seek + Drop>(
     alloc: Global,
     bytes: Window<OpenedFile<F>>,
@@ -176,7 +176,7 @@ fn is_held<F: Read + Seek>(bytes: &Window<OpenedFile<F>>) -> bool {
 
 /// What is found of the bytes that are asked for: by the blocks that are needed, or by all of them where they are held already, and where all must be
 /// looked at.
-#[tactic(auto, using(crate::proofs::UnfoundLemmas::too_large, crate::proofs::UnfoundLemmas::not_found))]
+#[tactic(auto, using(crate::proofs::UnfoundLemmas::too_large))]
 fn load_part<'a, F: Read + Seek + Drop>(
     alloc: Global,
     bytes: Window<OpenedFile<F>>,
