@@ -16,4 +16,3 @@ pub mod ToldLemmas
 mod RootLemmas
 mod PlanSumLemmas
 mod PayloadLemmas
-pub mod ComeLemmas

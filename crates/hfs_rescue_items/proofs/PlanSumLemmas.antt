@@ -153,7 +153,7 @@ module _ (found : Found) (number : ℕ → ℕ) where
     things-long : n ≤ length found.places.now
     things-long =
         let whole : length found.places.now ≡ length (things_of (map thing_of found.items.now) (namings_of records)) = ap length are.places_are in
-        let items : length (map thing_of found.items.now) ≡ n = length-map thing_of found.items.now in
+        let items : length (map thing_of found.items.now) ≡ n = length-map found.items.now thing_of in
         omega (arith, whole, items, behind-long (map thing_of found.items.now) (namings_of records))
 
     item-counts : (i : ℕ) → i < n → thing-number i ≡ unless_root found.items.now i (number i)

@@ -40,7 +40,6 @@ impl Came {
 }
 
 /// A part of a path as a text. Error: it is none, as no part of a path that is planned.
-#[tactic(auto, using(crate::proofs::ComeLemmas::no_text))]
 fn text_of(alloc: Global, path: &[u8], from: usize, to: usize) -> Result<String, SourceFault>
     ensures text { IfOk result (λ text. string_bytes text ≡ take (to - from) (drop from path.now)) }
     ensures fault { IfErr result (IsUntold path.now from to) }
@@ -148,7 +147,6 @@ fn head_of(alloc: Global, found: &Found<'_>, planned: Planned) -> Result<BagHead
 }
 
 /// Where it lies, and how it is called there.
-#[tactic(auto, using(crate::proofs::ComeLemmas::untold_above, crate::proofs::ComeLemmas::untold_name))]
 fn placed(alloc: Global, found: &Found<'_>, planned: Planned) -> Result<Came, SourceFault>
     ensures above { IfOk result (λ came. string_bytes came.above ≡ above_of found.now planned) }
     ensures name { IfOk result (λ came. string_bytes came.name ≡ name_of found.now planned) }

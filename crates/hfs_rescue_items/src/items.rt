@@ -129,7 +129,7 @@ impl<S: BlockSource> BagSource for RescueItems<'_, S> {
         Ok(())
     }
 
-    #[tactic(auto, using(crate::proofs::SourceLemmas::has_no_item, crate::proofs::ComeLemmas::come_at))]
+    #[tactic(auto, using(crate::proofs::SourceLemmas::has_no_item))]
     fn next_item(&mut self) -> Result<Option<BagHead>, SourceFault>
         ensures taken { MatchResult result (TakesItem
             (source_of (S.image self.old.source) self.old.found self.old.plan.items self.old.next self.old.came
