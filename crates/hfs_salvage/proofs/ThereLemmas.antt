@@ -26,11 +26,11 @@ file-there total mdb extents = there-first (is_there total mdb) (extent_blocks e
 size-of : (mdb : Mdb) → 1 ≤ blocks_each mdb → 512 ≤ mdb.allocation_block_size
 size-of mdb some = omega (arith, some)
 
-lent : {X : Type 0} → X → Bor X
+abbrev lent : {X : Type 0} → X → Bor X
 lent x = record { ref_ptr = (0, 0); now = x }
 
 module _ (image : List ℕ) (limit : ℕ) (mdb : Mdb) (some : 1 ≤ blocks_each mdb) where
-  trees : Trees
+  abbrev trees : Trees
   trees = record {
     total = block_count image;
     mdb = lent mdb;
@@ -42,7 +42,7 @@ module _ (image : List ℕ) (limit : ℕ) (mdb : Mdb) (some : 1 ≤ blocks_each 
     catalog_there = file-there (block_count image) mdb _;
   }
 
-  found : Found
+  abbrev found : Found
   found = record {
     mdb = lent mdb;
     items = lent (found_items image mdb);
