@@ -24,7 +24,7 @@ returns-in-Ok-Whole-clause-told g c =
     subst (λ (known : Option (List ℕ)). IfErr c.load_whole.result (IsUnfound c.args.words.now.image known c.args.bytes.range.len)) c.look_at.ensures.image
     (c.load_whole.ensures.told c.args.bytes.range.len)
 
-pub returns-in-Err-clause-told : goal.returns-in-Err-clause-told
-returns-in-Err-clause-told g c =
+pub returns-clause-told : goal.returns-clause-told
+returns-clause-told g c =
     looked_found c.args.words.now.image (known_in c.args.bytes) c.args.bytes.range.len c.len-len.result c.in-Err.fault c.fault_of.result c.len-len.ensures.len c.in-Err.ensures.none
     c.fault_of.ensures.told

@@ -8,8 +8,8 @@ returns-in-Ok-clause-fault g c = inl refl
 pub returns-in-Ok-clause-away : goal.returns-in-Ok-clause-away
 returns-in-Ok-clause-away g c = inl c.in-Ok.ensures.away
 
-pub returns-in-Err-clause-fault : goal.returns-in-Err-clause-fault
-returns-in-Err-clause-fault g c = inr refl
+pub returns-clause-fault : goal.returns-clause-fault
+returns-clause-fault g c = inr refl
 
-pub returns-in-Err-clause-away : goal.returns-in-Err-clause-away
-returns-in-Err-clause-away g c = inr (refl, c.in-Err.ensures.within)
+pub returns-clause-away : goal.returns-clause-away
+returns-clause-away g c = inr (refl, c.in-Err.ensures.within)
