@@ -1,6 +1,7 @@
 -- Where a folder is made, so are all that it lies in.
-use Rattle.std.proofs.Common.{◌≡◌, ℕ, ◌+◌, ◌-◌, ◌<◌, ◌≤◌, Bool, true, false, ◌||◌, ◌==◌, if◌then◌else◌, List, [], ◌∷◌, ◌++◌, length, take, drop, slice_index_or, Option, Some, None, inl, inr, refl, sym, ap, subst, ◌∙◌, arith, length-take, length-drop}
-use Rattle.std.specs.List.{fold, list_any}
+use Rattle.std.proofs.Common.{◌≡◌, ℕ, ◌+◌, ◌-◌, ◌<◌, ◌≤◌, Bool, true, false, ◌||◌, ◌==◌, if◌then◌else◌, List, [], ◌∷◌, ◌++◌, length, take, drop, slice_index_or, Option, Some, None, inl, inr, refl, sym, ap, subst, ◌∙◌, arith, length-take, length-drop, append_assoc, append-nil}
+use Rattle.std.specs.Prelude.{⊤}
+use Rattle.std.specs.List.{fold, list_any, range_with_len}
 use Rattle.std.specs.Str.{bytes_eq}
 use Rattle.std.proofs.Math.Bool.{or-true}
 use Rattle.std.proofs.lemmas.Bool.{and_from, and_parts, cases_lt, eqb-false, eqb-true, or_cases}
@@ -13,8 +14,9 @@ use Rattle.hfs_bag.specs.declared.item.BagKind.TheVariants as bag
 use Rattle.hfs_rescue_items.specs.declared.found.Found.{Found}
 use Rattle.hfs_rescue_items.specs.declared.plan.Planned.{Planned}
 use Rattle.hfs_rescue_items.specs.Found.{path_at}
-use Rattle.hfs_rescue_items.specs.Plan.{AreAllMade, first_part, folder_before, folders_above, is_above_made, is_made, last_part, makes, makes_folder, of_kind, own_kind, part_behind, path_of, with_folder, with_kind, with_path, with_thing}
-use Rattle.hfs_rescue_items.proofs.PlanLemmas.{made-push}
+use Rattle.hfs_rescue_items.specs.Plan.{AreAllMade, first_part, folder_before, folders_above, is_above_made, is_made, last_part, makes, makes_folder, of_kind, own_kind, part_behind, path_of, whole_plan, with_folder, with_kind, with_path, with_thing}
+use Rattle.hfs_rescue_items.specs.Laws.{AreMadeBefore, LiesInMade}
+use Rattle.hfs_rescue_items.proofs.PlanLemmas.{all_none, made-push}
 
 module _ (found : Found) where
   made-more : (parts more : List Planned) (path : List ℕ) → is_made found parts path ≡ true → is_made found (parts ++ more) path ≡ true
@@ -60,64 +62,6 @@ module _ (found : Found) where
         ap (λ (p : List ℕ). is_made found parts (take t p)) same ∙ ap (is_made found parts) (take-take t part.to path (omega (arith, below)))
         ∙ before t below inside here
 
-    -- ---- a folder is planned
-
-    record HasFolder (parts : List Planned) (part : Planned) : Type 0 where
-      all : AreAllMade found parts
-      before : Before parts part.to
-      made : is_made found parts (take part.to path) ≡ true
-
-    folder-by : (parts : List Planned) (part : Planned) → part.place ≡ i → part.kind ≡ bag.FolderAlone → AreAllMade found parts → Before parts part.to
-        → (b : Bool) → is_made found parts (path_of found part) ≡ b → HasFolder (if b then parts else parts ++ part ∷ []) part
-    folder-by parts part place kind all before true made = record {
-      all = all;
-      before = before;
-      made = ap (is_made found parts) (sym (of-part part place)) ∙ made;
-    }
-    folder-by parts part place kind all before false made = record {
-      all = put-all parts part all (part-all parts part place before);
-      before = λ t below within slash. made-more parts (part ∷ []) (take t path) (before t below within slash);
-      made = put-made parts part (take part.to path) (ap makes_folder kind) (of-part part place);
-    }
-
-    folder-step : (parts : List Planned) (part : Planned) → part.place ≡ i → part.kind ≡ bag.FolderAlone → AreAllMade found parts → Before parts part.to
-        → HasFolder (with_folder found parts part) part
-    unfolding with_folder
-    folder-step parts part place kind all before = folder-by parts part place kind all before (is_made found parts (path_of found part)) refl
-
-    record HasMade (parts : List Planned) (n : ℕ) : Type 0 where
-      all : AreAllMade found parts
-      before : Before parts n
-
-    -- a byte more, at which a folder ends or not
-    byte-by : (parts : List Planned) (part : Planned) → part.place ≡ i → part.kind ≡ bag.FolderAlone → HasMade parts part.to
-        → (b : Bool) → (slice_index_or path part.to 0 == 47) ≡ b → HasMade (fold (with_folder found) parts (if b then part ∷ [] else [])) (part.to + 1)
-    byte-by parts part place kind has true slash =
-        let step = folder-step parts part place kind has.all has.before in
-        record {
-          all = step.all;
-          before = λ t below within here.
-              elim (cases_lt t part.to) [
-                | inl under ↦ step.before t under within here
-                | inr over ↦ ap (λ (n : ℕ). is_made found (with_folder found parts part) (take n path)) (let e : t ≡ part.to = omega (arith, below, over) in e) ∙ step.made
-              ];
-        }
-    byte-by parts part place kind has false slash = record {
-      all = has.all;
-      before = λ t below within here.
-          elim (cases_lt t part.to) [
-            | inl under ↦ has.before t under within here
-            | inr over ↦
-                let e : part.to ≡ t = omega (arith, below, over) in
-                absurd (eqb-false (slice_index_or path part.to 0) 47 slash (ap (λ (n : ℕ). slice_index_or path n 0) e ∙ here))
-          ];
-    }
-
-    byte-step : (parts : List Planned) (part : Planned) (byte : ℕ) → part.place ≡ i → part.kind ≡ bag.FolderAlone → byte ≡ slice_index_or path part.to 0 → HasMade parts part.to
-        → HasMade (fold (with_folder found) parts (folder_before part byte)) (part.to + 1)
-    unfolding folder_before
-    byte-step parts part byte place kind here has = byte-by parts part place kind has (byte == 47) (ap (λ (n : ℕ). n == 47) (sym here))
-
     -- ---- bytes that are left
 
     pub within-of : (at byte : ℕ) (behind : List ℕ) → byte ∷ behind ≡ drop at path → at < length path
@@ -132,39 +76,111 @@ module _ (found : Found) where
     end-of : (at : ℕ) → [] ≡ drop at path → length path ≤ at
     end-of at left = omega (arith, ap length left, length-drop at path)
 
-    -- ---- all folders of a path
-
-    folders-step : (rest : List ℕ) (parts : List Planned) (part : Planned) → part.place ≡ i → part.kind ≡ bag.FolderAlone → rest ≡ drop part.to path → HasMade parts part.to
-        → HasMade (fold (with_folder found) parts (folders_above part rest)) (length path)
-    unfolding part_behind
-    folders-step [] parts part place kind left has = record {
-      all = has.all;
-      before = λ t below within here. has.before t (omega (arith, within, end-of part.to left)) within here;
-    }
-    folders-step (byte ∷ behind) parts part place kind left has =
-        subst (λ (ps : List Planned). HasMade ps (length path))
-        (sym (fold-append (with_folder found) parts (folder_before part byte) (folders_above (part_behind part byte) behind)))
-        (folders-step behind (fold (with_folder found) parts (folder_before part byte)) (part_behind part byte) place kind (behind-of part.to byte behind left)
-        (byte-step parts part byte place kind (first-of part.to byte behind left) has))
-
-    all-folders : (parts : List Planned) → AreAllMade found parts → HasMade (fold (with_folder found) parts (folders_above (first_part i) path)) (length path)
-    all-folders parts all = folders-step path parts (first_part i) refl refl refl (record { all = all; before = λ t none within here. absurd (omega (arith, none)) })
-
     pub place-of : (rest : List ℕ) (part : Planned) → (fold part_behind part rest).place ≡ part.place
     unfolding part_behind
     place-of [] part = refl
     place-of (byte ∷ rest) part = place-of rest (part_behind part byte)
 
-    kind-all : (parts : List Planned) (part : Planned) (kind : Option BagKind) → part.place ≡ i → HasMade parts (length path) → AreAllMade found (with_kind parts part kind)
-    kind-all parts part None place has = has.all
-    kind-all parts part (Some kind) place has =
-        put-all parts (of_kind kind part) has.all (part-all parts (of_kind kind part) place (λ t below within here. has.before t within within here))
+    -- what holds of parts holds with one more behind them, in whose path each folder is made
+    module _ (Holds : List Planned → Type 0) (more : (parts : List Planned) (part : Planned) → Holds parts → LiesInMade found parts part → Holds (parts ++ part ∷ [])) where
+      -- ---- a folder is planned
 
-    path-all : (parts : List Planned) → AreAllMade found parts → AreAllMade found (with_path found i path parts)
-    path-all parts all =
-        let above = fold (with_folder found) parts (folders_above (first_part i) path) in
-        let part = last_part i path in
-        kind-all above part (own_kind found part.place (is_made found above (path_of found part))) (place-of path (first_part i)) (all-folders parts all)
+      record HasFolder (parts : List Planned) (part : Planned) : Type 0 where
+        all : AreAllMade found parts
+        holds : Holds parts
+        before : Before parts part.to
+        made : is_made found parts (take part.to path) ≡ true
+
+      folder-by : (parts : List Planned) (part : Planned) → part.place ≡ i → part.kind ≡ bag.FolderAlone → AreAllMade found parts → Holds parts → Before parts part.to
+          → (b : Bool) → is_made found parts (path_of found part) ≡ b → HasFolder (if b then parts else parts ++ part ∷ []) part
+      folder-by parts part place kind all holds before true made = record {
+        all = all;
+        holds = holds;
+        before = before;
+        made = ap (is_made found parts) (sym (of-part part place)) ∙ made;
+      }
+      folder-by parts part place kind all holds before false made = record {
+        all = put-all parts part all (part-all parts part place before);
+        holds = more parts part holds (part-all parts part place before);
+        before = λ t below within slash. made-more parts (part ∷ []) (take t path) (before t below within slash);
+        made = put-made parts part (take part.to path) (ap makes_folder kind) (of-part part place);
+      }
+
+      folder-step : (parts : List Planned) (part : Planned) → part.place ≡ i → part.kind ≡ bag.FolderAlone → AreAllMade found parts → Holds parts → Before parts part.to
+          → HasFolder (with_folder found parts part) part
+      unfolding with_folder
+      folder-step parts part place kind all holds before = folder-by parts part place kind all holds before (is_made found parts (path_of found part)) refl
+
+      record HasMade (parts : List Planned) (n : ℕ) : Type 0 where
+        all : AreAllMade found parts
+        holds : Holds parts
+        before : Before parts n
+
+      -- a byte more, at which a folder ends or not
+      byte-by : (parts : List Planned) (part : Planned) → part.place ≡ i → part.kind ≡ bag.FolderAlone → HasMade parts part.to
+          → (b : Bool) → (slice_index_or path part.to 0 == 47) ≡ b → HasMade (fold (with_folder found) parts (if b then part ∷ [] else [])) (part.to + 1)
+      byte-by parts part place kind has true slash =
+          let step = folder-step parts part place kind has.all has.holds has.before in
+          record {
+            all = step.all;
+            holds = step.holds;
+            before = λ t below within here.
+                elim (cases_lt t part.to) [
+                  | inl under ↦ step.before t under within here
+                  | inr over ↦ ap (λ (n : ℕ). is_made found (with_folder found parts part) (take n path)) (let e : t ≡ part.to = omega (arith, below, over) in e) ∙ step.made
+                ];
+          }
+      byte-by parts part place kind has false slash = record {
+        all = has.all;
+        holds = has.holds;
+        before = λ t below within here.
+            elim (cases_lt t part.to) [
+              | inl under ↦ has.before t under within here
+              | inr over ↦
+                  let e : part.to ≡ t = omega (arith, below, over) in
+                  absurd (eqb-false (slice_index_or path part.to 0) 47 slash (ap (λ (n : ℕ). slice_index_or path n 0) e ∙ here))
+            ];
+      }
+
+      byte-step : (parts : List Planned) (part : Planned) (byte : ℕ) → part.place ≡ i → part.kind ≡ bag.FolderAlone → byte ≡ slice_index_or path part.to 0 → HasMade parts part.to
+          → HasMade (fold (with_folder found) parts (folder_before part byte)) (part.to + 1)
+      unfolding folder_before
+      byte-step parts part byte place kind here has = byte-by parts part place kind has (byte == 47) (ap (λ (n : ℕ). n == 47) (sym here))
+
+      -- ---- all folders of a path
+
+      folders-step : (rest : List ℕ) (parts : List Planned) (part : Planned) → part.place ≡ i → part.kind ≡ bag.FolderAlone → rest ≡ drop part.to path → HasMade parts part.to
+          → HasMade (fold (with_folder found) parts (folders_above part rest)) (length path)
+      unfolding part_behind
+      folders-step [] parts part place kind left has = record {
+        all = has.all;
+        holds = has.holds;
+        before = λ t below within here. has.before t (omega (arith, within, end-of part.to left)) within here;
+      }
+      folders-step (byte ∷ behind) parts part place kind left has =
+          subst (λ (ps : List Planned). HasMade ps (length path))
+          (sym (fold-append (with_folder found) parts (folder_before part byte) (folders_above (part_behind part byte) behind)))
+          (folders-step behind (fold (with_folder found) parts (folder_before part byte)) (part_behind part byte) place kind (behind-of part.to byte behind left)
+          (byte-step parts part byte place kind (first-of part.to byte behind left) has))
+
+      all-folders : (parts : List Planned) → AreAllMade found parts → Holds parts → HasMade (fold (with_folder found) parts (folders_above (first_part i) path)) (length path)
+      all-folders parts all holds = folders-step path parts (first_part i) refl refl refl (record { all = all; holds = holds; before = λ t none within here. absurd (omega (arith, none)) })
+
+      record HasPath (parts : List Planned) : Type 0 where
+        all : AreAllMade found parts
+        holds : Holds parts
+
+      kind-all : (parts : List Planned) (part : Planned) (kind : Option BagKind) → part.place ≡ i → HasMade parts (length path) → HasPath (with_kind parts part kind)
+      kind-all parts part None place has = record { all = has.all; holds = has.holds }
+      kind-all parts part (Some kind) place has =
+          let above = part-all parts (of_kind kind part) place (λ t below within here. has.before t within within here) in
+          record { all = put-all parts (of_kind kind part) has.all above; holds = more parts (of_kind kind part) has.holds above }
+
+      path-all : (parts : List Planned) → AreAllMade found parts → Holds parts → HasPath (with_path found i path parts)
+      path-all parts all holds =
+          let above = fold (with_folder found) parts (folders_above (first_part i) path) in
+          let part = last_part i path in
+          kind-all above part (own_kind found part.place (is_made found above (path_of found part))) (place-of path (first_part i)) (all-folders parts all holds)
 
     -- ---- where the folder of a path is made
 
@@ -257,12 +273,43 @@ module _ (found : Found) where
         sym (same-step path parts (first_part i) refl refl
         (above-by parts part all (subst IsLast (sym last) is-last) place (part.from == 0) refl made))
 
-  thing-by : (parts : List Planned) (i : ℕ) → AreAllMade found parts
-      → (b : Bool) → AreAllMade found (if b then parts else with_path found i (path_at found.places.now i) parts)
-  thing-by parts i all true = all
-  thing-by parts i all false = path-all i (path_at found.places.now i) refl parts all
+  -- ---- all things
 
-  -- all are made behind one thing more
+  module _ (Holds : List Planned → Type 0) (more : (parts : List Planned) (part : Planned) → Holds parts → LiesInMade found parts part → Holds (parts ++ part ∷ [])) where
+    pub record AreMade (parts : List Planned) : Type 0 where
+      pub all : AreAllMade found parts
+      pub holds : Holds parts
+
+    thing-by : (parts : List Planned) (i : ℕ) → AreMade parts → (b : Bool) → AreMade (if b then parts else with_path found i (path_at found.places.now i) parts)
+    thing-by parts i are true = are
+    thing-by parts i are false =
+        let has = path-all i (path_at found.places.now i) refl Holds more parts are.all are.holds in
+        record { all = has.all; holds = has.holds }
+
+    -- all are made behind one thing more
+    pub made_behind : (parts : List Planned) (i : ℕ) → AreMade parts → AreMade (with_thing found parts i)
+    unfolding with_thing
+    made_behind parts i are = thing-by parts i are (length (path_at found.places.now i) == 0)
+
+    things_behind : (is : List ℕ) (parts : List Planned) → AreMade parts → AreMade (fold (with_thing found) parts is)
+    things_behind [] parts are = are
+    things_behind (i ∷ is) parts are = things_behind is (with_thing found parts i) (made_behind parts i are)
+
+    pub whole_holds : Holds [] → Holds (whole_plan found)
+    whole_holds none = (things_behind (range_with_len 0 (length found.places.now)) [] (record { all = all_none found [] refl; holds = none })).holds
+
   pub all_made_behind : (parts : List Planned) (i : ℕ) → AreAllMade found parts → AreAllMade found (with_thing found parts i)
-  unfolding with_thing
-  all_made_behind parts i all = thing-by parts i all (length (path_at found.places.now i) == 0)
+  all_made_behind parts i all = (made_behind (λ parts. ⊤) (λ parts part holds above. tt) parts i (record { all = all; holds = tt })).all
+
+-- ---- folders come first
+
+made-before-push : (found : Found) (before rest : List Planned) (part : Planned) → AreMadeBefore found before rest → LiesInMade found (before ++ rest) part
+    → AreMadeBefore found before (rest ++ part ∷ [])
+made-before-push found before [] part are lies = (subst (λ (ps : List Planned). LiesInMade found ps part) (append-nil before) lies, tt)
+made-before-push found before (p ∷ rest) part are lies = (
+  are.0,
+  made-before-push found (before ++ p ∷ []) rest part are.1 (subst (λ (ps : List Planned). LiesInMade found ps part) (sym (append_assoc before (p ∷ []) rest)) lies),
+)
+
+pub folders_first : (found : Found) → AreMadeBefore found [] (whole_plan found)
+folders_first found = whole_holds found (AreMadeBefore found []) (λ parts part are lies. made-before-push found [] parts part are lies) tt

@@ -13,3 +13,6 @@ pub mod PlanLemmas
 pub mod SourceLemmas
 pub mod SumLemmas
 pub mod ToldLemmas
+mod RootLemmas
+mod PlanSumLemmas
+mod PayloadLemmas

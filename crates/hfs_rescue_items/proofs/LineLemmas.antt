@@ -6,7 +6,7 @@ use Rattle.hfs_table.specs.Lines.{bag_head}
 use Rattle.std.specs.Prelude.{codes}
 use Rattle.std.specs.List.{join_by}
 use Rattle.hfs_rescue_items.specs.Lines.{lines_of}
-use Rattle.hfs_rescue_items.specs.declared.reading.Lines.{Lines}
+use Rattle.hfs_rescue_items.specs.declared.table_lines.Lines.{Lines}
 use Rattle.hfs_rescue_items.specs.Reading.{Reads, ReadsLines, lines_rest}
 
 -- a line more came

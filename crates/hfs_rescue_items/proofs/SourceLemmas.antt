@@ -19,7 +19,7 @@ use Rattle.hfs_table.specs.Lines.{bag_head}
 use Rattle.hfs_rescue_items.specs.declared.came.Came.{Came}
 use Rattle.hfs_rescue_items.specs.declared.found.Found.{Found}
 use Rattle.hfs_rescue_items.specs.declared.plan.Planned.{Planned}
-use Rattle.hfs_rescue_items.specs.declared.reading.Lines.{Lines}
+use Rattle.hfs_rescue_items.specs.declared.table_lines.Lines.{Lines}
 use Rattle.hfs_rescue_items.specs.declared.reading.Reading.{Reading}
 use Rattle.hfs_rescue_items.specs.Bytes.{HasBytes, bytes_by, image_in, taken_bytes}
 use Rattle.hfs_rescue_items.specs.Lines.{item_line, lines_of, remains_line, remains_text, table_text}

@@ -108,7 +108,7 @@ module _ (found : Found) (i : ℕ) (root : Option ℕ) (sums : FoundSums) (is : 
 -- ---- all items
 
 module _ (found : Found) (n : ℕ) (number : ℕ → ℕ) where
-  more : of_first found number (n + 1) ≡ of_first found number n + unless_root found.items.now n (number n)
+  pub more : of_first found number (n + 1) ≡ of_first found number n + unless_root found.items.now n (number n)
   more = sum_by-map-range_with_len_more (λ (x : ℕ). x) (λ (i : ℕ). unless_root found.items.now i (number i)) 0 n n (omega arith)
 
 -- no more than there is room for

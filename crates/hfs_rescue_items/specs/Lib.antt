@@ -5,3 +5,5 @@ pub mod Plan
 pub mod Reading
 pub mod Sources
 pub mod Sums
+pub mod Faults
+pub mod Laws

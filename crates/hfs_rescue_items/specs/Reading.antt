@@ -4,7 +4,7 @@ use Rattle.hfs_rescue.specs.declared.catalog.FoundRecord.{FoundRecord}
 use Rattle.hfs_table.specs.Lines.{bag_head}
 use Rattle.hfs_rescue_items.specs.declared.fork_reading.ForkReading.{ForkReading}
 use Rattle.hfs_rescue_items.specs.declared.found.Found.{Found}
-use Rattle.hfs_rescue_items.specs.declared.reading.Lines.{Lines}
+use Rattle.hfs_rescue_items.specs.declared.table_lines.Lines.{Lines}
 use Rattle.hfs_rescue_items.specs.declared.reading.Reading.{Reading}
 use Rattle.hfs_rescue_items.specs.declared.reading.Reading.TheVariants as reading
 use Rattle.hfs_rescue_items.specs.Bytes.{pieces_bytes}

@@ -1,7 +1,8 @@
 //! What comes of a plan.
-ghost use Rattle.std.specs.Prelude.{◌≡◌, ◌-◌, ℕ, List, [], drop, length, take, IfOk, string_bytes};
+ghost use Rattle.std.specs.Prelude.{◌≡◌, ◌-◌, ℕ, List, [], drop, length, take, IfErr, IfOk, string_bytes};
 ghost use Rattle.hfs_bag.specs.Items.{IsHead};
 ghost use Rattle.hfs_rescue_items.specs.Bytes.{GivesBytes};
+ghost use Rattle.hfs_rescue_items.specs.Faults.{FailsToCome, IsUntold};
 ghost use Rattle.hfs_rescue_items.specs.Sources.{above_of, finder_told, is_alone, modified_told, name_of, part_bytes, part_told, planned_item};
 
 use crate::found::Found;
@@ -40,7 +41,8 @@ impl Came {
 
 /// A part of a path as a text. Error: it is none, as no part of a path that is planned.
 fn text_of(alloc: Global, path: &[u8], from: usize, to: usize) -> Result<String, SourceFault>
-    ensures { IfOk result (λ text. string_bytes text ≡ take (to - from) (drop from path.now)) }
+    ensures text { IfOk result (λ text. string_bytes text ≡ take (to - from) (drop from path.now)) }
+    ensures fault { IfErr result (IsUntold path.now from to) }
 {
     if from > to || to > path.len() {
         return Err(SourceFault::ReadFailed);
@@ -149,6 +151,7 @@ fn placed(alloc: Global, found: &Found<'_>, planned: Planned) -> Result<Came, So
     ensures above { IfOk result (λ came. string_bytes came.above ≡ above_of found.now planned) }
     ensures name { IfOk result (λ came. string_bytes came.name ≡ name_of found.now planned) }
     ensures planned { IfOk result (λ came. came.planned ≡ planned) }
+    ensures fault { IfErr result (FailsToCome found.now planned) }
 {
     let Ok(path) = found.path(alloc, planned.place) else {
         return Err(SourceFault::Memory);
@@ -173,6 +176,7 @@ pub(crate) fn came_of(
     ensures name { IfOk result (λ told. string_bytes told.0.name ≡ name_of found.now planned) }
     ensures planned { IfOk result (λ told. told.0.planned ≡ planned) }
     ensures head { IfOk result (λ told. IsHead told.1 (planned_item [] found.now planned)) }
+    ensures fault { IfErr result (FailsToCome found.now planned) }
 {
     let came = placed(alloc, found, planned)?;
     match head_of(alloc, found, planned) {

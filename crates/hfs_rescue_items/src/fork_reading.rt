@@ -1,5 +1,5 @@
 //! Forks that are read piece by piece.
-ghost use Rattle.std.specs.Prelude.{◌≡◌, ◌*◌, ◌≤◌, ℕ, List, [], drop, length, replicate, IfOk, IfSome, OnOk};
+ghost use Rattle.std.specs.Prelude.{◌≡◌, ◌*◌, ◌≤◌, ◌<◌, ℕ, List, [], drop, length, replicate, IfErr, IfOk, IfSome, OnOk};
 ghost use Rattle.std.specs.Option.{is_some};
 ghost use Rattle.hfs_remains.specs.ForkBytes.{filled, fork_bytes};
 ghost use Rattle.hfs_sparse.specs.Sparse.{HoldsFrom};
@@ -124,6 +124,7 @@ pub(crate) fn read_fork<S: BlockSource>(
     ensures read { OnOk result (Reads (is_some (S.image source.old)) piece.new.items
         (fork_rest (image_in (S.image source.old)) fork.old)
         (fork_rest (image_in (S.image source.old)) fork.new)) }
+    ensures fault { IfErr result (λ _. fork.old.next < length fork.old.pieces.items) }
     ensures image { S.image source.new ≡ S.image source.old }
 {
     if fork.next >= fork.pieces.len() {

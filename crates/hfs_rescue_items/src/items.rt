@@ -1,5 +1,7 @@
 //! What remains of a volume, for a bag.
-ghost use Rattle.std.specs.Prelude.{◌≡◌, ⊤, ℕ, List, IfOk};
+ghost use Rattle.std.specs.Prelude.{◌≡◌, ⊤, ℕ, List, IfErr, IfOk, MatchResult};
+ghost use Rattle.hfs_bag.specs.Sources.{HasOpened, HasRead, HasRestarted, TakesItem};
+ghost use Rattle.hfs_rescue_items.specs.Faults.{FailsToComeAt, FailsToOpen, FailsToRead, Never};
 ghost use Rattle.hfs_rescue_items.specs.Plan.{whole_plan};
 ghost use Rattle.hfs_rescue_items.specs.Reading.{reading_rest};
 ghost use Rattle.hfs_rescue_items.specs.Sources.{part_bytes, part_stream, source_of};
@@ -8,7 +10,8 @@ use crate::came::{Came, came_of, part_fork};
 use crate::fork_reading::{begin_fork, empty_fork};
 use crate::found::Found;
 use crate::plan::{Planned, plan_of};
-use crate::reading::{Lines, Reading, read_next};
+use crate::reading::{Reading, read_next};
+use crate::table_lines::Lines;
 use hfs_bag::{BagHead, BagSource, SourceFault, Stream};
 use hfs_space::ForkKind;
 use hfs_sparse::BlockSource;
@@ -72,8 +75,9 @@ fn open_stream<'a>(
     planned: Planned,
     stream: Stream,
 ) -> Result<Reading<'a>, SourceFault>
-    ensures { (image : List ℕ) → IfOk result (λ reading. reading_rest image found.now reading
+    ensures begun { (image : List ℕ) → IfOk result (λ reading. reading_rest image found.now reading
         ≡ part_stream image found.now planned stream) }
+    ensures fault { IfErr result (FailsToOpen stream) }
 {
     match stream {
         Stream::DataFork => open_fork(alloc, found, planned, ForkKind::Data),
@@ -113,13 +117,27 @@ impl<S: BlockSource> BagSource for RescueItems<'_, S> {
     }
 
     #[tactic(auto, using(crate::proofs::SourceLemmas::has_restarted))]
-    fn restart(&mut self) -> Result<(), SourceFault> {
+    fn restart(&mut self) -> Result<(), SourceFault>
+        ensures restarted { MatchResult result (λ _. HasRestarted
+            (source_of (S.image self.old.source) self.old.found self.old.plan.items self.old.next self.old.came
+            self.old.reading)
+            (source_of (S.image self.new.source) self.new.found self.new.plan.items self.new.next self.new.came
+            self.new.reading)) (λ _. ⊤) }
+        ensures fault { IfErr result Never }
+    {
         self.next = 0;
         Ok(())
     }
 
     #[tactic(auto, using(crate::proofs::SourceLemmas::has_no_item))]
-    fn next_item(&mut self) -> Result<Option<BagHead>, SourceFault> {
+    fn next_item(&mut self) -> Result<Option<BagHead>, SourceFault>
+        ensures taken { MatchResult result (TakesItem
+            (source_of (S.image self.old.source) self.old.found self.old.plan.items self.old.next self.old.came
+            self.old.reading)
+            (source_of (S.image self.new.source) self.new.found self.new.plan.items self.new.next self.new.came
+            self.new.reading)) (λ _. ⊤) }
+        ensures fault { IfErr result (FailsToComeAt self.old.found self.old.plan.items self.old.next) }
+    {
         if self.next >= self.plan.len() {
             return Ok(None);
         }
@@ -139,13 +157,27 @@ impl<S: BlockSource> BagSource for RescueItems<'_, S> {
     }
 
     #[tactic(auto, using(crate::proofs::SourceLemmas::has_opened))]
-    fn open(&mut self, stream: Stream) -> Result<(), SourceFault> {
+    fn open(&mut self, stream: Stream) -> Result<(), SourceFault>
+        ensures opened { MatchResult result (λ _. HasOpened stream
+            (source_of (S.image self.old.source) self.old.found self.old.plan.items self.old.next self.old.came
+            self.old.reading)
+            (source_of (S.image self.new.source) self.new.found self.new.plan.items self.new.next self.new.came
+            self.new.reading)) (λ _. ⊤) }
+        ensures fault { IfErr result (FailsToOpen stream) }
+    {
         self.reading = open_stream(self.alloc, &self.found, self.came.planned, stream)?;
         Ok(())
     }
 
     #[tactic(auto, using(crate::proofs::SourceLemmas::has_read))]
-    fn read(&mut self, piece: &mut Vec<u8>) -> Result<(), SourceFault> {
+    fn read(&mut self, piece: &mut Vec<u8>) -> Result<(), SourceFault>
+        ensures read { MatchResult result (λ _. HasRead piece.new.items
+            (source_of (S.image self.old.source) self.old.found self.old.plan.items self.old.next self.old.came
+            self.old.reading)
+            (source_of (S.image self.new.source) self.new.found self.new.plan.items self.new.next self.new.came
+            self.new.reading)) (λ _. ⊤) }
+        ensures fault { IfErr result (FailsToRead self.old.reading) }
+    {
         read_next(
             self.alloc,
             &mut self.source,

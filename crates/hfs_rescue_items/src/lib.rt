@@ -6,6 +6,7 @@ mod folders;
 mod fork_reading;
 mod found;
 mod items;
+mod laws;
 mod lines;
 mod looking;
 mod piece;
@@ -13,10 +14,14 @@ mod pieces;
 mod plan;
 mod reading;
 mod sums;
+mod table_lines;
 mod told;
 
 pub use found::Found;
 pub use items::RescueItems;
+pub use laws::{
+    folders_come_first, only_things_are_made, payloads_have_their_sums, plans_count_items,
+};
 pub use lines::push_remains_line;
 pub use looking::{field_name, names_at};
 pub use sums::{FoundSums, sums_of};

@@ -1,31 +1,23 @@
 //! What of a source is being read.
-ghost use Rattle.std.specs.Prelude.{◌≡◌, ◌+◌, ◌++◌, [], IfOk, OnOk};
+ghost use Rattle.std.specs.Prelude.{◌≡◌, ◌++◌, [], IfErr, OnOk};
 ghost use Rattle.std.specs.Option.{is_some};
 ghost use Rattle.hfs_table.specs.Lines.{bag_head};
 ghost use Rattle.hfs_rescue_items.specs.Bytes.{image_in};
+ghost use Rattle.hfs_rescue_items.specs.Faults.{FailsToRead, WantsMemory};
 ghost use Rattle.hfs_rescue_items.specs.Lines.{item_line, remains_line};
 ghost use Rattle.hfs_rescue_items.specs.Reading.{ReadsLines, Reads, reading_rest};
 
 use crate::fork_reading::{ForkReading, read_fork};
 use crate::found::Found;
 use crate::lines::{push_item_line, push_remains_line};
+use crate::table_lines::Lines;
 use hfs_bag::SourceFault;
-use hfs_rescue::FoundRecord;
 use hfs_sparse::BlockSource;
 use hfs_table::push_bag_head;
 use std::alloc::Global;
 
 /// From how many bytes of text on a piece is whole.
 const PIECE: usize = 65_536;
-
-/// Where reading a table stands.
-#[derive(Clone, Copy, Drop)]
-pub(crate) struct Lines<'a> {
-    /// The number of the item whose line is next.
-    pub(crate) next: usize,
-    /// That item and those behind it.
-    pub(crate) items: &'a [FoundRecord],
-}
 
 /// The stream that is being read.
 #[derive(Drop)]
@@ -39,16 +31,6 @@ pub(crate) enum Reading<'a> {
     Remains(Lines<'a>),
 }
 
-/// The next number. An image has fewer items.
-fn number_behind(number: usize) -> Result<usize, SourceFault>
-    ensures { IfOk result (λ next. next ≡ number + 1) }
-{
-    match number.checked_add(1) {
-        Some(next) => Ok(next),
-        None => Err(SourceFault::ReadFailed),
-    }
-}
-
 /// Puts lines of the table of all items behind a piece, until it is whole or there are none.
 #[tactic(auto, using(crate::proofs::LineLemmas::line_more, crate::proofs::LineLemmas::lines_none, crate::proofs::LineLemmas::lines_whole))]
 fn push_items(
@@ -58,7 +40,8 @@ fn push_items(
     lines: &mut Lines<'_>,
 ) -> Result<(), SourceFault>
     requires { piece.old.items ≡ [] }
-    ensures { OnOk result (ReadsLines (item_line found.now) piece.new.items lines.old lines.new) }
+    ensures read { OnOk result (ReadsLines (item_line found.now) piece.new.items lines.old lines.new) }
+    ensures fault { IfErr result WantsMemory }
 {
     while let [item, behind @ ..] = lines.items {
         if piece.len() >= PIECE {
@@ -67,8 +50,10 @@ fn push_items(
         let Ok(()) = push_item_line(alloc, piece, found, lines.next, item) else {
             return Err(SourceFault::Memory);
         };
-        lines.next = number_behind(lines.next)?;
-        lines.items = behind;
+        *lines = Lines {
+            next: lines.next + 1,
+            items: behind,
+        };
     }
     Ok(())
 }
@@ -82,7 +67,8 @@ fn push_remains(
     lines: &mut Lines<'_>,
 ) -> Result<(), SourceFault>
     requires { piece.old.items ≡ [] }
-    ensures { OnOk result (ReadsLines (remains_line found.now) piece.new.items lines.old lines.new) }
+    ensures read { OnOk result (ReadsLines (remains_line found.now) piece.new.items lines.old lines.new) }
+    ensures fault { IfErr result WantsMemory }
 {
     while let [item, behind @ ..] = lines.items {
         if piece.len() >= PIECE {
@@ -91,15 +77,18 @@ fn push_remains(
         let Ok(()) = push_remains_line(alloc, piece, found, lines.next, item) else {
             return Err(SourceFault::Memory);
         };
-        lines.next = number_behind(lines.next)?;
-        lines.items = behind;
+        *lines = Lines {
+            next: lines.next + 1,
+            items: behind,
+        };
     }
     Ok(())
 }
 
 /// Puts the head of the table of all items in the place of a piece, which is empty.
 fn push_table_head(piece: &mut Vec<u8>) -> Result<(), SourceFault>
-    ensures { OnOk result (piece.new.items ≡ piece.old.items ++ bag_head) }
+    ensures head { OnOk result (piece.new.items ≡ piece.old.items ++ bag_head) }
+    ensures fault { IfErr result WantsMemory }
 {
     match push_bag_head(piece) {
         Ok(()) => Ok(()),
@@ -119,6 +108,7 @@ pub(crate) fn read_next<'a, S: BlockSource>(
     ensures read { OnOk result (Reads (is_some (S.image source.old)) piece.new.items
         (reading_rest (image_in (S.image source.old)) found.now reading.old)
         (reading_rest (image_in (S.image source.old)) found.now reading.new)) }
+    ensures fault { IfErr result (FailsToRead reading.old) }
     ensures image { S.image source.new ≡ S.image source.old }
 {
     piece.clear();

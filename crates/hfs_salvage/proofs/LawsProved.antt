@@ -18,7 +18,9 @@ use Rattle.hfs_rescue_items.proofs.LawsProved.{plans_are_placed}
 use Rattle.hfs_salvage.specs.Bags.{rescued_items}
 use Rattle.hfs_salvage.proofs.JoinLemmas.{payloads-same}
 use Rattle.hfs_salvage.proofs.TakenPathLemmas.{taken-paths}
-use Rattle.hfs_salvage.specs.Laws.{RescuedPathsAreLawful, SoundPayloadsAreVolumes, TakenPathsAreLawful}
+use Rattle.hfs_salvage.proofs.BagSumLemmas.{sums_of_bag}
+use Rattle.hfs_salvage.proofs.ThereLemmas.{found-there}
+use Rattle.hfs_salvage.specs.Laws.{RemainsAreFound, RescuedPathsAreLawful, SoundPayloadsAreVolumes, SumsAreOfBags, TakenPathsAreLawful}
 
 same-directory : (x y : Mdb) → Some x ≡ Some y → x ≡ y
 same-directory x y same = cc
@@ -47,3 +49,12 @@ rescued_paths_are_lawful image limit found facts bytes is =
 pub sound_payloads_are_volumes : SoundPayloadsAreVolumes
 sound_payloads_are_volumes image limit found bytes sound begins enough is short entry =
     payloads-same image limit found (record { sound = sound; begins = begins; enough = enough; is = is; bytes = bytes; short = short }) entry
+
+-- What is told of an image of bytes is in its bag.
+pub sums_are_of_bags : SumsAreOfBags
+sums_are_of_bags image limit found bytes is =
+    sums_of_bag image limit found is (subst AreThings (sym is.places_are) (are-things image found.mdb.now bytes (directory_of image) refl is.directory_is))
+
+-- Something is found of each that has a directory.
+pub remains_are_found : RemainsAreFound
+remains_are_found = found-there

@@ -17,3 +17,7 @@ mod JoinLemmas
 mod TakenPathLemmas
 pub mod LawsProved
 mod HeldLemmas
+mod PlacedLemmas
+mod UnfoundLemmas
+mod ThereLemmas
+mod BagSumLemmas

@@ -4,27 +4,24 @@ ghost use Rattle.std.specs.Option.{option_map};
 ghost use Rattle.hfs_needed.specs.Known.{OfKnown};
 ghost use Rattle.hfs_shelves.specs.Entries.{IsBeginning};
 ghost use Rattle.hfs_take.specs.Bags.{text_in};
-ghost use Rattle.hfs_take.specs.Faults.{IsTakeFault};
 ghost use Rattle.hfs_salvage.specs.Answers.{IsKnownAnswer};
 ghost use Rattle.hfs_salvage.specs.Bags.{IsToldOf, IsUnfilled, OfKnownBag};
 ghost use Rattle.hfs_salvage.specs.Found.{IsFoundOf};
-ghost use Rattle.hfs_salvage.specs.Words.{as_take_words, limit_of};
+ghost use Rattle.hfs_salvage.specs.Words.{limit_of};
 
-use crate::answer::{RescueAnswer, Rescued};
+use crate::answer::RescueAnswer;
 use crate::facts::{Told, told_of};
 use crate::found::found_in;
 use crate::image::RescuedImage;
-use crate::loading::{Loaded, LoadedImage, load_image};
 use crate::watched::Watched;
 use crate::words::BagWords;
 use hfs_bag::{BagFacts, BagFault, give_bag};
 use hfs_finds::salvage_of;
 use hfs_rescue_items::{Found, RescueItems};
-use hfs_shelves::{FileShelf, FileSystem, Shelf, SystemFiles};
+use hfs_shelves::Shelf;
 use hfs_sparse::BlockSource;
-use hfs_take::{TakeFault, Watch};
+use hfs_take::Watch;
 use std::alloc::Global;
-use std::rt::Files;
 
 /// A text, where there is one.
 fn text_in(text: &Option<String>) -> Option<&str>
@@ -111,70 +108,4 @@ pub fn give_remains<S: BlockSource + Drop, T: Shelf, W: Watch>(
     let line = text_in(&line);
     give_found(alloc, shelf, source, len, line, &found, &told, words, watch)?;
     Ok(answer)
-}
-
-/// Writes the bag of an image: to a folder beside its place, which gets its place when it is whole, and is taken away at a fault.
-fn write_bag<'a, Y: FileSystem + Drop, S: BlockSource + Drop, W: Watch>(
-    alloc: Global,
-    system: Y,
-    image: RescuedImage<S>,
-    words: &BagWords<'a>,
-    watch: &W,
-) -> Result<RescueAnswer, TakeFault<'a>>
-    ensures fault { IfErr result (IsTakeFault (as_take_words words.now)) }
-    ensures answer { IfOk result (IsKnownAnswer (S.image image.source) image.len words.now.words) }
-{
-    let mut shelf = match FileShelf::create(alloc, system, words.folder) {
-        Ok(shelf) => shelf,
-        Err(back) => return Err(TakeFault::of_shelf(back.fault)),
-    };
-    match give_remains(alloc, &mut shelf, image, words, watch) {
-        Ok(answer) => match shelf.place(words.folder) {
-            Ok(_system) => Ok(answer),
-            Err(back) => Err(TakeFault::of_shelf(back.fault)),
-        },
-        Err(fault) => {
-            let _system = shelf.take_away();
-            Err(TakeFault::of_bag(fault, words.words.image))
-        }
-    }
-}
-
-/// Writes the bag of an image that was loaded, where nothing has the folder's name. Faults: `IsThere`; as [`write_bag`] has them.
-fn rescue_loaded<'a, R: Files + AllocGlobal, S: BlockSource + Drop, W: Watch>(
-    rt: &R,
-    image: RescuedImage<S>,
-    words: &BagWords<'a>,
-    watch: &W,
-) -> Result<RescueAnswer, TakeFault<'a>>
-    ensures fault { IfErr result (IsTakeFault (as_take_words words.now)) }
-    ensures answer { IfOk result (IsKnownAnswer (S.image image.source) image.len words.now.words) }
-{
-    let mut system = SystemFiles::new(rt);
-    if system.is_there(words.folder) {
-        return Err(TakeFault::IsThere(words.folder));
-    }
-    write_bag(rt.alloc(), system, image, words, watch)
-}
-
-/// Makes a folder the bag of what remains of an image, and answers what is told of it. Faults, the first that holds: the image can't be read;
-/// `NoVolume`, `SeveralVolumes`; the image's own, where there is no directory in it; `IsThere`; `CannotWrite` of the path that isn't written, the image
-/// can't be read in the middle, memory was refused. At a fault the folder isn't there, and what was written is taken away, as far as the system and memory
-/// allow.
-pub fn rescue<'a, R: Files + AllocGlobal, W: Watch>(
-    rt: &R,
-    words: &BagWords<'a>,
-    watch: &W,
-) -> Result<Rescued, TakeFault<'a>>
-    ensures { IfErr result (IsTakeFault (as_take_words words.now)) }
-{
-    let LoadedImage { image, sum } = match load_image(rt, &words.words) {
-        Ok(loaded) => loaded,
-        Err(fault) => return Err(TakeFault::Image(fault)),
-    };
-    let answer = match image {
-        Loaded::Held(image) => rescue_loaded(rt, image, words, watch)?,
-        Loaded::Opened(image) => rescue_loaded(rt, image, words, watch)?,
-    };
-    Ok(Rescued { answer, sum })
 }

@@ -1,5 +1,5 @@
 //! What holds of the definitions, each as the contract of a function that does nothing.
-ghost use Rattle.hfs_salvage.specs.Laws.{RescuedPathsAreLawful, SoundPayloadsAreVolumes, TakenPathsAreLawful};
+ghost use Rattle.hfs_salvage.specs.Laws.{RemainsAreFound, RescuedPathsAreLawful, SoundPayloadsAreVolumes, SumsAreOfBags, TakenPathsAreLawful};
 
 /// No path of the bag that `take` makes of a sound image leads out of it, and all differ, also where case is not told
 /// apart.
@@ -17,4 +17,15 @@ pub fn rescued_paths_are_lawful()
 /// same paths and bytes.
 pub fn sound_payloads_are_volumes()
     ensures { SoundPayloadsAreVolumes }
+{}
+
+/// What is told of an image is in its bag: as many files and folders as its plan has, each with an AppleDouble file, and as many
+/// bytes as its payload has.
+pub fn sums_are_of_bags()
+    ensures { SumsAreOfBags }
+{}
+
+/// Something is found of each image of bytes that has a directory.
+pub fn remains_are_found()
+    ensures { RemainsAreFound }
 {}

@@ -11,15 +11,18 @@ mod laws;
 mod listing;
 mod loading;
 mod looking;
+mod rescuing;
 mod watched;
 mod words;
 
 pub use crate::answer::{RescueAnswer, Rescued};
-pub use crate::filling::{give_remains, rescue};
+pub use crate::filling::give_remains;
 pub use crate::held::HeldBytes;
 pub use crate::image::{HoldFault, RescuedImage};
 pub use crate::laws::{
-    rescued_paths_are_lawful, sound_payloads_are_volumes, taken_paths_are_lawful,
+    remains_are_found, rescued_paths_are_lawful, sound_payloads_are_volumes, sums_are_of_bags,
+    taken_paths_are_lawful,
 };
 pub use crate::listing::{list_rescue, write_remains};
+pub use crate::rescuing::{PlacedBag, UnplacedBag, rescue, rescue_opened};
 pub use crate::words::{BagWords, RescueWords};

@@ -1,10 +1,9 @@
 //! An image that is asked for, held or opened.
-ghost use Rattle.std.specs.Prelude.{◌≡◌, ◌≤◌, IfErr, IfOk};
+ghost use Rattle.std.specs.Prelude.{◌≡◌, ◌≤◌, ℕ, IfErr, IfOk};
 ghost use Rattle.std.specs.Option.{option_map};
-ghost use Rattle.hfs_commands.specs.Faults.{IsUnreadFile};
 ghost use Rattle.hfs_commands.specs.OpenedFiles.{known_in};
 ghost use Rattle.hfs_containers.specs.Ranges.{bytes_in};
-ghost use Rattle.hfs_salvage.specs.Faults.{IsUnread};
+ghost use Rattle.hfs_salvage.specs.Faults.{IsUnfound, IsUnloaded, IsUnread, IsUnreadBytes, told_fault};
 ghost use Rattle.hfs_salvage.specs.Loads.{IsHeldOf};
 
 use crate::held::HeldBytes;
@@ -48,7 +47,7 @@ fn read_range<'a, S: ReadAt>(
     path: &'a str,
 ) -> Result<HeldBytes, Fault<'a>>
     ensures held { IfOk result (IsHeldOf (option_map (bytes_in range) (S.known file.old))) }
-    ensures fault { IfErr result (IsUnreadFile path.entry) }
+    ensures fault { IfErr result (IsUnreadBytes path.entry) }
 {
     let Ok(mut all) = vec![in alloc; 0u8; range.len as usize] else {
         return Err(Fault::NoMemory);
@@ -69,7 +68,7 @@ fn read_range<'a, S: ReadAt>(
 /// All bytes of a range of what is held as a whole already. Error: it doesn't lie there.
 fn hold_range<'a>(all: Vec<u8>, range: ByteRange, path: &'a str) -> Result<HeldBytes, Fault<'a>>
     ensures held { IfOk result (λ held. held ≡ bytes_in range all.items) }
-    ensures fault { IfErr result (IsUnreadFile path.entry) }
+    ensures fault { IfErr result (IsUnreadBytes path.entry) }
 {
     match HeldBytes::of(all, range) {
         Some(held) => Ok(held),
@@ -84,7 +83,7 @@ fn hold<'a, F: Read + Seek + Drop>(
     path: &'a str,
 ) -> Result<HeldBytes, Fault<'a>>
     ensures held { IfOk result (IsHeldOf (known_in bytes)) }
-    ensures fault { IfErr result (IsUnreadFile path.entry) }
+    ensures fault { IfErr result (IsUnreadBytes path.entry) }
 {
     let Window { source, range } = bytes;
     match source {
@@ -96,29 +95,49 @@ fn hold<'a, F: Read + Seek + Drop>(
 
 /// What it means for an image's file that nothing is found of it.
 fn fault_of<'a>(fault: HoldFault, words: &RescueWords<'a>) -> Fault<'a>
-    ensures { IsUnread words.now result }
+    ensures unread { IsUnread words.now result }
+    ensures told { result ≡ told_fault words.now.image fault }
 {
     match fault {
         HoldFault::NoDirectory(Some(why)) => Fault::Refused(why),
-        HoldFault::NoDirectory(None) | HoldFault::ReadFailed => Fault::CannotRead(words.image),
+        HoldFault::NoDirectory(None) => Fault::CannotRead(words.image),
+        HoldFault::ReadFailed => Fault::CannotRead(words.image),
         HoldFault::NoMemory => Fault::NoMemory,
     }
 }
 
-/// An image all of whose bytes are held.
+/// An image all of whose bytes are held. A fault is its own: where there is no directory in it, it is what its check tells.
+#[tactic(auto, using(crate::proofs::UnfoundLemmas::held_still, crate::proofs::UnfoundLemmas::unheld_found, crate::proofs::UnfoundLemmas::unread_found))]
 fn hold_image<'a, F: Read + Seek + Drop>(
     alloc: Global,
     bytes: Window<OpenedFile<F>>,
     line: Option<String>,
     words: &RescueWords<'a>,
-) -> Result<Loaded<Window<OpenedFile<F>>>, Fault<'a>>
-    ensures { IfErr result (IsUnread words.now) }
+) -> Result<RescuedImage<HeldBytes>, Fault<'a>>
+    ensures held { IfOk result (λ image. IsHeldOf (known_in bytes) image.source) }
+    ensures line { IfOk result (λ image. image.line ≡ line) }
+    ensures unread { IfErr result (IsUnread words.now) }
+    ensures told { (len : ℕ) → IfErr result (IsUnfound words.now.image (known_in bytes) len) }
 {
     let held = hold(alloc, bytes, words.image)?;
     match RescuedImage::held(alloc, held, line) {
-        Ok(image) => Ok(Loaded::Held(image)),
+        Ok(image) => Ok(image),
         Err(fault) => Err(fault_of(fault, words)),
     }
+}
+
+/// An image all of whose bytes are held, as what was loaded.
+fn load_whole<'a, F: Read + Seek + Drop>(
+    alloc: Global,
+    bytes: Window<OpenedFile<F>>,
+    line: Option<String>,
+    words: &RescueWords<'a>,
+) -> Result<Loaded<Window<OpenedFile<F>>>, Fault<'a>>
+    ensures unread { IfErr result (IsUnread words.now) }
+    ensures told { (len : ℕ) → IfErr result (IsUnfound words.now.image (known_in bytes) len) }
+{
+    let image = hold_image(alloc, bytes, line, words)?;
+    Ok(Loaded::Held(image))
 }
 
 /// An image that is read where it is needed, or held, where all its blocks must be looked at.
@@ -129,7 +148,8 @@ fn open_image<'a, F: Read + Seek + Drop>(
     words: &RescueWords<'a>,
 ) -> Result<Loaded<Window<OpenedFile<F>>>, Fault<'a>>
     requires { bytes.range.len ≤ 2147483648 }
-    ensures { IfErr result (IsUnread words.now) }
+    ensures unread { IfErr result (IsUnread words.now) }
+    ensures told { IfErr result (IsUnfound words.now.image (known_in bytes) bytes.range.len) }
 {
     let mut source = bytes;
     let len = source.len();
@@ -141,7 +161,7 @@ fn open_image<'a, F: Read + Seek + Drop>(
             check,
             finds,
         })),
-        Ok(Look::Whole) => hold_image(alloc, source, line, words),
+        Ok(Look::Whole) => load_whole(alloc, source, line, words),
         Err(fault) => Err(fault_of(fault, words)),
     }
 }
@@ -156,19 +176,21 @@ fn is_held<F: Read + Seek>(bytes: &Window<OpenedFile<F>>) -> bool {
 
 /// What is found of the bytes that are asked for: by the blocks that are needed, or by all of them where they are held already, and where all must be
 /// looked at.
+#[tactic(auto, using(crate::proofs::UnfoundLemmas::too_large))]
 fn load_part<'a, F: Read + Seek + Drop>(
     alloc: Global,
     bytes: Window<OpenedFile<F>>,
     line: Option<String>,
     words: &RescueWords<'a>,
 ) -> Result<Loaded<Window<OpenedFile<F>>>, Fault<'a>>
-    ensures { IfErr result (IsUnread words.now) }
+    ensures unread { IfErr result (IsUnread words.now) }
+    ensures told { IfErr result (IsUnloaded words.now (known_in bytes) bytes.range.len) }
 {
     if bytes.len() > LONGEST {
         return Err(Fault::Refused(MountFault::TooLarge));
     }
     if is_held(&bytes) {
-        return hold_image(alloc, bytes, line, words);
+        return load_whole(alloc, bytes, line, words);
     }
     open_image(alloc, bytes, line, words)
 }

@@ -16,4 +16,4 @@ returns-in_ok-push_table_head-in-Table-clause-read g c =
     let rest = lines_rest (item_line found) c.in-Table.lines in
     let piece = c.push_table_head.new.piece.items in
     subst (λ (r : Reading). Reads (is_some known) piece (reading_rest (image_in known) found r) rest) (sym c.in-Table.is)
-    (head_read (is_some known) piece rest (c.in_ok-push_table_head-in-Table.ensures ∙ ap (λ (xs : List ℕ). xs ++ bag_head) c.clear.ensures.items))
+    (head_read (is_some known) piece rest (c.in_ok-push_table_head-in-Table.ensures.head ∙ ap (λ (xs : List ℕ). xs ++ bag_head) c.clear.ensures.items))

@@ -3,8 +3,8 @@ use Rattle.std.proofs.Common.{rules, ◌≡◌, ◌<◌, length, slice_index_or}
 use Rattle.hfs_rescue_items.proofs.SourceLemmas.{has_item}
 use Rattle.hfs_rescue_items.proofs.items.RescueItemsBagSource.next_item.Goals as goal
 
-pub returns : goal.returns
-returns g c =
+pub returns-clause-taken : goal.returns-clause-taken
+returns-clause-taken g c =
     let items = c.args.self.now in
     let planned = c.index-planned.result.now in
     let within : items.next < length items.plan.items = search rules in

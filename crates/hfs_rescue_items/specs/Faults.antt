@@ -1,0 +1,51 @@
+-- Which faults what remains gives as the source of a bag.
+use Rattle.std.specs.Prelude.{◌≡◌, ◌⊎◌, ⊤, ℕ, ◌-◌, ◌<◌, List, drop, length, slice_get, take, Some}
+use Rattle.std.specs.Str.{IsUtf8}
+use Rattle.hfs_bag.specs.declared.source.SourceFault.{SourceFault}
+use Rattle.hfs_bag.specs.declared.source.SourceFault.TheVariants.{Memory}
+use Rattle.hfs_bag.specs.declared.source.Stream.{Stream}
+use Rattle.hfs_bag.specs.declared.source.Stream.TheVariants as stream
+use Rattle.hfs_rescue_items.specs.declared.found.Found.{Found}
+use Rattle.hfs_rescue_items.specs.declared.plan.Planned.{Planned}
+use Rattle.hfs_rescue_items.specs.declared.reading.Reading.{Reading}
+use Rattle.hfs_rescue_items.specs.declared.reading.Reading.TheVariants as reading
+use Rattle.hfs_rescue_items.specs.Found.{path_at}
+
+-- there is none
+abbrev pub Never : SourceFault → Type 0
+Never fault = ⊥
+
+-- memory was refused
+abbrev pub WantsMemory : SourceFault → Type 0
+WantsMemory fault = fault ≡ Memory
+
+-- a part of a path is no text: it ends before it begins, or behind the path, or its bytes are none
+abbrev pub IsNoText : List ℕ → ℕ → ℕ → Type 0
+IsNoText path from to = (to < from) ⊎ ((length path < to) ⊎ (IsUtf8 (take (to - from) (drop from path)) → ⊥))
+
+-- memory was refused for a part of a path, or it is no text
+abbrev pub IsUntold : List ℕ → ℕ → ℕ → SourceFault → Type 0
+IsUntold path from to fault = WantsMemory fault ⊎ IsNoText path from to
+
+-- a part of a plan does not come: memory was refused, or what it lies in, or its name, is no text
+abbrev pub FailsToCome : Found → Planned → SourceFault → Type 0
+FailsToCome found part fault =
+    WantsMemory fault ⊎ (IsNoText (path_at found.places.now part.place) 0 part.from ⊎ IsNoText (path_at found.places.now part.place) part.from part.to)
+
+-- the one at this place of a plan does not
+abbrev pub FailsToComeAt : Found → List Planned → ℕ → SourceFault → Type 0
+FailsToComeAt found plan next fault = (part : Planned) × (slice_get plan next ≡ Some part) × FailsToCome found part fault
+
+-- memory was refused for a table; a fork may also lie behind all that can be read
+abbrev pub FailsToOpen : Stream → SourceFault → Type 0
+FailsToOpen stream.DataFork fault = ⊤
+FailsToOpen stream.ResourceFork fault = ⊤
+FailsToOpen stream.Table fault = WantsMemory fault
+FailsToOpen stream.Remains fault = WantsMemory fault
+
+-- a fork fails only where pieces of it are left; for a table memory was refused
+abbrev pub FailsToRead : Reading → SourceFault → Type 0
+FailsToRead (reading.Fork fork) fault = fork.next < length fork.pieces.items
+FailsToRead (reading.Table lines) fault = WantsMemory fault
+FailsToRead (reading.Items lines) fault = WantsMemory fault
+FailsToRead (reading.Remains lines) fault = WantsMemory fault

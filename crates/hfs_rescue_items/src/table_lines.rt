@@ -1,0 +1,14 @@
+//! Where reading a table stands.
+ghost use Rattle.std.specs.Prelude.{◌+◌, ◌^◌, ◌<◌, length};
+
+use hfs_rescue::FoundRecord;
+
+/// Where reading a table stands.
+#[derive(Clone, Copy, Drop)]
+pub(crate) struct Lines<'a> {
+    /// The number of the item whose line is next.
+    pub(crate) next: usize,
+    /// That item and those behind it.
+    pub(crate) items: &'a [FoundRecord],
+    ghost few: { next + length items.now < 2 ^ 64 },
+}

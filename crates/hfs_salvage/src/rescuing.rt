@@ -1,0 +1,175 @@
+//! The word that rescues what remains of an image.
+ghost use Rattle.std.specs.Prelude.{◌≡◌, ◌⊎◌, IfErr, IfOk, string_bytes};
+ghost use Rattle.std.specs.Option.{option_map};
+ghost use Rattle.hfs_shelves.specs.MadeFolders.{given_by};
+ghost use Rattle.hfs_shelves.specs.Removals.{IsPlaced};
+ghost use Rattle.hfs_take.specs.Faults.{IsTakeFault};
+ghost use Rattle.hfs_salvage.specs.Answers.{IsKnownAnswer};
+ghost use Rattle.hfs_salvage.specs.Placed.{IsAwayFor, IsBagAway, IsBagPlaced, IsBagUnplaced, StaysOrNoMemory};
+ghost use Rattle.hfs_salvage.specs.Words.{as_take_words};
+
+use crate::answer::{RescueAnswer, Rescued};
+use crate::filling::give_remains;
+use crate::image::RescuedImage;
+use crate::loading::{Loaded, LoadedImage, load_image};
+use crate::words::BagWords;
+use hfs_commands::Fault;
+use hfs_shelves::{FileShelf, FileSystem, SystemFiles};
+use hfs_sparse::BlockSource;
+use hfs_take::{TakeFault, Watch};
+use std::alloc::Global;
+use std::rt::Files;
+
+/// A bag that has its place: what is told of its image, and the system on which it lies.
+#[derive(Drop)]
+pub struct PlacedBag<Y> {
+    pub answer: RescueAnswer,
+    pub system: Y,
+}
+
+/// Why a bag has no place, and the system back.
+#[derive(Drop)]
+pub struct UnplacedBag<'a, Y> {
+    pub fault: TakeFault<'a>,
+    pub system: Y,
+}
+
+/// Gives a whole bag its place. At a fault it is taken away.
+fn place_bag<'a, Y: FileSystem + Drop>(
+    shelf: FileShelf<Y>,
+    answer: RescueAnswer,
+    words: &BagWords<'a>,
+) -> Result<PlacedBag<Y>, UnplacedBag<'a, Y>>
+    ensures placed { IfOk result (λ placed. IsPlaced words.now.folder.now (string_bytes shelf.folder)
+        (given_by (string_bytes shelf.folder) shelf.modified (Y.did shelf.system)) (Y.did placed.system)) }
+    ensures answer { IfOk result (λ placed. placed.answer ≡ answer) }
+    ensures fault { IfErr result (λ back. IsTakeFault (as_take_words words.now) back.fault) }
+    ensures away { IfErr result (λ back. IsAwayFor back.fault (string_bytes shelf.folder)
+        (Y.did shelf.system) (Y.did back.system)) }
+{
+    match shelf.place(words.folder) {
+        Ok(system) => Ok(PlacedBag { answer, system }),
+        Err(back) => Err(UnplacedBag {
+            fault: TakeFault::of_shelf(back.fault),
+            system: back.system,
+        }),
+    }
+}
+
+/// Takes away what was written of a bag. The fault stays, but where memory is refused for that.
+fn take_away<'a, Y: FileSystem + Drop>(
+    shelf: FileShelf<Y>,
+    fault: TakeFault<'a>,
+) -> UnplacedBag<'a, Y>
+    ensures fault { StaysOrNoMemory fault result.fault }
+    ensures away { IsAwayFor result.fault (string_bytes shelf.folder) (Y.did shelf.system)
+        (Y.did result.system) }
+{
+    match shelf.take_away() {
+        Ok(system) => UnplacedBag { fault, system },
+        Err(system) => UnplacedBag {
+            fault: TakeFault::Image(Fault::NoMemory),
+            system,
+        },
+    }
+}
+
+/// Writes the bag of an image: to a folder beside its place, which gets its place when it is whole, and is taken away at a fault.
+fn write_bag<'a, Y: FileSystem + Drop, S: BlockSource + Drop, W: Watch>(
+    alloc: Global,
+    system: Y,
+    image: RescuedImage<S>,
+    words: &BagWords<'a>,
+    watch: &W,
+) -> Result<PlacedBag<Y>, UnplacedBag<'a, Y>>
+    ensures placed { IfOk result (λ placed. IsBagPlaced (S.image image.source) image.len
+        (option_map string_bytes image.line) words.now (Y.did placed.system)) }
+    ensures answer { IfOk result (λ placed. IsKnownAnswer (S.image image.source) image.len
+        words.now.words placed.answer) }
+    ensures fault { IfErr result (λ back. IsTakeFault (as_take_words words.now) back.fault) }
+    ensures away { IfErr result (λ back. IsBagAway words.now.folder.now back.fault
+        (Y.did system) (Y.did back.system)) }
+{
+    let mut shelf = match FileShelf::create(alloc, system, words.folder) {
+        Ok(shelf) => shelf,
+        Err(back) => {
+            return Err(UnplacedBag {
+                fault: TakeFault::of_shelf(back.fault),
+                system: back.system,
+            });
+        }
+    };
+    match give_remains(alloc, &mut shelf, image, words, watch) {
+        Ok(answer) => place_bag(shelf, answer, words),
+        Err(fault) => {
+            let told = TakeFault::of_bag(fault, words.words.image);
+            Err(take_away(shelf, told))
+        }
+    }
+}
+
+/// Rescues what remains of an image that was opened, over any system, where nothing has the folder's name.
+///
+/// By the last step of the system a folder has this place then: where the image's bytes are known, exactly its bag lies in it; and what is told of the
+/// image is answered. At a fault nothing has the place that did not have it, and what was written is taken away. Faults: `IsThere`; `CannotWrite` of the
+/// path that isn't written, the image can't be read in the middle, memory was refused.
+pub fn rescue_opened<'a, Y: FileSystem + Drop, S: BlockSource + Drop, W: Watch>(
+    alloc: Global,
+    system: Y,
+    image: RescuedImage<S>,
+    words: &BagWords<'a>,
+    watch: &W,
+) -> Result<PlacedBag<Y>, UnplacedBag<'a, Y>>
+    ensures placed { IfOk result (λ placed. IsBagPlaced (S.image image.source) image.len
+        (option_map string_bytes image.line) words.now (Y.did placed.system)) }
+    ensures answer { IfOk result (λ placed. IsKnownAnswer (S.image image.source) image.len
+        words.now.words placed.answer) }
+    ensures fault { IfErr result (λ back. IsTakeFault (as_take_words words.now) back.fault) }
+    ensures unplaced { IfErr result (λ back. IsBagUnplaced words.now back.fault
+        (Y.did system) (Y.did back.system)) }
+{
+    let mut system = system;
+    if system.is_there(words.folder) {
+        let fault = TakeFault::IsThere(words.folder);
+        return Err(UnplacedBag { fault, system });
+    }
+    write_bag(alloc, system, image, words, watch)
+}
+
+/// The same with the system's own files, which nothing is told of then.
+fn rescue_loaded<'a, R: Files + AllocGlobal, S: BlockSource + Drop, W: Watch>(
+    rt: &R,
+    image: RescuedImage<S>,
+    words: &BagWords<'a>,
+    watch: &W,
+) -> Result<RescueAnswer, TakeFault<'a>>
+    ensures fault { IfErr result (IsTakeFault (as_take_words words.now)) }
+    ensures answer { IfOk result (IsKnownAnswer (S.image image.source) image.len words.now.words) }
+{
+    match rescue_opened(rt.alloc(), SystemFiles::new(rt), image, words, watch) {
+        Ok(placed) => Ok(placed.answer),
+        Err(back) => Err(back.fault),
+    }
+}
+
+/// Makes a folder the bag of what remains of an image, and answers what is told of it. Faults, the first that holds: the image can't be read;
+/// `NoVolume`, `SeveralVolumes`; the image's own, where there is no directory in it; `IsThere`; `CannotWrite` of the path that isn't written, the image
+/// can't be read in the middle, memory was refused. At a fault the folder isn't there, and what was written is taken away, as far as the system and memory
+/// allow.
+pub fn rescue<'a, R: Files + AllocGlobal, W: Watch>(
+    rt: &R,
+    words: &BagWords<'a>,
+    watch: &W,
+) -> Result<Rescued, TakeFault<'a>>
+    ensures { IfErr result (IsTakeFault (as_take_words words.now)) }
+{
+    let LoadedImage { image, sum } = match load_image(rt, &words.words) {
+        Ok(loaded) => loaded,
+        Err(fault) => return Err(TakeFault::Image(fault)),
+    };
+    let answer = match image {
+        Loaded::Held(image) => rescue_loaded(rt, image, words, watch)?,
+        Loaded::Opened(image) => rescue_loaded(rt, image, words, watch)?,
+    };
+    Ok(Rescued { answer, sum })
+}
