@@ -103,6 +103,7 @@ pub fn collect_file<D: Alter + Drop, S: ReadAt + Drop, F: ImageFile<S>>(
 
 /// Collects the image of this path, as [`collect_file`] does. None also where it can't be opened. Of the image's rows, whose bytes no file tells,
 /// the clauses say that some were put in one transaction, or none.
+#[tactic(auto, using(hfs_database::proofs::RowLemmas::left_alone, hfs_database::proofs::Keeping::keeps_itself))]
 pub fn collect_image<D: Alter + Drop, R: Files + AllocGlobal, W: ReadWatch>(
     rt: &R,
     collection: &mut Collection<D>,

@@ -36,6 +36,7 @@ fn file_digits<S: ReadAt>(
 
 /// How a file of `len` bytes stands to what the database has of it. It is read where its digest is needed; where a read fails, it
 /// is missing. The only fault is `NoMemory`.
+#[tactic(auto, using(crate::proofs::Comparisons::told_by, crate::proofs::Comparisons::told_missing))]
 pub fn compare_known<S: ReadAt>(
     alloc: Global,
     source: &mut S,
@@ -56,6 +57,7 @@ pub fn compare_known<S: ReadAt>(
 
 /// How a file of `len` bytes stands to what the database has of this path: `New` where it has no row of it, else by its length and its
 /// digest; `Missing` where a read fails. Faults: `CannotWrite` where the database can't be read, `NoMemory`.
+#[tactic(auto, using(crate::proofs::Comparisons::asked_known, crate::proofs::Comparisons::asked_new, crate::proofs::Comparisons::compared_known, crate::proofs::Comparisons::compared_new))]
 pub fn compare_file<D: Alter + Drop, S: ReadAt>(
     alloc: Global,
     collection: &mut Collection<D>,
@@ -81,6 +83,7 @@ fn is_readable<S: ReadAt>(source: &mut S, len: u64) -> bool {
 
 /// How the image of this path stands to what the database has of it, as [`compare_file`] says; `Missing` also where it can't be opened, and then the
 /// database isn't asked.
+#[tactic(auto, using(crate::proofs::Comparisons::asked_missing))]
 pub fn compare_image<D: Alter + Drop, R: Files + AllocGlobal, W: ReadWatch>(
     rt: &R,
     collection: &mut Collection<D>,
