@@ -116,9 +116,10 @@ refused_elsewhere g makes old new (CannotOpen System) none = tt
 refused_elsewhere g makes old new CannotWrite none = tt
 refused_elsewhere g makes old new NoMemory none = tt
 
-pub if_err : {A E : Type 0} (r : Result A E) {P Q : E → Type 0} → ((e : E) → P e → Q e) → IfErr r P → IfErr r Q
-if_err (Ok x) f p = tt
-if_err (Err e) f p = f e p
+-- all faults of a call tell nothing of the tables
+pub refused_by : {A S : Type 0} (g : Ghosts S) (makes : Bool) (old new : Held S) (r : Result A DatabaseFault) → IfErr r TellsNoTables → IfErr r (IsRefusedFor g makes old new)
+refused_by g makes old new (Ok x) none = tt
+refused_by g makes old new (Err fault) none = refused_elsewhere g makes old new fault none
 
 -- ---- how they are made
 

@@ -23,6 +23,7 @@ pub struct Collection<S: Alter> {
 
 /// Wants the tables of a collection, or makes them where there is none of them and this is asked for. Faults: as of
 /// [`Collection::over`].
+#[tactic(auto, using(crate::proofs::TableLemmas::refused_elsewhere, crate::proofs::TableLemmas::refused_by))]
 fn want_tables<S: Alter>(conn: &mut Connection<S>, makes_tables: bool) -> Result<(), DatabaseFault>
     ensures tables { OnOk result (HasTables S.Store makes_tables conn.old conn.new) }
     ensures refused { IfErr result (IsRefusedFor S.Store makes_tables conn.old conn.new) }

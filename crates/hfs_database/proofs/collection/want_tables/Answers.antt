@@ -2,7 +2,7 @@
 use Rattle.std.proofs.Common.{subst, inl, inr}
 use Rattle.hfs_database.specs.declared.tables.Found.{Found}
 use Rattle.hfs_database.specs.Tables.{FindsTables}
-use Rattle.hfs_database.proofs.TableLemmas.{on_ok, refused_elsewhere}
+use Rattle.hfs_database.proofs.TableLemmas.{on_ok}
 use Rattle.hfs_database.proofs.collection.want_tables.Goals as goal
 
 pub returns-in-All-clause-tables : goal.returns-in-All-clause-tables
