@@ -15,17 +15,17 @@ use Rattle.hfs_database.specs.Tables.{AreEach, FindsPart, FindsParts, FindsTable
 use Rattle.hfs_database.specs.Transactions.{IsCommitted, KeepsFile, begun}
 use Rattle.hfs_database.proofs.Keeping.{keeps_begun}
 
-IsAll : Found → Type 0
+abbrev IsAll : Found → Type 0
 IsAll found.All = ⊤
 IsAll found.Nothing = ⊥
 IsAll found.Other = ⊥
 
-IsNothing : Found → Type 0
+abbrev IsNothing : Found → Type 0
 IsNothing found.All = ⊥
 IsNothing found.Nothing = ⊤
 IsNothing found.Other = ⊥
 
-IsOther : Found → Type 0
+abbrev IsOther : Found → Type 0
 IsOther found.All = ⊥
 IsOther found.Nothing = ⊥
 IsOther found.Other = ⊤
