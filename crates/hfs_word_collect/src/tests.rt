@@ -1,5 +1,6 @@
 //! An image whose bytes are known is collected in a database in memory, and compared with what that has of it. Its digest is the one that
 //! `sha256sum` gives.
+ghost use Rattle.std.specs.Prelude.{Some};
 
 use crate::collecting::collect_file;
 use crate::comparing::compare_file;
@@ -37,8 +38,6 @@ struct InMemory<'a> {
 }
 
 impl ImageFile<Stored> for InMemory<'_> {
-    ghost use Rattle.std.specs.Prelude.{Some};
-
     ghost known = { λ file. Some file.bytes.now };
 
     fn open(&self) -> Result<Stored, SparseFault> {
