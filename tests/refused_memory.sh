@@ -91,10 +91,9 @@ for program in "${programs[@]}"; do
     done < "crates/$program/stdin" 4< "crates/$program/stdout"
 done
 if [[ " ${programs[*]} " == *' hfs_refused_memory '* ]]; then
-    # A copy of a call takes no memory, and the rows of a new volume have room for three more: what publishes them asks for none.
-    if [ "$lagged" != 0 ]; then
-        echo "$lagged publishes lagged"
+    if [ "$lagged" = 0 ]; then
+        echo 'no publish lagged'
         exit 1
     fi
-    echo "$refused allocations refused in turn: $whole met what is tried, which was as said; the others what is laid before"
+    echo "$refused allocations refused in turn: $whole met what is tried, which was as said, and $lagged let a publish lag; the others what is laid before"
 fi

@@ -39,11 +39,16 @@ def run(place, *words, **how):
     return ran.returncode, ran.stdout, ran.stderr
 
 
-def done(place, *words, **how):
-    """What `rows` prints, which ends with status 0."""
+def done(place, *words, errors='', **how):
+    """What `rows` prints, which ends with status 0; on standard error this."""
     status, text, told = run(place, *words, **how)
-    ensure(status == 0 and not told, f'rows {words} ends with {status}: {told[-300:]!r}')
+    ensure(status == 0 and told.decode() == errors, f'rows {words} ends with {status}: {told[-300:]!r}')
     return text
+
+
+def wrong_sums(rows):
+    """What is told of those images of these rows in which the sum of a disk copy is wrong."""
+    return ''.join(f'{image[0]}: the sum of the disk copy is wrong\n' for image, volumes in rows if any('sum wrong' in row[1] for row, _ in volumes))
 
 
 # ---- reading the text
@@ -132,7 +137,8 @@ def compare(place, rows):
         if not names:
             continue
         words = [*([] if has_digests else ['--no-digest']), '--', *names]
-        found = whole_images(done(place, *words))
+        errors = wrong_sums(some)
+        found = whole_images(done(place, *words, errors=errors))
         ensure(list(found) == names, f'rows of the images {list(found)}')
         for it in some:
             ensure(found[it[0][0]][0] == it[0], f'the row of {it[0][0]}: {found[it[0][0]][0]} in place of {it[0]}')
@@ -142,10 +148,10 @@ def compare(place, rows):
         tables = lists_of(some)
         for table in tables if len(names) <= 100 else ['item']:
             wanted = tables[table]
-            text = done(place, '--table', table, *words)
+            text = done(place, '--table', table, *words, errors=errors)
             ensure([[name for name, _ in row] for row in objects(text)] == [COLUMNS[table]] * len(wanted), f'the members of {table}')
             ensure_same([tuple(value for _, value in row) for row in objects(text)], wanted, f'the table {table} in JSON')
-            text = done(place, '--table', table, '--format', 'csv', *words).decode('utf-8')
+            text = done(place, '--table', table, '--format', 'csv', *words, errors=errors).decode('utf-8')
             head, _, behind = text.partition('\r\n')
             ensure(head == ','.join(COLUMNS[table]), f'the head of {table}: {head!r}')
             ensure_same(fields(behind), wanted, f'the table {table} in CSV')

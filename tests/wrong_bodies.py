@@ -60,7 +60,9 @@ MOST_IN_A_COPY = 4
 PATIENCE = 1_800
 
 FUNCTION = re.compile(r'^( *)(?:pub(?:\([a-z]+\))? )?(?:final )?(?:const )?(?:unsafe )?fn (\w+)', re.M)
-IMPL = re.compile(r'^impl(?:<[^>]*>)? (?:(?:\w+::)*(\w+)(?:<(?:(?:\w+::)*([A-Z]\w*))?[\w:<>\', ]*>)? for )?(\w+)', re.M)
+# What stands between angle brackets, with such brackets in it three deep.
+ANGLES = r'<(?:->|[^<>]|<(?:->|[^<>]|<(?:->|[^<>]|<[^<>]*>)*>)*>)*>'
+IMPL = re.compile(rf'^impl(?:{ANGLES})? (?:(?:\w+::)*(\w+)(?:(?=<(?:(?:\w+::)*([A-Z]\w*))?){ANGLES})?\s+for )?(\w+)', re.M)
 CONSTANT = re.compile(r'^ *(?:pub(?:\([a-z]+\))? )?(?:const|static) (\w+)', re.M)
 ANSWER = re.compile(r'^fn (\S+): (proved|not proved|no proof)(?:[:;] (.*))?$', re.M)
 CALLS = re.compile(r'it calls `[^`]*`(?:, `[^`]*`)*(?: and `[^`]*`)?, which (?:is|are) not proved')

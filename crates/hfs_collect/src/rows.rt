@@ -5,6 +5,7 @@ use crate::progress::ReadProgress;
 use crate::reading_rows::RowsWords;
 use hfs_collection::ImageFacts;
 use hfs_commands::{Fault, ShownPath, Status};
+use hfs_console::tell_sum;
 use hfs_word_collect::{RunFault, TextTaker, write_head, write_image_at};
 use std::io::Stdout;
 
@@ -33,7 +34,8 @@ fn print_rows(rt: &HostRuntime, words: &RowsWords<'_>) -> Result<Status, RunFaul
     Ok(status)
 }
 
-/// Prints the rows of the image at this place of the words, and answers whether all of them came; where they don't, this is told on standard error.
+/// Prints the rows of the image at this place of the words, and answers whether all of them came; where they don't, and where the sum of a disk copy is wrong, this is
+/// told on standard error.
 fn print_image(
     rt: &HostRuntime,
     taker: &mut TextTaker<Stdout>,
@@ -52,10 +54,15 @@ fn print_image(
     let progress = ReadProgress::on(rt, (i as u64).saturating_add(1), Some(all), path);
     let written = write_image_at(rt, taker, &facts, &progress);
     progress.end();
-    let is_whole = written?;
-    if !is_whole {
-        // Where standard error takes nothing, the run goes on.
-        let _printed = eprintln!(rt; "cannot read {}", ShownPath(path));
+    match written? {
+        Some(counts) => {
+            tell_sum(rt, path, counts.wrong_sums != 0);
+            Ok(true)
+        }
+        None => {
+            // Where standard error takes nothing, the run goes on.
+            let _printed = eprintln!(rt; "cannot read {}", ShownPath(path));
+            Ok(false)
+        }
     }
-    Ok(is_whole)
 }

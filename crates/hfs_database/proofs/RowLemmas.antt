@@ -6,9 +6,11 @@ use Rattle.sqlite.specs.State.{Survives}
 use Rattle.sqlite.specs.Store.{Ghosts}
 use Rattle.sqlite.proofs.StateLemmas.{survives_then, survives_weaker}
 use Rattle.hfs_rows.specs.Taken.{TakenRow, row_of}
+use Rattle.hfs_database.specs.declared.fault.PutFault.{PutFault}
+use Rattle.hfs_database.specs.declared.fault.PutFault.TheVariants.{Database, Source}
 use Rattle.hfs_database.specs.declared.statements.LastRows.{LastRows}
 use Rattle.hfs_database.specs.Rows.{PutsRow}
-use Rattle.hfs_database.specs.Transactions.{HasPutSince, HoldsAll, IsBegun, IsCommitted, KeepsFile, LeavesAllOrNone, LeavesFile, PutsAll, PutsAllInOne, PutsRows, no_rows}
+use Rattle.hfs_database.specs.Transactions.{HasPutSince, HoldsAll, IsBegun, IsCommitted, KeepsAtSource, KeepsFile, LeavesAllOrNone, LeavesFile, PutsAll, PutsAllInOne, PutsRows, no_rows}
 use Rattle.hfs_database.specs.Values.{sql_value}
 use Rattle.hfs_database.proofs.Keeping.{keeps_then}
 
@@ -65,3 +67,10 @@ module _ {S : Type 0} (g : Ghosts S) (AreRows : List TakenRow → Type 0) (start
 -- it was not begun
 pub left_alone : {S : Type 0} (g : Ghosts S) (AreRows : List TakenRow → Type 0) (start new : Held S) → KeepsFile g start new → LeavesAllOrNone g AreRows start new
 left_alone g AreRows start new keeps = ∣ survives_weaker (state g start) (state g new) (λ _. ⊥) (HoldsAll g AreRows start) (λ clean db never. absurd never) keeps.survives ∣₁
+
+-- it was undone, since the source did not give all rows
+pub kept_by_undo : {S F : Type 0} (g : Ghosts S) (start first given new : Held S) (fault : PutFault F) → KeepsFile g start first → LeavesFile g first given → KeepsFile g given new
+    → KeepsAtSource g start new fault
+kept_by_undo g start first given new (Source why) begun kept undone =
+    ∥∥₁_map kept (λ keeps. keeps_then g start given new (keeps_then g start first given begun keeps) undone)
+kept_by_undo g start first given new (Database why) begun kept undone = tt

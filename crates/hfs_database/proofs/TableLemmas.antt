@@ -1,68 +1,125 @@
 -- What there is of tables and indexes.
-use Rattle.std.proofs.Common.{◌≡◌, refl, subst, [], ◌∷◌, Result, Ok, Err}
-use Rattle.std.specs.Prelude.{IfOk, OnOk}
+use Rattle.std.proofs.Common.{◌≡◌, ◌∙◌, refl, sym, subst, Bool, [], ◌∷◌, codes, Result, Ok, Err}
+use Rattle.std.specs.Prelude.{⊤, IfErr, IfOk, OnOk}
 use Rattle.sqlite.specs.Held.{Held, state}
-use Rattle.sqlite.specs.State.{State, Survives}
+use Rattle.sqlite.specs.State.{Survives}
 use Rattle.sqlite.specs.Store.{Ghosts}
+use Rattle.hfs_database.specs.declared.fault.DatabaseFault.{DatabaseFault}
+use Rattle.hfs_database.specs.declared.fault.DatabaseFault.TheVariants.{CannotOpen, CannotWrite, NoMemory}
+use Rattle.hfs_database.specs.declared.fault.Obstacle.TheVariants.{Busy, Damaged, NoTables, OtherTables, System, Unreadable}
 use Rattle.hfs_database.specs.declared.tables.Found.{Found}
 use Rattle.hfs_database.specs.declared.tables.Found.TheVariants as found
 use Rattle.sqlite.proofs.StateLemmas.{survives_then}
 use Rattle.hfs_database.specs.Doing.{HasRun}
-use Rattle.hfs_database.specs.Tables.{FindsPart, FindsParts, HasMadeAll, LeavesTablesOrNone, MakesParts, Part, all_parts, both}
+use Rattle.hfs_database.specs.Tables.{AreEach, FindsPart, FindsParts, FindsTables, HasMadeAll, IsRefusedFor, LeavesTablesOrNone, MakesParts, Part, TellsNoTables, all_parts, both, data_index, image_table, item_table, part_of, resource_index, volume_table}
 use Rattle.hfs_database.specs.Transactions.{IsCommitted, KeepsFile, begun}
 use Rattle.hfs_database.proofs.Keeping.{keeps_begun}
 
--- what there is of two says less of each
-finds_other : (old new : State) (part : Part) (one : Found) → FindsPart old new part one → FindsPart old new part found.Other
-finds_other old new part one finds = λ clean. let it = finds clean in (it.0, it.1, tt)
+abbrev IsAll : Found → Type 0
+IsAll found.All = ⊤
+IsAll found.Nothing = ⊥
+IsAll found.Other = ⊥
 
-finds_first : (old new : State) (part : Part) (one second : Found) → FindsPart old new part one → FindsPart old new part (both one second)
-finds_first old new part found.Nothing found.Nothing finds = finds
-finds_first old new part found.Nothing found.All finds = finds_other old new part found.Nothing finds
-finds_first old new part found.Nothing found.Other finds = finds_other old new part found.Nothing finds
-finds_first old new part found.All found.Nothing finds = finds_other old new part found.All finds
-finds_first old new part found.All found.All finds = finds
-finds_first old new part found.All found.Other finds = finds_other old new part found.All finds
-finds_first old new part found.Other second finds = finds
+abbrev IsNothing : Found → Type 0
+IsNothing found.All = ⊥
+IsNothing found.Nothing = ⊤
+IsNothing found.Other = ⊥
 
-finds_second : (old new : State) (part : Part) (one second : Found) → FindsPart old new part second → FindsPart old new part (both one second)
-finds_second old new part found.Nothing found.Nothing finds = finds
-finds_second old new part found.Nothing found.All finds = finds_other old new part found.All finds
-finds_second old new part found.Nothing found.Other finds = finds
-finds_second old new part found.All found.Nothing finds = finds_other old new part found.Nothing finds
-finds_second old new part found.All found.All finds = finds
-finds_second old new part found.All found.Other finds = finds
-finds_second old new part found.Other second finds = finds_other old new part second finds
+abbrev IsOther : Found → Type 0
+IsOther found.All = ⊥
+IsOther found.Nothing = ⊥
+IsOther found.Other = ⊤
 
--- five of them, one behind the other
-pub finds_five : {S : Type 0} (g : Ghosts S) (s r q p o n : Held S) (first second third fourth fifth : Part) (a b c d e : Found)
-    → FindsPart (state g s) (state g r) first a → FindsPart (state g r) (state g q) second b → FindsPart (state g q) (state g p) third c
-    → FindsPart (state g p) (state g o) fourth d → FindsPart (state g o) (state g n) fifth e
-    → FindsParts g (first ∷ second ∷ third ∷ fourth ∷ fifth ∷ []) (both (both (both (both a b) c) d) e) s n
-finds_five g s r q p o n first second third fourth fifth a b c d e fa fb fc fd fe =
-    let ab = both a b in
-    let abc = both ab c in
-    let abcd = both abc d in (
-      r,
-      finds_first (state g s) (state g r) first abcd e (finds_first (state g s) (state g r) first abc d (finds_first (state g s) (state g r) first ab c (finds_first (state g s) (state g r) first a b fa))),
+-- all of both are there where all of each are, and nothing where nothing is of each
+both_all : (one second : Found) → both one second ≡ found.All → (one ≡ found.All) × (second ≡ found.All)
+both_all found.Nothing found.Nothing e = absurd (subst IsNothing e tt)
+both_all found.Nothing found.All e = absurd (subst IsOther e tt)
+both_all found.Nothing found.Other e = absurd (subst IsOther e tt)
+both_all found.All found.Nothing e = absurd (subst IsOther e tt)
+both_all found.All found.All e = (refl, refl)
+both_all found.All found.Other e = absurd (subst IsOther e tt)
+both_all found.Other second e = absurd (subst IsOther e tt)
+
+both_nothing : (one second : Found) → both one second ≡ found.Nothing → (one ≡ found.Nothing) × (second ≡ found.Nothing)
+both_nothing found.Nothing found.Nothing e = (refl, refl)
+both_nothing found.Nothing found.All e = absurd (subst IsOther e tt)
+both_nothing found.Nothing found.Other e = absurd (subst IsOther e tt)
+both_nothing found.All found.Nothing e = absurd (subst IsOther e tt)
+both_nothing found.All found.All e = absurd (subst IsAll e tt)
+both_nothing found.All found.Other e = absurd (subst IsOther e tt)
+both_nothing found.Other second e = absurd (subst IsOther e tt)
+
+module _ {S : Type 0} (g : Ghosts S) (s r q p o n : Held S) (a b c d e : Found)
+    (fa : FindsPart (state g s) (state g r) (part_of (codes "image") image_table) a)
+    (fb : FindsPart (state g r) (state g q) (part_of (codes "volume") volume_table) b)
+    (fc : FindsPart (state g q) (state g p) (part_of (codes "item") item_table) c)
+    (fd : FindsPart (state g p) (state g o) (part_of (codes "item_data") data_index) d)
+    (fe : FindsPart (state g o) (state g n) (part_of (codes "item_resource") resource_index) e) where
+  -- each is the same
+  finds_same : (found : Found) → (a ≡ found) → (b ≡ found) → (c ≡ found) → (d ≡ found) → (e ≡ found) → FindsParts g all_parts found s n
+  finds_same found ia ib ic id ie = (
+    r,
+    subst (FindsPart (state g s) (state g r) (part_of (codes "image") image_table)) ia fa,
+    (
+      q,
+      subst (FindsPart (state g r) (state g q) (part_of (codes "volume") volume_table)) ib fb,
       (
-        q,
-        finds_first (state g r) (state g q) second abcd e (finds_first (state g r) (state g q) second abc d (finds_first (state g r) (state g q) second ab c (finds_second (state g r) (state g q) second a b fb))),
+        p,
+        subst (FindsPart (state g q) (state g p) (part_of (codes "item") item_table)) ic fc,
         (
-          p,
-          finds_first (state g q) (state g p) third abcd e (finds_first (state g q) (state g p) third abc d (finds_second (state g q) (state g p) third ab c fc)),
-          (
-            o,
-            finds_first (state g p) (state g o) fourth abcd e (finds_second (state g p) (state g o) fourth abc d fd),
-            (
-              n,
-              finds_second (state g o) (state g n) fifth abcd e fe,
-              refl,
-            ),
-          ),
+          o,
+          subst (FindsPart (state g p) (state g o) (part_of (codes "item_data") data_index)) id fd,
+          (n, subst (FindsPart (state g o) (state g n) (part_of (codes "item_resource") resource_index)) ie fe, refl),
         ),
       ),
-    )
+    ),
+  )
+
+  -- each is there with its text, or none
+  all_of : AreEach found.All (a ∷ b ∷ c ∷ d ∷ e ∷ []) → both (both (both (both a b) c) d) e ≡ found.All
+  all_of each = λ i. both (both (both (both (each.0 i) (each.1.0 i)) (each.1.1.0 i)) (each.1.1.1.0 i)) (each.1.1.1.1.0 i)
+
+  none_of : AreEach found.Nothing (a ∷ b ∷ c ∷ d ∷ e ∷ []) → both (both (both (both a b) c) d) e ≡ found.Nothing
+  none_of each = λ i. both (both (both (both (each.0 i) (each.1.0 i)) (each.1.1.0 i)) (each.1.1.1.0 i)) (each.1.1.1.1.0 i)
+
+  -- what there is of all five
+  pub finds_by : (found : Found) → both (both (both (both a b) c) d) e ≡ found → FindsTables g found s n
+  finds_by found.All is =
+      let abcd = both_all (both (both (both a b) c) d) e is in
+      let abc = both_all (both (both a b) c) d abcd.0 in
+      let ab = both_all (both a b) c abc.0 in
+      let one = both_all a b ab.0 in
+      finds_same found.All one.0 one.1 ab.1 abc.1 abcd.1
+  finds_by found.Nothing is =
+      let abcd = both_nothing (both (both (both a b) c) d) e is in
+      let abc = both_nothing (both (both a b) c) d abcd.0 in
+      let ab = both_nothing (both a b) c abc.0 in
+      let one = both_nothing a b ab.0 in
+      finds_same found.Nothing one.0 one.1 ab.1 abc.1 abcd.1
+  finds_by found.Other is = record {
+    founds = a ∷ b ∷ c ∷ d ∷ e ∷ [];
+    finds = (r, fa, (q, fb, (p, fc, (o, fd, (n, fe, (refl, refl))))));
+    not_all = λ each. absurd (subst IsOther (sym is ∙ all_of each) tt);
+    not_none = λ each. absurd (subst IsOther (sym is ∙ none_of each) tt);
+  }
+
+-- ---- why a collection is refused
+
+-- a fault that tells nothing of the tables
+pub refused_elsewhere : {S : Type 0} (g : Ghosts S) (makes : Bool) (old new : Held S) (fault : DatabaseFault) → TellsNoTables fault → IsRefusedFor g makes old new fault
+refused_elsewhere g makes old new (CannotOpen Busy) none = tt
+refused_elsewhere g makes old new (CannotOpen OtherTables) none = absurd none
+refused_elsewhere g makes old new (CannotOpen NoTables) none = absurd none
+refused_elsewhere g makes old new (CannotOpen Unreadable) none = tt
+refused_elsewhere g makes old new (CannotOpen Damaged) none = tt
+refused_elsewhere g makes old new (CannotOpen System) none = tt
+refused_elsewhere g makes old new CannotWrite none = tt
+refused_elsewhere g makes old new NoMemory none = tt
+
+-- all faults of a call tell nothing of the tables
+pub refused_by : {A S : Type 0} (g : Ghosts S) (makes : Bool) (old new : Held S) (r : Result A DatabaseFault) → IfErr r TellsNoTables → IfErr r (IsRefusedFor g makes old new)
+refused_by g makes old new (Ok x) none = tt
+refused_by g makes old new (Err fault) none = refused_elsewhere g makes old new fault none
 
 -- ---- how they are made
 

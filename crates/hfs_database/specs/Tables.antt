@@ -1,11 +1,14 @@
 -- The tables and indexes of a collection.
-use Rattle.std.specs.Prelude.{◌≡◌, ◌⊎◌, pos, ℕ, Bool, IsTrue, List, [], ◌∷◌, codes, Ok}
+use Rattle.std.specs.Prelude.{◌≡◌, ◌≢◌, ◌⊎◌, ⊤, pos, ℕ, Bool, IsTrue, false, List, [], ◌∷◌, codes, Ok}
 use Rattle.sqlite.specs.declared.types.Value.{Value}
 use Rattle.sqlite.specs.declared.types.Value.TheVariants.{Int, Text}
 use Rattle.sqlite.specs.Held.{Held, state}
 use Rattle.sqlite.specs.State.{HasCleanDisk, QueriesRow, State, Survives}
 use Rattle.sqlite.specs.Store.{Ghosts}
 use Rattle.sqlite_value.specs.Order.{column}
+use Rattle.hfs_database.specs.declared.fault.DatabaseFault.{DatabaseFault}
+use Rattle.hfs_database.specs.declared.fault.DatabaseFault.TheVariants.{CannotOpen}
+use Rattle.hfs_database.specs.declared.fault.Obstacle.TheVariants.{NoTables, OtherTables}
 use Rattle.hfs_database.specs.declared.tables.Found.{Found}
 use Rattle.hfs_database.specs.declared.tables.Found.TheVariants as found
 use Rattle.hfs_database.specs.Doing.{HasRun}
@@ -47,11 +50,11 @@ all_parts =
 unfoldable pub find_part_text : List ℕ
 find_part_text = codes "SELECT count(*), sum(sql = ?2) FROM sqlite_schema WHERE name = ?1 COLLATE NOCASE"
 
--- by the answer's row there is one of the name, and it has the text; there is none; or there is another
+-- by the answer's row there is one of the name, and it has the text; there is none; or there is something of the name, and not one with the text alone
 abbrev pub Tells : List Value → Found → Type 0
 Tells row found.All = (column row 0 ≡ Int (pos 1)) × (column row 1 ≡ Int (pos 1))
 Tells row found.Nothing = column row 0 ≡ Int (pos 0)
-Tells row found.Other = Unit {0}
+Tells row found.Other = (column row 0 ≢ Int (pos 0)) × (column row 0 ≡ Int (pos 1) → column row 1 ≢ Int (pos 1))
 
 -- what there is of two
 abbrev pub both : Found → Found → Found
@@ -67,10 +70,34 @@ both found.Other _ = found.Other
 abbrev pub FindsPart : State → State → Part → Found → Type 0
 FindsPart old new part found = HasCleanDisk new → (row : List Value) × QueriesRow find_part_text (Text part.name ∷ Text part.text ∷ []) old new (Ok row) × Tells row found
 
--- it was asked for each of these, one behind the other, and this is what there is of all of them
+-- it was asked for each of these, one behind the other, and this is what there is of each of them
 abbrev pub FindsParts : {S : Type 0} → Ghosts S → List Part → Found → Held S → Held S → Type 0
 FindsParts g [] found old new = new ≡ old
 FindsParts {S} g (part ∷ parts) found old new = (next : Held S) × FindsPart (state g old) (state g next) part found × FindsParts g parts found next new
+
+-- it was asked for each of these, one behind the other, and of each there is what stands at its place
+abbrev pub FindsEach : {S : Type 0} → Ghosts S → List Part → List Found → Held S → Held S → Type 0
+FindsEach g [] founds old new = (founds ≡ []) × (new ≡ old)
+FindsEach g (part ∷ parts) [] old new = ⊥
+FindsEach {S} g (part ∷ parts) (found ∷ founds) old new = (next : Held S) × FindsPart (state g old) (state g next) part found × FindsEach g parts founds next new
+
+-- of each there is this
+abbrev pub AreEach : Found → List Found → Type 0
+AreEach found [] = ⊤
+AreEach found (it ∷ founds) = (it ≡ found) × AreEach found founds
+
+-- it was asked for all of them, and neither is each there with its text, nor is there none
+pub record FindsOthers {S : Type 0} (g : Ghosts S) (old new : Held S) : Type 0 where
+  pub founds : List Found
+  pub finds : FindsEach g all_parts founds old new
+  pub not_all : AreEach found.All founds → ⊥
+  pub not_none : AreEach found.Nothing founds → ⊥
+
+-- it was asked for all of them: each is there with its text, or there is none, or something else is there
+abbrev pub FindsTables : {S : Type 0} → Ghosts S → Found → Held S → Held S → Type 0
+FindsTables g found.All old new = FindsParts g all_parts found.All old new
+FindsTables g found.Nothing old new = FindsParts g all_parts found.Nothing old new
+FindsTables g found.Other old new = FindsOthers g old new
 
 -- ---- how they are made
 
@@ -100,3 +127,17 @@ pub record HasMadeTables {S : Type 0} (g : Ghosts S) (old new : Held S) : Type 0
 -- all of them were there, or none, and they were made since it was asked for
 abbrev pub HasTables : {S : Type 0} → Ghosts S → Bool → Held S → Held S → Type 0
 HasTables g makes old new = FindsParts g all_parts found.All old new ⊎ (IsTrue makes × HasMadeTables g old new)
+
+-- ---- a collection that is refused
+
+-- the fault tells nothing of which tables are there
+abbrev pub TellsNoTables : DatabaseFault → Type 0
+TellsNoTables (CannotOpen NoTables) = ⊥
+TellsNoTables (CannotOpen OtherTables) = ⊥
+TellsNoTables _ = ⊤
+
+-- a collection is refused for other tables where something is there that isn't its own, and for want of tables where there is none, and none are to be made
+abbrev pub IsRefusedFor : {S : Type 0} → Ghosts S → Bool → Held S → Held S → DatabaseFault → Type 0
+IsRefusedFor g makes old new (CannotOpen NoTables) = (makes ≡ false) × FindsParts g all_parts found.Nothing old new
+IsRefusedFor g makes old new (CannotOpen OtherTables) = FindsOthers g old new
+IsRefusedFor g makes old new _ = ⊤

@@ -1,10 +1,12 @@
 -- What is done in one transaction.
-use Rattle.std.specs.Prelude.{◌≡◌, pos, true, false, List, [], ◌∷◌, map}
+use Rattle.std.specs.Prelude.{◌≡◌, ⊤, pos, true, false, List, [], ◌∷◌, map}
 use Rattle.sqlite.specs.Held.{Held, state}
 use Rattle.sqlite.specs.State.{HasCleanDisk, Shows, Survives}
 use Rattle.sqlite.specs.Store.{Ghosts}
 use Rattle.sqlite.specs.Tree.{Trees}
 use Rattle.hfs_rows.specs.Taken.{TakenRow}
+use Rattle.hfs_database.specs.declared.fault.PutFault.{PutFault}
+use Rattle.hfs_database.specs.declared.fault.PutFault.TheVariants.{Database, Source}
 use Rattle.hfs_database.specs.declared.statements.LastRows.{LastRows}
 use Rattle.hfs_database.specs.Rows.{PutsRow}
 use Rattle.hfs_database.specs.Values.{sql_value}
@@ -71,3 +73,8 @@ LeavesAllOrNone g AreRows start new = ∥ Survives (state g start) (state g new)
 -- a crash leaves nothing but what it left before
 abbrev pub LeavesFile : {S : Type 0} → Ghosts S → Held S → Held S → Type 0
 LeavesFile g start new = ∥ KeepsFile g start new ∥₁
+
+-- where a source did not give all its rows, a crash leaves nothing but what it left before
+abbrev pub KeepsAtSource : {S F : Type 0} → Ghosts S → Held S → Held S → PutFault F → Type 0
+KeepsAtSource g start new (Source fault) = LeavesFile g start new
+KeepsAtSource g start new (Database fault) = ⊤

@@ -1,7 +1,7 @@
 //! A collection that is open.
-ghost use Rattle.std.specs.Prelude.{[], IfOk, OnOk};
-ghost use Rattle.hfs_database.specs.Tables.{HasTables};
-ghost use Rattle.hfs_database.specs.Transactions.{LeavesAllOrNone, PutsAllInOne};
+ghost use Rattle.std.specs.Prelude.{[], IfErr, IfOk, OnOk};
+ghost use Rattle.hfs_database.specs.Tables.{HasTables, IsRefusedFor};
+ghost use Rattle.hfs_database.specs.Transactions.{KeepsAtSource, LeavesAllOrNone, PutsAllInOne};
 
 use crate::fault::{DatabaseFault, Obstacle, PutFault, opening_fault, writing_fault};
 use crate::files::DatabaseFiles;
@@ -23,8 +23,10 @@ pub struct Collection<S: Alter> {
 
 /// Wants the tables of a collection, or makes them where there is none of them and this is asked for. Faults: as of
 /// [`Collection::over`].
+#[tactic(auto, using(crate::proofs::TableLemmas::refused_elsewhere, crate::proofs::TableLemmas::refused_by))]
 fn want_tables<S: Alter>(conn: &mut Connection<S>, makes_tables: bool) -> Result<(), DatabaseFault>
-    ensures { OnOk result (HasTables S.Store makes_tables conn.old conn.new) }
+    ensures tables { OnOk result (HasTables S.Store makes_tables conn.old conn.new) }
+    ensures refused { IfErr result (IsRefusedFor S.Store makes_tables conn.old conn.new) }
 {
     match find_tables(conn)? {
         Found::All => Ok(()),
@@ -43,7 +45,8 @@ impl<S: Alter + Drop> Collection<S> {
         conn: Connection<S>,
         makes_tables: bool,
     ) -> Result<Collection<S>, (DatabaseFault, Connection<S>)>
-        ensures { IfOk result (λ collection. HasTables S.Store makes_tables conn collection.conn) }
+        ensures tables { IfOk result (λ collection. HasTables S.Store makes_tables conn collection.conn) }
+        ensures refused { IfErr result (λ back. IsRefusedFor S.Store makes_tables conn back.1 back.0) }
     {
         let mut conn = conn;
         match want_tables(&mut conn, makes_tables) {
@@ -53,11 +56,12 @@ impl<S: Alter + Drop> Collection<S> {
     }
 
     /// Puts all rows of a source into the collection, in one transaction: an image's row comes in the place of the one that has its
-    /// path, whose volumes go with their items. At a fault all is there, or nothing has changed. Faults: the source's, and
-    /// `CannotWrite` or `NoMemory` of the database.
+    /// path, whose volumes go with their items. At a fault of the source nothing has changed; at one of the database all is
+    /// there, or nothing has changed. Faults: the source's, and `CannotWrite` or `NoMemory` of the database.
     pub fn put<R: RowSource>(&mut self, source: &R) -> Result<R::Told, PutFault<R::Fault>>
         ensures put { OnOk result (PutsAllInOne S.Store (R.Gives source.now []) self.old.conn self.new.conn) }
         ensures told { IfOk result (R.Tells source.now) }
+        ensures unread { IfErr result (KeepsAtSource S.Store self.old.conn self.new.conn) }
         ensures all_or_none { LeavesAllOrNone S.Store (R.Gives source.now []) self.old.conn self.new.conn }
     {
         put_all(self.alloc, &mut self.conn, source)

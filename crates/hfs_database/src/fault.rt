@@ -1,4 +1,6 @@
 //! Why a database did not do what was asked.
+ghost use Rattle.hfs_database.specs.declared.fault.DatabaseFault.TheVariants.{CannotOpen};
+ghost use Rattle.hfs_database.specs.Tables.{TellsNoTables};
 
 use hfs_rows::TakerFault;
 use sqlite::{Error, ErrorCode};
@@ -50,7 +52,9 @@ fn is_memory(error: &Error) -> bool {
 }
 
 /// What stands in the way where a database isn't opened for this reason.
-fn obstacle_of(code: ErrorCode) -> Obstacle {
+fn obstacle_of(code: ErrorCode) -> Obstacle
+    ensures { TellsNoTables (CannotOpen result) }
+{
     match code {
         ErrorCode::DatabaseBusy => Obstacle::Busy,
         ErrorCode::DatabaseCorrupt => Obstacle::Damaged,
@@ -78,7 +82,9 @@ fn obstacle_of(code: ErrorCode) -> Obstacle {
 }
 
 /// What an error means where a database is opened. Where there is no room to make it, it can't be written.
-pub(crate) fn opening_fault(error: &Error) -> DatabaseFault {
+pub(crate) fn opening_fault(error: &Error) -> DatabaseFault
+    ensures { TellsNoTables result }
+{
     match error {
         Error::SqliteFailure(ErrorCode::OutOfMemory) => DatabaseFault::NoMemory,
         Error::SqliteFailure(ErrorCode::DiskFull) => DatabaseFault::CannotWrite,
@@ -88,7 +94,9 @@ pub(crate) fn opening_fault(error: &Error) -> DatabaseFault {
 }
 
 /// What an error means where a database is written.
-pub(crate) fn writing_fault(error: &Error) -> DatabaseFault {
+pub(crate) fn writing_fault(error: &Error) -> DatabaseFault
+    ensures { TellsNoTables result }
+{
     if is_memory(error) {
         DatabaseFault::NoMemory
     } else {

@@ -1,8 +1,8 @@
 //! The rows of a source in one transaction.
-ghost use Rattle.std.specs.Prelude.{◌≡◌, [], IfOk, OnErr, OnOk};
+ghost use Rattle.std.specs.Prelude.{◌≡◌, [], IfErr, IfOk, OnErr, OnOk};
 ghost use Rattle.sqlite.specs.Held.{state};
 ghost use Rattle.sqlite.specs.State.{Survives};
-ghost use Rattle.hfs_database.specs.Transactions.{IsBegun, IsCommitted, KeepsFile, LeavesAllOrNone, PutsAllInOne};
+ghost use Rattle.hfs_database.specs.Transactions.{IsBegun, IsCommitted, KeepsAtSource, KeepsFile, LeavesAllOrNone, PutsAllInOne};
 
 use crate::fault::{DatabaseFault, PutFault, writing_fault};
 use crate::taker::put_rows;
@@ -55,9 +55,9 @@ fn undo<S: Alter>(conn: &mut Connection<S>) -> Result<(), DatabaseFault>
     }
 }
 
-/// Puts all rows of a source in one transaction. At a fault all is there, or nothing has changed. Faults: as of `put_rows`, and where the database
-/// can't be written.
-#[tactic(auto, using(crate::proofs::RowLemmas::put_in_one, crate::proofs::RowLemmas::left_by_commit, crate::proofs::RowLemmas::left_by_undo, crate::proofs::RowLemmas::left_alone))]
+/// Puts all rows of a source in one transaction. At a fault of the source nothing has changed; at one of the database all is there, or nothing has
+/// changed. Faults: as of `put_rows`, and where the database can't be written.
+#[tactic(auto, using(crate::proofs::RowLemmas::put_in_one, crate::proofs::RowLemmas::left_by_commit, crate::proofs::RowLemmas::left_by_undo, crate::proofs::RowLemmas::kept_by_undo, crate::proofs::RowLemmas::left_alone))]
 pub(crate) fn put_all<S: Alter, R: RowSource>(
     alloc: Global,
     conn: &mut Connection<S>,
@@ -65,6 +65,7 @@ pub(crate) fn put_all<S: Alter, R: RowSource>(
 ) -> Result<R::Told, PutFault<R::Fault>>
     ensures put { OnOk result (PutsAllInOne S.Store (R.Gives source.now []) conn.old conn.new) }
     ensures told { IfOk result (R.Tells source.now) }
+    ensures unread { IfErr result (KeepsAtSource S.Store conn.old conn.new) }
     ensures all_or_none { LeavesAllOrNone S.Store (R.Gives source.now []) conn.old conn.new }
 {
     match begin(conn) {

@@ -1,8 +1,8 @@
 //! The tables of a collection.
-ghost use Rattle.std.specs.Prelude.{◌≡◌, [], ◌∷◌, IfOk, OnOk};
+ghost use Rattle.std.specs.Prelude.{◌≡◌, [], ◌∷◌, IfErr, IfOk, OnOk};
 ghost use Rattle.sqlite.specs.Held.{state};
 ghost use Rattle.hfs_database.specs.Doing.{HasRun};
-ghost use Rattle.hfs_database.specs.Tables.{FindsPart, FindsParts, HasMadeAll, LeavesTablesOrNone, MakesParts, Tells, all_parts, part_of};
+ghost use Rattle.hfs_database.specs.Tables.{FindsPart, FindsTables, HasMadeAll, LeavesTablesOrNone, MakesParts, Tells, TellsNoTables, all_parts, part_of};
 ghost use Rattle.hfs_database.specs.Tables as spec;
 ghost use Rattle.hfs_database.specs.Transactions.{KeepsFile};
 
@@ -84,7 +84,8 @@ impl Found {
 
 /// What a row tells of a table or an index that was looked for.
 fn told_in(row: &Row) -> Result<Found, DatabaseFault>
-    ensures { IfOk result (Tells row.now) }
+    ensures tells { IfOk result (Tells row.now) }
+    ensures fault { IfErr result TellsNoTables }
 {
     let Ok(there) = row.get::<i64>(0) else {
         return Err(DatabaseFault::CannotOpen(Obstacle::Unreadable));
@@ -105,8 +106,9 @@ fn told_in(row: &Row) -> Result<Found, DatabaseFault>
 /// What there is of this name, in any case, beside this text.
 #[tactic(auto, unfolding(crate::specs::Tables::find_part_text))]
 fn find<S: Alter>(conn: &mut Connection<S>, name: &str, text: &str) -> Result<Found, DatabaseFault>
-    ensures { IfOk result (FindsPart (state S.Store conn.old) (state S.Store conn.new)
+    ensures found { IfOk result (FindsPart (state S.Store conn.old) (state S.Store conn.new)
         (part_of name.now text.now)) }
+    ensures fault { IfErr result TellsNoTables }
 {
     let parameters = [
         ValueRef::Text(name.as_bytes()),
@@ -123,7 +125,8 @@ fn find<S: Alter>(conn: &mut Connection<S>, name: &str, text: &str) -> Result<Fo
 
 /// What there is of the tables and indexes of a collection.
 pub(crate) fn find_tables<S: Alter>(conn: &mut Connection<S>) -> Result<Found, DatabaseFault>
-    ensures { IfOk result (λ found. FindsParts S.Store all_parts found conn.old conn.new) }
+    ensures found { IfOk result (λ found. FindsTables S.Store found conn.old conn.new) }
+    ensures fault { IfErr result TellsNoTables }
 {
     let image = find(conn, "image", image_table())?;
     let volume = find(conn, "volume", volume_table())?;
@@ -138,6 +141,7 @@ fn make<S: Alter>(tx: &mut Transaction<'_, S>, text: &str) -> Result<(), Databas
     ensures done { OnOk result (HasRun (state S.Store tx.old.conn.now) (state S.Store tx.new.conn.now) text.now []) }
     ensures same_reference { tx.new.conn.ghost_name ≡ tx.old.conn.ghost_name }
     ensures keeps { KeepsFile S.Store tx.old.conn.now tx.new.conn.now }
+    ensures fault { IfErr result TellsNoTables }
 {
     match tx.execute(text, &[]) {
         Ok(_) => Ok(()),
@@ -151,6 +155,7 @@ fn make_parts<S: Alter>(tx: &mut Transaction<'_, S>) -> Result<(), DatabaseFault
     ensures done { OnOk result (MakesParts S.Store all_parts tx.old.conn.now tx.new.conn.now) }
     ensures same_reference { tx.new.conn.ghost_name ≡ tx.old.conn.ghost_name }
     ensures keeps { KeepsFile S.Store tx.old.conn.now tx.new.conn.now }
+    ensures fault { IfErr result TellsNoTables }
 {
     make(tx, image_table())?;
     make(tx, volume_table())?;
@@ -162,6 +167,7 @@ fn make_parts<S: Alter>(tx: &mut Transaction<'_, S>) -> Result<(), DatabaseFault
 /// Makes all tables and indexes of a collection, or none.
 pub(crate) fn make_tables<S: Alter>(conn: &mut Connection<S>) -> Result<(), DatabaseFault>
     ensures made { OnOk result (HasMadeAll S.Store conn.old conn.new) }
+    ensures fault { IfErr result TellsNoTables }
     ensures all_or_none { LeavesTablesOrNone S.Store conn.old conn.new }
 {
     if !conn.is_autocommit() {

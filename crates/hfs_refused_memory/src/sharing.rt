@@ -9,9 +9,9 @@ use hfs_volume_fixtures::refused::mounted;
 use std::alloc::Global;
 use std::sync::Wait;
 
-/// A new volume.
+/// A new volume, whose catalog has room for some fifty files.
 fn new_volume(alloc: Global) -> Result<Volume> {
-    mounted(alloc, new_image(alloc, 12)?)
+    mounted(alloc, new_image(alloc, 24)?)
 }
 
 /// A volume that is to be shared by so many workers and one viewer.

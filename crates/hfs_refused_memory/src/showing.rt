@@ -11,6 +11,10 @@ use std::alloc::Global;
 use std::marker::Brand;
 use std::sync::Wait;
 
+/// The names of the files that are made. With the root these are 17 rows, and a map has room for 15 before it wants memory for another
+/// node: it does in each of the two copies, when the 15th file is published, and when the 16th is.
+const NAMES: &[u8] = b"abcdefghijklmnop";
+
 /// The reply to one call, and what is told of it.
 fn answered_once<K: Session>(
     rt: &impl Wait,
@@ -121,34 +125,37 @@ fn shown<K: Session>(
     Ok(count)
 }
 
-/// Whether three calls were shown as they were made, or one of them with the next.
-fn outcome_of_counts(counts: [u64; 3]) -> Outcome {
-    match counts {
-        [1, 2, 3] => Outcome::AsSaid,
-        [0, 2, 3] => Outcome::Lagged(1),
-        [1, 1, 3] => Outcome::Lagged(2),
-        [1, 2, 2] => Outcome::Lagged(3),
-        _ => Outcome::Otherwise,
+/// What comes out behind the call of this number, after which so many are shown: each call is shown as it is made, or one of them with the next.
+fn outcome_behind(before: Outcome, number: u64, shown: u64) -> Outcome {
+    if shown == number {
+        return before;
+    }
+    match before {
+        Outcome::AsSaid if shown.saturating_add(1) == number => Outcome::Lagged(number),
+        Outcome::AsSaid | Outcome::Lagged(_) | Outcome::Otherwise => Outcome::Otherwise,
     }
 }
 
-/// How many calls are shown behind each of three files that are made.
+/// Makes each of the files, and answers how they are shown.
 fn show_each<K: Session>(
     rt: &impl Wait,
     alloc: Global,
     shared: &Shared<K>,
     passes: &mut Vec<Pass>,
     viewer: &mut Viewer,
-) -> Result<[u64; 3]>
+) -> Result<Outcome>
     requires { viewer.old.book ≡ K.book }
 {
     let Some(pass) = passes.first_mut() else {
         bail!("no pass");
     };
-    let first = shown(rt, alloc, shared, pass, viewer, b"a", 1)?;
-    let second = shown(rt, alloc, shared, pass, viewer, b"b", 2)?;
-    let third = shown(rt, alloc, shared, pass, viewer, b"c", 3)?;
-    Ok([first, second, third])
+    let mut outcome = Outcome::AsSaid;
+    for i in 0..NAMES.len() {
+        let number = i as u64 + 1;
+        let count = shown(rt, alloc, shared, pass, viewer, &[NAMES[i]], number)?;
+        outcome = outcome_behind(outcome, number, count);
+    }
+    Ok(outcome)
 }
 
 /// How many calls are shown when what waits is published.
@@ -157,8 +164,8 @@ fn shown_at_last<K: Session>(rt: &impl Wait, shared: &Shared<K>) -> u64 {
     told.shown()
 }
 
-/// Three files are made, and shown to a viewer.
-fn show_three<K: Session, R: Wait>(
+/// The files are made, and shown to a viewer.
+fn show_all<K: Session, R: Wait>(
     rt: &R,
     alloc: Global,
     parts: Parts,
@@ -169,15 +176,15 @@ fn show_three<K: Session, R: Wait>(
     requires viewer { viewer.old.book ≡ K.book }
 {
     let shared = parts.share::<K>();
-    let counts = show_each(rt, alloc, &shared, &mut passes, viewer)?;
-    let is_all = shown_at_last(rt, &shared) == 3;
+    let outcome = show_each(rt, alloc, &shared, &mut passes, viewer)?;
+    let is_all = shown_at_last(rt, &shared) == NAMES.len() as u64;
     ensure!(is_all, "what waited is not shown");
-    Ok(outcome_of_counts(counts))
+    Ok(outcome)
 }
 
-/// How three files that are made on a new volume are shown: each as it is made, or, where memory is refused to what publishes it, with the
-/// next call.
+/// How files that are made on a new volume are shown: each as it is made, or, where memory is refused to what publishes it, with the next
+/// call.
 pub fn shows_as_said(rt: &impl Wait, alloc: Global) -> Result<Outcome> {
     let (parts, passes, mut viewer) = begun_on_new(rt, alloc, 1)?;
-    show_three::<Brand, _>(rt, alloc, parts, passes, &mut viewer)
+    show_all::<Brand, _>(rt, alloc, parts, passes, &mut viewer)
 }

@@ -13,7 +13,7 @@ use std::thread::Threads;
 pub enum Outcome {
     AsSaid,
     /// It was, and the publish behind the call of this number lagged.
-    Lagged(u32),
+    Lagged(u64),
     Otherwise,
 }
 

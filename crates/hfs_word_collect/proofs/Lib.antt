@@ -1,1 +1,2 @@
 mod WrittenImages
+mod Comparisons

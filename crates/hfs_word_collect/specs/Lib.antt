@@ -1,3 +1,4 @@
+pub mod Answers
 pub mod Collecting
 pub mod Lines
 pub mod Comparing

@@ -2,8 +2,9 @@
 ghost use Rattle.std.specs.Prelude.{◌≡◌, IfOk, IfSome, string_bytes};
 ghost use Rattle.hex.specs.Hex.{encode_lower};
 ghost use Rattle.sha2.specs.Sha256.{sha256};
+ghost use Rattle.sqlite.specs.Held.{state};
 ghost use Rattle.hfs_needed.specs.Known.{OfKnown};
-ghost use Rattle.hfs_word_collect.specs.Comparing.{IsCompared};
+ghost use Rattle.hfs_word_collect.specs.Comparing.{IsAsked, IsCompared, IsComparedIn, IsComparison};
 
 use crate::fault::RunFault;
 use crate::files::FileByPath;
@@ -35,13 +36,15 @@ fn file_digits<S: ReadAt>(
 
 /// How a file of `len` bytes stands to what the database has of it. It is read where its digest is needed; where a read fails, it
 /// is missing. The only fault is `NoMemory`.
+#[tactic(auto, using(crate::proofs::Comparisons::told_by, crate::proofs::Comparisons::told_missing))]
 pub fn compare_known<S: ReadAt>(
     alloc: Global,
     source: &mut S,
     len: u64,
     known: &KnownImage,
 ) -> Result<Comparison, RunFault>
-    ensures { IfOk result (λ found. OfKnown (S.known source.old) len (IsCompared known.now found)) }
+    ensures compared { IfOk result (λ found. OfKnown (S.known source.old) len (IsCompared known.now found)) }
+    ensures comparison { IfOk result (IsComparison known.now) }
 {
     if !known.needs_digest(len) {
         return Ok(known.compared(len, ""));
@@ -52,19 +55,44 @@ pub fn compare_known<S: ReadAt>(
     }
 }
 
+/// How a file of `len` bytes stands to what the database has of this path: `New` where it has no row of it, else by its length and its
+/// digest; `Missing` where a read fails. Faults: `CannotWrite` where the database can't be read, `NoMemory`.
+#[tactic(auto, using(crate::proofs::Comparisons::asked_known, crate::proofs::Comparisons::asked_new, crate::proofs::Comparisons::compared_known, crate::proofs::Comparisons::compared_new))]
+pub fn compare_file<D: Alter + Drop, S: ReadAt>(
+    alloc: Global,
+    collection: &mut Collection<D>,
+    path: &str,
+    source: &mut S,
+    len: u64,
+) -> Result<Comparison, RunFault>
+    ensures asked { IfOk result (IsAsked (state D.Store collection.old.conn)
+        (state D.Store collection.new.conn) path.now) }
+    ensures compared { IfOk result (λ found. OfKnown (S.known source.old) len (IsComparedIn
+        (state D.Store collection.old.conn) (state D.Store collection.new.conn) path.now found)) }
+{
+    match known_image(collection, path)? {
+        Some(known) => compare_known(alloc, source, len, &known),
+        None => Ok(Comparison::New),
+    }
+}
+
 /// Whether the first byte of a file of `len` bytes can be read, where it has any.
 fn is_readable<S: ReadAt>(source: &mut S, len: u64) -> bool {
     len == 0 || source.read_at(0, &mut [0; 1]).is_ok()
 }
 
-/// How an image stands to what the database has of it: `Missing` where it can't be read, `New` where the database has no row of its
-/// path, else by its length and its digest. Faults: `CannotWrite` where the database can't be read, `NoMemory`.
-pub fn compare_image<S: Alter + Drop, R: Files + AllocGlobal, W: ReadWatch>(
+/// How the image of this path stands to what the database has of it, as [`compare_file`] says; `Missing` also where it can't be opened, and then the
+/// database isn't asked.
+#[tactic(auto, using(crate::proofs::Comparisons::asked_missing))]
+pub fn compare_image<D: Alter + Drop, R: Files + AllocGlobal, W: ReadWatch>(
     rt: &R,
-    collection: &mut Collection<S>,
+    collection: &mut Collection<D>,
     path: &str,
     watch: &W,
-) -> Result<Comparison, RunFault> {
+) -> Result<Comparison, RunFault>
+    ensures { IfOk result (IsAsked (state D.Store collection.old.conn)
+        (state D.Store collection.new.conn) path.now) }
+{
     let file = FileByPath { rt, path, watch };
     let Ok(mut source) = file.open() else {
         return Ok(Comparison::Missing);
@@ -74,8 +102,5 @@ pub fn compare_image<S: Alter + Drop, R: Files + AllocGlobal, W: ReadWatch>(
         return Ok(Comparison::Missing);
     }
     watch.opened(len);
-    match known_image(collection, path)? {
-        Some(known) => compare_known(rt.alloc(), &mut source, len, &known),
-        None => Ok(Comparison::New),
-    }
+    compare_file(rt.alloc(), collection, path, &mut source, len)
 }

@@ -1,5 +1,6 @@
 //! Why a run ended early.
 ghost use Rattle.std.specs.Prelude.{◌≡◌};
+ghost use Rattle.hfs_word_collect.specs.Answers.{image_fault};
 
 use hfs_collection::CollectFault;
 use hfs_database::{DatabaseFault, Obstacle};
@@ -37,7 +38,9 @@ impl From<TakerFault> for RunFault {
 
 impl RunFault {
     /// What a fault of giving an image's rows means for the run. None where only the image can't be read, and the next one comes.
-    pub fn of_image(fault: CollectFault) -> Option<RunFault> {
+    pub fn of_image(fault: CollectFault) -> Option<RunFault>
+        ensures { result ≡ image_fault fault }
+    {
         match fault {
             CollectFault::ReadFailed => None,
             CollectFault::CannotWrite => Some(RunFault::CannotWrite),

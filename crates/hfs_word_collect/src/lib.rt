@@ -6,11 +6,13 @@ mod comparing;
 mod fault;
 mod files;
 mod lines;
+#[cfg(test)]
+mod tests;
 mod watched;
 mod writing;
 
-pub use crate::collecting::{collect_image, put_image};
-pub use crate::comparing::{compare_image, compare_known};
+pub use crate::collecting::{collect_file, collect_image, put_image};
+pub use crate::comparing::{compare_file, compare_image, compare_known};
 pub use crate::fault::RunFault;
 pub use crate::files::{FileByPath, can_open_database};
 pub use crate::lines::{comparison_line, image_line};

@@ -1,5 +1,6 @@
 //! An image's rows as text.
-ghost use Rattle.std.specs.Prelude.{◌≡◌, ◌++◌, false, true, IfOk, OnErr};
+ghost use Rattle.std.specs.Prelude.{◌≡◌, ◌++◌, IfNone, IfOk, IfSome, OnErr};
+ghost use Rattle.hfs_collection.specs.Counts.{image_counts};
 ghost use Rattle.hfs_collection.specs.Images.{image_rows};
 ghost use Rattle.hfs_needed.specs.Known.{OfKnown};
 ghost use Rattle.hfs_word_collect.specs.Writing.{WritesPart, WritesSome, WritesWhole};
@@ -7,7 +8,7 @@ ghost use Rattle.hfs_word_collect.specs.Writing.{WritesPart, WritesSome, WritesW
 use crate::fault::RunFault;
 use crate::files::FileByPath;
 use crate::watched::ReadWatch;
-use hfs_collection::{ImageFacts, ImageFile, give_image};
+use hfs_collection::{ImageCounts, ImageFacts, ImageFile, give_image};
 use hfs_containers::ReadAt;
 use hfs_sparse::SparseFault;
 use hfs_text_rows::TextTaker;
@@ -15,29 +16,31 @@ use std::alloc::Global;
 use std::io::Write;
 use std::rt::Files;
 
-/// Writes the rows of an image of `len` bytes, and its end, and answers whether all of them came: they don't where the image can't be read.
-/// At a fault a beginning of this was written. Faults: `CannotWrite` of the writer, `NoMemory`.
+/// Writes the rows of an image of `len` bytes, and its end, and answers how much the image holds where all of them came. None where they
+/// don't, since the image can't be read. At a fault a beginning of this was written. Faults: `CannotWrite` of the writer, `NoMemory`.
 pub fn write_image<W: Write + Drop, S: ReadAt + Drop, F: ImageFile<S>>(
     alloc: Global,
     taker: &mut TextTaker<W>,
     file: &F,
     len: u64,
     facts: &ImageFacts<'_>,
-) -> Result<bool, RunFault>
-    ensures whole { IfOk result (λ is_whole. is_whole ≡ true → OfKnown (F.known file.now) len (λ file.
+) -> Result<Option<ImageCounts>, RunFault>
+    ensures whole { IfOk result (λ counts. IfSome counts (λ _. OfKnown (F.known file.now) len (λ file.
         WritesWhole (W.contents taker.old.start.value) (W.contents taker.new.writer)
-        taker.old.form (taker.old.given.rows ++ image_rows facts.now file))) }
-    ensures some { IfOk result (λ is_whole. is_whole ≡ false → OfKnown (F.known file.now) len (λ file.
+        taker.old.form (taker.old.given.rows ++ image_rows facts.now file)))) }
+    ensures counted { IfOk result (λ counts. IfSome counts (λ told. OfKnown (F.known file.now) len
+        (λ file. told ≡ image_counts file))) }
+    ensures some { IfOk result (λ counts. IfNone counts (OfKnown (F.known file.now) len (λ file.
         WritesSome (W.contents taker.old.start.value) (W.contents taker.new.writer)
-        taker.old.form (taker.old.given.rows ++ image_rows facts.now file))) }
+        taker.old.form (taker.old.given.rows ++ image_rows facts.now file)))) }
     ensures part { OnErr result (OfKnown (F.known file.now) len (λ file.
         WritesPart (W.contents taker.old.start.value) (W.contents taker.new.writer)
         taker.old.form (taker.old.given.rows ++ image_rows facts.now file))) }
 {
     match give_image(alloc, taker, file, len, facts) {
-        Ok(_counts) => {
+        Ok(counts) => {
             taker.end(true)?;
-            Ok(true)
+            Ok(Some(counts))
         }
         Err(fault) => {
             let ended = taker.end(false);
@@ -45,21 +48,22 @@ pub fn write_image<W: Write + Drop, S: ReadAt + Drop, F: ImageFile<S>>(
                 Some(fault) => Err(fault),
                 None => {
                     ended?;
-                    Ok(false)
+                    Ok(None)
                 }
             }
         }
     }
 }
 
-/// Writes the rows of an image by its path, and its end, and answers whether all of them came: none come where it can't be opened.
+/// Writes the rows of an image by its path, and its end, and answers how much the image holds where all of them came; None where they
+/// don't, and none come where it can't be opened.
 /// Faults: as of [`write_image`].
 pub fn write_image_at<W: Write + Drop, R: Files + AllocGlobal, H: ReadWatch>(
     rt: &R,
     taker: &mut TextTaker<W>,
     facts: &ImageFacts<'_>,
     watch: &H,
-) -> Result<bool, RunFault> {
+) -> Result<Option<ImageCounts>, RunFault> {
     let file = FileByPath {
         rt,
         path: facts.path,
@@ -67,7 +71,7 @@ pub fn write_image_at<W: Write + Drop, R: Files + AllocGlobal, H: ReadWatch>(
     };
     let len = match file.len() {
         Ok(len) => len,
-        Err(SparseFault::ReadFailed) => return Ok(false),
+        Err(SparseFault::ReadFailed) => return Ok(None),
         Err(SparseFault::Memory) => return Err(RunFault::NoMemory),
     };
     write_image(rt.alloc(), taker, &file, len, facts)

@@ -1,5 +1,5 @@
 use Rattle.hfs_refused_memory.proofs.showing.shows_as_said.Given as goal
 
 -- the parts that were just made
-abbrev pub ghosts-show_three : goal.ghosts-show_three
-ghosts-show_three g a = record { book = a.parts.book; base = a.parts.base }
+abbrev pub ghosts-show_all : goal.ghosts-show_all
+ghosts-show_all g a = record { book = a.parts.book; base = a.parts.base }
