@@ -13,3 +13,4 @@ pub mod PlanLemmas
 pub mod SourceLemmas
 pub mod SumLemmas
 pub mod ToldLemmas
+pub mod WritingLemmas

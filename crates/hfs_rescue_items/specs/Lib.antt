@@ -5,3 +5,4 @@ pub mod Plan
 pub mod Reading
 pub mod Sources
 pub mod Sums
+pub mod Writing

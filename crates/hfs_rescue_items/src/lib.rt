@@ -4,6 +4,7 @@
 mod came;
 mod folders;
 mod fork_reading;
+mod fork_writing;
 mod found;
 mod items;
 mod lines;
@@ -15,6 +16,7 @@ mod reading;
 mod sums;
 mod told;
 
+pub use fork_writing::write_fork;
 pub use found::Found;
 pub use items::RescueItems;
 pub use lines::push_remains_line;

@@ -11,6 +11,8 @@ mod laws;
 mod listing;
 mod loading;
 mod looking;
+mod remains;
+mod showing;
 mod watched;
 mod words;
 
@@ -22,4 +24,6 @@ pub use crate::laws::{
     rescued_paths_are_lawful, sound_payloads_are_volumes, taken_paths_are_lawful,
 };
 pub use crate::listing::{list_rescue, write_remains};
+pub use crate::remains::{Again, Remains, remains_of};
+pub use crate::showing::{image_fault, write_found_folder, write_found_fork, write_found_items};
 pub use crate::words::{BagWords, RescueWords};
