@@ -22,8 +22,8 @@ from driver.programs import built
 HERE = Path(__file__).resolve().parent
 TOOL = str(built('hfs_tool'))
 COLLECT = str(built('hfs_collect'))
-NOT_HERE = 'no HFS volume begins here; hfs_tool volumes FILE looks for one inside'
-COUNTS = 'counts are wrong, the files may be whole; hfs_tool repair mends counts'
+NOT_HERE = 'no HFS volume begins here; hfs_tool volumes FILE looks for one inside, and hfs_tool rescue for what remains of one'
+COUNTS = 'counts are wrong, the files may be whole; hfs_tool repair mends counts, and hfs_tool rescue takes the files off as they are'
 NAME = 'the disk may be sound: it has a name that this program does not take; hfs_tool rescue takes its files off'
 DAMAGED = 'the disk is damaged; hfs_tool rescue takes off what is there'
 # Bytes laid over a new volume, by their places; what `ls` then prints, and the hint.

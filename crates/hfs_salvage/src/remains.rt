@@ -114,7 +114,7 @@ pub fn remains_of<'a, R: Files + AllocGlobal>(
     }
 }
 
-impl<S: BlockSource> Remains<S> {
+impl<S: BlockSource + Drop> Remains<S> {
     /// The fault that the image's check tells; None of a sound one.
     pub fn fault(&self) -> Option<MountFault> {
         match &self.image {

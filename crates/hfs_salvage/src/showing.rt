@@ -212,7 +212,7 @@ fn write_end_fork<S: BlockSource, W: Write>(
 /// Writes the bytes that `rescue` takes of a fork of the item that a path leads to, which is read as the rows print it, and answers the exit
 /// status: 0 where the fork is whole, else 3; or -43 where no file has that path, and nothing is written. All this where the image's bytes
 /// are known; a file's are not. Errors: as [`write_fork`](hfs_rescue_items::write_fork) has them.
-pub fn write_found_fork<S: BlockSource, W: Write>(
+pub fn write_found_fork<S: BlockSource + Drop, W: Write>(
     alloc: Global,
     writer: &mut W,
     image: RescuedImage<S>,

@@ -165,8 +165,8 @@ pub fn show_folder<'a>(
 /// Which fork of a file it is.
 fn kind_of(fork: Fork) -> ForkKind {
     match fork {
-        Fork::Data => ForkKind::Data,
-        Fork::Resource => ForkKind::Resource,
+        Fork::DataFork => ForkKind::Data,
+        Fork::ResFork => ForkKind::Resource,
     }
 }
 
