@@ -17,3 +17,4 @@ mod JoinLemmas
 mod TakenPathLemmas
 pub mod LawsProved
 mod HeldLemmas
+mod ShownLemmas
