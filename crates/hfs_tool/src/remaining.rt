@@ -4,7 +4,7 @@ use crate::commands::print_code;
 use crate::words::{ForkPathWords, PathWords};
 use hfs_check::MountFault;
 use hfs_commands::{
-    ByteRange, Fault, Format, NeededFault, OpenedFile, PartBlocks, PartImage, SeenImage,
+    ByteRange, Fault, Format, NeededFault, OpenedFile, PartBlocks, PartImage, ReadAt, SeenImage,
     StoredFile, Unopened, Window, open_part, part_blocks,
 };
 use hfs_console::tell_hint;
@@ -12,6 +12,7 @@ use hfs_model::{Fork, Reply};
 use hfs_salvage::{Again, HeldBytes, Remains, RescueWords, remains_of};
 use hfs_source::RangeBytes;
 use hfs_space::ForkKind;
+use std::alloc::Global;
 use std::fs::File;
 use std::io::{Read, Seek};
 
@@ -29,26 +30,54 @@ pub struct RefusedImage {
     pub again: Option<Again>,
 }
 
-/// Where the bytes of an opened file can be looked at once more: what came out of a pipe comes once, and is held.
-fn again_in<F: Read + Seek + Drop>(file: OpenedFile<F>, range: ByteRange) -> Option<Again> {
+/// A range of bytes that are held, to be looked at once more.
+fn held_in(all: Vec<u8>, range: ByteRange) -> Option<Again> {
+    match HeldBytes::of(all, range) {
+        Some(bytes) => Some(Again::Held(bytes)),
+        None => None,
+    }
+}
+
+/// The same of the user data of raw sectors that are held.
+fn data_in<S: ReadAt>(
+    alloc: Global,
+    file: &mut S,
+    range: ByteRange,
+) -> Result<Option<Again>, Fault<'static>> {
+    let len = range.len;
+    let Ok(mut all) = vec![in alloc; 0u8; len as usize] else {
+        return Err(Fault::NoMemory);
+    };
+    match file.read_at(range.start, &mut all) {
+        Ok(()) => Ok(held_in(all, ByteRange { start: 0, len })),
+        Err(_) => Ok(None),
+    }
+}
+
+/// Where a range of an opened file can be looked at once more: what came out of a pipe comes once, and is held.
+fn again_in<F: Read + Seek + Drop>(
+    alloc: Global,
+    file: OpenedFile<F>,
+    range: ByteRange,
+) -> Result<Option<Again>, Fault<'static>> {
     match file {
-        OpenedFile::Plain(StoredFile::Seekable(_)) => Some(Again::File),
-        OpenedFile::Plain(StoredFile::Whole(all)) => match HeldBytes::of(all, range) {
-            Some(bytes) => Some(Again::Held(bytes)),
-            None => None,
-        },
-        OpenedFile::Raw(raw) => match raw.data.bytes {
-            StoredFile::Seekable(_) => Some(Again::File),
-            StoredFile::Whole(_) => None,
+        OpenedFile::Plain(StoredFile::Seekable(_)) => Ok(Some(Again::File)),
+        OpenedFile::Plain(StoredFile::Whole(all)) => Ok(held_in(all, range)),
+        OpenedFile::Raw(mut raw) => match &raw.data.bytes {
+            StoredFile::Seekable(_) => Ok(Some(Again::File)),
+            StoredFile::Whole(_) => data_in(alloc, &mut raw, range),
         },
     }
 }
 
 /// The same of the blocks of a part of it.
-fn again_of<F: Read + Seek + Drop>(source: PartBlocks<F>) -> Option<Again> {
+fn again_of<F: Read + Seek + Drop>(
+    alloc: Global,
+    source: PartBlocks<F>,
+) -> Result<Option<Again>, Fault<'static>> {
     let blocks = source.blocks;
     let RangeBytes { bytes, start, len } = blocks.bytes;
-    again_in(bytes, ByteRange { start, len })
+    again_in(alloc, bytes, ByteRange { start, len })
 }
 
 /// Whether a part of a file can be read once more.
@@ -69,10 +98,10 @@ pub fn look<'a>(rt: &HostRuntime, path: &'a str, volume: Option<u64>) -> Result<
     match SeenImage::open(rt.alloc(), part_blocks(part)) {
         Ok(image) => Ok(Looked::Sound(image)),
         Err(Unopened { fault, source }) => match fault {
-            NeededFault::Refused(why) => Ok(Looked::Refused(RefusedImage {
-                why,
-                again: again_of(source),
-            })),
+            NeededFault::Refused(why) => {
+                let again = again_of(rt.alloc(), source)?;
+                Ok(Looked::Refused(RefusedImage { why, again }))
+            }
             NeededFault::ReadFailed | NeededFault::Memory => Err(Fault::of_needed(fault, path)),
         },
     }
