@@ -86,7 +86,7 @@ class Shown:
         at = next((it for it in self.remains.items if path and self.path(it) == path), None)
         if at is None or not at.is_folder:
             return 3, b'code -43\n' if at is None else b'code -120\n'
-        first = next(it for it in self.remains.items if it.is_folder and it.id == at.id and (at.id != 2 or it.parent == 1))
+        first = next((it for it in self.remains.items if it.is_folder and it.id == at.id and (at.id != 2 or it.parent == 1)), None)
         inside = [it for it in self.remains.items if first is at and it.parent == at.id and it.names]
         return self.status, ''.join(map(self.tabbed, inside)).encode()
 
@@ -173,7 +173,7 @@ def try_others(bench: Refused) -> None:
     image.write_bytes(rescue.with_bytes(laid, (rescue.place_of(laid, rescue.key(2, b'f')) + 7, b'\x8e')))
     script = bench.folder / 'script'
     script.write_text('1\tlist\t2\n')
-    line = b'check C7 at 3\n'
+    line = b'check C7 at 2\n'
     for words in (('ls', image), ('ls', image, 2), ('cat', image, 2, 'f'), ('cat', image, '--path', 'D:\u00e9', '--macbinary'), ('run', image, script), ('take', image, bag)):
         same(ran(*words), (2, line, b''), f'{words[0]} of a refused image')
     for words in (('check', image), ('repair', image, bag)):
