@@ -1,6 +1,7 @@
 -- What is shown of what was found is shown of the image.
 use Rattle.std.proofs.Common.{◌≡◌, ℕ, List, Option, None, Some, Result, Ok, Err, IfOk, refl, subst}
 use Rattle.std.proofs.KnownBytes.{Appends-nil}
+use Rattle.std.specs.Io.KnownBytes.{Appends}
 use Rattle.hfs_check.specs.declared.mount_fault.MountFault.{MountFault}
 use Rattle.hfs_commands.specs.Checks.{IsCheckFault}
 use Rattle.hfs_finds.specs.declared.finds.Finds.{Finds}
@@ -10,6 +11,8 @@ use Rattle.hfs_needed.specs.Known.{OfKnown}
 use Rattle.hfs_remains.specs.Verdicts.{all_used}
 use Rattle.hfs_rescue_items.specs.declared.found.Found.{Found}
 use Rattle.hfs_rescue_items.specs.Bytes.{taken_bytes}
+use Rattle.hfs_rescue_items.specs.Writing.{WritesFrontOf, WritesOf}
+use Rattle.hfs_rescue_rows.specs.declared.paths.PathEnd.{PathEnd}
 use Rattle.hfs_rescue_rows.specs.declared.rows.Selection.{Selection}
 use Rattle.hfs_rescue_rows.specs.Forks.{whole_fork}
 use Rattle.hfs_rescue_rows.specs.Paths.{has_path, item_at, path_end}
@@ -77,6 +80,23 @@ pub told_by : {T E : Type 0} (result : Result T E) (F : Shows → T) (known : Op
     → IfOk result (λ told. OfKnownFound known len words (λ image other. told ≡ F (shows image other)))
 told_by (Ok told) F known len words found is fault finds check finds_are given = carried_by known len words found is fault finds check finds_are (λ image s. told ≡ F s) given
 told_by (Err e) F known len words found is fault finds check finds_are given = tt
+
+-- the bytes of a fork at the end of a path that were written of what was found are those of the image
+pub bytes_shown : (known : Option (List ℕ)) (len : ℕ) (words : RescueWords) (found : Found) → OfKnown known len (λ image. IsFoundOf image (limit_of words image) found)
+    → (kind : ForkKind) (path : List ℕ) (end : PathEnd) → end ≡ path_end found path → (old new : Option (List ℕ)) → WritesOf known old new (λ image. end_bytes image found kind end)
+    → OfKnownFound known len words (λ image other. Appends old new (end_bytes image other kind (path_end other path)))
+bytes_shown None len words found is kind path end leads old new written = tt
+bytes_shown (Some image) len words found is kind path end leads old new written = λ same other others.
+    subst (λ (s : Shows). Appends old new (s.bytes kind path)) (same-shows image (limit_of words image) found other (is same) others)
+    (subst (λ (e : PathEnd). Appends old new (end_bytes image found kind e)) leads written)
+
+pub front_shown : (known : Option (List ℕ)) (len : ℕ) (words : RescueWords) (found : Found) → OfKnown known len (λ image. IsFoundOf image (limit_of words image) found)
+    → (kind : ForkKind) (path : List ℕ) (end : PathEnd) → end ≡ path_end found path → (old new : Option (List ℕ)) → WritesFrontOf known old new (λ image. end_bytes image found kind end)
+    → OfKnownFound known len words (λ image other. AppendsFront old new (end_bytes image other kind (path_end other path)))
+front_shown None len words found is kind path end leads old new front = tt
+front_shown (Some image) len words found is kind path end leads old new front = λ same other others.
+    subst (λ (s : Shows). AppendsFront old new (s.bytes kind path)) (same-shows image (limit_of words image) found other (is same) others)
+    (subst (λ (e : PathEnd). AppendsFront old new (end_bytes image found kind e)) leads front)
 
 -- nothing was written yet
 pub nothing_shown : (known : Option (List ℕ)) (len : ℕ) (words : RescueWords) (now : Option (List ℕ)) (text : List ℕ → Found → List ℕ)

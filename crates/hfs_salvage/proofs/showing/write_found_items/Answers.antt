@@ -1,12 +1,12 @@
 -- What is shown of what was found is shown of the image.
-use Rattle.hfs_bag.proofs.Growing.{on_err}
-use Rattle.hfs_commands.proofs.Rows.{if_ok_then, on_err_then, on_ok_then}
-use Rattle.hfs_salvage.proofs.BagLemmas.{found_known}
-use Rattle.hfs_salvage.proofs.ShownLemmas.{carried, carried_by, nothing_shown}
+use Rattle.std.proofs.Common.{◌≡◌, IfOk, subst}
 use Rattle.std.specs.Io.KnownBytes.{Appends}
+use Rattle.hfs_commands.proofs.Rows.{on_err_then, on_ok_then}
 use Rattle.hfs_texts.specs.Writing.{AppendsFront}
-use Rattle.std.proofs.Common.{◌≡◌}
 use Rattle.hfs_rescue_rows.specs.declared.rows.Selection.TheVariants as selection
+use Rattle.hfs_rescue_rows.specs.Rows.{selected_text}
+use Rattle.hfs_salvage.proofs.BagLemmas.{found_known}
+use Rattle.hfs_salvage.proofs.ShownLemmas.{carried, nothing_shown, told_by}
 use Rattle.hfs_salvage.proofs.showing.write_found_items.Goals as goal
 
 pub returns-clause-written : goal.returns-clause-written
@@ -28,7 +28,14 @@ returns-clause-part g c =
     c.write_selected.ensures.part
 
 pub returns-clause-status : goal.returns-clause-status
-returns-clause-status g c = ?
+returns-clause-status g c =
+    let image = c.args.image.now in
+    let known = g.S.BlockSource.image image.source in
+    let is = found_known known image.len c.args.words.now c.limit_for-limit.result image.finds c.found_in-found.result c.limit_for-limit.ensures image.finds_are
+    (λ bytes found. c.found_in-found.ensures.found bytes c.limit_for-limit.result found c.in-Ok.ensures) in
+    told_by c.write_selected.result (λ s. s.status) known image.len c.args.words.now c.found_in-found.result is image.check.fault image.finds image.fault_is image.finds_are
+    c.write_selected.ensures.status
 
 pub returns-in_default-clause-part : goal.returns-in_default-clause-part
-returns-in_default-clause-part g c = nothing_shown (g.S.BlockSource.image c.args.image.now.source) c.args.image.now.len c.args.words.now (g.W.Write.contents c.args.writer.now) _
+returns-in_default-clause-part g c =
+    nothing_shown (g.S.BlockSource.image c.args.image.now.source) c.args.image.now.len c.args.words.now (g.W.Write.contents c.args.writer.now) (λ bytes found. selected_text (selection.All c.args.format) found)
