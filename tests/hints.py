@@ -22,8 +22,9 @@ from driver.programs import built
 HERE = Path(__file__).resolve().parent
 TOOL = str(built('hfs_tool'))
 COLLECT = str(built('hfs_collect'))
-NOT_HERE = 'no HFS volume begins here; hfs_tool volumes FILE looks for one inside'
-COUNTS = 'counts are wrong, the files may be whole; hfs_tool repair mends counts'
+NOT_HERE = 'no HFS volume begins here; hfs_tool volumes FILE looks for one inside, and hfs_tool rescue for what remains of one'
+COUNTS = 'counts are wrong, the files may be whole; hfs_tool repair mends counts, and hfs_tool rescue takes the files off as they are'
+NONE = 'hfs_tool rescue looks for what remains of a volume whose first blocks are lost'
 NAME = 'the disk may be sound: it has a name that this program does not take; hfs_tool rescue takes its files off'
 DAMAGED = 'the disk is damaged; hfs_tool rescue takes off what is there'
 # Bytes laid over a new volume, by their places; what `ls` then prints, and the hint.
@@ -175,6 +176,10 @@ def refused_images(folder):
         want(['cat', str(path), '2', 'none'], status or 3, line or 'code -43\n', said)
         want(['run', str(path), str(script)], status, line, said)
         want(['check', str(path)], status, f'refused {line}' if fault else SOUND, said)
+        if fault:
+            want(['take', str(path), str(folder / 'bag')], status, line, said)
+            if 'hfs_tool rescue' not in hint:
+                sys.exit(f'hints: behind {fault} rescue is not named: {hint}')
         fixed = FIXED.get(fault)
         want(['repair', str(path), str(mended)], 0 if fixed else 2, fixed or f'refused {line}', '' if fixed else said)
     path.write_bytes(sound[:1000])
@@ -192,26 +197,26 @@ def kinds(folder):
         want(['ls', str(path)], 2, 'not an HFS volume (-57)\n', f'{NOT_HERE}\n{line}')
         want(['check', str(path)], 2, 'refused not an HFS volume (-57)\n', f'{NOT_HERE}\n{line}')
         want(['info', str(path)], 2, 'not an HFS volume (-57)\n', f'{NOT_HERE}\n{line}')
-        want(['volumes', str(path)], 2, 'no HFS volume\n', line)
+        want(['volumes', str(path)], 2, 'no HFS volume\n', f'{NONE}\n{line}')
         want([str(database), str(path)], 0, f'{path}\tvolumes 0\trefused 0\tfiles 0\tdamaged 0\n', f'{path}: no HFS volume was found\n{line}', COLLECT)
-        want(['extract', str(path), str(folder / 'out')], 2, 'no HFS volume\n', line)
+        want(['extract', str(path), str(folder / 'out')], 2, 'no HFS volume\n', f'{NONE}\n{line}')
     double_path = folder / '._kind'
     path.write_bytes(bytes(LENGTH))
     for content, kind in DOUBLES:
         double_path.write_bytes(content)
         line = f'it looks like {kind}\n' if kind else ''
-        want(['volumes', str(path)], 2, 'no HFS volume\n', line)
-        want(['volumes', 'kind'], 2, 'no HFS volume\n', line, cwd=folder)
+        want(['volumes', str(path)], 2, 'no HFS volume\n', f'{NONE}\n{line}')
+        want(['volumes', 'kind'], 2, 'no HFS volume\n', f'{NONE}\n{line}', cwd=folder)
         want(['ls', str(path), '--volume', '0'], 2, 'not an HFS volume (-57)\n', f'{NOT_HERE}\n{line}')
         want([str(database), str(path)], 0, f'{path}\tvolumes 0\trefused 0\tfiles 0\tdamaged 0\n', f'{path}: no HFS volume was found\n{line}', COLLECT)
     # What the file says itself comes before; and a pipe beside it isn't read.
     double_path.write_bytes(DOUBLES[6][0])
     path.write_bytes(laid(0, b'SIT!'))
-    want(['volumes', str(path)], 2, 'no HFS volume\n', f'it looks like {STUFFIT}\n')
+    want(['volumes', str(path)], 2, 'no HFS volume\n', f'{NONE}\nit looks like {STUFFIT}\n')
     double_path.unlink()
     os.mkfifo(double_path)
     path.write_bytes(bytes(LENGTH))
-    want(['volumes', str(path)], 2, 'no HFS volume\n', '')
+    want(['volumes', str(path)], 2, 'no HFS volume\n', f'{NONE}\n')
     double_path.unlink()
     path.write_bytes(b'GIF89a' + bytes(94))
     want(['ls', str(path)], 2, 'image too short\n', 'it looks like a picture\n')

@@ -485,10 +485,10 @@ def compare_refused(pages):
     """The page of a refused image has the fault, as `ls` tells it, and what it means."""
     new = bytes(new_volume())
     damaged = 'the disk is damaged; hfs_tool rescue takes off what is there'
-    counts = 'counts are wrong, the files may be whole; hfs_tool repair mends counts'
+    counts = 'counts are wrong, the files may be whole; hfs_tool repair mends counts, and hfs_tool rescue takes the files off as they are'
     length = 'a volume has at least 1,536 bytes and at most 2,147,483,648'
     cases = {'short': (new[:1535], 'image too short', length), 'empty': (b'', 'image too short', length),
-             'zeros': (bytes(32_768), 'not an HFS volume (-57)', 'no HFS volume begins here; hfs_tool volumes FILE looks for one inside'),
+             'zeros': (bytes(32_768), 'not an HFS volume (-57)', 'no HFS volume begins here; hfs_tool volumes FILE looks for one inside, and hfs_tool rescue for what remains of one'),
              'cut': (new[:61 * 512], 'bad master directory block M4 (-60)', damaged),
              'miscounted': (new[:MDB + 87] + b'\1' + new[MDB + 88:], 'check C10 at 3', counts),
              'unnamed': ((VOLUMES / 'refused-icon.img').read_bytes(), 'check C7 at 4', 'the disk may be sound: it has a name that this program does not take; hfs_tool rescue takes its files off'),

@@ -111,10 +111,10 @@ def by_hand(folder):
 
 
 def of_items(image):
-    """For each item of a volume, its path and its name with and without escapes."""
-    status, table = told('items', image)
-    if status:
+    """For each item of a sound volume, its path and its name with and without escapes."""
+    if told('check', image)[0]:
         return
+    _, table = told('items', image)
     for line in table.decode('utf-8').splitlines():
         path, kind, item, parent = line.split('\t')[:4]
         name = re.sub(r'\\(..)', lambda it: chr(int(it[1], 16)), path.split(':')[-1])

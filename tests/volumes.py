@@ -491,11 +491,15 @@ def chosen(folder, p6):
     three = folder.file('three', map_of(laid, p6, empty, laid))
     refused(folder, 'three volumes', three, 3, reads)
     refused(folder, 'three volumes and a range', three, 4, rescues)
-    for words in (['check'], ['ls'], ['items']):
+    for words in (['check'], ['ls']):
         answer = (2, b'refused not an HFS volume (-57)\n' if words == ['check'] else b'not an HFS volume (-57)\n')
         wants(f'{words} as it is', told([*words, two, '--volume', '0']), answer)
         wants(f'{words} of a pipe', told([*words, '/dev/stdin'], map_of(laid, p6)), answer)
         wants(f'{words} of a pipe with one volume', told([*words, '/dev/stdin'], map_of(laid)), answer)
+    # Such a file is refused, and items shows what rescue finds in it: a row for each of its lines but the seven behind them.
+    for words, given in (([two, '--volume', '0'], None), (['/dev/stdin'], map_of(laid, p6)), (['/dev/stdin'], map_of(laid))):
+        (status, rows), (ended, lines) = told(['items', *words], given, errors=True), told(['rescue', words[0], '--list', *words[1:]], given)
+        wants(f'items {words} as it is', (status, b'%d rows' % rows.count(b'\n')), (ended, b'%d rows' % (lines.count(b'\n') - 7)))
     for data in (map_of(laid, p6), map_of(laid)):
         wants('info never chooses', told(['info', folder.file('raw', data)]), (2, b'not an HFS volume (-57)\n'))
     for what, wrap in WRAPPINGS:

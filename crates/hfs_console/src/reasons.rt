@@ -1,17 +1,18 @@
 //! Why something was not done, for who reads it at a terminal.
 ghost use Rattle.std.specs.Prelude.{◌≡◌};
 ghost use Rattle.std.specs.Option.{option_map};
-ghost use Rattle.hfs_console.specs.Ranges.{range_text};
+ghost use Rattle.hfs_console.specs.Reasons.{more_text};
 
 use hfs_commands::{Fault, ShownPath};
 use std::fs::File;
 use std::io::{ErrorKind, IsTerminal};
 use std::{fs, io};
 
-/// What the plan of a new volume may say in place of what was refused; none of other faults.
-#[tactic(auto, unfolding(crate::specs::Ranges::range_text))]
-fn range_of(fault: &Fault<'_>) -> Option<&'static str>
-    ensures { option_map (λ text. text.now) result ≡ range_text fault.now }
+/// What the plan of a new volume may say in place of what was refused, and which word goes on where no volume is found; none of other
+/// faults.
+#[tactic(auto, unfolding(crate::specs::Reasons::more_text))]
+fn more_of(fault: &Fault<'_>) -> Option<&'static str>
+    ensures { option_map (λ text. text.now) result ≡ more_text fault.now }
 {
     match fault {
         Fault::BadName => Some(
@@ -19,10 +20,12 @@ fn range_of(fault: &Fault<'_>) -> Option<&'static str>
         ),
         Fault::BadSize => Some("BLOCKS are blocks of 512 bytes, from 8 to 4194304"),
         Fault::BadNodeCount => Some("NODES are from 2 to 2048, EXTENTS from 1 to 2048"),
+        Fault::NoVolumes => {
+            Some("hfs_tool rescue looks for what remains of a volume whose first blocks are lost")
+        }
         Fault::WordsNotText
         | Fault::Refused(_)
         | Fault::NoVolume(_)
-        | Fault::NoVolumes
         | Fault::SeveralVolumes(_)
         | Fault::NotWritten
         | Fault::NoRoom
@@ -72,14 +75,15 @@ pub fn tell_unread(rt: &HostRuntime, path: &str) {
     }
 }
 
-/// Tells on standard error what more there is to a fault, where that is a terminal: why a file can't be read, and what a new volume's plan may say.
+/// Tells on standard error what more there is to a fault, where that is a terminal: why a file can't be read, which word goes on
+/// where no volume is found, and what a new volume's plan may say.
 pub fn tell_more(rt: &HostRuntime, fault: &Fault<'_>) {
     if let Fault::CannotRead(path) = fault {
         tell_unread(rt, *path);
     }
-    if let Some(range) = range_of(fault)
+    if let Some(more) = more_of(fault)
         && rt.stderr().is_terminal()
     {
-        let _printed = eprintln!(rt; "{range}");
+        let _printed = eprintln!(rt; "{more}");
     }
 }

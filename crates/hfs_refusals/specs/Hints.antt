@@ -23,8 +23,8 @@ hint_of mount.Memory = None
 
 -- one line for a terminal
 unfoldable pub hint_text : Hint → List ℕ
-hint_text hint.NotHere = codes "no HFS volume begins here; hfs_tool volumes FILE looks for one inside"
-hint_text hint.WrongCounts = codes "counts are wrong, the files may be whole; hfs_tool repair mends counts"
+hint_text hint.NotHere = codes "no HFS volume begins here; hfs_tool volumes FILE looks for one inside, and hfs_tool rescue for what remains of one"
+hint_text hint.WrongCounts = codes "counts are wrong, the files may be whole; hfs_tool repair mends counts, and hfs_tool rescue takes the files off as they are"
 hint_text hint.NameNotTaken = codes "the disk may be sound: it has a name that this program does not take; hfs_tool rescue takes its files off"
 hint_text hint.Damaged = codes "the disk is damaged; hfs_tool rescue takes off what is there"
 

@@ -10,7 +10,7 @@ use std::fmt;
 /// What a refusal means for who has the disk in hand. Its `Display` is one line for a terminal.
 #[derive(Clone, Copy, Debug, PartialEq, Eq)]
 pub enum Hint {
-    /// The volume may begin further on in the file.
+    /// The volume may begin further on in the file, or the block that says what it is may be lost.
     NotHere,
     /// Only counts are wrong, which can be mended.
     WrongCounts,
@@ -57,11 +57,11 @@ impl fmt::Display for Hint {
         match self {
             Hint::NotHere => write!(
                 f,
-                "no HFS volume begins here; hfs_tool volumes FILE looks for one inside"
+                "no HFS volume begins here; hfs_tool volumes FILE looks for one inside, and hfs_tool rescue for what remains of one"
             ),
             Hint::WrongCounts => write!(
                 f,
-                "counts are wrong, the files may be whole; hfs_tool repair mends counts"
+                "counts are wrong, the files may be whole; hfs_tool repair mends counts, and hfs_tool rescue takes the files off as they are"
             ),
             Hint::NameNotTaken => write!(
                 f,

@@ -16,3 +16,4 @@ pub mod ToldLemmas
 mod RootLemmas
 mod PlanSumLemmas
 mod PayloadLemmas
+pub mod WritingLemmas

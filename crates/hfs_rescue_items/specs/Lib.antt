@@ -7,3 +7,4 @@ pub mod Sources
 pub mod Sums
 pub mod Faults
 pub mod Laws
+pub mod Writing

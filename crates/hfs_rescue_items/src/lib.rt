@@ -4,6 +4,7 @@
 mod came;
 mod folders;
 mod fork_reading;
+mod fork_writing;
 mod found;
 mod items;
 mod laws;
@@ -17,6 +18,7 @@ mod sums;
 mod table_lines;
 mod told;
 
+pub use fork_writing::write_fork;
 pub use found::Found;
 pub use items::RescueItems;
 pub use laws::{

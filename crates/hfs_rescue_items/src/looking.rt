@@ -58,8 +58,9 @@ pub fn names_at(
 }
 
 impl Found<'_> {
-    /// The path below the payload of an item, or behind the items of a named folder; no text where there is none.
-    pub(crate) fn path(&self, alloc: Global, i: usize) -> Result<String, AllocError>
+    /// The path below the payload of an item, or behind the items of a named folder; no text where there is none. The only error is want of
+    /// memory.
+    pub fn path(&self, alloc: Global, i: usize) -> Result<String, AllocError>
         ensures { IfOk result (λ path. string_bytes path ≡ path_at self.now.places.now i) }
     {
         if i >= self.places.things().len() {
@@ -80,9 +81,9 @@ impl Found<'_> {
         told_of(item)
     }
 
-    /// A fork of an item; None of a folder, and where there is no such item.
+    /// A fork of an item; None of a folder, and where there is no such item. The only error is want of memory.
     #[tactic(auto, using(crate::proofs::ForkLemmas::gives_bytes, crate::proofs::ForkLemmas::past_bytes))]
-    pub(crate) fn fork(
+    pub fn fork(
         &self,
         alloc: Global,
         i: usize,

@@ -21,3 +21,4 @@ mod PlacedLemmas
 mod UnfoundLemmas
 mod ThereLemmas
 mod BagSumLemmas
+mod ShownLemmas

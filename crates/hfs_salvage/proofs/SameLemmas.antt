@@ -22,25 +22,25 @@ use Rattle.hfs_salvage.specs.Found.{IsFoundOf}
 
 -- ---- the values
 
-record Values : Type 0 where
-  mdb : Mdb
-  trees_mdb : Mdb
-  total : ℕ
-  overflow : Overflow
-  extents_file : FileBlocks
-  catalog_file : FileBlocks
-  items : List FoundRecord
-  things : List Thing
-  shares : List (Option FileShares)
+pub record Values : Type 0 where
+  pub mdb : Mdb
+  pub trees_mdb : Mdb
+  pub total : ℕ
+  pub overflow : Overflow
+  pub extents_file : FileBlocks
+  pub catalog_file : FileBlocks
+  pub items : List FoundRecord
+  pub things : List Thing
+  pub shares : List (Option FileShares)
 
 -- what must hold of them
-record Fits (v : Values) : Type 0 where
-  same : v.mdb ≡ v.trees_mdb
-  size : 512 ≤ v.trees_mdb.allocation_block_size
-  extents_there : AreThere v.total v.trees_mdb v.extents_file
-  catalog_there : AreThere v.total v.trees_mdb v.catalog_file
+pub record Fits (v : Values) : Type 0 where
+  pub same : v.mdb ≡ v.trees_mdb
+  pub size : 512 ≤ v.trees_mdb.allocation_block_size
+  pub extents_there : AreThere v.total v.trees_mdb v.extents_file
+  pub catalog_there : AreThere v.total v.trees_mdb v.catalog_file
 
-abbrev values : Found → Values
+abbrev pub values : Found → Values
 values found = record {
   mdb = found.mdb.now;
   trees_mdb = found.salvage.now.trees.mdb.now;
@@ -53,7 +53,7 @@ values found = record {
   shares = found.salvage.now.shares;
 }
 
-abbrev fits : (found : Found) → Fits (values found)
+abbrev pub fits : (found : Found) → Fits (values found)
 fits found = record {
   same = found.mdb_is;
   size = found.salvage.now.trees.size;
@@ -62,7 +62,7 @@ fits found = record {
 }
 
 -- what was found with these values in the places of its own
-abbrev holding : Found → (v : Values) → Fits v → Found
+abbrev pub holding : Found → (v : Values) → Fits v → Found
 holding found v p = record found {
   mdb = record found.mdb { now = v.mdb };
   items = record found.items { now = v.items };
@@ -111,7 +111,7 @@ module _ (image : List ℕ) (limit : ℕ) (f g : Found) (a : IsFoundOf image lim
   pub same_mdb : f.mdb.now ≡ g.mdb.now
   same_mdb = some-same f.mdb.now g.mdb.now (sym a.directory_is ∙ b.directory_is)
 
-  same-values : values f ≡ values g
+  pub same-values : values f ≡ values g
   same-values = λ i. record {
     mdb = same_mdb i;
     trees_mdb = (sym f.mdb_is ∙ same_mdb ∙ g.mdb_is) i;

@@ -11,7 +11,9 @@ mod laws;
 mod listing;
 mod loading;
 mod looking;
+mod remains;
 mod rescuing;
+mod showing;
 mod watched;
 mod words;
 
@@ -24,5 +26,7 @@ pub use crate::laws::{
     taken_paths_are_lawful,
 };
 pub use crate::listing::{list_rescue, write_remains};
+pub use crate::remains::{Again, Remains, remains_of};
 pub use crate::rescuing::{PlacedBag, UnplacedBag, rescue, rescue_opened};
+pub use crate::showing::{image_fault, write_found_folder, write_found_fork, write_found_items};
 pub use crate::words::{BagWords, RescueWords};

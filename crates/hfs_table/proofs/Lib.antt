@@ -1,2 +1,3 @@
 mod Dates
 mod Objects
+mod OwnObjects

@@ -2,3 +2,4 @@ pub mod Adds
 pub mod Cells
 pub mod Columns
 pub mod Lines
+pub mod OwnLines

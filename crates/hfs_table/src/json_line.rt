@@ -20,7 +20,7 @@ use std::alloc::{AllocError, Global};
 /// The bytes that most paths and all other texts of a row take.
 const USUAL_TEXT: usize = 128;
 
-fn put_path(alloc: Global, writer: &mut Writer, names: &[Name]) -> Result<(), AllocError>
+pub(crate) fn put_path(alloc: Global, writer: &mut Writer, names: &[Name]) -> Result<(), AllocError>
     ensures { Adds result writer.old writer.new (cell_value (path names.now) ∷ []) }
 {
     let mut text = String::with_capacity(alloc, USUAL_TEXT)?;
@@ -141,7 +141,7 @@ fn put_member(
 }
 
 /// Puts the members of columns.
-fn put_members(
+pub(crate) fn put_members(
     alloc: Global,
     writer: &mut Writer,
     columns: &[Column],

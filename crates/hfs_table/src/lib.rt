@@ -7,7 +7,9 @@ mod column;
 mod csv_line;
 mod format;
 mod json_line;
+mod own_line;
 mod tab_line;
 
 pub use bag_line::{push_bag_head, push_bag_path, push_bag_row, push_own_bag_row};
 pub use format::{Format, push_head, push_row};
+pub use own_line::push_own_row;

@@ -10,7 +10,7 @@ use hfs_model::Info;
 use std::alloc::{AllocError, Global};
 
 /// Appends the fields of columns, each behind a tab.
-fn push_tabbed(
+pub(crate) fn push_tabbed(
     line: &mut String,
     columns: &[Column],
     names: &[Name],

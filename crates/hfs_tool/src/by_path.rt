@@ -1,19 +1,32 @@
 //! What the words do on items by their paths.
 
 use crate::commands::{print_code, print_fork, print_macbinary, print_told};
+use crate::remaining::{Looked, look, show_folder, show_fork};
 use crate::words::{ForkPathWords, PathWords};
 use hfs_commands::{Fault, PartImage, file_path_reply, open_seen, path_reply, seen_list_text};
 use hfs_model::{Reply, Value};
 use std::io::{Read, Seek};
 
-/// Prints the children of the folder that a path leads to, or the code that refuses the path.
+/// Prints the children of the folder that a path leads to, or the code that refuses the path; or the rows of that folder, where the
+/// image is refused.
 pub fn print_list_at<'a>(rt: &HostRuntime, place: &PathWords<'a>) -> Result<u8, Fault<'a>> {
-    let image = open_seen(rt, place.image, place.volume)?;
-    let Ok(reply) = path_reply(rt.alloc(), &image, place.path) else {
+    match look(rt, place.image, place.volume)? {
+        Looked::Sound(image) => print_list_in(rt, place, &image),
+        Looked::Refused(refused) => show_folder(rt, place, refused),
+    }
+}
+
+/// Prints the children of the folder of a sound image that a path leads to, or the code that refuses the path.
+fn print_list_in<F: Read + Seek + Drop>(
+    rt: &HostRuntime,
+    place: &PathWords<'_>,
+    image: &PartImage<F>,
+) -> Result<u8, Fault<'static>> {
+    let Ok(reply) = path_reply(rt.alloc(), image, place.path) else {
         return Err(Fault::NoMemory);
     };
     match &reply.value {
-        Value::One(folder) => print_told(rt, seen_list_text(rt.alloc(), &image, folder.id)),
+        Value::One(folder) => print_told(rt, seen_list_text(rt.alloc(), image, folder.id)),
         _ => print_code(rt, &reply),
     }
 }
@@ -30,10 +43,24 @@ fn file_at<'a, F: Read + Seek + Drop>(
     }
 }
 
-/// Prints the bytes of a fork of the file that a path leads to, or the code that refuses it.
+/// Prints the bytes of a fork of the file that a path leads to, or the code that refuses it; or what is found of that fork, where the
+/// image is refused.
 pub fn print_fork_at<'a>(rt: &HostRuntime, words: &ForkPathWords<'a>) -> Result<u8, Fault<'a>> {
     let place = &words.place;
-    let mut image = open_seen(rt, place.image, place.volume)?;
+    match look(rt, place.image, place.volume)? {
+        Looked::Sound(image) => print_fork_in(rt, words, image),
+        Looked::Refused(refused) => show_fork(rt, words, refused),
+    }
+}
+
+/// Prints the bytes of a fork of the file of a sound image that a path leads to, or the code that refuses it.
+fn print_fork_in<'a, F: Read + Seek + Drop>(
+    rt: &HostRuntime,
+    words: &ForkPathWords<'a>,
+    image: PartImage<F>,
+) -> Result<u8, Fault<'a>> {
+    let mut image = image;
+    let place = &words.place;
     let reply = file_at(rt, &image, place)?;
     match &reply.value {
         Value::One(file) => {

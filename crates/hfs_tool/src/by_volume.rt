@@ -4,6 +4,7 @@ use crate::commands::{
     print_fork, print_info_of, print_macbinary, print_needed_check, print_refused, print_table,
     print_told,
 };
+use crate::remaining::{Looked, look, show_items};
 use crate::volumes::print_volume_info;
 use crate::words::{FileWords, ForkWords};
 use hfs_commands::{Fault, Format, open_part, open_seen, part_blocks, seen_list_text};
@@ -44,15 +45,17 @@ pub fn tell_list<'a>(
     print_told(rt, seen_list_text(rt.alloc(), &image, dir))
 }
 
-/// Prints the table of its items.
+/// Prints the table of its items, or of what is found of it where it is refused.
 pub fn tell_items<'a>(
     rt: &HostRuntime,
     image: &'a str,
     volume: Option<u64>,
     format: Format,
 ) -> Result<u8, Fault<'a>> {
-    let image = open_seen(rt, image, volume)?;
-    print_table(rt, &image, format)
+    match look(rt, image, volume)? {
+        Looked::Sound(image) => print_table(rt, &image, format),
+        Looked::Refused(refused) => show_items(rt, image, volume, format, refused),
+    }
 }
 
 /// Prints the bytes of a file's fork.

@@ -85,6 +85,11 @@ and two hexadecimal digits. In JSON path, type and creator hold the
 characters themselves, numbers are numbers, yes and no are true and
 false, and an empty field is null.
 
+Of a refused disk there is a row for each item that rescue finds, and
+behind them, on standard error, why it is refused; the status is that
+of rescue. Items and file_id are empty there, and so is the path of
+what is old or lost.
+
 A spreadsheet runs a name that begins with = + - or @ as a formula:
 import the file with its columns as text.";
 

@@ -9,6 +9,7 @@ mod help;
 mod pages;
 mod progress;
 mod reading;
+mod remaining;
 mod rescuing;
 mod running;
 mod saving;

@@ -1,0 +1,3 @@
+pub mod GatherLemmas
+mod ForkLemmas
+mod FirstLemmas

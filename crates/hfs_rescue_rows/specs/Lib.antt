@@ -1,0 +1,5 @@
+pub mod Rows
+pub mod Paths
+pub mod Folders
+pub mod Forks
+pub mod Gathers

@@ -1,0 +1,250 @@
+//! What is found of a refused image, as the words show it that read a sound one: rows, and the bytes of a fork.
+ghost use Rattle.std.specs.Prelude.{◌≡◌, Err, Some, IfErr, IfOk, List, ℕ, OnErr, OnOk};
+ghost use Rattle.std.specs.Io.KnownBytes.{Appends};
+ghost use Rattle.hfs_commands.specs.Checks.{IsCheckFault};
+ghost use Rattle.hfs_commands.specs.Faults.{IsUnprinted};
+ghost use Rattle.hfs_finds.specs.Finds.{IsFoundIn};
+ghost use Rattle.hfs_needed.specs.Known.{OfKnown};
+ghost use Rattle.hfs_rescue_items.specs.Writing.{WritesFrontOf, WritesOf};
+ghost use Rattle.hfs_rescue_rows.specs.Paths.{path_end};
+ghost use Rattle.hfs_rescue_rows.specs.Rows.{selected_text};
+ghost use Rattle.hfs_texts.specs.Writing.{AppendsFront};
+ghost use Rattle.hfs_salvage.specs.Shown.{OfKnownFound, end_bytes, end_rows, folder_told, fork_told, found_status, told_whole, whole_status};
+
+use crate::answer::RescueAnswer;
+use crate::found::found_in;
+use crate::image::RescuedImage;
+use crate::words::RescueWords;
+use hfs_check::MountFault;
+use hfs_commands::{CopyFault, Fault, Format, Status};
+use hfs_finds::salvage_of;
+use hfs_model::{NOT_A_FOLDER, NOT_FOUND, Reply};
+use hfs_queries::refusal;
+use hfs_rescue_items::Found;
+use hfs_rescue_rows::{
+    PathEnd, Selection, TableFault, home_number, path_end, write_item_fork, write_rows,
+};
+use hfs_space::ForkKind;
+use hfs_sparse::BlockSource;
+use std::alloc::Global;
+use std::io::Write;
+
+/// What a fault of writing rows means.
+fn fault_of_rows(fault: TableFault) -> Fault<'static>
+    ensures { IsUnprinted result }
+{
+    match fault {
+        TableFault::Memory => Fault::NoMemory,
+        TableFault::OutputFailed => Fault::OutputFailed,
+    }
+}
+
+/// The fault that an image's check tells; None of a sound one.
+pub fn image_fault<S: BlockSource>(image: &RescuedImage<S>) -> Option<MountFault>
+    ensures { OfKnown (S.image image.now.source) image.now.len (IsCheckFault result) }
+{
+    image.check.fault
+}
+
+/// Writes the rows of what was found of an image that are selected, and answers the exit status of `rescue`.
+fn write_selected<S: BlockSource, W: Write>(
+    alloc: Global,
+    writer: &mut W,
+    image: &RescuedImage<S>,
+    found: &Found<'_>,
+    selection: Selection,
+) -> Result<u8, Fault<'static>>
+    requires { found.now.mdb.now ≡ image.now.finds.mdb }
+    ensures written { OnOk result (Appends (W.contents writer.old) (W.contents writer.new)
+        (selected_text selection found.now)) }
+    ensures part { OnErr result (AppendsFront (W.contents writer.old) (W.contents writer.new)
+        (selected_text selection found.now)) }
+    ensures status { (bytes : List ℕ) → IsCheckFault image.now.check.fault bytes
+        → IsFoundIn bytes (Some image.now.finds)
+        → IfOk result (λ status. status ≡ found_status bytes found.now) }
+    ensures faults { IfErr result IsUnprinted }
+{
+    let Ok(answer) = RescueAnswer::of(alloc, &image.check, &image.finds, found) else {
+        return Err(Fault::NoMemory);
+    };
+    match write_rows(alloc, writer, found, selection) {
+        Ok(()) => Ok(answer.status),
+        Err(fault) => Err(fault_of_rows(fault)),
+    }
+}
+
+/// Writes the table of what was found of an image, a row for each item, in their order, and answers the exit status of `rescue`. All this
+/// where the image's bytes are known; a file's are not. Faults: memory was refused; `OutputFailed`, and then a part of the table may
+/// have gone out, from its beginning on.
+pub fn write_found_items<S: BlockSource, W: Write>(
+    alloc: Global,
+    writer: &mut W,
+    image: &RescuedImage<S>,
+    words: &RescueWords<'_>,
+    format: Format,
+) -> Result<u8, Fault<'static>>
+    ensures written { OnOk result (OfKnownFound (S.image image.now.source) image.now.len words.now
+        (λ bytes found. Appends (W.contents writer.old) (W.contents writer.new)
+        (selected_text (Selection.All format) found))) }
+    ensures part { OnErr result (OfKnownFound (S.image image.now.source) image.now.len words.now
+        (λ bytes found. AppendsFront (W.contents writer.old) (W.contents writer.new)
+        (selected_text (Selection.All format) found))) }
+    ensures status { IfOk result (λ status. OfKnownFound (S.image image.now.source) image.now.len words.now
+        (λ bytes found. status ≡ found_status bytes found)) }
+    ensures faults { IfErr result IsUnprinted }
+{
+    let limit = words.limit_for(image.len);
+    let Ok(salvage) = salvage_of(alloc, &image.finds, limit) else {
+        return Err(Fault::NoMemory);
+    };
+    let found = found_in(&image.finds, &salvage);
+    write_selected(alloc, writer, image, &found, Selection::All(format))
+}
+
+/// Writes the rows of the folder that an end of a path is, and answers the exit status of `rescue`, or the code where it is none.
+fn write_end_rows<S: BlockSource, W: Write>(
+    alloc: Global,
+    writer: &mut W,
+    image: &RescuedImage<S>,
+    found: &Found<'_>,
+    end: PathEnd,
+) -> Result<Result<u8, Reply>, Fault<'static>>
+    requires { found.now.mdb.now ≡ image.now.finds.mdb }
+    ensures written { OnOk result (Appends (W.contents writer.old) (W.contents writer.new)
+        (end_rows found.now end)) }
+    ensures part { OnErr result (AppendsFront (W.contents writer.old) (W.contents writer.new)
+        (end_rows found.now end)) }
+    ensures told { (bytes : List ℕ) → IsCheckFault image.now.check.fault bytes
+        → IsFoundIn bytes (Some image.now.finds)
+        → IfOk result (λ told. told ≡ folder_told bytes found.now end) }
+    ensures faults { IfErr result IsUnprinted }
+{
+    match end {
+        PathEnd::Nothing => Ok(Err(refusal(NOT_FOUND))),
+        PathEnd::File(_) => Ok(Err(refusal(NOT_A_FOLDER))),
+        PathEnd::Folder(k) => {
+            let home = home_number(found.places.things(), k);
+            let status = write_selected(alloc, writer, image, found, Selection::InFolder(home))?;
+            Ok(Ok(status))
+        }
+    }
+}
+
+/// Writes the rows of what lies in the folder that a path leads to, which is read as the rows print it, and answers the exit status of `rescue`;
+/// or -43 where no item has that path, -120 where it is a file's, and nothing is written. All this where the image's bytes are known; a
+/// file's are not. Faults: as [`write_found_items`] has them.
+pub fn write_found_folder<S: BlockSource, W: Write>(
+    alloc: Global,
+    writer: &mut W,
+    image: &RescuedImage<S>,
+    words: &RescueWords<'_>,
+    path: &str,
+) -> Result<Result<u8, Reply>, Fault<'static>>
+    ensures written { OnOk result (OfKnownFound (S.image image.now.source) image.now.len words.now
+        (λ bytes found. Appends (W.contents writer.old) (W.contents writer.new)
+        (end_rows found (path_end found path.now)))) }
+    ensures part { OnErr result (OfKnownFound (S.image image.now.source) image.now.len words.now
+        (λ bytes found. AppendsFront (W.contents writer.old) (W.contents writer.new)
+        (end_rows found (path_end found path.now)))) }
+    ensures told { IfOk result (λ told. OfKnownFound (S.image image.now.source) image.now.len words.now
+        (λ bytes found. told ≡ folder_told bytes found (path_end found path.now))) }
+    ensures faults { IfErr result IsUnprinted }
+{
+    let limit = words.limit_for(image.len);
+    let Ok(salvage) = salvage_of(alloc, &image.finds, limit) else {
+        return Err(Fault::NoMemory);
+    };
+    let found = found_in(&image.finds, &salvage);
+    let Ok(end) = path_end(alloc, &found, path) else {
+        return Err(Fault::NoMemory);
+    };
+    write_end_rows(alloc, writer, image, &found, end)
+}
+
+/// The exit status behind a fork that is whole, or isn't.
+fn whole_status(is_whole: bool) -> u8
+    ensures { result ≡ whole_status is_whole }
+{
+    if is_whole {
+        Status::Done.number()
+    } else {
+        Status::CallRefused.number()
+    }
+}
+
+/// What is told of a fork that is whole, or isn't; or the code where there is none.
+fn told_whole(whole: Option<bool>) -> Result<u8, Reply>
+    ensures { result ≡ told_whole whole }
+{
+    match whole {
+        Some(is_whole) => Ok(whole_status(is_whole)),
+        None => Err(refusal(NOT_FOUND)),
+    }
+}
+
+/// Writes the bytes that are taken of a fork of the item that an end of a path is, and answers whether it is whole, by the exit status, or the
+/// code where there is no fork.
+fn write_end_fork<S: BlockSource, W: Write>(
+    alloc: Global,
+    source: &mut S,
+    found: &Found<'_>,
+    kind: ForkKind,
+    end: PathEnd,
+    writer: &mut W,
+) -> Result<Result<u8, Reply>, CopyFault>
+    ensures written { OnOk result (WritesOf (S.image source.old) (W.contents writer.old)
+        (W.contents writer.new) (λ bytes. end_bytes bytes found.now kind end)) }
+    ensures part { OnErr result (WritesFrontOf (S.image source.old) (W.contents writer.old)
+        (W.contents writer.new) (λ bytes. end_bytes bytes found.now kind end)) }
+    ensures told { IfOk result (λ told. told ≡ fork_told found.now kind end) }
+    ensures none { result ≡ Err CopyFault.ReadFailed → writer.new ≡ writer.old }
+    ensures memory { result ≡ Err CopyFault.Memory → writer.new ≡ writer.old }
+{
+    match end {
+        PathEnd::Nothing => Ok(Err(refusal(NOT_FOUND))),
+        PathEnd::File(k) | PathEnd::Folder(k) => {
+            let whole = write_item_fork(alloc, source, found, k, kind, writer)?;
+            Ok(told_whole(whole))
+        }
+    }
+}
+
+/// Writes the bytes that `rescue` takes of a fork of the item that a path leads to, which is read as the rows print it, and answers the exit
+/// status: 0 where the fork is whole, else 3; or -43 where no file has that path, and nothing is written. All this where the image's bytes
+/// are known; a file's are not. Errors: as [`write_fork`](hfs_rescue_items::write_fork) has them.
+pub fn write_found_fork<S: BlockSource + Drop, W: Write>(
+    alloc: Global,
+    writer: &mut W,
+    image: RescuedImage<S>,
+    words: &RescueWords<'_>,
+    path: &str,
+    kind: ForkKind,
+) -> Result<Result<u8, Reply>, CopyFault>
+    ensures written { OnOk result (OfKnownFound (S.image image.source) image.len words.now
+        (λ bytes found. Appends (W.contents writer.old) (W.contents writer.new)
+        (end_bytes bytes found kind (path_end found path.now)))) }
+    ensures part { OnErr result (OfKnownFound (S.image image.source) image.len words.now
+        (λ bytes found. AppendsFront (W.contents writer.old) (W.contents writer.new)
+        (end_bytes bytes found kind (path_end found path.now)))) }
+    ensures told { IfOk result (λ told. OfKnownFound (S.image image.source) image.len words.now
+        (λ bytes found. told ≡ fork_told found kind (path_end found path.now))) }
+    ensures none { result ≡ Err CopyFault.ReadFailed → writer.new ≡ writer.old }
+    ensures memory { result ≡ Err CopyFault.Memory → writer.new ≡ writer.old }
+{
+    let RescuedImage {
+        mut source,
+        len,
+        line: _,
+        check: _,
+        finds,
+    } = image;
+    let limit = words.limit_for(len);
+    let Ok(salvage) = salvage_of(alloc, &finds, limit) else {
+        return Err(CopyFault::Memory);
+    };
+    let found = found_in(&finds, &salvage);
+    let Ok(end) = path_end(alloc, &found, path) else {
+        return Err(CopyFault::Memory);
+    };
+    write_end_fork(alloc, &mut source, &found, kind, end, writer)
+}
