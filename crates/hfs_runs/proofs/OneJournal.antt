@@ -10,6 +10,7 @@ use Rattle.hfs_model.specs.declared.reply.Reply.{Reply}
 use Rattle.hfs_model.specs.declared.journal.Entry.{Entry}
 use Rattle.hfs_model.specs.Volume.{Volume}
 use Rattle.hfs_model.specs.Runs.{after}
+use Rattle.hfs_check.specs.VolumeOf.{volume_of}
 use Rattle.hfs_published.specs.declared.item.Item.{Item}
 use Rattle.hfs_published.specs.declared.item.Item.TheVariants.{Opening, Change}
 use Rattle.hfs_published.specs.Journals.{IsLegal, is_accepted, changes, published}
@@ -125,32 +126,33 @@ module _ (law : PublishedIsAfter) (opening : Volume) where
   same_volume a x b y legal_a legal_b same =
       sym (shown_before a x legal_a) ∙ ap (λ (l : List Item). shown (Opening opening ∷ l)) same ∙ shown_before b y legal_b
 
-  module _ (before journal : List Entry) (p : PassState) (c : Call) (r : Reply) (legal : IsLegal opening (before ++ entry_of p c r ∷ [])) (whole : IsLegal opening journal)
-      (is_reply : IsReplyOf (after opening before) c r) where
-    stands_at : (cut : IsCut journal (changes before)) → (is_change c r ≡ true → BeginsWith c cut.behind) → Stands opening journal c r
-    stands_at cut next = record {
-      before = cut.before;
-      behind = cut.behind;
-      whole = cut.whole;
-      reply_is = subst (λ (v : Volume). IsReplyOf v c r)
-          (same_volume before (entry_of p c r ∷ []) cut.before cut.behind legal (subst (λ (es : List Entry). IsLegal opening es) (sym cut.whole) whole) (sym cut.publishes)) is_reply;
-      next = next;
-    }
+module _ (law : PublishedIsAfter) (base : List ℕ) (before journal : List Entry) (p : PassState) (c : Call) (r : Reply) (legal : IsLegal (volume_of base) (before ++ entry_of p c r ∷ []))
+    (whole : IsLegal (volume_of base) journal) (is_reply : IsReplyOf base (after (volume_of base) before) c r) where
+  stands_at : (cut : IsCut journal (changes before)) → (is_change c r ≡ true → BeginsWith c cut.behind) → Stands base journal c r
+  stands_at cut next = record {
+    before = cut.before;
+    behind = cut.behind;
+    whole = cut.whole;
+    reply_is = subst (λ (v : Volume). IsReplyOf base v c r)
+        (same_volume law (volume_of base) before (entry_of p c r ∷ []) cut.before cut.behind legal (subst (λ (es : List Entry). IsLegal (volume_of base) es) (sym cut.whole) whole)
+        (sym cut.publishes)) is_reply;
+    next = next;
+  }
 
-    pub stands_in : IsPrefix (changes (before ++ entry_of p c r ∷ [])) (changes journal) → Stands opening journal c r
-    stands_in begins = by_test (is_change c r) refl
-      where
-        by_test : (b : Bool) → is_change c r ≡ b → Stands opening journal c r
-        by_test true is =
-            let grown : changes (before ++ entry_of p c r ∷ []) ≡ changes before ++ Change c ∷ [] =
-            changes-append before (entry_of p c r ∷ []) ∙ ap (λ (l : List Item). changes before ++ l) (changes_accepted (entry_of p c r) [] is) in
-            let at = cut_at journal (changes before) c (subst (λ (l : List Item). IsPrefix l (changes journal)) grown begins) in
-            stands_at at.cut (λ same. at.next)
-        by_test false is =
-            let same : changes (before ++ entry_of p c r ∷ []) ≡ changes before =
-            changes-append before (entry_of p c r ∷ []) ∙ ap (λ (l : List Item). changes before ++ l) (changes_other (entry_of p c r) [] is) ∙ append-nil (changes before) in
-            let no : is_change c r ≡ true → ⊥ = λ yes. let two : true ≡ false = sym yes ∙ is in absurd (cc two) in
-            stands_at (cut_for journal (changes before) (subst (λ (l : List Item). IsPrefix l (changes journal)) same begins)) (λ yes. absurd (no yes))
+  pub stands_in : IsPrefix (changes (before ++ entry_of p c r ∷ [])) (changes journal) → Stands base journal c r
+  stands_in begins = by_test (is_change c r) refl
+    where
+      by_test : (b : Bool) → is_change c r ≡ b → Stands base journal c r
+      by_test true is =
+          let grown : changes (before ++ entry_of p c r ∷ []) ≡ changes before ++ Change c ∷ [] =
+          changes-append before (entry_of p c r ∷ []) ∙ ap (λ (l : List Item). changes before ++ l) (changes_accepted (entry_of p c r) [] is) in
+          let at = cut_at journal (changes before) c (subst (λ (l : List Item). IsPrefix l (changes journal)) grown begins) in
+          stands_at at.cut (λ same. at.next)
+      by_test false is =
+          let same : changes (before ++ entry_of p c r ∷ []) ≡ changes before =
+          changes-append before (entry_of p c r ∷ []) ∙ ap (λ (l : List Item). changes before ++ l) (changes_other (entry_of p c r) [] is) ∙ append-nil (changes before) in
+          let no : is_change c r ≡ true → ⊥ = λ yes. let two : true ≡ false = sym yes ∙ is in absurd (cc two) in
+          stands_at (cut_for journal (changes before) (subst (λ (l : List Item). IsPrefix l (changes journal)) same begins)) (λ yes. absurd (no yes))
 
 -- ---- what was told
 
@@ -166,10 +168,11 @@ changes_within journal n = (changes (drop n journal), sym (changes-append (take 
 tail_begins : {A : Type 0} (x y : A) (xs ys : List A) → IsPrefix (x ∷ xs) (y ∷ ys) → IsPrefix xs ys
 tail_begins x y xs ys p = (p.0, cc (p.1))
 
-pub stands : PublishedIsAfter → (book : Book) (opening : Volume) (journal : List Entry) (covered : ℕ) (seen last : List Item) (p q : PassState) (c : Call) (r : Reply) (t : ToldState)
-    → IsLegal opening journal → IsSomeCall book opening p c r t q → t.shown ≡ t.made → IsPrefix t.list seen → IsPrefix seen last → last ≡ published opening journal covered
-    → Stands opening journal c r
-stands law book opening journal covered seen last p q c r t legal made whole learned begins is =
+pub stands : PublishedIsAfter → (book : Book) (base : List ℕ) (journal : List Entry) (covered : ℕ) (seen last : List Item) (p q : PassState) (c : Call) (r : Reply) (t : ToldState)
+    → IsLegal (volume_of base) journal → IsSomeCall book base p c r t q → t.shown ≡ t.made → IsPrefix t.list seen → IsPrefix seen last → last ≡ published (volume_of base) journal covered
+    → Stands base journal c r
+stands law book base journal covered seen last p q c r t legal made whole learned begins is =
+    let opening = volume_of base in
     let before = made.0 in
     let call = made.1 in
     let es = before ++ entry_of p c r ∷ [] in
@@ -178,5 +181,5 @@ stands law book opening journal covered seen last p q c r t legal made whole lea
     let list : t.list ≡ Opening opening ∷ changes es = ap (λ (s : ToldState). s.list) tells ∙ told_changes opening es t.shown number in
     let all : IsPrefix t.list (published opening journal covered) = subst (λ (l : List Item). IsPrefix t.list l) is (prefix_trans t.list seen last learned begins) in
     let same : IsPrefix (Opening opening ∷ changes es) (Opening opening ∷ changes (take covered journal)) = subst (λ (l : List Item). IsPrefix l (published opening journal covered)) list all in
-    stands_in law opening before journal p c r call.legal legal call.reply
+    stands_in law base before journal p c r call.legal legal call.reply
     (prefix_trans (changes es) (changes (take covered journal)) (changes journal) (tail_begins (Opening opening) (Opening opening) (changes es) (changes (take covered journal)) same) (changes_within journal covered))

@@ -44,7 +44,7 @@ when_true false is h = absurd (cc is)
 
 pub ran : {V : Type 0} (items : V → List Call) (book : Book) (image : List ℕ) (lines : List ScriptLine) (volume : ImageValue) (text : List ℕ) (whole shown : Bool) (asked : List Asked) (passes : List PassState)
     (jobs : List (PassState × V)) (dones : List Done) (begun ended : List Viewing) → AreNumbered (map (λ (line : ScriptLine). line.caller) lines) asked → AreJobs items lines (workers lines) passes jobs
-    → AreDone items book (volume_of image) jobs dones → AreViewings book (volume_of image) lines (viewers lines) begun → AreViewed begun ended → text ≡ answers_text (replies_of dones ended) asked
+    → AreDone items book image jobs dones → AreViewings book (volume_of image) lines (viewers lines) begun → AreViewed begun ended → text ≡ answers_text (replies_of dones ended) asked
     → whole ≡ is_whole (replies_of dones ended) asked → PublishedIsAfter → IsWhether shown (OfEach AreWhole dones) → IsHandedOut image volume dones → AreLinesRun image lines volume text whole shown
 ran items book image lines volume text whole shown asked passes jobs dones begun ended numbered begins done views viewed text_is whole_is law shown_is out =
     let opening = volume_of image in
@@ -63,12 +63,12 @@ ran items book image lines volume text whole shown asked passes jobs dones begun
       agrees = closed.agrees;
       legal = closed.legal;
       follows = closed.follows;
-      made = λ place below. made_at items book opening lines (workers lines) passes jobs dones out.journal begins done closed.all place below;
-      others = subst (λ (n : ℕ). HasNoOthers n out.journal) (passes_count items book opening lines passes jobs dones begins done) closed.others;
-      worked = λ place below. worked_at items book opening lines (workers lines) passes jobs dones begins done place below;
+      made = λ place below. made_at items book image lines (workers lines) passes jobs dones out.journal begins done closed.all place below;
+      others = subst (λ (n : ℕ). HasNoOthers n out.journal) (passes_count items book image lines passes jobs dones begins done) closed.others;
+      worked = λ place below. worked_at items book image lines (workers lines) passes jobs dones begins done place below;
       viewed = λ place below. viewed_at book opening lines (viewers lines) begun ended views viewed place below;
       stands = λ yes place below.
-          stand_at items book opening lines (workers lines) passes jobs dones begins done law out.journal out.shown out.before.list out.afterwards.list end (when_true shown yes shown_is) place below;
+          stand_at items book image lines (workers lines) passes jobs dones begins done law out.journal out.shown out.before.list out.afterwards.list end (when_true shown yes shown_is) place below;
     }
 
 -- the same run, by a text and a test that are the same

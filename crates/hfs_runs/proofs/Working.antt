@@ -8,6 +8,7 @@ use Rattle.hfs_model.specs.declared.call.Call.TheVariants.{GetDirInfo}
 use Rattle.hfs_model.specs.declared.reply.Reply.{Reply}
 use Rattle.hfs_model.specs.declared.journal.Entry.{Entry}
 use Rattle.hfs_model.specs.Volume.{Volume}
+use Rattle.hfs_check.specs.VolumeOf.{volume_of}
 use Rattle.hfs_scripts.specs.declared.lines.Caller.TheVariants.{Worker, Viewer}
 use Rattle.hfs_scripts.specs.declared.lines.ScriptLine.{ScriptLine}
 use Rattle.hfs_scripts.specs.Callers.{calls_of, workers}
@@ -38,9 +39,9 @@ pub record AreJobs {V : Type 0} (items : V → List Call) (lines : List ScriptLi
   pub calls_are : (i : ℕ) (j : PassState × V) → i < length passes → items (get_or jobs i j).1 ≡ calls_of (Worker (i + 1)) lines
 
 -- and what was done of them
-pub record AreDone {V : Type 0} (items : V → List Call) (book : Book) (opening : Volume) (jobs : List (PassState × V)) (dones : List Done) : Type 0 where
+pub record AreDone {V : Type 0} (items : V → List Call) (book : Book) (base : List ℕ) (jobs : List (PassState × V)) (dones : List Done) : Type 0 where
   pub many : length dones ≡ length jobs
-  pub each : (i : ℕ) (d : Done) (j : PassState × V) → i < length jobs → IsDone book opening (get_or jobs i j).0 (items (get_or jobs i j).1) (get_or dones i d)
+  pub each : (i : ℕ) (d : Done) (j : PassState × V) → i < length jobs → IsDone book base (get_or jobs i j).0 (items (get_or jobs i j).1) (get_or dones i d)
 
 -- a told list with nothing in it
 told_none : Book → ToldState
@@ -56,29 +57,29 @@ replies_at dones place d below =
     ap (λ (n : ℕ). get_or (map of_done dones) n []) at ∙ get_or-map of_done dones place d [] below
 
 -- a job's work, under the pass of its worker
-work_at : {V : Type 0} (items : V → List Call) (book : Book) (opening : Volume) (lines : List ScriptLine) (workers : ℕ) (passes : List PassState) (jobs : List (PassState × V)) (dones : List Done)
-    → AreJobs items lines workers passes jobs → AreDone items book opening jobs dones → (place : ℕ) → place < workers → (d : Done) (j : PassState × V)
-    → IsWork book opening (pass_state (place + 1) 1) (calls_of (Worker (place + 1)) lines) (get_or dones place d).pass (get_or dones place d).replies.items
-work_at items book opening lines workers passes jobs dones h done place below d j =
+work_at : {V : Type 0} (items : V → List Call) (book : Book) (base : List ℕ) (lines : List ScriptLine) (workers : ℕ) (passes : List PassState) (jobs : List (PassState × V)) (dones : List Done)
+    → AreJobs items lines workers passes jobs → AreDone items book base jobs dones → (place : ℕ) → place < workers → (d : Done) (j : PassState × V)
+    → IsWork book base (pass_state (place + 1) 1) (calls_of (Worker (place + 1)) lines) (get_or dones place d).pass (get_or dones place d).replies.items
+work_at items book base lines workers passes jobs dones h done place below d j =
     let none = pass_state 0 0 in
     let within : place < length passes = omega (arith, h.first.many) in
     let w = done.each place d j (omega (arith, h.many)) in
     let pass : (get_or jobs place j).0 ≡ pass_state (place + 1) 1 = h.passes_are place j none within ∙ h.first.each place none below in
     let last = (get_or dones place d).pass in
     let told = (get_or dones place d).replies.items in
-    subst (λ (calls : List Call). IsWork book opening (pass_state (place + 1) 1) calls last told) (h.calls_are place j within)
-    (subst (λ (p : PassState). IsWork book opening p (items (get_or jobs place j).1) last told) pass w.work)
+    subst (λ (calls : List Call). IsWork book base (pass_state (place + 1) 1) calls last told) (h.calls_are place j within)
+    (subst (λ (p : PassState). IsWork book base p (items (get_or jobs place j).1) last told) pass w.work)
 
-pub worked_at : {V : Type 0} (items : V → List Call) (book : Book) (opening : Volume) (lines : List ScriptLine) (workers : ℕ) (passes : List PassState) (jobs : List (PassState × V)) (dones : List Done)
-    → AreJobs items lines workers passes jobs → AreDone items book opening jobs dones → (place : ℕ) → place < workers
-    → IsWorked book opening (place + 1) (calls_of (Worker (place + 1)) lines) (worker_replies dones (place + 1))
-worked_at items book opening lines workers passes [] dones h done place below = let no : ⊥ = omega (arith, h.many, h.first.many) in absurd no
-worked_at items book opening lines workers passes (j ∷ jobs) [] h done place below = let no : ⊥ = omega (arith, done.many) in absurd no
-worked_at items book opening lines workers passes (j ∷ jobs) (d ∷ dones) h done place below = (
+pub worked_at : {V : Type 0} (items : V → List Call) (book : Book) (base : List ℕ) (lines : List ScriptLine) (workers : ℕ) (passes : List PassState) (jobs : List (PassState × V)) (dones : List Done)
+    → AreJobs items lines workers passes jobs → AreDone items book base jobs dones → (place : ℕ) → place < workers
+    → IsWorked book base (place + 1) (calls_of (Worker (place + 1)) lines) (worker_replies dones (place + 1))
+worked_at items book base lines workers passes [] dones h done place below = let no : ⊥ = omega (arith, h.many, h.first.many) in absurd no
+worked_at items book base lines workers passes (j ∷ jobs) [] h done place below = let no : ⊥ = omega (arith, done.many) in absurd no
+worked_at items book base lines workers passes (j ∷ jobs) (d ∷ dones) h done place below = (
   (get_or (d ∷ dones) place d).replies.items,
   (get_or (d ∷ dones) place d).pass,
   sym (replies_at (d ∷ dones) place d (omega (arith, done.many, h.many, h.first.many))),
-  work_at items book opening lines workers passes (j ∷ jobs) (d ∷ dones) h done place below d j,
+  work_at items book base lines workers passes (j ∷ jobs) (d ∷ dones) h done place below d j,
 )
 
 -- each worker has as many entries as its pass says, where all passes are there
@@ -92,38 +93,38 @@ made_of passes journal count all are place below =
     let at : has.0 ≡ place = omega (arith, ap (λ (p : PassState). p.worker) same) in
     omega (arith, ap (λ (p : PassState). p.number) same, ap count at)
 
-pass_at : {V : Type 0} (items : V → List Call) (book : Book) (opening : Volume) (lines : List ScriptLine) (workers : ℕ) (passes : List PassState) (jobs : List (PassState × V)) (dones : List Done)
-    → AreJobs items lines workers passes jobs → AreDone items book opening jobs dones → (place : ℕ) (p : PassState) → place < length (map (λ (done : Done). done.pass) dones)
+pass_at : {V : Type 0} (items : V → List Call) (book : Book) (base : List ℕ) (lines : List ScriptLine) (workers : ℕ) (passes : List PassState) (jobs : List (PassState × V)) (dones : List Done)
+    → AreJobs items lines workers passes jobs → AreDone items book base jobs dones → (place : ℕ) (p : PassState) → place < length (map (λ (done : Done). done.pass) dones)
     → get_or (map (λ (done : Done). done.pass) dones) place p ≡ pass_state (place + 1) (1 + length (worker_replies dones (place + 1)))
-pass_at items book opening lines workers passes [] dones h done place p below = let no : ⊥ = omega (arith, done.many, length-map dones (λ (done : Done). done.pass)) in absurd no
-pass_at items book opening lines workers passes (j ∷ jobs) [] h done place p below = let no : ⊥ = omega (arith, done.many) in absurd no
-pass_at items book opening lines workers passes (j ∷ jobs) (d ∷ dones) h done place p below =
+pass_at items book base lines workers passes [] dones h done place p below = let no : ⊥ = omega (arith, done.many, length-map dones (λ (done : Done). done.pass)) in absurd no
+pass_at items book base lines workers passes (j ∷ jobs) [] h done place p below = let no : ⊥ = omega (arith, done.many) in absurd no
+pass_at items book base lines workers passes (j ∷ jobs) (d ∷ dones) h done place p below =
     let within : place < length (d ∷ dones) = omega (arith, length-map (d ∷ dones) (λ (done : Done). done.pass)) in
-    let w = work_at items book opening lines workers passes (j ∷ jobs) (d ∷ dones) h done place (omega (arith, done.many, h.many, h.first.many)) d j in
+    let w = work_at items book base lines workers passes (j ∷ jobs) (d ∷ dones) h done place (omega (arith, done.many, h.many, h.first.many)) d j in
     let many : length (worker_replies (d ∷ dones) (place + 1)) ≡ length (get_or (d ∷ dones) place d).replies.items =
     ap length (replies_at (d ∷ dones) place d within) ∙ length-map (get_or (d ∷ dones) place d).replies.items (λ (reply : Reply × ToldState). reply.0) in
     get_or-map (λ (done : Done). done.pass) (d ∷ dones) place d p within ∙ w.pass ∙ ap (λ (n : ℕ). pass_state (place + 1) (1 + n)) (sym many)
 
-pub made_at : {V : Type 0} (items : V → List Call) (book : Book) (opening : Volume) (lines : List ScriptLine) (workers : ℕ) (passes : List PassState) (jobs : List (PassState × V)) (dones : List Done) (journal : List Entry)
-    → AreJobs items lines workers passes jobs → AreDone items book opening jobs dones
+pub made_at : {V : Type 0} (items : V → List Call) (book : Book) (base : List ℕ) (lines : List ScriptLine) (workers : ℕ) (passes : List PassState) (jobs : List (PassState × V)) (dones : List Done) (journal : List Entry)
+    → AreJobs items lines workers passes jobs → AreDone items book base jobs dones
     → AreAllPasses (map (λ (done : Done). done.pass) dones) (length (map (λ (done : Done). done.pass) dones)) journal
     → (place : ℕ) → place < workers → made_by (place + 1) journal ≡ length (worker_replies dones (place + 1))
-made_at items book opening lines workers passes jobs dones journal h done all place below =
-    made_of (map (λ (done : Done). done.pass) dones) journal (λ i. length (worker_replies dones (i + 1))) all (pass_at items book opening lines workers passes jobs dones h done) place
+made_at items book base lines workers passes jobs dones journal h done all place below =
+    made_of (map (λ (done : Done). done.pass) dones) journal (λ i. length (worker_replies dones (i + 1))) all (pass_at items book base lines workers passes jobs dones h done) place
     (omega (arith, length-map dones (λ (done : Done). done.pass), done.many, h.many, h.first.many))
 
 -- there are as many passes as the script has workers
-pub passes_count : {V : Type 0} (items : V → List Call) (book : Book) (opening : Volume) (lines : List ScriptLine) (passes : List PassState) (jobs : List (PassState × V)) (dones : List Done)
-    → AreJobs items lines (workers lines) passes jobs → AreDone items book opening jobs dones → length (map (λ (done : Done). done.pass) dones) ≡ workers lines
-passes_count items book opening lines passes jobs dones h done = omega (arith, length-map dones (λ (done : Done). done.pass), done.many, h.many, h.first.many)
+pub passes_count : {V : Type 0} (items : V → List Call) (book : Book) (base : List ℕ) (lines : List ScriptLine) (passes : List PassState) (jobs : List (PassState × V)) (dones : List Done)
+    → AreJobs items lines (workers lines) passes jobs → AreDone items book base jobs dones → length (map (λ (done : Done). done.pass) dones) ≡ workers lines
+passes_count items book base lines passes jobs dones h done = omega (arith, length-map dones (λ (done : Done). done.pass), done.many, h.many, h.first.many)
 
 -- ---- what workers were told
 
 -- the told lists are of the run's history
-pub told_of : {V : Type 0} (items : V → List Call) (book : Book) (opening : Volume) (jobs : List (PassState × V)) (dones : List Done)
-    → AreDone items book opening jobs dones → OfEach (AreOf book) dones
-told_of items book opening [] dones done i d below = let no : ⊥ = omega (arith, below, done.many) in absurd no
-told_of items book opening (j ∷ jobs) dones done i d below = λ k r under.
+pub told_of : {V : Type 0} (items : V → List Call) (book : Book) (base : List ℕ) (jobs : List (PassState × V)) (dones : List Done)
+    → AreDone items book base jobs dones → OfEach (AreOf book) dones
+told_of items book base [] dones done i d below = let no : ⊥ = omega (arith, below, done.many) in absurd no
+told_of items book base (j ∷ jobs) dones done i d below = λ k r under.
     let one = done.each i d j (omega (arith, below, done.many)) in
     ap (λ (t : ToldState). t.book) (one.work.each k (GetDirInfo 0) r under).1.told_is.tells
 
@@ -134,24 +135,24 @@ pub record IsEnd (opening : Volume) (journal : List Entry) (covered : ℕ) (seen
   pub begins : IsPrefix seen last
   pub published_is : last ≡ published opening journal covered
 
-pub stand_at : {V : Type 0} (items : V → List Call) (book : Book) (opening : Volume) (lines : List ScriptLine) (workers : ℕ) (passes : List PassState) (jobs : List (PassState × V)) (dones : List Done)
-    → AreJobs items lines workers passes jobs → AreDone items book opening jobs dones → PublishedIsAfter
-    → (journal : List Entry) (covered : ℕ) (seen last : List Item) → IsEnd opening journal covered seen last dones → OfEach AreWhole dones
-    → (place : ℕ) → place < workers → AllStand opening journal (calls_of (Worker (place + 1)) lines) (worker_replies dones (place + 1))
-stand_at items book opening lines workers passes [] dones h done law journal covered seen last end whole place below = let no : ⊥ = omega (arith, below, h.many, h.first.many) in absurd no
-stand_at items book opening lines workers passes (j ∷ jobs) [] h done law journal covered seen last end whole place below = let no : ⊥ = omega (arith, done.many) in absurd no
-stand_at items book opening lines workers passes (j ∷ jobs) (d ∷ dones) h done law journal covered seen last end whole place below = λ k c r under.
+pub stand_at : {V : Type 0} (items : V → List Call) (book : Book) (base : List ℕ) (lines : List ScriptLine) (workers : ℕ) (passes : List PassState) (jobs : List (PassState × V)) (dones : List Done)
+    → AreJobs items lines workers passes jobs → AreDone items book base jobs dones → PublishedIsAfter
+    → (journal : List Entry) (covered : ℕ) (seen last : List Item) → IsEnd (volume_of base) journal covered seen last dones → OfEach AreWhole dones
+    → (place : ℕ) → place < workers → AllStand base journal (calls_of (Worker (place + 1)) lines) (worker_replies dones (place + 1))
+stand_at items book base lines workers passes [] dones h done law journal covered seen last end whole place below = let no : ⊥ = omega (arith, below, h.many, h.first.many) in absurd no
+stand_at items book base lines workers passes (j ∷ jobs) [] h done law journal covered seen last end whole place below = let no : ⊥ = omega (arith, done.many) in absurd no
+stand_at items book base lines workers passes (j ∷ jobs) (d ∷ dones) h done law journal covered seen last end whole place below = λ k c r under.
     let within : place < length (d ∷ dones) = omega (arith, below, done.many, h.many, h.first.many) in
     let answers = (get_or (d ∷ dones) place d).replies.items in
     let are : worker_replies (d ∷ dones) (place + 1) ≡ of_done (get_or (d ∷ dones) place d) = replies_at (d ∷ dones) place d within in
     let few : k < length answers = omega (arith, under, ap length are, length-map answers (λ (reply : Reply × ToldState). reply.0)) in
     let answer : Reply × ToldState = get_or answers k (r, told_none book) in
     let calls = calls_of (Worker (place + 1)) lines in
-    let w = work_at items book opening lines workers passes (j ∷ jobs) (d ∷ dones) h done place below d j in
-    let one : Stands opening journal (get_or calls k c) answer.0 =
-    stands law book opening journal covered seen last _ _ (get_or calls k c) answer.0 answer.1 end.legal (w.each k c (r, told_none book) few)
+    let w = work_at items book base lines workers passes (j ∷ jobs) (d ∷ dones) h done place below d j in
+    let one : Stands base journal (get_or calls k c) answer.0 =
+    stands law book base journal covered seen last _ _ (get_or calls k c) answer.0 answer.1 end.legal (w.each k c (r, told_none book) few)
     (whole place d within k (r, told_none book) few) (end.learned place d within k (r, told_none book) few) end.begins end.published_is in
-    subst (λ (x : Reply). Stands opening journal (get_or calls k c) x)
+    subst (λ (x : Reply). Stands base journal (get_or calls k c) x)
     (sym (ap (λ (l : List Reply). get_or l k r) are ∙ get_or-map (λ (reply : Reply × ToldState). reply.0) answers k (r, told_none book) r few)) one
 
 -- ---- viewers

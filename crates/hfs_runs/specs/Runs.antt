@@ -66,11 +66,12 @@ IsRunFault now script image run.Memory = Unit {0}
 
 -- ---- runs
 
--- these are the replies to the first of a worker's calls, each that of the call behind some entries of a legal journal
-abbrev pub IsWorked : Book → Volume → ℕ → List Call → List Reply → Type 0
-IsWorked book opening worker calls replies =
+-- these are the replies to the first of a worker's calls on what this image became, each that of the call behind some entries of a
+-- legal journal
+abbrev pub IsWorked : Book → List ℕ → ℕ → List Call → List Reply → Type 0
+IsWorked book image worker calls replies =
     (told : List (Reply × ToldState)) × (last : PassState) × (map (λ reply. reply.0) told ≡ replies)
-    × IsWork book opening (pass_state worker 1) calls last told
+    × IsWork book image (pass_state worker 1) calls last told
 
 -- these are the replies to the first of a viewer's calls, each on a published list that begins with the one before it
 abbrev pub IsViewedFrom : Book → Volume → List Call → List Reply → Type 0
@@ -104,9 +105,9 @@ pub record AreLinesRun (image : List ℕ) (lines : List ScriptLine) (volume : Im
   pub follows : volume_of volume.current ≡ after (volume_of image) journal
   pub made : (place : ℕ) → place < workers lines → made_by (place + 1) journal ≡ length (replies (Worker (place + 1)))
   pub others : HasNoOthers (workers lines) journal
-  pub worked : (place : ℕ) → place < workers lines → IsWorked book (volume_of image) (place + 1) (calls_of (Worker (place + 1)) lines) (replies (Worker (place + 1)))
+  pub worked : (place : ℕ) → place < workers lines → IsWorked book image (place + 1) (calls_of (Worker (place + 1)) lines) (replies (Worker (place + 1)))
   pub viewed : (place : ℕ) → place < viewers lines → IsViewedFrom book (volume_of image) (calls_of (Viewer (place + 1)) lines) (replies (Viewer (place + 1)))
-  pub stands : shown ≡ true → (place : ℕ) → place < workers lines → AllStand (volume_of image) journal (calls_of (Worker (place + 1)) lines) (replies (Worker (place + 1)))
+  pub stands : shown ≡ true → (place : ℕ) → place < workers lines → AllStand image journal (calls_of (Worker (place + 1)) lines) (replies (Worker (place + 1)))
 
 -- the same of what the program hands out
 abbrev pub AreLinesRunAs : List ℕ → List ScriptLine → Ran → Type 0

@@ -1,7 +1,6 @@
 //! A script that is run on an image.
 ghost use Rattle.std.specs.Prelude.{◌≡◌, All, IfOk, IfErr, length};
 ghost use Rattle.std.specs.Thread.{IsSync};
-ghost use Rattle.hfs_check.specs.VolumeOf.{volume_of};
 ghost use Rattle.hfs_scripts.specs.Callers.{workers, viewers};
 ghost use Rattle.hfs_shared.specs.Shareds.{IsStart};
 ghost use Rattle.hfs_shared.specs.Works.{AreDone};
@@ -88,7 +87,7 @@ fn run_beside<K: Session + Send + Sync, R: Threads + Wait + Sync, G: Gate + Sync
 ) -> (Result<Vec<Done>, RunFault>, Vec<Viewing>)
     ensures dones { IfOk result.0 (λ v. length v.items ≡ length jobs.items) }
     ensures done { IfOk result.0 (λ v.
-        AreDone K.book (volume_of K.base) (λ c. c.items) jobs.items v.items) }
+        AreDone K.book K.base (λ c. c.items) jobs.items v.items) }
     ensures viewings { length result.1.items ≡ length viewings.items }
     ensures viewed { AreViewed viewings.items result.1.items }
 {
@@ -98,7 +97,7 @@ fn run_beside<K: Session + Send + Sync, R: Threads + Wait + Sync, G: Gate + Sync
             requires { IsSync R.row × IsSync K.row × IsSync G.row }
             ensures dones { IfOk result (λ v. length v.items ≡ length jobs.items) }
             ensures done { IfOk result (λ v.
-                AreDone K.book (volume_of K.base) (λ c. c.items) jobs.items v.items) }
+                AreDone K.book K.base (λ c. c.items) jobs.items v.items) }
         { run_workers(shared, rt, alloc, gate, jobs) },
         move || -> Vec<Viewing>
             requires { IsSync R.row }

@@ -7,9 +7,8 @@ use Rattle.hfs_model.specs.declared.journal.Entry.{Entry}
 use Rattle.hfs_model.specs.Volume.{Volume}
 use Rattle.hfs_model.specs.Changes.{Outcome}
 use Rattle.hfs_model.specs.Runs.{after}
-use Rattle.hfs_model.specs.Need.{step_within}
+use Rattle.hfs_check.specs.Agree.{Agrees}
 use Rattle.hfs_check.specs.VolumeOf.{volume_of}
-use Rattle.hfs_volume.specs.Serving.{free_in, depth_in}
 use Rattle.hfs_published.specs.Histories.{known}
 use Rattle.hfs_published.specs.Journals.{IsLegal, published}
 use Rattle.hfs_published.specs.Tolds.{ToldState, told}
@@ -35,7 +34,7 @@ fault_under wanted given (Stamp w g) h = (h.1, λ same. h.2 (sym h.1 ∙ same �
 fault_under wanted given Memory h = tt
 
 pub is_call : (book : Book) (base : List ℕ) (s t : DeskState) (p q : PassState) (c : Call) (r : Reply) (x : ToldState)
-    → t.base ≡ base → IsApplied s p c r t q → IsToldOf book (volume_of base) t.journal x → IsSomeCall book (volume_of base) p c r x q
+    → t.base ≡ base → IsApplied s p c r t q → IsToldOf book (volume_of base) t.journal x → IsSomeCall book base p c r x q
 is_call book base s t p q c r x base_is a told_is =
     let opening = volume_of base in
     let opens_after : volume_of t.base ≡ opening = ap volume_of base_is in
@@ -45,7 +44,12 @@ is_call book base s t p q c r x base_is a told_is =
       record {
         pass = a.pass;
         legal = subst (λ (y : Volume × List Entry). IsLegal y.0 y.1) (λ i. (opens_after i, a.journal i)) a.headline_after.legal;
-        reply = (free_in s.current, depth_in s.current, ap (λ (o : Outcome). o.1) a.outcome ∙ ap (λ (v : Volume). (step_within (free_in s.current) (depth_in s.current) v c).1) v_is);
+        reply = record {
+          image = s.current;
+          agrees = subst (λ (b : List ℕ). Agrees b s.current) (sym a.base ∙ base_is) a.headline.agrees;
+          volume_is = v_is;
+          reply_is = ap (λ (o : Outcome). o.1) a.outcome;
+        };
         told_is = subst (λ (es : List Entry). IsToldOf book opening es x) a.journal told_is;
       },
     )

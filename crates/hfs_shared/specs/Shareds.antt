@@ -6,9 +6,10 @@ use Rattle.hfs_model.specs.declared.reply.Reply.{Reply}
 use Rattle.hfs_model.specs.declared.journal.Entry.{Entry}
 use Rattle.hfs_model.specs.Volume.{Volume}
 use Rattle.hfs_model.specs.Runs.{after}
-use Rattle.hfs_model.specs.Need.{step_within}
+use Rattle.hfs_check.specs.Agree.{Agrees}
 use Rattle.hfs_check.specs.VolumeOf.{volume_of}
 use Rattle.hfs_volume.specs.Image.{ImageValue}
+use Rattle.hfs_volume.specs.Serving.{outcome_in}
 use Rattle.hfs_published.specs.Histories.{Known, known, opened}
 use Rattle.hfs_published.specs.Journals.{IsLegal, published}
 use Rattle.hfs_published.specs.Pairs.{PairState}
@@ -52,9 +53,13 @@ IsStartOf image workers viewers p passes seen = IsStart image.current workers vi
 
 -- ---- one call
 
--- the reply is that of the step, or tells of want of nodes, for the nodes that the catalog has
-abbrev pub IsReplyOf : Volume → Call → Reply → Type 0
-IsReplyOf v c r = (free : ℕ) × (depth : ℕ) × (r ≡ (step_within free depth v c).1)
+-- the reply is that of the call on an image that has this volume and agrees with the base: that of the step, or of want of nodes
+-- where that image's catalog has too few
+pub record IsReplyOf (base : List ℕ) (v : Volume) (c : Call) (r : Reply) : Type 0 where
+  pub image : List ℕ
+  pub agrees : Agrees base image
+  pub volume_is : volume_of image ≡ v
+  pub reply_is : r ≡ (outcome_in image c).1
 
 -- what is told of a journal: the published list that covers so many of its entries, and how many there are
 abbrev pub told_of : Book → Volume → List Entry → ℕ → ToldState
@@ -65,14 +70,14 @@ pub record IsToldOf (book : Book) (opening : Volume) (journal : List Entry) (t :
   pub tells : t ≡ told_of book opening journal t.shown
   pub within : t.shown ≤ length journal
 
--- one call, behind these entries: its own stands last in a legal journal, its reply is the one there, and what is told is
--- published of that journal
-pub record IsCall (book : Book) (opening : Volume) (before : List Entry) (p : PassState) (c : Call) (r : Reply) (t : ToldState) (q : PassState) : Type 0 where
+-- one call, behind these entries: its own stands last in a legal journal over the base's volume, its reply is the one there, and
+-- what is told is published of that journal
+pub record IsCall (book : Book) (base : List ℕ) (before : List Entry) (p : PassState) (c : Call) (r : Reply) (t : ToldState) (q : PassState) : Type 0 where
   pub pass : q ≡ pass_state p.worker (p.number + 1)
-  pub legal : IsLegal opening (before ++ entry_of p c r ∷ [])
-  pub reply : IsReplyOf (after opening before) c r
-  pub told_is : IsToldOf book opening (before ++ entry_of p c r ∷ []) t
+  pub legal : IsLegal (volume_of base) (before ++ entry_of p c r ∷ [])
+  pub reply : IsReplyOf base (after (volume_of base) before) c r
+  pub told_is : IsToldOf book (volume_of base) (before ++ entry_of p c r ∷ []) t
 
 -- one call behind some entries
-abbrev pub IsSomeCall : Book → Volume → PassState → Call → Reply → ToldState → PassState → Type 0
-IsSomeCall book opening p c r t q = (before : List Entry) × IsCall book opening before p c r t q
+abbrev pub IsSomeCall : Book → List ℕ → PassState → Call → Reply → ToldState → PassState → Type 0
+IsSomeCall book base p c r t q = (before : List Entry) × IsCall book base before p c r t q

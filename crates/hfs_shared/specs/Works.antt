@@ -3,7 +3,6 @@ use Rattle.std.specs.Prelude.{◌≡◌, ℕ, ◌+◌, ◌<◌, ◌≤◌, List,
 use Rattle.logbook.specs.Pages.{Book}
 use Rattle.hfs_model.specs.declared.call.Call.{Call}
 use Rattle.hfs_model.specs.declared.reply.Reply.{Reply}
-use Rattle.hfs_model.specs.Volume.{Volume}
 use Rattle.hfs_published.specs.Tolds.{ToldState}
 use Rattle.hfs_shared.specs.declared.done.Done.{Done}
 use Rattle.hfs_shared.specs.Desks.{PassState, pass_state}
@@ -15,15 +14,15 @@ abbrev pub later : PassState → ℕ → PassState
 later p n = pass_state p.worker (p.number + n)
 
 -- these are the replies to the first calls, with what was told of each, under the pass's next numbers
-pub record IsWork (book : Book) (opening : Volume) (p : PassState) (calls : List Call) (q : PassState) (replies : List (Reply × ToldState)) : Type 0 where
+pub record IsWork (book : Book) (base : List ℕ) (p : PassState) (calls : List Call) (q : PassState) (replies : List (Reply × ToldState)) : Type 0 where
   pub pass : q ≡ later p (length replies)
   pub few : length replies ≤ length calls
   pub each : (k : ℕ) (c : Call) (r : Reply × ToldState) → k < length replies
-      → IsSomeCall book opening (later p k) (get_or calls k c) (get_or replies k r).0 (get_or replies k r).1 (later p (k + 1))
+      → IsSomeCall book base (later p k) (get_or calls k c) (get_or replies k r).0 (get_or replies k r).1 (later p (k + 1))
 
 -- and without a fault all calls were made; a fault is that of the next call
-pub record IsDone (book : Book) (opening : Volume) (p : PassState) (calls : List Call) (d : Done) : Type 0 where
-  pub work : IsWork book opening p calls d.pass d.replies.items
+pub record IsDone (book : Book) (base : List ℕ) (p : PassState) (calls : List Call) (d : Done) : Type 0 where
+  pub work : IsWork book base p calls d.pass d.replies.items
   pub whole : d.fault ≡ None → length d.replies.items ≡ length calls
   pub refused : IfSome d.fault (IsFaultUnder d.pass.number)
 
@@ -32,18 +31,18 @@ abbrev pub HaveTheirPasses : {V : Type 0} → List (PassState × V) → List Don
 HaveTheirPasses jobs dones = (i : ℕ) (d : _) (j : _) → i < length jobs → (get_or dones i d).pass ≡ (get_or jobs i j).0
 
 -- each job's calls were made, from its pass on
-abbrev pub AreDone : {V : Type 0} → Book → Volume → (V → List Call) → List (PassState × V) → List Done → Type 0
-AreDone book opening calls jobs dones = (i : ℕ) (d : _) (j : _) → i < length jobs
-    → IsDone book opening (get_or jobs i j).0 (calls (get_or jobs i j).1) (get_or dones i d)
+abbrev pub AreDone : {V : Type 0} → Book → List ℕ → (V → List Call) → List (PassState × V) → List Done → Type 0
+AreDone book base calls jobs dones = (i : ℕ) (d : _) (j : _) → i < length jobs
+    → IsDone book base (get_or jobs i j).0 (calls (get_or jobs i j).1) (get_or dones i d)
 
 -- each job's calls were made, from the pass on that was there before
-abbrev pub AreDoneFrom : {V : Type 0} → Book → Volume → (V → List Call) → List (PassState × V) → List Done → List Done → Type 0
-AreDoneFrom book opening calls jobs before afterwards = (i : ℕ) (d : _) (j : _) → i < length jobs
-    → IsDone book opening (get_or before i d).pass (calls (get_or jobs i j).1) (get_or afterwards i d)
+abbrev pub AreDoneFrom : {V : Type 0} → Book → List ℕ → (V → List Call) → List (PassState × V) → List Done → List Done → Type 0
+AreDoneFrom book base calls jobs before afterwards = (i : ℕ) (d : _) (j : _) → i < length jobs
+    → IsDone book base (get_or before i d).pass (calls (get_or jobs i j).1) (get_or afterwards i d)
 
 -- one call more was made
-pub record IsMoreWork (book : Book) (opening : Volume) (p : PassState) (c : Call) (q : PassState) (before afterwards : List (Reply × ToldState)) : Type 0 where
+pub record IsMoreWork (book : Book) (base : List ℕ) (p : PassState) (c : Call) (q : PassState) (before afterwards : List (Reply × ToldState)) : Type 0 where
   pub reply : Reply
   pub told : ToldState
   pub grown : afterwards ≡ before ++ (reply, told) ∷ []
-  pub made : IsSomeCall book opening p c reply told q
+  pub made : IsSomeCall book base p c reply told q

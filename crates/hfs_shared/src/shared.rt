@@ -1,6 +1,5 @@
 //! The shared volume.
 ghost use Rattle.std.specs.Prelude.{◌≡◌, IfOk, OnErr, IfErr};
-ghost use Rattle.hfs_check.specs.VolumeOf.{volume_of};
 ghost use Rattle.hfs_shared.specs.Closings.{IsClosedAs};
 ghost use Rattle.hfs_shared.specs.Faults.{IsFaultUnder};
 ghost use Rattle.hfs_shared.specs.Shareds.{IsSomeCall};
@@ -51,7 +50,7 @@ impl<K: Session> Shared<K> {
         call: Call,
     ) -> Result<(Reply, Told), CallFault>
         ensures ok { IfOk result (λ r.
-            IsSomeCall K.book (volume_of K.base) pass.old call r.0 r.1 pass.new) }
+            IsSomeCall K.book K.base pass.old call r.0 r.1 pass.new) }
         ensures err { OnErr result (pass.new ≡ pass.old) }
         ensures fault { IfErr result (IsFaultUnder pass.old.number) }
     {

@@ -1,6 +1,5 @@
 //! Workers that run side by side.
 ghost use Rattle.std.specs.Prelude.{◌≡◌, ◌<◌, length, get_or, IfOk, OnErr, IfErr, IfSome, IfNone, OnSome};
-ghost use Rattle.hfs_check.specs.VolumeOf.{volume_of};
 ghost use Rattle.hfs_shared.specs.Faults.{IsFaultUnder};
 ghost use Rattle.hfs_shared.specs.Shareds.{IsSomeCall};
 ghost use Rattle.hfs_shared.specs.Works.{IsMoreWork, IsDone, HaveTheirPasses, AreDone, AreDoneFrom};
@@ -39,7 +38,7 @@ fn call_at<K: Session, R: Wait, G: Gate>(
     call: &Call,
 ) -> Result<(Reply, Told), CallFault>
     ensures ok { IfOk result (λ r.
-        IsSomeCall K.book (volume_of K.base) pass.old call.now r.0 r.1 pass.new) }
+        IsSomeCall K.book K.base pass.old call.now r.0 r.1 pass.new) }
     ensures err { OnErr result (pass.new ≡ pass.old) }
     ensures fault { IfErr result (IsFaultUnder pass.old.number) }
 {
@@ -60,7 +59,7 @@ fn call_inside<K: Session, R: Wait, G: Gate>(
     call: &Call,
 ) -> Result<(Reply, Told), CallFault>
     ensures ok { IfOk result (λ r.
-        IsSomeCall K.book (volume_of K.base) pass.old call.now r.0 r.1 pass.new) }
+        IsSomeCall K.book K.base pass.old call.now r.0 r.1 pass.new) }
     ensures err { OnErr result (pass.new ≡ pass.old) }
     ensures fault { IfErr result (IsFaultUnder pass.old.number) }
 {
@@ -82,7 +81,7 @@ fn one_more<K: Session, R: Wait, G: Gate>(
     call: &Call,
     replies: &mut Vec<(Reply, Told)>,
 ) -> Option<CallFault>
-    ensures none { IfNone result (IsMoreWork K.book (volume_of K.base) pass.old call.now pass.new
+    ensures none { IfNone result (IsMoreWork K.book K.base pass.old call.now pass.new
         replies.old.items replies.new.items) }
     ensures some { OnSome result ((replies.new.items ≡ replies.old.items) × (pass.new ≡ pass.old)) }
     ensures fault { IfSome result (IsFaultUnder pass.old.number) }
@@ -108,7 +107,7 @@ fn work<K: Session, R: Wait, G: Gate>(
     calls: &Vec<Call>,
     done: &mut Done,
 )
-    ensures { IsDone K.book (volume_of K.base) done.old.pass calls.now.items done.new }
+    ensures { IsDone K.book K.base done.old.pass calls.now.items done.new }
 {
     let mut replies = Vec::new(alloc);
     let mut fault = None;
@@ -161,7 +160,7 @@ pub fn run_workers<K: Session + Send + Sync, R: Threads + Wait + Sync, G: Gate +
 ) -> Result<Vec<Done>, RunFault>
     ensures many { IfOk result (λ v. length v.items ≡ length jobs.items) }
     ensures each { IfOk result (λ v.
-        AreDone K.book (volume_of K.base) (λ c. c.items) jobs.items v.items) }
+        AreDone K.book K.base (λ c. c.items) jobs.items v.items) }
     ensures err { IfErr result (λ f. f.jobs ≡ jobs) }
 {
     let Some(mut dones) = begin_all(alloc, &jobs) else {
@@ -182,13 +181,13 @@ fn run_all<K: Session + Send + Sync, R: Threads + Wait + Sync, G: Gate + Sync>(
 )
     requires many { length dones.old.items ≡ length jobs.now.items }
     ensures many { length dones.new.items ≡ length jobs.now.items }
-    ensures each { AreDoneFrom K.book (volume_of K.base) (λ c. c.items) jobs.now.items
+    ensures each { AreDoneFrom K.book K.base (λ c. c.items) jobs.now.items
         dones.old.items dones.new.items }
 {
     let threads = jobs.len().max(1);
     let run = |i: usize, done: &mut Done|
         requires { i < length jobs.now.items }
-        ensures { (j : _) → IsDone K.book (volume_of K.base) done.entry.now.pass
+        ensures { (j : _) → IsDone K.book K.base done.entry.now.pass
             (get_or jobs.entry.now.items i j).1.items done.exit.now }
     { work(shared, rt, alloc, gate, &jobs[i].1, done) };
     thread::for_each_mut(rt, dones.as_mut_slice(), threads, &run);

@@ -40,12 +40,12 @@ close-requires-clause-book g c =
 
 pub close-requires-clause-told : goal.close-requires-clause-told
 close-requires-clause-told g c =
-    let done : AreDone (λ (calls : Vec Call Global). calls.items) g.K.Session.book (volume_of g.K.Session.base) c.in_ok-jobs.jobs.items c.in-Ok.dones.items =
+    let done : AreDone (λ (calls : Vec Call Global). calls.items) g.K.Session.book g.K.Session.base c.in_ok-jobs.jobs.items c.in-Ok.dones.items =
     record {
       many = ok_is c.run_beside-dones.result.0 c.in-Ok.dones _ c.in-Ok.is c.run_beside-dones.ensures.dones;
       each = ok_is c.run_beside-dones.result.0 c.in-Ok.dones _ c.in-Ok.is c.run_beside-dones.ensures.done;
     } in
-    told_of (λ (calls : Vec Call Global). calls.items) g.K.Session.book (volume_of g.K.Session.base) c.in_ok-jobs.jobs.items c.in-Ok.dones.items done
+    told_of (λ (calls : Vec Call Global). calls.items) g.K.Session.book g.K.Session.base c.in_ok-jobs.jobs.items c.in-Ok.dones.items done
 
 pub returns-clause-ok : goal.returns-clause-ok
 returns-clause-ok g c =
@@ -59,7 +59,7 @@ returns-clause-ok g c =
     let viewed : AreViewed c.in_ok-viewings.viewings.items c.run_beside-dones.result.1.items = record { many = c.run_beside-dones.ensures.viewings; each = c.run_beside-dones.ensures.viewed } in
     let begins : AreJobs (λ (calls : Vec Call Global). calls.items) script (workers script) c.args.passes.items c.in_ok-jobs.jobs.items =
     record { first = c.requires.started.passes_are; many = c.in_ok-jobs.ensures.many; passes_are = c.in_ok-jobs.ensures.passes; calls_are = c.in_ok-jobs.ensures.calls } in
-    let done : AreDone (λ (calls : Vec Call Global). calls.items) book opening c.in_ok-jobs.jobs.items c.in-Ok.dones.items =
+    let done : AreDone (λ (calls : Vec Call Global). calls.items) book g.K.Session.base c.in_ok-jobs.jobs.items c.in-Ok.dones.items =
     record {
       many = ok_is c.run_beside-dones.result.0 c.in-Ok.dones _ c.in-Ok.is c.run_beside-dones.ensures.dones;
       each = ok_is c.run_beside-dones.result.0 c.in-Ok.dones _ c.in-Ok.is c.run_beside-dones.ensures.done;

@@ -3,7 +3,6 @@ use Rattle.std.specs.Prelude.{is_some, IfSome, IfNone, OnSome}
 use Rattle.std.proofs.lemmas.List.{get_or_default}
 use Rattle.hfs_model.specs.declared.call.Call.{Call}
 use Rattle.hfs_model.specs.declared.reply.Reply.{Reply}
-use Rattle.hfs_check.specs.VolumeOf.{volume_of}
 use Rattle.hfs_published.specs.Tolds.{ToldState}
 use Rattle.hfs_shared.specs.declared.desk.CallFault.{CallFault}
 use Rattle.hfs_shared.specs.Desks.{PassState}
@@ -42,7 +41,7 @@ loop-call-preserved g c =
     let call = c.call-item.result in
     let at = c.loop-call.call-index in
     let below : at < length c.args.calls.now.items = omega (arith, ap length items) in (
-      work_more g.K.Session.book (volume_of g.K.Session.base) c.args.done.now.pass c.args.calls.now.items c.loop-call.done.pass c.one_more-fault.new.pass c.loop-call.replies.items c.one_more-fault.new.replies.items
+      work_more g.K.Session.book g.K.Session.base c.args.done.now.pass c.args.calls.now.items c.loop-call.done.pass c.one_more-fault.new.pass c.loop-call.replies.items c.one_more-fault.new.replies.items
           call i.0 (omega (arith, i.1))
           (λ d. ap (λ (n : ℕ). get_or c.args.calls.now.items n d) i.1 ∙ get_or_default c.args.calls.now.items at d call below ∙ ap (λ (l : List Call). get_or l at call) (sym items) ∙ sym c.call-item.is)
           more,
@@ -55,7 +54,7 @@ returns g c =
     let i = c.loop-call.invariant in
     let calls = c.args.calls.now.items in
     let end = c.loop-call-test in
-    let Work : PassState → List (Reply × ToldState) → Type 0 = λ q replies. IsWork g.K.Session.book (volume_of g.K.Session.base) c.args.done.now.pass calls q replies in
+    let Work : PassState → List (Reply × ToldState) → Type 0 = λ q replies. IsWork g.K.Session.book g.K.Session.base c.args.done.now.pass calls q replies in
     let work : Work end.done.pass end.replies.items =
     elim end.branch as (λ _. Work end.done.pass end.replies.items) [
       | else-loop-call-test w ↦
