@@ -47,7 +47,8 @@ fn page_of<S: Alter>(
 {
     let volumes = listed(collection, Listing::Volumes)?;
     let contents = listed(collection, Listing::Copies)?;
-    page_with(alloc, texts, &volumes, &contents)
+    let page = page_with(alloc, texts, &volumes, &contents)?;
+    Ok(page)
 }
 
 /// Writes the page of a collection: a line for each volume that the database lists, and one for each content. Faults: the

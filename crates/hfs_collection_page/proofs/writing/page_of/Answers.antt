@@ -1,9 +1,15 @@
--- by both listings
-use Rattle.hfs_collection_page.proofs.WritingLemmas.{listed-page}
+-- The page is that of the rows that were listed.
+use Rattle.std.proofs.Common.{◌≡◌, ◌∙◌, ap}
+use Rattle.hfs_collection_page.specs.Pages.{collection_page}
 use Rattle.hfs_collection_page.proofs.writing.page_of.Goals as goal
 
 pub returns : goal.returns
-returns g c =
-    listed-page g.S.Store c.args.collection.now.conn c.listed.new.collection.conn c.listed-2.new.collection.conn c.args.texts.now
-    c.in_ok-volumes.volumes.items c.in_ok-contents.contents.items c.deref.result.now c.deref-2.result.now c.page_with.result
-    c.in_ok-volumes.ensures c.in_ok-contents.ensures c.deref.ensures.value c.deref-2.ensures.value c.page_with.ensures
+returns g c = record {
+  asked = c.listed.new.collection.conn;
+  volumes = c.in_ok-volumes.volumes.items;
+  contents = c.in_ok-contents.contents.items;
+  lists_volumes = c.in_ok-volumes.ensures;
+  lists_contents = c.in_ok-contents.ensures;
+  is = c.in_ok-page.ensures ∙ ap (λ rows. collection_page c.args.texts.now rows c.deref-2.result.now) c.deref.ensures.value
+      ∙ ap (λ rows. collection_page c.args.texts.now c.in_ok-volumes.volumes.items rows) c.deref-2.ensures.value;
+}
