@@ -61,7 +61,7 @@ fn take_away<'a, Y: FileSystem + Drop>(
     shelf: FileShelf<Y>,
     fault: TakeFault<'a>,
 ) -> UnplacedBag<'a, Y>
-    ensures fault { StaysOrNoMemory fault result.fault }
+    ensures fault { StaysOrNoMemory fault.entry result.fault }
     ensures away { IsAwayFor result.fault (string_bytes shelf.folder) (Y.did shelf.system)
         (Y.did result.system) }
 {
