@@ -51,7 +51,8 @@ shows image found = record {
 
 rows-holding : (image : List ℕ) (selected : Selection) (f g : Found) (v : Values) (p q : Fits v) → selected_text selected (holding f v p) ≡ selected_text selected (holding g v q)
 unfolding selected_text found_row child_row
-rows-holding image selected f g v p q = refl
+rows-holding image (selection.All format) f g v p q = refl
+rows-holding image (selection.InFolder home) f g v p q = refl
 
 rows-by : (image : List ℕ) (selected : Selection) (f g : Found) (v : Values) → values f ≡ v → (q : Fits v) → selected_text selected f ≡ selected_text selected (holding g v q)
 rows-by image selected f g v same =
