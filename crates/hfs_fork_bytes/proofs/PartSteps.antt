@@ -51,7 +51,7 @@ module _ (ns : List ℕ) (at n : ℕ) (part : List ℕ) (old new : ℕ → List 
 
   pub KeepsBeside-one : 0 < length part → KeepsBeside ns at (length part) old new
   KeepsBeside-one some k none =
-      others k (λ (e : k ≡ n). none (at / 512) (record { starts = omega arith; ends = omega (arith, some) }) inside (sym is ∙ sym e))
+      others k (λ (e : k ≡ n). none (at / 512) (record { some = some; starts = omega arith; ends = omega (arith, some) }) inside (sym is ∙ sym e))
 
 pub KeepsBeside-same : (ns : List ℕ) (offset count : ℕ) (old : ℕ → List ℕ) → KeepsBeside ns offset count old old
 KeepsBeside-same ns offset count old k none = refl
@@ -77,7 +77,7 @@ module _ (ns : List ℕ) (offset : ℕ) (xs ys : List ℕ) (old mid new : ℕ �
 -- no more blocks than those of both parts
 pub KeepsBeside-more : (ns : List ℕ) (offset done more count : ℕ) (old mid new : ℕ → List ℕ) → done + more ≤ count → KeepsBeside ns offset count old mid → KeepsBeside ns (offset + done) more mid new → KeepsBeside ns offset count old new
 KeepsBeside-more ns offset done more count old mid new le first next k none =
-    next k (λ i has lt. none i (record { starts = (let s = has.starts in omega (arith, s)); ends = (let e = has.ends in omega (arith, e, le)) }) lt) ∙ first k none
+    next k (λ i has lt. none i (record { some = (let s = has.some in omega (arith, s, le)); starts = (let s = has.starts in omega (arith, s)); ends = (let e = has.ends in omega (arith, e, le)) }) lt) ∙ first k none
 
 -- ---- a file that goes on
 

@@ -122,4 +122,4 @@ module _ (mdb : Mdb) (extents : List Extent) (below mid new : ℕ → List ℕ) 
       let ends = has.ends in
       let some : first < last = omega (arith, starts, ends, order) in
       let low = parts.from some in
-      none i (record { starts = omega (arith, low, starts); ends = omega (arith, ends, order, within) }) lt)
+      none i (record { some = omega (arith, low, some, within); starts = omega (arith, low, starts); ends = omega (arith, ends, order, within) }) lt)

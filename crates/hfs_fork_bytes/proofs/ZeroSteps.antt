@@ -87,4 +87,4 @@ module _ (ns : List ℕ) (from : ℕ) (runs : List Run) (below : ℕ → List �
       }
 
   pub KeepsBeside-zeroed : KeepsBeside ns (512 * from) (512 * (length ns - from)) below (over (zero_blocks runs) below)
-  KeepsBeside-zeroed k none = away k (λ i ge lt same. none i (record { starts = omega (arith, ge); ends = omega (arith, ge, lt) }) lt same)
+  KeepsBeside-zeroed k none = away k (λ i ge lt same. none i (record { some = omega (arith, ge, lt); starts = omega (arith, ge); ends = omega (arith, ge, lt) }) lt same)

@@ -6,8 +6,9 @@ use Rattle.hfs_blocks.specs.Layers.{Numbered, changes, over, AreWhole}
 abbrev pub byte_of : (ℕ → List ℕ) → List ℕ → ℕ → ℕ
 byte_of blocks ns j = slice_index (blocks (slice_index ns (j / 512))) (j % 512)
 
--- block i of the file has one of `count` bytes from `offset` on
+-- block i of the file has one of `count` bytes from `offset` on, of which there are some
 pub record HasByteOf (offset count i : ℕ) : Type 0 where
+  pub some : 0 < count
   pub starts : offset < 512 * (i + 1)
   pub ends : 512 * i < offset + count
 
