@@ -36,7 +36,7 @@ from pathlib import Path
 
 ROOT = Path(__file__).resolve().parent.parent
 KIT = Path('/opt/rattle')
-# The wrong bodies of what the project promises first; each is tried by each gate.
+# The wrong bodies of what the project promises first, and two or three of each word that stands on it; each is tried by each gate.
 HEADLINE = [
     'hfs_volume/saved_without_its_changes',
     'hfs_volume/the_counts_are_left_stale',
@@ -50,6 +50,19 @@ HEADLINE = [
     'hfs_shared/a_reply_is_invented',
     'hfs_shared/an_entry_is_dropped',
     'hfs_shared/some_of_what_waits_is_shown',
+    'hfs_shared/no_free_nodes_are_told',
+    'hfs_runs/a_call_of_its_own_behind_the_lines',
+    'hfs_runs/another_volume_is_run',
+    'hfs_take/nothing_written_and_told_as_made',
+    'hfs_take/digest_of_another_range',
+    'hfs_salvage/a_rescue_that_writes_nothing',
+    'hfs_salvage/a_list_that_prints_nothing',
+    'hfs_salvage/refused_image_shown_as_sound',
+    'hfs_collection/refused_volume_left_out',
+    'hfs_word_collect/end_before_the_rows',
+    'hfs_word_collect/collected_image_told_as_unread',
+    'hfs_page/a_row_that_comes_twice',
+    'hfs_page/a_legend_that_ends_another_element',
 ]
 SHARE = 50
 # Seconds of processor time after which --gate begins no further check of what is only due.
