@@ -1,1 +1,10 @@
 pub mod Choices
+mod Apart
+mod Settled
+mod Assembled
+mod Wants
+mod Pieces
+mod LaidOver
+mod Written
+mod Ready
+mod Coming

@@ -40,7 +40,7 @@ pub fn cut_extents(extents: &[Extent; 3], count: u32) -> [Extent; 3]
 }
 
 /// The first `count` blocks of a fork's extents, each of which keeps its place.
-pub(crate) fn cut_all(extents: &mut Vec<Extent>, count: u32)
+pub fn cut_all(extents: &mut Vec<Extent>, count: u32)
     ensures { extents.new.items ≡ spec.cut count extents.old.items }
 {
     let mut stay = count;
