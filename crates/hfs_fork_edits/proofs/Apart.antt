@@ -57,6 +57,10 @@ rows_apart mdb file other apart = each_number mdb (λ n. Each (IsOther n) (block
       | inr zero_one ↦ omega (arith, zero_one)
     ]
 
+-- a fork to which pieces come has its blocks and theirs
+pub with_pieces : (all : List Extent) (was pieces : List ℕ) → extent_blocks all ≡ was ++ pieces → (a : ℕ) → owners (extent_blocks all) a ≤ owners was a + owners pieces a
+with_pieces all was pieces made a = let sums : owners (extent_blocks all) a ≡ owners was a + owners pieces a = ap (λ (l : List ℕ). owners l a) made ∙ append a was pieces in omega (arith, sums)
+
 -- ---- a fork of a file has no more than the file has
 
 fork_part : (mdb : Mdb) (old : Blocks) (b : ℕ) (fork : Fork) (f : FileRecord) → owners (blocks_of old fork f) b ≤ forks_have mdb (overflow_in old) b (forks_of_file f)
@@ -74,7 +78,7 @@ fork_part mdb old b ResFork f =
 
 module _ (catalogs : CatalogIsSound) (total id : ℕ) (fork : Fork) (r : Record) (old : Blocks) (h : AreBlocksSound total old) (was : item_with (catalog_in old) id ≡ Some r) (is : is_file r.1 ≡ true)
     (wanted : ℕ) (pieces : List Extent) (free : AreFreeOnce (is_used old (mdb_in old).bitmap_start) (mdb_in old).allocation_blocks wanted pieces)
-    (all : List Extent) (made : extent_blocks all ≡ blocks_of old fork (file_record_of r.1) ++ extent_blocks pieces) where
+    (all : List Extent) (has : (a : ℕ) → owners (extent_blocks all) a ≤ owners (blocks_of old fork (file_record_of r.1)) a + owners (extent_blocks pieces) a) where
   abbrev mdb : Mdb
   mdb = mdb_in old
 
@@ -99,9 +103,6 @@ module _ (catalogs : CatalogIsSound) (total id : ℕ) (fork : Fork) (r : Record)
   unfolding owned_in catalog_extents
   trees_owned a = let sums = owners_sum mdb o a (catalog_in old) in omega (arith, sums)
 
-  all_sum : (a : ℕ) → owners (extent_blocks all) a ≡ owners (blocks_of old fork f) a + owners (extent_blocks pieces) a
-  all_sum a = ap (λ (l : List ℕ). owners l a) made ∙ append a (blocks_of old fork f) (extent_blocks pieces)
-
   piece_free : (a : ℕ) → 0 < owners (extent_blocks pieces) a → owners (owned_in old) a ≡ 0
   piece_free a came = elim (cases_lt 0 (owners (owned_in old) a)) [
     | inl some ↦ absurd (true≢false (sym (owned_each (λ b. is_used old mdb.bitmap_start b ≡ true) (owned_in old) h.space.marked a some) ∙ free.free a came))
@@ -111,14 +112,14 @@ module _ (catalogs : CatalogIsSound) (total id : ℕ) (fork : Fork) (r : Record)
   far : (a : ℕ) → 0 < owners (extent_blocks all) a → trees a ≡ 0
   far a some = elim (cases_lt 0 (owners (extent_blocks pieces) a)) [
     | inl came ↦ (let none = piece_free a came in let most = trees_owned a in omega (arith, none, most))
-    | inr none ↦ (let sums = all_sum a in let most = own_bound a in omega (arith, none, sums, most, some))
+    | inr none ↦ (let sums = has a in let most = own_bound a in omega (arith, none, sums, most, some))
   ]
 
   -- no block stands twice in the fork
   pub once_all : (a : ℕ) → owners (extent_blocks all) a ≤ 1
   once_all a = elim (cases_lt 0 (owners (extent_blocks pieces) a)) [
-    | inl came ↦ (let none = piece_free a came in let owns = sounds.own_owns catalogs total id fork r old h was is a in let sums = all_sum a in let one = free.once a in omega (arith, none, owns, sums, one))
-    | inr none ↦ (let sums = all_sum a in let one = sounds.own_once catalogs total id fork r old h was is a in omega (arith, none, sums, one))
+    | inl came ↦ (let none = piece_free a came in let owns = sounds.own_owns catalogs total id fork r old h was is a in let sums = has a in let one = free.once a in omega (arith, none, owns, sums, one))
+    | inr none ↦ (let sums = has a in let one = sounds.own_once catalogs total id fork r old h was is a in omega (arith, none, sums, one))
   ]
 
   -- nor in the file of a tree

@@ -162,10 +162,10 @@ module _ (catalogs : CatalogIsSound) (total id : ℕ) (fork : Fork) (r : Record)
   low_apart n lt = below_area mdb all n lt
 
   one : Each (λ n. Each (IsOther n) F) (block_numbers mdb mdb.extents_file)
-  one = apart.extents_apart catalogs total id fork r old h was is wanted pieces free all made
+  one = apart.extents_apart catalogs total id fork r old h was is wanted pieces free all (apart.with_pieces all (blocks_of old fork f) (extent_blocks pieces) made)
 
   two : Each (λ n. Each (IsOther n) F) (block_numbers mdb (catalog_extents old))
-  two = apart.catalog_apart catalogs total id fork r old h was is wanted pieces free all made
+  two = apart.catalog_apart catalogs total id fork r old h was is wanted pieces free all (apart.with_pieces all (blocks_of old fork f) (extent_blocks pieces) made)
 
   given : 16 ≤ f.id
   given = sounds.given catalogs total id fork r old h was is

@@ -9,7 +9,7 @@ use crate::extents::extents_of;
 use crate::laying::lay;
 use crate::overflow::{lengthen_over, shorten_over};
 use crate::records::{counts_with, file_with, fork_of, kind_of};
-use crate::room::{block_count, growing};
+use crate::room::{block_count, find_growing};
 use crate::settling::settle;
 use crate::volume::{ForkChange, ForkVolume, Resizing};
 use crate::written::written_runs;
@@ -44,7 +44,7 @@ fn grow<B: Blocks>(
     let blocks = volume.blocks;
     let mdb = volume.mdb;
     let found = resizing.found;
-    let grown = match growing(alloc, blocks, mdb, was, u32::from(wanted))? {
+    let grown = match find_growing(alloc, blocks, mdb, was, u32::from(wanted))? {
         Ok(grown) => grown,
         Err(want) => return Ok(Err(want)),
     };

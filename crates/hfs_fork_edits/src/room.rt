@@ -80,7 +80,7 @@ fn room_wanted(room: Room) -> Want
 
 /// The free blocks that come to a fork with these extents, which wants so many more, and its extents with them; or the want of
 /// blocks. The only other error is want of memory.
-pub(crate) fn growing<B: Blocks>(
+pub(crate) fn find_growing<B: Blocks>(
     alloc: Global,
     blocks: &B,
     mdb: &Mdb,
