@@ -68,19 +68,19 @@ laid_beside mdb extents from count offset part old new lays n other =
 
 module _ (start total : ℕ) (claimed : List ℕ) (inside : (b : ℕ) → 0 < owners claimed b → b < total) (old b0 b1 : Blocks)
     (same : (k : ℕ) → start ≤ k → k < start + bitmap_len total → b0 k ≡ old k) (h : HasClaimed start total claimed b0 b1) where
-  is_bitmap : ℕ → Bool
+  abbrev is_bitmap : ℕ → Bool
   is_bitmap k = leb start k && ltb k (start + bitmap_len total)
 
   -- the others with this bitmap
-  pub bits : Blocks
+  abbrev pub bits : Blocks
   bits k = cond (is_bitmap k) (b1 k) (old k)
 
   within : (k : ℕ) → start ≤ k → k < start + bitmap_len total → is_bitmap k ≡ true
   within k from to = λ i. le-leb start k from i && lt-ltb k (start + bitmap_len total) to i
 
   outside : (k : ℕ) → (k < start) ⊎ (start + bitmap_len total ≤ k) → is_bitmap k ≡ false
-  outside k (inl before) = ap (λ (b : Bool). b && ltb k (start + bitmap_len total)) (lt-leb k start before)
-  outside k (inr behind) = ap (λ (b : Bool). leb start k && b) (le-ltb (start + bitmap_len total) k behind) ∙ and_false (leb start k)
+  outside k (inl before) = ap (λ (b : Bool). b && ltb k (start + bitmap_len total)) (lt-leb start k before)
+  outside k (inr behind) = ap (λ (b : Bool). leb start k && b) (le-ltb k (start + bitmap_len total) behind) ∙ and_false (leb start k)
     where
       and_false : (b : Bool) → (b && false) ≡ false
       and_false true = refl
@@ -195,7 +195,7 @@ module _ (catalogs : CatalogIsSound) (total id : ℕ) (fork : Fork) (r : Record)
   bits_same : (k : ℕ) → mdb.bitmap_start ≤ k → k < mdb.bitmap_start + bitmap_len mdb.allocation_blocks → b0 k ≡ old k
   bits_same k from to = settled.bits_before total old h extents catalog ext cat F b0 data_same low_apart one two k to
 
-  bits_now : Blocks
+  abbrev bits_now : Blocks
   bits_now = bits mdb.bitmap_start mdb.allocation_blocks (extent_blocks pieces) come_low old b0 b1 bits_same claimed
 
   bitmap_now : (k : ℕ) → mdb.bitmap_start ≤ k → k < mdb.bitmap_start + bitmap_len mdb.allocation_blocks → new k ≡ bits_now k

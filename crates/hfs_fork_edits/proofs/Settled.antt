@@ -256,6 +256,7 @@ module _ (total : ℕ) (old : Blocks) (h : AreBlocksSound total old) (extents ca
 
             -- the record stands in the catalog
             pub sets_record : (f : FileRecord) → body ≡ file_record_bytes f → IsFileRecordValue f → SetsRecord r f old b4
+            unfolding catalog_in
             sets_record f body_is value = record {
               value = value;
               content = content ∙ ap (λ (b : List ℕ). with_replaced cat_cmp r.0 b (catalog_in old)) body_is;

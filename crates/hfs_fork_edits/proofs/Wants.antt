@@ -26,7 +26,7 @@ too_few : (s : Supply) (g : Growth) → s.blocks < g.blocks → want_of s g ≡ 
 too_few s g few = ap (λ (b : Bool). cond b (Some (want.Room s.blocks g.blocks)) (cond (ltb s.nodes (extents_need g.records s.depth s.records)) (Some (want.ExtentNodes s.nodes s.depth)) None)) (lt-ltb s.blocks g.blocks few)
 
 enough_blocks : (s : Supply) (g : Growth) → g.blocks ≤ s.blocks → want_of s g ≡ cond (ltb s.nodes (extents_need g.records s.depth s.records)) (Some (want.ExtentNodes s.nodes s.depth)) None
-enough_blocks s g enough = ap (λ (b : Bool). cond b (Some (want.Room s.blocks g.blocks)) (cond (ltb s.nodes (extents_need g.records s.depth s.records)) (Some (want.ExtentNodes s.nodes s.depth)) None)) (le-ltb g.blocks s.blocks enough)
+enough_blocks s g enough = ap (λ (b : Bool). cond b (Some (want.Room s.blocks g.blocks)) (cond (ltb s.nodes (extents_need g.records s.depth s.records)) (Some (want.ExtentNodes s.nodes s.depth)) None)) (le-ltb s.blocks g.blocks enough)
 
 module _ (total : ℕ) (old : Blocks) (h : AreBlocksSound total old) (fork : Fork) (f : FileRecord) (len wanted : ℕ) (count : wanted ≡ blocks_wanted (mdb_in old).allocation_block_size (length (blocks_of old fork f)) len) where
   -- fewer blocks are free than are wanted
@@ -68,6 +68,6 @@ module _ (total : ℕ) (old : Blocks) (h : AreBlocksSound total old) (fork : For
       chosen = λ _. chosen;
       is =
           sym (ap (λ (b : Bool). cond b (Some (want.ExtentNodes (free_nodes (extents_nodes old)) (depth_of (extents_nodes old)))) None)
-          (le-ltb (extents_need (records_coming (extents_of old fork f) pieces) (depth_of (extents_nodes old)) (length (overflow_in old))) (free_nodes (extents_nodes old)) has))
+          (le-ltb (free_nodes (extents_nodes old)) (extents_need (records_coming (extents_of old fork f) pieces) (depth_of (extents_nodes old)) (length (overflow_in old))) has))
           ∙ sym (enough_blocks (supply_in old) (growth_of wanted (extents_of old fork f) pieces) enough);
     }

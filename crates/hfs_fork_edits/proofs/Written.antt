@@ -28,7 +28,7 @@ each_part P (x ∷ ns) (suc a) zero h = tt
 each_part P (x ∷ ns) zero (suc b) h = (h.0, each_part P ns zero b h.1)
 each_part P (x ∷ ns) (suc a) (suc b) h = each_part P ns a b h.1
 
-module _ (ns : List ℕ) (from count offset given a b : ℕ) (first_zero : 0 < count → 512 * a ≤ from) (first_byte : 0 < given → 512 * a ≤ offset) (last_zero : from + count ≤ 512 * b) (last_byte : offset + given ≤ 512 * b) where
+module _ (ns : List ℕ) (from count offset given a b : ℕ) (first_zero : 0 < from + count → 512 * a ≤ from) (first_byte : 0 < offset + given → 512 * a ≤ offset) (last_zero : from + count ≤ 512 * b) (last_byte : offset + given ≤ 512 * b) where
   pub part_written : AreWritten ns from count offset given (drop a (take b ns))
   part_written = record {
     own = each_part (λ k. In k ns) ns a b (each_self ns);
@@ -36,11 +36,11 @@ module _ (ns : List ℕ) (from count offset given a b : ℕ) (first_zero : 0 < c
     bytes = λ k t. touched offset given first_byte last_byte k t;
   }
     where
-      touched : (o n : ℕ) → (0 < n → 512 * a ≤ o) → o + n ≤ 512 * b → (k : ℕ) → IsTouched ns o n k → In k (drop a (take b ns))
+      touched : (o n : ℕ) → (0 < o + n → 512 * a ≤ o) → o + n ≤ 512 * b → (k : ℕ) → IsTouched ns o n k → In k (drop a (take b ns))
       touched o n first last k t =
           let p = t.place in
           let starts = t.has.starts in
           let ends = t.has.ends in
-          let some : 0 < n = omega (arith, starts, ends) in
+          let some : 0 < o + n = omega (arith, ends) in
           let low = first some in
           subst (λ (x : ℕ). In x (drop a (take b ns))) t.is (in_part ns a b p (omega (arith, low, starts)) (omega (arith, ends, last)) t.within)

@@ -18,7 +18,7 @@ pub(crate) fn written_runs<B: Blocks>(
     end: u32,
 ) -> Result<Vec<Run>, AllocError> {
     let count = resizing.bytes.len() as u32;
-    let first = if count > 0 {
+    let first = if resizing.offset + count > 0 {
         resizing.offset.min(resizing.from)
     } else {
         resizing.from
