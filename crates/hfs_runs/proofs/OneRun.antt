@@ -13,6 +13,7 @@ use Rattle.hfs_scripts.specs.Callers.{calls_of, workers, viewers}
 use Rattle.hfs_scripts.specs.Scripts.{script_of}
 use Rattle.hfs_published.specs.Histories.{Known, known, opened}
 use Rattle.hfs_published.proofs.LawTypes.{PublishedIsAfter}
+use Rattle.hfs_shared.specs.Asks.{Asks, AreAsked}
 use Rattle.hfs_shared.specs.Closings.{HasNoOthers, IsWhether}
 use Rattle.hfs_shared.specs.declared.done.Done.{Done}
 use Rattle.hfs_shared.specs.Desks.{PassState}
@@ -20,6 +21,7 @@ use Rattle.hfs_runs.specs.declared.numbering.Asked.{Asked}
 use Rattle.hfs_runs.specs.declared.viewing.Viewing.{Viewing}
 use Rattle.hfs_runs.specs.Answers.{answers_text, is_whole, replies_of}
 use Rattle.hfs_runs.specs.Asking.{AreNumbered}
+use Rattle.hfs_runs.specs.Jobs.{asked_by}
 use Rattle.hfs_runs.specs.Runs.{IsHandedOut, AreLinesRun, IsScriptRun}
 use Rattle.hfs_runs.specs.Tellings.{AreWhole, OfEach}
 use Rattle.hfs_runs.proofs.Working.{AreJobs, AreDone, AreViewings, AreViewed, IsEnd, worked_at, made_at, passes_count, stand_at, viewed_at}
@@ -45,8 +47,8 @@ when_true false is h = absurd (cc is)
 pub ran : {V : Type 0} (items : V → List Call) (book : Book) (image : List ℕ) (lines : List ScriptLine) (volume : ImageValue) (text : List ℕ) (whole shown : Bool) (asked : List Asked) (passes : List PassState)
     (jobs : List (PassState × V)) (dones : List Done) (begun ended : List Viewing) → AreNumbered (map (λ (line : ScriptLine). line.caller) lines) asked → AreJobs items lines (workers lines) passes jobs
     → AreDone items book image jobs dones → AreViewings book (volume_of image) lines (viewers lines) begun → AreViewed begun ended → text ≡ answers_text (replies_of dones ended) asked
-    → whole ≡ is_whole (replies_of dones ended) asked → PublishedIsAfter → IsWhether shown (OfEach AreWhole dones) → IsHandedOut image volume dones → AreLinesRun image lines volume text whole shown
-ran items book image lines volume text whole shown asked passes jobs dones begun ended numbered begins done views viewed text_is whole_is law shown_is out =
+    → whole ≡ is_whole (replies_of dones ended) asked → PublishedIsAfter → IsWhether shown (OfEach AreWhole dones) → (asks : Asks) → asks ≡ asked_by lines → IsHandedOut image asks volume dones → AreLinesRun image lines volume text whole shown
+ran items book image lines volume text whole shown asked passes jobs dones begun ended numbered begins done views viewed text_is whole_is law shown_is asks asks_are out =
     let opening = volume_of image in
     let closed = out.closed in
     let end : IsEnd opening out.journal out.shown out.before.list out.afterwards.list dones =
@@ -65,6 +67,7 @@ ran items book image lines volume text whole shown asked passes jobs dones begun
       follows = closed.follows;
       made = λ place below. made_at items book image lines (workers lines) passes jobs dones out.journal begins done closed.all place below;
       others = subst (λ (n : ℕ). HasNoOthers n out.journal) (passes_count items book image lines passes jobs dones begins done) closed.others;
+      asked = subst (λ (a : Asks). AreAsked a out.journal) asks_are out.asked;
       worked = λ place below. worked_at items book image lines (workers lines) passes jobs dones begins done place below;
       viewed = λ place below. viewed_at book opening lines (viewers lines) begun ended views viewed place below;
       stands = λ yes place below.

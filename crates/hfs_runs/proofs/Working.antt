@@ -1,6 +1,7 @@
 -- What the workers and viewers of a run were answered, out of their jobs.
-use Rattle.std.proofs.Common.{◌≡◌, ◌∙◌, ℕ, ◌+◌, ◌-◌, ◌<◌, List, [], ◌∷◌, map, length, get_or, sym, ap, subst, arith}
+use Rattle.std.proofs.Common.{◌≡◌, ◌∙◌, ℕ, ◌+◌, ◌-◌, ◌<◌, List, [], ◌∷◌, map, length, get_or, Some, slice_get, sym, ap, subst, arith}
 use Rattle.std.proofs.lemmas.List.{get_or-map, length-map}
+use Rattle.std.proofs.lemmas.Option.{slice_get-get_or}
 use mathlib.Core.List.{IsPrefix}
 use Rattle.logbook.specs.Pages.{Book}
 use Rattle.hfs_model.specs.declared.call.Call.{Call}
@@ -18,12 +19,14 @@ use Rattle.hfs_published.specs.Journals.{made_by, IsLegal, published}
 use Rattle.hfs_published.proofs.LawTypes.{PublishedIsAfter}
 use Rattle.hfs_published.specs.Tolds.{ToldState}
 use Rattle.hfs_shared.specs.declared.done.Done.{Done}
+use Rattle.hfs_shared.specs.Asks.{Asks, IsAsked}
 use Rattle.hfs_shared.specs.Closings.{AreAllPasses}
 use Rattle.hfs_shared.specs.Desks.{PassState, pass_state}
 use Rattle.hfs_shared.specs.Shareds.{AreFirstPasses}
-use Rattle.hfs_shared.specs.Works.{IsWork, IsDone}
+use Rattle.hfs_shared.specs.Works.{IsWork, IsDone, AreJobsAsked}
 use Rattle.hfs_runs.specs.declared.viewing.Viewing.{Viewing}
 use Rattle.hfs_runs.specs.Answers.{worker_replies, viewer_replies}
+use Rattle.hfs_runs.specs.Jobs.{asked_by}
 use Rattle.hfs_runs.specs.Runs.{IsWorked, IsViewedFrom}
 use Rattle.hfs_runs.specs.Tellings.{AreOf, AreWhole, AllBegin, OfEach}
 use Rattle.hfs_runs.specs.Standing.{Stands, AllStand}
@@ -42,6 +45,18 @@ pub record AreJobs {V : Type 0} (items : V → List Call) (lines : List ScriptLi
 pub record AreDone {V : Type 0} (items : V → List Call) (book : Book) (base : List ℕ) (jobs : List (PassState × V)) (dones : List Done) : Type 0 where
   pub many : length dones ≡ length jobs
   pub each : (i : ℕ) (d : Done) (j : PassState × V) → i < length jobs → IsDone book base (get_or jobs i j).0 (items (get_or jobs i j).1) (get_or dones i d)
+
+-- each job's calls are those that the lines ask of its worker
+pub jobs_asked : {V : Type 0} (items : V → List Call) (lines : List ScriptLine) (workers : ℕ) (passes : List PassState) (jobs : List (PassState × V)) (asks : Asks)
+    → AreJobs items lines workers passes jobs → asks ≡ asked_by lines → AreJobsAsked asks items jobs
+jobs_asked items lines workers passes jobs asks h asks_are i j below k c lt =
+    let none = pass_state 0 0 in
+    let pass : (get_or jobs i j).0 ≡ pass_state (i + 1) 1 = h.passes_are i j none (omega (arith, below, h.many)) ∙ h.first.each i none (omega (arith, below, h.many, h.first.many)) in
+    let same : items (get_or jobs i j).1 ≡ calls_of (Worker (i + 1)) lines = h.calls_are i j (omega (arith, below, h.many)) in
+    let calls = calls_of (Worker (i + 1)) lines in
+    let at : slice_get calls (1 + k - 1) ≡ Some (get_or calls k c) =
+    ap (slice_get calls) (omega arith) ∙ slice_get-get_or calls k c (subst (λ (l : List Call). k < length l) same lt) in
+    subst (λ (y : Asks × PassState × List Call). IsAsked y.0 y.1.worker (y.1.number + k) (get_or y.2 k c)) (λ n. (sym asks_are n, sym pass n, sym same n)) at
 
 -- a told list with nothing in it
 told_none : Book → ToldState

@@ -20,6 +20,7 @@ use Rattle.hfs_scripts.specs.Scripts.{script_of}
 use Rattle.hfs_published.specs.Histories.{Known, known, opened}
 use Rattle.hfs_published.specs.Journals.{IsLegal, made_by}
 use Rattle.hfs_published.specs.Tolds.{ToldState}
+use Rattle.hfs_shared.specs.Asks.{Asks, AreAsked}
 use Rattle.hfs_shared.specs.Closings.{HasNoOthers, IsClosed}
 use Rattle.hfs_shared.specs.declared.done.Done.{Done}
 use Rattle.hfs_shared.specs.Desks.{PassState, pass_state}
@@ -32,6 +33,7 @@ use Rattle.hfs_runs.specs.declared.running.Ran.{Ran}
 use Rattle.hfs_runs.specs.declared.running.RanInPieces.{RanInPieces}
 use Rattle.hfs_runs.specs.Answers.{answers_text, is_whole, kept_replies}
 use Rattle.hfs_runs.specs.Asking.{AreNumbered}
+use Rattle.hfs_runs.specs.Jobs.{asked_by}
 use Rattle.hfs_runs.specs.Pieces.{text_of_pieces}
 use Rattle.hfs_runs.specs.Standing.{AllStand}
 use Rattle.hfs_runs.specs.Tellings.{AllBegin, OfEach}
@@ -77,19 +79,21 @@ IsWorked book image worker calls replies =
 abbrev pub IsViewedFrom : Book → Volume → List Call → List Reply → Type 0
 IsViewedFrom book opening calls replies = (seen : Known) × AreReads calls (known book (opened opening)) replies seen
 
--- a shared volume was closed with the passes of workers that had ended, and handed out; the viewer that it was closed by had
--- learned all that they were told
-pub record IsHandedOut (base : List ℕ) (volume : ImageValue) (dones : List Done) : Type 0 where
+-- a shared volume of workers that were asked this was closed with their passes when they had ended, and handed out; the viewer that
+-- it was closed by had learned all that they were told
+pub record IsHandedOut (base : List ℕ) (asks : Asks) (volume : ImageValue) (dones : List Done) : Type 0 where
   pub journal : List Entry
   pub shown : ℕ
   pub before : Known
   pub afterwards : Known
   pub closed : IsClosed base volume journal shown (map (λ (done : Done). done.pass) dones) before afterwards
+  pub asked : AreAsked asks journal
   pub learned : OfEach (AllBegin before.list) dones
 
 -- what a run of these lines on an image made: the volume afterwards, the text of the answers, whether all lines were answered, and
 -- whether each change was shown at once. The volume's image agrees with the given one, and its volume is the one after a legal
--- journal, which has as many entries of each worker as it got replies, and none of anybody else. Where each change was shown at
+-- journal, which has as many entries of each worker as it got replies, and none of anybody else. Each entry's call is that of one
+-- line: its worker's call of the entry's number. Where each change was shown at
 -- once, each reply to a worker stands in that journal.
 pub record AreLinesRun (image : List ℕ) (lines : List ScriptLine) (volume : ImageValue) (text : List ℕ) (whole shown : Bool) : Type 0 where
   pub book : Book
@@ -105,6 +109,7 @@ pub record AreLinesRun (image : List ℕ) (lines : List ScriptLine) (volume : Im
   pub follows : volume_of volume.current ≡ after (volume_of image) journal
   pub made : (place : ℕ) → place < workers lines → made_by (place + 1) journal ≡ length (replies (Worker (place + 1)))
   pub others : HasNoOthers (workers lines) journal
+  pub asked : AreAsked (asked_by lines) journal
   pub worked : (place : ℕ) → place < workers lines → IsWorked book image (place + 1) (calls_of (Worker (place + 1)) lines) (replies (Worker (place + 1)))
   pub viewed : (place : ℕ) → place < viewers lines → IsViewedFrom book (volume_of image) (calls_of (Viewer (place + 1)) lines) (replies (Viewer (place + 1)))
   pub stands : shown ≡ true → (place : ℕ) → place < workers lines → AllStand image journal (calls_of (Worker (place + 1)) lines) (replies (Worker (place + 1)))

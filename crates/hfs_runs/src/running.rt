@@ -3,8 +3,9 @@ ghost use Rattle.std.specs.Prelude.{◌≡◌, All, IfOk, IfErr, length};
 ghost use Rattle.std.specs.Thread.{IsSync};
 ghost use Rattle.hfs_scripts.specs.Callers.{workers, viewers};
 ghost use Rattle.hfs_shared.specs.Shareds.{IsStart};
-ghost use Rattle.hfs_shared.specs.Works.{AreDone};
+ghost use Rattle.hfs_shared.specs.Works.{AreDone, AreJobsAsked};
 ghost use Rattle.hfs_runs.specs.Asking.{IsSmall};
+ghost use Rattle.hfs_runs.specs.Jobs.{asked_by};
 ghost use Rattle.hfs_runs.specs.Runs.{IsRunFault, IsScriptRunAs, IsStartFault, AreLinesMade, AreLinesRunAs, AreLinesRunInPieces};
 ghost use Rattle.hfs_runs.specs.Views.{AreViewed};
 
@@ -85,6 +86,7 @@ fn run_beside<K: Session + Send + Sync, R: Threads + Wait + Sync, G: Gate + Sync
     jobs: Vec<(Pass, Vec<Call>)>,
     viewings: Vec<Viewing>,
 ) -> (Result<Vec<Done>, RunFault>, Vec<Viewing>)
+    requires { AreJobsAsked K.asks (λ c. c.items) jobs.items }
     ensures dones { IfOk result.0 (λ v. length v.items ≡ length jobs.items) }
     ensures done { IfOk result.0 (λ v.
         AreDone K.book K.base (λ c. c.items) jobs.items v.items) }
@@ -94,7 +96,8 @@ fn run_beside<K: Session + Send + Sync, R: Threads + Wait + Sync, G: Gate + Sync
     thread::join(
         rt,
         move || -> Result<Vec<Done>, RunFault>
-            requires { IsSync R.row × IsSync K.row × IsSync G.row }
+            requires sync { IsSync R.row × IsSync K.row × IsSync G.row }
+            requires asked { AreJobsAsked K.asks (λ c. c.items) jobs.items }
             ensures dones { IfOk result (λ v. length v.items ≡ length jobs.items) }
             ensures done { IfOk result (λ v.
                 AreDone K.book K.base (λ c. c.items) jobs.items v.items) }
@@ -120,6 +123,7 @@ fn run_shared<K: Session + Send + Sync, R: Threads + Wait + Sync, G: Gate + Sync
     requires parts { (parts.book ≡ K.book) × (parts.base ≡ K.base) }
     requires started { IsStart K.base (workers script) (viewers script)
         parts passes.items readers.items }
+    requires asked { K.asks ≡ asked_by script }
     requires small { All (λ l. IsSmall l.caller) script }
     ensures ok { IfOk result (AreLinesMade K.base script) }
     ensures err { IfErr result (λ fault. fault ≡ ScriptFault.Memory) }

@@ -6,6 +6,7 @@ use Rattle.hfs_model.specs.Volume.{Volume}
 use Rattle.hfs_check.specs.VolumeOf.{volume_of}
 use Rattle.hfs_published.specs.Journals.{published, NoneAccepted}
 use Rattle.hfs_published.specs.Pairs.{PairState}
+use Rattle.hfs_shared.specs.Asks.{Asks, AreAsked}
 use Rattle.hfs_shared.specs.Desks.{DeskState, desk_state, IsHeadline}
 
 -- a desk, and how many entries of its journal the published list covers
@@ -22,11 +23,12 @@ locked_state d n = record { base = d.base; current = d.current; journal = d.jour
 abbrev pub desk_of : LockedState → DeskState
 desk_of l = desk_state l.base l.current l.journal l.workers
 
--- what holds whenever the lock is free, of a session with this base: the headline over it, and the published list covers no
--- more entries than there are
-pub record IsUnderLock (base : List ℕ) (l : LockedState) : Type 0 where
+-- what holds whenever the lock is free, of a session with this base whose workers ask this: the headline over it, each call is one
+-- that was asked, and the published list covers no more entries than there are
+pub record IsUnderLock (base : List ℕ) (asks : Asks) (l : LockedState) : Type 0 where
   pub base_is : l.base ≡ base
   pub headline : IsHeadline l.base l.current l.journal
+  pub asked : AreAsked asks l.journal
   pub within : l.shown ≤ length l.journal
 
 -- so many entries are all of them, or those that the published list covers already
@@ -37,11 +39,12 @@ CoversAllOrSame l n = (n ≡ length l.journal) ⊎ (n ≡ l.shown)
 abbrev pub KeepsUp : LockedState → ℕ → Type 0
 KeepsUp l n = NoneAccepted (drop l.shown l.journal) → n ≡ length l.journal
 
--- the headline holds over the session's base, and the pair has the published lists of the journal: the one that is published
+-- the headline holds over the session's base, each call is one that was asked, and the pair has the published lists of the journal: the one that is published
 -- covers so many entries, and the one with all that was added covers at least these
-pub record IsLocked (book : Book) (base : List ℕ) (d : DeskState) (p : PairState) (added shown : ℕ) : Type 0 where
+pub record IsLocked (book : Book) (base : List ℕ) (asks : Asks) (d : DeskState) (p : PairState) (added shown : ℕ) : Type 0 where
   pub base_is : d.base ≡ base
   pub headline : IsHeadline d.base d.current d.journal
+  pub asked : AreAsked asks d.journal
   pub book_is : p.book ≡ book
   pub all_is : p.all ≡ published (volume_of d.base) d.journal added
   pub shown_is : p.shown ≡ published (volume_of d.base) d.journal shown

@@ -5,6 +5,7 @@ use Rattle.hfs_model.specs.declared.call.Call.{Call}
 use Rattle.hfs_model.specs.declared.reply.Reply.{Reply}
 use Rattle.hfs_published.specs.Tolds.{ToldState}
 use Rattle.hfs_shared.specs.declared.done.Done.{Done}
+use Rattle.hfs_shared.specs.Asks.{Asks, AreNextAsked}
 use Rattle.hfs_shared.specs.Desks.{PassState, pass_state}
 use Rattle.hfs_shared.specs.Faults.{IsFaultUnder}
 use Rattle.hfs_shared.specs.Shareds.{IsSomeCall}
@@ -29,6 +30,11 @@ pub record IsDone (book : Book) (base : List ℕ) (p : PassState) (calls : List 
 -- each has the pass of its job
 abbrev pub HaveTheirPasses : {V : Type 0} → List (PassState × V) → List Done → Type 0
 HaveTheirPasses jobs dones = (i : ℕ) (d : _) (j : _) → i < length jobs → (get_or dones i d).pass ≡ (get_or jobs i j).0
+
+-- each job's calls are those that its worker was asked, from its pass on
+abbrev pub AreJobsAsked : {V : Type 0} → Asks → (V → List Call) → List (PassState × V) → Type 0
+AreJobsAsked asks calls jobs = (i : ℕ) (j : _) → i < length jobs
+    → AreNextAsked asks (get_or jobs i j).0.worker (get_or jobs i j).0.number (calls (get_or jobs i j).1)
 
 -- each job's calls were made, from its pass on
 abbrev pub AreDone : {V : Type 0} → Book → List ℕ → (V → List Call) → List (PassState × V) → List Done → Type 0

@@ -1,6 +1,7 @@
 //! The lock, held.
 ghost use Rattle.std.specs.Prelude.{◌≡◌, IfOk, OnErr, IfErr};
 ghost use Rattle.hfs_check.specs.VolumeOf.{volume_of};
+ghost use Rattle.hfs_shared.specs.Asks.{IsAsked};
 ghost use Rattle.hfs_shared.specs.Desks.{IsApplied};
 ghost use Rattle.hfs_shared.specs.Faults.{IsCallFault};
 ghost use Rattle.hfs_shared.specs.Lockeds.{LockedState, desk_of, IsUnderLock, KeepsUp, CoversAllOrSame};
@@ -43,10 +44,11 @@ impl<K: Session> Guard<'_, K> {
     /// Makes a call of a worker: one entry more in the journal, and the pass's number is one more. `Stamp` where that number is
     /// not the next one of its worker, before anything else is looked at. At a fault nothing has changed.
     pub fn apply(&mut self, alloc: Global, pass: &mut Pass, call: &Call) -> Result<Reply, CallFault>
+        requires { IsAsked K.asks pass.old.worker pass.old.number call.now }
         ensures ok { IfOk result (λ r.
             IsApplied (desk_of self.old) pass.old call.now r (desk_of self.new) pass.new) }
         ensures shown { self.new.shown ≡ self.old.shown }
-        ensures headline { IsUnderLock K.base self.new }
+        ensures headline { IsUnderLock K.base K.asks self.new }
         ensures err { OnErr result ((self.new ≡ self.old) × (pass.new ≡ pass.old)) }
         ensures fault { IfErr result (IsCallFault (desk_of self.old) pass.old) }
     {
@@ -60,7 +62,7 @@ impl<K: Session> Guard<'_, K> {
         ensures idle { KeepsUp self.old self.new.shown }
         ensures number { result.shown ≡ self.new.shown }
         ensures told { IsToldOf K.book (volume_of K.base) self.old.journal result }
-        ensures headline { IsUnderLock K.base self.new }
+        ensures headline { IsUnderLock K.base K.asks self.new }
     {
         self.inner.publish(rt)
     }
@@ -68,7 +70,7 @@ impl<K: Session> Guard<'_, K> {
     /// How many entries of the journal the published list covers. Takes no memory.
     pub fn shown(&self) -> u64
         ensures number { result ≡ self.now.shown }
-        ensures headline { IsUnderLock K.base self.now }
+        ensures headline { IsUnderLock K.base K.asks self.now }
     {
         self.inner.shown()
     }

@@ -1,5 +1,6 @@
 //! The shared volume.
 ghost use Rattle.std.specs.Prelude.{◌≡◌, IfOk, OnErr, IfErr};
+ghost use Rattle.hfs_shared.specs.Asks.{AreAsked, IsAsked};
 ghost use Rattle.hfs_shared.specs.Closings.{IsClosedAs};
 ghost use Rattle.hfs_shared.specs.Faults.{IsFaultUnder};
 ghost use Rattle.hfs_shared.specs.Shareds.{IsSomeCall};
@@ -49,6 +50,7 @@ impl<K: Session> Shared<K> {
         pass: &mut Pass,
         call: Call,
     ) -> Result<(Reply, Told), CallFault>
+        requires { IsAsked K.asks pass.old.worker pass.old.number call }
         ensures ok { IfOk result (λ r.
             IsSomeCall K.book K.base pass.old call r.0 r.1 pass.new) }
         ensures err { OnErr result (pass.new ≡ pass.old) }
@@ -71,6 +73,7 @@ impl<K: Session> Shared<K> {
     ) -> Result<Closed, (Shared<K>, Vec<Pass>)>
         requires { viewer.old.book ≡ K.book }
         ensures ok { IfOk result (λ c. IsClosedAs K.base c passes.items viewer.old viewer.new) }
+        ensures asked { IfOk result (λ c. AreAsked K.asks c.journal.items) }
         ensures err { IfErr result (λ e. (e.1 ≡ passes) × (viewer.new ≡ viewer.old)) }
     {
         match self.into_locked().close(rt, passes, viewer) {

@@ -1,8 +1,9 @@
 //! Workers that run side by side.
 ghost use Rattle.std.specs.Prelude.{◌≡◌, ◌<◌, length, get_or, IfOk, OnErr, IfErr, IfSome, IfNone, OnSome};
+ghost use Rattle.hfs_shared.specs.Asks.{IsAsked, AreNextAsked};
 ghost use Rattle.hfs_shared.specs.Faults.{IsFaultUnder};
 ghost use Rattle.hfs_shared.specs.Shareds.{IsSomeCall};
-ghost use Rattle.hfs_shared.specs.Works.{IsMoreWork, IsDone, HaveTheirPasses, AreDone, AreDoneFrom};
+ghost use Rattle.hfs_shared.specs.Works.{IsMoreWork, IsDone, HaveTheirPasses, AreJobsAsked, AreDone, AreDoneFrom};
 
 use crate::desk::CallFault;
 use crate::done::{Done, RunFault};
@@ -37,6 +38,7 @@ fn call_at<K: Session, R: Wait, G: Gate>(
     pass: &mut Pass,
     call: &Call,
 ) -> Result<(Reply, Told), CallFault>
+    requires { IsAsked K.asks pass.old.worker pass.old.number call.now }
     ensures ok { IfOk result (λ r.
         IsSomeCall K.book K.base pass.old call.now r.0 r.1 pass.new) }
     ensures err { OnErr result (pass.new ≡ pass.old) }
@@ -58,6 +60,7 @@ fn call_inside<K: Session, R: Wait, G: Gate>(
     pass: &mut Pass,
     call: &Call,
 ) -> Result<(Reply, Told), CallFault>
+    requires { IsAsked K.asks pass.old.worker pass.old.number call.now }
     ensures ok { IfOk result (λ r.
         IsSomeCall K.book K.base pass.old call.now r.0 r.1 pass.new) }
     ensures err { OnErr result (pass.new ≡ pass.old) }
@@ -81,6 +84,7 @@ fn one_more<K: Session, R: Wait, G: Gate>(
     call: &Call,
     replies: &mut Vec<(Reply, Told)>,
 ) -> Option<CallFault>
+    requires { IsAsked K.asks pass.old.worker pass.old.number call.now }
     ensures none { IfNone result (IsMoreWork K.book K.base pass.old call.now pass.new
         replies.old.items replies.new.items) }
     ensures some { OnSome result ((replies.new.items ≡ replies.old.items) × (pass.new ≡ pass.old)) }
@@ -107,6 +111,7 @@ fn work<K: Session, R: Wait, G: Gate>(
     calls: &Vec<Call>,
     done: &mut Done,
 )
+    requires { AreNextAsked K.asks done.old.pass.worker done.old.pass.number calls.now.items }
     ensures { IsDone K.book K.base done.old.pass calls.now.items done.new }
 {
     let mut replies = Vec::new(alloc);
@@ -158,6 +163,7 @@ pub fn run_workers<K: Session + Send + Sync, R: Threads + Wait + Sync, G: Gate +
     gate: &G,
     jobs: Vec<(Pass, Vec<Call>)>,
 ) -> Result<Vec<Done>, RunFault>
+    requires { AreJobsAsked K.asks (λ c. c.items) jobs.items }
     ensures many { IfOk result (λ v. length v.items ≡ length jobs.items) }
     ensures each { IfOk result (λ v.
         AreDone K.book K.base (λ c. c.items) jobs.items v.items) }
@@ -180,13 +186,17 @@ fn run_all<K: Session + Send + Sync, R: Threads + Wait + Sync, G: Gate + Sync>(
     dones: &mut Vec<Done>,
 )
     requires many { length dones.old.items ≡ length jobs.now.items }
+    requires passes { HaveTheirPasses jobs.now.items dones.old.items }
+    requires asked { AreJobsAsked K.asks (λ c. c.items) jobs.now.items }
     ensures many { length dones.new.items ≡ length jobs.now.items }
     ensures each { AreDoneFrom K.book K.base (λ c. c.items) jobs.now.items
         dones.old.items dones.new.items }
 {
     let threads = jobs.len().max(1);
     let run = |i: usize, done: &mut Done|
-        requires { i < length jobs.now.items }
+        requires within { i < length jobs.now.items }
+        requires asked { (j : _) → AreNextAsked K.asks done.entry.now.pass.worker
+            done.entry.now.pass.number (get_or jobs.entry.now.items i j).1.items }
         ensures { (j : _) → IsDone K.book K.base done.entry.now.pass
             (get_or jobs.entry.now.items i j).1.items done.exit.now }
     { work(shared, rt, alloc, gate, &jobs[i].1, done) };

@@ -3,6 +3,7 @@ ghost use Rattle.std.specs.Prelude.{◌≡◌, IfOk, IfErr, MatchResult};
 ghost use mathlib.Core.List.{IsPrefix};
 ghost use Rattle.hfs_check.specs.VolumeOf.{volume_of};
 ghost use Rattle.hfs_published.specs.Journals.{published};
+ghost use Rattle.hfs_shared.specs.Asks.{AreAsked};
 ghost use Rattle.hfs_shared.specs.Closings.{AreAllPasses, AreTheirPasses, GivesAll, HasNoOthers, IsClosedAs, IsWhether};
 ghost use Rattle.hfs_shared.specs.Lockeds.{IsUnderLock};
 
@@ -28,6 +29,7 @@ impl<K: Session> Locked<K> {
             (λ _. AreTheirPasses passes.items self → ⊥) }
         ensures ok { IfOk result (λ c. IsClosedAs K.base c passes.items viewer.old viewer.new) }
         ensures all { IfOk result (λ c. GivesAll self c) }
+        ensures asked { IfOk result (λ c. AreAsked K.asks c.journal.items) }
         ensures err { IfErr result (λ e.
             (e.0 ≡ self) × (e.1 ≡ passes) × (viewer.new ≡ viewer.old)) }
     {
@@ -62,7 +64,7 @@ impl<K: Session> Locked<K> {
         ensures current { result.volume.current ≡ self.current }
         ensures journal { result.journal.items ≡ self.journal }
         ensures shown { result.shown ≡ self.shown }
-        ensures headline { IsUnderLock K.base self }
+        ensures headline { IsUnderLock K.base K.asks self }
         ensures others { HasNoOthers self.workers self.journal }
     {
         let Locked {

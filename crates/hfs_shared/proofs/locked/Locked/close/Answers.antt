@@ -4,6 +4,7 @@ use Rattle.hfs_check.specs.VolumeOf.{volume_of}
 use Rattle.hfs_model.specs.declared.journal.Entry.{Entry}
 use Rattle.hfs_model.specs.Runs.{after}
 use Rattle.hfs_published.specs.Journals.{IsLegal, published}
+use Rattle.hfs_shared.specs.Asks.{AreAsked}
 use Rattle.hfs_shared.specs.Closings.{AreAllPasses, HasNoOthers}
 use Rattle.hfs_shared.proofs.locked.Locked.close.Goals as goal
 
@@ -25,3 +26,6 @@ returns-clause-ok g c =
       within = subst (λ (y : ℕ × List Entry). y.0 ≤ length y.1) (λ i. (sym e.shown i, sym e.journal i)) e.headline.within;
       begins = c.teach.ensures.begins;
     }
+
+pub returns-clause-asked : goal.returns-clause-asked
+returns-clause-asked g c = subst (AreAsked g.K.Session.asks) (sym c.end.ensures.journal) c.end.ensures.headline.asked
