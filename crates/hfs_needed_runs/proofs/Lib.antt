@@ -3,3 +3,4 @@ pub mod KeptBlocks
 pub mod MoreRead
 pub mod WorkingRuns
 pub mod KeptWorking
+pub mod OnImage

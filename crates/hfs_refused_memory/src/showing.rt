@@ -1,5 +1,5 @@
 //! What is published where memory is refused once, and what a viewer then shows.
-ghost use Rattle.std.specs.Prelude.{◌≡◌, IfOk, OnOk};
+ghost use Rattle.std.specs.Prelude.{◌≡◌, IfOk, OnOk, None};
 
 use crate::letters::{create, letters_in};
 use crate::sharing::begun_on_new;
@@ -12,6 +12,7 @@ use std::marker::Brand;
 use std::sync::Wait;
 
 /// The reply to one call, and what is told of it.
+#[tactic(auto, using(hfs_shared::proofs::Asked::anything))]
 fn answered_once<K: Session>(
     rt: &impl Wait,
     alloc: Global,
@@ -19,6 +20,7 @@ fn answered_once<K: Session>(
     pass: &mut Pass,
     call: Call,
 ) -> Result<(Reply, Told), CallFault>
+    requires { K.asks ≡ None }
     ensures { IfOk result (λ answer. answer.1.book ≡ K.book) }
 {
     match shared.call(rt, alloc, pass, call) {
@@ -36,6 +38,7 @@ fn answered<K: Session>(
     pass: &mut Pass,
     name: &[u8],
 ) -> Result<(Reply, Told)>
+    requires { K.asks ≡ None }
     ensures { IfOk result (λ answer. answer.1.book ≡ K.book) }
 {
     if let Ok(answer) = answered_once(rt, alloc, shared, pass, create(alloc, name)?) {
@@ -110,7 +113,8 @@ fn shown<K: Session>(
     name: &[u8],
     number: u64,
 ) -> Result<u64>
-    requires { viewer.old.book ≡ K.book }
+    requires viewer { viewer.old.book ≡ K.book }
+    requires asks { K.asks ≡ None }
     ensures { OnOk result (viewer.new.book ≡ K.book) }
 {
     let (reply, told) = answered(rt, alloc, shared, pass, name)?;
@@ -140,7 +144,8 @@ fn show_each<K: Session>(
     passes: &mut Vec<Pass>,
     viewer: &mut Viewer,
 ) -> Result<[u64; 3]>
-    requires { viewer.old.book ≡ K.book }
+    requires viewer { viewer.old.book ≡ K.book }
+    requires asks { K.asks ≡ None }
 {
     let Some(pass) = passes.first_mut() else {
         bail!("no pass");
@@ -167,6 +172,7 @@ fn show_three<K: Session, R: Wait>(
 ) -> Result<Outcome>
     requires parts { (parts.book ≡ K.book) × (parts.base ≡ K.base) }
     requires viewer { viewer.old.book ≡ K.book }
+    requires asks { K.asks ≡ None }
 {
     let shared = parts.share::<K>();
     let counts = show_each(rt, alloc, &shared, &mut passes, viewer)?;

@@ -1,5 +1,5 @@
 //! A viewer beside a worker that is held under the lock.
-ghost use Rattle.std.specs.Prelude.{◌≡◌};
+ghost use Rattle.std.specs.Prelude.{◌≡◌, None};
 ghost use Rattle.std.specs.Thread.{IsSync};
 
 use crate::meeting::{begun_jobs, run};
@@ -62,7 +62,9 @@ fn run_beside<K: Session + Send + Sync, R: Threads + Wait + Sync, G: Gate + Watc
     gate: &G,
     jobs: Vec<(Pass, Vec<Call>)>,
     mut viewer: Viewer,
-) -> Seen {
+) -> Seen
+    requires { K.asks ≡ None }
+{
     thread::join(
         rt,
         move || -> (usize, usize)
@@ -80,7 +82,8 @@ fn see<K: Session + Send + Sync, R: Threads + Wait + Sync>(
     jobs: Vec<(Pass, Vec<Call>)>,
     viewer: Viewer,
 ) -> Seen
-    requires { (parts.book ≡ K.book) × (parts.base ≡ K.base) }
+    requires parts { (parts.book ≡ K.book) × (parts.base ≡ K.base) }
+    requires asks { K.asks ≡ None }
 {
     let shared = parts.share::<K>();
     run_beside(&shared, rt, alloc, gate, jobs, viewer)

@@ -1,5 +1,5 @@
 //! A viewer beside a volume on which the same changes are made: when it learned of a change, it answers as the volume does.
-ghost use Rattle.std.specs.Prelude.{◌≡◌, OnOk};
+ghost use Rattle.std.specs.Prelude.{◌≡◌, OnOk, None};
 
 use crate::sharing::{begun_one, make};
 use hfs_fixtures::{SmallVolume, new_image, small_image};
@@ -194,7 +194,8 @@ fn change<K: Session>(
     volume: &mut Volume,
     call: Call,
 ) -> Result<(), Fail>
-    requires { viewer.old.book ≡ K.book }
+    requires viewer { viewer.old.book ≡ K.book }
+    requires asks { K.asks ≡ None }
     ensures { OnOk result (viewer.new.book ≡ K.book) }
 {
     let wanted = reply_to(volume, alloc, &call)?;
@@ -216,7 +217,8 @@ fn follow_one<K: Session>(
     calls: &Vec<Call>,
     call: Call,
 ) -> Result<(), Fail>
-    requires { viewer.old.book ≡ K.book }
+    requires viewer { viewer.old.book ≡ K.book }
+    requires asks { K.asks ≡ None }
     ensures { OnOk result (viewer.new.book ≡ K.book) }
 {
     change(rt, alloc, shared, pass, viewer, volume, call)?;
@@ -235,7 +237,8 @@ fn follow_all<K: Session>(
     script: Script,
     calls: &Vec<Call>,
 ) -> Result<u32, Fail>
-    requires { viewer.old.book ≡ K.book }
+    requires viewer { viewer.old.book ≡ K.book }
+    requires asks { K.asks ≡ None }
 {
     let mut changes = 0_u32;
     for line in script.into_lines() {
@@ -258,6 +261,7 @@ fn follow<K: Session, R: Wait>(
 ) -> Result<u32, Fail>
     requires parts { (parts.book ≡ K.book) × (parts.base ≡ K.base) }
     requires viewer { viewer.book ≡ K.book }
+    requires asks { K.asks ≡ None }
 {
     let shared = parts.share::<K>();
     follow_all(

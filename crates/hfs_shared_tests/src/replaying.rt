@@ -1,6 +1,6 @@
 //! Eight workers that run side by side, and the plain program, which makes the calls of the journal
 //! in their order: it answers each the same code, and ends with the same folder tree.
-ghost use Rattle.std.specs.Prelude.{◌≡◌, IfOk};
+ghost use Rattle.std.specs.Prelude.{◌≡◌, IfOk, None};
 
 use crate::reading::{compare, script_of};
 use crate::sharing::{begun_new, closed};
@@ -83,12 +83,15 @@ fn passes_of(alloc: Global, dones: Vec<Done>) -> Result<Vec<Pass>, AllocError> {
 }
 
 /// Runs jobs, and answers the passes of their workers as they are then; where memory is refused, none.
+#[tactic(auto, using(hfs_shared::proofs::Asked::any_jobs))]
 fn passes_after<K: Session + Send + Sync, R: Threads + Wait + Sync>(
     shared: &Shared<K>,
     rt: &R,
     alloc: Global,
     jobs: Vec<(Pass, Vec<Call>)>,
-) -> Vec<Pass> {
+) -> Vec<Pass>
+    requires { K.asks ≡ None }
+{
     match run_workers(shared, rt, alloc, &Unheld, jobs) {
         Ok(dones) => match passes_of(alloc, dones) {
             Ok(passes) => passes,
@@ -108,6 +111,7 @@ fn closed_after_jobs<K: Session + Send + Sync, R: Threads + Wait + Sync>(
 ) -> Option<Closed>
     requires parts { (parts.book ≡ K.book) × (parts.base ≡ K.base) }
     requires viewer { viewer.book ≡ K.book }
+    requires asks { K.asks ≡ None }
 {
     let shared = parts.share::<K>();
     let passes = passes_after(&shared, rt, alloc, jobs);

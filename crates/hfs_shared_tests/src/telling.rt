@@ -1,5 +1,5 @@
 //! What a viewer sees of what it is told.
-ghost use Rattle.std.specs.Prelude.{◌≡◌};
+ghost use Rattle.std.specs.Prelude.{◌≡◌, None};
 
 use crate::closing::counts_of;
 use crate::sharing::{applied, begun_new, begun_one, closed, lists, make_file, new_volume};
@@ -17,7 +17,8 @@ fn learns_both<K: Session>(
     pass: &mut Pass,
     viewer: &mut Viewer,
 ) -> bool
-    requires { viewer.old.book ≡ K.book }
+    requires viewer { viewer.old.book ≡ K.book }
+    requires asks { K.asks ≡ None }
     ensures { viewer.new.book ≡ K.book }
 {
     let Some(first) = make_file(rt, alloc, shared, pass, b"a") else {
@@ -39,7 +40,8 @@ fn learns_by_first<K: Session>(
     passes: &mut Vec<Pass>,
     viewer: &mut Viewer,
 ) -> bool
-    requires { viewer.old.book ≡ K.book }
+    requires viewer { viewer.old.book ≡ K.book }
+    requires asks { K.asks ≡ None }
     ensures { viewer.new.book ≡ K.book }
 {
     match passes.first_mut() {
@@ -58,6 +60,7 @@ fn learned<K: Session, R: Wait>(
 ) -> (bool, Option<Closed>)
     requires parts { (parts.book ≡ K.book) × (parts.base ≡ K.base) }
     requires viewer { viewer.book ≡ K.book }
+    requires asks { K.asks ≡ None }
 {
     let shared = parts.share::<K>();
     let learns = learns_by_first(rt, alloc, &shared, &mut passes, &mut viewer);
@@ -103,7 +106,8 @@ fn shown_under_lock<K: Session>(
     pass: &mut Pass,
     viewer: &mut Viewer,
 ) -> ([u64; 4], bool)
-    requires { viewer.old.book ≡ K.book }
+    requires viewer { viewer.old.book ≡ K.book }
+    requires asks { K.asks ≡ None }
 {
     let mut guard = shared.lock(rt);
     let is_made = applied(alloc, &mut guard, pass, b"a").is_ok();
@@ -127,6 +131,7 @@ fn shown_by_publish<K: Session, R: Wait>(
 ) -> ([u64; 4], bool)
     requires parts { (parts.book ≡ K.book) × (parts.base ≡ K.base) }
     requires viewer { viewer.book ≡ K.book }
+    requires asks { K.asks ≡ None }
 {
     let shared = parts.share::<K>();
     shown_under_lock(rt, alloc, &shared, &mut pass, &mut viewer)

@@ -1,5 +1,6 @@
+use Rattle.std.proofs.Common.{None}
 use Rattle.hfs_refused_memory.proofs.showing.shows_as_said.Given as goal
 
 -- the parts that were just made
 abbrev pub ghosts-show_three : goal.ghosts-show_three
-ghosts-show_three g a = record { book = a.parts.book; base = a.parts.base }
+ghosts-show_three g a = record { book = a.parts.book; base = a.parts.base; asks = None }
