@@ -7,9 +7,17 @@ use Rattle.logbook.specs.Pages.{Book}
 use Rattle.hfs_model.specs.declared.call.Call.{Call}
 use Rattle.hfs_model.specs.declared.reply.Reply.{Reply}
 use Rattle.hfs_published.specs.Tolds.{ToldState}
+use Rattle.hfs_shared.specs.declared.done.Done.{Done}
 use Rattle.hfs_shared.specs.Desks.{PassState, pass_state}
 use Rattle.hfs_shared.specs.Shareds.{IsSomeCall}
-use Rattle.hfs_shared.specs.Works.{later, IsWork, IsMoreWork}
+use Rattle.hfs_shared.specs.Asks.{Asks, AreNextAsked}
+use Rattle.hfs_shared.specs.Works.{later, AreJobsAsked, HaveTheirPasses, IsWork, IsMoreWork}
+
+-- what begins with a job's pass is asked the job's calls
+pub asked_begun : {V : Type 0} (asks : Asks) (calls : V → List Call) (jobs : List (PassState × V)) (dones : List Done) → HaveTheirPasses jobs dones → AreJobsAsked asks calls jobs
+    → (i : ℕ) (d : Done) (j : PassState × V) → i < length jobs → AreNextAsked asks (get_or dones i d).pass.worker (get_or dones i d).pass.number (calls (get_or jobs i j).1)
+asked_begun asks calls jobs dones passes asked i d j below =
+    subst (λ (p : PassState). AreNextAsked asks p.worker p.number (calls (get_or jobs i j).1)) (sym (passes i d j below)) (asked i j below)
 
 module _ (book : Book) (base : List ℕ) (p : PassState) (calls : List Call) where
   abbrev At : List (Reply × ToldState) → ℕ → Type 0

@@ -177,6 +177,7 @@ pub fn run_workers<K: Session + Send + Sync, R: Threads + Wait + Sync, G: Gate +
 }
 
 // Does the jobs, each in a thread of its own.
+#[tactic(auto, using(crate::proofs::Working::asked_begun))]
 fn run_all<K: Session + Send + Sync, R: Threads + Wait + Sync, G: Gate + Sync>(
     shared: &Shared<K>,
     rt: &R,

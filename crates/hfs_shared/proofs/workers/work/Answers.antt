@@ -5,9 +5,10 @@ use Rattle.hfs_model.specs.declared.call.Call.{Call}
 use Rattle.hfs_model.specs.declared.reply.Reply.{Reply}
 use Rattle.hfs_published.specs.Tolds.{ToldState}
 use Rattle.hfs_shared.specs.declared.desk.CallFault.{CallFault}
+use Rattle.hfs_shared.specs.Asks.{IsAsked}
 use Rattle.hfs_shared.specs.Desks.{PassState}
 use Rattle.hfs_shared.specs.Faults.{IsFaultUnder}
-use Rattle.hfs_shared.specs.Works.{IsWork}
+use Rattle.hfs_shared.specs.Works.{later, IsWork}
 use Rattle.hfs_shared.proofs.Working.{work_more}
 use Rattle.hfs_shared.proofs.workers.work.Goals.{else-loop-call-test, then-loop-call-test+then-is_some}
 use Rattle.hfs_shared.proofs.workers.work.Goals as goal
@@ -31,6 +32,19 @@ not_none (Some x) e h = absurd (cc h)
 of_none : {A : Type 0} (P : A → Type 0) (o : Option A) → o ≡ None → IfSome o P
 of_none P None e = tt
 of_none P (Some x) e = absurd (cc e)
+
+-- the next call is the one that was asked
+pub one_more-fault-requires-in-loop-call : goal.one_more-fault-requires-in-loop-call
+one_more-fault-requires-in-loop-call g c =
+    let i = c.loop-call.invariant in
+    let at = c.loop-call.call-index in
+    let items = c.deref-call-items.ensures.value in
+    let call = c.call-item.result in
+    let p = c.args.done.now.pass in
+    let below : at < length c.args.calls.now.items = omega (arith, ap length items) in
+    let pass : later p at ≡ c.loop-call.done.pass = sym (i.0.pass ∙ ap (later p) i.1) in
+    let same : get_or c.args.calls.now.items at call ≡ call = ap (λ (l : List Call). get_or l at call) (sym items) ∙ sym c.call-item.is in
+    subst (λ (y : PassState × Call). IsAsked g.K.Session.asks y.0.worker y.0.number y.1) (λ j. (pass j, same j)) (c.requires at call below)
 
 pub loop-call-preserved : goal.loop-call-preserved
 loop-call-preserved g c =
