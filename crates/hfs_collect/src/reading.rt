@@ -1,4 +1,7 @@
 //! What the program is asked for, and from the command line to that.
+ghost use Rattle.std.specs.Prelude.{◌≡◌, Some, IfOk, MatchBool, codes};
+ghost use Rattle.std.specs.Str.Parse.{false_text, true_text};
+ghost use Rattle.clap.specs.Matches.{found_of, one_text};
 
 use crate::reading_rows::{RowsWords, rows_command, rows_words};
 use clap::{ArgMatches, Command, Error};
@@ -122,7 +125,14 @@ fn matches_of<'a>(alloc: Global, words: &'a [String]) -> Result<ArgMatches<'a>, 
 }
 
 /// What the words ask for, by what was found in them.
-fn words_of<'a>(alloc: Global, matches: &ArgMatches<'a>) -> Result<CollectWords<'a>, WordsFault> {
+fn words_of<'a>(alloc: Global, matches: &ArgMatches<'a>) -> Result<CollectWords<'a>, WordsFault>
+    ensures digests { IfOk result (λ words. MatchBool words.takes_digests
+        (one_text (found_of matches.now) (codes "no-digest") ≡ Some false_text)
+        (one_text (found_of matches.now) (codes "no-digest") ≡ Some true_text)) }
+    ensures compares { IfOk result (λ words. MatchBool words.compares
+        (one_text (found_of matches.now) (codes "compare") ≡ Some true_text)
+        (one_text (found_of matches.now) (codes "compare") ≡ Some false_text)) }
+{
     let database = DATABASE.text(matches)?;
     let takes_digests = !NO_DIGEST.is_given(matches)?;
     let compares = COMPARE.is_given(matches)?;

@@ -1,4 +1,7 @@
 //! The word `rows`, from the command line to what it asks for.
+ghost use Rattle.std.specs.Prelude.{◌≡◌, Some, IfOk, MatchBool, codes};
+ghost use Rattle.std.specs.Str.Parse.{false_text, true_text};
+ghost use Rattle.clap.specs.Matches.{found_of, one_text};
 
 use clap::{Arg, ArgAction, ArgMatches, Command};
 use hfs_arguments::{Argument, NoValue, Takes, Word};
@@ -102,10 +105,11 @@ pub fn rows_command<'a>(alloc: Global) -> Result<Command<'a>, AllocError> {
 }
 
 /// What `rows` asks for.
-pub fn rows_words<'a>(
-    alloc: Global,
-    matches: &ArgMatches<'a>,
-) -> Result<RowsWords<'a>, WordsFault> {
+pub fn rows_words<'a>(alloc: Global, matches: &ArgMatches<'a>) -> Result<RowsWords<'a>, WordsFault>
+    ensures { IfOk result (λ words. MatchBool words.takes_digests
+        (one_text (found_of matches.now) (codes "no-digest") ≡ Some false_text)
+        (one_text (found_of matches.now) (codes "no-digest") ≡ Some true_text)) }
+{
     let form = form_of(matches)?;
     let takes_digests = !NO_DIGEST.is_given(matches)?;
     Ok(RowsWords {

@@ -1,4 +1,7 @@
 //! The word `cat`.
+ghost use Rattle.std.specs.Prelude.{IfOk};
+ghost use Rattle.clap.specs.Matches.{found_of};
+ghost use Rattle.hfs_tool.specs.Flags.{FollowFlags, IsForkAskedFor};
 
 use super::places::{IMAGE, PATH, VOLUME, path_words, volume_of};
 use crate::words::{FileWords, ForkPathWords, ForkWords, PathWords, Words};
@@ -61,7 +64,9 @@ pub fn cat_command<'a>(alloc: Global) -> Result<Command<'a>, AllocError> {
 }
 
 /// What `cat` asks for.
-pub fn cat_words<'a>(matches: &ArgMatches<'a>) -> Result<Words<'a>, NoValue> {
+pub fn cat_words<'a>(matches: &ArgMatches<'a>) -> Result<Words<'a>, NoValue>
+    ensures { IfOk result (FollowFlags (found_of matches.now)) }
+{
     match path_words(matches)? {
         Some(place) => words_at(matches, place),
         None => words_by_name(matches),
@@ -69,7 +74,9 @@ pub fn cat_words<'a>(matches: &ArgMatches<'a>) -> Result<Words<'a>, NoValue> {
 }
 
 /// What `cat` asks for, of a file by its path.
-fn words_at<'a>(matches: &ArgMatches<'a>, place: PathWords<'a>) -> Result<Words<'a>, NoValue> {
+fn words_at<'a>(matches: &ArgMatches<'a>, place: PathWords<'a>) -> Result<Words<'a>, NoValue>
+    ensures { IfOk result (FollowFlags (found_of matches.now)) }
+{
     if MACBINARY.is_given(matches)? {
         return Ok(Words::MacBinaryAt(place));
     }
@@ -80,7 +87,9 @@ fn words_at<'a>(matches: &ArgMatches<'a>, place: PathWords<'a>) -> Result<Words<
 }
 
 /// What `cat` asks for, of a file by its folder and its name.
-fn words_by_name<'a>(matches: &ArgMatches<'a>) -> Result<Words<'a>, NoValue> {
+fn words_by_name<'a>(matches: &ArgMatches<'a>) -> Result<Words<'a>, NoValue>
+    ensures { IfOk result (FollowFlags (found_of matches.now)) }
+{
     let file = FileWords {
         image: IMAGE.text(matches)?,
         volume: volume_of(matches)?,
@@ -100,7 +109,9 @@ fn words_by_name<'a>(matches: &ArgMatches<'a>) -> Result<Words<'a>, NoValue> {
 }
 
 /// Which fork of a file is asked for.
-fn fork_of(matches: &ArgMatches<'_>) -> Result<Fork, NoValue> {
+fn fork_of(matches: &ArgMatches<'_>) -> Result<Fork, NoValue>
+    ensures { IfOk result (IsForkAskedFor (found_of matches.now)) }
+{
     if RESOURCE.is_given(matches)? {
         Ok(Fork::ResFork)
     } else {

@@ -1,4 +1,7 @@
 //! The word `page`.
+ghost use Rattle.std.specs.Prelude.{IfOk};
+ghost use Rattle.clap.specs.Matches.{found_of};
+ghost use Rattle.hfs_tool.specs.Flags.{FollowFlags};
 
 use super::places::{IMAGE, VOLUME, volume_of};
 use crate::help::PAGES;
@@ -36,7 +39,9 @@ pub fn page_command<'a>(alloc: Global) -> Result<Command<'a>, AllocError> {
 }
 
 /// What `page` asks for.
-pub fn page_words<'a>(matches: &ArgMatches<'a>) -> Result<Words<'a>, NoValue> {
+pub fn page_words<'a>(matches: &ArgMatches<'a>) -> Result<Words<'a>, NoValue>
+    ensures { IfOk result (FollowFlags (found_of matches.now)) }
+{
     Ok(Words::Page(PageWords {
         image: IMAGE.text(matches)?,
         volume: volume_of(matches)?,

@@ -1,4 +1,7 @@
 //! The word `rescue`.
+ghost use Rattle.std.specs.Prelude.{IfOk};
+ghost use Rattle.clap.specs.Matches.{found_of};
+ghost use Rattle.hfs_tool.specs.Flags.{FollowFlags};
 
 use super::places::{FOLDER, IMAGE, NO_DIGEST, VOLUME, volume_of};
 use crate::help::{PROGRAM, RESCUES};
@@ -41,7 +44,9 @@ pub fn rescue_command<'a>(alloc: Global) -> Result<Command<'a>, AllocError> {
 }
 
 /// What `rescue` asks for.
-pub fn rescue_words<'a>(matches: &ArgMatches<'a>) -> Result<Words<'a>, NoValue> {
+pub fn rescue_words<'a>(matches: &ArgMatches<'a>) -> Result<Words<'a>, NoValue>
+    ensures { IfOk result (FollowFlags (found_of matches.now)) }
+{
     let words = RescueWords {
         image: IMAGE.text(matches)?,
         volume: volume_of(matches)?,

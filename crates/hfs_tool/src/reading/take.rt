@@ -1,4 +1,7 @@
 //! The word `take`.
+ghost use Rattle.std.specs.Prelude.{IfOk};
+ghost use Rattle.clap.specs.Matches.{found_of};
+ghost use Rattle.hfs_tool.specs.Flags.{FollowFlags};
 
 use super::places::{FOLDER, IMAGE, NO_DIGEST, VOLUME, volume_of};
 use crate::help::{PROGRAM, TAKES};
@@ -21,7 +24,9 @@ pub fn take_command<'a>(alloc: Global) -> Result<Command<'a>, AllocError> {
 }
 
 /// What `take` asks for.
-pub fn take_words<'a>(matches: &ArgMatches<'a>) -> Result<Words<'a>, NoValue> {
+pub fn take_words<'a>(matches: &ArgMatches<'a>) -> Result<Words<'a>, NoValue>
+    ensures { IfOk result (FollowFlags (found_of matches.now)) }
+{
     Ok(Words::Take(TakeWords {
         image: IMAGE.text(matches)?,
         volume: volume_of(matches)?,
