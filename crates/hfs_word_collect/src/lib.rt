@@ -6,8 +6,6 @@ mod comparing;
 mod fault;
 mod files;
 mod lines;
-#[cfg(test)]
-mod tests;
 mod watched;
 mod writing;
 
