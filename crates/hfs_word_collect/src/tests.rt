@@ -87,10 +87,13 @@ fn compared(
 /// Whether the collection has the image with its length and its digest.
 fn has_abc(collection: &mut Collection<MemStore>, path: &str) -> bool {
     match known_image(collection, path) {
-        Ok(Some(known)) => match known.digest {
-            Some(digest) => known.bytes == 3 && digest.as_str() == DIGEST,
-            None => false,
-        },
+        Ok(Some(known)) => {
+            let bytes = known.bytes;
+            match known.digest {
+                Some(digest) => bytes == 3 && digest.as_str() == DIGEST,
+                None => false,
+            }
+        }
         Ok(None) | Err(_) => false,
     }
 }
