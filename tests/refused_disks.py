@@ -145,7 +145,8 @@ class Refused(Bench):
             path = shown.path(it)
             for which, fork in enumerate(((), ('--resource', ))):
                 if path:
-                    same(ran('cat', image, f'--path={path}', *fork, *words), (*shown.fork(path, which), shown.errors), f'{what}: cat {path!r} {fork}')
+                    source, given = ((image, None), (PIPE, content))[self.paths % 2]
+                    same(ran('cat', source, f'--path={path}', *fork, *words, given=given), (*shown.fork(path, which), shown.errors), f'{what}: cat {path!r} {fork}')
                     self.paths += 1
         for path in (':no such item', shown.path(items[0]) + ':' if items else 'x', plain(items[-1].name) if items else 'y'):
             same(ran('cat', image, f'--path={path}', *words), (*shown.fork(path, 0), shown.errors), f'{what}: cat {path!r}')
