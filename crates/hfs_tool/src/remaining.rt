@@ -80,18 +80,6 @@ fn again_of<F: Read + Seek + Drop>(
     again_in(alloc, bytes, ByteRange { start, len })
 }
 
-/// Whether a part of a file can be read once more.
-pub fn is_lasting<F: Read + Seek>(part: &Window<OpenedFile<F>>) -> bool {
-    match &part.source {
-        OpenedFile::Plain(StoredFile::Seekable(_)) => true,
-        OpenedFile::Plain(StoredFile::Whole(_)) => false,
-        OpenedFile::Raw(raw) => match &raw.data.bytes {
-            StoredFile::Seekable(_) => true,
-            StoredFile::Whole(_) => false,
-        },
-    }
-}
-
 /// Opens an image, or the volume in it that is asked for, and makes all checks.
 pub fn look<'a>(rt: &HostRuntime, path: &'a str, volume: Option<u64>) -> Result<Looked, Fault<'a>> {
     let part = open_part(rt, path, volume)?;
