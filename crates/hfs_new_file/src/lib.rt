@@ -2,11 +2,11 @@
 #![tactic(auto)]
 
 mod file;
-mod holes;
 mod log;
+mod new_file_writer;
 mod writer;
 
 pub use crate::file::TrustedNewFile;
-pub use crate::holes::HoleWriter;
 pub use crate::log::{Step, WriteLog};
+pub use crate::new_file_writer::NewFileWriter;
 pub use crate::writer::PlacedWriter;

@@ -2,8 +2,8 @@
 use Rattle.std.proofs.Common.{rules, ◌≡◌, ◌∙◌, length, take, ap, arith}
 use Rattle.std.proofs.lemmas.List.{length-take}
 use Rattle.hfs_new_file.proofs.Fillings.{written_from}
-use Rattle.hfs_new_file.proofs.holes.HoleWriter.write_on.Goals as goal
-use Rattle.hfs_new_file.proofs.holes.HoleWriter.write_on.Goals.{then-self+in_ok-go_to, else-self}
+use Rattle.hfs_new_file.proofs.new_file_writer.NewFileWriter.write_on.Goals as goal
+use Rattle.hfs_new_file.proofs.new_file_writer.NewFileWriter.write_on.Goals.{then-self+in_ok-go_to, else-self}
 
 pub returns-clause-bytes : goal.returns-clause-bytes
 returns-clause-bytes g c =

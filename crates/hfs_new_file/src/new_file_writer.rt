@@ -1,4 +1,4 @@
-//! New files in which zeros are left out, so that they stay holes.
+//! Writers of new files, which may leave zeros out, so that they stay holes.
 ghost use Rattle.std.specs.Prelude.{◌≡◌, [], length, replicate, IfOk, OnErr, OnOk, Some};
 ghost use Rattle.std.specs.Io.KnownBytes.{Appends, Keeps, WriteAppends};
 ghost use Rattle.std.specs.Io.{WritesAtMost};
@@ -22,18 +22,20 @@ fn largest_of(bytes: &[u8]) -> u8
     largest
 }
 
-/// Writes a new file from its beginning on: up to 65,536 bytes that are zeros alone are left out, and stay a hole. It is known by the
-/// bytes that it was given; the file has them all once it was given its length by [`HoleWriter::end`].
+/// Writes a new file from its beginning on. It is known by the bytes that it was given; the file has them all once it was given its
+/// length by [`NewFileWriter::end`].
 #[derive(Drop)]
-pub struct HoleWriter<P: PlacedWriter> {
+pub struct NewFileWriter<P: PlacedWriter> {
     target: P,
+    /// Whether up to 65,536 bytes that are zeros alone are left out, and stay a hole.
+    leaves_holes: bool,
     /// How many bytes there are, with those that were left out.
     len: u64,
     /// Whether the file may stand elsewhere than behind all bytes: the last of them were left out, or a step failed.
     is_away: bool,
 }
 
-impl<P: PlacedWriter> Model for HoleWriter<P> {
+impl<P: PlacedWriter> Model for NewFileWriter<P> {
     ghost use Rattle.std.specs.Prelude.{◌≡◌, ◌≤◌, List, ℕ, Option, Some, IfSome, false, length};
     ghost use Rattle.std.specs.Option.{option_map};
     ghost use Rattle.hfs_new_file.specs.Steps.{filled_to};
@@ -47,15 +49,16 @@ impl<P: PlacedWriter> Model for HoleWriter<P> {
         × IfSome (P.bytes s.target) (λ bytes. length bytes ≡ s.len)) };
 }
 
-impl<P: PlacedWriter> HoleWriter<P> {
-    /// A writer of a file that has no byte and stands at its beginning.
-    pub fn new(target: P) -> HoleWriter<P>
+impl<P: PlacedWriter> NewFileWriter<P> {
+    /// A writer of a file that has no byte and stands at its beginning, which may leave holes.
+    pub fn new(target: P, leaves_holes: bool) -> NewFileWriter<P>
         requires bytes { P.bytes target ≡ Some [] }
         requires place { P.place target ≡ Some 0 }
         ensures { result ≡ Some [] }
     {
-        HoleWriter {
+        NewFileWriter {
             target,
+            leaves_holes,
             len: 0,
             is_away: false,
         }
@@ -98,7 +101,7 @@ impl<P: PlacedWriter> HoleWriter<P> {
         P: Drop,
         ensures { IfOk result (λ target. P.bytes target ≡ self) }
     {
-        let HoleWriter {
+        let NewFileWriter {
             mut target,
             len,
             ..
@@ -108,10 +111,13 @@ impl<P: PlacedWriter> HoleWriter<P> {
     }
 }
 
-impl<P: PlacedWriter> Write for HoleWriter<P> {
+impl<P: PlacedWriter> Write for NewFileWriter<P> {
     ghost contents = { λ writer. writer };
 
     fn write(&mut self, buf: &[u8]) -> io::Result<usize> {
+        if !self.leaves_holes {
+            return self.write_on(buf);
+        }
         let piece = &buf[..buf.len().min(MOST_AT_ONCE)];
         if largest_of(piece) > 0 {
             return self.write_on(piece);
