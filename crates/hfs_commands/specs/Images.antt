@@ -1,9 +1,8 @@
 -- Images with changed blocks laid over them.
-use Rattle.std.specs.Prelude.{ℕ, ◌==◌, List, length, Option, Some, None, if◌then◌else◌}
+use Rattle.std.specs.Prelude.{◌≡◌, ℕ, List, length}
 use Rattle.hfs_blocks.specs.Layers.{Numbered}
 use Rattle.hfs_volume.specs.Image.{patched}
 
--- where the bytes of an image are known, and are so many, they, with the changed blocks in place of their own
-abbrev pub patched_bytes : Option (List ℕ) → ℕ → Numbered → Option (List ℕ)
-patched_bytes None len changed = None
-patched_bytes (Some image) len changed = if length image == len then Some (patched changed image) else None
+-- one of these images, which has so many bytes, with the changed blocks in place of its own
+abbrev pub IsPatchedOf : (List ℕ → Type 0) → ℕ → Numbered → List ℕ → Type 0
+IsPatchedOf Holds len changed bytes = (image : List ℕ) × Holds image × (length image ≡ len) × (bytes ≡ patched changed image)

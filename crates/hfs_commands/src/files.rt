@@ -3,8 +3,8 @@ ghost use Rattle.std.specs.Prelude.{◌≡◌, ◌≤◌, ◌⊎◌, IfErr, IfOk
 ghost use Rattle.hfs_commands.specs.Faults.{IsTooMuch, IsUnreadScript, IsUnwatched};
 
 use crate::fault::Fault;
-use crate::watched::WatchedFile;
 use hfs_check::MountFault;
+use hfs_files::{TrustedWatchedFile, WatchedFile};
 use hfs_raw::{are_whole_sectors, data_start};
 use hfs_sparse::{BlockSource, ByteSource};
 use hfs_texts::{IMAGE_LIMIT, LoadFault, load, load_within};
@@ -115,7 +115,7 @@ pub fn open_watched<'a, R: Files + AllocGlobal>(
     if regular_len(&file).is_none() {
         return whole_watched(rt.alloc(), &mut file, path);
     }
-    let Ok(mut watched) = WatchedFile::new(file) else {
+    let Ok(mut watched) = WatchedFile::new(TrustedWatchedFile::new(file)) else {
         return Err(Fault::CannotRead(path));
     };
     let len = watched.len();

@@ -12,8 +12,8 @@ ghost use Rattle.hfs_commands.specs.Running.{IsNeededFault, IsNeededRunOf, IsScr
 
 use crate::fault::Fault;
 use crate::patched_image::PatchedImage;
-use crate::watched::Watched;
 use hfs_check::MountFault;
+use hfs_files::Watched;
 use hfs_needed::NeededFault;
 use hfs_needed_runs::{NeededRan, fetch_named_forks, run_needed_at};
 use hfs_runs::{Answers, Gate, ScriptFault};
