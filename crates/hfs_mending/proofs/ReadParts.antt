@@ -1,5 +1,5 @@
 -- What was read of an image, with changed blocks laid over both, decides what the image decides.
-use Rattle.std.proofs.Common.{◌≡◌, ℕ, Bool, true, false, List, [], ◌∷◌, Option, Some, None, IsSome, refl, sym, ap, subst, ◌∙◌}
+use Rattle.std.proofs.Common.{◌≡◌, ℕ, Bool, true, false, List, [], ◌∷◌, Option, IsSome, refl, sym, ap, subst, ◌∙◌}
 use Rattle.std.specs.Prelude.{◌&&◌, is_some, unwrap_or}
 use Rattle.std.specs.List.{flat_map}
 use Rattle.std.specs.Option.{is_none}
@@ -36,7 +36,7 @@ agree-over g old new (n ∷ ns) h = (ap (unwrap_or (g n)) h.0, agree-over g old 
 
 -- an image that has what was read has what was read before
 pub of-earlier : (image : List ℕ) (old new : Numbered) → HasGrown old new → IsOf image new → IsOf image old
-of-earlier image old new grown of = λ n block is. of n block (grown n (subst (λ (o : Option (List ℕ)). IsSome o) (sym is) tt) ∙ is)
+of-earlier image old new grown of = λ n block is. of n block (grown n (subst (λ (o : Option (List ℕ)). IsSome o) (sym is) refl) ∙ is)
 
 module _ (changed old new : Numbered) (grown : HasGrown old new) where
   abbrev before : Blocks

@@ -30,3 +30,6 @@ loop-put-preserved g c = record {
   sees = sees_on c.loop-put.invariant.sees c.in_ok-lay_put.ensures.sees;
   image = c.in_ok-lay_put.ensures.image ∙ c.loop-put.invariant.image;
 }
+
+pub returns-in_err-lay_put-clause-sees : goal.returns-in_err-lay_put-clause-sees
+returns-in_err-lay_put-clause-sees g c = sees_on c.loop-put.invariant.sees c.in_err-lay_put.ensures.sees

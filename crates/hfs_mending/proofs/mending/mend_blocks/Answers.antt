@@ -1,5 +1,5 @@
 -- The wrong numbers of what was read, and with their blocks the fault that is left.
-use Rattle.std.proofs.Common.{◌≡◌, ℕ, List, ap, subst, ◌∙◌}
+use Rattle.std.proofs.Common.{◌≡◌, List, ap, subst, ◌∙◌}
 use Rattle.hfs_blocks.specs.Layers.{changes, over}
 use Rattle.hfs_sparse.specs.declared.volume.SparseVolume.{SparseVolume}
 use Rattle.hfs_sparse.specs.Sparse.{sparse}
