@@ -49,7 +49,7 @@ pub use macbinary::{put_macbinary, write_macbinary};
 pub use opened_file::{OpenedFile, StoredFile, content_of};
 pub use patched_image::PatchedImage;
 pub use paths::ShownPath;
-pub use repairing::{NeededRepair, RepairAnswer, needed_repair_answer, repair_answer};
+pub use repairing::{RepairAnswer, repair_answer};
 pub use running::{RanImage, RunImage, script_lines};
 pub use saving::{Saved, save_file, save_new, save_read};
 pub use seen_files::{PartBlocks, PartImage, open_seen, part_blocks};
