@@ -26,19 +26,20 @@ record IsPlain (c : ℕ) : Type 0 where
 
 plain-is : (c : ℕ) → IsPlain c → is_name_character c ≡ true
 plain-is c p =
-    and_from (leb 32 c) _ (le-leb 32 c p.least)
-    (and_from (leb c 126) _ (le-leb c 126 p.most)
-    (and_from (not (eqb c 58)) _ (ap not (ne_eqb c 58 p.no_colon)) (ap not (ne_eqb c 96 p.no_grave))))
+    and_from (leb 32 c && leb c 126 && not (eqb c 58)) (not (eqb c 96))
+    (and_from (leb 32 c && leb c 126) (not (eqb c 58))
+    (and_from (leb 32 c) (leb c 126) (le-leb 32 c p.least) (le-leb c 126 p.most)) (ap not (ne_eqb c 58 p.no_colon)))
+    (ap not (ne_eqb c 96 p.no_grave))
 
 unequal : (c d : ℕ) → not (eqb c d) ≡ true → c ≢ d
 unequal c d e same = true≢false (sym e ∙ ap not (eq-eqb c d same))
 
 is-plain : (c : ℕ) → is_name_character c ≡ true → IsPlain c
 is-plain c e =
-    let a = and_parts (leb 32 c) _ e in
-    let b = and_parts (leb c 126) _ a.1 in
-    let d = and_parts (not (eqb c 58)) _ b.1 in
-    record { least = leb-true 32 c a.0; most = leb-true c 126 b.0; no_colon = unequal c 58 d.0; no_grave = unequal c 96 d.1 }
+    let all = and_parts (leb 32 c && leb c 126 && not (eqb c 58)) (not (eqb c 96)) e in
+    let most = and_parts (leb 32 c && leb c 126) (not (eqb c 58)) all.0 in
+    let range = and_parts (leb 32 c) (leb c 126) most.0 in
+    record { least = leb-true 32 c range.0; most = leb-true c 126 range.1; no_colon = unequal c 58 most.1; no_grave = unequal c 96 all.1 }
 
 -- what a character folds to
 abbrev Folds : ℕ → Type 0
@@ -93,7 +94,8 @@ pub name-kept : (x y : List ℕ) → same_name x y ≡ true → is_item_name x �
 name-kept x y same e =
     let folds : folded x ≡ folded y = (name_order.equal_folded x y).0 (level (name_cmp x y) same) in
     let long : length x ≡ length y = sym (length-map x fold_letter) ∙ ap length folds ∙ length-map y fold_letter in
-    let a = and_parts (leb 1 (length x)) _ e in
-    let b = and_parts (leb (length x) 31) _ a.1 in
-    and_from (leb 1 (length y)) _ (ap (leb 1) (sym long) ∙ a.0)
-    (and_from (leb (length y) 31) _ (ap (λ (n : ℕ). leb n 31) (sym long) ∙ b.0) (characters-kept x y folds b.1))
+    let all = and_parts (leb 1 (length x) && leb (length x) 31) (list_all is_name_character x) e in
+    let range = and_parts (leb 1 (length x)) (leb (length x) 31) all.0 in
+    and_from (leb 1 (length y) && leb (length y) 31) (list_all is_name_character y)
+    (and_from (leb 1 (length y)) (leb (length y) 31) (ap (leb 1) (sym long) ∙ range.0) (ap (λ (n : ℕ). leb n 31) (sym long) ∙ range.1))
+    (characters-kept x y folds all.1)

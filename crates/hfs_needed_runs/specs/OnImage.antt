@@ -69,6 +69,11 @@ pub record AreWorkersOnImage (lines : List ScriptLine) (copy image : List ℕ) (
   pub each : OfReplies (IsSomeReplyOnImage (line_calls lines) copy image) (calls_of (Worker worker) lines) replies
   pub stand : shown ≡ true → OfReplies (StandsOnImage (line_calls lines) copy image journal) (calls_of (Worker worker) lines) replies
 
+-- so it is of all workers of a run
+abbrev pub AreAllOnImage : (lines : List ScriptLine) (copy image : List ℕ) (volume : ImageValue) (text : List ℕ) (whole shown : Bool) → AreLinesRun copy lines volume text whole shown → Type 0
+AreAllOnImage lines copy image volume text whole shown ran =
+    (place : ℕ) → place < workers lines → AreWorkersOnImage lines copy image shown ran.journal (place + 1) (ran.replies (Worker (place + 1)))
+
 -- ---- the laws
 
 -- what was read of an image of so many bytes, with the forks that lines name, is such a copy of each image that has what was read
@@ -82,5 +87,4 @@ NamedForksAreTheImages =
 abbrev pub WorkersReadTheImage : Type 0
 WorkersReadTheImage =
     (copy image : List ℕ) (lines : List ScriptLine) (volume : ImageValue) (text : List ℕ) (whole shown : Bool) → IsLinesCopy lines copy image
-    → (ran : AreLinesRun copy lines volume text whole shown) → (place : ℕ) → place < workers lines
-    → AreWorkersOnImage lines copy image shown ran.journal (place + 1) (ran.replies (Worker (place + 1)))
+    → (ran : AreLinesRun copy lines volume text whole shown) → AreAllOnImage lines copy image volume text whole shown ran
