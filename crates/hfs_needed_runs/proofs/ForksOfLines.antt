@@ -14,7 +14,7 @@ use Rattle.hfs_fields.specs.declared.file_record.ForkRecord.{ForkRecord}
 use Rattle.hfs_fields.specs.declared.mdb.Mdb.{Mdb}
 use Rattle.hfs_fields.specs.Names.{is_item_name}
 use Rattle.hfs_fields.specs.Order.{same_name}
-use Rattle.hfs_fields.specs.Records.{is_dir, is_file, is_item, item_id, file_record_of}
+use Rattle.hfs_fields.specs.Records.{is_dir, is_file, is_item, item_id, dir_record_of, file_record_of}
 use Rattle.hfs_scans.specs.Each.{Each}
 use Rattle.hfs_scans.specs.Members.{In}
 use Rattle.hfs_scans.proofs.ElementLemmas.{each-left, each-right}
@@ -37,7 +37,7 @@ use Rattle.hfs_space.specs.TreeFiles.{node_count, tree_blocks}
 use Rattle.hfs_space.specs.TreeKeys.{overflow_of}
 use Rattle.hfs_catalog.specs.Items.{Contents, folder_of, file_of, item_of, items_in}
 use Rattle.hfs_catalog.specs.Lookups.{child_named, is_child_named}
-use Rattle.hfs_catalog.specs.Records.{Record, Catalog, is_child_of, item_with}
+use Rattle.hfs_catalog.specs.Records.{Record, Catalog, has_thread, is_child_of, item_with}
 use Rattle.hfs_catalog.specs.Sound.{IsSoundCatalog, IsRoot, IsGiven}
 use Rattle.hfs_catalog.proofs.DistinctLemmas.{later_from_distinct}
 use Rattle.hfs_catalog.proofs.Found.{only}
@@ -96,17 +96,14 @@ module _ (next : ℕ) (catalog : Catalog) (sound : IsSoundCatalog next catalog) 
 -- the item of a record stands where the record does
 item-place : (contents : Contents) (catalog : Catalog) (r : Record) → ((item_of contents catalog r).parent ≡ r.0.parent) × ((item_of contents catalog r).name ≡ r.0.name)
 unfolding item_of folder_of file_of
-item-place contents catalog r = by (is_dir r.1) refl
-  where
-    by : (b : Bool) → is_dir r.1 ≡ b → ((item_of contents catalog r).parent ≡ r.0.parent) × ((item_of contents catalog r).name ≡ r.0.name)
-    by true e = (
-      ap (λ (t : Bool). (cond t (folder_of r.0 _) (file_of _ _ r.0 _)).parent) e,
-      ap (λ (t : Bool). (cond t (folder_of r.0 _) (file_of _ _ r.0 _)).name) e,
-    )
-    by false e = (
-      ap (λ (t : Bool). (cond t (folder_of r.0 _) (file_of _ _ r.0 _)).parent) e,
-      ap (λ (t : Bool). (cond t (folder_of r.0 _) (file_of _ _ r.0 _)).name) e,
-    )
+item-place contents catalog r =
+    let f = file_record_of r.1 in
+    elim (is_dir r.1)
+    as (λ (b : Bool). ((cond b (folder_of r.0 (dir_record_of r.1)) (file_of (has_thread catalog f.id) (contents f) r.0 f)).parent ≡ r.0.parent)
+    × ((cond b (folder_of r.0 (dir_record_of r.1)) (file_of (has_thread catalog f.id) (contents f) r.0 f)).name ≡ r.0.name)) [
+      | true ↦ (refl, refl)
+      | false ↦ (refl, refl)
+    ]
 
 -- ---- which items calls name
 
