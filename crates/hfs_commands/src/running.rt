@@ -68,11 +68,12 @@ fn ran_image<S: BlockSource>(alloc: Global, source: S, len: u64, ran: NeededRan)
     ensures whole { result.whole ≡ ran.whole }
     ensures shown { result.shown ≡ ran.shown }
 {
+    let at_once = ran.shown;
     let NeededRan {
         patch,
         answers,
         whole,
-        shown,
+        shown: _,
     } = ran;
     let image = PatchedImage {
         alloc,
@@ -84,7 +85,7 @@ fn ran_image<S: BlockSource>(alloc: Global, source: S, len: u64, ran: NeededRan)
         image,
         answers,
         whole,
-        shown,
+        shown: at_once,
     }
 }
 
