@@ -48,9 +48,9 @@ Folds c = ((97 ≤ c) × (c ≤ 122) × (fold_letter c ≡ c - 32)) ⊎ (((c < 9
 folds : (c : ℕ) → Folds c
 folds c = elim (leb_tells 97 c) [
   | inl low ↦ elim (leb_tells c 122) [
-      | inl high ↦ inl (low.1, high.1, ap (λ (b : Bool). cond b (c - 32) c) (and_from (leb 97 c) (leb c 122) low.0 high.0))
-      | inr above ↦ inr (inr above.1, ap (λ (b : Bool). cond b (c - 32) c) ((λ i. low.0 i && above.0 i)))
-    ]
+    | inl high ↦ inl (low.1, high.1, ap (λ (b : Bool). cond b (c - 32) c) (and_from (leb 97 c) (leb c 122) low.0 high.0))
+    | inr above ↦ inr (inr above.1, ap (λ (b : Bool). cond b (c - 32) c) ((λ i. low.0 i && above.0 i)))
+  ]
   | inr below ↦ inr (inl below.1, ap (λ (b : Bool). cond (b && leb c 122) (c - 32) c) below.0)
 ]
 
