@@ -1,5 +1,5 @@
 -- The table of an image that was opened has its root.
-use Rattle.std.proofs.Common.{◌≡◌, ◌≢◌, ℕ, List, [], ◌∷◌, length, map, Some, refl, ap, subst, ◌∙◌, arith}
+use Rattle.std.proofs.Common.{◌≡◌, ◌≢◌, ℕ, ◌/◌, List, [], ◌∷◌, length, map, Option, Some, refl, ap, subst, ◌∙◌, arith}
 use Rattle.std.specs.List.{Contains}
 use Rattle.hfs_blocks.specs.Blocks.{block_at}
 use Rattle.hfs_catalog.proofs.LawsProved.{sound_is_lawful}
@@ -19,7 +19,9 @@ use Rattle.hfs_needed.proofs.LawsProved.{gathered_is_enough}
 use Rattle.hfs_needed.specs.Opened.{IsOpenedOf}
 use Rattle.hfs_needed.specs.declared.opening.NeededVolume.{NeededVolume}
 use Rattle.hfs_sparse.specs.Sparse.{sparse}
-use Rattle.hfs_image_items.specs.Images.{HasSomeRow}
+use Rattle.hfs_needed.specs.OpenedValues.{OpenedValue}
+use Rattle.hfs_needed.specs.Seen.{IsOpenedBy}
+use Rattle.hfs_image_items.specs.Images.{AreBytesOf, HasSomeRow}
 
 -- the table of a lawful volume has a row
 has-row : (v : Volume) → IsLawful v → table_of v ≢ []
@@ -48,3 +50,11 @@ sound-of image total volume opened =
 pub has_some_row : (image : List ℕ) (total : ℕ) (volume : NeededVolume) → IsOpenedOf (Some image) total volume → HasSomeRow image
 has_some_row image total volume opened =
     λ none. has-row (volume_of image) (lawful-of image total (sound-of image total volume opened)) (none-told (entries_of (volume_of image)) (table_of (volume_of image)) none)
+
+pub row_of_bytes : (opened : OpenedValue) (volume : NeededVolume) (image : List ℕ) → IsOpenedOf opened.known (opened.len / 512) volume → AreBytesOf opened image → HasSomeRow image
+row_of_bytes opened volume image is are =
+    has_some_row image (opened.len / 512) volume (subst (λ (known : Option (List ℕ)). IsOpenedOf known (opened.len / 512) volume) are.bytes is)
+
+-- an image that was seen
+pub row_of_seen : (volume : NeededVolume) (image : List ℕ) → IsOpenedBy volume image → HasSomeRow image
+row_of_seen volume image is = has_some_row image (length image / 512) volume is

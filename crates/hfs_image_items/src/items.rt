@@ -232,26 +232,45 @@ fn begin<'a, I: ItemImage + Drop, W: Watch>(
     }
 }
 
+/// Why the items of an image were not begun with, and the image.
+#[derive(Drop)]
+pub struct Unbegun<I> {
+    /// Why.
+    pub fault: SourceFault,
+    pub image: I,
+}
+
 impl<'a, I: ItemImage + Drop, W: Watch> ImageItems<'a, I, W> {
-    /// The items of an image, of which there are so many. Errors: memory was refused; `ReadFailed` where there is no root, as in no image that holds.
+    /// The items of an image, of which there are so many. Errors, with the image back: memory was refused; `ReadFailed` where there is no root, as in
+    /// no image that holds.
     pub fn new(
         alloc: Global,
         image: I,
         all: u64,
         watch: &'a W,
-    ) -> Result<ImageItems<'a, I, W>, SourceFault>
+    ) -> Result<ImageItems<'a, I, W>, Unbegun<I>>
         ensures image { IfOk result (λ made. made.image ≡ image) }
         ensures root { IfOk result (λ made. OfEach (I.Holds image)
             (λ bytes. BeginsWith made.root (told_rows (entries_in bytes)))) }
-        ensures fault { IfErr result (HasFailed WantsMemory (I.Holds image)) }
+        ensures back { IfErr result (λ back. back.image ≡ image) }
+        ensures fault { IfErr result (λ back. HasFailed WantsMemory (I.Holds image) back.fault) }
     {
         let Ok((rows, root)) = rows_below(alloc, &image) else {
-            return Err(SourceFault::Memory);
+            let fault = SourceFault::Memory;
+            return Err(Unbegun { fault, image });
         };
         let Some(info) = root else {
-            return Err(SourceFault::ReadFailed);
+            let fault = SourceFault::ReadFailed;
+            return Err(Unbegun { fault, image });
         };
         Ok(begin(alloc, image, rows, &info, all, watch))
+    }
+
+    /// The image back.
+    pub fn into_image(self) -> I
+        ensures { result ≡ self.image }
+    {
+        self.image
     }
 }
 

@@ -14,7 +14,7 @@ mod table_reading;
 mod watch;
 
 pub use crate::image::ItemImage;
-pub use crate::items::ImageItems;
+pub use crate::items::{ImageItems, Unbegun};
 pub use crate::laws::{
     bag_paths_are_told, items_are_placed, sound_items_are_placed, sound_paths_are_told,
 };

@@ -12,21 +12,31 @@ use std::io;
 impl<S: BlockSource + Drop> ItemImage for OpenedImage<S> {
     ghost Holds = { λ opened. AreBytesOf opened };
 
+    #[tactic(auto, using(crate::proofs::RootLemmas::row_of_bytes, crate::proofs::KnownLemmas::rows_of_bytes))]
     fn rows(&self, alloc: Global) -> Result<Inventory, AllocError> {
         let _sound = self.volume();
-        self.inventory(alloc)
+        let rows = self.inventory(alloc)?;
+        Ok(rows)
     }
 
+    #[tactic(auto, using(crate::proofs::KnownLemmas::lies_in, crate::proofs::KnownLemmas::refuses_in))]
     fn fork_runs(
         &self,
         alloc: Global,
         dir: u32,
         name: &[u8],
     ) -> Result<Result<FileRuns, Reply>, AllocError> {
-        self.file_runs(alloc, dir, name)
+        match self.file_runs(alloc, dir, name)? {
+            Ok(found) => Ok(Ok(found)),
+            Err(reply) => Ok(Err(reply)),
+        }
     }
 
+    #[tactic(auto, using(crate::proofs::KnownLemmas::read_of_bytes, crate::proofs::KnownLemmas::same_bytes))]
     fn read_from(&mut self, first: u32, into: &mut [u8]) -> io::Result<()> {
-        self.read_blocks(first, into)
+        match self.read_blocks(first, into) {
+            Ok(()) => Ok(()),
+            Err(error) => Err(error),
+        }
     }
 }

@@ -11,6 +11,7 @@ use std::io;
 impl<S: PlacedBlocks> ItemImage for SeenImage<S> {
     ghost Holds = { λ seen. S.Holds seen };
 
+    #[tactic(auto, using(crate::proofs::RootLemmas::row_of_seen))]
     fn rows(&self, alloc: Global) -> Result<Inventory, AllocError> {
         let _sound = self.volume();
         self.inventory(alloc)
