@@ -14,6 +14,6 @@ pub use finding::find_in;
 pub use finds::Finds;
 pub use forks::{Outside, fork_digest};
 pub use laws::needed_find_same;
-pub use looking::{Looked, RefusedImage, find_by_all, look};
+pub use looking::{Looked, RefusedImage, finds_of, look};
 pub use needed::{NeededFinds, needed_finds};
 pub use salvage::salvage_of;

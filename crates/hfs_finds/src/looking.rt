@@ -1,11 +1,8 @@
 //! A look at an image: it is sound and opened, or it is refused, and what there is of it is found.
-ghost use Rattle.std.specs.Prelude.{◌≡◌, ◌≤◌, IfOk, Some};
+ghost use Rattle.std.specs.Prelude.{◌≡◌, ◌≤◌, IfOk, IfSome, Some};
 ghost use Rattle.hfs_check.specs.Faults.{fault_of};
-ghost use Rattle.hfs_finds.specs.Finds.{IsFoundIn};
-ghost use Rattle.hfs_finds.specs.Looks.{IsLookAt, IsRefusedAs};
-ghost use Rattle.hfs_needed.specs.Known.{OfKnown};
+ghost use Rattle.hfs_finds.specs.Looks.{AreFindsOfEach, IsLookAt, IsRefusedAs};
 ghost use Rattle.hfs_source.specs.Images.{OfEach};
-ghost use Rattle.hfs_sparse.specs.Seen.{EachKnown};
 
 use crate::finding::find_in;
 use crate::finds::Finds;
@@ -34,8 +31,51 @@ pub struct RefusedImage<S: PlacedBlocks> {
     pub len: u64,
     /// Its first fault, in the order of docs/CHECKS.md.
     pub why: MountFault,
-    /// What is found of it by the blocks that are needed for that.
-    pub found: NeededFinds,
+    /// What is found of it; None where there is no directory in it.
+    pub found: Option<Finds>,
+}
+
+/// What is found of an image of `len` bytes, all of which are read at once, and let go. Errors: a read failed, memory was refused.
+#[tactic(auto, using(crate::proofs::LookLemmas::all_found))]
+fn find_by_all<S: BlockSource>(
+    alloc: Global,
+    source: &mut S,
+    len: u64,
+) -> Result<Option<Finds>, SparseFault>
+    requires { len ≤ 2147483648 }
+    ensures found { IfOk result (AreFindsOfEach (S.Holds source.new) len) }
+    ensures narrows { OfEach (S.Holds source.new) (S.Holds source.old) }
+{
+    let Ok(mut all) = vec![in alloc; 0u8; len as usize] else {
+        return Err(SparseFault::Memory);
+    };
+    let Ok(()) = source.read_blocks(0, &mut all) else {
+        return Err(SparseFault::ReadFailed);
+    };
+    match find_in(alloc, &all) {
+        Ok(found) => Ok(found),
+        Err(_) => Err(SparseFault::Memory),
+    }
+}
+
+/// What is found of an image of `len` bytes, by the blocks that are needed for that, or by all of them, where others are wanted. None
+/// where there is no directory in it. Errors: a read failed, memory was refused.
+pub fn finds_of<S: BlockSource>(
+    alloc: Global,
+    source: &mut S,
+    len: u64,
+) -> Result<Option<Finds>, SparseFault>
+    ensures found { IfOk result (AreFindsOfEach (S.Holds source.new) len) }
+    ensures few { IfOk result (λ found. IfSome found (λ _. len ≤ 2147483648)) }
+    ensures narrows { OfEach (S.Holds source.new) (S.Holds source.old) }
+{
+    if len > 2_147_483_648 {
+        return Ok(None);
+    }
+    match needed_finds(alloc, source, len)? {
+        NeededFinds::Found(found) => Ok(found),
+        NeededFinds::Whole => find_by_all(alloc, source, len),
+    }
 }
 
 /// What is found of an image that is refused for this fault.
@@ -51,7 +91,7 @@ fn refused_image<S: PlacedBlocks + Drop>(
 {
     let mut source = source;
     let len = source.blocks.len();
-    let found = needed_finds(alloc, &mut source, len)?;
+    let found = finds_of(alloc, &mut source, len)?;
     Ok(RefusedImage {
         source,
         len,
@@ -60,8 +100,8 @@ fn refused_image<S: PlacedBlocks + Drop>(
     })
 }
 
-/// Looks at an image: reads the needed blocks, makes all checks, and where it is refused finds what there is of it by the blocks that
-/// are needed for that, of the same source. Errors: a read failed, memory was refused.
+/// Looks at an image: reads the needed blocks, makes all checks, and where it is refused finds what there is of it, in the blocks of
+/// the same source. Errors: a read failed, memory was refused.
 pub fn look<S: PlacedBlocks + Drop>(
     alloc: Global,
     source: SeenBlocks<S>,
@@ -78,29 +118,5 @@ pub fn look<S: PlacedBlocks + Drop>(
             NeededFault::ReadFailed => Err(SparseFault::ReadFailed),
             NeededFault::Memory => Err(SparseFault::Memory),
         },
-    }
-}
-
-/// What is found of an image of `len` bytes, all of which are read at once, and let go. Errors: a read failed, memory was refused.
-#[tactic(auto, using(crate::proofs::LookLemmas::all_found))]
-pub fn find_by_all<S: BlockSource>(
-    alloc: Global,
-    source: &mut S,
-    len: u64,
-) -> Result<Option<Finds>, SparseFault>
-    requires { len ≤ 2147483648 }
-    ensures found { IfOk result (λ found. EachKnown (S.Holds source.new)
-        (λ known. OfKnown known len (λ image. IsFoundIn image found))) }
-    ensures narrows { OfEach (S.Holds source.new) (S.Holds source.old) }
-{
-    let Ok(mut all) = vec![in alloc; 0u8; len as usize] else {
-        return Err(SparseFault::Memory);
-    };
-    let Ok(()) = source.read_blocks(0, &mut all) else {
-        return Err(SparseFault::ReadFailed);
-    };
-    match find_in(alloc, &all) {
-        Ok(found) => Ok(found),
-        Err(_) => Err(SparseFault::Memory),
     }
 }
