@@ -1,4 +1,5 @@
 //! A look at an image: it is sound and opened, or it is refused, and what there is of it is found.
+ghost use Rattle.std.proofs.Props.{props};
 ghost use Rattle.std.specs.Prelude.{◌≡◌, ◌≤◌, IfOk, IfSome, Some};
 ghost use Rattle.hfs_check.specs.Faults.{fault_of};
 ghost use Rattle.hfs_finds.specs.Looks.{AreFindsOfEach, IsLookAt, IsRefusedAs};
@@ -33,6 +34,7 @@ pub struct RefusedImage<S: PlacedBlocks> {
     pub why: MountFault,
     /// What is found of it; None where there is no directory in it.
     pub found: Option<Finds>,
+    ghost few: { IfSome found (λ _. len ≤ 2147483648) } by { Prim.hlevel props },
 }
 
 /// What is found of an image of `len` bytes, all of which are read at once, and let go. Errors: a read failed, memory was refused.
