@@ -6,6 +6,7 @@ mod finds;
 mod forks;
 mod gathering;
 mod laws;
+mod looking;
 mod needed;
 mod salvage;
 
@@ -13,5 +14,6 @@ pub use finding::find_in;
 pub use finds::Finds;
 pub use forks::{Outside, fork_digest};
 pub use laws::needed_find_same;
+pub use looking::{Looked, RefusedImage, finds_of, look};
 pub use needed::{NeededFinds, needed_finds};
 pub use salvage::salvage_of;

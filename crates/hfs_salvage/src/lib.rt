@@ -26,7 +26,8 @@ pub use crate::laws::{
     taken_paths_are_lawful,
 };
 pub use crate::listing::{list_rescue, write_remains};
-pub use crate::remains::{Again, Remains, remains_of};
+pub use crate::remains::{Remains, remains_of};
 pub use crate::rescuing::{PlacedBag, UnplacedBag, rescue, rescue_opened};
 pub use crate::showing::{image_fault, write_found_folder, write_found_fork, write_found_items};
 pub use crate::words::{BagWords, RescueWords};
+pub use hfs_finds::{Looked, RefusedImage, look};

@@ -4,10 +4,11 @@ use crate::commands::{
     print_fork, print_info_of, print_macbinary, print_needed_check, print_refused, print_table,
     print_told,
 };
-use crate::remaining::{Looked, look, show_items};
+use crate::remaining::{look_at, show_items};
 use crate::volumes::print_volume_info;
 use crate::words::{FileWords, ForkWords};
 use hfs_commands::{Fault, Format, open_part, open_seen, part_blocks, seen_list_text};
+use hfs_salvage::Looked;
 
 /// Prints the master directory block. Without a number it is that of the image as it is.
 pub fn tell_info<'a>(
@@ -52,7 +53,7 @@ pub fn tell_items<'a>(
     volume: Option<u64>,
     format: Format,
 ) -> Result<u8, Fault<'a>> {
-    match look(rt, image, volume)? {
+    match look_at(rt, image, volume)? {
         Looked::Sound(image) => print_table(rt, &image, format),
         Looked::Refused(refused) => show_items(rt, image, volume, format, refused),
     }

@@ -3,95 +3,28 @@
 use crate::commands::print_code;
 use crate::words::{ForkPathWords, PathWords};
 use hfs_check::MountFault;
-use hfs_commands::{
-    ByteRange, Fault, Format, NeededFault, OpenedFile, PartBlocks, PartImage, ReadAt, SeenImage,
-    StoredFile, Unopened, Window, open_part, part_blocks,
-};
+use hfs_commands::{Fault, Format, OpenedFile, PartBlocks, open_part, part_blocks};
 use hfs_console::tell_hint;
 use hfs_model::{Fork, Reply};
-use hfs_salvage::{Again, HeldBytes, Remains, RescueWords, remains_of};
-use hfs_source::RangeBytes;
+use hfs_salvage::{Looked, RefusedImage, Remains, RescueWords, look, remains_of};
+use hfs_source::{BlocksOf, RangeBytes};
 use hfs_space::ForkKind;
-use std::alloc::Global;
 use std::fs::File;
-use std::io::{Read, Seek};
 
-/// What comes of opening an image.
-#[derive(Drop)]
-pub enum Looked {
-    Sound(PartImage<File>),
-    Refused(RefusedImage),
-}
+/// The blocks of a part of a file.
+type Part = BlocksOf<RangeBytes<OpenedFile<File>>>;
 
-/// An image that is refused, and where it can be looked at once more, if it can.
-#[derive(Drop)]
-pub struct RefusedImage {
-    pub why: MountFault,
-    pub again: Option<Again>,
-}
-
-/// A range of bytes that are held, to be looked at once more.
-fn held_in(all: Vec<u8>, range: ByteRange) -> Option<Again> {
-    match HeldBytes::of(all, range) {
-        Some(bytes) => Some(Again::Held(bytes)),
-        None => None,
-    }
-}
-
-/// The same of the user data of raw sectors that are held.
-fn data_in<S: ReadAt>(
-    alloc: Global,
-    file: &mut S,
-    range: ByteRange,
-) -> Result<Option<Again>, Fault<'static>> {
-    let len = range.len;
-    let Ok(mut all) = vec![in alloc; 0u8; len as usize] else {
-        return Err(Fault::NoMemory);
-    };
-    match file.read_at(range.start, &mut all) {
-        Ok(()) => Ok(held_in(all, ByteRange { start: 0, len })),
-        Err(_) => Ok(None),
-    }
-}
-
-/// Where a range of an opened file can be looked at once more: what came out of a pipe comes once, and is held.
-fn again_in<F: Read + Seek + Drop>(
-    alloc: Global,
-    file: OpenedFile<F>,
-    range: ByteRange,
-) -> Result<Option<Again>, Fault<'static>> {
-    match file {
-        OpenedFile::Plain(StoredFile::Seekable(_)) => Ok(Some(Again::File)),
-        OpenedFile::Plain(StoredFile::Whole(all)) => Ok(held_in(all, range)),
-        OpenedFile::Raw(mut raw) => match &raw.data.bytes {
-            StoredFile::Seekable(_) => Ok(Some(Again::File)),
-            StoredFile::Whole(_) => data_in(alloc, &mut raw, range),
-        },
-    }
-}
-
-/// The same of the blocks of a part of it.
-fn again_of<F: Read + Seek + Drop>(
-    alloc: Global,
-    source: PartBlocks<F>,
-) -> Result<Option<Again>, Fault<'static>> {
-    let blocks = source.blocks;
-    let RangeBytes { bytes, start, len } = blocks.bytes;
-    again_in(alloc, bytes, ByteRange { start, len })
-}
-
-/// Opens an image, or the volume in it that is asked for, and makes all checks.
-pub fn look<'a>(rt: &HostRuntime, path: &'a str, volume: Option<u64>) -> Result<Looked, Fault<'a>> {
+/// Looks at an image, or at the volume in it that is asked for: opens it once, makes all checks, and where it is refused finds what
+/// remains of it.
+pub fn look_at<'a>(
+    rt: &HostRuntime,
+    path: &'a str,
+    volume: Option<u64>,
+) -> Result<Looked<Part>, Fault<'a>> {
     let part = open_part(rt, path, volume)?;
-    match SeenImage::open(rt.alloc(), part_blocks(part)) {
-        Ok(image) => Ok(Looked::Sound(image)),
-        Err(Unopened { fault, source }) => match fault {
-            NeededFault::Refused(why) => {
-                let again = again_of(rt.alloc(), source)?;
-                Ok(Looked::Refused(RefusedImage { why, again }))
-            }
-            NeededFault::ReadFailed | NeededFault::Memory => Err(Fault::of_needed(fault, path)),
-        },
+    match look(rt.alloc(), part_blocks(part)) {
+        Ok(looked) => Ok(looked),
+        Err(fault) => Err(Fault::of_sparse(fault, path)),
     }
 }
 
@@ -123,27 +56,16 @@ fn print_end(rt: &HostRuntime, told: Result<u8, Reply>) -> Result<u8, Fault<'sta
     }
 }
 
-/// What is found of a refused image. Where nothing is, its refusal is the fault.
-fn find<'a>(
+/// What remains of a refused image. Where nothing does, its refusal is the fault.
+fn find(
     rt: &HostRuntime,
-    words: &RescueWords<'a>,
-    refused: RefusedImage,
-) -> Result<Remains<Window<OpenedFile<File>>>, Fault<'a>> {
-    let RefusedImage { why, again } = refused;
-    let Some(again) = again else {
-        return Err(Fault::Refused(why));
-    };
-    match remains_of(rt, words, again)? {
-        Some(remains) => Ok(remains),
-        None => Err(Fault::Refused(why)),
-    }
-}
-
-/// Why an image is refused: the fault that the check of what is shown tells, or the first one, where that is sound by now.
-fn refusal_of(told: Option<MountFault>, why: MountFault) -> MountFault {
-    match told {
-        Some(fault) => fault,
-        None => why,
+    refused: RefusedImage<Part>,
+) -> Result<Remains<PartBlocks<File>>, Fault<'static>> {
+    let why = refused.why;
+    match remains_of(rt.alloc(), refused) {
+        Ok(Some(remains)) => Ok(remains),
+        Ok(None) => Err(Fault::Refused(why)),
+        Err(_) => Err(Fault::NoMemory),
     }
 }
 
@@ -153,12 +75,11 @@ pub fn show_items<'a>(
     image: &'a str,
     volume: Option<u64>,
     format: Format,
-    refused: RefusedImage,
+    refused: RefusedImage<Part>,
 ) -> Result<u8, Fault<'a>> {
     let words = rescue_words(image, volume);
     let why = refused.why;
-    let remains = find(rt, &words, refused)?;
-    let why = refusal_of(remains.fault(), why);
+    let remains = find(rt, refused)?;
     let status = remains.write_items(rt.alloc(), &mut rt.stdout(), &words, format)?;
     tell_refused(rt, why, status)
 }
@@ -168,12 +89,11 @@ pub fn show_items<'a>(
 pub fn show_folder<'a>(
     rt: &HostRuntime,
     place: &PathWords<'a>,
-    refused: RefusedImage,
+    refused: RefusedImage<Part>,
 ) -> Result<u8, Fault<'a>> {
     let words = rescue_words(place.image, place.volume);
     let why = refused.why;
-    let remains = find(rt, &words, refused)?;
-    let why = refusal_of(remains.fault(), why);
+    let remains = find(rt, refused)?;
     let told = remains.write_folder(rt.alloc(), &mut rt.stdout(), &words, place.path)?;
     let status = print_end(rt, told)?;
     tell_refused(rt, why, status)
@@ -192,13 +112,12 @@ fn kind_of(fork: Fork) -> ForkKind {
 pub fn show_fork<'a>(
     rt: &HostRuntime,
     file: &ForkPathWords<'a>,
-    refused: RefusedImage,
+    refused: RefusedImage<Part>,
 ) -> Result<u8, Fault<'a>> {
     let place = &file.place;
     let words = rescue_words(place.image, place.volume);
     let why = refused.why;
-    let remains = find(rt, &words, refused)?;
-    let why = refusal_of(remains.fault(), why);
+    let remains = find(rt, refused)?;
     let kind = kind_of(file.fork);
     match remains.write_fork(rt.alloc(), &mut rt.stdout(), &words, place.path, kind) {
         Ok(told) => {
