@@ -1,3 +1,2 @@
 mod Digests
-mod HeadLemmas
-mod Alike
+pub mod FailLemmas

@@ -39,7 +39,7 @@ pub fn file_digest<S: PlacedBytes>(source: &mut S) -> io::Result<[u8; 32]>
     ensures digest { IfOk result (λ digest. OfEach (S.Holds source.new)
         (λ file. digest ≡ sha256 file)) }
     ensures held { OfEach (S.Holds source.new) (S.Holds source.old) }
-    ensures fails { OnErr result (SomeFail (S.Fails source.old)) }
+    ensures fails { OnErr result (SomeFail (S.Holds source.new) (S.Fails source.old)) }
     ensures later { FailsWhere (S.Fails source.new) (S.Fails source.old) }
 {
     let len = source.len();

@@ -1,10 +1,6 @@
-//! What the bytes of an image are: their digest, whether they are raw sectors, and the ranges in which volumes lie. Each is said of each
-//! image that has the bytes which were read.
+//! The digest of an image, which is that of each image that has the bytes which were read.
 #![tactic(auto)]
 
 mod digest;
-mod finding;
-mod head;
 
 pub use crate::digest::file_digest;
-pub use crate::finding::{find_contents, layout_in};

@@ -67,14 +67,15 @@ pub new_read : New ≢ Missing
 new_read = λ is. cc
 
 -- of one that wasn't
-pub unread_missing : (Fails : ℕ → ℕ → Type 0) → SomeFail Fails → IsReadUnless Fails Missing
-unread_missing Fails some = inr some
+pub unread_missing : (Holds : List ℕ → Type 0) (Fails : ℕ → ℕ → Type 0) → SomeFail Holds Fails → IsReadUnless Holds Fails Missing
+unread_missing Holds Fails some = inr some
 
 -- a read that may fail later might have failed before
-fails-before : (New Old : ℕ → ℕ → Type 0) → FailsWhere New Old → SomeFail New → SomeFail Old
-fails-before New Old later some = ∥∥₁_map some (λ it. (it.0, it.1, later it.0 it.1 it.2))
+fails-before : (Holds : List ℕ → Type 0) (New Old : ℕ → ℕ → Type 0) → FailsWhere New Old → SomeFail Holds New → SomeFail Holds Old
+fails-before Holds New Old later some = ∥∥₁_map some (λ it. (it.0, it.1, it.2, later it.0 it.1 it.3))
 
-pub read_before : {E : Type 0} (result : Result Comparison E) (New Old : ℕ → ℕ → Type 0) → FailsWhere New Old → IfOk result (IsReadUnless New) → IfOk result (IsReadUnless Old)
-read_before (Ok found) New Old later (inl read) = inl read
-read_before (Ok found) New Old later (inr some) = inr (fails-before New Old later some)
-read_before (Err why) New Old later told = tt
+pub read_before : {E : Type 0} (result : Result Comparison E) (Holds : List ℕ → Type 0) (New Old : ℕ → ℕ → Type 0) → FailsWhere New Old → IfOk result (IsReadUnless Holds New)
+    → IfOk result (IsReadUnless Holds Old)
+read_before (Ok found) Holds New Old later (inl read) = inl read
+read_before (Ok found) Holds New Old later (inr some) = inr (fails-before Holds New Old later some)
+read_before (Err why) Holds New Old later told = tt

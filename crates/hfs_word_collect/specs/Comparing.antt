@@ -36,6 +36,6 @@ IsComparedTo None found file = found ≡ New
 abbrev pub IsComparedIn : State → State → List ℕ → Comparison → List ℕ → Type 0
 IsComparedIn old new path found file = found ≢ Missing → ∥ ((known : Option KnownImage) × IsKnown old new path known × IsComparedTo known found file) ∥₁
 
--- the file was read, or some read of it may fail
-abbrev pub IsReadUnless : (ℕ → ℕ → Type 0) → Comparison → Type 0
-IsReadUnless Fails found = (found ≢ Missing) ⊎ SomeFail Fails
+-- the file was read, or some read of its bytes may fail
+abbrev pub IsReadUnless : (List ℕ → Type 0) → (ℕ → ℕ → Type 0) → Comparison → Type 0
+IsReadUnless Holds Fails found = (found ≢ Missing) ⊎ SomeFail Holds Fails

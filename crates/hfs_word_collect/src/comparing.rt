@@ -25,7 +25,8 @@ use std::rt::Files;
 fn image_digits<S: PlacedBytes>(alloc: Global, source: &mut S) -> Result<Option<String>, RunFault>
     ensures digits { IfOk result (λ found. IfSome found (λ digits. OfEach (S.Holds source.new)
         (λ file. string_bytes digits ≡ encode_lower (sha256 file)))) }
-    ensures none { IfOk result (λ found. IfNone found (SomeFail (S.Fails source.old))) }
+    ensures none { IfOk result (λ found. IfNone found
+        (SomeFail (S.Holds source.new) (S.Fails source.old))) }
     ensures held { OfEach (S.Holds source.new) (S.Holds source.old) }
 {
     let Ok(digest) = file_digest(source) else {
@@ -56,7 +57,7 @@ pub fn compare_known<S: PlacedBytes>(
     ensures compared { IfOk result (λ found. OfEach (S.Holds source.new)
         (IsCompared known.now found)) }
     ensures comparison { IfOk result (IsComparison known.now) }
-    ensures read { IfOk result (IsReadUnless (S.Fails source.old)) }
+    ensures read { IfOk result (IsReadUnless (S.Holds source.new) (S.Fails source.old)) }
     ensures held { OfEach (S.Holds source.new) (S.Holds source.old) }
 {
     let len = source.len();
@@ -82,7 +83,7 @@ pub fn compare_file<D: Alter + Drop, S: PlacedBytes>(
         (state D.Store collection.new.conn) path.now) }
     ensures compared { IfOk result (λ found. OfEach (S.Holds source.new) (IsComparedIn
         (state D.Store collection.old.conn) (state D.Store collection.new.conn) path.now found)) }
-    ensures read { IfOk result (IsReadUnless (S.Fails source.old)) }
+    ensures read { IfOk result (IsReadUnless (S.Holds source.new) (S.Fails source.old)) }
     ensures held { OfEach (S.Holds source.new) (S.Holds source.old) }
 {
     match known_image(collection, path)? {
@@ -94,7 +95,7 @@ pub fn compare_file<D: Alter + Drop, S: PlacedBytes>(
 /// Reads the first byte of an image, where it has any.
 fn read_first<S: PlacedBytes>(source: &mut S) -> io::Result<()>
     ensures held { OfEach (S.Holds source.new) (S.Holds source.old) }
-    ensures fails { OnErr result (SomeFail (S.Fails source.old)) }
+    ensures fails { OnErr result (SomeFail (S.Holds source.new) (S.Fails source.old)) }
     ensures later { FailsWhere (S.Fails source.new) (S.Fails source.old) }
 {
     if source.len() == 0 {
@@ -118,7 +119,7 @@ pub fn compare_image<D: Alter + Drop, S: PlacedBytes>(
         (state D.Store collection.new.conn) path.now) }
     ensures compared { IfOk result (λ found. OfEach (S.Holds source.new) (IsComparedIn
         (state D.Store collection.old.conn) (state D.Store collection.new.conn) path.now found)) }
-    ensures read { IfOk result (IsReadUnless (S.Fails source.old)) }
+    ensures read { IfOk result (IsReadUnless (S.Holds source.new) (S.Fails source.old)) }
     ensures held { OfEach (S.Holds source.new) (S.Holds source.old) }
 {
     let Ok(()) = read_first(source) else {
