@@ -60,7 +60,7 @@ use Rattle.hfs_fork_edits.specs.Laying.{LaysBoth}
 use Rattle.hfs_fork_edits.proofs.Apart as apart
 use Rattle.hfs_fork_edits.proofs.Bitmaps as bitmaps
 use Rattle.hfs_fork_edits.proofs.Ready as ready
-use Rattle.hfs_fork_edits.proofs.Settled as settled
+use Rattle.hfs_fork_edits.proofs.SettledNodes as settled
 
 -- ---- bytes that were laid over extents are laid over all that have the same blocks
 

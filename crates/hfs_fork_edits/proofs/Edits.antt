@@ -1,7 +1,8 @@
 -- What the edits of a fork ask of each other, and what they make together, of a volume and a file that were found.
-use Rattle.std.proofs.Common.{◌≡◌, ◌⊎◌, ℕ, ◌+◌, ◌*◌, ◌<◌, ◌≤◌, ◌^◌, true, List, ◌++◌, length, refl, sym, ◌∙◌, ap, subst, arith}
+use Rattle.std.proofs.Common.{◌≡◌, ◌⊎◌, inl, inr, ℕ, ◌+◌, ◌*◌, ◌<◌, ◌≤◌, ◌^◌, true, List, ◌++◌, length, refl, sym, ◌∙◌, ap, subst, arith}
 use Rattle.std.specs.Prelude.{Option, Some, None, Result, ℤ}
 use Rattle.std.specs.List.{flat_map}
+use Rattle.std.proofs.lemmas.Bool.{cases_lt}
 use Rattle.hfs_fields.specs.declared.mdb.Mdb.{Mdb}
 use Rattle.hfs_fields.specs.declared.key.CatKey.{CatKey}
 use Rattle.hfs_fields.specs.declared.extent.Extent.{Extent}
@@ -19,10 +20,10 @@ use Rattle.hfs_btree_edits.specs.Entries.{IsPlaceOf}
 use Rattle.hfs_btree_edits.specs.Files.{beside}
 use Rattle.hfs_space.specs.declared.fork_kind.ForkKind.{ForkKind}
 use Rattle.hfs_space.specs.Bitmap.{bitmap_len, is_used}
-use Rattle.hfs_space.specs.Extents.{extent_blocks, fork_byte, AreExtentsWithin}
+use Rattle.hfs_space.specs.Extents.{block_total, extent_blocks, fork_byte, AreExtentsWithin}
 use Rattle.hfs_space.specs.ForkLaws.{block_numbers}
 use Rattle.hfs_space.specs.Owners.{owners}
-use Rattle.hfs_space.specs.TreeKeys.{IsExtentsTree}
+use Rattle.hfs_space.specs.TreeKeys.{IsExtentsTree, extents_through}
 use Rattle.hfs_space_edits.specs.Released.{HasReleased}
 use Rattle.hfs_claims.specs.Choice.{AreFreeOnce}
 use Rattle.hfs_claims.specs.Claimed.{HasClaimed}
@@ -36,15 +37,17 @@ use Rattle.hfs_check.specs.Parts.{Blocks, mdb_in, extents_nodes, catalog_nodes, 
 use Rattle.hfs_check.specs.Sound.{AreBlocksSound}
 use Rattle.hfs_check.proofs.LawsProved.{catalog_is_sound, trees_are_sound}
 use Rattle.hfs_changes.proofs.LawsProved.{choice_stands}
+use Rattle.hfs_changes.proofs.Space.{each_owned}
 use Rattle.hfs_fork_calls.specs.Forks.{blocks}
 use Rattle.hfs_fork_extents.specs.Cuts.{cut}
-use Rattle.hfs_fork_extents.specs.Growing.{grown, HasGrown}
+use Rattle.hfs_fork_extents.specs.Growing.{grown, HasGrown, HasRoomFor}
 use Rattle.hfs_fork_extents.specs.Shortening.{HasShortened}
 use Rattle.hfs_fork_extents.specs.Whole.{EditsFork, IsWhole}
 use Rattle.hfs_fork_extents.specs.declared.shortening.ShortFork.{ShortFork}
 use Rattle.hfs_fork_changes.specs.Files.{kind_of, fork_of, file_with}
 use Rattle.hfs_fork_changes.specs.Edits.{byte_of, extents_of, blocks_of}
 use Rattle.hfs_fork_changes.specs.CallEdits.{SetsFork}
+use Rattle.hfs_fork_changes.proofs.Rooms.{length-blocks, extents_within, within_each}
 use Rattle.hfs_fork_changes.proofs.SoundForks as sounds
 use Rattle.hfs_call_patches.specs.Settings.{IsBody, IsFileUnder}
 use Rattle.hfs_call_patches.proofs.ChosenItems.{file_under}
@@ -57,6 +60,7 @@ use Rattle.hfs_fork_edits.specs.Gaining.{KeepsBesideBlocks, IsLaidFor}
 use Rattle.hfs_fork_edits.specs.Recorded.{IsFileAt}
 use Rattle.hfs_fork_edits.specs.Settling.{Settles}
 use Rattle.hfs_fork_edits.specs.declared.choosing.FoundFile.{FoundFile}
+use Rattle.hfs_fork_edits.proofs.Apart as apart
 use Rattle.hfs_fork_edits.proofs.Assembled as assembled
 use Rattle.hfs_fork_edits.proofs.Ready as ready
 
@@ -174,6 +178,42 @@ module _ (total : ℕ) (old : Blocks) (mdb : Mdb) (extents catalog : List Run) (
     room_of =
         to_mdb (λ (m : Mdb). (fork_of fork f.file).length ≤ length (blocks_of old fork f.file) * m.allocation_block_size)
         (to_file (λ (x : FileRecord). (fork_of fork x).length ≤ length (blocks_of old fork x) * (mdb_in old).allocation_block_size) (ready.own_room catalog_is_sound total is.choice.choice.id fork r old h is.choice.choice.was is.choice.is))
+
+    -- with pieces of so many free blocks, it has no more than a key can count
+    pub room_has : mdb.allocation_blocks ≤ 65535 → (wanted : ℕ) (pieces : List Extent) → length (extent_blocks pieces) ≡ wanted → wanted ≤ mdb.free_blocks → HasRoomFor (extents_of old fork f.file) pieces
+    room_has most wanted pieces enough there =
+        let few = few_of in
+        let had = length-blocks (extents_of old fork f.file) in
+        let come = length-blocks pieces in
+        omega (arith, most, enough, there, few, had, come)
+
+    pub total_few : mdb.allocation_blocks ≤ 65535 → block_total (extents_of old fork f.file) ≤ 65535
+    total_few most = let few = few_of in let had = length-blocks (extents_of old fork f.file) in omega (arith, most, few, had)
+
+    -- what is found of it, where the extents tree has the nodes that it had
+    pub found_of : (s : Store) → s ≡ extents_nodes old → (kind : ForkKind) (x : ForkRecord) → kind ≡ kind_of fork → x ≡ fork_of fork f.file → (P : List Extent → Type 0) → P (extents_of old fork f.file) → P (extents_through s f.file.id kind x.extents)
+    found_of s e kind x k y P p = subst P (sym (ready.found_are old fork f.file s e kind k x y)) p
+
+    pub bytes_few : (n : ℕ) → n ≤ mdb.allocation_blocks → n * mdb.allocation_block_size ≤ 2147483648
+    bytes_few = to_mdb (λ (m : Mdb). (n : ℕ) → n ≤ m.allocation_blocks → n * m.allocation_block_size ≤ 2147483648) (ready.area_bytes total old h v.few)
+
+    -- no block stands twice in extents that have its blocks and pieces of free ones
+    pub once_all : (wanted : ℕ) (pieces : List Extent) → AreFreeOnce (is_used old mdb.bitmap_start) mdb.allocation_blocks wanted pieces → (all : List Extent)
+        → ((a : ℕ) → owners (extent_blocks all) a ≤ owners (blocks_of old fork f.file) a + owners (extent_blocks pieces) a) → (b : ℕ) → owners (extent_blocks all) b ≤ 1
+    once_all wanted pieces free all has =
+        apart.once_all catalog_is_sound total is.choice.choice.id fork r old h is.choice.choice.was is.choice.is wanted pieces (by_mdb (λ (m : Mdb). AreFreeOnce (is_used old m.bitmap_start) m.allocation_blocks wanted pieces) free) all
+        (by_file (λ (x : FileRecord). (a : ℕ) → owners (extent_blocks all) a ≤ owners (blocks_of old fork x) a + owners (extent_blocks pieces) a) has)
+
+    -- and they lie in the volume
+    pub within_all : (n : ℕ) (pieces : List Extent) → AreExtentsWithin n (extents_of old fork f.file) → AreExtentsWithin n pieces → (all : List Extent)
+        → ((a : ℕ) → owners (extent_blocks all) a ≤ owners (blocks_of old fork f.file) a + owners (extent_blocks pieces) a) → AreExtentsWithin n all
+    within_all n pieces own come all has = extents_within n all (each_owned (λ (b : ℕ). b < n) (extent_blocks all) low)
+      where
+        low : (b : ℕ) → 0 < owners (extent_blocks all) b → b < n
+        low b some = elim (cases_lt 0 (owners (extent_blocks pieces) b)) [
+          | inl came ↦ within_each n b pieces come came
+          | inr none ↦ within_each n b (extents_of old fork f.file) own (let sums = has b in omega (arith, sums, none, some))
+        ]
 
     -- ---- the edits, one over the other
 

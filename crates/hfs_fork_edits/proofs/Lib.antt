@@ -1,12 +1,15 @@
 pub mod Choices
 mod Apart
 mod Bitmaps
-mod Settled
+mod SettledNodes
 mod Ready
 mod Assembled
 mod Edits
+mod ResizedFork
+mod GrownFork
+mod ShrunkFork
 mod Wants
 mod Pieces
 mod LaidOver
-mod Written
+mod WrittenBlocks
 mod Coming

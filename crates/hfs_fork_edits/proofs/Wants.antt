@@ -28,6 +28,27 @@ too_few s g few = ap (λ (b : Bool). cond b (Some (want.Room s.blocks g.blocks))
 enough_blocks : (s : Supply) (g : Growth) → g.blocks ≤ s.blocks → want_of s g ≡ cond (ltb s.nodes (extents_need g.records s.depth s.records)) (Some (want.ExtentNodes s.nodes s.depth)) None
 enough_blocks s g enough = ap (λ (b : Bool). cond b (Some (want.Room s.blocks g.blocks)) (cond (ltb s.nodes (extents_need g.records s.depth s.records)) (Some (want.ExtentNodes s.nodes s.depth)) None)) (le-ltb s.blocks g.blocks enough)
 
+-- no block is chosen where none is wanted
+none_chosen : (used : ℕ → Bool) (n : ℕ) (after : Option ℕ) → AreChosen used n after 0 []
+none_chosen used n None = record { row = record { first = 0; count = 0 }; rest = []; is_row = refl; enough = λ _. refl; more = λ lt. absurd (omega (arith, lt)); parts = refl }
+none_chosen used n (Some first) = record {
+  row = record { first = first; count = 0 };
+  rest = [];
+  is_row = (refl, record { few = omega arith; within = λ some. absurd (omega (arith, some)); free = λ b from to. absurd (omega (arith, from, to)); ends = λ less. absurd (omega (arith, less)) });
+  enough = λ _. refl;
+  more = λ lt. absurd (omega (arith, lt));
+  parts = refl;
+}
+
+-- no record wants a node
+none_wanted : (d r : ℕ) → extents_need 0 d r ≡ 0
+unfolding extents_need
+none_wanted d r = refl
+
+-- and no record comes without pieces
+none_coming : (es : List Extent) → records_coming es [] ≡ 0
+none_coming es = omega arith
+
 module _ (total : ℕ) (old : Blocks) (h : AreBlocksSound total old) (fork : Fork) (f : FileRecord) (len wanted : ℕ) (count : wanted ≡ blocks_wanted (mdb_in old).allocation_block_size (length (blocks_of old fork f)) len) where
   -- fewer blocks are free than are wanted
   pub meets_room : (room : Room) → IsRoom (is_used old (mdb_in old).bitmap_start) (mdb_in old).allocation_blocks wanted room → MeetsWant fork f len old (Some (want.Room room.free room.wanted))
@@ -71,3 +92,18 @@ module _ (total : ℕ) (old : Blocks) (h : AreBlocksSound total old) (fork : For
           (le-ltb (free_nodes (extents_nodes old)) (extents_need (records_coming (extents_of old fork f) pieces) (depth_of (extents_nodes old)) (length (overflow_in old))) has))
           ∙ sym (enough_blocks (supply_in old) (growth_of wanted (extents_of old fork f) pieces) enough);
     }
+
+  -- nothing is wanting where no block comes
+  pub meets_less : wanted ≡ 0 → MeetsWant fork f len old None
+  unfolding overflow_in
+  meets_less none = record {
+    wanted = wanted;
+    count = count;
+    pieces = [];
+    chosen = λ _. subst (λ (k : ℕ). AreChosen (is_used old (mdb_in old).bitmap_start) (mdb_in old).allocation_blocks (block_after (extents_of old fork f)) k []) (sym none) (none_chosen _ _ (block_after (extents_of old fork f)));
+    is =
+        sym (ap (λ (b : Bool). cond b (Some (want.ExtentNodes (free_nodes (extents_nodes old)) (depth_of (extents_nodes old)))) None)
+        (le-ltb (free_nodes (extents_nodes old)) (extents_need (records_coming (extents_of old fork f) []) (depth_of (extents_nodes old)) (length (overflow_in old)))
+        (let need = ap (λ (k : ℕ). extents_need k (depth_of (extents_nodes old)) (length (overflow_in old))) (none_coming (extents_of old fork f)) ∙ none_wanted (depth_of (extents_nodes old)) (length (overflow_in old)) in omega (arith, need))))
+        ∙ sym (enough_blocks (supply_in old) (growth_of wanted (extents_of old fork f) []) (omega (arith, none)));
+  }

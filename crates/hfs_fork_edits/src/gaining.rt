@@ -1,8 +1,9 @@
 //! The edits by which blocks come to a fork, over whose blocks zeros and bytes were laid already.
 
-ghost use Rattle.std.specs.Prelude.{◌≡◌, ◌+◌, ◌<◌, ◌≤◌, ◌^◌, length, IfOk};
+ghost use Rattle.std.specs.Prelude.{◌≡◌, ◌+◌, ◌≤◌, ◌++◌, length, IfOk};
 ghost use Rattle.hfs_blocks.specs.Layers.{changes, AreWithin};
 ghost use Rattle.hfs_space.specs.Bitmap.{is_used};
+ghost use Rattle.hfs_space.specs.Extents.{extent_blocks};
 ghost use Rattle.hfs_space.specs.ForkLaws.{block_numbers};
 ghost use Rattle.hfs_claims.specs.Choice.{AreFreeOnce};
 ghost use Rattle.hfs_model.specs.declared.journal.Want.TheVariants as want;
@@ -50,6 +51,7 @@ pub(crate) fn gain<B: Blocks, Z: Blocks>(
     requires volume { IsForkVolumeIn B.total B.blocks volume.now.blocks.now
         volume.now.mdb.now volume.now.extents.now volume.now.catalog.now }
     requires found { IsFoundIn (B.blocks volume.now.blocks.now) resizing.now.found.now }
+    requires few { volume.now.mdb.now.allocation_blocks ≤ 65535 }
     requires size { block_size ≡ volume.now.mdb.now.allocation_block_size }
     requires same { Z.total below.now ≡ B.total volume.now.blocks.now }
     requires inside { AreWithin (changes patch) (Z.total below.now) }
@@ -59,6 +61,10 @@ pub(crate) fn gain<B: Blocks, Z: Blocks>(
     requires enough { wanted ≤ volume.now.mdb.now.free_blocks }
     requires count { length (blocks_of (B.blocks volume.now.blocks.now) resizing.now.fork
         resizing.now.found.now.file) + wanted ≡ blocks block_size resizing.now.length }
+    requires made { extent_blocks (grown (extents_of (B.blocks volume.now.blocks.now)
+        resizing.now.fork resizing.now.found.now.file) pieces.now)
+        ≡ blocks_of (B.blocks volume.now.blocks.now) resizing.now.fork
+        resizing.now.found.now.file ++ extent_blocks pieces.now }
     requires beside { KeepsBesideBlocks (block_numbers volume.now.mdb.now
         (grown (extents_of (B.blocks volume.now.blocks.now) resizing.now.fork
         resizing.now.found.now.file) pieces.now))

@@ -47,6 +47,7 @@ pub(crate) fn lose<B: Blocks, Z: Blocks>(
     requires volume { IsForkVolumeIn B.total B.blocks volume.now.blocks.now
         volume.now.mdb.now volume.now.extents.now volume.now.catalog.now }
     requires found { IsFoundIn (B.blocks volume.now.blocks.now) resizing.now.found.now }
+    requires few { volume.now.mdb.now.allocation_blocks ≤ 65535 }
     requires size { block_size ≡ volume.now.mdb.now.allocation_block_size }
     requires same { Z.total below.now ≡ B.total volume.now.blocks.now }
     requires inside { AreWithin (changes patch) (Z.total below.now) }

@@ -5,6 +5,7 @@ ghost use Rattle.hfs_fork_edits.specs.Calls.{IsForkVolumeIn, IsFoundIn, Gives, I
 
 use crate::extents::extents_of;
 use crate::growing::grow;
+use crate::records::volume_blocks;
 use crate::room::block_count;
 use crate::shrinking::shrink;
 use crate::volume::{ForkChange, ForkVolume, Resizing};
@@ -31,6 +32,8 @@ pub(crate) fn resize<B: Blocks>(
     let Some(block_size) = BlockSize::new(volume.mdb.allocation_block_size) else {
         unreachable!();
     };
+    // A proof knows that the blocks are counted by 16 bits once it has seen their number.
+    let _blocks = volume_blocks(volume.mdb);
     let file = &resizing.found.file;
     let was = extents_of(alloc, volume.blocks, volume.extents, file, resizing.fork)?;
     let have = u32::from(block_count(&was));

@@ -28,6 +28,7 @@ pub(crate) fn shrink<B: Blocks>(
     requires volume { IsForkVolumeIn B.total B.blocks volume.now.blocks.now
         volume.now.mdb.now volume.now.extents.now volume.now.catalog.now }
     requires found { IsFoundIn (B.blocks volume.now.blocks.now) resizing.now.found.now }
+    requires few { volume.now.mdb.now.allocation_blocks ≤ 65535 }
     requires size { block_size ≡ volume.now.mdb.now.allocation_block_size }
     requires was { was.items ≡ extents_of (B.blocks volume.now.blocks.now) resizing.now.fork
         resizing.now.found.now.file }
