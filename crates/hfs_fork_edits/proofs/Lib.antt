@@ -8,6 +8,7 @@ mod Edits
 mod ResizedFork
 mod GrownFork
 mod ShrunkFork
+mod CallsMade
 mod Wants
 mod Pieces
 mod LaidOver
