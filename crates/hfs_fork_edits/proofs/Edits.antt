@@ -20,11 +20,12 @@ use Rattle.hfs_btree_edits.specs.Entries.{IsPlaceOf}
 use Rattle.hfs_btree_edits.specs.Files.{beside}
 use Rattle.hfs_space.specs.declared.fork_kind.ForkKind.{ForkKind}
 use Rattle.hfs_space.specs.Bitmap.{bitmap_len, is_used}
-use Rattle.hfs_space.specs.Extents.{block_total, extent_blocks, fork_byte, AreExtentsWithin}
+use Rattle.hfs_space.specs.Extents.{block_total, extent_blocks, fork_byte, fork_extents, AreExtentsWithin}
 use Rattle.hfs_space.specs.ForkLaws.{block_numbers}
 use Rattle.hfs_space.specs.Owners.{owners}
-use Rattle.hfs_space.specs.TreeKeys.{IsExtentsTree, extents_through}
+use Rattle.hfs_space.specs.TreeKeys.{IsExtentsTree, overflow_of, extents_through}
 use Rattle.hfs_space_edits.specs.Released.{HasReleased}
+use Rattle.hfs_extents_edits.specs.Need.{HasNodesFor}
 use Rattle.hfs_claims.specs.Choice.{AreFreeOnce}
 use Rattle.hfs_claims.specs.Claimed.{HasClaimed}
 use Rattle.hfs_model.specs.declared.call.Fork.{Fork}
@@ -33,14 +34,15 @@ use Rattle.hfs_catalog.specs.Records.{Record}
 use Rattle.hfs_catalog.specs.Tree.{cat_keys, IsCatalogTree, catalog_of}
 use Rattle.hfs_catalog_edits.specs.Bodies.{IfBody, IsOfKind}
 use Rattle.hfs_catalog.specs.declared.item.ItemRecord.TheVariants.{File}
-use Rattle.hfs_check.specs.Parts.{Blocks, mdb_in, extents_nodes, catalog_nodes, catalog_in}
+use Rattle.hfs_check.specs.Parts.{Blocks, mdb_in, extents_nodes, overflow_in, catalog_nodes, catalog_in}
 use Rattle.hfs_check.specs.Sound.{AreBlocksSound}
 use Rattle.hfs_check.proofs.LawsProved.{catalog_is_sound, trees_are_sound}
 use Rattle.hfs_changes.proofs.LawsProved.{choice_stands}
 use Rattle.hfs_changes.proofs.Space.{each_owned}
 use Rattle.hfs_fork_calls.specs.Forks.{blocks}
 use Rattle.hfs_fork_extents.specs.Cuts.{cut}
-use Rattle.hfs_fork_extents.specs.Growing.{grown, HasGrown, HasRoomFor}
+use Rattle.hfs_fork_extents.specs.Growing.{grown, records_coming, HasGrown, HasRoomFor, IsWantOfNodes}
+use Rattle.hfs_fork_extents.specs.declared.growing.NodesWanted.{NodesWanted}
 use Rattle.hfs_fork_extents.specs.Shortening.{HasShortened}
 use Rattle.hfs_fork_extents.specs.Whole.{EditsFork, IsWhole}
 use Rattle.hfs_fork_extents.specs.declared.shortening.ShortFork.{ShortFork}
@@ -196,6 +198,18 @@ module _ (total : ℕ) (old : Blocks) (mdb : Mdb) (extents catalog : List Run) (
 
     pub bytes_few : (n : ℕ) → n ≤ mdb.allocation_blocks → n * mdb.allocation_block_size ≤ 2147483648
     bytes_few = to_mdb (λ (m : Mdb). (n : ℕ) → n ≤ m.allocation_blocks → n * m.allocation_block_size ≤ 2147483648) (ready.area_bytes total old h v.few)
+
+    -- where the tree has the nodes that it had, it has enough free ones, or too few, as it had
+    pub enough_of : (pieces : List Extent) (s : Store) → s ≡ extents_nodes old → HasNodesFor (records_coming (fork_extents (overflow_of s) f.file.id (byte_of fork) (fork_of fork f.file).extents) pieces) s
+        → HasNodesFor (records_coming (extents_of old fork f.file) pieces) (extents_nodes old)
+    unfolding overflow_in
+    enough_of pieces s e enough = subst (λ (x : Store). HasNodesFor (records_coming (fork_extents (overflow_of x) f.file.id (byte_of fork) (fork_of fork f.file).extents) pieces) x) e enough
+
+    pub want_of : (pieces : List Extent) (nodes : NodesWanted) (s : Store) → s ≡ extents_nodes old → (kind : ForkKind) (x : ForkRecord) → kind ≡ kind_of fork → x ≡ fork_of fork f.file
+        → IsWantOfNodes (records_coming (extents_through s f.file.id kind x.extents) pieces) s nodes → IsWantOfNodes (records_coming (extents_of old fork f.file) pieces) (extents_nodes old) nodes
+    want_of pieces nodes s e kind x k y want =
+        subst (λ (t : Store). IsWantOfNodes (records_coming (extents_of old fork f.file) pieces) t nodes) e
+        (subst (λ (es : List Extent). IsWantOfNodes (records_coming es pieces) s nodes) (ready.found_are old fork f.file s e kind k x y) want)
 
     -- no block stands twice in extents that have its blocks and pieces of free ones
     pub once_all : (wanted : ℕ) (pieces : List Extent) → AreFreeOnce (is_used old mdb.bitmap_start) mdb.allocation_blocks wanted pieces → (all : List Extent)

@@ -1,5 +1,5 @@
 -- What a fork asks that keeps its first blocks and loses the others.
-use Rattle.std.proofs.Common.{◌≡◌, inl, inr, ℕ, ◌+◌, ◌-◌, ◌*◌, ◌<◌, ◌≤◌, ◌^◌, Bool, cond, ltb, List, [], length, take, drop, refl, sym, ◌∙◌, ap, subst, arith}
+use Rattle.std.proofs.Common.{◌≡◌, inl, inr, ℕ, ◌+◌, ◌-◌, ◌*◌, ◌<◌, ◌≤◌, ◌^◌, Bool, cond, ltb, List, [], length, length-append, take, drop, refl, sym, ◌∙◌, ap, subst, arith}
 use Rattle.std.specs.Prelude.{Result, ℤ, min, max}
 use Rattle.std.proofs.lemmas.Bool.{cases_lt, le-ltb}
 use Rattle.std.proofs.lemmas.List.{take-append-drop, length-take-le}
@@ -18,8 +18,8 @@ use Rattle.hfs_model.specs.Volume.{Entry}
 use Rattle.hfs_check.specs.Parts.{Blocks, mdb_in}
 use Rattle.hfs_fork_bytes.proofs.ForkLemmas.{with_part-nothing}
 use Rattle.hfs_fork_calls.specs.Forks.{blocks}
-use Rattle.hfs_fork_extents.specs.Cuts.{cut}
-use Rattle.hfs_fork_extents.proofs.CutLemmas.{blocks-cut}
+use Rattle.hfs_fork_extents.specs.Cuts.{cut, surplus}
+use Rattle.hfs_fork_extents.proofs.CutLemmas.{blocks-cut, blocks-surplus}
 use Rattle.hfs_fork_changes.specs.Files.{fork_of}
 use Rattle.hfs_fork_changes.specs.Edits.{extents_of, blocks_of}
 use Rattle.hfs_fork_changes.specs.Laid.{AreZeros, AreWritten}
@@ -86,6 +86,16 @@ cut_has k es a =
     let whole = ap (λ (l : List ℕ). owners l a) (take-append-drop k (extent_blocks es)) in
     let parts = append a (take k (extent_blocks es)) (drop k (extent_blocks es)) in
     omega (arith, first, whole, parts)
+
+-- so many blocks are lost
+pub lost_count : (k : ℕ) (es : List Extent) → k ≤ length (extent_blocks es) → block_total (surplus k es) + k ≡ length (extent_blocks es)
+lost_count k es few =
+    let lost = length-blocks (surplus k es) in
+    let rest = ap (λ (l : List ℕ). length l) (blocks-surplus k es) in
+    let whole = ap (λ (l : List ℕ). length l) (take-append-drop k (extent_blocks es)) in
+    let parts = length-append (take k (extent_blocks es)) (drop k (extent_blocks es)) in
+    let first = length-take-le k (extent_blocks es) few in
+    omega (arith, lost, rest, whole, parts, first)
 
 module _ (total : ℕ) (old : Blocks) (mdb : Mdb) (extents catalog : List Run) (v : IsForkVolume total old mdb extents catalog) (f : FoundFile) (fork : Fork) (chosen : Result Entry ℤ) (is : IsFoundFile old chosen f)
     (size len from offset given : ℕ) (size_is : size ≡ mdb.allocation_block_size) (places : HasPlaces fork f.file len from offset given)

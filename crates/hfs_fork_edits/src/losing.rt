@@ -80,7 +80,7 @@ pub(crate) fn lose<B: Blocks, Z: Blocks>(
         count,
     )?;
     let free = free_with(mdb, lost);
-    settle_fork(
+    let settled = settle_fork(
         alloc,
         volume,
         below,
@@ -89,5 +89,6 @@ pub(crate) fn lose<B: Blocks, Z: Blocks>(
         block_size,
         shorter.fork.first,
         free,
-    )
+    )?;
+    Ok(settled)
 }
