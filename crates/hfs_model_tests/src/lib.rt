@@ -1,5 +1,5 @@
-//! Tests of names, of shared bytes, of the free nodes that calls need, and of what the plain program
-//! alone can be asked for. Each code of each call, and worked lists of calls, stand as text in
+//! Tests of names, of shared bytes, of the free nodes that calls need, of the text of scripts, and of
+//! what the plain program alone can be asked for. Each code of each call, and worked lists of calls, stand as text in
 //! `tests/volumes/lists`.
 #![tactic(auto)]
 
@@ -11,6 +11,8 @@ mod forks;
 mod names;
 #[cfg(test)]
 mod nodes;
+#[cfg(test)]
+mod scripts;
 #[cfg(test)]
 mod shared;
 #[cfg(test)]
