@@ -24,7 +24,10 @@ fn is_text_of(alloc: Global, lines: &[ScriptLine], text: &[u8]) -> bool {
 const TEXTS: [(&'static [u8], &'static [u8]); 9] = [
     (b"", b""),
     (b"01\tlist\t0000000002", b"1\tlist\t2\n"),
-    (b"v8\tread\t2\ta\tres\t00\t010", b"v8\tread\t2\ta\tres\t0\t10\n"),
+    (
+        b"v8\tread\t2\ta\tres\t00\t010",
+        b"v8\tread\t2\ta\tres\t0\t10\n",
+    ),
     (b"1\tmove\t2\ta b\t3\n", b"1\tmove\t2\ta b\t3\n"),
     (b"1\trename\t2\t\t\xffb\n", b"1\trename\t2\t\t\xffb\n"),
     (
