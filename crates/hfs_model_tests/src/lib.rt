@@ -1,6 +1,6 @@
-//! Tests of names, records and nodes, of shared bytes, of the free nodes that calls need, of the text of
-//! scripts, and of what the plain program alone can be asked for. Each code of each call, and worked lists
-//! of calls, stand as text in `tests/volumes/lists`.
+//! Tests of names, records and nodes, of shared bytes, of the text of scripts, and of what the plain
+//! program alone can be asked for. Each code of each call, and worked lists of calls, stand as text in
+//! `tests/volumes/lists`.
 #![tactic(auto)]
 
 #[cfg(test)]
@@ -11,8 +11,6 @@ mod forks;
 mod names;
 #[cfg(test)]
 mod node_bytes;
-#[cfg(test)]
-mod nodes;
 #[cfg(test)]
 mod records;
 #[cfg(test)]
