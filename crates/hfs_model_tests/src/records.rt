@@ -1,8 +1,13 @@
-//! Each record as a row of bytes with every field different, and each reason to refuse at its boundary.
-use crate::without_last;
-use hfs_fields::{
-    DirRecord, Extent, FileFlags, FileRecord, ForkRecord, Name, ThreadKind, ThreadRecord,
-};
+//! Each record of the catalog as a row of bytes with every field different, read and written.
+use hfs_fields::{DirRecord, Extent, FileFlags, FileRecord, ForkRecord, ThreadKind, ThreadRecord};
+
+/// The bytes but the last.
+fn without_last(bytes: &[u8]) -> &[u8] {
+    match bytes {
+        [rest @ .., _] => rest,
+        [] => bytes,
+    }
+}
 
 fn directory_row() -> [u8; 70] {
     [
@@ -148,115 +153,4 @@ fn thread(rt: HostRuntime) {
     thread.write(&mut bytes);
     assert!(rt; bytes.starts_with(&thread_row()));
     assert!(rt; bytes.ends_with(&[0xee, 0xee]), "no byte more");
-}
-
-/// The kind of the thread that a row holds with these bytes for its type and for the length of its name.
-fn kind_with(kind: u8, length: u8) -> Option<ThreadKind> {
-    let mut row = thread_row();
-    row[0] = kind;
-    row[14] = length;
-    let thread = ThreadRecord::read(&row)?;
-    Some(thread.kind)
-}
-
-#[test]
-fn thread_refused(rt: HostRuntime) {
-    assert!(rt; ThreadRecord::read(without_last(&thread_row())).is_none());
-    for (kind, length, found) in [
-        (4, 5, Some(ThreadKind::File)),
-        (5, 5, None),
-        (3, 31, Some(ThreadKind::Folder)),
-        (3, 32, None),
-    ] {
-        assert!(rt;
-            kind_with(kind, length) == found,
-            "type {kind}, {length} characters"
-        );
-    }
-}
-
-/// The bytes of three extents.
-const EXTENTS: [u8; 12] = [1, 2, 3, 4, 5, 6, 7, 8, 9, 10, 11, 12];
-
-#[test]
-fn one_extent(rt: HostRuntime) {
-    let one = extent(0x0102, 0x0304);
-    assert!(rt; Extent::read(&EXTENTS) == Some(one));
-    assert!(rt; Extent::read(&[1, 2, 3]) == None);
-    let mut bytes = [0xee; 5];
-    one.write(&mut bytes);
-    assert!(rt; bytes == [1, 2, 3, 4, 0xee]);
-}
-
-#[test]
-fn three_extents(rt: HostRuntime) {
-    let extents = [
-        extent(0x0102, 0x0304),
-        extent(0x0506, 0x0708),
-        extent(0x090a, 0x0b0c),
-    ];
-    assert!(rt; Extent::read_record(&EXTENTS) == Some(extents));
-    assert!(rt; Extent::read_record(without_last(&EXTENTS)) == None);
-    let mut bytes = [0xee; 13];
-    Extent::write_record(&extents, &mut bytes);
-    assert!(rt; bytes == [1, 2, 3, 4, 5, 6, 7, 8, 9, 10, 11, 12, 0xee]);
-}
-
-fn new_folder_row() -> [u8; 70] {
-    [
-        0x01, 0, 0, 0, 0, 0, 0x00, 0x00, 0x00, 0x10, 0x2a, 0x2b, 0x2c, 0x2d, 0x2a, 0x2b, 0x2c,
-        0x2d, 0, 0, 0, 0, 0, 0, 0, 0, 0, 0, 0, 0, 0, 0, 0, 0, 0, 0, 0, 0, 0, 0, 0, 0, 0, 0, 0, 0,
-        0, 0, 0, 0, 0, 0, 0, 0, 0, 0, 0, 0, 0, 0, 0, 0, 0, 0, 0, 0, 0, 0, 0, 0,
-    ]
-}
-
-fn new_file_row() -> [u8; 102] {
-    [
-        0x02, 0, 0x80, 0, 0, 0, 0, 0, 0, 0, 0, 0, 0, 0, 0, 0, 0, 0, 0, 0, 0x00, 0x00, 0x00, 0x11,
-        0, 0, 0, 0, 0, 0, 0, 0, 0, 0, 0, 0, 0, 0, 0, 0, 0, 0, 0, 0, 0x2a, 0x2b, 0x2c, 0x2d, 0x2a,
-        0x2b, 0x2c, 0x2d, 0, 0, 0, 0, 0, 0, 0, 0, 0, 0, 0, 0, 0, 0, 0, 0, 0, 0, 0, 0, 0, 0, 0, 0,
-        0, 0, 0, 0, 0, 0, 0, 0, 0, 0, 0, 0, 0, 0, 0, 0, 0, 0, 0, 0, 0, 0, 0, 0, 0, 0,
-    ]
-}
-
-fn new_thread_row() -> [u8; 46] {
-    [
-        0x04, 0, 0, 0, 0, 0, 0, 0, 0, 0, 0x01, 0x02, 0x03, 0x04, 0x05, b'N', b'o', b't', b'e',
-        b's', 0, 0, 0, 0, 0, 0, 0, 0, 0, 0, 0, 0, 0, 0, 0, 0, 0, 0, 0, 0, 0, 0, 0, 0, 0, 0,
-    ]
-}
-
-#[test]
-fn new_items(rt: HostRuntime) {
-    let mut folder = [0xee; 70];
-    DirRecord::new(16, 0x2a2b_2c2d).write(&mut folder);
-    assert!(rt; folder == new_folder_row());
-    let mut file = [0xee; 102];
-    FileRecord::new(17, 0x2a2b_2c2d).write(&mut file);
-    assert!(rt; file == new_file_row());
-}
-
-#[test]
-fn new_thread(rt: HostRuntime) {
-    let name = Name::new(b"Notes").expect(&rt, "an item name");
-    let mut thread = [0xee; 46];
-    ThreadRecord::new(ThreadKind::File, 0x0102_0304, name).write(&mut thread);
-    assert!(rt; thread == new_thread_row());
-}
-
-#[test]
-fn flags(rt: HostRuntime) {
-    let flags = FileFlags(0x82);
-    assert!(rt; !flags.is_locked() && flags.has_thread());
-    assert!(rt; flags.with_lock(true) == FileFlags(0x83));
-    assert!(rt; flags.with_lock(true).with_lock(false) == flags);
-}
-
-#[test]
-fn thread_flag(rt: HostRuntime) {
-    assert!(rt; FileFlags(0x82).with_thread(false) == FileFlags(0x80));
-    assert!(rt;
-        FileFlags(0x7c).with_thread(true) == FileFlags(0x7e),
-        "bits without a name stay"
-    );
 }

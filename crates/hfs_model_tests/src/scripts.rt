@@ -20,34 +20,39 @@ fn is_text_of(alloc: Global, lines: &[ScriptLine], text: &[u8]) -> bool {
     }
 }
 
-#[test]
-fn texts_are_plain(rt: HostRuntime) {
-    let alloc = rt.alloc();
-    assert!(rt; has_text(alloc, b"", b""));
-    assert!(rt; has_text(alloc, b"01\tlist\t0000000002", b"1\tlist\t2\n"));
-    let part = b"v8\tread\t2\ta\tres\t00\t010";
-    assert!(rt; has_text(alloc, part, b"v8\tread\t2\ta\tres\t0\t10\n"));
-    assert!(rt; has_text(alloc, b"1\tmove\t2\ta b\t3\n", b"1\tmove\t2\ta b\t3\n"));
-    let renamed = b"1\trename\t2\t\t\xffb\n";
-    assert!(rt; has_text(alloc, renamed, renamed));
-    let mixed = b"2\tsetfinfo\t2\ta\t54455854747478740100AbCdEf000000";
-    let lower = b"2\tsetfinfo\t2\ta\t54455854747478740100abcdef000000\n";
-    assert!(rt; has_text(alloc, mixed, lower));
-}
+/// Scripts and their texts: numbers and digits in another form, names of any bytes, and every word.
+const TEXTS: [(&'static [u8], &'static [u8]); 9] = [
+    (b"", b""),
+    (b"01\tlist\t0000000002", b"1\tlist\t2\n"),
+    (
+        b"v8\tread\t2\ta\tres\t00\t010",
+        b"v8\tread\t2\ta\tres\t0\t10\n",
+    ),
+    (b"1\tmove\t2\ta b\t3\n", b"1\tmove\t2\ta b\t3\n"),
+    (b"1\trename\t2\t\t\xffb\n", b"1\trename\t2\t\t\xffb\n"),
+    (
+        b"2\tsetfinfo\t2\ta\t54455854747478740100AbCdEf000000",
+        b"2\tsetfinfo\t2\ta\t54455854747478740100abcdef000000\n",
+    ),
+    (
+        b"1\tdirinfo\t2\n1\tinfo\t2\ta\n1\tindexed\t2\t1\n1\tread\t2\ta\tdata\t0\t1\n1\tcreate\t2\ta\n1\tmkdir\t2\ta\n1\tdelete\t2\ta\n",
+        b"1\tdirinfo\t2\n1\tinfo\t2\ta\n1\tindexed\t2\t1\n1\tread\t2\ta\tdata\t0\t1\n1\tcreate\t2\ta\n1\tmkdir\t2\ta\n1\tdelete\t2\ta\n",
+    ),
+    (
+        b"1\tlock\t2\ta\n1\tunlock\t2\ta\n1\tnewid\t2\ta\n1\tdropid\t4294967295\n1\tresolve\t16\n",
+        b"1\tlock\t2\ta\n1\tunlock\t2\ta\n1\tnewid\t2\ta\n1\tdropid\t4294967295\n1\tresolve\t16\n",
+    ),
+    (
+        b"1\tsetinfo\t2\ta\t1\t2\t3\t000102030405060708090a0b0c0d0e0f000102030405060708090a0b0c0d0e0f\n",
+        b"1\tsetinfo\t2\ta\t1\t2\t3\t000102030405060708090a0b0c0d0e0f000102030405060708090a0b0c0d0e0f\n",
+    ),
+];
 
-/// Every word that stands in no test above.
 #[test]
-fn each_word_has_its_text(rt: HostRuntime) {
-    let alloc = rt.alloc();
-    let first =
-        b"1\tdirinfo\t2\n1\tinfo\t2\ta\n1\tindexed\t2\t1\n1\tread\t2\ta\tdata\t0\t1\n1\tcreate\t2\ta\n1\tmkdir\t2\ta\n1\tdelete\t2\ta\n";
-    assert!(rt; has_text(alloc, first, first));
-    let second =
-        b"1\tlock\t2\ta\n1\tunlock\t2\ta\n1\tnewid\t2\ta\n1\tdropid\t4294967295\n1\tresolve\t16\n";
-    assert!(rt; has_text(alloc, second, second));
-    let third =
-        b"1\tsetinfo\t2\ta\t1\t2\t3\t000102030405060708090a0b0c0d0e0f000102030405060708090a0b0c0d0e0f\n";
-    assert!(rt; has_text(alloc, third, third));
+fn scripts_have_their_text(rt: HostRuntime) {
+    for (script, text) in TEXTS {
+        assert!(rt; has_text(rt.alloc(), script, text), "{}", script.len());
+    }
 }
 
 /// Two lines: one that has a text, and one of this caller and call.
