@@ -7,11 +7,13 @@ ghost use Rattle.hfs_salvage.specs.Faults.{IsUnread};
 use crate::held::HeldBytes;
 use crate::image::{HoldFault, RescuedImage};
 use crate::loading::{Loaded, LoadedImage, load_image};
+use crate::paging::write_found_page;
 use crate::showing::{image_fault, write_found_folder, write_found_fork, write_found_items};
 use crate::words::RescueWords;
 use hfs_check::MountFault;
 use hfs_commands::{CopyFault, Fault, Format, OpenedFile, Window};
 use hfs_model::Reply;
+use hfs_remains_page::RemainsTexts;
 use hfs_space::ForkKind;
 use hfs_sparse::BlockSource;
 use std::alloc::Global;
@@ -136,6 +138,23 @@ impl<S: BlockSource + Drop> Remains<S> {
         match &self.image {
             Loaded::Held(image) => write_found_items(alloc, writer, image, words, format),
             Loaded::Opened(image) => write_found_items(alloc, writer, image, words, format),
+        }
+    }
+
+    /// Writes the page of what was found, with this fault in words, as [`write_found_page`] does.
+    pub fn write_page<W: Write>(
+        &self,
+        alloc: Global,
+        writer: &mut W,
+        words: &RescueWords<'_>,
+        why: MountFault,
+        texts: &RemainsTexts<'_>,
+    ) -> Result<u8, Fault<'static>>
+        ensures { IfErr result IsUnprinted }
+    {
+        match &self.image {
+            Loaded::Held(image) => write_found_page(alloc, writer, image, words, why, texts),
+            Loaded::Opened(image) => write_found_page(alloc, writer, image, words, why, texts),
         }
     }
 

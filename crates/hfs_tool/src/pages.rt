@@ -1,5 +1,6 @@
 //! Pages of images.
 
+use crate::remaining::{RefusedImage, again_of, show_page};
 use crate::words::PageWords;
 use hfs_bag::SourceFault;
 use hfs_check::MountFault;
@@ -11,6 +12,7 @@ use hfs_console::VERSION;
 use hfs_pages::{
     PageFault, PageImage, PageTexts, is_base, standard_texts, write_image_page, write_refused_page,
 };
+use hfs_salvage::remains_texts;
 use hfs_source::PlacedBlocks;
 use hfs_take::{SourceBlocks, image_digest, image_name};
 use std::alloc::Global;
@@ -118,21 +120,36 @@ fn print_told_page<'a, F: Read + Seek + Drop>(
 ) -> Result<u8, Fault<'a>> {
     match SeenImage::open(rt.alloc(), source) {
         Ok(image) => print_opened_page(rt, &texts_of(words, name, digest), &image),
-        Err(Unopened { fault, source: _ }) => print_unopened_page(rt, words, name, digest, fault),
+        Err(Unopened { fault, source }) => match fault {
+            NeededFault::Refused(why) => {
+                let again = again_of(rt.alloc(), source)?;
+                let refused = RefusedImage { why, again };
+                print_remains_page(rt, words, &texts_of(words, name, digest), refused)
+            }
+            NeededFault::ReadFailed | NeededFault::Memory => {
+                Err(Fault::of_needed(fault, words.image))
+            }
+        },
     }
 }
 
-/// Prints the page of an image that was not opened, where it is refused.
-fn print_unopened_page<'a>(
+/// Prints the page of what is found of an image that is refused, or of its fault alone where nothing is.
+fn print_remains_page<'a>(
     rt: &HostRuntime,
     words: &PageWords<'a>,
-    name: &str,
-    digest: Option<&str>,
-    fault: NeededFault,
+    texts: &PageTexts<'_>,
+    refused: RefusedImage,
 ) -> Result<u8, Fault<'a>> {
-    match fault {
-        NeededFault::Refused(why) => print_refused_page(rt, &texts_of(words, name, digest), why),
-        NeededFault::ReadFailed | NeededFault::Memory => Err(Fault::of_needed(fault, words.image)),
+    let why = refused.why;
+    match show_page(
+        rt,
+        words.image,
+        words.volume,
+        &remains_texts(texts.version, texts.image),
+        refused,
+    )? {
+        Some(status) => Ok(status),
+        None => print_refused_page(rt, texts, why),
     }
 }
 

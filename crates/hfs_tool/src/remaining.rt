@@ -9,7 +9,7 @@ use hfs_commands::{
 };
 use hfs_console::tell_hint;
 use hfs_model::{Fork, Reply};
-use hfs_salvage::{Again, HeldBytes, Remains, RescueWords, remains_of};
+use hfs_salvage::{Again, HeldBytes, Remains, RemainsTexts, RescueWords, remains_of};
 use hfs_source::RangeBytes;
 use hfs_space::ForkKind;
 use std::alloc::Global;
@@ -71,7 +71,7 @@ fn again_in<F: Read + Seek + Drop>(
 }
 
 /// The same of the blocks of a part of it.
-fn again_of<F: Read + Seek + Drop>(
+pub fn again_of<F: Read + Seek + Drop>(
     alloc: Global,
     source: PartBlocks<F>,
 ) -> Result<Option<Again>, Fault<'static>> {
@@ -123,6 +123,18 @@ fn print_end(rt: &HostRuntime, told: Result<u8, Reply>) -> Result<u8, Fault<'sta
     }
 }
 
+/// What is found of a refused image, if anything is.
+fn found_of<'a>(
+    rt: &HostRuntime,
+    words: &RescueWords<'a>,
+    again: Option<Again>,
+) -> Result<Option<Remains<Window<OpenedFile<File>>>>, Fault<'a>> {
+    match again {
+        Some(again) => remains_of(rt, words, again),
+        None => Ok(None),
+    }
+}
+
 /// What is found of a refused image. Where nothing is, its refusal is the fault.
 fn find<'a>(
     rt: &HostRuntime,
@@ -130,10 +142,7 @@ fn find<'a>(
     refused: RefusedImage,
 ) -> Result<Remains<Window<OpenedFile<File>>>, Fault<'a>> {
     let RefusedImage { why, again } = refused;
-    let Some(again) = again else {
-        return Err(Fault::Refused(why));
-    };
-    match remains_of(rt, words, again)? {
+    match found_of(rt, words, again)? {
         Some(remains) => Ok(remains),
         None => Err(Fault::Refused(why)),
     }
@@ -161,6 +170,26 @@ pub fn show_items<'a>(
     let why = refusal_of(remains.fault(), why);
     let status = remains.write_items(rt.alloc(), &mut rt.stdout(), &words, format)?;
     tell_refused(rt, why, status)
+}
+
+/// Prints the page of what is found of a refused image, and behind it on standard error why it is refused; None where nothing is found,
+/// and nothing is printed.
+pub fn show_page<'a>(
+    rt: &HostRuntime,
+    image: &'a str,
+    volume: Option<u64>,
+    texts: &RemainsTexts<'_>,
+    refused: RefusedImage,
+) -> Result<Option<u8>, Fault<'a>> {
+    let words = rescue_words(image, volume);
+    let RefusedImage { why, again } = refused;
+    let Some(remains) = found_of(rt, &words, again)? else {
+        return Ok(None);
+    };
+    let why = refusal_of(remains.fault(), why);
+    let status = remains.write_page(rt.alloc(), &mut rt.stdout(), &words, why, texts)?;
+    let status = tell_refused(rt, why, status)?;
+    Ok(Some(status))
 }
 
 /// Prints the rows of the folder of a refused image that a path leads to, or the code that refuses the path; and behind them on
