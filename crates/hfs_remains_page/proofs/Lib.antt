@@ -1,1 +1,5 @@
 mod GatherLemmas
+mod NestedLemmas
+mod TreeLemmas
+mod PieceLemmas
+mod PageLemmas
