@@ -1,16 +1,15 @@
 //! Pages of images.
 
+use crate::remaining::show_page;
 use crate::words::PageWords;
 use hfs_bag::SourceFault;
 use hfs_check::MountFault;
-use hfs_commands::{
-    BlockSource, Fault, NeededFault, PartBlocks, PartImage, SeenImage, Status, Unopened, open_part,
-    part_blocks,
-};
+use hfs_commands::{BlockSource, Fault, PartBlocks, PartImage, Status, open_part, part_blocks};
 use hfs_console::VERSION;
 use hfs_pages::{
     PageFault, PageImage, PageTexts, is_base, standard_texts, write_image_page, write_refused_page,
 };
+use hfs_salvage::{Looked, RefusedImage, look, remains_texts};
 use hfs_source::PlacedBlocks;
 use hfs_take::{SourceBlocks, image_digest, image_name};
 use std::alloc::Global;
@@ -116,23 +115,27 @@ fn print_told_page<'a, F: Read + Seek + Drop>(
     digest: Option<&str>,
     source: PartBlocks<F>,
 ) -> Result<u8, Fault<'a>> {
-    match SeenImage::open(rt.alloc(), source) {
-        Ok(image) => print_opened_page(rt, &texts_of(words, name, digest), &image),
-        Err(Unopened { fault, source: _ }) => print_unopened_page(rt, words, name, digest, fault),
+    match look(rt.alloc(), source) {
+        Ok(Looked::Sound(image)) => print_opened_page(rt, &texts_of(words, name, digest), &image),
+        Ok(Looked::Refused(refused)) => {
+            print_remains_page(rt, words, &texts_of(words, name, digest), refused)
+        }
+        Err(fault) => Err(Fault::of_sparse(fault, words.image)),
     }
 }
 
-/// Prints the page of an image that was not opened, where it is refused.
-fn print_unopened_page<'a>(
+/// Prints the page of what is found of an image that is refused, or of its fault alone where nothing is.
+fn print_remains_page<'a, S: PlacedBlocks + Drop>(
     rt: &HostRuntime,
     words: &PageWords<'a>,
-    name: &str,
-    digest: Option<&str>,
-    fault: NeededFault,
+    texts: &PageTexts<'_>,
+    refused: RefusedImage<S>,
 ) -> Result<u8, Fault<'a>> {
-    match fault {
-        NeededFault::Refused(why) => print_refused_page(rt, &texts_of(words, name, digest), why),
-        NeededFault::ReadFailed | NeededFault::Memory => Err(Fault::of_needed(fault, words.image)),
+    let why = refused.why;
+    let told = remains_texts(texts.version, texts.image);
+    match show_page(rt, words.image, words.volume, &told, refused)? {
+        Some(status) => Ok(status),
+        None => print_refused_page(rt, texts, why),
     }
 }
 

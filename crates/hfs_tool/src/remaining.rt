@@ -6,8 +6,10 @@ use hfs_check::MountFault;
 use hfs_commands::{Fault, Format, OpenedFile, PartBlocks, open_part, part_blocks};
 use hfs_console::tell_hint;
 use hfs_model::{Fork, Reply};
-use hfs_salvage::{Looked, RefusedImage, Remains, RescueWords, look, remains_of};
-use hfs_source::{BlocksOf, RangeBytes};
+use hfs_salvage::{
+    Looked, RefusedImage, Remains, RemainsTexts, RescueWords, look, remains_of,
+};
+use hfs_source::{BlocksOf, PlacedBlocks, RangeBytes};
 use hfs_space::ForkKind;
 use std::fs::File;
 
@@ -82,6 +84,28 @@ pub fn show_items<'a>(
     let remains = find(rt, refused)?;
     let status = remains.write_items(rt.alloc(), &mut rt.stdout(), &words, format)?;
     tell_refused(rt, why, status)
+}
+
+/// Prints the page of what is found of a refused image, and behind it on standard error why it is refused; None where nothing is found,
+/// and nothing is printed.
+pub fn show_page<'a, S: PlacedBlocks + Drop>(
+    rt: &HostRuntime,
+    image: &'a str,
+    volume: Option<u64>,
+    texts: &RemainsTexts<'_>,
+    refused: RefusedImage<S>,
+) -> Result<Option<u8>, Fault<'a>> {
+    let words = rescue_words(image, volume);
+    let why = refused.why;
+    match remains_of(rt.alloc(), refused) {
+        Ok(Some(remains)) => {
+            let status = remains.write_page(rt.alloc(), &mut rt.stdout(), &words, why, texts)?;
+            let status = tell_refused(rt, why, status)?;
+            Ok(Some(status))
+        }
+        Ok(None) => Ok(None),
+        Err(_) => Err(Fault::NoMemory),
+    }
 }
 
 /// Prints the rows of the folder of a refused image that a path leads to, or the code that refuses the path; and behind them on

@@ -1,0 +1,5 @@
+mod GatherLemmas
+mod NestedLemmas
+mod TreeLemmas
+mod PieceLemmas
+mod PageLemmas

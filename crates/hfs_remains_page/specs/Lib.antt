@@ -1,0 +1,10 @@
+pub mod Trees
+pub mod Walks
+pub mod Verdicts
+pub mod Rows
+pub mod Gathers
+pub mod Pictures
+pub mod Facts
+pub mod Dress
+pub mod Pages
+pub mod Nested

@@ -1,0 +1,123 @@
+//! What is found of a refused image as a page.
+ghost use Rattle.std.specs.Prelude.{◌≡◌, IfErr, IfOk, List, ℕ, OnErr, OnOk, Some, string_bytes};
+ghost use Rattle.std.specs.Io.KnownBytes.{Appends};
+ghost use Rattle.hfs_commands.specs.Checks.{IsCheckFault};
+ghost use Rattle.hfs_commands.specs.Faults.{IsUnprinted};
+ghost use Rattle.hfs_finds.specs.Finds.{IsFoundIn};
+ghost use Rattle.hfs_refusals.specs.Hints.{meaning_text};
+ghost use Rattle.hfs_refusals.specs.Refusals.{refusal_text};
+ghost use Rattle.hfs_remains_page.specs.Pages.{remains_page};
+ghost use Rattle.hfs_texts.specs.Writing.{AppendsFront};
+ghost use Rattle.hfs_salvage.specs.Shown.{OfKnownFound, found_page, found_status};
+
+use crate::answer::RescueAnswer;
+use crate::found::found_in;
+use crate::image::RescuedImage;
+use crate::words::RescueWords;
+use hfs_check::MountFault;
+use hfs_commands::{Fault, Refusal};
+use hfs_finds::salvage_of;
+use hfs_page::PageFault;
+use hfs_refusals::push_meaning;
+use hfs_remains_page::{RemainsTexts, write_remains_page};
+use hfs_rescue_items::Found;
+use hfs_sparse::BlockSource;
+use hfs_texts::Show;
+use std::alloc::{AllocError, Global};
+use std::io::Write;
+
+/// What a fault of writing a page means.
+fn fault_of_page(fault: PageFault) -> Fault<'static>
+    ensures { IsUnprinted result }
+{
+    match fault {
+        PageFault::Memory => Fault::NoMemory,
+        PageFault::OutputFailed => Fault::OutputFailed,
+    }
+}
+
+/// Why an image is refused.
+fn refusal(alloc: Global, why: MountFault) -> Result<String, AllocError>
+    ensures { IfOk result (λ text. string_bytes text ≡ refusal_text why) }
+{
+    let mut text = String::new(alloc);
+    Refusal(why).push_to(&mut text)?;
+    Ok(text)
+}
+
+/// What that means.
+fn meaning(alloc: Global, why: MountFault) -> Result<String, AllocError>
+    ensures { IfOk result (λ text. string_bytes text ≡ meaning_text why) }
+{
+    let mut text = String::new(alloc);
+    push_meaning(&mut text, why)?;
+    Ok(text)
+}
+
+/// Writes the page of what was found of an image, with this fault.
+fn write_page<S: BlockSource, W: Write>(
+    alloc: Global,
+    writer: &mut W,
+    image: &RescuedImage<S>,
+    found: &Found<'_>,
+    why: MountFault,
+    texts: &RemainsTexts<'_>,
+) -> Result<(), Fault<'static>>
+    requires extents { image.now.finds.extents_file.items ≡ found.now.salvage.now.trees.extents_file.now }
+    requires catalog { image.now.finds.catalog_file.items ≡ found.now.salvage.now.trees.catalog_file.now }
+    ensures written { OnOk result (Appends (W.contents writer.old) (W.contents writer.new)
+        (found_page texts.now why found.now)) }
+    ensures part { OnErr result (AppendsFront (W.contents writer.old) (W.contents writer.new)
+        (found_page texts.now why found.now)) }
+    ensures faults { IfErr result IsUnprinted }
+{
+    let Ok(refusal) = refusal(alloc, why) else {
+        return Err(Fault::NoMemory);
+    };
+    let Ok(meaning) = meaning(alloc, why) else {
+        return Err(Fault::NoMemory);
+    };
+    let extents = &image.finds.extents_file;
+    let catalog = &image.finds.catalog_file;
+    let refusal = refusal.as_bytes();
+    let meaning = meaning.as_bytes();
+    match write_remains_page(
+        alloc, texts, refusal, meaning, found, extents, catalog, writer,
+    ) {
+        Ok(()) => Ok(()),
+        Err(fault) => Err(fault_of_page(fault)),
+    }
+}
+
+/// Writes the page of what was found of an image, with this fault in words, and answers the exit status of `rescue`. All this where the
+/// image's bytes are known; a file's are not. Faults: memory was refused; `OutputFailed`, and then a part of the page may have gone
+/// out, from its beginning on.
+pub fn write_found_page<S: BlockSource, W: Write>(
+    alloc: Global,
+    writer: &mut W,
+    image: &RescuedImage<S>,
+    words: &RescueWords<'_>,
+    why: MountFault,
+    texts: &RemainsTexts<'_>,
+) -> Result<u8, Fault<'static>>
+    ensures written { OnOk result (OfKnownFound (S.image image.now.source) image.now.len words.now
+        (λ bytes found. Appends (W.contents writer.old) (W.contents writer.new)
+        (found_page texts.now why found))) }
+    ensures part { OnErr result (OfKnownFound (S.image image.now.source) image.now.len words.now
+        (λ bytes found. AppendsFront (W.contents writer.old) (W.contents writer.new)
+        (found_page texts.now why found))) }
+    ensures status { IfOk result (λ status. OfKnownFound (S.image image.now.source) image.now.len words.now
+        (λ bytes found. status ≡ found_status bytes found)) }
+    ensures faults { IfErr result IsUnprinted }
+{
+    let limit = words.limit_for(image.len);
+    let Ok(salvage) = salvage_of(alloc, &image.finds, limit) else {
+        return Err(Fault::NoMemory);
+    };
+    let found = found_in(&image.finds, &salvage);
+    let Ok(answer) = RescueAnswer::of(alloc, &image.check, &image.finds, &found) else {
+        return Err(Fault::NoMemory);
+    };
+    write_page(alloc, writer, image, &found, why, texts)?;
+    Ok(answer.status)
+}
