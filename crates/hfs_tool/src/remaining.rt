@@ -6,9 +6,7 @@ use hfs_check::MountFault;
 use hfs_commands::{Fault, Format, OpenedFile, PartBlocks, open_part, part_blocks};
 use hfs_console::tell_hint;
 use hfs_model::{Fork, Reply};
-use hfs_salvage::{
-    Looked, RefusedImage, Remains, RemainsTexts, RescueWords, look, remains_of,
-};
+use hfs_salvage::{Looked, RefusedImage, Remains, RemainsTexts, RescueWords, look, remains_of};
 use hfs_source::{BlocksOf, PlacedBlocks, RangeBytes};
 use hfs_space::ForkKind;
 use std::fs::File;
