@@ -54,7 +54,7 @@ pub struct ImageItems<'a, I: ItemImage, W: Watch> {
 }
 
 /// The rows behind the root's, and what is told of the root. Error: memory was refused.
-#[tactic(auto, using(crate::proofs::SourceLemmas::rows_behind, crate::proofs::RootLemmas::begun_by_root))]
+#[tactic(auto, using(crate::proofs::SourceLemmas::rows_behind, crate::proofs::SourceLemmas::begins_with))]
 fn rows_below<I: ItemImage + Drop>(
     alloc: Global,
     image: &I,
@@ -169,10 +169,7 @@ fn open_resource<I: ItemImage + Drop>(
 
 /// The table of all items, from its head on. Error: memory was refused.
 #[tactic(auto, using(crate::proofs::SourceLemmas::table_begun))]
-fn open_table<I: ItemImage + Drop>(
-    alloc: Global,
-    image: &I,
-) -> Result<TableReading, AllocError>
+fn open_table<I: ItemImage + Drop>(alloc: Global, image: &I) -> Result<TableReading, AllocError>
     ensures { IfOk result (λ table. OfEach (I.Holds image.now)
         (λ bytes. table_rest table.is_begun table.rows.left ≡ table_text (told_rows (entries_in bytes)))) }
 {

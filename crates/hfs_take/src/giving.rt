@@ -138,7 +138,16 @@ fn give_items<R: Threads, S: PlacedBlocks + Drop + Send, T: Shelf, W: Watch>(
         digest,
     } = told;
     let is_digested = words.is_digested;
-    let first = give_first(threads, alloc, shelf, items, digest, beside, len, is_digested)?;
+    let first = give_first(
+        threads,
+        alloc,
+        shelf,
+        items,
+        digest,
+        beside,
+        len,
+        is_digested,
+    )?;
     let facts = BagFacts {
         identifier: identifier.as_str(),
         program: words.program,
