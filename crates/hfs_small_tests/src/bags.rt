@@ -1,5 +1,5 @@
 //! The bag of a volume without items: texts by hand, and digests that `sha256sum` gave.
-ghost use Rattle.std.specs.Prelude.{◌≡◌, [], true, None};
+ghost use Rattle.std.specs.Prelude.{◌≡◌, [], None, length};
 ghost use Rattle.hfs_bag.specs.declared.item.BagKind.TheVariants as kind;
 ghost use Rattle.hfs_bag.specs.declared.source.SourceFault.TheVariants as fault;
 
@@ -23,7 +23,7 @@ const INFO: &[u8] =
 const TAG_MANIFEST: &[u8] =
     b"1712ecfb074bf29c4188ad3421032509159a09739fd604f8fe57038b4ddefcc9  bagit.txt\n25908ea7bcfd3f1edfe47f49d456e2d39c4b0da4eaec3933fbff6a60260f0bd0  bag-info.txt\n2b99a8e1c835862193bb67aec2ddbd38f11b348fb3512d2a54e29c1536f241b5  items.csv\n7980bac79a483ade803c8b4e51a07b1f969abdbf531e389012311be721dd9994  volume.txt\ne3b0c44298fc1c149afbf4c8996fb92427ae41e4649b934ca495991b7852b855  manifest-sha256.txt\n";
 
-/// A volume without items.
+/// A volume without items, whose image is taken to be the bytes of its table.
 #[derive(Drop)]
 struct NoItems<'a> {
     table: &'a [u8],
@@ -31,8 +31,13 @@ struct NoItems<'a> {
 }
 
 impl BagSource for NoItems<'_> {
-    ghost state = { λ source. record {
-      known = true;
+    ghost Holds = { λ source image. image ≡ source.table.now };
+
+    ghost items_left = { λ _. 0 };
+
+    ghost bytes_left = { λ source. length source.rest.now };
+
+    ghost state = { λ source image. record {
       all = [];
       left = [];
       item = record { above = []; name = []; kind = kind.File; finder = []; modified = None; data_fork = []; resource_fork = [] };
