@@ -54,7 +54,7 @@ pub struct ImageItems<'a, I: ItemImage, W: Watch> {
 }
 
 /// The rows behind the root's, and what is told of the root. Error: memory was refused.
-#[tactic(auto, using(crate::proofs::SourceLemmas::rows_behind, crate::proofs::RootLemmas::begun_by_root))]
+#[tactic(auto, using(crate::proofs::SourceLemmas::rows_behind, crate::proofs::SourceLemmas::begins_with))]
 fn rows_below<I: ItemImage + Drop>(
     alloc: Global,
     image: &I,

@@ -10,6 +10,7 @@ mod paths;
 mod piece;
 mod pieces;
 mod reading;
+mod seen;
 mod table_reading;
 mod watch;
 

@@ -110,7 +110,7 @@ impl<S: PlacedBlocks> SeenImage<S> {
                 };
                 Ok((image, report))
             }
-            Err(fault) => Err(Unopened { fault, source }),
+            Err(why) => Err(Unopened { fault: why, source }),
         }
     }
 
