@@ -3,16 +3,81 @@
 use crate::commands::print_code;
 use crate::words::{ForkPathWords, PathWords};
 use hfs_check::MountFault;
-use hfs_commands::{Fault, Format, OpenedFile, PartBlocks, open_part, part_blocks};
+use hfs_commands::{
+    Counted, Fault, FilePart, Format, OpenedFile, PartBlocks, SeenImage, StoredFile, Unopened,
+    Window, open_asked, part_blocks,
+};
 use hfs_console::tell_hint;
+use hfs_containers::{Asked, find_asked};
 use hfs_model::{Fork, Reply};
 use hfs_salvage::{Looked, RefusedImage, Remains, RemainsTexts, RescueWords, look, remains_of};
 use hfs_source::{BlocksOf, PlacedBlocks, RangeBytes};
 use hfs_space::ForkKind;
+use std::alloc::Global;
 use std::fs::File;
 
 /// The blocks of a part of a file.
 type Part = BlocksOf<RangeBytes<OpenedFile<File>>>;
+
+/// What is looked at of a file, and whether it is the only range that it may be.
+struct Chosen {
+    part: Window<OpenedFile<File>>,
+    is_one: bool,
+}
+
+/// Whether all bytes of what was opened are held, as a pipe's.
+fn is_held(file: &OpenedFile<File>) -> bool {
+    match file {
+        OpenedFile::Plain(StoredFile::Whole(_)) => true,
+        OpenedFile::Plain(StoredFile::Seekable(_)) | OpenedFile::Raw(_) => false,
+    }
+}
+
+/// What is looked at of a file in which no volume was found: the only range that lies in it, also one without a volume, else the file as
+/// it is.
+fn choose_range<'a>(
+    alloc: Global,
+    file: Window<OpenedFile<File>>,
+    path: &'a str,
+) -> Result<Chosen, Fault<'a>> {
+    let Window { mut source, range } = file;
+    let layout = source.layout();
+    let asked = find_asked(alloc, &mut source, range.len, layout, Counted::Ranges, None);
+    let (range, is_one) = match asked {
+        Ok(Asked::Inside(place)) => (place.found.range, true),
+        Ok(Asked::WholeFile) | Ok(Asked::Missing(_)) => (range, true),
+        Ok(Asked::Several(_)) => (range, false),
+        Err(fault) => return Err(Fault::of_sparse(fault, path)),
+    };
+    Ok(Chosen {
+        part: Window { source, range },
+        is_one,
+    })
+}
+
+/// What is looked at of an image: the volume that is asked for, or that lies alone in it; where none does, what `rescue` would take.
+fn choose<'a>(rt: &HostRuntime, path: &'a str, volume: Option<u64>) -> Result<Chosen, Fault<'a>> {
+    let FilePart { bytes, place } = open_asked(rt, path, Counted::Volumes, volume)?;
+    if volume.is_some() || place.is_some() || is_held(&bytes.source) {
+        return Ok(Chosen {
+            part: bytes,
+            is_one: true,
+        });
+    }
+    choose_range(rt.alloc(), bytes, path)
+}
+
+/// Opens what holds several ranges and no volume, which is refused.
+fn open_several<'a>(
+    rt: &HostRuntime,
+    part: Window<OpenedFile<File>>,
+    path: &'a str,
+) -> Result<Looked<Part>, Fault<'a>> {
+    match SeenImage::open(rt.alloc(), part_blocks(part)) {
+        Ok(image) => Ok(Looked::Sound(image)),
+        Err(Unopened { fault, source: _ }) => Err(Fault::of_needed(fault, path)),
+    }
+}
 
 /// Looks at an image, or at the volume in it that is asked for: opens it once, makes all checks, and where it is refused finds what
 /// remains of it.
@@ -21,7 +86,10 @@ pub fn look_at<'a>(
     path: &'a str,
     volume: Option<u64>,
 ) -> Result<Looked<Part>, Fault<'a>> {
-    let part = open_part(rt, path, volume)?;
+    let Chosen { part, is_one } = choose(rt, path, volume)?;
+    if !is_one {
+        return open_several(rt, part, path);
+    }
     match look(rt.alloc(), part_blocks(part)) {
         Ok(looked) => Ok(looked),
         Err(fault) => Err(Fault::of_sparse(fault, path)),
