@@ -1,5 +1,5 @@
 -- The pieces were found, zeros and bytes laid, and the other edits made over them.
-use Rattle.std.proofs.Common.{◌≡◌, ℕ, ◌+◌, ◌-◌, ◌*◌, ◌<◌, ◌≤◌, List, length, refl, sym, ◌∙◌, ap, subst, arith, Some, None}
+use Rattle.std.proofs.Common.{◌≡◌, ℕ, ◌+◌, ◌-◌, ◌*◌, ◌<◌, ◌≤◌, List, ◌++◌, length, refl, sym, ◌∙◌, ap, subst, arith, Some, None}
 use Rattle.std.specs.List.{flat_map}
 use Rattle.hfs_fields.specs.declared.extent.Extent.{Extent}
 use Rattle.hfs_fields.specs.declared.mdb.Mdb.{Mdb}
@@ -8,6 +8,10 @@ use Rattle.hfs_blocks.specs.Layers.{changes, over, AreWithin}
 use Rattle.hfs_space.specs.Extents.{AreExtentsWithin, extent_blocks}
 use Rattle.hfs_space.specs.ForkLaws.{block_numbers}
 use Rattle.hfs_space.specs.Owners.{owners}
+use Rattle.hfs_space.specs.Bitmap.{is_used}
+use Rattle.hfs_claims.specs.Choice.{AreFreeOnce}
+use Rattle.hfs_fork_extents.specs.Growing.{grown as pieced}
+use Rattle.hfs_fork_changes.specs.Edits.{extents_of}
 use Rattle.hfs_fork_edits.proofs.Edits as edits
 use Rattle.hfs_fork_edits.proofs.GrownFork as grown
 use Rattle.hfs_fork_edits.proofs.LaidOver.{laid_apart}
@@ -53,10 +57,36 @@ pub lay_fork-requires-clause-small : goal.lay_fork-requires-clause-small
 lay_fork-requires-clause-small g c = grown.bytes_end _ _ _ _ _ c.requires.volume _ c.args.resizing.now.fork _ c.requires.found.is c.args.block_size c.args.resizing.now.length c.args.resizing.now.from c.args.resizing.now.offset _ c.requires.size c.requires.places _ c.requires.was c.args.wanted c.requires.wants c.in-Ok.grown c.in-Ok.ensures
 
 pub gain-requires-clause-same : goal.gain-requires-clause-same
-gain-requires-clause-same g c = ap g.B.Blocks.total c.over-below.ensures.below
+gain-requires-clause-same g c = ap g.B.Blocks.total c.over.ensures.below
 
 pub gain-requires-clause-inside : goal.gain-requires-clause-inside
-gain-requires-clause-inside g c = subst (λ (n : ℕ). AreWithin (changes c.in_ok-lay_fork.patch) n) (sym (ap g.B.Blocks.total c.over-below.ensures.below)) c.in_ok-lay_fork.ensures.within
+gain-requires-clause-inside g c = subst (λ (n : ℕ). AreWithin (changes c.in_ok-zeros.field-0.patch) n) (sym (ap g.B.Blocks.total c.over.ensures.below)) c.in_ok-zeros.ensures.within
 
 pub gain-requires-clause-count : goal.gain-requires-clause-count
 gain-requires-clause-count g c = grown.count_is _ _ _ _ _ c.requires.volume _ c.args.resizing.now.fork _ c.requires.found.is c.args.block_size c.args.resizing.now.length c.args.resizing.now.from c.args.resizing.now.offset _ c.requires.size c.requires.places _ c.requires.was c.args.wanted c.requires.wants
+
+pub gain-requires-clause-free : goal.gain-requires-clause-free
+gain-requires-clause-free g c =
+    let mdb = c.args.volume.now.mdb.now in
+    subst (λ (es : List Extent). AreFreeOnce (is_used (g.B.Blocks.blocks c.args.volume.now.blocks.now) mdb.bitmap_start) mdb.allocation_blocks c.args.wanted es) (sym c.deref-2.ensures.value) c.in-Ok.ensures.free
+
+pub gain-requires-clause-enough : goal.gain-requires-clause-enough
+gain-requires-clause-enough g c = grown.enough_free _ _ _ _ _ c.requires.volume _ c.args.resizing.now.fork _ c.requires.found.is c.args.block_size c.args.resizing.now.length c.args.resizing.now.from c.args.resizing.now.offset _ c.requires.size c.requires.places _ c.requires.was c.args.wanted c.requires.wants c.in-Ok.grown c.in-Ok.ensures
+
+pub gain-requires-clause-made : goal.gain-requires-clause-made
+gain-requires-clause-made g c =
+    let old = g.B.Blocks.blocks c.args.volume.now.blocks.now in
+    let es = extents_of old c.args.resizing.now.fork c.args.resizing.now.found.now.file in
+    subst (λ (ps : List Extent). extent_blocks (pieced es ps) ≡ extent_blocks es ++ extent_blocks ps) (sym c.deref-2.ensures.value) (grown.made_grown _ _ _ _ _ c.requires.volume _ c.args.resizing.now.fork _ c.requires.found.is c.args.block_size c.args.resizing.now.length c.args.resizing.now.from c.args.resizing.now.offset _ c.requires.size c.requires.places _ c.requires.was c.args.wanted c.requires.wants c.in-Ok.grown c.in-Ok.ensures)
+
+pub gain-requires-clause-beside : goal.gain-requires-clause-beside
+gain-requires-clause-beside g c =
+    let old = g.B.Blocks.blocks c.args.volume.now.blocks.now in
+    let z = c.in_ok-zeros.field-0 in
+    let es = extents_of old c.args.resizing.now.fork c.args.resizing.now.found.now.file in
+    let below = below_is z.zeros _ old _ c.over.ensures.zeros (ap g.B.Blocks.blocks c.over.ensures.below) in
+    let all = c.deref.ensures.value ∙ grown.all_is _ _ _ _ _ c.requires.volume _ c.args.resizing.now.fork _ c.requires.found.is c.args.block_size c.args.resizing.now.length c.args.resizing.now.from c.args.resizing.now.offset _ c.requires.size c.requires.places _ c.requires.was c.args.wanted c.requires.wants c.in-Ok.grown c.in-Ok.ensures ∙ ap (pieced es) (sym c.deref-2.ensures.value) in
+    laid_apart c.args.volume.now.mdb.now _ _ all _ _ _ _ old _ z.zeros z.patch below c.in_ok-zeros.ensures.lays
+
+pub returns-in-Err : goal.returns-in-Err
+returns-in-Err g c = grown.meets_room _ _ _ _ _ c.requires.volume _ c.args.resizing.now.fork _ c.requires.found.is c.args.block_size c.args.resizing.now.length c.args.resizing.now.from c.args.resizing.now.offset _ c.requires.size c.requires.places _ c.requires.was c.args.wanted c.requires.wants _ c.in-Err.ensures
