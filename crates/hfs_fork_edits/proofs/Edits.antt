@@ -9,12 +9,14 @@ use Rattle.hfs_fields.specs.declared.extent.Extent.{Extent}
 use Rattle.hfs_fields.specs.declared.file_record.FileRecord.{FileRecord}
 use Rattle.hfs_fields.specs.declared.file_record.ForkRecord.{ForkRecord}
 use Rattle.hfs_fields.specs.Counts.{with_counts}
+use Rattle.hfs_fields.specs.Keys.{cat_cmp}
 use Rattle.hfs_fields.specs.Records.{is_file, file_record_of}
 use Rattle.hfs_blocks.specs.declared.run.Run.{Run}
 use Rattle.hfs_blocks.specs.Blocks.{run_of, nodes_in, AreRunsWithin}
 use Rattle.hfs_blocks.specs.Layers.{Numbered, changes, over, AreWithin}
 use Rattle.hfs_btree.specs.Header.{header_in}
 use Rattle.hfs_btree.specs.Sound.{IsDistinct}
+use Rattle.hfs_btree.specs.Pairs.{lookup}
 use Rattle.hfs_btree.specs.Tree.{Store}
 use Rattle.hfs_btree_edits.specs.Entries.{IsPlaceOf}
 use Rattle.hfs_btree_edits.specs.Files.{beside}
@@ -40,7 +42,7 @@ use Rattle.hfs_check.proofs.LawsProved.{catalog_is_sound, trees_are_sound}
 use Rattle.hfs_changes.proofs.LawsProved.{choice_stands}
 use Rattle.hfs_changes.proofs.Space.{each_owned}
 use Rattle.hfs_fork_calls.specs.Forks.{blocks}
-use Rattle.hfs_fork_extents.specs.Cuts.{cut}
+use Rattle.hfs_fork_extents.specs.Cuts.{cut, surplus}
 use Rattle.hfs_fork_extents.specs.Growing.{grown, records_coming, HasGrown, HasRoomFor, IsWantOfNodes}
 use Rattle.hfs_fork_extents.specs.declared.growing.NodesWanted.{NodesWanted}
 use Rattle.hfs_fork_extents.specs.Shortening.{HasShortened}
@@ -52,7 +54,6 @@ use Rattle.hfs_fork_changes.specs.CallEdits.{SetsFork}
 use Rattle.hfs_fork_changes.proofs.Rooms.{length-blocks, extents_within, within_each}
 use Rattle.hfs_fork_changes.proofs.SoundForks as sounds
 use Rattle.hfs_call_patches.specs.Settings.{IsBody, IsFileUnder}
-use Rattle.hfs_call_patches.proofs.ChosenItems.{file_under}
 use Rattle.hfs_call_patches.proofs.Different.{different}
 use Rattle.hfs_call_patches.proofs.FileParts.{extents_different}
 use Rattle.hfs_fork_edits.specs.Calls.{IsForkVolume, IsFoundIn}
@@ -141,7 +142,9 @@ module _ (total : ℕ) (old : Blocks) (mdb : Mdb) (extents catalog : List Run) (
       pub there_of : (file : FileRecord) → IsFileAt s f.key file
       unfolding catalog_in
       there_of file =
-          let under : IsFileUnder f.key (catalog_of (catalog_nodes old)) = file_under total old h fd.chosen f.key f.file fd.is.choice choice_stands in
+          let own = fd.is.choice in
+          let stands : IsBody is_file (lookup cat_cmp own.of.0 (catalog_in old)) = subst (IsBody is_file) (sym (choice_stands total fd.chosen own.of old h own.choice)) own.is in
+          let under : IsFileUnder f.key (catalog_of (catalog_nodes old)) = subst (λ (k : CatKey). IsFileUnder k (catalog_in old)) own.own_key stands in
           of_kind file _ (subst (λ (x : Store). IsFileUnder f.key (catalog_of x)) (sym e) under)
 
   -- ---- the file
@@ -205,6 +208,10 @@ module _ (total : ℕ) (old : Blocks) (mdb : Mdb) (extents catalog : List Run) (
     unfolding overflow_in
     enough_of pieces s e enough = subst (λ (x : Store). HasNodesFor (records_coming (fork_extents (overflow_of x) f.file.id (byte_of fork) (fork_of fork f.file).extents) pieces) x) e enough
 
+    pub surplus_of : (n : ℕ) (s : Store) → s ≡ extents_nodes old → (es : List Extent) → es ≡ surplus n (fork_extents (overflow_of s) f.file.id (byte_of fork) (fork_of fork f.file).extents) → es ≡ surplus n (extents_of old fork f.file)
+    unfolding overflow_in
+    surplus_of n s e es is = is ∙ ap (λ (x : Store). surplus n (fork_extents (overflow_of x) f.file.id (byte_of fork) (fork_of fork f.file).extents)) e
+
     pub want_of : (pieces : List Extent) (nodes : NodesWanted) (s : Store) → s ≡ extents_nodes old → (kind : ForkKind) (x : ForkRecord) → kind ≡ kind_of fork → x ≡ fork_of fork f.file
         → IsWantOfNodes (records_coming (extents_through s f.file.id kind x.extents) pieces) s nodes → IsWantOfNodes (records_coming (extents_of old fork f.file) pieces) (extents_nodes old) nodes
     want_of pieces nodes s e kind x k y want =
@@ -259,7 +266,7 @@ module _ (total : ℕ) (old : Blocks) (mdb : Mdb) (extents catalog : List Run) (
 
         module _ (size len now left : ℕ) (size_is : size ≡ mdb.allocation_block_size) (first : List Extent) (z : Blocks) (p q : Numbered) (b2_is : over (changes p) z ≡ b2) (counts : Mdb) (counts_is : counts ≡ counts_with left now mdb)
             (s : Settles f.key (file_with size fork len first now f.file) counts old z catalog p q) where
-          SettlesOf : CatKey → ℕ → FileRecord → Mdb → Blocks → Type 0
+          abbrev SettlesOf : CatKey → ℕ → FileRecord → Mdb → Blocks → Type 0
           SettlesOf key size file counts b = assembled.SettlesBlocks key (file_with size fork len first now file) counts (old 2) catalog b z (changes q)
 
           plain : SettlesOf f.key size f.file counts (over (changes p) z)

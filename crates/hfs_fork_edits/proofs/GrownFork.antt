@@ -1,5 +1,5 @@
 -- What a fork asks that gets more blocks, or as many as it has: the numbers of its blocks and bytes.
-use Rattle.std.proofs.Common.{◌≡◌, ℕ, ◌+◌, ◌-◌, ◌*◌, ◌<◌, ◌≤◌, ◌^◌, Bool, true, false, cond, ltb, List, ◌++◌, length, length-append, refl, sym, ◌∙◌, ap, subst, arith, Some, None}
+use Rattle.std.proofs.Common.{◌≡◌, ℕ, ◌+◌, ◌-◌, ◌*◌, ◌%◌, ◌<◌, ◌≤◌, ◌^◌, Bool, true, false, cond, ltb, List, ◌++◌, length, length-append, refl, sym, ◌∙◌, ap, subst, arith, Some, None}
 use Rattle.std.specs.Prelude.{Result, ℤ, max}
 use Rattle.std.proofs.lemmas.Bool.{lt-ltb, le-ltb, ltb-true, ltb-false}
 use Rattle.std.proofs.lemmas.Grind.{div_ceil_times}
@@ -160,6 +160,13 @@ module _ (total : ℕ) (old : Blocks) (mdb : Mdb) (extents catalog : List Run) (
 
       pub bytes_fit : offset + given ≤ 512 * length (block_numbers mdb all)
       bytes_fit = let within = places.within in let room = room_is in let long = len_fits in omega (arith, within, room, long)
+
+      pub bytes_end : offset + given < 2 ^ 32
+      bytes_end = let within = places.within in let long = len_fits in let bytes = bytes_small few in omega (arith, within, long, bytes)
+
+      -- so many blocks are counted by 16 bits
+      pub wanted_few : mdb.allocation_blocks ≤ 65535 → wanted ≤ 65535
+      wanted_few most = let free = enough_free in let left = edits.few_of total old mdb extents catalog v f fork chosen is in omega (arith, most, free, left)
 
       pub zeros_are : AreZeros (mdb_in old).allocation_block_size was_length had len (blocks (mdb_in old).allocation_block_size len) offset given from (end - from)
       zeros_are = subst (λ (k : ℕ). AreZeros k was_length had len (blocks k len) offset given from (end - from)) size_old (record {

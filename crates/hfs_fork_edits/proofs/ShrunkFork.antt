@@ -55,7 +55,7 @@ written_nothing ns a b offset given written h = record {
 pub laid_from : (mdb : Mdb) (es : List Extent) (from len offset : ℕ) (part : List ℕ) (old new : Blocks) → LaysBoth mdb es (min from len) (len - min from len) offset part old new → LaysBoth mdb es from (len - from) offset part old new
 laid_from mdb es from len offset part old new lays = elim (cases_lt len from) [
   | inl lt ↦
-      subst (λ (k : ℕ). LaysBoth mdb es from k offset part old new) (omega (arith, lt))
+      subst (λ (k : ℕ). LaysBoth mdb es from k offset part old new) (let z : 0 ≡ len - from = omega (arith, lt) in z)
       (laid_nothing mdb es (min from len) from offset part old new (subst (λ (k : ℕ). LaysBoth mdb es (min from len) k offset part old new) (let z : len - min from len ≡ 0 = omega (arith, lt) in z) lays))
   | inr ge ↦ subst (λ (k : ℕ). LaysBoth mdb es k (len - k) offset part old new) (let z : min from len ≡ from = omega (arith, ge) in z) lays
 ]
@@ -63,7 +63,7 @@ laid_from mdb es from len offset part old new lays = elim (cases_lt len from) [
 pub written_from : (ns : List ℕ) (from len offset given : ℕ) (written : List ℕ) → AreWritten ns (min from len) (len - min from len) offset given written → AreWritten ns from (len - from) offset given written
 written_from ns from len offset given written h = elim (cases_lt len from) [
   | inl lt ↦
-      subst (λ (k : ℕ). AreWritten ns from k offset given written) (omega (arith, lt))
+      subst (λ (k : ℕ). AreWritten ns from k offset given written) (let z : 0 ≡ len - from = omega (arith, lt) in z)
       (written_nothing ns (min from len) from offset given written (subst (λ (k : ℕ). AreWritten ns (min from len) k offset given written) (let z : len - min from len ≡ 0 = omega (arith, lt) in z) h))
   | inr ge ↦ subst (λ (k : ℕ). AreWritten ns k (len - k) offset given written) (let z : min from len ≡ from = omega (arith, ge) in z) h
 ]

@@ -72,17 +72,17 @@ pub(crate) fn grow<B: Blocks>(
         resizing.offset,
         resizing.bytes,
     )?;
-    let below = zeros.over(volume.blocks);
-    match gain(
+    let made = gain(
         alloc,
         volume,
-        &below,
+        &zeros.over(volume.blocks),
         patch,
         resizing,
         block_size,
         &grown.pieces,
         wanted as u16,
-    )? {
+    )?;
+    match made {
         Ok(settled) => Ok(Ok(fork_change(zeros, written, settled))),
         Err(want) => Ok(Err(want)),
     }

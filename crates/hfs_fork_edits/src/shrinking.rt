@@ -57,9 +57,15 @@ pub(crate) fn shrink<B: Blocks>(
         resizing.offset,
         resizing.bytes,
     )?;
-    let below = zeros.over(volume.blocks);
     let settled = lose(
-        alloc, volume, &below, patch, resizing, block_size, &lost, count,
+        alloc,
+        volume,
+        &zeros.over(volume.blocks),
+        patch,
+        resizing,
+        block_size,
+        &lost,
+        count,
     )?;
     Ok(fork_change(zeros, written, settled))
 }
