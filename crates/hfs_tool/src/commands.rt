@@ -13,8 +13,8 @@ use crate::words::{NewVolume, Words};
 use hfs_check::MountFault;
 use hfs_commands::{
     CheckAnswer, Fault, Format, NeededFile, PartBlocks, PartImage, RepairAnswer, Status,
-    WatchedImage, code_text, needed_check_answer,
-    open_watched, put_macbinary, refused_text, repair_answer, run_info, write_items,
+    WatchedImage, code_text, needed_check_answer, open_watched, put_macbinary, refused_text,
+    repair_answer, run_info, write_items,
 };
 use hfs_console::{print_lines, tell_hint};
 use hfs_format::{FormatPlan, format};

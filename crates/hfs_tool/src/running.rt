@@ -4,10 +4,11 @@ use crate::progress::Progress;
 use crate::saving::{save, save_as_read, tell};
 use crate::words::RunWords;
 use hfs_commands::{
-    Fault, Leftover, Ran, RanImage, RunImage, Status, WatchedImage, load_script,
-    open_watched, run_script_at, script_lines, write_answers,
+    Fault, Leftover, Ran, RanImage, RunImage, Status, WatchedImage, load_script, open_watched,
+    run_script_at, script_lines, write_answers,
 };
 use hfs_console::print_lines;
+use hfs_files::WatchedFile;
 use std::fs::File;
 use std::io::IsTerminal;
 use std::sync::Wait;
