@@ -8,6 +8,7 @@ use hfs_commands::{
     run_script_at, script_lines, write_answers,
 };
 use hfs_console::print_lines;
+use hfs_files::WatchedFile;
 use std::fs::File;
 use std::io::IsTerminal;
 use std::sync::Wait;
