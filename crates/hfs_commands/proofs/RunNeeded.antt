@@ -7,6 +7,9 @@ use Rattle.hfs_needed.specs.Known.{OfKnown}
 use Rattle.hfs_needed_runs.specs.declared.running.NeededRan.{NeededRan}
 use Rattle.hfs_needed_runs.specs.NamedForks.{HasNamedForks}
 use Rattle.hfs_needed_runs.specs.Naming.{read_forks}
+use Rattle.hfs_needed_runs.specs.OnImage.{IsLinesCopy}
+use Rattle.hfs_needed_runs.proofs.ForksOfLines.{named_forks_are_the_images}
+use Rattle.hfs_needed_runs.proofs.OnImage.{workers_read_the_image}
 use Rattle.hfs_needed_runs.specs.NeededRuns.{AreLinesRunOver, AreLinesRunOverAs}
 use Rattle.hfs_runs.specs.declared.fault.ScriptFault.{ScriptFault}
 use Rattle.hfs_runs.specs.declared.fault.ScriptFault.TheVariants as run
@@ -45,21 +48,34 @@ module _ (known : Option (List ℕ)) (len : ℕ) (old new : WorkingVolume) (is :
     pub sound-new : IsSound (copy_of new.read len)
     sound-new = opened-sound known len right new is-new
 
-    pub needed-run : (lines : List ScriptLine) (patch : Numbered) (text : List ℕ) (all : Bool) (ran : NeededRan) → patch ≡ ran.patch → text ≡ text_of_pieces ran.answers
-        → all ≡ ran.whole → AreLinesRunOverAs (copy_of new.read len) lines ran → (read_forks lines ≡ true → HasNamedForks (sparse new.read) lines new.read)
+    -- the forks that lines name are those of each image that has what was read
+    lines-copy : (lines : List ScriptLine) → (read_forks lines ≡ true → HasNamedForks (sparse new.read) lines new.read) → (image : List ℕ) → length image ≡ len
+        → IsOf image new.read → IsLinesCopy lines (copy_of new.read len) image
+    lines-copy lines forks image long of = named_forks_are_the_images lines len new image mountable-new right forks long of
+
+    pub needed-run : (lines : List ScriptLine) (patch : Numbered) (text : List ℕ) (all shown : Bool) (ran : NeededRan) → patch ≡ ran.patch → text ≡ text_of_pieces ran.answers
+        → all ≡ ran.whole → shown ≡ ran.shown → AreLinesRunOverAs (copy_of new.read len) lines ran
+        → (read_forks lines ≡ true → HasNamedForks (sparse new.read) lines new.read)
         → ((image : List ℕ) → length image ≡ len → IsOf image new.read → CarriesOver ran.patch (copy_of new.read len) image)
-        → IsNeededRunOf known len lines patch text all
-    needed-run lines patch text all ran same-patch same-text same-all over forks carried = record {
+        → IsNeededRunOf known len lines patch text all shown
+    needed-run lines patch text all shown ran same-patch same-text same-all same-shown over forks carried = record {
       read = new.read;
-      shown = ran.shown;
-      ran = subst (λ (b : Bool). AreLinesRunOver (copy_of new.read len) lines patch text b ran.shown) (sym same-all)
-          (subst (λ (t : List ℕ). AreLinesRunOver (copy_of new.read len) lines patch t ran.whole ran.shown) (sym same-text)
-          (subst (λ (p : Numbered). AreLinesRunOver (copy_of new.read len) lines p (text_of_pieces ran.answers) ran.whole ran.shown) (sym same-patch) over));
+      ran = here;
       forks = forks;
+      of = is-new.of;
+      same = lines-copy lines forks;
+      answered = λ image long of.
+          workers_read_the_image (copy_of new.read len) image lines here.volume text all shown (lines-copy lines forks image long of) here.ran;
       copy = opened-copy known len right new is-new;
       carried = by known is-new.of;
     }
       where
+        here : AreLinesRunOver (copy_of new.read len) lines patch text all shown
+        here = subst (λ (b : Bool). AreLinesRunOver (copy_of new.read len) lines patch text all b) (sym same-shown)
+            (subst (λ (b : Bool). AreLinesRunOver (copy_of new.read len) lines patch text b ran.shown) (sym same-all)
+            (subst (λ (t : List ℕ). AreLinesRunOver (copy_of new.read len) lines patch t ran.whole ran.shown) (sym same-text)
+            (subst (λ (p : Numbered). AreLinesRunOver (copy_of new.read len) lines p (text_of_pieces ran.answers) ran.whole ran.shown) (sym same-patch) over)))
+
         by : (o : Option (List ℕ)) → IsOfKnown o new.read → OfKnown o len (CarriesOver patch (copy_of new.read len))
         by None of = tt
         by (Some image) of = λ long. subst (λ (p : Numbered). CarriesOver p (copy_of new.read len) image) (sym same-patch) (carried image long of)

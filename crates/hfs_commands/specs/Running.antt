@@ -1,17 +1,19 @@
 -- Runs of scripts on images of which only what they need is read.
-use Rattle.std.specs.Prelude.{◌≡◌, ℕ, ◌≤◌, ◌/◌, ◌⊎◌, Bool, true, List, Option}
+use Rattle.std.specs.Prelude.{◌≡◌, ℕ, ◌≤◌, ◌/◌, ◌⊎◌, Bool, true, List, length, Option}
 use Rattle.std.specs.Borrow.{Bor}
 use Rattle.hfs_blocks.specs.Layers.{Numbered}
 use Rattle.hfs_check.specs.Sound.{IsSound}
+use Rattle.hfs_needed.specs.Gathered.{IsOfKnown}
 use Rattle.hfs_needed.specs.Known.{OfKnown}
 use Rattle.hfs_needed_runs.specs.NamedForks.{HasNamedForks}
 use Rattle.hfs_needed_runs.specs.Naming.{read_forks}
 use Rattle.hfs_needed_runs.specs.NeededRuns.{AreLinesRunOver}
+use Rattle.hfs_needed_runs.specs.OnImage.{AreAllOnImage, IsLinesCopy}
 use Rattle.hfs_runs.specs.Faults.{fault_of_script}
 use Rattle.hfs_scripts.specs.declared.fault.ScriptFault.{ScriptFault}
 use Rattle.hfs_scripts.specs.declared.lines.ScriptLine.{ScriptLine}
 use Rattle.hfs_scripts.specs.Scripts.{script_of, IsFaultOf}
-use Rattle.hfs_sparse.specs.Sparse.{sparse}
+use Rattle.hfs_sparse.specs.Sparse.{sparse, IsOf}
 use Rattle.hfs_volume.specs.Image.{copy_of}
 use Rattle.hfs_working.specs.declared.opening.WorkingVolume.{WorkingVolume}
 use Rattle.hfs_working.specs.Opened.{IsWorkingOf}
@@ -38,13 +40,17 @@ pub record IsRunnable (known : Option (List ℕ)) (len : ℕ) (working : Working
 abbrev pub IsScriptFault : ℕ → List ℕ → Fault → Type 0
 IsScriptFault now bytes why = (fault : ScriptFault) × IsFaultOf (script_of now bytes) fault × (why ≡ fault_of_run (fault_of_script fault))
 
--- lines were run on a copy of an image of so many bytes, which has the forks that they may read. Where the image's bytes are known, the copy has its working
--- blocks, and what was changed, laid over the image, agrees with it and holds what the lines made of the copy, but for the bytes of forks.
-pub record IsNeededRunOf (known : Option (List ℕ)) (len : ℕ) (lines : List ScriptLine) (patch : Numbered) (text : List ℕ) (whole : Bool) : Type 0 where
+-- lines were run on a copy of an image of so many bytes, which has the forks that they may read. Of each image that has what was read the copy has the working
+-- blocks and these forks, and what workers were answered is what that image answers; the image is one of these where its bytes are known. There what was
+-- changed, laid over the image, agrees with it and holds what the lines made of the copy, but for the bytes of forks.
+pub record IsNeededRunOf (known : Option (List ℕ)) (len : ℕ) (lines : List ScriptLine) (patch : Numbered) (text : List ℕ) (whole shown : Bool) : Type 0 where
   pub read : Numbered
-  pub shown : Bool
   pub ran : AreLinesRunOver (copy_of read len) lines patch text whole shown
   pub forks : read_forks lines ≡ true → HasNamedForks (sparse read) lines read
+  pub of : IsOfKnown known read
+  pub same : (image : List ℕ) → length image ≡ len → IsOf image read → IsLinesCopy lines (copy_of read len) image
+  pub answered : (image : List ℕ) → length image ≡ len → IsOf image read
+      → AreAllOnImage lines (copy_of read len) image ran.volume text whole shown ran.ran
   pub copy : OfKnown known len (IsWorkingCopy (copy_of read len))
   pub carried : OfKnown known len (CarriesOver patch (copy_of read len))
 

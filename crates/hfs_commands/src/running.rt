@@ -55,6 +55,8 @@ pub struct RanImage<S: BlockSource> {
     pub answers: Answers,
     /// Whether each line was answered.
     pub whole: bool,
+    /// Whether viewers were shown each change at once, and none later for want of memory.
+    pub shown: bool,
 }
 
 /// What a run made, with the image that it was made of.
@@ -64,7 +66,9 @@ fn ran_image<S: BlockSource>(alloc: Global, source: S, len: u64, ran: NeededRan)
     ensures patch { result.image.patch ≡ ran.patch }
     ensures answers { result.answers ≡ ran.answers }
     ensures whole { result.whole ≡ ran.whole }
+    ensures shown { result.shown ≡ ran.shown }
 {
+    let at_once = ran.shown;
     let NeededRan {
         patch,
         answers,
@@ -81,6 +85,7 @@ fn ran_image<S: BlockSource>(alloc: Global, source: S, len: u64, ran: NeededRan)
         image,
         answers,
         whole,
+        shown: at_once,
     }
 }
 
@@ -148,7 +153,7 @@ impl<S: BlockSource + Watched + Drop> RunImage<S> {
     ) -> Result<RanImage<S>, Fault<'a>>
         requires { All (λ line. IsSmall line.caller) script }
         ensures ran { IfOk result (λ ran. IsNeededRunOf self.known self.len script
-            ran.image.patch (text_of_pieces ran.answers) ran.whole) }
+            ran.image.patch (text_of_pieces ran.answers) ran.whole ran.shown) }
         ensures fault { IfErr result (IsNeededFault path.entry) }
     {
         let RunImage {

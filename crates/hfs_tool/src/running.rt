@@ -100,6 +100,7 @@ fn print_ran_image<'a>(
         image,
         answers,
         whole,
+        shown: _,
     } = ran;
     let mut image = image;
     let leftover = match run.out {

@@ -18,9 +18,9 @@ pub returns-in-Ok-run_needed_at-clause-ran : goal.returns-in-Ok-run_needed_at-cl
 returns-in-Ok-run_needed_at-clause-ran g c =
     let known = g.S.BlockSource.image c.self.inside.source in
     let made = c.ran_image.result in
-    subst (λ (s : RunValue). IsNeededRunOf s.known s.len c.args.script made.image.patch (text_of_pieces made.answers) made.whole)
+    subst (λ (s : RunValue). IsNeededRunOf s.known s.len c.args.script made.image.patch (text_of_pieces made.answers) made.whole made.shown)
     c.self.view_is
     (needed-run known c.self.inside.len c.self.inside.working c.fetch_named_forks.new.working c.self.invariant
     (c.fetch_named_forks.ensures.working known (c.self.inside.len / 512) refl c.self.invariant.is)
-    c.args.script made.image.patch (text_of_pieces made.answers) made.whole c.in-Ok-run_needed_at.ran c.ran_image.ensures.patch
-    (ap text_of_pieces c.ran_image.ensures.answers) c.ran_image.ensures.whole c.in-Ok-run_needed_at.ensures.ran c.in-Ok.ensures.forks c.in-Ok-run_needed_at.ensures.carried)
+    c.args.script made.image.patch (text_of_pieces made.answers) made.whole made.shown c.in-Ok-run_needed_at.ran c.ran_image.ensures.patch
+    (ap text_of_pieces c.ran_image.ensures.answers) c.ran_image.ensures.whole c.ran_image.ensures.shown c.in-Ok-run_needed_at.ensures.ran c.in-Ok.ensures.forks c.in-Ok-run_needed_at.ensures.carried)
