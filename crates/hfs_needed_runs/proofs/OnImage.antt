@@ -41,13 +41,14 @@ in-at (x ∷ xs) (suc k) d lt = inr (in-at xs k d (omega (arith, lt)))
 in-lines : (caller : Caller) (lines : List ScriptLine) (c : Call) → In c (calls_of caller lines) → In c (line_calls lines)
 unfolding calls_of
 in-lines caller [] c i = i
-in-lines caller (line ∷ lines) c i = by (is_same line.caller caller) i
+in-lines caller (line ∷ lines) c i = by (λ there. in-lines caller lines c there) (is_same line.caller caller) i
   where
-    by : (b : Bool) → In c (map (λ (l : ScriptLine). l.call) (cond b (line ∷ filter (λ (l : ScriptLine). is_same l.caller caller) lines) (filter (λ (l : ScriptLine). is_same l.caller caller) lines)))
+    by : (In c (map (λ (l : ScriptLine). l.call) (filter (λ (l : ScriptLine). is_same l.caller caller) lines)) → In c (line_calls lines)) → (b : Bool)
+        → In c (map (λ (l : ScriptLine). l.call) (cond b (line ∷ filter (λ (l : ScriptLine). is_same l.caller caller) lines) (filter (λ (l : ScriptLine). is_same l.caller caller) lines)))
         → In c (line_calls (line ∷ lines))
-    by true (inl same) = inl same
-    by true (inr there) = inr (in-lines caller lines c there)
-    by false there = inr (in-lines caller lines c there)
+    by rest true (inl same) = inl same
+    by rest true (inr there) = inr (rest there)
+    by rest false there = inr (rest there)
 
 -- where one of the calls reads a fork, the lines do
 reads-of : (lines : List ScriptLine) (c : Call) → In c (line_calls lines) → reads_fork c ≡ true → read_forks lines ≡ true
