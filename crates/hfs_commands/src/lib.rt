@@ -50,7 +50,7 @@ pub use opened_file::{OpenedFile, StoredFile, content_of};
 pub use patched_image::PatchedImage;
 pub use paths::ShownPath;
 pub use repairing::{RepairAnswer, repair_answer};
-pub use running::{RanImage, RunImage, script_lines};
+pub use running::{RanImage, RefusedRun, RunImage, script_lines};
 pub use saving::{Saved, save_file, save_new, save_read};
 pub use seen_files::{PartBlocks, PartImage, open_seen, part_blocks};
 pub use volume_files::{FilePart, open_asked, open_file, open_part, part_of};

@@ -1,5 +1,6 @@
 //! Images in files that are looked at again behind the last read.
 ghost use Rattle.std.specs.Prelude.{◌≡◌, ◌∷◌, IfOk, OnOk};
+ghost use Rattle.hfs_source.specs.Images.{OfEach};
 ghost use Rattle.hfs_files.specs.Watches.{IsSettled, looked_at};
 
 use crate::stamp::Stamp;
@@ -9,13 +10,15 @@ use std::io;
 use std::io::ErrorKind;
 
 /// What can be looked at again behind the last read.
-pub trait Watched {
+pub trait Watched: BlockSource {
     /// It is as it was when it was opened, as far as was looked, and it was looked at behind all that was read.
     ghost settled: { Self → Type 0 };
 
     /// Looks whether it is as it was when it was opened. Error: it isn't, or that can't be told.
     fn look_again(&mut self) -> io::Result<()>
-        ensures { OnOk result (settled self.new) };
+        ensures settled { OnOk result (settled self.new) }
+        ensures narrows { OfEach (Self.Holds self.new) (Self.Holds self.old) }
+        ensures image { Self.image self.new ≡ Self.image self.old };
 }
 
 /// An image that is read where it is needed, and is looked at again.

@@ -1,14 +1,13 @@
 -- The forks of the files that lines name, where they were read, are those of each image that has what was read.
-use Rattle.std.proofs.Common.{◌≡◌, ◌≢◌, ◌⊎◌, inl, inr, ⊎_elim, ℕ, zero, suc, ◌+◌, ◌-◌, ◌*◌, ◌/◌, ◌<◌, ◌≤◌, Bool, true, false, cond, not, List, [], ◌∷◌, ◌++◌, length, take, map, Option, Some, None, IsSome, Result, Ok, Err, unwrap_or, eqb, leb, refl, sym, ap, subst, ◌∙◌, arith, true≢false}
-use Rattle.std.specs.Prelude.{IfOk, ◌&&◌, ◌||◌, ◌==◌, nat_le}
+use Rattle.std.proofs.Common.{◌≡◌, ◌≢◌, inl, inr, ⊎_elim, ℕ, zero, suc, ◌+◌, ◌-◌, ◌*◌, ◌/◌, ◌<◌, ◌≤◌, Bool, true, false, cond, not, List, [], ◌∷◌, ◌++◌, length, take, map, Option, Some, None, IsSome, Result, Ok, Err, unwrap_or, eqb, leb, refl, sym, ap, subst, ◌∙◌, arith, true≢false}
+use Rattle.std.specs.Prelude.{IfOk, ◌&&◌, ◌||◌, ◌==◌}
 use Rattle.std.specs.FinMap as fin
-use Rattle.std.specs.List.{flat_map, list_any}
+use Rattle.std.specs.List.{list_any}
 use Rattle.std.specs.Option.{option_map, option_map_or}
 use Rattle.std.proofs.lemmas.Bool.{and_from, and_parts, or_cases, or_left, or_right, eqb-true, eq-eqb, le-leb, leb-true}
 use Rattle.std.proofs.lemmas.Bool.Decides.{leb_tells}
 use Rattle.std.proofs.lemmas.List.{take-append-le, take_at, drop_at}
 use Rattle.std.proofs.Math.Seq.{take-add}
-use Rattle.hfs_fields.specs.declared.extent.Extent.{Extent}
 use Rattle.hfs_fields.specs.declared.file_record.FileRecord.{FileRecord}
 use Rattle.hfs_fields.specs.declared.file_record.ForkRecord.{ForkRecord}
 use Rattle.hfs_fields.specs.declared.mdb.Mdb.{Mdb}
@@ -23,11 +22,10 @@ use Rattle.hfs_model.specs.declared.call.Call.{Call}
 use Rattle.hfs_model.specs.declared.item.Item.{Item}
 use Rattle.hfs_model.specs.declared.reply.Reply.{Reply}
 use Rattle.hfs_model.specs.declared.codes.TheConstants.{BAD_NAME, NOT_FOUND, NOT_A_FOLDER}
-use Rattle.hfs_model.specs.Lawful.{Has}
 use Rattle.hfs_model.specs.Replies.{refusal}
 use Rattle.hfs_model.specs.Volume.{Volume}
 use Rattle.hfs_blocks.specs.Blocks.{block_at, block_count, nodes_in, length-block_at}
-use Rattle.hfs_blocks.specs.Layers.{Numbered, changes, AreWithin}
+use Rattle.hfs_blocks.specs.Layers.{Numbered, changes}
 use Rattle.hfs_space.specs.declared.fork_kind.ForkKind.{ForkKind}
 use Rattle.hfs_space.specs.declared.fork_kind.ForkKind.TheVariants.{Data, Resource}
 use Rattle.hfs_space.specs.Extents.{Overflow, fork_extents, fork_byte}
@@ -35,9 +33,9 @@ use Rattle.hfs_space.specs.ForkLaws.{block_numbers}
 use Rattle.hfs_space.specs.Forks.{joined, fork_bytes}
 use Rattle.hfs_space.specs.TreeFiles.{node_count, tree_blocks}
 use Rattle.hfs_space.specs.TreeKeys.{overflow_of}
-use Rattle.hfs_catalog.specs.Items.{Contents, folder_of, file_of, item_of, items_in}
+use Rattle.hfs_catalog.specs.Items.{Contents, folder_of, file_of, item_of}
 use Rattle.hfs_catalog.specs.Lookups.{child_named, is_child_named}
-use Rattle.hfs_catalog.specs.Records.{Record, Catalog, has_thread, is_child_of, item_with}
+use Rattle.hfs_catalog.specs.Records.{Record, Catalog, has_thread, is_child_of}
 use Rattle.hfs_catalog.specs.Sound.{IsSoundCatalog, IsRoot, IsGiven}
 use Rattle.hfs_catalog.proofs.DistinctLemmas.{later_from_distinct}
 use Rattle.hfs_catalog.proofs.Found.{only}
@@ -45,7 +43,7 @@ use Rattle.hfs_catalog.proofs.LawsProved.{items_are_records}
 use Rattle.hfs_catalog.proofs.NameOrder.{found_by_id}
 use Rattle.hfs_check.specs.declared.trees.VolumeTrees.{VolumeTrees}
 use Rattle.hfs_check.specs.Parts.{Blocks, mdb_in, overflow_in, catalog_in}
-use Rattle.hfs_check.specs.Sound.{IsImageLength, AreBlocksSound}
+use Rattle.hfs_check.specs.Sound.{IsImageLength}
 use Rattle.hfs_check.specs.VolumeOf.{bytes_in, contents_in, volume_in, volume_of}
 use Rattle.hfs_check.proofs.LawsProved.{catalog_is_sound}
 use Rattle.hfs_needed.specs.Needed.{AgreeOn}
@@ -56,18 +54,16 @@ use Rattle.hfs_sparse.specs.Sparse.{sparse, zero_block, HasEach, IsOf}
 use Rattle.hfs_sparse.proofs.SparseLemmas.{each-of}
 use Rattle.hfs_volume.specs.Image.{copy_of}
 use Rattle.hfs_volume.proofs.CopyLemmas.{block-copy, length-copy}
-use Rattle.hfs_working.specs.declared.opening.WorkingVolume.{WorkingVolume}
 use Rattle.hfs_working.specs.Opened.{IsWorking}
 use Rattle.hfs_working.specs.Working.{working_blocks, IsWorkingCopy}
 use Rattle.hfs_working.proofs.AlikeVolumes.{FilesAreLong, FilesAreSame, volumes-alike}
 use Rattle.hfs_working.proofs.Copies.{each-image, is-copy}
 use Rattle.hfs_working.proofs.SameWork as work
 use Rattle.hfs_alike.specs.Alike.{AreAlike}
-use Rattle.hfs_alike.specs.Named.{named_by, StandsAt, KeepsNamed}
+use Rattle.hfs_alike.specs.Named.{named_by, KeepsNamed}
 use Rattle.hfs_scripts.specs.declared.lines.ScriptLine.{ScriptLine}
 use Rattle.hfs_needed_runs.specs.NamedForks.{HasNamedForks, OfNamed, file_blocks, fork_blocks}
-use Rattle.hfs_needed_runs.specs.Naming.{read_forks}
-use Rattle.hfs_needed_runs.specs.OnImage.{IsLinesCopy, NamedForksAreTheImages, ShareForks, line_calls}
+use Rattle.hfs_needed_runs.specs.OnImage.{NamedForksAreTheImages, ShareForks, line_calls}
 use Rattle.hfs_needed_runs.proofs.ForkPlaces.{not-dir, item-is}
 use Rattle.hfs_needed_runs.proofs.SameNames.{name-kept}
 

@@ -1,6 +1,5 @@
 -- What a run over a copy of an image answers its workers is what the image answers.
-use Rattle.std.proofs.Common.{◌≡◌, ◌⊎◌, inl, inr, ⊎_elim, ℕ, zero, suc, ◌+◌, ◌<◌, Bool, true, false, cond, List, [], ◌∷◌, ◌++◌, map, filter, length, get_or, refl, sym, ap, subst, ◌∙◌, arith}
-use Rattle.std.specs.Prelude.{◌||◌}
+use Rattle.std.proofs.Common.{◌≡◌, inl, inr, ⊎_elim, ℕ, zero, suc, ◌+◌, ◌<◌, Bool, true, false, cond, List, [], ◌∷◌, map, filter, length, get_or, refl, sym, ap, subst, ◌∙◌, arith}
 use Rattle.std.proofs.lemmas.Bool.{or_left, or_right}
 use Rattle.std.proofs.lemmas.List.{length-map, get_or-map}
 use Rattle.logbook.specs.Pages.{Book}
@@ -13,7 +12,6 @@ use Rattle.hfs_model.specs.Runs.{after}
 use Rattle.hfs_model.specs.Volume.{Volume}
 use Rattle.hfs_check.specs.VolumeOf.{volume_of}
 use Rattle.hfs_published.specs.Tolds.{ToldState}
-use Rattle.hfs_volume.specs.Image.{ImageValue}
 use Rattle.hfs_volume.specs.Serving.{free_in, depth_in}
 use Rattle.hfs_alike.specs.Alike.{no_file, reads_fork}
 use Rattle.hfs_alike.proofs.LawsProved.{alike_after, alike_within}
@@ -22,13 +20,12 @@ use Rattle.hfs_working.proofs.LawsProved.{copies_answer}
 use Rattle.hfs_scripts.specs.declared.lines.Caller.{Caller}
 use Rattle.hfs_scripts.specs.declared.lines.Caller.TheVariants.{Worker}
 use Rattle.hfs_scripts.specs.declared.lines.ScriptLine.{ScriptLine}
-use Rattle.hfs_scripts.specs.Callers.{calls_of, is_same, workers}
+use Rattle.hfs_scripts.specs.Callers.{calls_of, is_same}
 use Rattle.hfs_shared.specs.Desks.{PassState, pass_state}
 use Rattle.hfs_shared.specs.Shareds.{IsReplyOf}
 use Rattle.hfs_shared.specs.Works.{IsWork}
-use Rattle.hfs_runs.specs.Runs.{AreLinesRun}
 use Rattle.hfs_needed_runs.specs.Naming.{read_forks}
-use Rattle.hfs_needed_runs.specs.OnImage.{AreOfWhereRead, AreWorkersOnImage, IsLinesCopy, IsReplyOnImage, IsSomeReplyOnImage, StandsOnImage, WorkersReadTheImage, line_calls}
+use Rattle.hfs_needed_runs.specs.OnImage.{AreOfWhereRead, IsLinesCopy, IsReplyOnImage, IsSomeReplyOnImage, WorkersReadTheImage, line_calls}
 
 -- ---- calls of lines
 
@@ -41,13 +38,14 @@ in-at (x ∷ xs) (suc k) d lt = inr (in-at xs k d (omega (arith, lt)))
 in-lines : (caller : Caller) (lines : List ScriptLine) (c : Call) → In c (calls_of caller lines) → In c (line_calls lines)
 unfolding calls_of
 in-lines caller [] c i = i
-in-lines caller (line ∷ lines) c i = by (is_same line.caller caller) i
+in-lines caller (line ∷ lines) c i = by (λ there. in-lines caller lines c there) (is_same line.caller caller) i
   where
-    by : (b : Bool) → In c (map (λ (l : ScriptLine). l.call) (cond b (line ∷ filter (λ (l : ScriptLine). is_same l.caller caller) lines) (filter (λ (l : ScriptLine). is_same l.caller caller) lines)))
+    by : (In c (map (λ (l : ScriptLine). l.call) (filter (λ (l : ScriptLine). is_same l.caller caller) lines)) → In c (line_calls lines)) → (b : Bool)
+        → In c (map (λ (l : ScriptLine). l.call) (cond b (line ∷ filter (λ (l : ScriptLine). is_same l.caller caller) lines) (filter (λ (l : ScriptLine). is_same l.caller caller) lines)))
         → In c (line_calls (line ∷ lines))
-    by true (inl same) = inl same
-    by true (inr there) = inr (in-lines caller lines c there)
-    by false there = inr (in-lines caller lines c there)
+    by rest true (inl same) = inl same
+    by rest true (inr there) = inr (rest there)
+    by rest false there = inr (rest there)
 
 -- where one of the calls reads a fork, the lines do
 reads-of : (lines : List ScriptLine) (c : Call) → In c (line_calls lines) → reads_fork c ≡ true → read_forks lines ≡ true

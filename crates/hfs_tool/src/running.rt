@@ -86,7 +86,7 @@ fn run_in_file<'a, T: Threads + Wait + Sync>(
             progress.end(bytes.len());
             print_ran_image(rt, run, ran?)
         }
-        Err(why) => Err(Fault::Refused(why)),
+        Err(refused) => Err(Fault::Refused(refused.why)),
     }
 }
 
