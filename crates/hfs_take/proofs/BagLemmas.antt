@@ -102,17 +102,17 @@ bag-same image told words f g a b =
 -- ---- what was given of an image's bag
 
 -- what holds of the bag that these facts make holds of each that tells the same
-pub of-facts : (image : List ℕ) (line : Option (List ℕ)) (words : TakeWords) (facts : BagFacts) (P : List ShelfEntry → Type 0) → TellsOf image line words facts
+pub of_facts : (image : List ℕ) (line : Option (List ℕ)) (words : TakeWords) (facts : BagFacts) (P : List ShelfEntry → Type 0) → TellsOf image line words facts
     → P (image_bag image facts) → OfBag line words P image
-of-facts image line words facts P tells given = λ other told. subst P (bag-same image line words facts other tells told) given
+of_facts image line words facts P tells given = λ other told. subst P (bag-same image line words facts other tells told) given
 
 -- a part of the payload was given
-pub payload-part : (image : List ℕ) (line : Option (List ℕ)) (words : TakeWords) (given now : List ShelfEntry)
+pub payload_part : (image : List ℕ) (line : Option (List ℕ)) (words : TakeWords) (given now : List ShelfEntry)
     → IsBeginning now (given ++ payload (bag_items (entries_in image))) → OfBag line words (λ bag. IsBeginning now (given ++ bag)) image
-payload-part image line words given now part = λ facts told.
+payload_part image line words given now part = λ facts told.
     let items = bag_items (entries_in image) in
     part_first given now (payload items) (tag_files items (record { items = table_text (told_rows (entries_in image)); remains = None }) facts) part
 
 -- nothing of a bag was given
-pub nothing-given : (image : List ℕ) (line : Option (List ℕ)) (words : TakeWords) (given : List ShelfEntry) → OfBag line words (λ bag. IsBeginning given (given ++ bag)) image
-nothing-given image line words given = λ facts told. begins_appended given (image_bag image facts)
+pub nothing_given : (image : List ℕ) (line : Option (List ℕ)) (words : TakeWords) (given : List ShelfEntry) → OfBag line words (λ bag. IsBeginning given (given ++ bag)) image
+nothing_given image line words given = λ facts told. begins_appended given (image_bag image facts)

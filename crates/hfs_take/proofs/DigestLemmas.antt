@@ -30,15 +30,15 @@ told-some None len made is = tt
 told-some (Some image) len made is = λ same. ap Some (is same)
 
 -- what was made of each image is told of it
-pub told-each : (Holds : List ℕ → Type 0) (len : ℕ) (made : List ℕ) → OfEach Holds (HasLength len) → EachKnown Holds (λ known. IsDigestOf known len made)
+pub told_each : (Holds : List ℕ → Type 0) (len : ℕ) (made : List ℕ) → OfEach Holds (HasLength len) → EachKnown Holds (λ known. IsDigestOf known len made)
     → OfEach Holds (λ image. Some made ≡ digest_told true image)
-told-each Holds len made long each = λ image h. ap Some (each image h (long image h))
+told_each Holds len made long each = λ image h. ap Some (each image h (long image h))
 
 -- what was planned comes
-pub planned-made : {S : Type 0} (Holds : S → List ℕ → Type 0) (beside : Option (SeenBlocks S)) (is_digested : Bool) (told : Option (List ℕ)) (image : List ℕ)
+pub planned_made : {S : Type 0} (Holds : S → List ℕ → Type 0) (beside : Option (SeenBlocks S)) (is_digested : Bool) (told : Option (List ℕ)) (image : List ℕ)
     → beside ≡ None → IsPlanned beside is_digested told image → told ≡ digest_told is_digested image
-planned-made Holds None is_digested told image none planned = planned
-planned-made Holds (Some beside) is_digested told image none planned = absurd (some-none beside none)
+planned_made Holds None is_digested told image none planned = planned
+planned_made Holds (Some beside) is_digested told image none planned = absurd (some-none beside none)
   where
     Is : {S : Type 0} → Option (SeenBlocks S) → Type 0
     Is None = ⊥

@@ -30,17 +30,17 @@ head-same : (image head : List ℕ) → head ≡ take 1536 image → info_text h
 unfolding info_text
 head-same image head is = ap (λ (bytes : List ℕ). info_lines (mdb_of bytes)) (ap (λ (bytes : List ℕ). take 162 (drop 1024 bytes)) is ∙ field-bytes image)
 
-pub report-told : (image head lines text : List ℕ) (report : Report) → HasAt 0 head image → length head ≡ 1536
+pub report_told : (image head lines text : List ℕ) (report : Report) → HasAt 0 head image → length head ≡ 1536
     → report ≡ report_of image → lines ≡ check_lines report → text ≡ info_text head ++ lines → text ≡ report_text image
-report-told image head lines text report held long told checked is =
+report_told image head lines text report held long told checked is =
     is ∙ (λ i. head-same image head (held ∙ ap (λ n. take n image) long) i ++ (checked ∙ ap check_lines told) i)
 
 -- of an image, with the name of its root
-pub tells-of : (image : List ℕ) (len : ℕ) (line : Option (List ℕ)) (words : TakeWords) (facts : BagFacts) (root : Info) → BeginsWith root (told_rows (entries_in image))
+pub tells_of : (image : List ℕ) (len : ℕ) (line : Option (List ℕ)) (words : TakeWords) (facts : BagFacts) (root : Info) → BeginsWith root (told_rows (entries_in image))
     → length image ≡ len → facts.identifier.now ≡ plain_text root.name → facts.program.now ≡ words.program.now → facts.image.now ≡ image_name words.image.now
     → text_in facts.volume ≡ line → text_in facts.directory ≡ None → facts.bytes ≡ len → facts.digest ≡ digest_told words.is_digested image
     → facts.report.now ≡ report_text image → TellsOf image line words facts
-tells-of image len line words facts root begins long identifier program name volume directory bytes digest report = record {
+tells_of image len line words facts root begins long identifier program name volume directory bytes digest report = record {
   identifier_is = identifier ∙ ap plain_text (root-named root _ begins);
   program_is = program;
   image_is = name;

@@ -22,6 +22,7 @@ use std::alloc::Global;
 use std::thread::{Threads, join_mut};
 
 /// The digest of the `len` bytes of an image, where it is to be made of it at once.
+#[tactic(auto, using(crate::proofs::DigestLemmas::told_each))]
 pub(crate) fn digest_at_once<S: PlacedBlocks>(
     alloc: Global,
     image: &mut SeenImage<S>,
@@ -77,6 +78,7 @@ fn give_beside<R: Threads, D: ImageBlocks + Send, T: Shelf, B: BagSource>(
 
 /// Gives the payload of a bag, and answers what is told of the image's digest, too: what was made of it, or what is made of the source beside it.
 /// Faults: the payload's, and then those of the digest.
+#[tactic(auto, using(crate::proofs::DigestLemmas::planned_made))]
 pub(crate) fn give_first<R: Threads, S: PlacedBlocks + Send, T: Shelf, B: BagSource>(
     threads: &R,
     alloc: Global,

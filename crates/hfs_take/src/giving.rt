@@ -185,6 +185,7 @@ pub struct GivenBag<S: PlacedBlocks> {
 /// Gives a shelf the bag of an image: the items of its volume, and what these words tell of it. The digest is made in a thread of its own where
 /// the image was opened a second time. At a fault what was given is a beginning of the bag. All this of each image that has the bytes which were
 /// read, by either opening. Faults: reading the image, the shelf's, memory was refused; `TooLarge`.
+#[tactic(auto, using(crate::proofs::BagLemmas::nothing_given))]
 pub fn give_image<R: Threads, S: PlacedBlocks + Drop + Send, T: Shelf, W: Watch>(
     threads: &R,
     alloc: Global,

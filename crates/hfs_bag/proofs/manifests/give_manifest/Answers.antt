@@ -1,4 +1,5 @@
 use Rattle.std.proofs.Common.{List, [], ◌∷◌, codes, ap, ◌∙◌, subst, None}
+use Rattle.sha2.specs.Sha256.{sha256}
 use Rattle.hfs_shelves.specs.Entries.{IsBeginning, file}
 use Rattle.hfs_shelves.proofs.Beginnings.{begins_appended}
 use Rattle.hfs_bag.specs.Items.{BagItem}
@@ -39,3 +40,8 @@ returns-clause-whole g c = λ image h.
     c.in_ok-make_file.ensures.whole (g.S.Shelf.given c.list_items.new.shelf) (c.in_ok-list_items.ensures.whole image h)
     ∙ ap (λ (left : List BagItem). with_whole_file before (codes "manifest-sha256.txt") (manifest (items_entries left)))
     (c.in_ok-restart.ensures.restarted image (c.in_ok-list_items.ensures.narrows image h)).left
+
+pub returns-clause-digest : goal.returns-clause-digest
+returns-clause-digest g c = λ image h.
+    c.finalize.ensures (manifest (items_entries (g.B.BagSource.state c.restart.new.self image).left)) (c.in_ok-list_items.ensures.digest image h [] c.new-digest.ensures)
+    ∙ ap (λ (left : List BagItem). sha256 (manifest (items_entries left))) (c.in_ok-restart.ensures.restarted image (c.in_ok-list_items.ensures.narrows image h)).left

@@ -14,17 +14,17 @@ use Rattle.hfs_shelves.specs.Entries.{IsBeginning, ShelfEntry}
 use Rattle.hfs_take.specs.Bags.{text_in}
 use Rattle.hfs_take.specs.Digests.{HoldsBoth}
 use Rattle.hfs_take.specs.Faults.{IsFillFault}
-use Rattle.hfs_take.proofs.BagLemmas.{nothing-given, of-facts, payload-part}
-use Rattle.hfs_take.proofs.ToldLemmas.{tells-of}
+use Rattle.hfs_take.proofs.BagLemmas.{nothing_given, of_facts, payload_part}
+use Rattle.hfs_take.proofs.ToldLemmas.{tells_of}
 use Rattle.hfs_take.proofs.giving.give_items.Goals as goal
 
 pub returns-in_err-identifier-clause-part : goal.returns-in_err-identifier-clause-part
 returns-in_err-identifier-clause-part g c = each_err _ (HoldsBoth g.S.PlacedBlocks.Holds c.args.items.now.image c.args.beside.now)
-    (λ image h. nothing-given image (text_in c.args.line) c.args.words.now (g.T.Shelf.given c.args.shelf.now))
+    (λ image h. nothing_given image (text_in c.args.line) c.args.words.now (g.T.Shelf.given c.args.shelf.now))
 
 pub returns-in_err-first-clause-part : goal.returns-in_err-first-clause-part
 returns-in_err-first-clause-part g c = each_err _ (HoldsBoth g.S.PlacedBlocks.Holds c.give_first.new.items.image c.give_first.new.beside)
-    (λ image h. payload-part image (text_in c.args.line) c.args.words.now (g.T.Shelf.given c.args.shelf.now) (g.T.Shelf.given c.give_first.new.shelf)
+    (λ image h. payload_part image (text_in c.args.line) c.args.words.now (g.T.Shelf.given c.args.shelf.now) (g.T.Shelf.given c.give_first.new.shelf)
     (c.in_err-first.ensures.part image h.0))
 
 pub give_tag_files-requires : goal.give_tag_files-requires
@@ -51,11 +51,11 @@ returns-in_err-sums-clause-part g c = each_err _ (HoldsBoth g.S.PlacedBlocks.Hol
       digest = c.in_ok-first.first.1;
       report = c.as_str-3.result;
     } in
-    let tells = tells-of image c.args.len (text_in c.args.line) c.args.words.now facts items.root (c.requires.root image old) (c.requires.len image old)
+    let tells = tells_of image c.args.len (text_in c.args.line) c.args.words.now facts items.root (c.requires.root image old) (c.requires.len image old)
     (c.as_str.ensures.value ∙ c.in_ok-identifier.ensures ∙ ap plain_text c.bytes.ensures.bytes) refl (c.as_str-2.ensures.value ∙ (c.requires.told image old).name_is) refl refl refl
     (c.in_ok-first.ensures.digest image was h.1 (c.requires.len image old))
     (c.as_str-3.ensures.value ∙ (c.requires.told image old).report_is) in
-    of-facts image (text_in c.args.line) c.args.words.now facts (λ (bag : List ShelfEntry). IsBeginning now (before ++ bag)) tells
+    of_facts image (text_in c.args.line) c.args.words.now facts (λ (bag : List ShelfEntry). IsBeginning now (before ++ bag)) tells
     (bag_part before first now (source_of items.rows.left items.came items.reading image) (source_of after.rows.left after.came after.reading image) facts
     (c.in_ok-first.ensures.kept image was) (c.in_ok-first.ensures.whole image was) (c.in_err-sums.ensures.part image h.0)))
 
@@ -78,11 +78,11 @@ returns-clause-whole g c = λ image h.
       digest = c.in_ok-first.first.1;
       report = c.as_str-3.result;
     } in
-    let tells = tells-of image c.args.len (text_in c.args.line) c.args.words.now facts items.root (c.requires.root image old) (c.requires.len image old)
+    let tells = tells_of image c.args.len (text_in c.args.line) c.args.words.now facts items.root (c.requires.root image old) (c.requires.len image old)
     (c.as_str.ensures.value ∙ c.in_ok-identifier.ensures ∙ ap plain_text c.bytes.ensures.bytes) refl (c.as_str-2.ensures.value ∙ (c.requires.told image old).name_is) refl refl refl
     (c.in_ok-first.ensures.digest image was h.1 (c.requires.len image old))
     (c.as_str-3.ensures.value ∙ (c.requires.told image old).report_is) in
-    of-facts image (text_in c.args.line) c.args.words.now facts (λ (bag : List ShelfEntry). now ≡ before ++ bag) tells
+    of_facts image (text_in c.args.line) c.args.words.now facts (λ (bag : List ShelfEntry). now ≡ before ++ bag) tells
     (bag_whole before first now (source_of items.rows.left items.came items.reading image) (source_of after.rows.left after.came after.reading image) facts
     (c.in_ok-first.ensures.kept image was) (c.in_ok-first.ensures.whole image was) (c.in_ok-sums.ensures.whole image h.0))
 
