@@ -6,9 +6,9 @@ use Rattle.hfs_needed.specs.Seen.{HasNoFault}
 use Rattle.hfs_source.specs.Images.{HasLength, OfEach}
 use Rattle.hfs_sparse.specs.Seen.{EachKnown}
 use Rattle.hfs_finds.specs.declared.finds.Finds.{Finds}
-use Rattle.hfs_finds.specs.declared.looking.Looked.{Looked}
-use Rattle.hfs_finds.specs.declared.looking.Looked.TheVariants as looked
-use Rattle.hfs_finds.specs.declared.looking.RefusedImage.{RefusedImage}
+use Rattle.hfs_finds.specs.declared.refused.Looked.{Looked}
+use Rattle.hfs_finds.specs.declared.refused.Looked.TheVariants as looked
+use Rattle.hfs_finds.specs.declared.refused.RefusedImage.{RefusedImage}
 use Rattle.hfs_finds.specs.Finds.{IsFoundIn}
 
 -- this is found of each of these images that has so many bytes

@@ -1,5 +1,4 @@
 //! A look at an image: it is sound and opened, or it is refused, and what there is of it is found.
-ghost use Rattle.std.proofs.Props.{props};
 ghost use Rattle.std.specs.Prelude.{◌≡◌, ◌≤◌, IfOk, IfSome, Some};
 ghost use Rattle.hfs_check.specs.Faults.{fault_of};
 ghost use Rattle.hfs_finds.specs.Looks.{AreFindsOfEach, IsLookAt, IsRefusedAs};
@@ -8,34 +7,12 @@ ghost use Rattle.hfs_source.specs.Images.{OfEach};
 use crate::finding::find_in;
 use crate::finds::Finds;
 use crate::needed::{NeededFinds, needed_finds};
+use crate::refused::{Looked, RefusedImage};
 use hfs_check::MountFault;
 use hfs_needed::{NeededFault, SeenImage, Unopened};
 use hfs_source::PlacedBlocks;
 use hfs_sparse::{BlockSource, SeenBlocks, SparseFault};
 use std::alloc::Global;
-
-/// What comes of a look at an image.
-#[derive(Drop)]
-pub enum Looked<S: PlacedBlocks> {
-    /// It is sound, and opened.
-    Sound(SeenImage<S>),
-    /// It is refused.
-    Refused(RefusedImage<S>),
-}
-
-/// An image that is refused: where its blocks are read from, why, and what is found of it.
-#[derive(Drop)]
-pub struct RefusedImage<S: PlacedBlocks> {
-    /// Where its blocks are read from.
-    pub source: SeenBlocks<S>,
-    /// How many bytes it has.
-    pub len: u64,
-    /// Its first fault, in the order of docs/CHECKS.md.
-    pub why: MountFault,
-    /// What is found of it; None where there is no directory in it.
-    pub found: Option<Finds>,
-    ghost few: { IfSome found (λ _. len ≤ 2147483648) } by { Prim.hlevel props },
-}
 
 /// What is found of an image of `len` bytes, all of which are read at once, and let go. Errors: a read failed, memory was refused.
 #[tactic(auto, using(crate::proofs::LookLemmas::all_found))]
