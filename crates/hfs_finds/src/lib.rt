@@ -17,5 +17,5 @@ pub use forks::{Outside, fork_digest};
 pub use laws::needed_find_same;
 pub use looking::{finds_of, look};
 pub use needed::{NeededFinds, needed_finds};
-pub use refused::{Looked, RefusedImage};
+pub use refused::RefusedImage;
 pub use salvage::salvage_of;

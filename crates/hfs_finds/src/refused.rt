@@ -1,21 +1,11 @@
-//! An image that was looked at: sound, or refused with what is found of it.
+//! A refused image, with what is found of it.
 ghost use Rattle.std.proofs.Props.{props};
 ghost use Rattle.std.specs.Prelude.{◌≤◌, IfSome};
 
 use crate::finds::Finds;
 use hfs_check::MountFault;
-use hfs_needed::SeenImage;
 use hfs_source::PlacedBlocks;
 use hfs_sparse::SeenBlocks;
-
-/// What comes of a look at an image.
-#[derive(Drop)]
-pub enum Looked<S: PlacedBlocks> {
-    /// It is sound, and opened.
-    Sound(SeenImage<S>),
-    /// It is refused.
-    Refused(RefusedImage<S>),
-}
 
 /// An image that is refused: where its blocks are read from, why, and what is found of it.
 #[derive(Drop)]
