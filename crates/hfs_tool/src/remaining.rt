@@ -4,20 +4,23 @@ use crate::commands::print_code;
 use crate::words::{ForkPathWords, PathWords};
 use hfs_check::MountFault;
 use hfs_commands::{
-    Counted, Fault, FilePart, Format, OpenedFile, PartBlocks, SeenImage, StoredFile, Unopened,
-    Window, open_asked, part_blocks,
+    Counted, Fault, FilePart, Format, OpenedFile, PartBlocks, PartImage, SeenImage, StoredFile,
+    Unopened, Window, open_asked, part_blocks,
 };
 use hfs_console::tell_hint;
 use hfs_containers::{Asked, find_asked};
 use hfs_model::{Fork, Reply};
-use hfs_salvage::{Looked, RefusedImage, Remains, RescueWords, look, remains_of};
+use hfs_salvage::{RefusedImage, Remains, RescueWords, look, remains_of};
 use hfs_source::{BlocksOf, RangeBytes};
 use hfs_space::ForkKind;
 use std::alloc::Global;
 use std::fs::File;
 
 /// The blocks of a part of a file.
-type Part = BlocksOf<RangeBytes<OpenedFile<File>>>;
+pub type Part = BlocksOf<RangeBytes<OpenedFile<File>>>;
+
+/// What comes of a look: a sound image, or a refused one.
+pub type Looked = Result<PartImage<File>, RefusedImage<Part>>;
 
 /// What is looked at of a file, and whether it is the only range that it may be.
 struct Chosen {
@@ -72,9 +75,9 @@ fn open_several<'a>(
     rt: &HostRuntime,
     part: Window<OpenedFile<File>>,
     path: &'a str,
-) -> Result<Looked<Part>, Fault<'a>> {
+) -> Result<Looked, Fault<'a>> {
     match SeenImage::open(rt.alloc(), part_blocks(part)) {
-        Ok(image) => Ok(Looked::Sound(image)),
+        Ok(image) => Ok(Ok(image)),
         Err(Unopened { fault, source: _ }) => Err(Fault::of_needed(fault, path)),
     }
 }
@@ -85,7 +88,7 @@ pub fn look_at<'a>(
     rt: &HostRuntime,
     path: &'a str,
     volume: Option<u64>,
-) -> Result<Looked<Part>, Fault<'a>> {
+) -> Result<Looked, Fault<'a>> {
     let Chosen { part, is_one } = choose(rt, path, volume)?;
     if !is_one {
         return open_several(rt, part, path);
