@@ -1,5 +1,5 @@
 -- What is found of all bytes of an image is found of the image.
-use Rattle.std.proofs.Common.{◌≡◌, ◌∙◌, ℕ, List, length, take, drop, Option, Some, sym, subst, arith}
+use Rattle.std.proofs.Common.{◌≡◌, ◌∙◌, ℕ, List, length, Option, subst, arith}
 use Rattle.std.proofs.lemmas.List.{take_all}
 use Rattle.hfs_source.specs.Images.{HasAt, OfEach}
 use Rattle.hfs_finds.specs.declared.finds.Finds.{Finds}

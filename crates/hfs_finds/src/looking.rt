@@ -1,41 +1,18 @@
 //! A look at an image: it is sound and opened, or it is refused, and what there is of it is found.
-ghost use Rattle.std.proofs.Props.{props};
-ghost use Rattle.std.specs.Prelude.{◌≡◌, ◌≤◌, IfOk, IfSome, Some};
-ghost use Rattle.hfs_check.specs.Faults.{fault_of};
-ghost use Rattle.hfs_finds.specs.Looks.{AreFindsOfEach, IsLookAt, IsRefusedAs};
+ghost use Rattle.std.specs.Prelude.{◌≤◌, IfErr, IfOk, IfSome};
+ghost use Rattle.hfs_finds.specs.Looks.{AreFindsOfEach, HasFault, IsRefusedAs};
+ghost use Rattle.hfs_needed.specs.Seen.{HasNoFault};
 ghost use Rattle.hfs_source.specs.Images.{OfEach};
 
 use crate::finding::find_in;
 use crate::finds::Finds;
 use crate::needed::{NeededFinds, needed_finds};
+use crate::refused::RefusedImage;
 use hfs_check::MountFault;
 use hfs_needed::{NeededFault, SeenImage, Unopened};
 use hfs_source::PlacedBlocks;
 use hfs_sparse::{BlockSource, SeenBlocks, SparseFault};
 use std::alloc::Global;
-
-/// What comes of a look at an image.
-#[derive(Drop)]
-pub enum Looked<S: PlacedBlocks> {
-    /// It is sound, and opened.
-    Sound(SeenImage<S>),
-    /// It is refused.
-    Refused(RefusedImage<S>),
-}
-
-/// An image that is refused: where its blocks are read from, why, and what is found of it.
-#[derive(Drop)]
-pub struct RefusedImage<S: PlacedBlocks> {
-    /// Where its blocks are read from.
-    pub source: SeenBlocks<S>,
-    /// How many bytes it has.
-    pub len: u64,
-    /// Its first fault, in the order of docs/CHECKS.md.
-    pub why: MountFault,
-    /// What is found of it; None where there is no directory in it.
-    pub found: Option<Finds>,
-    ghost few: { IfSome found (λ _. len ≤ 2147483648) } by { Prim.hlevel props },
-}
 
 /// What is found of an image of `len` bytes, all of which are read at once, and let go. Errors: a read failed, memory was refused.
 #[tactic(auto, using(crate::proofs::LookLemmas::all_found))]
@@ -86,8 +63,9 @@ fn refused_image<S: PlacedBlocks + Drop>(
     source: SeenBlocks<S>,
     why: MountFault,
 ) -> Result<RefusedImage<S>, SparseFault>
-    requires { OfEach (S.Holds source.blocks) (λ image. fault_of image ≡ Some why) }
-    ensures refused { IfOk result (λ image. IsRefusedAs (S.Holds image.source.blocks) image) }
+    requires { OfEach (S.Holds source.blocks) (HasFault why) }
+    ensures refused { IfOk result (λ image. IsRefusedAs (S.Holds image.source.blocks) image.len
+        image.why image.found) }
     ensures narrows { IfOk result (λ image. OfEach (S.Holds image.source.blocks)
         (S.Holds source.blocks)) }
 {
@@ -102,20 +80,26 @@ fn refused_image<S: PlacedBlocks + Drop>(
     })
 }
 
-/// Looks at an image: reads the needed blocks, makes all checks, and where it is refused finds what there is of it, in the blocks of
-/// the same source. Errors: a read failed, memory was refused.
+/// Looks at an image: reads the needed blocks and makes all checks, and gives it opened; or where it is refused, what there is of it, which is
+/// found in the blocks of the same source. Errors: a read failed, memory was refused.
 pub fn look<S: PlacedBlocks + Drop>(
     alloc: Global,
     source: SeenBlocks<S>,
-) -> Result<Looked<S>, SparseFault>
-    ensures { IfOk result (IsLookAt S.Holds (S.Holds source.blocks)) }
+) -> Result<Result<SeenImage<S>, RefusedImage<S>>, SparseFault>
+    ensures sound { IfOk result (λ looked. IfOk looked (λ image. OfEach (S.Holds image) HasNoFault)) }
+    ensures refused { IfOk result (λ looked. IfErr looked (λ image.
+        IsRefusedAs (S.Holds image.source.blocks) image.len image.why image.found)) }
+    ensures held { IfOk result (λ looked. IfOk looked (λ image. OfEach (S.Holds image)
+        (S.Holds source.blocks))) }
+    ensures back { IfOk result (λ looked. IfErr looked (λ image.
+        OfEach (S.Holds image.source.blocks) (S.Holds source.blocks))) }
 {
     match SeenImage::open(alloc, source) {
-        Ok(image) => Ok(Looked::Sound(image)),
+        Ok(image) => Ok(Ok(image)),
         Err(Unopened { fault, source }) => match fault {
             NeededFault::Refused(why) => {
                 let image = refused_image(alloc, source, why)?;
-                Ok(Looked::Refused(image))
+                Ok(Err(image))
             }
             NeededFault::ReadFailed => Err(SparseFault::ReadFailed),
             NeededFault::Memory => Err(SparseFault::Memory),

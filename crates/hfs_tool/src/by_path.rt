@@ -5,15 +5,14 @@ use crate::remaining::{look_at, show_folder, show_fork};
 use crate::words::{ForkPathWords, PathWords};
 use hfs_commands::{Fault, PartImage, file_path_reply, open_seen, path_reply, seen_list_text};
 use hfs_model::{Reply, Value};
-use hfs_salvage::Looked;
 use std::io::{Read, Seek};
 
 /// Prints the children of the folder that a path leads to, or the code that refuses the path; or the rows of that folder, where the
 /// image is refused.
 pub fn print_list_at<'a>(rt: &HostRuntime, place: &PathWords<'a>) -> Result<u8, Fault<'a>> {
     match look_at(rt, place.image, place.volume)? {
-        Looked::Sound(image) => print_list_in(rt, place, &image),
-        Looked::Refused(refused) => show_folder(rt, place, refused),
+        Ok(image) => print_list_in(rt, place, &image),
+        Err(refused) => show_folder(rt, place, refused),
     }
 }
 
@@ -49,8 +48,8 @@ fn file_at<'a, F: Read + Seek + Drop>(
 pub fn print_fork_at<'a>(rt: &HostRuntime, words: &ForkPathWords<'a>) -> Result<u8, Fault<'a>> {
     let place = &words.place;
     match look_at(rt, place.image, place.volume)? {
-        Looked::Sound(image) => print_fork_in(rt, words, image),
-        Looked::Refused(refused) => show_fork(rt, words, refused),
+        Ok(image) => print_fork_in(rt, words, image),
+        Err(refused) => show_fork(rt, words, refused),
     }
 }
 

@@ -8,7 +8,6 @@ use crate::remaining::{look_at, show_items};
 use crate::volumes::print_volume_info;
 use crate::words::{FileWords, ForkWords};
 use hfs_commands::{Fault, Format, open_part, open_seen, part_blocks, seen_list_text};
-use hfs_salvage::Looked;
 
 /// Prints the master directory block. Without a number it is that of the image as it is.
 pub fn tell_info<'a>(
@@ -54,8 +53,8 @@ pub fn tell_items<'a>(
     format: Format,
 ) -> Result<u8, Fault<'a>> {
     match look_at(rt, image, volume)? {
-        Looked::Sound(image) => print_table(rt, &image, format),
-        Looked::Refused(refused) => show_items(rt, image, volume, format, refused),
+        Ok(image) => print_table(rt, &image, format),
+        Err(refused) => show_items(rt, image, volume, format, refused),
     }
 }
 

@@ -4,25 +4,28 @@ use crate::commands::print_code;
 use crate::words::{ForkPathWords, PathWords};
 use hfs_check::MountFault;
 use hfs_commands::{
-    Counted, Fault, FilePart, Format, OpenedFile, PartBlocks, SeenImage, StoredFile, Unopened,
-    Window, open_asked, part_blocks,
+    Counted, Fault, FilePart, Format, OpenedFile, PartBlocks, PartImage, SeenImage, StoredFile,
+    Unopened, Window, open_asked, part_blocks,
 };
 use hfs_console::tell_hint;
 use hfs_containers::{Asked, find_asked};
 use hfs_model::{Fork, Reply};
-use hfs_salvage::{Looked, RefusedImage, Remains, RemainsTexts, RescueWords, look, remains_of};
+use hfs_salvage::{RefusedImage, Remains, RemainsTexts, RescueWords, look, remains_of};
 use hfs_source::{BlocksOf, PlacedBlocks, RangeBytes};
 use hfs_space::ForkKind;
 use std::alloc::Global;
 use std::fs::File;
 
 /// The blocks of a part of a file.
-type Part = BlocksOf<RangeBytes<OpenedFile<File>>>;
+pub type Part = BlocksOf<RangeBytes<OpenedFile<File>>>;
+
+/// What comes of a look: a sound image, or a refused one.
+pub type Looked = Result<PartImage<File>, RefusedImage<Part>>;
 
 /// What is looked at of a file, and whether it is the only range that it may be.
-struct Chosen {
-    part: Window<OpenedFile<File>>,
-    is_one: bool,
+pub struct Chosen {
+    pub part: Window<OpenedFile<File>>,
+    pub is_one: bool,
 }
 
 /// Whether all bytes of what was opened are held, as a pipe's.
@@ -56,7 +59,11 @@ fn choose_range<'a>(
 }
 
 /// What is looked at of an image: the volume that is asked for, or that lies alone in it; where none does, what `rescue` would take.
-fn choose<'a>(rt: &HostRuntime, path: &'a str, volume: Option<u64>) -> Result<Chosen, Fault<'a>> {
+pub fn choose<'a>(
+    rt: &HostRuntime,
+    path: &'a str,
+    volume: Option<u64>,
+) -> Result<Chosen, Fault<'a>> {
     let FilePart { bytes, place } = open_asked(rt, path, Counted::Volumes, volume)?;
     if volume.is_some() || place.is_some() || is_held(&bytes.source) {
         return Ok(Chosen {
@@ -72,9 +79,9 @@ fn open_several<'a>(
     rt: &HostRuntime,
     part: Window<OpenedFile<File>>,
     path: &'a str,
-) -> Result<Looked<Part>, Fault<'a>> {
+) -> Result<Looked, Fault<'a>> {
     match SeenImage::open(rt.alloc(), part_blocks(part)) {
-        Ok(image) => Ok(Looked::Sound(image)),
+        Ok(image) => Ok(Ok(image)),
         Err(Unopened { fault, source: _ }) => Err(Fault::of_needed(fault, path)),
     }
 }
@@ -85,7 +92,7 @@ pub fn look_at<'a>(
     rt: &HostRuntime,
     path: &'a str,
     volume: Option<u64>,
-) -> Result<Looked<Part>, Fault<'a>> {
+) -> Result<Looked, Fault<'a>> {
     let Chosen { part, is_one } = choose(rt, path, volume)?;
     if !is_one {
         return open_several(rt, part, path);

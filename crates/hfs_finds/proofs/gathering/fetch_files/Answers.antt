@@ -37,5 +37,5 @@ returns-in_err-fetch_file-clause-sees g c = sees_on c.in_ok-extents.ensures.sees
 pub returns-in-Ok-is_elsewhere-clause-sees : goal.returns-in-Ok-is_elsewhere-clause-sees
 returns-in-Ok-is_elsewhere-clause-sees g c = sees_on c.in_ok-extents.ensures.sees c.in_ok-fetch_file.ensures.sees
 
-pub returns-in-Err-clause-sees : goal.returns-in-Err-clause-sees
-returns-in-Err-clause-sees g c = sees_on c.in_ok-extents.ensures.sees c.in_ok-fetch_file.ensures.sees
+pub returns-clause-sees : goal.returns-clause-sees
+returns-clause-sees g c = sees_on c.in_ok-extents.ensures.sees c.in_ok-fetch_file.ensures.sees
