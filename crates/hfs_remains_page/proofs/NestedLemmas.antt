@@ -182,7 +182,7 @@ added-passes things depth volume step =
 
 either : (base : Option (Bor (List ℕ))) (found : Found) (depth : ℕ) (step : Step) (test : Bool)
     → Passes (folders depth) (folders (open_by (if test then kind_told (told_at found.items.now step.node) else Folder) depth))
-        (if test then item_row base found depth step (told_at found.items.now step.node) else added_row found.places.now depth (field_name found.mdb.now.volume_name) step)
+    (if test then item_row base found depth step (told_at found.items.now step.node) else added_row found.places.now depth (field_name found.mdb.now.volume_name) step)
 either base found depth step true = item-passes base found depth step (told_at found.items.now step.node)
 either base found depth step false = added-passes found.places.now depth (field_name found.mdb.now.volume_name) step
 

@@ -1,8 +1,8 @@
 -- Numbers, lists and ways of the tree, one step after the other.
-use Rattle.std.proofs.Common.{◌≡◌, ◌∙◌, ℕ, zero, suc, ◌+◌, ◌<◌, ◌≤◌, Bool, true, false, ◌==◌, List, [], ◌∷◌, ◌++◌, length, take, drop, map, get_or, Vec, Global, Option, None, Some, refl, sym, ap, subst, arith, append_assoc, append-nil}
+use Rattle.std.proofs.Common.{◌≡◌, ◌∙◌, ℕ, zero, suc, ◌+◌, ◌<◌, ◌≤◌, Bool, true, false, ◌==◌, List, [], ◌∷◌, ◌++◌, length, take, map, get_or, Vec, Global, Option, None, Some, refl, sym, ap, subst, arith, append_assoc, append-nil}
 use Rattle.std.specs.Prelude.{filter, reverse, if◌then◌else◌, slice_index_or, nat_lt}
 use Rattle.std.specs.List.{range_with_len}
-use Rattle.std.proofs.lemmas.Bool.{ne_eqb}
+use Rattle.std.proofs.lemmas.Bool.{ltb-false, ltb-true, ne_eqb}
 use Rattle.std.proofs.lemmas.List.{take_all, take_more, length-take-le, length_push, get_or_push, get_or_append_left, reverse-append, reverse-reverse, map-append}
 use Rattle.std.proofs.lemmas.List.Elements.{filter-append}
 use Rattle.hfs_catalog_checks.specs.Indexes.{Numbered}
@@ -40,8 +40,12 @@ empty_more lists new made is none empty =
     subst AreEmpty (sym is) (λ k d lt. by k d lt (nat_lt k (length lists)) refl)
   where
     by : (k : ℕ) (d : Vec ℕ Global) → k < length (lists ++ made ∷ []) → (test : Bool) → nat_lt k (length lists) ≡ test → (slice_index_or (lists ++ made ∷ []) k d).items ≡ []
-    by k d lt true e = search (rules, arith, get_or_append_left) in ?
-    by k d lt false e = ?
+    by k d lt true e =
+        let within = ltb-true k (length lists) e in
+        ap (λ (v : Vec ℕ Global). v.items) (get_or_append_left lists (made ∷ []) d k within) ∙ empty k d within
+    by k d lt false e =
+        let at : length lists ≡ k = omega (arith, ltb-false k (length lists) e, lt, length_push lists made) in
+        ap (λ (v : Vec ℕ Global). v.items) (get_or_push lists made d k at) ∙ none
 
 pub empty_below : (lists : List (Vec ℕ Global)) → AreEmpty lists → (up : ℕ → ℕ) → AreBelow up 0 lists
 empty_below lists empty up = empty
@@ -64,9 +68,12 @@ lists_more up n node old new is (long, gains) are = λ k none lt.
 
 -- nothing is noted of a node that has no list
 pub none_gained : (lists : List (Vec ℕ Global)) (number node : ℕ) → length lists ≤ node → GainsBelow lists lists number node
-none_gained lists number node past = (refl, λ k none lt.
-    sym (append-nil (slice_index_or lists k none).items)
-    ∙ ap (λ (b : Bool). (slice_index_or lists k none).items ++ (if b then number ∷ [] else [])) (sym (ne_eqb node k (λ e. absurd (omega (arith, e, lt, past))))))
+none_gained lists number node past = (
+  refl,
+  λ k none lt.
+      sym (append-nil (slice_index_or lists k none).items)
+      ∙ ap (λ (b : Bool). (slice_index_or lists k none).items ++ (if b then number ∷ [] else [])) (sym (ne_eqb node k (λ e. absurd (omega (arith, e, lt, past))))),
+)
 
 -- ---- the way
 
@@ -91,7 +98,7 @@ module _ (inside : ℕ → List ℕ) where
   walk_more k s stack below new order later whole some was is gains all =
       let steps = map (step_at inside (deeper s.depth)) (inside s.node) in
       let turned : reverse new ≡ steps ++ reverse below =
-          ap reverse gains ∙ reverse-append below (reverse steps) ∙ ap (λ l. l ++ reverse below) (reverse-reverse steps) in
+      ap reverse gains ∙ reverse-append below (reverse steps) ∙ ap (λ l. l ++ reverse below) (reverse-reverse steps) in
       let first : reverse stack ≡ s ∷ reverse below = ap reverse was ∙ reverse-append below (s ∷ []) in
       (λ i. is i ++ walk inside (k - 1) (turned i))
       ∙ append_assoc order (s ∷ []) (walk inside (k - 1) (steps ++ reverse below))
@@ -106,7 +113,7 @@ module _ (inside : ℕ → List ℕ) where
   steps_more depth x left list d stack new old within is gains all =
       let f = step_at inside depth in
       let split : reverse (map f (take (left + 1) list)) ≡ f x ∷ reverse (map f (take left list)) =
-          ap (λ l. reverse (map f l)) (take_more list left d within ∙ ap (λ (n : ℕ). take left list ++ n ∷ []) (sym is))
-          ∙ ap reverse (map-append f (take left list) (x ∷ [])) ∙ reverse-append (map f (take left list)) (f x ∷ []) in
+      ap (λ l. reverse (map f l)) (take_more list left d within ∙ ap (λ (n : ℕ). take left list ++ n ∷ []) (sym is))
+      ∙ ap reverse (map-append f (take left list) (x ∷ [])) ∙ reverse-append (map f (take left list)) (f x ∷ []) in
       ap (λ l. l ++ reverse (map f (take left list))) gains ∙ append_assoc stack (f x ∷ []) (reverse (map f (take left list)))
       ∙ ap (λ l. stack ++ l) (sym split) ∙ all

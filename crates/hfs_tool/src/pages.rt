@@ -12,7 +12,7 @@ use hfs_console::VERSION;
 use hfs_pages::{
     PageFault, PageImage, PageTexts, is_base, standard_texts, write_image_page, write_refused_page,
 };
-use hfs_salvage::remains_texts;
+use hfs_salvage::found_texts;
 use hfs_source::PlacedBlocks;
 use hfs_take::{SourceBlocks, image_digest, image_name};
 use std::alloc::Global;
@@ -145,7 +145,7 @@ fn print_remains_page<'a>(
         rt,
         words.image,
         words.volume,
-        &remains_texts(texts.version, texts.image),
+        &found_texts(texts.version, texts.image),
         refused,
     )? {
         Some(status) => Ok(status),
