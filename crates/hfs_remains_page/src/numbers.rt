@@ -80,6 +80,7 @@ fn note_folder(folders: &mut FolderNumbers, thing: &Thing, place: usize) -> Resu
 }
 
 /// The folders among things by their numbers.
+#[tactic(auto, using(crate::proofs::TreeLemmas::folders_none, crate::proofs::TreeLemmas::folders_more, crate::proofs::TreeLemmas::folders_all))]
 pub(crate) fn folders_of(alloc: Global, things: &[Thing]) -> Result<FolderNumbers, AllocError>
     ensures { IfOk result (λ folders. KnowsFolders folders things.now) }
 {

@@ -80,6 +80,7 @@ fn push_item(
 }
 
 /// Adds the blocks of the forks of the first items.
+#[tactic(auto, using(crate::proofs::PieceLemmas::items_more))]
 fn push_items(
     alloc: Global,
     holdings: &mut Vec<Holding>,
@@ -114,6 +115,7 @@ pub(crate) fn holdings_of(
 }
 
 /// What blocks are that nothing has.
+#[tactic(auto, using(crate::proofs::PieceLemmas::uses_more))]
 fn no_uses(alloc: Global, count: u16) -> Result<Vec<BlockUse>, AllocError>
     ensures { IfOk result (λ uses. uses.items
         ≡ map (λ block. unowned false) (range_with_len 0 count)) }

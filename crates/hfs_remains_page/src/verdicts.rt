@@ -73,7 +73,7 @@ pub(crate) fn base_of<'a>(
     base: Option<&'a [u8]>,
     forks: &Option<(Verdict, Verdict)>,
 ) -> Option<&'a [u8]>
-    ensures { result.entry ≡ spec.base_of base.entry forks.now }
+    ensures { result ≡ spec.base_of base.entry forks.now }
 {
     match forks {
         None => None,
