@@ -61,7 +61,7 @@ class Tree:
             return [plain(it.name), items, 'folder', when]
         both = int(row['data_bytes']) + int(row['resource_bytes'])
         verdicts = self.remains.verdicts(it)
-        said = 'both forks whole' if verdicts == ['whole', 'whole'] else 'data fork {}, resource fork {}'.format(*verdicts)
+        said = 'both forks whole' if verdicts == ['whole', 'whole'] else 'data fork {}; resource fork {}'.format(*verdicts)
         return [plain(it.name), f'{size(both)}\n(data fork {row["data_bytes"]} bytes, resource fork {row["resource_bytes"]} bytes)',
                 f'{row["type"]} {row["creator"]}\n(type, creator)', when, said]
 

@@ -79,12 +79,17 @@ none_gained lists number node past = (
 -- ---- the way
 
 module _ (inner : ℕ → List ℕ) where
-  pub walk_none : (k : ℕ) (order whole : List Step) → order ++ walk inner k (reverse []) ≡ whole → order ≡ whole
-  walk_none zero order whole is = sym (append-nil order) ∙ is
-  walk_none (suc k) order whole is = sym (append-nil order) ∙ is
+  ended : (k : ℕ) (order whole : List Step) → order ++ walk inner k [] ≡ whole → order ≡ whole
+  ended zero order whole is = sym (append-nil order) ∙ is
+  ended (suc k) order whole is = sym (append-nil order) ∙ is
 
-  pub walk_zero : (stack order whole : List Step) → order ++ walk inner 0 stack ≡ whole → order ≡ whole
-  walk_zero stack order whole is = sym (append-nil order) ∙ is
+  pub walk_none : (k : ℕ) (stack order whole : List Step) → stack ≡ [] → order ++ walk inner k (reverse stack) ≡ whole → order ≡ whole
+  walk_none k stack order whole none is = ended k order whole (subst (λ (l : List Step). order ++ walk inner k (reverse l) ≡ whole) none is)
+
+  pub walk_zero : (left : ℕ) (stack order whole : List Step) → left ≤ 0 → order ++ walk inner left stack ≡ whole → order ≡ whole
+  walk_zero left stack order whole none is =
+      let zero-left : left ≡ 0 = omega (arith, none) in
+      sym (append-nil order) ∙ ap (λ (n : ℕ). order ++ walk inner n stack) (sym zero-left) ∙ is
 
   one-walked : (k : ℕ) (s : Step) (rest : List Step) → 0 < k → walk inner k (s ∷ rest) ≡ s ∷ walk inner (k - 1) (map (step_at inner (deeper s.depth)) (inner s.node) ++ rest)
   one-walked zero s rest lt = absurd (omega arith)

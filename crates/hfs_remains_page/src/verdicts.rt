@@ -45,7 +45,7 @@ fn push_damaged(
 {
     push_bytes(page, b"<em class=\"damaged\">data fork ")?;
     push_said(alloc, page, &forks.0)?;
-    push_bytes(page, b", resource fork ")?;
+    push_bytes(page, b"; resource fork ")?;
     push_said(alloc, page, &forks.1)?;
     push_bytes(page, b"</em>")
 }
