@@ -103,8 +103,8 @@ pub(crate) fn holdings_of(
     found: &Found<'_>,
     files: TreeFiles<'_>,
 ) -> Result<Vec<Holding>, AllocError>
-    requires extents { files.entry.extents.now ≡ found.now.salvage.now.trees.extents_file.now }
-    requires catalog { files.entry.catalog.now ≡ found.now.salvage.now.trees.catalog_file.now }
+    requires extents { files.extents.now ≡ found.now.salvage.now.trees.extents_file.now }
+    requires catalog { files.catalog.now ≡ found.now.salvage.now.trees.catalog_file.now }
     ensures { IfOk result (λ held. held.items ≡ spec.holdings_of found.now) }
 {
     let mut holdings = Vec::new(alloc);
