@@ -53,7 +53,7 @@ module _ (names : List (List ℕ)) where
   unfolding damaged_text
   damaged-passes forks =
       constant (at names) (at said) (codes "<em class=\"damaged\">data fork ") (λ outer. refl) ▹ escaped-passes said (verdict_text forks.0)
-      ▹ label-passes said (codes ", resource fork ") refl ▹ escaped-passes said (verdict_text forks.1) ▹ constant (at said) (at names) (codes "</em>") (λ outer. refl)
+      ▹ label-passes said (codes "; resource fork ") refl ▹ escaped-passes said (verdict_text forks.1) ▹ constant (at said) (at names) (codes "</em>") (λ outer. refl)
 
   forks-pass : (forks : Option (Verdict × Verdict)) → Passes names names (forks_text forks)
   forks-pass None = text-goes names [] refl

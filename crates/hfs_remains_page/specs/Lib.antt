@@ -1,5 +1,5 @@
-pub mod Trees
 pub mod Walks
+pub mod Trees
 pub mod Verdicts
 pub mod Rows
 pub mod Gathers

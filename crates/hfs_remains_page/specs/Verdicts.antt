@@ -9,7 +9,7 @@ use Rattle.hfs_verdicts.specs.Verdicts.{is_whole, verdict_text}
 -- of both forks, of which one at least isn't whole
 unfoldable pub damaged_text : Verdict × Verdict → List ℕ
 damaged_text forks =
-    codes "<em class=\"damaged\">data fork " ++ escaped (verdict_text forks.0) ++ codes ", resource fork " ++ escaped (verdict_text forks.1) ++ codes "</em>"
+    codes "<em class=\"damaged\">data fork " ++ escaped (verdict_text forks.0) ++ codes "; resource fork " ++ escaped (verdict_text forks.1) ++ codes "</em>"
 
 abbrev pub both_text : Verdict × Verdict → List ℕ
 both_text forks = if is_whole forks.0 && is_whole forks.1 then codes "<em>both forks whole</em>" else damaged_text forks

@@ -112,8 +112,8 @@ pub(crate) fn back(
     found: &Found<'_>,
     files: TreeFiles<'_>,
 ) -> Result<Vec<u8>, AllocError>
-    requires extents { files.entry.extents.now ≡ found.now.salvage.now.trees.extents_file.now }
-    requires catalog { files.entry.catalog.now ≡ found.now.salvage.now.trees.catalog_file.now }
+    requires extents { files.extents.now ≡ found.now.salvage.now.trees.extents_file.now }
+    requires catalog { files.catalog.now ≡ found.now.salvage.now.trees.catalog_file.now }
     ensures { IfOk result (λ text. text.items ≡ spec.back_text texts.now found.now) }
 {
     let holdings = holdings_of(alloc, found, files)?;

@@ -64,7 +64,7 @@ shows the first of these uses that one of its blocks has, as far as they were fo
 }
 
 /// The texts of all pages of remains that this version of the program prints, for the page of this image.
-pub fn remains_texts<'a>(version: &'a [u8], image: PageImage<'a>) -> RemainsTexts<'a>
+pub fn found_texts<'a>(version: &'a [u8], image: PageImage<'a>) -> RemainsTexts<'a>
     ensures version { result.page.version.now ≡ version.now }
     ensures image { result.page.image ≡ image.entry }
     ensures dress { IsRemainsDress result }

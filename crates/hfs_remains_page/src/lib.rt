@@ -19,7 +19,7 @@ mod verdicts;
 mod walks;
 mod writing;
 
-pub use dress::remains_texts;
+pub use dress::found_texts;
 pub use laws::remains_pages_nest;
 pub use page::write_remains_page;
 pub use remains_texts::RemainsTexts;

@@ -11,6 +11,7 @@ use hfs_rescue_items::Found;
 use std::alloc::{AllocError, Global};
 
 /// As many lists as are wanted, with nothing in them.
+#[tactic(auto, using(crate::proofs::TreeLemmas::empty_none, crate::proofs::TreeLemmas::empty_more, crate::proofs::TreeLemmas::empty_below))]
 fn empty_lists(alloc: Global, count: usize) -> Result<Vec<Vec<usize>>, AllocError>
     ensures long { IfOk result (λ lists. length lists.items ≡ count) }
     ensures below { IfOk result (λ lists. (up : ℕ → ℕ) → AreBelow up 0 lists.items) }
@@ -23,6 +24,7 @@ fn empty_lists(alloc: Global, count: usize) -> Result<Vec<Vec<usize>>, AllocErro
 }
 
 /// Notes that a thing stands right below a node.
+#[tactic(auto, using(crate::proofs::TreeLemmas::none_gained))]
 fn note(lists: &mut Vec<Vec<usize>>, thing: usize, node: usize) -> Result<(), AllocError>
     ensures { OnOk result (GainsBelow lists.old.items lists.new.items thing node) }
 {
@@ -33,6 +35,7 @@ fn note(lists: &mut Vec<Vec<usize>>, thing: usize, node: usize) -> Result<(), Al
 }
 
 /// What stands right below each node of the tree, in the order of the things.
+#[tactic(auto, using(crate::proofs::TreeLemmas::lists_more))]
 pub(crate) fn lists_of(
     alloc: Global,
     found: &Found<'_>,

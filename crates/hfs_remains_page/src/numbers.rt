@@ -2,7 +2,7 @@
 ghost use Rattle.std.specs.Prelude.{◌≡◌, [], IfOk, OnOk, take};
 ghost use Rattle.hfs_catalog_checks.specs.Indexes.{number_of, SetsNumber, NotesFirst};
 ghost use Rattle.hfs_places.specs.Folders.{KnowsFolders, NotesFolder};
-ghost use Rattle.hfs_places.specs.Things as things;
+ghost use Rattle.hfs_places.specs.Things as all_things;
 
 use hfs_places::Thing;
 use std::alloc::{AllocError, Global};
@@ -80,6 +80,7 @@ fn note_folder(folders: &mut FolderNumbers, thing: &Thing, place: usize) -> Resu
 }
 
 /// The folders among things by their numbers.
+#[tactic(auto, using(crate::proofs::TreeLemmas::folders_none, crate::proofs::TreeLemmas::folders_more, crate::proofs::TreeLemmas::folders_all))]
 pub(crate) fn folders_of(alloc: Global, things: &[Thing]) -> Result<FolderNumbers, AllocError>
     ensures { IfOk result (λ folders. KnowsFolders folders things.now) }
 {
@@ -93,7 +94,7 @@ pub(crate) fn folders_of(alloc: Global, things: &[Thing]) -> Result<FolderNumber
 /// The place of the folder of a number among things, None where there is none or it is the payload itself.
 pub(crate) fn folder_of(things: &[Thing], folders: &FolderNumbers, number: u32) -> Option<usize>
     requires { KnowsFolders folders.now things.now }
-    ensures { result ≡ things.folder_of things.now number }
+    ensures { result ≡ all_things.folder_of things.now number }
 {
     if number == 2 {
         None

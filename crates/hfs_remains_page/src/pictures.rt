@@ -80,6 +80,7 @@ fn push_item(
 }
 
 /// Adds the blocks of the forks of the first items.
+#[tactic(auto, using(crate::proofs::PieceLemmas::items_more))]
 fn push_items(
     alloc: Global,
     holdings: &mut Vec<Holding>,
@@ -102,8 +103,8 @@ pub(crate) fn holdings_of(
     found: &Found<'_>,
     files: TreeFiles<'_>,
 ) -> Result<Vec<Holding>, AllocError>
-    requires extents { files.entry.extents.now ≡ found.now.salvage.now.trees.extents_file.now }
-    requires catalog { files.entry.catalog.now ≡ found.now.salvage.now.trees.catalog_file.now }
+    requires extents { files.extents.now ≡ found.now.salvage.now.trees.extents_file.now }
+    requires catalog { files.catalog.now ≡ found.now.salvage.now.trees.catalog_file.now }
     ensures { IfOk result (λ held. held.items ≡ spec.holdings_of found.now) }
 {
     let mut holdings = Vec::new(alloc);
@@ -114,6 +115,7 @@ pub(crate) fn holdings_of(
 }
 
 /// What blocks are that nothing has.
+#[tactic(auto, using(crate::proofs::PieceLemmas::uses_more))]
 fn no_uses(alloc: Global, count: u16) -> Result<Vec<BlockUse>, AllocError>
     ensures { IfOk result (λ uses. uses.items
         ≡ map (λ block. unowned false) (range_with_len 0 count)) }

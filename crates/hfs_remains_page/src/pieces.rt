@@ -19,6 +19,7 @@ fn joined(b: u16, next: Extent) -> Option<Extent>
 }
 
 /// Puts a block before pieces, of which the first is the last of the vector.
+#[tactic(auto, using(crate::proofs::PieceLemmas::put_first, crate::proofs::PieceLemmas::put_joined, crate::proofs::PieceLemmas::put_apart))]
 fn push_block(pieces: &mut Vec<Extent>, b: u16) -> Result<(), AllocError>
     ensures { OnOk result (reverse pieces.new.items ≡ spec.with_block b (reverse pieces.old.items)) }
 {
@@ -48,6 +49,7 @@ fn push_place(pieces: &mut Vec<Extent>, place: Option<u16>) -> Result<(), AllocE
 }
 
 /// The pieces of these blocks, the last of them first.
+#[tactic(auto, using(crate::proofs::PieceLemmas::pieces_more, crate::proofs::PieceLemmas::pieces_none))]
 fn turned_pieces(alloc: Global, places: &[Option<u16>]) -> Result<Vec<Extent>, AllocError>
     ensures { IfOk result (λ pieces. reverse pieces.items ≡ spec.pieces places.now) }
 {

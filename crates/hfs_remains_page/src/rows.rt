@@ -23,20 +23,6 @@ const MOST_OPEN: usize = 100;
 /// How many items what stands in no folder has at most where it is open from the first.
 const MOST_SHOWN: usize = 1_000;
 
-/// A folder as a row shows it.
-#[derive(Clone, Copy)]
-struct FolderTold<'a> {
-    /// The beginning of its row.
-    start: &'a [u8],
-    name: &'a [u8],
-    /// How many items were found in it.
-    inside: usize,
-    /// When it was modified.
-    modified: u32,
-    /// A note on it, in markup.
-    note: &'a [u8],
-}
-
 /// Appends when an item was modified; an empty cell where it has no date.
 #[tactic(auto, unfolding(crate::specs::Rows::when_text))]
 fn push_when(alloc: Global, page: &mut Vec<u8>, date: u32) -> Result<(), AllocError>
@@ -164,16 +150,23 @@ fn push_folder_name(
     push_items_word(page, inside)
 }
 
-/// Appends what is told of a folder.
+/// Appends what is told of a folder, and a note on it.
 #[tactic(auto, unfolding(crate::specs::Rows::folder_told))]
-fn push_folder(alloc: Global, page: &mut Vec<u8>, folder: &FolderTold<'_>) -> Result<(), AllocError>
-    ensures { OnOk result (Gains page.old page.new (spec.folder_told folder.now.name.now
-        folder.now.inside folder.now.modified folder.now.note.now)) }
+fn push_folder(
+    alloc: Global,
+    page: &mut Vec<u8>,
+    name: &[u8],
+    inside: usize,
+    date: u32,
+    note: &[u8],
+) -> Result<(), AllocError>
+    ensures { OnOk result (Gains page.old page.new
+        (spec.folder_told name.now inside date note.now)) }
 {
-    push_folder_name(alloc, page, folder.name, folder.inside)?;
+    push_folder_name(alloc, page, name, inside)?;
     push_bytes(page, b"<span>folder</span>")?;
-    push_when(alloc, page, folder.modified)?;
-    push_bytes(page, folder.note)
+    push_when(alloc, page, date)?;
+    push_bytes(page, note)
 }
 
 /// Appends the beginning of a folder that opens and closes. What lies in none is open, but where it has so many items that a browser
@@ -193,43 +186,59 @@ fn push_opening(page: &mut Vec<u8>, depth: usize, inside: usize) -> Result<(), A
 fn push_nested(
     alloc: Global,
     page: &mut Vec<u8>,
+    start: &[u8],
     depth: usize,
-    folder: &FolderTold<'_>,
+    name: &[u8],
+    inside: usize,
+    date: u32,
+    note: &[u8],
 ) -> Result<(), AllocError>
-    ensures { OnOk result (Gains page.old page.new (spec.nested_row folder.now.start.now depth
-        folder.now.name.now folder.now.inside folder.now.modified folder.now.note.now)) }
+    ensures { OnOk result (Gains page.old page.new
+        (spec.nested_row start.now depth name.now inside date note.now)) }
 {
-    push_bytes(page, folder.start)?;
-    push_opening(page, depth, folder.inside)?;
-    push_folder(alloc, page, folder)?;
+    push_bytes(page, start)?;
+    push_opening(page, depth, inside)?;
+    push_folder(alloc, page, name, inside, date, note)?;
     push_bytes(page, b"</summary><ul>\n")
 }
 
 /// Appends a folder that stands flat, since too many stand open above it.
 #[tactic(auto, unfolding(crate::specs::Rows::flat_row))]
-fn push_flat(alloc: Global, page: &mut Vec<u8>, folder: &FolderTold<'_>) -> Result<(), AllocError>
-    ensures { OnOk result (Gains page.old page.new (spec.flat_row folder.now.start.now
-        folder.now.name.now folder.now.inside folder.now.modified folder.now.note.now)) }
+fn push_flat(
+    alloc: Global,
+    page: &mut Vec<u8>,
+    start: &[u8],
+    name: &[u8],
+    inside: usize,
+    date: u32,
+    note: &[u8],
+) -> Result<(), AllocError>
+    ensures { OnOk result (Gains page.old page.new
+        (spec.flat_row start.now name.now inside date note.now)) }
 {
-    push_bytes(page, folder.start)?;
-    push_folder(alloc, page, folder)?;
+    push_bytes(page, start)?;
+    push_folder(alloc, page, name, inside, date, note)?;
     push_bytes(page, b"</li>\n")
 }
 
-/// Appends the row of a folder that lies in so many.
+/// Appends the row of a folder that lies in so many, behind the beginning of its element.
 fn push_folder_row(
     alloc: Global,
     page: &mut Vec<u8>,
+    start: &[u8],
     depth: usize,
-    folder: &FolderTold<'_>,
+    name: &[u8],
+    inside: usize,
+    date: u32,
+    note: &[u8],
 ) -> Result<(), AllocError>
-    ensures { OnOk result (Gains page.old page.new (spec.folder_row folder.now.start.now depth
-        folder.now.name.now folder.now.inside folder.now.modified folder.now.note.now)) }
+    ensures { OnOk result (Gains page.old page.new
+        (spec.folder_row start.now depth name.now inside date note.now)) }
 {
     if depth < MOST_OPEN {
-        push_nested(alloc, page, depth, folder)
+        push_nested(alloc, page, start, depth, name, inside, date, note)
     } else {
-        push_flat(alloc, page, folder)
+        push_flat(alloc, page, start, name, inside, date, note)
     }
 }
 
@@ -245,14 +254,18 @@ fn push_item_folder(
         depth info.now.name step.inside info.now.modified [])) }
 {
     let start = start_of(alloc, step.node)?;
-    let folder = FolderTold {
-        start: &start,
-        name: info.name.bytes(),
-        inside: step.inside,
-        modified: info.modified,
-        note: b"",
-    };
-    push_folder_row(alloc, page, depth, &folder)
+    let name = info.name;
+    let date = info.modified;
+    push_folder_row(
+        alloc,
+        page,
+        &start,
+        depth,
+        name.bytes(),
+        step.inside,
+        date,
+        b"",
+    )
 }
 
 /// Appends the row of an item that tells this.
@@ -314,14 +327,7 @@ fn push_noted_row(
     ensures { OnOk result (Gains page.old page.new
         (spec.folder_row (codes "<li>") depth name.now inside 0 note.now)) }
 {
-    let folder = FolderTold {
-        start: b"<li>",
-        name,
-        inside,
-        modified: 0,
-        note,
-    };
-    push_folder_row(alloc, page, depth, &folder)
+    push_folder_row(alloc, page, b"<li>", depth, name, inside, 0, note)
 }
 
 /// Appends the row of what is no item: of a folder that only a thread names, or of what the page adds.

@@ -45,7 +45,7 @@ fn push_damaged(
 {
     push_bytes(page, b"<em class=\"damaged\">data fork ")?;
     push_said(alloc, page, &forks.0)?;
-    push_bytes(page, b", resource fork ")?;
+    push_bytes(page, b"; resource fork ")?;
     push_said(alloc, page, &forks.1)?;
     push_bytes(page, b"</em>")
 }
@@ -73,7 +73,7 @@ pub(crate) fn base_of<'a>(
     base: Option<&'a [u8]>,
     forks: &Option<(Verdict, Verdict)>,
 ) -> Option<&'a [u8]>
-    ensures { result.entry ≡ spec.base_of base.entry forks.now }
+    ensures { result ≡ spec.base_of base.entry forks.now }
 {
     match forks {
         None => None,

@@ -13,17 +13,17 @@ use std::alloc::{AllocError, Global};
 /// How many folders are told apart in which something lies: of more it makes no difference.
 const MOST_OPEN: usize = 100;
 
-/// What stands right below a node.
+/// How many stand right below a node.
 #[tactic(auto, unfolding(crate::specs::Trees::inside))]
-fn listed<'a>(things: &[Thing], lists: &'a [Vec<usize>], node: usize) -> &'a [usize]
+fn count_inside(things: &[Thing], lists: &[Vec<usize>], node: usize) -> usize
     requires long { length lists.now ≡ length things.now + 3 }
     requires below { AreBelow (spec.up things.now) (length things.now) lists.now }
-    ensures { result.now ≡ spec.inside things.now node }
+    ensures { result ≡ length (spec.inside things.now node) }
 {
     if node < lists.len() {
-        &lists[node]
+        lists[node].len()
     } else {
-        &[]
+        0
     }
 }
 
@@ -36,7 +36,7 @@ fn step_of(things: &[Thing], lists: &[Vec<usize>], depth: usize, node: usize) ->
     Step {
         node,
         depth,
-        inside: listed(things, lists, node).len(),
+        inside: count_inside(things, lists, node),
     }
 }
 
@@ -47,7 +47,30 @@ fn deeper(depth: usize) -> usize
     if depth < MOST_OPEN { depth + 1 } else { depth }
 }
 
+/// Puts the steps to some nodes on the others, the first of them above all.
+#[tactic(auto, using(crate::proofs::TreeLemmas::steps_more, crate::proofs::TreeLemmas::steps_all, crate::proofs::TreeLemmas::steps_none))]
+fn push_steps(
+    things: &[Thing],
+    lists: &[Vec<usize>],
+    stack: &mut Vec<Step>,
+    depth: usize,
+    nodes: &[usize],
+) -> Result<(), AllocError>
+    requires long { length lists.now ≡ length things.now + 3 }
+    requires below { AreBelow (spec.up things.now) (length things.now) lists.now }
+    ensures { OnOk result (stack.new.items ≡ stack.old.items
+        ++ reverse (map (step_at (spec.inside things.now) depth) nodes.now)) }
+{
+    let mut left = nodes.len();
+    while left > 0 {
+        left -= 1;
+        stack.push(step_of(things, lists, depth, nodes[left]))?;
+    }
+    Ok(())
+}
+
 /// Puts the steps to what stands right below a node on the others, the first of them above all.
+#[tactic(auto, unfolding(crate::specs::Trees::inside))]
 fn push_inside(
     things: &[Thing],
     lists: &[Vec<usize>],
@@ -60,16 +83,14 @@ fn push_inside(
     ensures { OnOk result (stack.new.items ≡ stack.old.items
         ++ reverse (map (step_at (spec.inside things.now) depth) (spec.inside things.now node))) }
 {
-    let inside = listed(things, lists, node);
-    let mut left = inside.len();
-    while left > 0 {
-        left -= 1;
-        stack.push(step_of(things, lists, depth, inside[left]))?;
+    if node >= lists.len() {
+        return Ok(());
     }
-    Ok(())
+    push_steps(things, lists, stack, depth, &lists[node])
 }
 
 /// Appends the way through all that stands below a node, which has none above it, and that itself.
+#[tactic(auto, using(crate::proofs::TreeLemmas::walk_none, crate::proofs::TreeLemmas::walk_zero, crate::proofs::TreeLemmas::walk_more, crate::proofs::TreeLemmas::walk_begins))]
 fn push_walk(
     alloc: Global,
     things: &[Thing],
@@ -107,7 +128,7 @@ fn push_walk_if(
     requires below { AreBelow (spec.up things.now) (length things.now) lists.now }
     ensures { OnOk result (order.new.items ≡ order.old.items ++ spec.walk_if things.now node) }
 {
-    if listed(things, lists, node).is_empty() {
+    if count_inside(things, lists, node) == 0 {
         return Ok(());
     }
     push_walk(alloc, things, lists, order, node)

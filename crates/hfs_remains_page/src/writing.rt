@@ -84,8 +84,9 @@ pub(crate) fn write_rows<W: Write>(
     let mut text = Vec::new(alloc);
     let mut opened = 0;
     for i in 0..steps.len() {
-        gather_row(alloc, writer, &mut text, base, found, opened, steps[i])?;
-        opened = open_behind(found, opened, steps[i]);
+        let step = steps[i];
+        gather_row(alloc, writer, &mut text, base, found, opened, step)?;
+        opened = open_behind(found, opened, step);
     }
     put_ends(writer, &mut text, opened)
 }

@@ -22,3 +22,4 @@ mod UnfoundLemmas
 mod ThereLemmas
 mod BagSumLemmas
 mod ShownLemmas
+mod PagedLemmas

@@ -33,4 +33,4 @@ pub use crate::rescuing::{PlacedBag, UnplacedBag, rescue, rescue_opened};
 pub use crate::showing::{image_fault, write_found_folder, write_found_fork, write_found_items};
 pub use crate::words::{BagWords, RescueWords};
 pub use hfs_finds::{RefusedImage, look};
-pub use hfs_remains_page::{RemainsTexts, remains_texts};
+pub use hfs_remains_page::{RemainsTexts, found_texts};

@@ -12,7 +12,7 @@ use hfs_console::VERSION;
 use hfs_pages::{
     PageFault, PageImage, PageTexts, is_base, standard_texts, write_image_page, write_refused_page,
 };
-use hfs_salvage::{RefusedImage, look, remains_texts};
+use hfs_salvage::{RefusedImage, found_texts, look};
 use hfs_source::PlacedBlocks;
 use hfs_take::{SourceBlocks, image_digest, image_name};
 use std::alloc::Global;
@@ -160,7 +160,7 @@ fn print_remains_page<'a, S: PlacedBlocks + Drop>(
     refused: RefusedImage<S>,
 ) -> Result<u8, Fault<'a>> {
     let why = refused.why;
-    let told = remains_texts(texts.version, texts.image);
+    let told = found_texts(texts.version, texts.image);
     match show_page(rt, words.image, words.volume, &told, refused)? {
         Some(status) => Ok(status),
         None => print_refused_page(rt, texts, why),
