@@ -1,13 +1,15 @@
 -- What was asked of the database, and what is told of a file by it.
 use Rattle.std.proofs.Common.{◌≡◌, ◌≢◌, ◌∙◌, ◌⊎◌, inl, inr, refl, sym, ap, ℕ, Bool, true, false, cond, List, length, Option, Some, None, Result, Ok, Err}
-use Rattle.std.specs.Prelude.{IfOk, ◌==◌, nat_eq, String, string_bytes}
+use Rattle.std.specs.Prelude.{IfOk, ◌&&◌, ◌==◌, is_some, nat_eq, String, string_bytes}
+use Rattle.hex.specs.Hex.{encode_lower}
+use Rattle.sha2.specs.Sha256.{sha256}
 use Rattle.std.specs.Cmp.Lexicographic.{pointwise}
 use Rattle.std.proofs.Math.Logic.{∥∥₁_map}
 use Rattle.sqlite.specs.State.{State}
 use Rattle.hfs_contents.specs.Failing.{SomeFail}
 use Rattle.hfs_source.specs.Images.{FailsWhere, OfEach}
 use Rattle.hfs_database.specs.Asking.{IsKnown}
-use Rattle.hfs_database.specs.Comparing.{by_digest, comparison}
+use Rattle.hfs_database.specs.Comparing.{by_digest, comparison, needs_digest}
 use Rattle.hfs_database.specs.declared.comparing.Comparison.{Comparison}
 use Rattle.hfs_database.specs.declared.comparing.Comparison.TheVariants.{Changed, Missing, New, Same}
 use Rattle.hfs_database.specs.declared.comparing.KnownImage.{KnownImage}
@@ -45,6 +47,28 @@ pub compared_known : {E : Type 0} (result : Result Comparison E) (Holds : List �
 compared_known (Ok found) Holds old new path known is told = λ file holds read. ∣ (Some known, is, told file holds) ∣₁
 compared_known (Err why) Holds old new path known is told = tt
 
+-- ---- by its bytes
+
+unneeded : {Z : Type 0} (t : Bool) (digest : Option (String Z)) (a b : List ℕ) → (t && is_some digest) ≡ false
+    → cond t (by_digest digest a) Changed ≡ cond t (by_digest digest b) Changed
+unneeded true None a b needs = refl
+unneeded true (Some known) a b needs = cc
+unneeded false digest a b needs = refl
+
+-- where its digest isn't needed, any digits do
+pub compared_unread : (known : KnownImage) (found : Comparison) (len : ℕ) (digits file : List ℕ) → found ≡ comparison known len digits → needs_digest known len ≡ false → length file ≡ len
+    → IsCompared known found file
+compared_unread known found len digits file is needs long = λ read.
+    is ∙ unneeded (known.bytes == len) known.digest digits (encode_lower (sha256 file)) needs ∙ ap (λ n. comparison known n (encode_lower (sha256 file))) (sym long)
+
+pub compared_missing_of : (known : KnownImage) (file : List ℕ) → IsCompared known Missing file
+compared_missing_of known file = λ read. absurd (read refl)
+
+-- by its digest
+pub compared_read : (known : KnownImage) (found : Comparison) (len : ℕ) (digits file : List ℕ) → found ≡ comparison known len digits → digits ≡ encode_lower (sha256 file) → length file ≡ len
+    → IsCompared known found file
+compared_read known found len digits file is told long = λ read. is ∙ (λ i. comparison known (sym long i) (told i))
+
 -- ---- what was read
 
 -- of a file that was read
@@ -66,16 +90,19 @@ read_by known found len digits is = λ missing. measured (known.bytes == len) kn
 pub new_read : New ≢ Missing
 new_read = λ is. cc
 
+pub known_read : (Holds : List ℕ → Type 0) (Fails : ℕ → ℕ → Type 0) (found : Comparison) → found ≢ Missing → IsReadUnless Holds Fails found
+known_read Holds Fails found read = inl read
+
 -- of one that wasn't
 pub unread_missing : (Holds : List ℕ → Type 0) (Fails : ℕ → ℕ → Type 0) → SomeFail Holds Fails → IsReadUnless Holds Fails Missing
 unread_missing Holds Fails some = inr some
 
 -- a read that may fail later might have failed before
-fails-before : (Holds : List ℕ → Type 0) (New Old : ℕ → ℕ → Type 0) → FailsWhere New Old → SomeFail Holds New → SomeFail Holds Old
-fails-before Holds New Old later some = ∥∥₁_map some (λ it. (it.0, it.1, it.2, later it.0 it.1 it.3))
+fails-before : (Holds : List ℕ → Type 0) (Later Before : ℕ → ℕ → Type 0) → FailsWhere Later Before → SomeFail Holds Later → SomeFail Holds Before
+fails-before Holds Later Before later some = ∥∥₁_map some (λ it. (it.0, it.1, it.2, later it.0 it.1 it.3))
 
-pub read_before : {E : Type 0} (result : Result Comparison E) (Holds : List ℕ → Type 0) (New Old : ℕ → ℕ → Type 0) → FailsWhere New Old → IfOk result (IsReadUnless Holds New)
-    → IfOk result (IsReadUnless Holds Old)
-read_before (Ok found) Holds New Old later (inl read) = inl read
-read_before (Ok found) Holds New Old later (inr some) = inr (fails-before Holds New Old later some)
-read_before (Err why) Holds New Old later told = tt
+pub read_before : {E : Type 0} (result : Result Comparison E) (Holds : List ℕ → Type 0) (Later Before : ℕ → ℕ → Type 0) → FailsWhere Later Before → IfOk result (IsReadUnless Holds Later)
+    → IfOk result (IsReadUnless Holds Before)
+read_before (Ok found) Holds Later Before later (inl read) = inl read
+read_before (Ok found) Holds Later Before later (inr some) = inr (fails-before Holds Later Before later some)
+read_before (Err why) Holds Later Before later told = tt

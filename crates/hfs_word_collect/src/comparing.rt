@@ -48,7 +48,7 @@ fn told_by(known: &KnownImage, len: u64, digits: &str) -> Comparison
 
 /// How an image stands to what the database has of it. It is read where its digest is needed; where a read fails, it is missing. The
 /// only fault is `NoMemory`.
-#[tactic(auto, using(crate::proofs::Comparisons::told_by, crate::proofs::Comparisons::told_missing))]
+#[tactic(auto, using(crate::proofs::Comparisons::told_by, crate::proofs::Comparisons::told_missing, crate::proofs::Comparisons::compared_missing_of, crate::proofs::Comparisons::compared_unread, crate::proofs::Comparisons::compared_read, crate::proofs::Comparisons::known_read, crate::proofs::Comparisons::unread_missing))]
 pub fn compare_known<S: PlacedBytes>(
     alloc: Global,
     source: &mut S,
@@ -72,7 +72,7 @@ pub fn compare_known<S: PlacedBytes>(
 
 /// How an image stands to what the database has of this path: `New` where it has no row of it, else by its length and its digest;
 /// `Missing` where a read fails. Faults: `CannotWrite` where the database can't be read, `NoMemory`.
-#[tactic(auto, using(crate::proofs::Comparisons::asked_known, crate::proofs::Comparisons::asked_new, crate::proofs::Comparisons::compared_known, crate::proofs::Comparisons::compared_new, crate::proofs::Comparisons::new_read))]
+#[tactic(auto, using(crate::proofs::Comparisons::asked_known, crate::proofs::Comparisons::asked_new, crate::proofs::Comparisons::compared_known, crate::proofs::Comparisons::compared_new, crate::proofs::Comparisons::known_read, crate::proofs::Comparisons::new_read))]
 pub fn compare_file<D: Alter + Drop, S: PlacedBytes>(
     alloc: Global,
     collection: &mut Collection<D>,

@@ -1,5 +1,5 @@
 -- A read that failed at its place; all bytes at the end.
-use Rattle.std.proofs.Common.{◌≡◌, ◌+◌, ◌-◌, ◌≤◌, min, length, arith, rules}
+use Rattle.std.proofs.Common.{◌≡◌, ◌-◌, min, arith, rules}
 use Rattle.hfs_contents.proofs.Digests.{digest_whole}
 use Rattle.hfs_contents.proofs.FailLemmas.{on_err}
 use Rattle.hfs_contents.proofs.digest.file_digest.Goals as goal

@@ -1,5 +1,5 @@
 -- The byte that could not be read is there.
-use Rattle.std.proofs.Common.{◌≡◌, ◌≢◌, ◌+◌, ◌≤◌, length, arith, rules}
+use Rattle.std.proofs.Common.{◌≢◌, arith, rules}
 use Rattle.hfs_contents.proofs.FailLemmas.{on_err}
 use Rattle.hfs_word_collect.proofs.comparing.read_first.Goals as goal
 
