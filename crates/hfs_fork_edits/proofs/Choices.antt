@@ -114,14 +114,14 @@ short_found found length = by (nat_lt 2147483647 length) found
     by false (Ok f) = refl
     by false (Err code) = tt
 
-pub writable_found : (found : Result FoundFile ℤ) (fork : Fork) (offset : ℕ) (bytes : List ℕ) → IfOk (if_writable fork offset bytes found) (IsWritable found fork offset (length bytes))
+pub writable_found : (found : Result FoundFile ℤ) (fork : Fork) (offset : ℕ) (bytes : List ℕ) → IfOk (if_writable fork offset bytes found) (IsWritable found fork offset bytes)
 writable_found found fork offset bytes = by (ltb 65536 (length bytes)) (ltb 2147483647 (offset + length bytes)) refl found
   where
-    past : (f : FoundFile) (b : Bool) → offset + length bytes ≤ 2147483647 → ltb (fork_of fork f.file).length offset ≡ b → IfOk (cond b (Err END_OF_FILE) (Ok f)) (IsWritable (Ok f) fork offset (length bytes))
+    past : (f : FoundFile) (b : Bool) → offset + length bytes ≤ 2147483647 → ltb (fork_of fork f.file).length offset ≡ b → IfOk (cond b (Err END_OF_FILE) (Ok f)) (IsWritable (Ok f) fork offset bytes)
     past f true few e = tt
     past f false few e = record { is = refl; starts = ltb-false (fork_of fork f.file).length offset e; ends = few }
 
-    by : (a b : Bool) → ltb 2147483647 (offset + length bytes) ≡ b → (r : Result FoundFile ℤ) → IfOk (cond (a || b) (Err PARAMETER) (and_then r (unless_past fork offset))) (IsWritable r fork offset (length bytes))
+    by : (a b : Bool) → ltb 2147483647 (offset + length bytes) ≡ b → (r : Result FoundFile ℤ) → IfOk (cond (a || b) (Err PARAMETER) (and_then r (unless_past fork offset))) (IsWritable r fork offset bytes)
     by true b e r = tt
     by false true e r = tt
     by false false e (Ok f) = past f (ltb (fork_of fork f.file).length offset) (ltb-false 2147483647 (offset + length bytes) e) refl

@@ -62,7 +62,7 @@ ChoosesWriteFork found fork offset bytes result =
     → FindsFile old (to_write_fork (volume_in old) dir name fork offset bytes) result
 
 -- the file was found, its fork goes as far as the offset, and the bytes from there on end at 2,147,483,647 or before
-pub record IsWritable (found : Result FoundFile ℤ) (fork : Fork) (offset given : ℕ) (f : FoundFile) : Type 0 where
+pub record IsWritable (found : Result FoundFile ℤ) (fork : Fork) (offset : ℕ) (bytes : List ℕ) (f : FoundFile) : Type 0 where
   pub is : found ≡ Ok f
   pub starts : offset ≤ (fork_of fork f.file).length
-  pub ends : offset + given ≤ 2147483647
+  pub ends : offset + length bytes ≤ 2147483647

@@ -45,7 +45,7 @@ pub fn set_eof<B: Blocks>(
         from: fork_of(fork, &file.file).length,
         offset: 0,
         bytes: &[],
-        now,
+        moment: now,
     };
     match resize(alloc, volume, &resizing)? {
         Ok(change) => Ok(Ok(change)),
@@ -83,7 +83,7 @@ pub fn write_fork<B: Blocks>(
         from: length,
         offset,
         bytes,
-        now,
+        moment: now,
     };
     match resize(alloc, volume, &resizing)? {
         Ok(change) => Ok(Ok(change)),

@@ -1,6 +1,6 @@
 //! What SetEof and WriteFork choose, where the file was looked for already. In each the first code that holds is the reply's.
 
-ghost use Rattle.std.specs.Prelude.{◌≡◌, Ok, IfOk, length};
+ghost use Rattle.std.specs.Prelude.{◌≡◌, Ok, IfOk};
 ghost use Rattle.hfs_fork_edits.specs.Found as spec;
 
 use crate::records::fork_of;
@@ -88,7 +88,7 @@ pub fn to_write_fork(
     bytes: &[u8],
 ) -> Result<FoundFile, i16>
     ensures chooses { spec.ChoosesWriteFork found fork offset bytes.now result }
-    ensures within { IfOk result (spec.IsWritable found fork offset (length bytes.now)) }
+    ensures within { IfOk result (spec.IsWritable found fork offset bytes.now) }
 {
     if_writable(fork, offset, bytes, found)
 }

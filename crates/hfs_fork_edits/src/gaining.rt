@@ -70,7 +70,7 @@ pub(crate) fn gain<B: Blocks, Z: Blocks>(
         resizing.now.found.now.file) pieces.now))
         (B.blocks volume.now.blocks.now) (patched (Z.blocks below.now) patch) }
     ensures { IfOk result (GivesGained resizing.now.found.now resizing.now.fork resizing.now.length
-        resizing.now.now pieces.now (B.total volume.now.blocks.now)
+        resizing.now.moment pieces.now (B.total volume.now.blocks.now)
         (B.blocks volume.now.blocks.now) (Z.blocks below.now) patch) }
 {
     let found = resizing.found;

@@ -50,7 +50,7 @@ pub(crate) fn grow<B: Blocks>(
     requires places { HasPlaces resizing.now.fork resizing.now.found.now.file resizing.now.length
         resizing.now.from resizing.now.offset (length resizing.now.bytes.now) }
     ensures { Gives result (IsResized resizing.now.found.now resizing.now.fork resizing.now.length
-        resizing.now.offset resizing.now.bytes.now resizing.now.now)
+        resizing.now.offset resizing.now.bytes.now resizing.now.moment)
         B.total B.blocks volume.now.blocks.now }
 {
     let grown = match find_growing(alloc, volume.blocks, volume.mdb, was, wanted)? {

@@ -61,7 +61,7 @@ pub(crate) fn lose<B: Blocks, Z: Blocks>(
         resizing.now.found.now.file)))
         (B.blocks volume.now.blocks.now) (patched (Z.blocks below.now) patch) }
     ensures { IfOk result (HasSettled resizing.now.found.now resizing.now.fork resizing.now.length
-        resizing.now.now (cut count (extents_of (B.blocks volume.now.blocks.now) resizing.now.fork
+        resizing.now.moment (cut count (extents_of (B.blocks volume.now.blocks.now) resizing.now.fork
         resizing.now.found.now.file)) (B.total volume.now.blocks.now)
         (B.blocks volume.now.blocks.now) (Z.blocks below.now) patch) }
 {

@@ -26,7 +26,7 @@ pub(crate) fn resize<B: Blocks>(
     requires places { HasPlaces resizing.now.fork resizing.now.found.now.file resizing.now.length
         resizing.now.from resizing.now.offset (length resizing.now.bytes.now) }
     ensures { Gives result (IsResized resizing.now.found.now resizing.now.fork resizing.now.length
-        resizing.now.offset resizing.now.bytes.now resizing.now.now)
+        resizing.now.offset resizing.now.bytes.now resizing.now.moment)
         B.total B.blocks volume.now.blocks.now }
 {
     let Some(block_size) = BlockSize::new(volume.mdb.allocation_block_size) else {

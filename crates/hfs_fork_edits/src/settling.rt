@@ -81,11 +81,11 @@ pub(crate) fn settle_fork<B: Blocks, Z: Blocks>(
         resizing.now.found.now.key resizing.now.found.now.place }
     requires small { physical_length block_size resizing.now.length < 2 ^ 32 }
     ensures settles { IfOk result (λ made. Settles resizing.now.found.now.key
-        (file_with block_size resizing.now.fork resizing.now.length first resizing.now.now
+        (file_with block_size resizing.now.fork resizing.now.length first resizing.now.moment
         resizing.now.found.now.file) made.counts (B.blocks volume.now.blocks.now)
         (Z.blocks below.now) volume.now.catalog.now patch made.patch) }
     ensures counts { IfOk result (λ made.
-        made.counts ≡ counts_with free resizing.now.now volume.now.mdb.now) }
+        made.counts ≡ counts_with free resizing.now.moment volume.now.mdb.now) }
     ensures inside { IfOk result (λ made. AreWithin (changes made.patch) (Z.total below.now)) }
 {
     let found = resizing.found;
@@ -94,10 +94,10 @@ pub(crate) fn settle_fork<B: Blocks, Z: Blocks>(
         resizing.fork,
         resizing.length,
         first,
-        resizing.now,
+        resizing.moment,
         &found.file,
     );
-    let counts = counts_with(volume.mdb, free, resizing.now);
+    let counts = counts_with(volume.mdb, free, resizing.moment);
     let patch = settle(
         alloc,
         volume.blocks,

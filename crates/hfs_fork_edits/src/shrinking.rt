@@ -37,7 +37,7 @@ pub(crate) fn shrink<B: Blocks>(
     requires places { HasPlaces resizing.now.fork resizing.now.found.now.file resizing.now.length
         resizing.now.from resizing.now.offset (length resizing.now.bytes.now) }
     ensures { Gives result (IsShrunk resizing.now.found.now resizing.now.fork resizing.now.length
-        resizing.now.offset resizing.now.bytes.now resizing.now.now)
+        resizing.now.offset resizing.now.bytes.now resizing.now.moment)
         B.total B.blocks volume.now.blocks.now }
 {
     let lost = surplus(alloc, &was, u32::from(count))?;

@@ -31,7 +31,7 @@ pub(crate) struct Resizing<'a> {
     pub from: u32,
     pub offset: u32,
     pub bytes: &'a [u8],
-    pub now: u32,
+    pub moment: u32,
 }
 
 /// What SetEof or WriteFork makes of a volume: runs of zeros over its blocks, and a change whose patch lies over these.

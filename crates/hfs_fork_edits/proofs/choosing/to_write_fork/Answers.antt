@@ -1,5 +1,5 @@
 -- The model's choice of what was found.
-use Rattle.std.proofs.Common.{length, sym, subst}
+use Rattle.std.proofs.Common.{sym, subst}
 use Rattle.std.specs.Prelude.{IfOk}
 use Rattle.hfs_fork_edits.specs.Found.{ChoosesWriteFork, IsWritable}
 use Rattle.hfs_fork_edits.proofs.Choices.{write_fork_chosen, writable_found}
@@ -11,4 +11,4 @@ returns-clause-chooses c =
 
 pub returns-clause-within : goal.returns-clause-within
 returns-clause-within c =
-    subst (λ r. IfOk r (IsWritable c.args.found c.args.fork c.args.offset (length c.args.bytes.now))) (sym c.if_writable.ensures) (writable_found c.args.found c.args.fork c.args.offset c.args.bytes.now)
+    subst (λ r. IfOk r (IsWritable c.args.found c.args.fork c.args.offset c.args.bytes.now)) (sym c.if_writable.ensures) (writable_found c.args.found c.args.fork c.args.offset c.args.bytes.now)

@@ -90,10 +90,10 @@ returns g c =
       settled = record {
         within = subst (λ (n : ℕ). AreWithin (changes c.in_ok-settled.settled.patch) n) c.requires.same c.in_ok-settled.ensures.inside;
         directory = edits.directory_is _ _ _ _ _ c.requires.volume _ c.args.resizing.now.fork _ c.requires.found.is _ _ c.requires.free _ (with_pieces _ _ _ c.requires.made) _ c.requires.beside _ c.in_ok-bits.ensures.claimed.beside _ grows.edits c.in-Ok.ensures.beside
-            c.args.block_size c.args.resizing.now.length c.args.resizing.now.now _ c.requires.size c.in-Ok.longer.first _ c.in-Ok.longer.patch c.in_ok-settled.settled.patch refl _ c.in_ok-settled.ensures.counts c.in_ok-settled.ensures.settles;
+            c.args.block_size c.args.resizing.now.length c.args.resizing.now.moment _ c.requires.size c.in-Ok.longer.first _ c.in-Ok.longer.patch c.in_ok-settled.settled.patch refl _ c.in_ok-settled.ensures.counts c.in_ok-settled.ensures.settles;
         sets = λ from count offset part written laid chosen is.
             edits.gained _ _ _ _ _ c.requires.volume _ fork chosen is _ _ c.requires.free _ (with_pieces _ _ _ c.requires.made) _ c.requires.beside _ c.in_ok-bits.ensures.claimed.beside _ grows.edits c.in-Ok.ensures.beside
-            c.args.block_size c.args.resizing.now.length c.args.resizing.now.now _ c.requires.size c.in-Ok.longer.first _ c.in-Ok.longer.patch c.in_ok-settled.settled.patch refl _ c.in_ok-settled.ensures.counts c.in_ok-settled.ensures.settles
+            c.args.block_size c.args.resizing.now.length c.args.resizing.now.moment _ c.requires.size c.in-Ok.longer.first _ c.in-Ok.longer.patch c.in_ok-settled.settled.patch refl _ c.in_ok-settled.ensures.counts c.in_ok-settled.ensures.settles
             refl c.in_ok-bits.ensures.claimed grows c.requires.count (let enough = c.requires.enough in omega (arith, enough)) from count offset part written laid;
       };
       enough = edits.enough_of _ _ _ _ _ c.requires.volume _ c.args.resizing.now.fork _ c.requires.found.is c.args.pieces.now _ first grows.enough;

@@ -100,9 +100,9 @@ returns g c =
     record {
       within = subst (λ (n : ℕ). AreWithin (changes c.in_ok-settled.settled.patch) n) c.requires.same c.in_ok-settled.ensures.inside;
       directory = edits.directory_is _ _ _ _ _ c.requires.volume _ c.args.resizing.now.fork _ c.requires.found.is 0 [] (free_none _ _) _ (cut_has c.args.count _) _ c.requires.beside _ c.in_ok-bits.ensures.released.beside _ shortens.edits c.in_ok-shorter.ensures.beside
-          c.args.block_size c.args.resizing.now.length c.args.resizing.now.now _ c.requires.size c.in_ok-shorter.shorter.fork.first _ c.in_ok-shorter.shorter.patch c.in_ok-settled.settled.patch refl _ c.in_ok-settled.ensures.counts c.in_ok-settled.ensures.settles;
+          c.args.block_size c.args.resizing.now.length c.args.resizing.now.moment _ c.requires.size c.in_ok-shorter.shorter.fork.first _ c.in_ok-shorter.shorter.patch c.in_ok-settled.settled.patch refl _ c.in_ok-settled.ensures.counts c.in_ok-settled.ensures.settles;
       sets = λ from count offset part written laid chosen is.
           edits.lessened _ _ _ _ _ c.requires.volume _ fork chosen is 0 [] (free_none _ _) _ (cut_has c.args.count _) _ c.requires.beside _ c.in_ok-bits.ensures.released.beside _ shortens.edits c.in_ok-shorter.ensures.beside
-          c.args.block_size c.args.resizing.now.length c.args.resizing.now.now _ c.requires.size c.in_ok-shorter.shorter.fork.first _ c.in_ok-shorter.shorter.patch c.in_ok-settled.settled.patch refl _ c.in_ok-settled.ensures.counts c.in_ok-settled.ensures.settles
+          c.args.block_size c.args.resizing.now.length c.args.resizing.now.moment _ c.requires.size c.in_ok-shorter.shorter.fork.first _ c.in_ok-shorter.shorter.patch c.in_ok-settled.settled.patch refl _ c.in_ok-settled.ensures.counts c.in_ok-settled.ensures.settles
           c.args.count c.requires.count refl c.in_ok-shorter.shorter.fork refl lost shortens c.requires.fewer (omega (arith, freed, same, left)) from count offset part written laid;
     }
