@@ -102,8 +102,8 @@ def pieces(path):
           (6, 96, '06000000000200000300'), (6, 114, '00000001' + disk + '00')]),
         # the most blocks of 512 bytes: drNmAlBlks, drAlBlkSiz, drClpSiz, drAlBlSt; drFreeBks of the alternate; the bitmap; the catalog's numbers
         (('D', 65_535, 3, 1), 33_553_920, [(2, 18, 'ffea0000020000000800' + '0013'), (65_533, 34, 'ffe6'), (3, 0, 'f000'), (20, 32, '020000250000000300000001')]),
-        # allocation blocks of four blocks each, of which each tree has one
-        (('D', 262_144, 2, 1), 134_217_728, [(2, 18, 'fffa0000080000002000' + '0013'), (2, 130, '0000080000000001'), (2, 146, '0000080000010001')]),
+        # an allocation block has one block more for each 65,536: here five, of which each tree has one
+        (('D', 262_144, 2, 1), 134_217_728, [(2, 18, 'ccc900000a0000002800' + '0010'), (2, 130, '00000a0000000001'), (2, 146, '00000a0000010001')]),
         # one block more than the first: blocks of 1,024 bytes, and so trees of two and of four nodes
         (('D', 65_536, 3, 1), 33_554_432,
          [(2, 18, '7ff90000040000001000' + '000b'), (65_534, 34, '7ff6'), (2, 130, '0000040000000001'), (2, 146, '0000080000010002'), (3, 0, 'e000'),

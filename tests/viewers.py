@@ -17,8 +17,8 @@ from driver.calls import Answer, Call, read_answers, script_of
 from driver.programs import ROOT, Difference, Program, built
 
 NOW = 9
-# How often a viewer asks all calls, and how often it is run again where it ended before the worker.
-ROUNDS, RUNS = 16, 100
+# How many lines a viewer has at least, in so many rounds or more, and how often it is run again where it ended before the worker.
+LINES, ROUNDS, RUNS = 8_000, 16, 100
 NAMES = ['a', 'b', 'd', 'f', 'g', 'x', 'y', 'z', 'A', '{', 'one', 'two', 'a longer name than before']
 SIXTEEN, MANY = '000102030405060708090a0b0c0d0e0f', '000102030405060708090a0b0c0d0e0f101112131415161718191a1b1c1d1e1f'
 SEVENS = '07' * 16
@@ -87,7 +87,8 @@ class Trial:
 
     def is_followed(self, count: int) -> bool:
         """Lets a viewer ask beside a worker that makes the first changes. Whether its last answers are those behind all of them."""
-        answers = self.run(script_of(self.changes[:count]) + script_of(self.asked * ROUNDS, 'v1'))[count:]
+        rounds = max(ROUNDS, LINES // len(self.asked)) if count > 20 else ROUNDS
+        answers = self.run(script_of(self.changes[:count]) + script_of(self.asked * rounds, 'v1'))[count:]
         self.answers += len(answers)
         least = 0
         for number, answer in enumerate(answers):
@@ -122,7 +123,7 @@ def trials(tool: Program):
             yield new_volume(tool, folder, 64, nodes), calls, asking(), range(count + 1)
         one_file = gzip.decompress((ROOT / 'tests' / 'volumes' / 'small' / 'one-file.img.gz').read_bytes())
         yield one_file, calls_of(ONE_FILE[1]), asking(), range(ONE_FILE[0] + 1)
-        asked = [Call.of('indexed', 2, 150), Call.of('indexed', 2, 151), Call.of('list', 2), Call.of('info', 2, 'f299'), Call.of('info', 2, 'f300')]
+        asked = [Call.of('indexed', 2, 150), Call.of('indexed', 2, 151), Call.of('dirinfo', 2), Call.of('info', 2, 'f299'), Call.of('info', 2, 'f300')]
         yield new_volume(tool, folder, 1600, 1000), many(), asked, range(50, 451, 50)
 
 
