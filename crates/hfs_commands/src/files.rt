@@ -76,8 +76,11 @@ impl<F: Read + Seek> WatchedImage<F> {
 }
 
 impl<F: Read + Seek + OpenFile> BlockSource for WatchedImage<F> {
+    ghost use Rattle.std.specs.Prelude.{◌≡◌, Some, unwrap_or};
+    ghost use Rattle.std.proofs.Common.{ap, sym};
+    ghost use Rattle.std.proofs.lemmas.Option.{none-some};
+    ghost use Rattle.hfs_commands.specs.declared.files.WatchedImage.TheVariants as opened;
     ghost use Rattle.hfs_commands.specs.Watches.{watched_bytes, watched_images};
-    ghost use Rattle.hfs_commands.proofs.WatchLemmas.{known-watched};
 
     ghost image = { λ image. watched_bytes image };
 
@@ -93,7 +96,11 @@ impl<F: Read + Seek + OpenFile> BlockSource for WatchedImage<F> {
         }
     }
 
-    ghost known_holds = { λ image bytes e. known-watched image bytes e };
+    ghost known_holds = { λ image bytes e.
+        elim image as (λ file. watched_bytes file ≡ Some bytes → watched_images file bytes) [
+          | opened.InFile file ↦ λ none. absurd (none-some bytes none)
+          | opened.Whole all ↦ λ same. sym (ap (λ known. unwrap_or known all.items) same)
+        ] e };
 }
 
 impl<F: Read + Seek + OpenFile> Watched for WatchedImage<F> {

@@ -41,7 +41,9 @@ impl<R: WatchedReader + Drop> WatchedBlocks<R> {
         let opened = reader.look()?;
         Ok(WatchedBlocks { reader, opened })
     }
+}
 
+impl<R> WatchedBlocks<R> {
     /// How many bytes it had when it was opened.
     pub fn len(&self) -> u64
         ensures { result ≡ self.now.opened.len }
