@@ -6,7 +6,7 @@ use Rattle.hfs_bag.specs.Faults.{AreTooMany, IsBagFault}
 use Rattle.hfs_bag.specs.Sources.{TakesItem}
 use Rattle.hfs_bag.proofs.Growing.{each_err}
 use Rattle.hfs_bag.proofs.FaultLemmas.{item-large, of-keeping}
-use Rattle.hfs_bag.proofs.GivingLemmas.{given_none, given_one, part_behind, part_item}
+use Rattle.hfs_bag.proofs.GivingLemmas.{given_one, part_behind, part_item}
 use Rattle.hfs_bag.proofs.giving.give_next.Goals as goal
 
 pub returns-in_err-head-clause-part : goal.returns-in_err-head-clause-part

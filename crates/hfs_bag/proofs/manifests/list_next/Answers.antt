@@ -1,11 +1,11 @@
-use Rattle.std.proofs.Common.{◌≡◌, List, [], ℕ, ◌∙◌, inl, inr, refl, subst, rules}
+use Rattle.std.proofs.Common.{List, ℕ, ◌∙◌, inl, inr, refl, subst, rules}
 use Rattle.sha2.specs.Hashers.{Holds256}
 use Rattle.hfs_shelves.specs.Entries.{IsBeginning, with_piece}
 use Rattle.hfs_shelves.proofs.Beginnings.{begins_piece}
 use Rattle.hfs_bag.specs.Bags.{items_entries, manifest}
 use Rattle.hfs_bag.specs.Sources.{TakesItem}
 use Rattle.hfs_bag.proofs.Growing.{each_err}
-use Rattle.hfs_bag.proofs.ListingLemmas.{listed_one, next_none, next_told, part_lines, taken_none}
+use Rattle.hfs_bag.proofs.ListingLemmas.{next_none, next_told, part_lines, taken_none}
 use Rattle.hfs_bag.proofs.manifests.list_next.Goals as goal
 
 pub returns-in_err-next_item-clause-part : goal.returns-in_err-next_item-clause-part
