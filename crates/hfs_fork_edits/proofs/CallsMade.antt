@@ -9,9 +9,11 @@ use Rattle.hfs_model.specs.declared.reply.Value.{Value}
 use Rattle.hfs_model.specs.declared.reply.Value.TheVariants as value
 use Rattle.hfs_model.specs.Changes.{Outcome, refused, change}
 use Rattle.hfs_model.specs.Replies.{success, is_accepted}
-use Rattle.hfs_model.specs.Volume.{Volume, Entry}
+use Rattle.hfs_model.specs.Volume.{Volume, Entry, Items}
 use Rattle.hfs_check.specs.Parts.{Blocks}
 use Rattle.hfs_check.specs.Sound.{AreBlocksSound}
+use Rattle.std.specs.FinMap as map
+use Rattle.hfs_fork_calls.specs.Forks.{resized, written, fork_bytes, item_with_fork}
 use Rattle.hfs_fork_calls.specs.ForkCalls.{to_set_eof, to_write_fork, set_eof, write_fork}
 use Rattle.hfs_fork_changes.specs.Files.{fork_of}
 use Rattle.hfs_fork_changes.specs.Laid.{AreFull}
@@ -26,21 +28,30 @@ use Rattle.hfs_fork_edits.specs.declared.volume.ForkChange.{ForkChange}
 
 -- ---- the replies
 
+changed_by : (v : Volume) (make : Entry → Items → Items) (now : ℕ) (r s : Result Entry ℤ) → r ≡ s → change v r make now ≡ change v s make now
+changed_by v make now r s e = ap (λ (x : Result Entry ℤ). change v x make now) e
+
+abbrev set_eof_makes : ℕ → Fork → ℕ → ℕ → Entry → Items → Items
+set_eof_makes size fork length now e m = map.insert m e.0 (item_with_fork size fork (resized length (fork_bytes fork e.1.kind)) now e.1)
+
+abbrev write_fork_makes : ℕ → Fork → ℕ → List ℕ → ℕ → Entry → Items → Items
+write_fork_makes size fork offset bytes now e m = map.insert m e.0 (item_with_fork size fork (written offset bytes (fork_bytes fork e.1.kind)) now e.1)
+
 pub set_eof_refused : (size : ℕ) (v : Volume) (dir : ℕ) (name : List ℕ) (fork : Fork) (length now : ℕ) (code : ℤ) → to_set_eof v dir name length ≡ Err code → set_eof size v dir name fork length now ≡ refused v code
 unfolding set_eof
-set_eof_refused size v dir name fork length now code e = ap (λ (r : Result Entry ℤ). change v r _ now) e
+set_eof_refused size v dir name fork length now code e = changed_by v (set_eof_makes size fork length now) now _ _ e
 
 pub set_eof_done : (size : ℕ) (v : Volume) (dir : ℕ) (name : List ℕ) (fork : Fork) (length now : ℕ) (x : Entry) → to_set_eof v dir name length ≡ Ok x → (set_eof size v dir name fork length now).1 ≡ success value.Nothing
 unfolding set_eof
-set_eof_done size v dir name fork length now x e = ap (λ (r : Result Entry ℤ). (change v r _ now).1) e
+set_eof_done size v dir name fork length now x e = ap (λ (o : Outcome). o.1) (changed_by v (set_eof_makes size fork length now) now _ _ e)
 
 pub write_fork_refused : (size : ℕ) (v : Volume) (dir : ℕ) (name : List ℕ) (fork : Fork) (offset : ℕ) (bytes : List ℕ) (now : ℕ) (code : ℤ) → to_write_fork v dir name fork offset bytes ≡ Err code → write_fork size v dir name fork offset bytes now ≡ refused v code
 unfolding write_fork
-write_fork_refused size v dir name fork offset bytes now code e = ap (λ (r : Result Entry ℤ). change v r _ now) e
+write_fork_refused size v dir name fork offset bytes now code e = changed_by v (write_fork_makes size fork offset bytes now) now _ _ e
 
 pub write_fork_done : (size : ℕ) (v : Volume) (dir : ℕ) (name : List ℕ) (fork : Fork) (offset : ℕ) (bytes : List ℕ) (now : ℕ) (x : Entry) → to_write_fork v dir name fork offset bytes ≡ Ok x → (write_fork size v dir name fork offset bytes now).1 ≡ success value.Nothing
 unfolding write_fork
-write_fork_done size v dir name fork offset bytes now x e = ap (λ (r : Result Entry ℤ). (change v r _ now).1) e
+write_fork_done size v dir name fork offset bytes now x e = ap (λ (o : Outcome). o.1) (changed_by v (write_fork_makes size fork offset bytes now) now _ _ e)
 
 pub accepted : (r : Reply) → r ≡ success value.Nothing → IsTrue (is_accepted r)
 accepted r e = ap is_accepted e

@@ -1,5 +1,5 @@
 -- The runs have the blocks from that of the first to that of the last.
-use Rattle.std.proofs.Common.{ℕ, List, drop, sym, ◌∙◌, ap, subst, arith}
+use Rattle.std.proofs.Common.{ℕ, ◌/◌, List, drop, sym, ◌∙◌, ap, subst, arith}
 use Rattle.std.specs.List.{flat_map}
 use Rattle.hfs_blocks.specs.declared.run.Run.{Run}
 use Rattle.hfs_blocks.specs.Blocks.{run_of, AreRunsWithin}
@@ -17,6 +17,6 @@ pub returns : goal.returns
 unfolding tree_blocks
 returns g c =
     if_ok c.runs_from.result _ _
-    (λ rest is. written_by c.args.from c.args.end c.args.offset c.args.count c.first_written-first.result c.last_written-last.result c.first_written-first.ensures c.last_written-last.ensures c.requires.order _ _ _
-    (is ∙ ap (λ (rs : List Run). drop _ (flat_map run_of rs)) c.deref.ensures.value) c.in_ok-runs.ensures.numbers)
+    (λ rest is. written_by c.args.from c.args.end c.args.offset c.args.count c.first_written-first.result c.last_written-last.result c.first_written-first.ensures c.last_written-last.ensures c.requires.order _ (flat_map run_of c.in_ok-runs.runs.items) (flat_map run_of rest.items)
+    (is ∙ ap (λ (rs : List Run). drop (c.first_written-first.result / 512) (flat_map run_of rs)) c.deref.ensures.value) c.in_ok-runs.ensures.numbers)
     c.runs_from.ensures.blocks
