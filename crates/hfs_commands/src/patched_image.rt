@@ -13,7 +13,7 @@ use std::io::Write;
 
 /// The bytes of an image that is read as they are written, with changed blocks in place of its own.
 #[derive(Drop)]
-pub struct PatchedImage<S: BlockSource> {
+pub struct PatchedImage<S> {
     pub alloc: Global,
     /// Where the image is read from.
     pub source: S,

@@ -99,7 +99,7 @@ fn mended_text(
 
 /// What a repair makes of an image that is read where it is needed, and what is told of it.
 #[derive(Drop)]
-pub struct RepairAnswer<S: BlockSource> {
+pub struct RepairAnswer<S> {
     /// The repaired image, as what a file is to hold; or what it was read from, where it is refused.
     pub image: Result<PatchedImage<S>, S>,
     /// The first fault of the repaired image, where it has one.

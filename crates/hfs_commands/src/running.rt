@@ -58,7 +58,7 @@ pub struct RefusedRun<S> {
 
 /// What a run of a script made of an image.
 #[derive(Drop)]
-pub struct RanImage<S: BlockSource> {
+pub struct RanImage<S> {
     /// The image with what was changed laid over it, as what a file is to hold.
     pub image: PatchedImage<S>,
     /// The answers, of which long bytes have no digits yet.
