@@ -20,4 +20,3 @@ pub mod LawsProved
 pub mod GatheredLaws
 pub mod SeenStart
 pub mod SeenFiles
-pub mod SeenRuns
