@@ -482,11 +482,17 @@ def compare_ways(pages):
 
 
 def compare_refused(pages):
-    """The page of a refused image in which nothing is found has the fault, as `ls` tells it, and what it means."""
+    """The page of a refused image has the fault, as `ls` tells it, and what it means."""
     new = bytes(new_volume())
+    damaged = 'the disk is damaged; hfs_tool rescue takes off what is there'
+    counts = 'counts are wrong, the files may be whole; hfs_tool repair mends counts, and hfs_tool rescue takes the files off as they are'
     length = 'a volume has at least 1,536 bytes and at most 2,147,483,648'
     cases = {'short': (new[:1535], 'image too short', length), 'empty': (b'', 'image too short', length),
-             'zeros': (bytes(32_768), 'not an HFS volume (-57)', 'no HFS volume begins here; hfs_tool volumes FILE looks for one inside, and hfs_tool rescue for what remains of one')}
+             'zeros': (bytes(32_768), 'not an HFS volume (-57)', 'no HFS volume begins here; hfs_tool volumes FILE looks for one inside, and hfs_tool rescue for what remains of one'),
+             'cut': (new[:61 * 512], 'bad master directory block M4 (-60)', damaged),
+             'miscounted': (new[:MDB + 87] + b'\1' + new[MDB + 88:], 'check C10 at 3', counts),
+             'unnamed': ((VOLUMES / 'refused-icon.img').read_bytes(), 'check C7 at 4', 'the disk may be sound: it has a name that this program does not take; hfs_tool rescue takes its files off'),
+             'bitmap': (new[:1_536] + b'\0' * 512 + new[2_048:], 'check C12 at 0', damaged)}
     for name, (content, fault, meaning) in cases.items():
         image = pages.image(f'refused-{name}', content)
         ensure(told('ls', image) == (2, f'{fault}\n'.encode()), f'ls of {name} prints {told("ls", image)}')
@@ -502,25 +508,6 @@ def compare_refused(pages):
     document = Document(told('page', pages.folder / 'huge.img')[1].decode('utf-8'))
     ensure([it.text for it in document.top.only('main').elements if it.tag != 'dl'] == ['Refused', 'image too large', length, f'Printed by {VERSION}'],
            'the page of an image that is too large')
-
-
-def compare_remains(pages):
-    """The page of a refused image of which something is found has the fault and what it means too; what else it has is wanted by
-    refused_disks.py."""
-    new = bytes(new_volume())
-    damaged = 'the disk is damaged; hfs_tool rescue takes off what is there'
-    counts = 'counts are wrong, the files may be whole; hfs_tool repair mends counts, and hfs_tool rescue takes the files off as they are'
-    cases = {'cut': (new[:61 * 512], 'bad master directory block M4 (-60)', damaged),
-             'miscounted': (new[:MDB + 87] + b'\1' + new[MDB + 88:], 'check C10 at 3', counts),
-             'unnamed': ((VOLUMES / 'refused-icon.img').read_bytes(), 'check C7 at 4', 'the disk may be sound: it has a name that this program does not take; hfs_tool rescue takes its files off'),
-             'bitmap': (new[:1_536] + b'\0' * 512 + new[2_048:], 'check C12 at 0', damaged)}
-    for name, (content, fault, meaning) in cases.items():
-        image = pages.image(f'refused-{name}', content)
-        document = Document(pages.printed(image, told('rescue', image, '--list')[0]).decode('utf-8'))
-        pages.want_dress(document, characters(content[MDB + 37:][:content[MDB + 36]]))
-        texts = [it.text for it in document.top.only('main').elements if it.tag == 'p']
-        ensure(texts == [fault, meaning], f'the page of {name} says {texts}')
-        pages.count += 1
 
 
 def compare_links(pages):
@@ -573,7 +560,6 @@ def main():
             compare_deep(pages)
             compare_ways(pages)
             compare_refused(pages)
-            compare_remains(pages)
             compare_links(pages)
             compare_digests(pages)
             each = compare_many(pages, words.items)

@@ -348,7 +348,7 @@ def look_at_own(browser, folder, kept, items, volumes):
         return page
 
     for image in sorted(VOLUMES.glob('*.img')):
-        page = printed(image, told('rescue', image, '--list')[0] if image.name.startswith('refused') else 0)
+        page = printed(image, 2 if image.name.startswith('refused') else 0)
         look_at(browser, page, kept, True)
         look_at_colours(page) if 'id="k0"' in page.read_text('utf-8') else None
     parts, many = folder / 'parts.img', folder / 'many.img'

@@ -3,8 +3,8 @@ pub mod MarkupLemmas
 pub mod NestedItems
 pub mod NestedPages
 mod HoldingLemmas
-pub mod UseLemmas
+mod UseLemmas
 mod ItemLemmas
-pub mod Joins
+mod Joins
 mod DiskLemmas
-pub mod Written
+mod Written

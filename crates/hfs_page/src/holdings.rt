@@ -14,11 +14,7 @@ use hfs_space::{CatalogFile, ForkKind, fork_extents, owned_extents};
 use std::alloc::{AllocError, Global};
 
 /// Adds extents that are no file's.
-pub fn push_held(
-    holdings: &mut Vec<Holding>,
-    part: Part,
-    extents: &[Extent],
-) -> Result<(), AllocError>
+fn push_held(holdings: &mut Vec<Holding>, part: Part, extents: &[Extent]) -> Result<(), AllocError>
     ensures { OnOk result (AddsHoldings holdings.old holdings.new (all_held part extents.now)) }
 {
     for extent in extents {
@@ -31,7 +27,7 @@ pub fn push_held(
 }
 
 /// Adds the extents of a fork: up to the first that has a block, and behind it.
-pub fn push_fork_held(
+fn push_fork_held(
     holdings: &mut Vec<Holding>,
     fork: FileFork,
     extents: &[Extent],

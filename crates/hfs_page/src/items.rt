@@ -80,7 +80,7 @@ fn push_fork(alloc: Global, page: &mut Vec<u8>, label: &[u8], bytes: u32) -> Res
 }
 
 /// Appends how many bytes the forks of a file have, together and each.
-pub fn push_sizes(alloc: Global, page: &mut Vec<u8>, info: &Info) -> Result<(), AllocError>
+fn push_sizes(alloc: Global, page: &mut Vec<u8>, info: &Info) -> Result<(), AllocError>
     ensures { OnOk result (Gains page.old page.new (sizes_text info.now)) }
 {
     push_both(alloc, page, info)?;
@@ -91,7 +91,7 @@ pub fn push_sizes(alloc: Global, page: &mut Vec<u8>, info: &Info) -> Result<(), 
 
 /// Appends a file's type and creator.
 #[tactic(auto, unfolding(crate::specs::Items::type_text))]
-pub fn push_type(alloc: Global, page: &mut Vec<u8>, info: &Info) -> Result<(), AllocError>
+fn push_type(alloc: Global, page: &mut Vec<u8>, info: &Info) -> Result<(), AllocError>
     ensures { OnOk result (Gains page.old page.new (type_text info.now)) }
 {
     push_told_text(alloc, page, b"<span>", &info.finder[..4])?;
@@ -136,7 +136,7 @@ fn push_file(
 
 /// Appends the ends of so many folders.
 #[tactic(auto, unfolding(crate::specs::Items::closings))]
-pub fn push_closings(page: &mut Vec<u8>, count: usize) -> Result<(), AllocError>
+pub(crate) fn push_closings(page: &mut Vec<u8>, count: usize) -> Result<(), AllocError>
     ensures { OnOk result (Gains page.old page.new (closings count)) }
 {
     let mut left = count;

@@ -22,4 +22,3 @@ mod UnfoundLemmas
 mod ThereLemmas
 mod BagSumLemmas
 mod ShownLemmas
-mod PagedLemmas

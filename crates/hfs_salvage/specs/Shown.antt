@@ -1,7 +1,6 @@
 -- What is shown of what was found of a refused image: rows, and the bytes of a fork.
 use Rattle.std.specs.Prelude.{◌≡◌, ℕ, ℤ, Bool, true, false, List, [], Option, Some, None, Result, Ok, Err}
 use Rattle.std.specs.Io.KnownBytes.{Appends}
-use Rattle.hfs_check.specs.declared.mount_fault.MountFault.{MountFault}
 use Rattle.hfs_commands.specs.declared.fault.Status.TheVariants.{CallRefused, Done}
 use Rattle.hfs_commands.specs.Faults.{status_number}
 use Rattle.hfs_finds.specs.Finds.{is_found_right}
@@ -9,10 +8,6 @@ use Rattle.hfs_model.specs.declared.codes.TheConstants.{NOT_A_FOLDER, NOT_FOUND}
 use Rattle.hfs_model.specs.declared.reply.Reply.{Reply}
 use Rattle.hfs_model.specs.Replies.{refusal}
 use Rattle.hfs_needed.specs.Known.{OfKnown}
-use Rattle.hfs_refusals.specs.Hints.{meaning_text}
-use Rattle.hfs_refusals.specs.Refusals.{refusal_text}
-use Rattle.hfs_remains_page.specs.declared.remains_texts.RemainsTexts.{RemainsTexts}
-use Rattle.hfs_remains_page.specs.Pages.{remains_page}
 use Rattle.hfs_rescue_items.specs.declared.found.Found.{Found}
 use Rattle.hfs_rescue_items.specs.Bytes.{taken_bytes}
 use Rattle.hfs_rescue_rows.specs.declared.paths.PathEnd.{PathEnd}
@@ -51,12 +46,6 @@ abbrev pub folder_told : List ℕ → Found → PathEnd → Result ℕ Reply
 folder_told image found end.Nothing = Err (refusal NOT_FOUND)
 folder_told image found (end.File k) = Err (refusal NOT_A_FOLDER)
 folder_told image found (end.Folder k) = Ok (found_status image found)
-
--- ---- a page
-
--- with the fault in words
-abbrev pub found_page : RemainsTexts → MountFault → Found → List ℕ
-found_page texts why found = remains_page texts (refusal_text why) (meaning_text why) found
 
 -- ---- forks
 

@@ -4,14 +4,12 @@ ghost use Rattle.std.specs.Option.{option_map};
 ghost use Rattle.hfs_commands.specs.Faults.{IsUnprinted};
 
 use crate::image::RescuedImage;
-use crate::paging::write_found_page;
 use crate::showing::{image_fault, write_found_folder, write_found_fork, write_found_items};
 use crate::words::RescueWords;
 use hfs_check::MountFault;
 use hfs_commands::{CheckAnswer, CopyFault, Fault, Format, refused_text};
 use hfs_finds::RefusedImage;
 use hfs_model::Reply;
-use hfs_remains_page::RemainsTexts;
 use hfs_source::PlacedBlocks;
 use hfs_space::ForkKind;
 use hfs_sparse::{BlockSource, SeenBlocks};
@@ -85,20 +83,6 @@ impl<S: BlockSource + Drop> Remains<S> {
         ensures { IfErr result IsUnprinted }
     {
         write_found_items(alloc, writer, &self.image, words, format)
-    }
-
-    /// Writes the page of what was found, with this fault in words, as [`write_found_page`] does.
-    pub fn write_page<W: Write>(
-        &self,
-        alloc: Global,
-        writer: &mut W,
-        words: &RescueWords<'_>,
-        why: MountFault,
-        texts: &RemainsTexts<'_>,
-    ) -> Result<u8, Fault<'static>>
-        ensures { IfErr result IsUnprinted }
-    {
-        write_found_page(alloc, writer, &self.image, words, why, texts)
     }
 
     /// Writes the rows of a folder, as [`write_found_folder`] does.

@@ -1,5 +1,0 @@
-mod GatherLemmas
-mod NestedLemmas
-mod TreeLemmas
-mod PieceLemmas
-mod PageLemmas
