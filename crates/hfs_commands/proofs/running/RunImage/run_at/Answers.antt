@@ -1,9 +1,9 @@
 -- What was read, and what the run made of it.
-use Rattle.std.proofs.Common.{ℕ, List, ap, sym, subst}
+use Rattle.std.proofs.Common.{ℕ, ap, sym, subst}
 use Rattle.hfs_runs.specs.Pieces.{text_of_pieces}
 use Rattle.hfs_source.specs.Images.{OfEach}
 use Rattle.hfs_commands.specs.Running.{IsNeededRunOf}
-use Rattle.hfs_commands.proofs.RunNeeded.{mountable-old, sound-new, needed-run, seen-then, held-then}
+use Rattle.hfs_commands.proofs.RunNeeded.{mountable-old, sound-new, needed-run, seen-then}
 use Rattle.hfs_commands.proofs.running.RunImage.run_at.Goals as goal
 
 pub fetch_named_forks-requires : goal.fetch_named_forks-requires
