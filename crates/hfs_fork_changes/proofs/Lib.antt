@@ -12,4 +12,4 @@ pub mod Moves
 mod Bytes
 pub mod Laid
 pub mod Edited
-mod LawsProved
+pub mod LawsProved
