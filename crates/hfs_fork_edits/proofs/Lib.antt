@@ -1,1 +1,3 @@
 pub mod Choices
+mod LaidOver
+mod Ready

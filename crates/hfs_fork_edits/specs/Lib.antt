@@ -1,4 +1,9 @@
 pub mod Found
 pub mod Counts
+pub mod Room
+pub mod Laying
 pub mod Overflow
 pub mod Recorded
+pub mod Bits
+pub mod Extents
+pub mod Settling

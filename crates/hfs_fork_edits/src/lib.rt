@@ -2,9 +2,15 @@
 //! wants of the volume, and the change.
 #![tactic(auto)]
 
+mod bits;
 mod choosing;
+mod extents;
+mod laying;
 mod overflow;
 mod recorded;
 mod records;
+mod room;
+mod settling;
+mod volume;
 
 pub use choosing::{FoundFile, to_set_eof, to_write_fork};
