@@ -1,6 +1,6 @@
 //! The calls that write forks.
 ghost use Rattle.std.specs.Prelude.{◌≡◌, ◌+◌, ◌≤◌, length, OnOk, OnErr};
-ghost use Rattle.hfs_fork_calls.specs.ForkCalls.{file_to_write, to_set_eof, to_write_fork, set_eof, write_fork};
+ghost use Rattle.hfs_model.specs.ForkCalls.{file_to_write, to_set_eof, to_write_fork, set_eof, write_fork};
 ghost use Rattle.hfs_model.specs.Lawful.{IsLawful};
 ghost use Rattle.hfs_store.specs.PlainVolume.{GivesOutcome, IsPlaceIn};
 
@@ -24,7 +24,7 @@ impl PlainVolume {
         Ok(at)
     }
 
-    #[tactic(auto, unfolding(hfs_fork_calls::specs::ForkCalls::to_set_eof))]
+    #[tactic(auto, unfolding(hfs_model::specs::ForkCalls::to_set_eof))]
     fn to_set_eof(&self, dir: u32, name: &[u8], length: u32) -> Result<usize, i16>
         ensures place { IsPlaceIn self.now (to_set_eof self.now dir name.now length) result }
         ensures short { OnOk result (length ≤ 2147483647) }
@@ -35,7 +35,7 @@ impl PlainVolume {
         self.file_to_write(dir, name)
     }
 
-    #[tactic(auto, unfolding(hfs_fork_calls::specs::ForkCalls::to_write_fork))]
+    #[tactic(auto, unfolding(hfs_model::specs::ForkCalls::to_write_fork))]
     fn to_write_fork(
         &self,
         dir: u32,
@@ -61,7 +61,7 @@ impl PlainVolume {
     /// Makes a file's fork its first `length` bytes, with zeros after them where it was shorter, and its physical length that of
     /// the allocation blocks that these take. `Err` only where memory is wanting, and then the volume is as it was.
     /// A lawful volume stays lawful.
-    #[tactic(auto, unfolding(hfs_fork_calls::specs::ForkCalls::set_eof))]
+    #[tactic(auto, unfolding(hfs_model::specs::ForkCalls::set_eof))]
     pub fn set_eof(
         &mut self,
         dir: u32,
@@ -90,7 +90,7 @@ impl PlainVolume {
     /// Writes bytes into a file's fork from an offset on, which lengthens the fork where they go past its end. `Err` only where
     /// memory is wanting, and then the volume is as it was.
     /// A lawful volume stays lawful.
-    #[tactic(auto, unfolding(hfs_fork_calls::specs::ForkCalls::write_fork))]
+    #[tactic(auto, unfolding(hfs_model::specs::ForkCalls::write_fork))]
     pub fn write_fork(
         &mut self,
         dir: u32,

@@ -1,6 +1,6 @@
 use Rattle.std.proofs.Common.{arith}
-use Rattle.hfs_fork_calls.specs.Forks.{resized}
-use Rattle.hfs_fork_calls.specs.ForkCalls.{set_eof}
+use Rattle.hfs_model.specs.Forks.{resized}
+use Rattle.hfs_model.specs.ForkCalls.{set_eof}
 use Rattle.hfs_fork_calls.proofs.LawsProved.{set_eof_is_lawful}
 use Rattle.hfs_store.proofs.Outcomes.{within}
 use Rattle.hfs_store.proofs.ForkOutcomes.{fork_entries, fork_changes, kept_lawful}

@@ -1,5 +1,5 @@
-use Rattle.hfs_fork_calls.specs.Forks.{written}
-use Rattle.hfs_fork_calls.specs.ForkCalls.{write_fork}
+use Rattle.hfs_model.specs.Forks.{written}
+use Rattle.hfs_model.specs.ForkCalls.{write_fork}
 use Rattle.hfs_fork_calls.proofs.LawsProved.{write_fork_is_lawful}
 use Rattle.hfs_store.proofs.Outcomes.{within}
 use Rattle.hfs_store.proofs.ForkOutcomes.{fork_entries, fork_changes, kept_lawful}
