@@ -29,11 +29,11 @@ to_write_chosen v dir name e is =
     let step = chained _ _ e is in
     subst (λ (x : Entry). IsChild v dir name x) (unlocked_is e step.0 step.2) (file_chosen v dir name step.0 step.1)
 
-set_eof_chosen : (v : Volume) (dir : ℕ) (name : List ℕ) (length : ℕ) (e : Entry) → to_set_eof v dir name length ≡ Ok e → IsChild v dir name e
+pub set_eof_chosen : (v : Volume) (dir : ℕ) (name : List ℕ) (length : ℕ) (e : Entry) → to_set_eof v dir name length ≡ Ok e → IsChild v dir name e
 unfolding to_set_eof
 set_eof_chosen v dir name length e is = to_write_chosen v dir name e (not_refused _ _ _ e is).1
 
-write_fork_chosen : (v : Volume) (dir : ℕ) (name : List ℕ) (fork : Fork) (offset : ℕ) (bytes : List ℕ) (e : Entry) → to_write_fork v dir name fork offset bytes ≡ Ok e → IsChild v dir name e
+pub write_fork_chosen : (v : Volume) (dir : ℕ) (name : List ℕ) (fork : Fork) (offset : ℕ) (bytes : List ℕ) (e : Entry) → to_write_fork v dir name fork offset bytes ≡ Ok e → IsChild v dir name e
 unfolding to_write_fork
 write_fork_chosen v dir name fork offset bytes e is =
     let step = chained _ _ e (not_refused _ _ _ e is).1 in

@@ -64,6 +64,8 @@ want_in (value.One info) = None
 want_in (value.Many infos) = None
 want_in (value.Bytes bytes) = None
 want_in (value.Full free depth) = Some (want.Nodes free depth)
+want_in (value.Room free wanted) = Some (want.Room free wanted)
+want_in (value.ExtentNodes free depth) = Some (want.ExtentNodes free depth)
 want_in (value.Place dir name) = None
 
 -- what a reply says of want

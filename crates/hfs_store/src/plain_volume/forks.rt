@@ -1,7 +1,8 @@
 //! The calls that write forks.
-ghost use Rattle.std.specs.Prelude.{◌≡◌, ◌+◌, ◌≤◌, length, OnOk, OnErr};
+ghost use Rattle.std.specs.Prelude.{◌≡◌, ◌+◌, ◌≤◌, length, IsTrue, OnOk, OnErr};
 ghost use Rattle.hfs_model.specs.ForkCalls.{file_to_write, to_set_eof, to_write_fork, set_eof, write_fork};
 ghost use Rattle.hfs_model.specs.Lawful.{IsLawful};
+ghost use Rattle.hfs_model.specs.Step.{step, is_writing};
 ghost use Rattle.hfs_store.specs.PlainVolume.{GivesOutcome, IsPlaceIn};
 
 use super::PlainVolume;
@@ -9,7 +10,7 @@ use crate::bytes::{fork_bytes, resized, written};
 use crate::changes::set_fork;
 use crate::entries::is_locked_file;
 use crate::reading::{refusal, success};
-use hfs_model::{END_OF_FILE, FILE_LOCKED, Fork, PARAMETER, Reply, Value};
+use hfs_model::{Call, END_OF_FILE, FILE_LOCKED, Fork, PARAMETER, Reply, Value};
 use std::alloc::AllocError;
 
 impl PlainVolume {
@@ -114,6 +115,55 @@ impl PlainVolume {
                 Ok(success(Value::Nothing))
             }
             Err(code) => Ok(refusal(code)),
+        }
+    }
+    /// Answers a call that writes a fork. A refused call, and one for which memory was wanting, changes nothing.
+    #[tactic(auto)]
+    pub(super) fn write(&mut self, call: &Call) -> Result<Reply, AllocError>
+        requires { IsTrue (is_writing call.now) }
+        ensures ok { GivesOutcome (step self.old call.now) self.new result }
+        ensures err { OnErr result (self.new ≡ self.old) }
+    {
+        match call {
+            Call::SetEof {
+                dir,
+                name,
+                fork,
+                length,
+                now,
+            } => self.set_eof(*dir, name.as_slice(), *fork, *length, *now),
+            Call::WriteFork {
+                dir,
+                name,
+                fork,
+                offset,
+                bytes,
+                now,
+            } => self.write_fork(
+                *dir,
+                name.as_slice(),
+                *fork,
+                *offset,
+                bytes.as_slice(),
+                *now,
+            ),
+            Call::GetDirInfo { .. }
+            | Call::GetCatInfo { .. }
+            | Call::GetIndexed { .. }
+            | Call::List { .. }
+            | Call::ReadFork { .. }
+            | Call::Create { .. }
+            | Call::DirCreate { .. }
+            | Call::Delete { .. }
+            | Call::Rename { .. }
+            | Call::CatMove { .. }
+            | Call::SetFInfo { .. }
+            | Call::SetCatInfo { .. }
+            | Call::SetFLock { .. }
+            | Call::RstFLock { .. }
+            | Call::CreateFileId { .. }
+            | Call::DeleteFileId { .. }
+            | Call::ResolveFileId { .. } => unreachable!(),
         }
     }
 }
