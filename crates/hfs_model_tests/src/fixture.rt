@@ -25,6 +25,8 @@ pub enum Ask<'a> {
     CreateId(u32, &'a [u8]),
     DeleteId(u32),
     Resolve(u32),
+    SetEof(u32, &'a [u8], u32),
+    Write(u32, &'a [u8], u32, &'a [u8]),
 }
 
 /// The folder of the call, or its file ID, and the name in the folder, empty where the call has none.
@@ -47,6 +49,8 @@ fn place_of<'a>(ask: &Ask<'a>) -> (u32, &'a [u8]) {
         Ask::CreateId(dir, name) => (dir, name),
         Ask::DeleteId(id) => (id, b""),
         Ask::Resolve(id) => (id, b""),
+        Ask::SetEof(dir, name, _) => (dir, name),
+        Ask::Write(dir, name, _, _) => (dir, name),
     }
 }
 
@@ -58,6 +62,29 @@ fn read_of(dir: u32, name: SharedBytes, offset: u32, count: u32) -> Call {
         fork: Fork::DataFork,
         offset,
         count,
+    }
+}
+
+/// The call that sets the length of a data fork.
+fn set_eof_of(dir: u32, name: SharedBytes, length: u32, now: u32) -> Call {
+    Call::SetEof {
+        dir,
+        name,
+        fork: Fork::DataFork,
+        length,
+        now,
+    }
+}
+
+/// The call that writes bytes into a data fork.
+fn write_of(dir: u32, name: SharedBytes, offset: u32, bytes: SharedBytes, now: u32) -> Call {
+    Call::WriteFork {
+        dir,
+        name,
+        fork: Fork::DataFork,
+        offset,
+        bytes,
+        now,
     }
 }
 
@@ -74,7 +101,7 @@ fn set_info_of(dir: u32, name: SharedBytes, now: u32) -> Call {
     }
 }
 
-/// The call at that moment. Data forks are read; Finder bytes are set to 7, dates to 1, 2 and 3.
+/// The call at that moment. Data forks are read and written; Finder bytes are set to 7, dates to 1, 2 and 3.
 pub fn call_of(alloc: Global, ask: &Ask, now: u32) -> Result<Call, AllocError> {
     let (dir, name) = place_of(ask);
     let name = SharedBytes::from_slice(alloc, name)?;
@@ -111,6 +138,16 @@ pub fn call_of(alloc: Global, ask: &Ask, now: u32) -> Result<Call, AllocError> {
         Ask::CreateId(_, _) => Call::CreateFileId { dir, name, now },
         Ask::DeleteId(id) => Call::DeleteFileId { id, now },
         Ask::Resolve(id) => Call::ResolveFileId { id },
+        Ask::SetEof(_, _, length) => set_eof_of(dir, name, length, now),
+        Ask::Write(_, _, offset, bytes) => {
+            write_of(
+                dir,
+                name,
+                offset,
+                SharedBytes::from_slice(alloc, bytes)?,
+                now,
+            )
+        }
     })
 }
 

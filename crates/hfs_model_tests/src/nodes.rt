@@ -16,7 +16,7 @@ fn has_need(
 }
 
 /// Calls, the depth of a tree, the free nodes that they need in it, and whether they only read.
-const NEEDS: [(Ask<'static>, u32, u64, bool); 23] = [
+const NEEDS: [(Ask<'static>, u32, u64, bool); 25] = [
     (Ask::Create(2, b"a"), 0, 1, false),
     (Ask::Create(2, b"a"), 1, 2, false),
     (Ask::Create(2, b"a"), 15, 16, false),
@@ -40,6 +40,8 @@ const NEEDS: [(Ask<'static>, u32, u64, bool); 23] = [
     (Ask::Info(2, b"a"), 3, 0, true),
     (Ask::Indexed(2, 1), 3, 0, true),
     (Ask::Read(2, b"a", 0, 1), 3, 0, true),
+    (Ask::SetEof(2, b"a", 9), 16, 0, false),
+    (Ask::Write(2, b"a", 0, b"x"), 16, 0, false),
 ];
 
 #[test]

@@ -1,5 +1,5 @@
 //! The text of scripts, a line for each call.
-use hfs_model::{Call, SharedBytes};
+use hfs_model::{Call, Fork, SharedBytes};
 use hfs_scripts::{Caller, ScriptLine, TextFault, read_script, script_text};
 use std::alloc::{AllocError, Global};
 use std::test::Fail;
@@ -33,6 +33,8 @@ fn texts_are_plain(rt: HostRuntime) {
     let mixed = b"2\tsetfinfo\t2\ta\t54455854747478740100AbCdEf000000";
     let lower = b"2\tsetfinfo\t2\ta\t54455854747478740100abcdef000000\n";
     assert!(rt; has_text(alloc, mixed, lower));
+    let written = b"1\twrite\t2\ta\tdata\t007\tAbCd";
+    assert!(rt; has_text(alloc, written, b"1\twrite\t2\ta\tdata\t7\tabcd\n"));
 }
 
 /// Every word that stands in no test above.
@@ -48,6 +50,49 @@ fn each_word_has_its_text(rt: HostRuntime) {
     let third =
         b"1\tsetinfo\t2\ta\t1\t2\t3\t000102030405060708090a0b0c0d0e0f000102030405060708090a0b0c0d0e0f\n";
     assert!(rt; has_text(alloc, third, third));
+    let fourth =
+        b"1\tseteof\t2\ta\tdata\t4294967295\n1\twrite\t2\ta\tres\t0\t00ff\n1\twrite\t2\ta\tdata\t5\t\n";
+    assert!(rt; has_text(alloc, fourth, fourth));
+}
+
+/// Whether a script doesn't read.
+fn is_refused(alloc: Global, script: &[u8]) -> bool {
+    read_script(alloc, script, 0).is_err()
+}
+
+/// Digits that are no bytes, a fork that is none, fields too few and too many, a viewer.
+#[test]
+fn writes_that_do_not_read(rt: HostRuntime) {
+    let scripts: [&[u8]; 7] = [
+        b"1\twrite\t2\ta\tdata\t0\tabc",
+        b"1\twrite\t2\ta\tdata\t0\tgg",
+        b"1\twrite\t2\ta\tother\t0\tab",
+        b"1\twrite\t2\ta\tdata\t0",
+        b"1\tseteof\t2\ta\tdata\t1\t2",
+        b"1\tseteof\t2\ta\tdata\t",
+        b"v1\tseteof\t2\ta\tdata\t1",
+    ];
+    for (row, script) in scripts.iter().enumerate() {
+        assert!(rt; is_refused(rt.alloc(), script), "row {row}");
+    }
+}
+
+/// A line that writes bytes of so many digits.
+fn write_of(alloc: Global, digits: usize) -> Result<Vec<u8>, AllocError> {
+    let mut line = Vec::from_slice(alloc, b"1\twrite\t2\ta\tdata\t0\t")?;
+    let zeros = vec![in alloc; b'0'; digits]?;
+    line.extend_from_slice(&zeros)?;
+    Ok(line)
+}
+
+/// 131,072 digits are the most.
+#[test]
+fn long_writes(rt: HostRuntime) -> Result<(), Fail> {
+    let most = write_of(rt.alloc(), 131_072)?;
+    assert!(rt; !is_refused(rt.alloc(), &most));
+    let more = write_of(rt.alloc(), 131_074)?;
+    assert!(rt; is_refused(rt.alloc(), &more));
+    Ok(())
 }
 
 /// Two lines: one that has a text, and one of this caller and call.
@@ -79,6 +124,29 @@ fn is_creation_unwritable(
 ) -> Result<bool, AllocError> {
     let name = SharedBytes::from_slice(alloc, name)?;
     is_unwritable(alloc, caller, Call::Create { dir: 2, name, now })
+}
+
+/// Whether a line that writes so many bytes has no text.
+fn is_write_unwritable(alloc: Global, count: usize) -> Result<bool, AllocError> {
+    let name = SharedBytes::from_slice(alloc, b"a")?;
+    let bytes = SharedBytes::from_vec(vec![in alloc; 7; count]?)?;
+    let call = Call::WriteFork {
+        dir: 2,
+        name,
+        fork: Fork::ResFork,
+        offset: 0,
+        bytes,
+        now: 5,
+    };
+    is_unwritable(alloc, Caller::Worker(1), call)
+}
+
+/// A line writes at most 65,536 bytes.
+#[test]
+fn writes_without_a_text(rt: HostRuntime) -> Result<(), Fail> {
+    assert!(rt; !is_write_unwritable(rt.alloc(), 65_536)?);
+    assert!(rt; is_write_unwritable(rt.alloc(), 65_537)?);
+    Ok(())
 }
 
 #[test]
