@@ -185,7 +185,7 @@ module _ (keep : ℕ → Bool) where
     -- ---- the calls that write forks, whose own bytes are no zeros: both volumes are bared behind them
 
     -- the same but for the bytes of forks, and the same reply
-    record EndsBare (there here : Outcome) : Type 0 where
+    pub record EndsBare (there here : Outcome) : Type 0 where
       pub volume : bare_volume keep there.0 ≡ bare_volume keep here.0
       pub reply : there.1 ≡ here.1
 

@@ -15,7 +15,7 @@ use Rattle.hfs_model.specs.Replies.{is_accepted}
 use Rattle.hfs_model.specs.Volume.{Entry, Volume}
 use Rattle.hfs_model.specs.Changes.{refused}
 use Rattle.hfs_model.specs.Need.{meets_want_of_nodes}
-use Rattle.hfs_model.specs.Step.{step}
+use Rattle.hfs_model.specs.Step.{step, is_writing}
 use Rattle.hfs_catalog.specs.declared.item.ItemRecord.{ItemRecord}
 use Rattle.hfs_catalog.specs.declared.item.ItemRecord.TheVariants.{Folder, File}
 use Rattle.hfs_catalog.specs.declared.item.CatalogItem.{CatalogItem}
@@ -146,10 +146,11 @@ IsEditOf c total old (Ok change) = HasNodes c old (IsChangeOf c total old change
 IsEditOf c total old (Err (refusal.Code code)) = HasNodes c old (step (volume_in old) c ≡ refused (volume_in old) code)
 IsEditOf c total old (Err (refusal.Want wanting)) = IsWantOf c old wanting
 
--- where the call is done, nothing was wanting
+-- where the call is done, nothing was wanting; of a call that writes a fork a code is none that stands for done
 abbrev pub HasForkRoom : Call → ℕ → Blocks → Result Change Refusal → Type 0
 HasForkRoom c total old (Ok change) = MeetsForkWant c old None
-HasForkRoom c total old (Err reason) = ⊤
+HasForkRoom c total old (Err (refusal.Code code)) = is_writing c ≡ true → is_accepted (step (volume_in old) c).1 ≡ false
+HasForkRoom c total old (Err (refusal.Want wanting)) = ⊤
 
 -- what some call makes of it
 pub record IsEdit (total : ℕ) (old : Blocks) (edit : Result Change Refusal) : Type 0 where

@@ -134,7 +134,9 @@ fn ask(alloc: Global, viewer: &mut Viewer, call: &Call) -> Result<Reply, ViewFau
         | Call::SetFLock { .. }
         | Call::RstFLock { .. }
         | Call::CreateFileId { .. }
-        | Call::DeleteFileId { .. } => Err(ViewFault::Gone),
+        | Call::DeleteFileId { .. }
+        | Call::SetEof { .. }
+        | Call::WriteFork { .. } => Err(ViewFault::Gone),
     }
 }
 
