@@ -1,0 +1,2 @@
+mod OneBlock
+mod Runs

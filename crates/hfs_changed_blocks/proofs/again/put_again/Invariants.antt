@@ -1,0 +1,6 @@
+-- The blocks before this one came.
+use Rattle.hfs_changed_blocks.proofs.Runs.{GainsUpTo}
+use Rattle.hfs_changed_blocks.proofs.again.put_again.Given as goal
+
+abbrev pub invariant-loop-n : goal.invariant-loop-n
+invariant-loop-n l = GainsUpTo l.run.first l.n l.kept l.initial.again l.again
