@@ -18,7 +18,7 @@ Block = Option (List ℕ)
 joined : (a p all : Block) (s : List ℕ) → (IsSome a → IsSome all) → (IsSome p → IsSome all) → (IsSome all → IsSome a ⊎ IsSome p)
     → unwrap_or all s ≡ unwrap_or p (unwrap_or a s) → all ≡ option_or p a
 joined None None None s of_a of_p back shows = refl
-joined None None (Some x) s of_a of_p back shows = ⊎_elim (λ (no : IsSome (None {A = List ℕ})). absurd no) (λ (no : IsSome (None {A = List ℕ})). absurd no) (back tt)
+joined None None (Some x) s of_a of_p back shows = ⊎_elim (λ no. absurd no) (λ no. absurd no) (back tt)
 joined None (Some p) None s of_a of_p back shows = absurd (of_p tt)
 joined None (Some p) (Some x) s of_a of_p back shows = ap (λ (b : List ℕ). Some b) shows
 joined (Some a) None None s of_a of_p back shows = absurd (of_a tt)
@@ -43,8 +43,8 @@ one_block None (Some o) (Some n) true flag b of_old of_all back shows = shows
 one_block None (Some o) (Some n) false flag b of_old of_all back shows = shows
 one_block None None None true flag b of_old of_all back shows = refl
 one_block None None None false flag b of_old of_all back shows = refl
-one_block None None (Some n) true flag b of_old of_all back shows = ⊎_elim (λ (no : IsSome (None {A = List ℕ})). absurd no) (λ (no : IsSome (None {A = List ℕ})). absurd no) (back tt)
-one_block None None (Some n) false flag b of_old of_all back shows = ⊎_elim (λ (no : IsSome (None {A = List ℕ})). absurd no) (λ (no : IsSome (None {A = List ℕ})). absurd no) (back tt)
+one_block None None (Some n) true flag b of_old of_all back shows = ⊎_elim (λ no. absurd no) (λ no. absurd no) (back tt)
+one_block None None (Some n) false flag b of_old of_all back shows = ⊎_elim (λ no. absurd no) (λ no. absurd no) (back tt)
 
 module _ (below : ℕ → List ℕ) (patch again all old new : Numbered) (runs : List Run) (flags after : List Bool)
     (are : AreAgain (is_in runs) old again) (over_again : IsPatchOver again patch all) (laid : IsLaid (over (flagged flags) below) old all new)

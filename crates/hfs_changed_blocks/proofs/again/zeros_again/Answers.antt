@@ -1,0 +1,8 @@
+-- The blocks of one run more came.
+use Rattle.std.proofs.Common.{refl}
+use Rattle.hfs_changed_blocks.proofs.Runs.{again_more}
+use Rattle.hfs_changed_blocks.proofs.again.zeros_again.Goals as goal
+
+pub loop-i-preserved : goal.loop-i-preserved
+loop-i-preserved c =
+    again_more c.args.runs.now c.loop-i.i _ c.args.kept.now c.loop-i.again c.put_again.new.again c.loop-i-test.true refl c.loop-i.invariant c.in_ok-put_again.ensures
