@@ -48,7 +48,8 @@ is_call book base s t p q c r x base_is a told_is =
           image = s.current;
           agrees = subst (λ (b : List ℕ). Agrees b s.current) (sym a.base ∙ base_is) a.headline.agrees;
           volume_is = v_is;
-          reply_is = ap (λ (o : Outcome). o.1) a.outcome;
+          left = volume_of t.current;
+          outcome = a.outcome;
         };
         told_is = subst (λ (es : List Entry). IsToldOf book opening es x) a.journal told_is;
       },
