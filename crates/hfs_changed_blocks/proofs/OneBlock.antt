@@ -1,5 +1,5 @@
 -- What is shown of one block behind a change.
-use Rattle.std.proofs.Common.{◌≡◌, ◌⊎◌, inl, inr, ⊎_elim, ℕ, Bool, true, false, cond, List, Option, Some, None, refl, sym, ap, subst, ◌∙◌}
+use Rattle.std.proofs.Common.{◌≡◌, ◌⊎◌, inl, inr, ⊎_elim, ℕ, Bool, true, false, cond, List, Option, Some, None, refl, sym, ap, subst, ◌∙◌, true≢false}
 use Rattle.std.specs.Prelude.{◌&&◌, ◌||◌, is_some, IsSome, unwrap_or, slice_index_or}
 use Rattle.std.specs.Option.{option_or}
 use Rattle.hfs_blocks.specs.declared.run.Run.{Run}
@@ -14,37 +14,30 @@ use Rattle.hfs_changed_blocks.specs.Laying.{IsPatchOver, IsLaidWith, shown}
 abbrev Block : Type 0
 Block = Option (List ℕ)
 
--- where a block of one comes of two others, and is shown as the first over the second
-joined : (a p all : Block) (s : List ℕ) → (IsSome a → IsSome all) → (IsSome p → IsSome all) → (IsSome all → IsSome a ⊎ IsSome p)
-    → unwrap_or all s ≡ unwrap_or p (unwrap_or a s) → all ≡ option_or p a
-joined None None None s of_a of_p back shows = refl
-joined None None (Some x) s of_a of_p back shows = ⊎_elim (λ no. absurd no) (λ no. absurd no) (back tt)
-joined None (Some p) None s of_a of_p back shows = absurd (of_p tt)
-joined None (Some p) (Some x) s of_a of_p back shows = ap (λ (b : List ℕ). Some b) shows
-joined (Some a) None None s of_a of_p back shows = absurd (of_a tt)
-joined (Some a) None (Some x) s of_a of_p back shows = ap (λ (b : List ℕ). Some b) shows
-joined (Some a) (Some p) None s of_a of_p back shows = absurd (of_p tt)
-joined (Some a) (Some p) (Some x) s of_a of_p back shows = ap (λ (b : List ℕ). Some b) shows
+abbrev none : {A : Type 0} → Option A
+none = None
 
--- a patch that was laid over another
-pub patch_over : (below : ℕ → List ℕ) (again patch all : Numbered) → IsLaid below again patch all → HasJoined (changes again) (changes patch) (changes all) → IsPatchOver again patch all
-patch_over below again patch all laid both k =
-    joined (changes again k) (changes patch k) (changes all k) (below k) (both.of_first k) (both.of_second k) (both.of_none_else k) (laid k)
+-- none is some
+lost : is_some (none {A = List ℕ}) ≡ true → ⊥
+lost e = true≢false (sym e)
+
+none_is : {X : Type 0} → is_some (none {A = List ℕ}) ≡ true → X
+none_is e = absurd (lost e)
 
 -- the block kept before, and now; the patch's; whether it is in a run, and was flagged
 one_block : (p old new : Block) (inside flag : Bool) (b : List ℕ) → (IsSome old → IsSome new) → (IsSome (option_or p (zeros_if (inside && is_some old))) → IsSome new)
     → (IsSome new → IsSome old ⊎ IsSome (option_or p (zeros_if (inside && is_some old))))
     → unwrap_or new (unwrap_or (zeros_if flag) b) ≡ unwrap_or (option_or p (zeros_if (inside && is_some old))) (unwrap_or old (unwrap_or (zeros_if flag) b))
     → unwrap_or new (unwrap_or (zeros_if (inside || flag)) b) ≡ unwrap_or p (unwrap_or (zeros_if inside) (unwrap_or old (unwrap_or (zeros_if flag) b)))
-one_block (Some p) old None inside flag b of_old of_all back shows = absurd (of_all tt)
+one_block (Some p) old None inside flag b of_old of_all back shows = absurd (lost (of_all refl))
 one_block (Some p) old (Some n) inside flag b of_old of_all back shows = shows
-one_block None (Some o) None inside flag b of_old of_all back shows = absurd (of_old tt)
+one_block None (Some o) None inside flag b of_old of_all back shows = absurd (lost (of_old refl))
 one_block None (Some o) (Some n) true flag b of_old of_all back shows = shows
 one_block None (Some o) (Some n) false flag b of_old of_all back shows = shows
 one_block None None None true flag b of_old of_all back shows = refl
 one_block None None None false flag b of_old of_all back shows = refl
-one_block None None (Some n) true flag b of_old of_all back shows = ⊎_elim (λ no. absurd no) (λ no. absurd no) (back tt)
-one_block None None (Some n) false flag b of_old of_all back shows = ⊎_elim (λ no. absurd no) (λ no. absurd no) (back tt)
+one_block None None (Some n) true flag b of_old of_all back shows = ⊎_elim none_is none_is (back refl)
+one_block None None (Some n) false flag b of_old of_all back shows = ⊎_elim none_is none_is (back refl)
 
 module _ (below : ℕ → List ℕ) (patch again all old new : Numbered) (runs : List Run) (flags after : List Bool)
     (are : AreAgain (is_in runs) old again) (over_again : IsPatchOver again patch all) (laid : IsLaid (over (flagged flags) below) old all new)

@@ -1,7 +1,9 @@
 -- Flags and blocks of runs, one run after the other.
 use Rattle.std.proofs.Common.{◌≡◌, ◌⊎◌, inl, inr, ⊎_elim, ℕ, ◌+◌, ◌<◌, ◌≤◌, Bool, true, false, cond, List, [], ◌∷◌, length, take, get_or, Option, Some, None, refl, sym, ap, subst, ◌∙◌, arith, true≢false}
 use Rattle.std.specs.Prelude.{◌&&◌, ◌||◌, nat_eq, nat_le, nat_lt, is_some}
+use Rattle.std.specs.Borrow.{Bor}
 use Rattle.std.specs.List.{All, list_any}
+use Rattle.std.specs.Option.{option_copied}
 use Rattle.std.proofs.lemmas.Bool.{cases_eq, cases_lt, eq-eqb, le-leb, le-ltb, lt-leb, lt-ltb, ltb-true, ne_eqb}
 use Rattle.std.proofs.lemmas.List.{length-replicate}
 use Rattle.std.proofs.lemmas.List.Elements.{All-head, All-tail}
@@ -11,11 +13,11 @@ use Rattle.hfs_blocks.specs.declared.run.Run.{Run}
 use Rattle.hfs_blocks.specs.Layers.{Numbered, changes, with_change, AreWithin}
 use Rattle.hfs_fork_bytes.specs.Parts.{zeros}
 use Rattle.hfs_fork_bytes.specs.Zeros.{is_of_run}
-use Rattle.hfs_changed_blocks.specs.Flags.{is_flagged, zeros_if, HasFlagged, HasFlaggedRuns}
+use Rattle.hfs_changed_blocks.specs.Flags.{zeros_if}
 use Rattle.hfs_changed_blocks.specs.Again.{AreAgain, GainsRun, is_in}
 use Rattle.hfs_changed_blocks.specs.Laying.{AreAmong}
 
--- ---- flags
+-- ---- numbers of a run
 
 -- whether a number stands from the one up to the other
 abbrev between : ℕ → ℕ → ℕ → Bool
@@ -33,34 +35,6 @@ behind_end first end n h = ap (λ (b : Bool). nat_le first n && b) (le-ltb n end
     and-false : (b : Bool) → (b && false) ≡ false
     and-false true = refl
     and-false false = refl
-
-run_flags : (first end : ℕ) (old new : List Bool) → HasFlagged first end old new → (n : ℕ) → is_flagged new n ≡ (between first end n || is_flagged old n)
-run_flags first end old new h n = ⊎_elim
-    (λ (l : n < first). h.others n (inl l) ∙ ap (λ (b : Bool). b || is_flagged old n) (sym (below_first first end n l)))
-    (λ (ge : first ≤ n). ⊎_elim
-    (λ (l : n < end). h.set n ge l ∙ ap (λ (b : Bool). b || is_flagged old n) (sym (within first end n ge l)))
-    (λ (le : end ≤ n). h.others n (inr le) ∙ ap (λ (b : Bool). b || is_flagged old n) (sym (behind_end first end n le)))
-    (cases_lt n end))
-    (cases_lt n first)
-
-turned : (a b c : Bool) → (a || (b || c)) ≡ ((b || a) || c)
-turned true true c = refl
-turned true false c = refl
-turned false true c = refl
-turned false false c = refl
-
--- one run more
-pub flags_more : (runs : List Run) (i : ℕ) (run : Run) (old now new : List Bool) → i < length runs → run ≡ get_or runs i run → HasFlaggedRuns (take i runs) old now
-    → HasFlagged run.first (run.first + run.count) now new → HasFlaggedRuns (take (i + 1) runs) old new
-flags_more runs i run old now new l is before h = record {
-  len = h.len ∙ before.len;
-  are = λ n.
-      run_flags run.first (run.first + run.count) now new h n
-      ∙ ap (λ (b : Bool). is_of_run n run || b) (before.are n)
-      ∙ turned (is_of_run n run) (list_any (is_of_run n) (take i runs)) (is_flagged old n)
-      ∙ ap (λ (r : Run). (list_any (is_of_run n) (take i runs) || is_of_run n r) || is_flagged old n) is
-      ∙ ap (λ (b : Bool). b || is_flagged old n) (sym (list_any_more (is_of_run n) runs i run l));
-}
 
 -- ---- blocks that become zeros
 
@@ -124,12 +98,15 @@ gains_not first n kept old now before has passes are k = ⊎_elim
     (cases_eq n k)
 
 -- one run more
-pub again_more : (runs : List Run) (i : ℕ) (run : Run) (kept now new : Numbered) → i < length runs → run ≡ get_or runs i run → AreAgain (is_in (take i runs)) kept now
-    → GainsRun run kept now new → AreAgain (is_in (take (i + 1) runs)) kept new
-again_more runs i run kept now new l is before gains k =
-    gains (is_in (take i runs)) before k
-    ∙ ap (λ (r : Run). zeros_if ((is_in (take i runs) k || is_of_run k r) && is_some (changes kept k))) is
-    ∙ ap (λ (b : Bool). zeros_if (b && is_some (changes kept k))) (sym (list_any_more (is_of_run k) runs i run l))
+pub again_more : (runs : List Run) (i : ℕ) (d : Run) (kept now new : Numbered) → i < length runs → AreAgain (is_in (take i runs)) kept now
+    → GainsRun (get_or runs i d) kept now new → AreAgain (is_in (take (i + 1) runs)) kept new
+again_more runs i d kept now new l before gains k =
+    gains (is_in (take i runs)) before k ∙ ap (λ (b : Bool). zeros_if (b && is_some (changes kept k))) (sym (list_any_more (is_of_run k) runs i d l))
+
+-- what lends a block has one
+pub copied_some : (o : Option (Bor (List ℕ))) → is_some (option_copied o) ≡ is_some o
+copied_some None = refl
+copied_some (Some b) = refl
 
 -- ---- where these blocks are
 

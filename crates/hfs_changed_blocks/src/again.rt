@@ -28,7 +28,8 @@ pub(crate) fn zeros_again(alloc: Global, kept: &Patch, runs: &[Run]) -> Result<P
 {
     let mut again = Patch::new(alloc);
     for i in 0..runs.len() {
-        put_again(kept, runs[i], &mut again)?;
+        let run = runs[i];
+        put_again(kept, run, &mut again)?;
     }
     Ok(again)
 }
