@@ -1,2 +1,1 @@
-mod OneBlock
 mod Runs

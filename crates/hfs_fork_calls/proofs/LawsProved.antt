@@ -1,5 +1,5 @@
 -- The laws of this crate.
-use Rattle.std.proofs.Common.{◌≡◌, ℕ, true, false, cond, not, ltb, List, length, refl, sym, ◌∙◌, ap, subst, Option, Result, Ok, ℤ}
+use Rattle.std.proofs.Common.{◌≡◌, ℕ, true, false, cond, not, ltb, List, length, sym, ◌∙◌, ap, subst, Option, Result, Ok, ℤ}
 use Rattle.std.specs.Option.{option_map_or}
 use Rattle.hfs_fields.specs.Names.{is_item_name}
 use Rattle.hfs_model.specs.declared.codes.TheConstants.{BAD_NAME, NOT_FOUND, PARAMETER, NOT_A_FOLDER}

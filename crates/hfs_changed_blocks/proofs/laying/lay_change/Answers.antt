@@ -1,5 +1,4 @@
 -- The blocks that become zeros are among those of the image; then the patch lies over them, and all over what was kept.
-use Rattle.hfs_changed_blocks.proofs.OneBlock.{laid_with}
 use Rattle.hfs_changed_blocks.proofs.Runs.{again_within}
 use Rattle.hfs_changed_blocks.proofs.laying.lay_change.Goals as goal
 
