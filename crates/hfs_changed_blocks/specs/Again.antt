@@ -1,5 +1,5 @@
 -- Blocks of a patch that become zeros.
-use Rattle.std.specs.Prelude.{◌≡◌, ℕ, Bool, ◌&&◌, ◌||◌, is_some, List, OnOk, Result, IfOk}
+use Rattle.std.specs.Prelude.{◌≡◌, ℕ, Bool, ◌&&◌, ◌||◌, is_some, List}
 use Rattle.std.specs.List.{list_any}
 use Rattle.hfs_blocks.specs.declared.run.Run.{Run}
 use Rattle.hfs_blocks.specs.Layers.{Numbered, changes}

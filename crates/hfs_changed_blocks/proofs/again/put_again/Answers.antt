@@ -1,5 +1,5 @@
 -- One block more came, or the kept patch has none.
-use Rattle.std.proofs.Common.{◌≡◌, ◌+◌, ◌∙◌, rules, ap, sym, subst, arith, true, false}
+use Rattle.std.proofs.Common.{◌≡◌, ◌+◌, ◌∙◌, ap, sym, subst, arith}
 use Rattle.std.specs.Prelude.{is_some}
 use Rattle.hfs_blocks.specs.Layers.{Numbered, changes}
 use Rattle.hfs_changed_blocks.proofs.Runs.{GainsUpTo, copied_some, gains_put, gains_not}
