@@ -1,8 +1,9 @@
 -- What the edits of a fork ask of each other, and what they make together, of a volume and a file that were found.
-use Rattle.std.proofs.Common.{◌≡◌, ◌⊎◌, inl, inr, ℕ, ◌+◌, ◌*◌, ◌<◌, ◌≤◌, ◌^◌, true, List, ◌++◌, length, refl, sym, ◌∙◌, ap, subst, arith}
+use Rattle.std.proofs.Common.{◌≡◌, ◌⊎◌, inl, inr, ℕ, ◌+◌, ◌*◌, ◌<◌, ◌≤◌, ◌^◌, Bool, true, cond, ◌&&◌, List, ◌++◌, length, refl, sym, ◌∙◌, ap, subst, arith}
 use Rattle.std.specs.Prelude.{Option, Some, None, Result, ℤ}
 use Rattle.std.specs.List.{flat_map}
-use Rattle.std.proofs.lemmas.Bool.{cases_lt}
+use Rattle.std.proofs.lemmas.Bool.{cases_lt, le-leb}
+use Rattle.std.proofs.lemmas.Option.{same_Some, none-some}
 use Rattle.hfs_fields.specs.declared.mdb.Mdb.{Mdb}
 use Rattle.hfs_fields.specs.declared.key.CatKey.{CatKey}
 use Rattle.hfs_fields.specs.declared.extent.Extent.{Extent}
@@ -41,7 +42,7 @@ use Rattle.hfs_check.specs.Sound.{AreBlocksSound}
 use Rattle.hfs_check.proofs.LawsProved.{catalog_is_sound, trees_are_sound}
 use Rattle.hfs_changes.proofs.LawsProved.{choice_stands}
 use Rattle.hfs_changes.proofs.Space.{each_owned}
-use Rattle.hfs_fork_calls.specs.Forks.{blocks}
+use Rattle.hfs_fork_calls.specs.Forks.{is_block_size, blocks}
 use Rattle.hfs_fork_extents.specs.Cuts.{cut, surplus}
 use Rattle.hfs_fork_extents.specs.Growing.{grown, records_coming, HasGrown, HasRoomFor, IsWantOfNodes}
 use Rattle.hfs_fork_extents.specs.declared.growing.NodesWanted.{NodesWanted}
@@ -116,6 +117,22 @@ module _ (total : ℕ) (old : Blocks) (mdb : Mdb) (extents catalog : List Run) (
 
   pub catalog_once : IsDistinct (flat_map run_of catalog)
   catalog_once = subst IsDistinct (sym v.catalog_file.numbers) (different total old h)
+
+  -- its allocation blocks have a size
+  size_there : is_block_size mdb.allocation_block_size ≡ true
+  size_there =
+      let some : 1 ≤ (mdb_in old).allocation_block_size = (let least = h.mdb.least_size in omega (arith, least)) in
+      let most : (mdb_in old).allocation_block_size ≤ 2147483648 = (let bytes = ready.area_bytes total old h v.few 1 h.mdb.some in omega (arith, bytes)) in
+      to_mdb (λ (m : Mdb). is_block_size m.allocation_block_size ≡ true) (λ i. le-leb 1 (mdb_in old).allocation_block_size some i && le-leb (mdb_in old).allocation_block_size 2147483648 most i)
+
+  sized : (r : Option ℕ) → r ≡ cond (is_block_size mdb.allocation_block_size) (Some mdb.allocation_block_size) None → r ≡ Some mdb.allocation_block_size
+  sized r e = e ∙ ap (λ (t : Bool). cond t (Some mdb.allocation_block_size) None) size_there
+
+  pub size_of : (r : Option ℕ) (b : ℕ) → r ≡ cond (is_block_size mdb.allocation_block_size) (Some mdb.allocation_block_size) None → r ≡ Some b → b ≡ mdb.allocation_block_size
+  size_of r b e is = same_Some b mdb.allocation_block_size (sym is ∙ sized r e)
+
+  pub size_some : (r : Option ℕ) → r ≡ cond (is_block_size mdb.allocation_block_size) (Some mdb.allocation_block_size) None → r ≡ None → ⊥
+  size_some r e none = none-some mdb.allocation_block_size (sym none ∙ sized r e)
 
   -- ---- where the extents tree has the nodes that it had
 

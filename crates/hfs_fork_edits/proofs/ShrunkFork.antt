@@ -1,5 +1,5 @@
 -- What a fork asks that keeps its first blocks and loses the others.
-use Rattle.std.proofs.Common.{◌≡◌, inl, inr, ℕ, ◌+◌, ◌-◌, ◌*◌, ◌<◌, ◌≤◌, ◌^◌, Bool, cond, ltb, List, [], length, length-append, take, drop, refl, sym, ◌∙◌, ap, subst, arith}
+use Rattle.std.proofs.Common.{◌≡◌, inl, inr, ℕ, ◌+◌, ◌-◌, ◌*◌, ◌<◌, ◌≤◌, ◌^◌, Bool, cond, ltb, List, [], length, length-append, take, drop, refl, sym, ◌∙◌, ap, subst, arith, None}
 use Rattle.std.specs.Prelude.{Result, ℤ, min, max}
 use Rattle.std.proofs.lemmas.Bool.{cases_lt, le-ltb}
 use Rattle.std.proofs.lemmas.List.{take-append-drop, length-take-le}
@@ -18,6 +18,7 @@ use Rattle.hfs_model.specs.Volume.{Entry}
 use Rattle.hfs_check.specs.Parts.{Blocks, mdb_in}
 use Rattle.hfs_fork_bytes.proofs.ForkLemmas.{with_part-nothing}
 use Rattle.hfs_fork_calls.specs.Forks.{blocks}
+use Rattle.hfs_fork_wants.specs.Wants.{blocks_wanted}
 use Rattle.hfs_fork_extents.specs.Cuts.{cut, surplus}
 use Rattle.hfs_fork_extents.proofs.CutLemmas.{blocks-cut, blocks-surplus}
 use Rattle.hfs_fork_changes.specs.Files.{fork_of}
@@ -28,9 +29,11 @@ use Rattle.hfs_space.specs.ForkLengths.{all_bytes}
 use Rattle.hfs_fork_edits.specs.Calls.{IsForkVolume, HasPlaces}
 use Rattle.hfs_fork_edits.specs.Found.{IsFoundFile}
 use Rattle.hfs_fork_edits.specs.Laying.{LaysBoth}
+use Rattle.hfs_fork_edits.specs.Wanting.{MeetsWant}
 use Rattle.hfs_fork_edits.specs.declared.choosing.FoundFile.{FoundFile}
 use Rattle.hfs_fork_edits.proofs.Edits as edits
 use Rattle.hfs_fork_edits.proofs.GrownFork as numbers
+use Rattle.hfs_fork_edits.proofs.Wants as wanting
 
 -- ---- no zeros may be told from anywhere
 
@@ -146,3 +149,18 @@ module _ (total : ℕ) (old : Blocks) (mdb : Mdb) (extents catalog : List Run) (
     where
       ends_by : from + (len - from) ≡ max from len
       ends_by = omega arith
+
+  pub bytes_end : offset + given < 2 ^ 32
+  bytes_end =
+      let within = places.within in
+      let long = numbers.len_fits total old mdb extents catalog v f fork chosen is size len from offset given size_is places in
+      let most = edits.few_of total old mdb extents catalog v f fork chosen is in
+      let lost = less in
+      let bytes = numbers.bytes_small total old mdb extents catalog v f fork chosen is size len from offset given size_is places (omega (arith, most, lost, count_is)) in
+      omega (arith, within, long, bytes)
+
+  -- nothing is wanting
+  pub meets_less : MeetsWant fork f.file len old None
+  meets_less =
+      let few : blocks_wanted (mdb_in old).allocation_block_size had len ≡ blocks size len - had = ap (λ (k : ℕ). blocks k len - had) (sym (numbers.size_old total old mdb extents catalog v f fork chosen is size len from offset given size_is places)) in
+      wanting.meets_less total old v.sound fork f.file len (blocks_wanted (mdb_in old).allocation_block_size had len) refl (let lost = less in omega (arith, few, lost, count_is))
