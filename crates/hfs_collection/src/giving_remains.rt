@@ -1,6 +1,6 @@
 //! The rows of a refused volume, and of what remains of it.
 ghost use Rattle.std.specs.Prelude.{◌≡◌, ◌++◌, ◌*◌, ◌≤◌, ℕ, List, [], ◌∷◌, length, Some, None, IfOk, OnErr, OnOk};
-ghost use Rattle.hfs_needed.specs.Known.{OfKnown};
+ghost use Rattle.hfs_source.specs.Images.{OfEach};
 ghost use Rattle.hfs_rescue_items.specs.Found.{told};
 ghost use Rattle.hfs_rows.specs.declared.value.Table.TheVariants as table;
 ghost use Rattle.hfs_rows.specs.Taken.{IsBeginning, row_of};
@@ -18,13 +18,13 @@ use crate::places::VolumePlace;
 use crate::remaining::Remaining;
 use crate::volumes::volume_values;
 use hfs_check::MountFault;
-use hfs_containers::ReadAt;
 use hfs_fields::Mdb;
 use hfs_finds::salvage_of;
 use hfs_remains::usual_limit;
 use hfs_rescue::FoundRecord;
 use hfs_rescue_items::told_of;
 use hfs_rows::{RowTaker, Table};
+use hfs_source::PlacedBlocks;
 use std::alloc::Global;
 
 /// Gives the row of a volume.
@@ -150,7 +150,7 @@ fn give_held<T: RowTaker>(
 }
 
 /// Gives the row of a volume that is refused, and those of what remains of it, and answers how much that is.
-pub(crate) fn give_refused<S: ReadAt, T: RowTaker>(
+pub(crate) fn give_refused<S: PlacedBlocks, T: RowTaker>(
     alloc: Global,
     taker: &mut T,
     source: &mut S,
@@ -158,17 +158,18 @@ pub(crate) fn give_refused<S: ReadAt, T: RowTaker>(
     why: MountFault,
     taken: bool,
 ) -> Result<ImageCounts, CollectFault>
-    ensures whole { OnOk result (OfKnown (S.known source.old) place.now.range.len (λ bytes.
+    ensures whole { OnOk result (OfEach (S.Holds source.new) (λ bytes.
         T.given taker.new ≡ T.given taker.old ++ fault_rows taken place.now (Some why) bytes)) }
-    ensures part { OnErr result (OfKnown (S.known source.old) place.now.range.len (λ bytes.
+    ensures part { OnErr result (OfEach (S.Holds source.new) (λ bytes.
         IsBeginning (T.given taker.new) (T.given taker.old
         ++ fault_rows taken place.now (Some why) bytes))) }
-    ensures counted { IfOk result (λ counts. OfKnown (S.known source.old) place.now.range.len
+    ensures counted { IfOk result (λ counts. OfEach (S.Holds source.new)
         (λ bytes. counts ≡ fault_counts (Some why) bytes)) }
+    ensures narrows { OfEach (S.Holds source.new) (S.Holds source.old) }
     ensures reference { T.reference taker.new ≡ T.reference taker.old }
     ensures place { T.place taker.new ≡ T.place taker.old }
 {
-    match hold(alloc, source, place.range.len)? {
+    match hold(alloc, source)? {
         Some(held) => {
             let counts = give_held(alloc, taker, place, why, &held, taken)?;
             Ok(ImageCounts::refused(counts))
@@ -182,7 +183,7 @@ pub(crate) fn give_refused<S: ReadAt, T: RowTaker>(
 
 /// Gives the row of a volume that is refused, and those of what remains of it, where a directory is found; else no row. Answers how
 /// much that is.
-pub(crate) fn give_where_found<S: ReadAt, T: RowTaker>(
+pub(crate) fn give_where_found<S: PlacedBlocks, T: RowTaker>(
     alloc: Global,
     taker: &mut T,
     source: &mut S,
@@ -190,18 +191,19 @@ pub(crate) fn give_where_found<S: ReadAt, T: RowTaker>(
     why: MountFault,
     taken: bool,
 ) -> Result<ImageCounts, CollectFault>
-    ensures whole { OnOk result (OfKnown (S.known source.old) place.now.range.len (λ bytes.
+    ensures whole { OnOk result (OfEach (S.Holds source.new) (λ bytes.
         T.given taker.new ≡ T.given taker.old
         ++ rows_by_directory taken place.now why (found_directory bytes) bytes)) }
-    ensures part { OnErr result (OfKnown (S.known source.old) place.now.range.len (λ bytes.
+    ensures part { OnErr result (OfEach (S.Holds source.new) (λ bytes.
         IsBeginning (T.given taker.new) (T.given taker.old
         ++ rows_by_directory taken place.now why (found_directory bytes) bytes))) }
-    ensures counted { IfOk result (λ counts. OfKnown (S.known source.old) place.now.range.len
+    ensures counted { IfOk result (λ counts. OfEach (S.Holds source.new)
         (λ bytes. counts ≡ counts_by_directory (found_directory bytes) bytes)) }
+    ensures narrows { OfEach (S.Holds source.new) (S.Holds source.old) }
     ensures reference { T.reference taker.new ≡ T.reference taker.old }
     ensures place { T.place taker.new ≡ T.place taker.old }
 {
-    match hold(alloc, source, place.range.len)? {
+    match hold(alloc, source)? {
         Some(held) => {
             let counts = give_held(alloc, taker, place, why, &held, taken)?;
             Ok(ImageCounts::refused(counts))

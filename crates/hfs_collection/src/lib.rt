@@ -14,7 +14,6 @@ mod holding;
 mod image;
 mod items;
 mod places;
-mod raw_image;
 mod remaining;
 mod remains;
 mod source;
@@ -23,7 +22,6 @@ mod values;
 mod volumes;
 
 pub use crate::counts::ImageCounts;
-pub use crate::digests::file_digest;
 pub use crate::fault::CollectFault;
 pub use crate::image::{ImageFacts, give_image};
-pub use crate::source::ImageFile;
+pub use crate::source::{ImageFile, ReadOf};

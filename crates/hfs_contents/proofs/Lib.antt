@@ -1,2 +1,4 @@
 mod Digests
 pub mod FailLemmas
+mod HeadLemmas
+mod Alike

@@ -58,11 +58,11 @@ impl<S: Alter + Drop> Collection<S> {
     /// Puts all rows of a source into the collection, in one transaction: an image's row comes in the place of the one that has its
     /// path, whose volumes go with their items. At a fault of the source nothing has changed; at one of the database all is
     /// there, or nothing has changed. Faults: the source's, and `CannotWrite` or `NoMemory` of the database.
-    pub fn put<R: RowSource>(&mut self, source: &R) -> Result<R::Told, PutFault<R::Fault>>
-        ensures put { OnOk result (PutsAllInOne S.Store (R.Gives source.now []) self.old.conn self.new.conn) }
-        ensures told { IfOk result (R.Tells source.now) }
+    pub fn put<R: RowSource>(&mut self, source: &mut R) -> Result<R::Told, PutFault<R::Fault>>
+        ensures put { OnOk result (PutsAllInOne S.Store (R.Gives source.new []) self.old.conn self.new.conn) }
+        ensures told { IfOk result (R.Tells source.new) }
         ensures unread { IfErr result (KeepsAtSource S.Store self.old.conn self.new.conn) }
-        ensures all_or_none { LeavesAllOrNone S.Store (R.Gives source.now []) self.old.conn self.new.conn }
+        ensures all_or_none { LeavesAllOrNone S.Store (R.Gives source.new []) self.old.conn self.new.conn }
     {
         put_all(self.alloc, &mut self.conn, source)
     }

@@ -61,12 +61,12 @@ fn undo<S: Alter>(conn: &mut Connection<S>) -> Result<(), DatabaseFault>
 pub(crate) fn put_all<S: Alter, R: RowSource>(
     alloc: Global,
     conn: &mut Connection<S>,
-    source: &R,
+    source: &mut R,
 ) -> Result<R::Told, PutFault<R::Fault>>
-    ensures put { OnOk result (PutsAllInOne S.Store (R.Gives source.now []) conn.old conn.new) }
-    ensures told { IfOk result (R.Tells source.now) }
+    ensures put { OnOk result (PutsAllInOne S.Store (R.Gives source.new []) conn.old conn.new) }
+    ensures told { IfOk result (R.Tells source.new) }
     ensures unread { IfErr result (KeepsAtSource S.Store conn.old conn.new) }
-    ensures all_or_none { LeavesAllOrNone S.Store (R.Gives source.now []) conn.old conn.new }
+    ensures all_or_none { LeavesAllOrNone S.Store (R.Gives source.new []) conn.old conn.new }
 {
     match begin(conn) {
         Ok(()) => {}

@@ -116,10 +116,10 @@ impl<S: Alter> RowTaker for DatabaseTaker<'_, S> {
 pub(crate) fn put_rows<S: Alter, R: RowSource>(
     alloc: Global,
     conn: &mut Connection<S>,
-    source: &R,
+    source: &mut R,
 ) -> Result<R::Told, PutFault<R::Fault>>
-    ensures put { OnOk result (PutsAll S.Store (R.Gives source.now []) conn.old conn.new) }
-    ensures told { IfOk result (R.Tells source.now) }
+    ensures put { OnOk result (PutsAll S.Store (R.Gives source.new []) conn.old conn.new) }
+    ensures told { IfOk result (R.Tells source.new) }
     ensures keeps { LeavesFile S.Store conn.old conn.new }
 {
     let mut history = History::of(conn);

@@ -10,4 +10,5 @@ mod tests;
 
 pub use crate::counting::{are_whole_sectors, count_others, is_raw};
 pub use crate::data::UserData;
+pub use crate::pieces::read_data;
 pub use crate::sector::{data_start, put_data};

@@ -21,7 +21,7 @@ fn sector_at<S: PlacedBytes>(bytes: &mut S, n: u64) -> io::Result<[u8; 2352]>
 }
 
 /// Reads user data from byte `place` of it on, as much as there is room for: one read of each sector in which some of it is.
-pub(crate) fn read_data<S: PlacedBytes>(
+pub fn read_data<S: PlacedBytes>(
     bytes: &mut S,
     place: u64,
     into: &mut [u8],

@@ -17,10 +17,10 @@ pub trait RowSource {
 
     ghost Tells: { Self → Self.Told → Type 0 };
 
-    /// Gives a taker all rows, in their order.
-    fn give<T: RowTaker>(&self, taker: &mut T) -> Result<Self::Told, Self::Fault>
-        ensures whole { OnOk result (Gives self.now (T.given taker.old) (T.given taker.new)) }
-        ensures told { IfOk result (Tells self.now) }
+    /// Gives a taker all rows, in their order. What a source gives is said by what it is afterwards, as it may have read them.
+    fn give<T: RowTaker>(&mut self, taker: &mut T) -> Result<Self::Told, Self::Fault>
+        ensures whole { OnOk result (Gives self.new (T.given taker.old) (T.given taker.new)) }
+        ensures told { IfOk result (Tells self.new) }
         ensures reference { T.reference taker.new ≡ T.reference taker.old }
         ensures place { T.place taker.new ≡ T.place taker.old };
 }

@@ -29,7 +29,7 @@ struct ImageRows<'a, S, F> {
     source: PhantomData<S>,
 }
 
-impl<S: ReadAt + Drop, F: ImageFile<S>> RowSource for ImageRows<'_, S, F> {
+impl<S: PlacedBytes + Drop, F: ImageFile<S>, K: PickedImage> RowSource for ImageRows<'_, S, F> {
     type Told = ImageCounts;
 
     type Fault = CollectFault;
@@ -48,7 +48,7 @@ impl<S: ReadAt + Drop, F: ImageFile<S>> RowSource for ImageRows<'_, S, F> {
 /// Puts the rows of an image of `len` bytes into the database, in the place of those that it had of the same path, and answers
 /// how much the image holds. At a fault of the image nothing has changed; at one of the database all is there, or nothing has changed. Faults: the
 /// image's, and `CannotWrite` or `NoMemory` of the database.
-pub fn put_image<D: Alter + Drop, S: ReadAt + Drop, F: ImageFile<S>>(
+pub fn put_image<D: Alter + Drop, S: PlacedBytes + Drop, F: ImageFile<S>, K: PickedImage>(
     alloc: Global,
     collection: &mut Collection<D>,
     file: &F,
@@ -75,7 +75,7 @@ pub fn put_image<D: Alter + Drop, S: ReadAt + Drop, F: ImageFile<S>>(
 
 /// Collects the image of a file of `len` bytes: its rows come in the place of those that the database had of the same path. Answers how much the
 /// image holds; None where the image can't be read, and then nothing has changed. At a fault all is there, or nothing has changed.
-pub fn collect_file<D: Alter + Drop, S: ReadAt + Drop, F: ImageFile<S>>(
+pub fn collect_file<D: Alter + Drop, S: PlacedBytes + Drop, F: ImageFile<S>, K: PickedImage>(
     alloc: Global,
     collection: &mut Collection<D>,
     file: &F,

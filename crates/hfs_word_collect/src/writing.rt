@@ -16,28 +16,27 @@ use std::alloc::Global;
 use std::io::Write;
 use std::rt::Files;
 
-/// Writes the rows of an image of `len` bytes, and its end, and answers how much the image holds where all of them came. None where they
+/// Writes the rows of an image, and its end, and answers how much the image holds where all of them came. None where they
 /// don't, since the image can't be read. At a fault a beginning of this was written. Faults: `CannotWrite` of the writer, `NoMemory`.
-pub fn write_image<W: Write + Drop, S: ReadAt + Drop, F: ImageFile<S>>(
+pub fn write_image<W: Write + Drop, S: PlacedBytes + Drop, F: ImageFile<S>, K: PickedImage>(
     alloc: Global,
     taker: &mut TextTaker<W>,
-    file: &F,
-    len: u64,
+    file: &mut F,
     facts: &ImageFacts<'_>,
 ) -> Result<Option<ImageCounts>, RunFault>
-    ensures whole { IfOk result (λ counts. IfSome counts (λ _. OfKnown (F.known file.now) len (λ file.
+    ensures whole { IfOk result (λ counts. IfSome counts (λ _. F.Holds file.new K.image →
         WritesWhole (W.contents taker.old.start.value) (W.contents taker.new.writer)
-        taker.old.form (taker.old.given.rows ++ image_rows facts.now file)))) }
-    ensures counted { IfOk result (λ counts. IfSome counts (λ told. OfKnown (F.known file.now) len
-        (λ file. told ≡ image_counts file))) }
-    ensures some { IfOk result (λ counts. IfNone counts (OfKnown (F.known file.now) len (λ file.
+        taker.old.form (taker.old.given.rows ++ image_rows facts.now K.image))) }
+    ensures counted { IfOk result (λ counts. IfSome counts (λ told. F.Holds file.new K.image
+        → told ≡ image_counts K.image)) }
+    ensures some { IfOk result (λ counts. IfNone counts (F.Holds file.new K.image →
         WritesSome (W.contents taker.old.start.value) (W.contents taker.new.writer)
-        taker.old.form (taker.old.given.rows ++ image_rows facts.now file)))) }
-    ensures part { OnErr result (OfKnown (F.known file.now) len (λ file.
+        taker.old.form (taker.old.given.rows ++ image_rows facts.now K.image))) }
+    ensures part { OnErr result (F.Holds file.new K.image →
         WritesPart (W.contents taker.old.start.value) (W.contents taker.new.writer)
-        taker.old.form (taker.old.given.rows ++ image_rows facts.now file))) }
+        taker.old.form (taker.old.given.rows ++ image_rows facts.now K.image))) }
 {
-    match give_image(alloc, taker, file, len, facts) {
+    match give_image::<S, F, K, TextTaker<W>>(alloc, taker, file, facts) {
         Ok(counts) => {
             taker.end(true)?;
             Ok(Some(counts))
