@@ -16,6 +16,3 @@ pub use crate::fault::FormatFault;
 pub use crate::format_laws::{new_images_are_sound, new_images_hold_new_volumes};
 pub use crate::formatting::format;
 pub use crate::plan::FormatPlan;
-
-#[cfg(test)]
-mod tests;

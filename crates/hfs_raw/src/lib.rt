@@ -5,8 +5,6 @@ mod counting;
 mod data;
 mod pieces;
 mod sector;
-#[cfg(test)]
-mod tests;
 
 pub use crate::counting::{are_whole_sectors, count_others, is_raw};
 pub use crate::data::UserData;
