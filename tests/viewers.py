@@ -3,7 +3,7 @@
 folders in one another, items that come, go, move, are set and locked, full catalogs, and 450 changes of 300 files. For each list, and
 for each of its beginnings, a viewer asks every call that it may make, for the IDs and the names of the list, many times over. Each answer
 must be the volume's own behind some of the changes, and behind no fewer than the answer before; and the last ones must be those behind all
-of them. Where a viewer ended before the worker it is run again.
+of them. Where a viewer ended before the worker it is run again, and asks longer each time.
 
 tests/viewers.py      runs $HFS_TOOL, or the program as it is built in crates/hfs_tool/out
 """
@@ -17,8 +17,9 @@ from driver.calls import Answer, Call, read_answers, script_of
 from driver.programs import ROOT, Difference, Program, built
 
 NOW = 9
-# How many lines a viewer has at least, in so many rounds or more, and how often it is run again where it ended before the worker.
-LINES, ROUNDS, RUNS = 8_000, 16, 100
+# How many lines a viewer has at least, in so many rounds or more; and how often it is run where it ends before the worker, with as many
+# rounds more each time.
+LINES, ROUNDS, RUNS = 8_000, 16, 20
 NAMES = ['a', 'b', 'd', 'f', 'g', 'x', 'y', 'z', 'A', '{', 'one', 'two', 'a longer name than before']
 SIXTEEN, MANY = '000102030405060708090a0b0c0d0e0f', '000102030405060708090a0b0c0d0e0f101112131415161718191a1b1c1d1e1f'
 SEVENS = '07' * 16
@@ -85,9 +86,10 @@ class Trial:
         told, size = [it.told for it in self.run(script)], len(self.asked)
         return [told[at:at + size] for at in range(0, len(told), size + 1)]
 
-    def is_followed(self, count: int) -> bool:
-        """Lets a viewer ask beside a worker that makes the first changes. Whether its last answers are those behind all of them."""
-        rounds = max(ROUNDS, LINES // len(self.asked)) if count > 20 else ROUNDS
+    def is_followed(self, count: int, times: int) -> bool:
+        """Lets a viewer ask, so many times as long as at first, beside a worker that makes the first changes. Whether its last answers are
+        those behind all of them."""
+        rounds = times * (max(ROUNDS, LINES // len(self.asked)) if count > 20 else ROUNDS)
         answers = self.run(script_of(self.changes[:count]) + script_of(self.asked * rounds, 'v1'))[count:]
         self.answers += len(answers)
         least = 0
@@ -99,7 +101,7 @@ class Trial:
         return [it.told for it in answers[-len(self.asked):]] == self.rows[count]
 
     def follow(self, count: int) -> None:
-        ensure(any(self.is_followed(count) for _ in range(RUNS)), f'in {RUNS} runs no viewer has seen all of {count} changes')
+        ensure(any(self.is_followed(count, times) for times in range(1, RUNS + 1)), f'in {RUNS} runs no viewer has seen all of {count} changes')
 
 
 def new_volume(tool: Program, folder: Path, blocks: int, nodes: int) -> bytes:
