@@ -185,7 +185,7 @@ kind-passes Folder base path depth info = folder-kind depth info (nat_lt depth 1
 kind-passes File base path depth info = leaf-passes (folders depth) base path info
 
 -- so many folders more than these
-abbrev more : ℕ → List (List ℕ) → List (List ℕ)
+abbrev pub more : ℕ → List (List ℕ) → List (List ℕ)
 more zero names = names
 more (suc n) names = codes "ul" ∷ codes "details" ∷ codes "li" ∷ more n names
 
@@ -195,7 +195,7 @@ more-folders (suc n) depth =
     let same : suc (n + depth) ≡ suc n + depth = omega arith in
     ap (λ (names : List (List ℕ)). codes "ul" ∷ codes "details" ∷ codes "li" ∷ names) (more-folders n depth) ∙ ap folders same
 
-closings-pass : (n : ℕ) (names : List (List ℕ)) → Passes (more n names) names (closings n)
+pub closings-pass : (n : ℕ) (names : List (List ℕ)) → Passes (more n names) names (closings n)
 unfolding closings
 closings-pass zero names = text-goes names [] refl
 closings-pass (suc n) names =

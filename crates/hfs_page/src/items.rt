@@ -41,7 +41,7 @@ fn push_modified(alloc: Global, page: &mut Vec<u8>, date: u32) -> Result<(), All
 }
 
 /// Appends what comes after a number of items.
-fn push_items_word(page: &mut Vec<u8>, count: u32) -> Result<(), AllocError>
+pub fn push_items_word(page: &mut Vec<u8>, count: u32) -> Result<(), AllocError>
     ensures { OnOk result (Gains page.old page.new (items_word count)) }
 {
     if count == 1 {
@@ -158,7 +158,7 @@ fn push_row_start(alloc: Global, page: &mut Vec<u8>, info: &Info) -> Result<(), 
 
 /// Appends the beginning of a folder of so many items that opens and closes. The root, which lies in
 /// none, is open, but where it has so many that a browser would take seconds to lay them out.
-fn push_opening(page: &mut Vec<u8>, depth: usize, valence: u32) -> Result<(), AllocError>
+pub fn push_opening(page: &mut Vec<u8>, depth: usize, valence: u32) -> Result<(), AllocError>
     ensures { OnOk result (Gains page.old page.new (opening depth valence)) }
 {
     if depth == 0 && valence <= MOST_SHOWN {

@@ -34,7 +34,7 @@ pub use escaping::push_escaped;
 pub use extents::push_extents;
 pub use facts::{push_count_row, push_dates, push_head, push_image_rows};
 pub use holdings::{push_fork_held, push_held, volume_holdings};
-pub use items::{push_closings, push_sizes, push_type};
+pub use items::{push_closings, push_items_word, push_opening, push_sizes, push_type};
 pub use laws::{escaped_texts_are_text, refused_pages_nest, volume_pages_nest};
 pub use links::{push_link_end, push_link_start};
 pub use page_image::PageImage;

@@ -20,7 +20,7 @@ use Rattle.hfs_page.specs.Laws.{is_no_delimiter}
 use Rattle.hfs_page.specs.Markup.{Leads}
 use Rattle.hfs_page.specs.Texts.{date_text, shown, told_number}
 use Rattle.hfs_page.proofs.MarkupLemmas.{Goes, Passes, ◌▹◌, at, constant, decimal-plain, goes-if, in-tag, inside, nested, tag-goes, text-goes}
-use Rattle.hfs_page.proofs.NestedItems.{bold, date-passes, decimal-passes, escaped-passes, escaped-plain, folders, folders-close, items-pass, label-passes, line, link-end-passes, link-start-passes, linked, number-passes, opening-passes, sizes-pass, span, summary, type-passes}
+use Rattle.hfs_page.proofs.NestedItems.{bold, closings-pass, date-passes, decimal-passes, escaped-passes, escaped-plain, folders, folders-close, items-pass, label-passes, line, link-end-passes, link-start-passes, linked, number-passes, opening-passes, sizes-pass, span, summary, type-passes}
 use Rattle.hfs_page.proofs.NestedPages.{body, count-row-passes, dates-pass, extents-pass, facts, fork-passes, image-rows-pass, in-rect, page-head-passes, part-passes, range-passes, rect-passes, version-passes}
 use Rattle.hfs_places.specs.declared.things.Thing.{Thing}
 use Rattle.hfs_places.specs.Folders.{thing_at}
