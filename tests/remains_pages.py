@@ -157,7 +157,7 @@ def want_remains(page: bytes, name: str, remains: Remains, fault: str) -> None:
     """Wants of a page that it says of what remains what the model tells."""
     document = Document(page.decode('utf-8'))
     main = document.top.only('main')
-    ensure(document.top.only('title').text == document.top.only('h1').text == plain(remains.directory.name), f'the title is {document.top.only("h1").text!r}')
+    ensure(document.top.only('head').only('title').text == document.top.only('h1').text == plain(remains.directory.name), f'the title is {document.top.only("h1").text!r}')
     ensure([it.tag for it in main.elements] == ['h1', 'p', 'p', 'nav', 'dl', 'section', 'section', 'footer', 'script'], f'the parts are {[it.tag for it in main.elements]}')
     ensure(main.elements[1].text == fault and 'hfs_tool rescue' in main.elements[2].text, f'the page says {main.elements[1].text!r}, {main.elements[2].text!r}')
 
