@@ -309,6 +309,19 @@ def needed_blocks(bench, image):
     want_blocks(bench, 'a wrong signature', edited(image, (1_024, 0)), ['check', '--volume', 0], [2])
 
 
+def needed_rescues(bench, image):
+    """`rescue --list` reads, beside what `check` does, both places of the directory and both trees' files; the whole image only where
+    no record of the catalog is there, or no directory. No block of a fork is among the former."""
+    two_levels = gzip.decompress((HERE / 'volumes' / 'small' / 'two-levels.img.gz').read_bytes())
+    without = lambda *blocks: b''.join(bytes(BLOCK) if n in blocks else image[BLOCK * n:BLOCK * (n + 1)] for n in range(64))
+    trees, whole = [0, 1] + WORKING, list(range(64))
+    for what, content, blocks in (('a sound volume', image, trees), ('a name with a bullet', edited(image, (7 * BLOCK + 153, 0xA5)), trees),
+                                  ('a leaf that is lost beside another', edited(two_levels, (8 * BLOCK + 8, 7)), trees),
+                                  ('the only leaf is lost', edited(image, (7 * BLOCK + 8, 7)), whole),
+                                  ('block 2 is lost', without(2), [it for it in trees if it != 3]), ('no directory', without(2, 62), whole)):
+        want_blocks(bench, what, content, ['rescue', '--list'], blocks)
+
+
 def failing_reads(bench, image):
     """Each read of the image fails in turn: before the last needed one nothing is told but that; a list needs no more, and of a fork what
     was read of it stays."""
@@ -374,7 +387,7 @@ def main():
     with tempfile.TemporaryDirectory() as folder:
         bench = Bench(Path(folder))
         try:
-            for part in (head_by_bytes, forks_by_bytes, images_out_of_pipes, scripts_out_of_devices, needed_blocks, failing_reads, failing_repairs):
+            for part in (head_by_bytes, forks_by_bytes, images_out_of_pipes, scripts_out_of_devices, needed_blocks, needed_rescues, failing_reads, failing_repairs):
                 part(bench, image)
             patched_pieces(bench)
         except Differs as differs:

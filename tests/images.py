@@ -65,7 +65,8 @@ def edited(image, edits):
         elif words[0] == 'longer':
             image.extend(bytes(int(words[1]) - len(image)))
         else:
-            at, content = BLOCK * int(words[0]) + int(words[1]), bytes.fromhex(words[2])
+            at = BLOCK * int(words[0]) + int(words[1])
+            content = FORK[int(words[3]):int(words[4])] if words[2] == 'fork' else bytes.fromhex(words[2])
             image[at:at + len(content)] = content
     return bytes(image)
 

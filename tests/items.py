@@ -180,6 +180,22 @@ def compare_by_hand(tables):
     ensure(lines[1].startswith(r'{"path":"D:A,\"b\\","kind":"file","id":18,"parent":2,"type":"\u0000\u0000\u0000\u0000","creator":"\u0000\u0000\u0000\u0000",'
                                '"flags":"0000","locked":false,"file_id":true'), f'escaped as JSON: {lines[1]}')
     compare_file(tables)
+    compare_moments(tables)
+
+
+# Dates and their moments, by hand.
+MOMENTS = [(0, ''), (1, '1904-01-01T00:00:01'), (5_097_600, '1904-02-29T00:00:00'), (5_184_000, '1904-03-01T00:00:00'), (31_622_399, '1904-12-31T23:59:59'),
+           (3_029_529_600, '2000-01-01T00:00:00'), (3_034_627_200, '2000-02-29T00:00:00'), (4_294_967_295, '2040-02-06T06:28:15')]
+
+
+def compare_moments(tables):
+    """Each of three dates of a file, and of a folder."""
+    calls = 'create\t2\tf\nmkdir\t2\tg'
+    for (one, first), (two, second), (three, third) in zip(MOMENTS, MOMENTS[1:] + MOMENTS[:1], MOMENTS[2:] + MOMENTS[:2]):
+        dates = f'{one}\t{two}\t{three}\t{NO_FINDER}'
+        image = tables.new('moments', 64, 40, 2, f'{calls}\nsetinfo\t2\tf\t{dates}\nsetinfo\t2\tg\t{dates}')
+        found = [row[9:12] for row in tables.rows_of(image)[1:]]
+        ensure(found == [[first, second, third]] * 2, f'the moments of {one}, {two} and {three}: {found}')
 
 
 def compare_file(tables):

@@ -179,6 +179,9 @@ def try_cases(bench: Bench) -> None:
         lines = ''.join(row.replace('|', '\t') + '\n' for row in it.rows)
         ensure(wanted.lines == lines, f'{it.name}: the model tells {wanted.lines!r}')
         ensure(wanted.printed.split('\n')[1] == it.directory and it.status in (None, wanted.status), f'{it.name}: the model tells {wanted.status} {wanted.printed!r}')
+        if it.mac_paths:
+            table = next(written.content for written in wanted.written if written.path == 'items.csv')
+            ensure_table(table.decode(), lines, it.mac_paths, it.name)
         ensure(all(f'data/{path}' in paths for path in it.folders) and not any(f'data/{path}' in paths for path in it.absent), f'{it.name}: other folders')
 
 

@@ -20,6 +20,7 @@ class Case:
     absent: list[str] = field(default_factory=list)
     limit: Optional[int] = None
     status: Optional[int] = None
+    mac_paths: Optional[list[str]] = None
 
 
 CASES: list[Callable[[], Iterator[Case]]] = []
@@ -33,6 +34,31 @@ def case(function):
 def all_cases() -> Iterator[Case]:
     for function in CASES:
         yield from function()
+
+
+# Names, each with its plain text and its host name, by hand; the characters are those of Python's codec mac_roman.
+NAMES = [
+    (b'a/b', 'a/b', 'a=2Fb'), (b'.x', '.x', '=2Ex'), (b'x.', 'x.', 'x=2E'), (b'..', '..', '=2E=2E'), (b' ', ' ', '=20'),
+    (b'50% =\\', '50% =\\5c', '50=25 =3D=5C'), (b'\x8e\x0d\x7f', '\u00e9\\0d\\7f', '\u00e9=0D=7F'), (b'con', 'con', '=63on'), (b'Aux.c', 'Aux.c', '=41ux.c'),
+    (b'nul.', 'nul.', '=6Eul=2E'), (b'com1', 'com1', '=63om1'), (b'LPT9.x.y', 'LPT9.x.y', '=4CPT9.x.y'), (b'com0', 'com0', 'com0'), (b'com10', 'com10', 'com10'),
+    (b'cons', 'cons', 'cons'), (b'x.con', 'x.con', 'x.con'), (b'con ', 'con ', 'con=20'), (b'a b.c', 'a b.c', 'a b.c'), (b'\x00\x1f', '\\00\\1f', '=00=1F'),
+    (b':*?"<>|', ':*?"<>|', '=3A=2A=3F=22=3C=3E=7C'), (b'\x80\xca\xdb\xf0\xff', '\u00c4\u00a0\u20ac\uf8ff\u02c7', '\u00c4\u00a0\u20ac\uf8ff\u02c7'),
+    (b'\xa5\xc6\xde', '\u2022\u2206\ufb01', '\u2022\u2206\ufb01'),
+]
+# What that codec gives for the bytes from $80 to $FF.
+HIGH = ('\u00c4\u00c5\u00c7\u00c9\u00d1\u00d6\u00dc\u00e1\u00e0\u00e2\u00e4\u00e3\u00e5\u00e7\u00e9\u00e8\u00ea\u00eb\u00ed\u00ec\u00ee\u00ef\u00f1\u00f3\u00f2\u00f4\u00f6\u00f5\u00fa\u00f9\u00fb\u00fc'
+        '\u2020\u00b0\u00a2\u00a3\u00a7\u2022\u00b6\u00df\u00ae\u00a9\u2122\u00b4\u00a8\u2260\u00c6\u00d8\u221e\u00b1\u2264\u2265\u00a5\u00b5\u2202\u2211\u220f\u03c0\u222b\u00aa\u00ba\u03a9\u00e6\u00f8'
+        '\u00bf\u00a1\u00ac\u221a\u0192\u2248\u2206\u00ab\u00bb\u2026\u00a0\u00c0\u00c3\u00d5\u0152\u0153\u2013\u2014\u201c\u201d\u2018\u2019\u00f7\u25ca\u00ff\u0178\u2044\u20ac\u2039\u203a\ufb01\ufb02'
+        '\u2021\u00b7\u201a\u201e\u2030\u00c2\u00ca\u00c1\u00cb\u00c8\u00cd\u00ce\u00cf\u00cc\u00d3\u00d4\uf8ff\u00d2\u00da\u00db\u00d9\u0131\u02c6\u02dc\u00af\u02d8\u02d9\u02da\u00b8\u02dd\u02db\u02c7')
+
+
+def names_by_hand() -> Case:
+    """Files of these names, and of each high byte."""
+    high = [(bytes(range(0x80 + at, min(0x80 + at + 31, 0x100))), HIGH[at:at + 31], HIGH[at:at + 31]) for at in range(0, 128, 31)]
+    names = NAMES + high
+    image = Laid(catalog_nodes=14).catalog(*(file(2, name, 16 + n) for n, (name, _, _) in enumerate(names)))
+    rows = [f'{host}|{n}|{15 + n}|whole|whole' for n, (_, _, host) in enumerate(names, 1)]
+    return Case('names by hand, and each high byte', image.image(), [ROOTS_ROW, *rows], mac_paths=['D', *(f'D:{plain}' for _, plain, _ in names)])
 
 
 # ---- the directory
@@ -198,6 +224,7 @@ def records_of_any_form():
     image = Laid(catalog_nodes=10).catalog(*named)
     texts = ['=0D', 'a=3Ab', '=2Ex', 'x=2E', '\u00e9', '=43ON', '50=25 =3D=5C', '=2F' * 31]
     yield Case('names of any bytes', image.image(), [ROOTS_ROW, *(f'{text}|{n}|{15 + n}|whole|whole' for n, text in enumerate(texts, 1))])
+    yield names_by_hand()
     image = Laid(catalog_nodes=6).catalog(file(2, b'', 16), folder(2, b'', 17), file(17, b'f', 18))
     yield Case('items without a name are none', image.image(), [ROOTS_ROW, '=lost/17/f|1|18|whole|whole'])
 

@@ -7,8 +7,9 @@ use hfs_collection::ImageFacts;
 use hfs_commands::{Fault, ShownPath, Status};
 use hfs_console::{print_lines, tell_sum, tell_unread};
 use hfs_word_collect::{
-    Collection, Comparison, DatabaseFiles, FileCollection, ImageCounts, Obstacle, RunFault,
-    can_open_database, collect_image, compare_image, comparison_line, image_line, next_path,
+    Collection, Comparison, DatabaseFiles, FileCollection, ImageCounts, Obstacle, ReadWatch,
+    RunFault, can_open_database, collect_image, compare_image, comparison_line, image_line,
+    next_path, open_image,
 };
 
 /// What a row tells of the program that read an image.
@@ -264,9 +265,22 @@ fn compared(
     all: Option<u64>,
 ) -> Result<Comparison, RunFault> {
     let progress = ReadProgress::on(rt, i.saturating_add(1), all, path);
-    let found = compare_image(rt, database, path, &progress);
+    let found = compare_at(rt, database, path, &progress);
     progress.end();
     found
+}
+
+/// Opens an image and compares it with what the database has of it.
+fn compare_at<W: ReadWatch>(
+    rt: &HostRuntime,
+    database: &mut FileCollection,
+    path: &str,
+    progress: &W,
+) -> Result<Comparison, RunFault> {
+    match open_image(rt, path, progress) {
+        Some(mut source) => compare_image(rt.alloc(), database, path, &mut source),
+        None => Ok(Comparison::Missing),
+    }
 }
 
 /// Compares an image and prints its line, and answers whether it isn't as the database has it. The image is the `i`-th, counted

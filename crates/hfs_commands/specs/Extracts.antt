@@ -1,5 +1,5 @@
 -- Volumes that are written as files of their own: what is said of each image that has the bytes which were read.
-use Rattle.std.specs.Prelude.{◌≡◌, ◌⊎◌, ℕ, Bool, false, ◌==◌, if◌then◌else◌, List, ◌++◌, codes, length, take, drop, Option, Some, None}
+use Rattle.std.specs.Prelude.{◌≡◌, ◌⊎◌, ℕ, Bool, false, List, ◌++◌, codes, length, take, drop, Option}
 use Rattle.std.specs.Borrow.{Bor}
 use Rattle.std.specs.Fmt.{decimal}
 use Rattle.std.specs.Option.{is_some}
@@ -32,10 +32,9 @@ WritesAll Holds len old new = OfEach Holds (λ image. length image ≡ len → A
 abbrev pub WritesFront : (List ℕ → Type 0) → ℕ → Option (List ℕ) → Option (List ℕ) → Type 0
 WritesFront Holds len old new = OfEach Holds (λ image. length image ≡ len → AppendsFront old new image)
 
--- the bytes of an image, where they are known, and are so many
-abbrev pub sized_bytes : Option (List ℕ) → ℕ → Option (List ℕ)
-sized_bytes None len = None
-sized_bytes (Some image) len = if length image == len then Some image else None
+-- one of these images, which has so many bytes
+abbrev pub IsSized : (List ℕ → Type 0) → ℕ → List ℕ → Type 0
+IsSized Holds len image = Holds image × (length image ≡ len)
 
 -- whether so many bytes hold a volume
 abbrev pub holds_volume : ℕ → List ℕ → Bool

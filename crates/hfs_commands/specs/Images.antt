@@ -1,9 +1,11 @@
 -- Images with changed blocks laid over them.
-use Rattle.std.specs.Prelude.{ℕ, ◌==◌, List, length, Option, Some, None, if◌then◌else◌}
+use Rattle.std.specs.Prelude.{◌≡◌, ℕ, List, length}
 use Rattle.hfs_blocks.specs.Layers.{Numbered}
 use Rattle.hfs_volume.specs.Image.{patched}
 
--- where the bytes of an image are known, and are so many, they, with the changed blocks in place of their own
-abbrev pub patched_bytes : Option (List ℕ) → ℕ → Numbered → Option (List ℕ)
-patched_bytes None len changed = None
-patched_bytes (Some image) len changed = if length image == len then Some (patched changed image) else None
+-- these are the bytes of one of these images, which has so many, with the changed blocks in place of its own
+pub record IsPatchedOf (Holds : List ℕ → Type 0) (len : ℕ) (changed : Numbered) (bytes : List ℕ) : Type 0 where
+  pub image : List ℕ
+  pub held : Holds image
+  pub long : length image ≡ len
+  pub is : bytes ≡ patched changed image

@@ -1,5 +1,5 @@
 -- What is printed of a repair.
-use Rattle.std.specs.Prelude.{◌≡◌, ℕ, List, ◌++◌, Option, Some, None, codes, MatchOption, Result, IfOk, string_bytes}
+use Rattle.std.specs.Prelude.{◌≡◌, ℕ, List, ◌++◌, Option, Some, None, Result, Ok, Err, codes, length, string_bytes}
 use Rattle.std.proofs.Common.{String, Global}
 use Rattle.std.specs.List.{flat_map}
 use Rattle.std.specs.Fmt.{decimal}
@@ -12,7 +12,8 @@ use Rattle.hfs_repair.specs.Fixes.{AreFixes}
 use Rattle.hfs_repair.specs.Repair.{repair, wrong_in}
 use Rattle.hfs_commands.specs.Checks.{refused_line}
 use Rattle.hfs_texts.specs.Lines.{line}
-use Rattle.hfs_commands.specs.declared.repairing.RepairAnswer.{RepairAnswer}
+use Rattle.hfs_volume.specs.Image.{patched}
+use Rattle.hfs_commands.specs.declared.patched_image.PatchedImage.{PatchedImage}
 
 -- which number
 unfoldable pub place_text : FixPlace → List ℕ
@@ -59,19 +60,15 @@ pub record IsRepaired (image : List ℕ) (current : List ℕ) (told : Option Mou
   pub status_is : status ≡ 0
   pub lines_are : lines ≡ repaired_lines fixes
 
--- the repaired image is refused, or it is mounted, and this is what is told of it
-abbrev pub TellsRepair : List ℕ → RepairAnswer → Type 0
-TellsRepair image answer = MatchOption answer.volume (IsRefused image answer.fault answer.status (string_bytes answer.lines))
-    (λ volume. IsRepaired image volume.current answer.fault answer.status (string_bytes answer.lines))
+-- what a repaired image is read from, or a refused one was
+abbrev pub source_of : {S : Type 0} → Result (PatchedImage S) S → S
+source_of (Ok contents) = contents.source
+source_of (Err source) = source
 
--- the answer tells the repair of any image that has this fault when it is repaired
-abbrev pub TellsRefusal : {E : Type 0} → MountFault → Result RepairAnswer E → Type 0
-TellsRefusal why result = (image : List ℕ) → fault_of (repair image) ≡ Some why → IfOk result (TellsRepair image)
-
--- the repaired image is sound, and these are the bytes that are to be written, where they are known, the status and the lines
-pub record IsRepairedAs (image : List ℕ) (written : Option (List ℕ)) (told : Option MountFault) (status : ℕ) (lines : List ℕ) : Type 0 where
-  pub bytes : written ≡ Some (repair image)
-  pub is : IsRepaired image (repair image) told status lines
+-- the repaired image is refused; or it is the image with these changed blocks in place of its own, all of it; and this is what is told of it
+abbrev pub TellsRepair : {S : Type 0} → List ℕ → Result (PatchedImage S) S → Option MountFault → ℕ → List ℕ → Type 0
+TellsRepair image (Ok contents) told status lines = (contents.len ≡ length image) × IsRepaired image (patched contents.patch image) told status lines
+TellsRepair image (Err source) told status lines = IsRefused image told status lines
 
 -- the status and the lines of a mended image that has this first fault, or none
 abbrev pub IsMendedText : List Fix → Option MountFault → ℕ × String Global → Type 0

@@ -1,17 +1,18 @@
 -- Runs of scripts on images of which only what they need is read.
-use Rattle.std.specs.Prelude.{◌≡◌, ℕ, ◌≤◌, ◌/◌, ◌⊎◌, Bool, true, List, Option}
+use Rattle.std.specs.Prelude.{◌≡◌, ℕ, ◌≤◌, ◌/◌, ◌⊎◌, Bool, true, List, length, None}
 use Rattle.std.specs.Borrow.{Bor}
 use Rattle.hfs_blocks.specs.Layers.{Numbered}
 use Rattle.hfs_check.specs.Sound.{IsSound}
-use Rattle.hfs_needed.specs.Known.{OfKnown}
 use Rattle.hfs_needed_runs.specs.NamedForks.{HasNamedForks}
 use Rattle.hfs_needed_runs.specs.Naming.{read_forks}
 use Rattle.hfs_needed_runs.specs.NeededRuns.{AreLinesRunOver}
+use Rattle.hfs_needed_runs.specs.OnImage.{AreAllOnImage, IsLinesCopy}
 use Rattle.hfs_runs.specs.Faults.{fault_of_script}
 use Rattle.hfs_scripts.specs.declared.fault.ScriptFault.{ScriptFault}
 use Rattle.hfs_scripts.specs.declared.lines.ScriptLine.{ScriptLine}
 use Rattle.hfs_scripts.specs.Scripts.{script_of, IsFaultOf}
-use Rattle.hfs_sparse.specs.Sparse.{sparse}
+use Rattle.hfs_sparse.specs.Seen.{IsSeen}
+use Rattle.hfs_sparse.specs.Sparse.{sparse, IsOf}
 use Rattle.hfs_volume.specs.Image.{copy_of}
 use Rattle.hfs_working.specs.declared.opening.WorkingVolume.{WorkingVolume}
 use Rattle.hfs_working.specs.Opened.{IsWorkingOf}
@@ -20,17 +21,10 @@ use Rattle.hfs_commands.specs.declared.fault.Fault.{Fault}
 use Rattle.hfs_commands.specs.declared.fault.Fault.TheVariants as fault
 use Rattle.hfs_commands.specs.Faults.{fault_of_run}
 
--- what contracts see of an image on which a script is to be run: its bytes, where they are known, and how many they are
-pub record RunValue : Type 0 where
-  pub known : Option (List ℕ)
-  pub len : ℕ
-
-abbrev pub run_value : Option (List ℕ) → ℕ → RunValue
-run_value known len = record { known = known; len = len }
-
--- its working blocks were read
-pub record IsRunnable (known : Option (List ℕ)) (len : ℕ) (working : WorkingVolume) : Type 0 where
-  pub is : IsWorkingOf known (len / 512) working
+-- the working blocks of an image of so many bytes were read, and what was read is of each of these images
+pub record IsRunnable (Holds : List ℕ → Type 0) (len : ℕ) (working : WorkingVolume) : Type 0 where
+  pub is : IsWorkingOf None (len / 512) working
+  pub seen : IsSeen Holds working.read
   pub sound : IsSound (copy_of working.read len)
   pub small : len ≤ 2147483648
 
@@ -38,15 +32,19 @@ pub record IsRunnable (known : Option (List ℕ)) (len : ℕ) (working : Working
 abbrev pub IsScriptFault : ℕ → List ℕ → Fault → Type 0
 IsScriptFault now bytes why = (fault : ScriptFault) × IsFaultOf (script_of now bytes) fault × (why ≡ fault_of_run (fault_of_script fault))
 
--- lines were run on a copy of an image of so many bytes, which has the forks that they may read. Where the image's bytes are known, the copy has its working
--- blocks, and what was changed, laid over the image, agrees with it and holds what the lines made of the copy, but for the bytes of forks.
-pub record IsNeededRunOf (known : Option (List ℕ)) (len : ℕ) (lines : List ScriptLine) (patch : Numbered) (text : List ℕ) (whole : Bool) : Type 0 where
+-- lines were run on a copy of an image of so many bytes, which has the forks that they may read. What was read is of each of these images. Of each image that
+-- has what was read the copy has the working blocks and these forks, what workers were answered is what that image answers, and what was changed, laid over it,
+-- agrees with it and holds what the lines made of the copy, but for the bytes of forks.
+pub record IsNeededRunOf (Holds : List ℕ → Type 0) (len : ℕ) (lines : List ScriptLine) (patch : Numbered) (text : List ℕ) (whole shown : Bool) : Type 0 where
   pub read : Numbered
-  pub shown : Bool
   pub ran : AreLinesRunOver (copy_of read len) lines patch text whole shown
   pub forks : read_forks lines ≡ true → HasNamedForks (sparse read) lines read
-  pub copy : OfKnown known len (IsWorkingCopy (copy_of read len))
-  pub carried : OfKnown known len (CarriesOver patch (copy_of read len))
+  pub seen : IsSeen Holds read
+  pub same : (image : List ℕ) → length image ≡ len → IsOf image read → IsLinesCopy lines (copy_of read len) image
+  pub answered : (image : List ℕ) → length image ≡ len → IsOf image read
+      → AreAllOnImage lines (copy_of read len) image ran.volume text whole shown ran.ran
+  pub copy : (image : List ℕ) → length image ≡ len → IsOf image read → IsWorkingCopy (copy_of read len) image
+  pub carried : (image : List ℕ) → length image ≡ len → IsOf image read → CarriesOver patch (copy_of read len) image
 
 -- why a script was not run: the image was not read, a viewer had no place, or memory was refused
 abbrev pub IsNeededFault : Bor (List ℕ) → Fault → Type 0

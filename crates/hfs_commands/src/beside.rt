@@ -1,9 +1,10 @@
 //! New files beside others, under names that no file has.
-ghost use Rattle.std.specs.Prelude.{◌≡◌, None, Some, IfOk, string_bytes};
+ghost use Rattle.std.specs.Prelude.{◌≡◌, [], None, Some, IfOk, string_bytes};
 ghost use Rattle.std.specs.Option.{option_map};
 ghost use Rattle.hfs_commands.specs.Paths.{IsBeside, TellsFirst, leftover_text, path_beside};
 
 use crate::paths::ShownPath;
+use hfs_files::TrustedNewFile;
 use std::alloc::{AllocError, Global};
 use std::fs::OpenOptions;
 use std::io::ErrorKind;
@@ -36,7 +37,7 @@ impl fmt::Display for Leftover {
 /// A file that was made, and its path.
 #[derive(Drop)]
 pub struct NewFile<F> {
-    pub file: F,
+    pub file: TrustedNewFile<F>,
     pub path: String,
 }
 
@@ -70,12 +71,16 @@ pub fn create_beside<R: Files + AllocGlobal>(
     requires { leftover.old ≡ None }
     ensures made { IfOk result (λ made. IsBeside path.now (string_bytes made.path)
         (option_map (λ told. string_bytes told.path) leftover.new)) }
+    ensures new { IfOk result (λ made. made.file.log.steps ≡ []) }
     ensures told { TellsFirst path.now (option_map (λ told. string_bytes told.path) leftover.new) }
 {
     for number in 0..NAMES {
         let name = path_beside(rt.alloc(), path, number)?;
         match create_new(rt, name.as_str(), mode) {
-            Ok(file) => return Ok(NewFile { file, path: name }),
+            Ok(file) => {
+                let file = TrustedNewFile::new(file);
+                return Ok(NewFile { file, path: name });
+            }
             Err(error) => {
                 if error.kind() != ErrorKind::AlreadyExists {
                     return Err(error);

@@ -1,14 +1,15 @@
 //! What a file is to hold.
-ghost use Rattle.std.specs.Prelude.{◌≡◌, ℕ, List, Option, IfSome, OnErr, OnOk};
+ghost use Rattle.std.specs.Prelude.{◌≡◌, ℕ, List, [], Some, IfOk, OnErr, OnOk};
 ghost use Rattle.std.specs.Io.KnownBytes.{Appends};
+ghost use Rattle.hfs_source.specs.Images.{OfEach};
 ghost use Rattle.hfs_texts.specs.Writing.{AppendsFront};
 
+use hfs_files::{NewFileWriter, PlacedWriter};
 use hfs_patched::PatchedFault;
 use hfs_texts::put;
 use hfs_volume::Volume;
-use std::fs::OpenFile;
 use std::io;
-use std::io::{ErrorKind, Seek, Write};
+use std::io::{ErrorKind, Write};
 
 /// What a file is to hold.
 pub trait Contents {
@@ -74,11 +75,8 @@ impl From<PatchedFault> for UnwrittenFault {
 
 /// What a file is to hold, where it is read as it is written, so that a read may fail.
 pub trait ReadContents {
-    /// Its bytes, where they are known.
-    ghost known: { Self → Option (List ℕ) };
-
-    /// Those that are known of a new file that was filled with it.
-    ghost filled: { Self → Option (List ℕ) };
+    /// What its bytes may be: those that fit what was read of them so far. Of contents that are all there they are these alone.
+    ghost Holds: { Self → List ℕ → Type 0 };
 
     /// What it is read from is as it was when it was opened, as far as was looked.
     ghost settled: { Self → Type 0 };
@@ -87,20 +85,32 @@ pub trait ReadContents {
     /// nothing else. Errors: memory was refused, a read or a write failed, or what it is read from
     /// has changed since it was opened.
     fn write_to<W: Write>(&mut self, writer: &mut W) -> Result<(), UnwrittenFault>
-        ensures ok { OnOk result (IfSome (known self.old)
+        ensures ok { OnOk result (OfEach (Holds self.new)
             (Appends (W.contents writer.old) (W.contents writer.new))) }
-        ensures err { OnErr result (IfSome (known self.old)
+        ensures err { OnErr result (OfEach (Holds self.new)
             (AppendsFront (W.contents writer.old) (W.contents writer.new))) }
+        ensures narrows { OfEach (Holds self.new) (Holds self.old) }
         ensures settled { OnOk result (settled self.new) };
 
-    /// Writes all its bytes to a new file, as [`ReadContents::write_to`] does. Zeros may be left out
-    /// as holes.
-    fn fill<F: Write + Seek + OpenFile>(&mut self, file: &mut F) -> Result<(), UnwrittenFault>
-        ensures ok { OnOk result (IfSome (filled self.old)
-            (Appends (F.contents file.old) (F.contents file.new))) }
-        ensures err { OnErr result (IfSome (filled self.old)
-            (AppendsFront (F.contents file.old) (F.contents file.new))) }
-        ensures settled { OnOk result (settled self.new) };
+    /// Whether zeros of a new file may be left out, as holes.
+    fn leaves_holes(&self) -> bool;
+}
+
+/// Writes all bytes of contents to a new file, which has them and no others then. Errors: as [`ReadContents::write_to`] has them.
+pub(crate) fn fill<C: ReadContents, P: PlacedWriter + Drop>(
+    contents: &mut C,
+    file: P,
+) -> Result<P, UnwrittenFault>
+    requires bytes { P.bytes file ≡ Some [] }
+    requires place { P.place file ≡ Some 0 }
+    ensures filled { IfOk result (λ file. OfEach (C.Holds contents.new)
+        (λ bytes. P.bytes file ≡ Some bytes)) }
+    ensures narrows { OfEach (C.Holds contents.new) (C.Holds contents.old) }
+    ensures settled { OnOk result (C.settled contents.new) }
+{
+    let mut writer = NewFileWriter::new(file, contents.leaves_holes());
+    contents.write_to(&mut writer)?;
+    Ok(writer.end()?)
 }
 
 /// Contents whose bytes are all there.
@@ -108,11 +118,9 @@ pub trait ReadContents {
 pub struct Whole<'a, C>(pub &'a C);
 
 impl<C: Contents> ReadContents for Whole<'_, C> {
-    ghost use Rattle.std.specs.Prelude.{Some, ⊤};
+    ghost use Rattle.std.specs.Prelude.{◌≡◌, ⊤};
 
-    ghost known = { λ whole. Some (C.bytes whole.0.now) };
-
-    ghost filled = { λ whole. Some (C.bytes whole.0.now) };
+    ghost Holds = { λ whole bytes. bytes ≡ C.bytes whole.0.now };
 
     ghost settled = { λ _. ⊤ };
 
@@ -123,7 +131,7 @@ impl<C: Contents> ReadContents for Whole<'_, C> {
         }
     }
 
-    fn fill<F: Write + Seek + OpenFile>(&mut self, file: &mut F) -> Result<(), UnwrittenFault> {
-        self.write_to(file)
+    fn leaves_holes(&self) -> bool {
+        false
     }
 }

@@ -3,7 +3,7 @@ ghost use Rattle.std.specs.Prelude.{◌≡◌, ◌≢◌, ◌*◌, true, Err, If
 ghost use Rattle.hfs_containers.specs.Reading.{IsTold};
 ghost use Rattle.hfs_containers.specs.Ranges.{range_of};
 ghost use Rattle.hfs_source.specs.Images.{OfEach};
-ghost use Rattle.hfs_commands.specs.Extracts.{IsNoVolume, WritesAll, WritesAt, WritesFront, WritesFrontAt, extracted_text, holds_volume, sized_bytes};
+ghost use Rattle.hfs_commands.specs.Extracts.{IsNoVolume, WritesAll, WritesAt, WritesFront, WritesFrontAt, IsSized, extracted_text, holds_volume};
 
 use crate::contents::{ReadContents, UnwrittenFault};
 use crate::fault::Fault;
@@ -11,8 +11,7 @@ use hfs_containers::{ByteRange, ReadAt, volume_name};
 use hfs_sparse::BlockSource;
 use hfs_texts::{push_line, put};
 use std::alloc::{AllocError, Global};
-use std::fs::OpenFile;
-use std::io::{Seek, Write};
+use std::io::Write;
 
 /// How many bytes are read at once.
 const PIECE: u64 = 65_536;
@@ -116,9 +115,7 @@ pub struct ImageContents<S: BlockSource> {
 impl<S: BlockSource> ReadContents for ImageContents<S> {
     ghost use Rattle.std.specs.Prelude.{⊤};
 
-    ghost known = { λ image. sized_bytes (S.image image.source) image.len };
-
-    ghost filled = { λ image. sized_bytes (S.image image.source) image.len };
+    ghost Holds = { λ image. IsSized (S.Holds image.source) image.len };
 
     ghost settled = { λ _. ⊤ };
 
@@ -126,8 +123,8 @@ impl<S: BlockSource> ReadContents for ImageContents<S> {
         write_range(self.alloc, &mut self.source, self.len, writer)
     }
 
-    fn fill<F: Write + Seek + OpenFile>(&mut self, file: &mut F) -> Result<(), UnwrittenFault> {
-        write_range(self.alloc, &mut self.source, self.len, file)
+    fn leaves_holes(&self) -> bool {
+        false
     }
 }
 

@@ -1,15 +1,17 @@
 //! Files by their paths.
 ghost use Rattle.std.specs.Prelude.{◌≡◌, ◌≤◌, ◌⊎◌, IfErr, IfOk, length};
 ghost use Rattle.hfs_commands.specs.Faults.{IsTooMuch, IsUnreadScript, IsUnwatched};
+ghost use Rattle.hfs_commands.specs.Watches.{watched_len};
 
 use crate::fault::Fault;
-use crate::watched::WatchedFile;
 use hfs_check::MountFault;
+use hfs_files::{TrustedWatchedFile, Watched, WatchedBlocks, WatchedFile};
 use hfs_raw::{are_whole_sectors, data_start};
 use hfs_sparse::{BlockSource, ByteSource};
 use hfs_texts::{IMAGE_LIMIT, LoadFault, load, load_within};
 use std::alloc::Global;
 use std::fs::{File, OpenFile};
+use std::io;
 use std::io::{Read, Seek};
 use std::rt::Files;
 
@@ -59,6 +61,59 @@ pub enum WatchedImage<F: Read + Seek> {
     InFile(WatchedFile<F>),
     /// All bytes of anything else, such as a pipe.
     Whole(Vec<u8>),
+}
+
+impl<F: Read + Seek> WatchedImage<F> {
+    /// How many bytes it had when it was opened.
+    pub fn len(&self) -> u64
+        ensures { result ≡ watched_len self.now }
+    {
+        match self {
+            WatchedImage::InFile(file) => file.len(),
+            WatchedImage::Whole(bytes) => bytes.len() as u64,
+        }
+    }
+}
+
+impl<F: Read + Seek + OpenFile> BlockSource for WatchedImage<F> {
+    ghost use Rattle.std.specs.Prelude.{◌≡◌, Some, unwrap_or};
+    ghost use Rattle.std.proofs.Common.{ap, sym};
+    ghost use Rattle.std.proofs.lemmas.Option.{none-some};
+    ghost use Rattle.hfs_commands.specs.declared.files.WatchedImage.TheVariants as opened;
+    ghost use Rattle.hfs_commands.specs.Watches.{watched_bytes, watched_images};
+
+    ghost image = { λ image. watched_bytes image };
+
+    ghost Holds = { λ image. watched_images image };
+
+    fn read_blocks(&mut self, first: u32, into: &mut [u8]) -> io::Result<()> {
+        match self {
+            WatchedImage::InFile(file) => file.read_blocks(first, into),
+            WatchedImage::Whole(bytes) => {
+                let bytes = bytes.as_slice();
+                ByteSource { bytes }.read_blocks(first, into)
+            }
+        }
+    }
+
+    ghost known_holds = { λ image bytes e.
+        elim image as (λ file. watched_bytes file ≡ Some bytes → watched_images file bytes) [
+          | opened.InFile file ↦ λ none. absurd (none-some bytes none)
+          | opened.Whole all ↦ λ same. sym (ap (λ known. unwrap_or known all.items) same)
+        ] e };
+}
+
+impl<F: Read + Seek + OpenFile> Watched for WatchedImage<F> {
+    ghost use Rattle.hfs_commands.specs.Watches.{IsWatchedSettled};
+
+    ghost settled = { λ image. IsWatchedSettled image };
+
+    fn look_again(&mut self) -> io::Result<()> {
+        match self {
+            WatchedImage::InFile(file) => file.look_again(),
+            WatchedImage::Whole(_) => Ok(()),
+        }
+    }
 }
 
 /// Refuses an image of `len` bytes that is the user data of raw CD sectors. Nothing is read where `len` is no multiple of 2,352. Faults: `NotWritten`; the
@@ -115,7 +170,7 @@ pub fn open_watched<'a, R: Files + AllocGlobal>(
     if regular_len(&file).is_none() {
         return whole_watched(rt.alloc(), &mut file, path);
     }
-    let Ok(mut watched) = WatchedFile::new(file) else {
+    let Ok(mut watched) = WatchedBlocks::new(TrustedWatchedFile::new(file)) else {
         return Err(Fault::CannotRead(path));
     };
     let len = watched.len();

@@ -12,7 +12,6 @@ mod fault;
 mod files;
 mod forks;
 mod free_place;
-mod holes;
 mod items;
 mod listing;
 mod macbinary;
@@ -25,7 +24,6 @@ mod saving;
 mod seen_files;
 mod volume_files;
 mod volumes;
-mod watched;
 
 pub use answers::write_answers;
 pub use beside::Leftover;
@@ -45,17 +43,15 @@ pub use hfs_table::Format;
 pub use hfs_texts::{
     IMAGE_LIMIT, InfoFault, LoadFault, load, load_within, put, reply_text, run_info,
 };
-pub use holes::{HoleWriter, HoledFile, NewFileBytes};
 pub use items::write_items;
 pub use listing::{children_text, code_text, list_text, seen_list_text};
 pub use macbinary::{put_macbinary, write_macbinary};
 pub use opened_file::{OpenedFile, StoredFile, content_of};
 pub use patched_image::PatchedImage;
 pub use paths::ShownPath;
-pub use repairing::{NeededRepair, RepairAnswer, needed_repair_answer, repair_answer};
-pub use running::{RanImage, RunImage, script_lines};
+pub use repairing::{RepairAnswer, repair_answer};
+pub use running::{RanImage, RefusedRun, RunImage, script_lines};
 pub use saving::{Saved, save_file, save_new, save_read};
 pub use seen_files::{PartBlocks, PartImage, open_seen, part_blocks};
 pub use volume_files::{FilePart, open_asked, open_file, open_part, part_of};
 pub use volumes::{sum_told, volume_lines};
-pub use watched::{Stamp, Watched, WatchedFile};

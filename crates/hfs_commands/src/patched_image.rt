@@ -1,21 +1,19 @@
 //! An image with changed blocks laid over it, as what a file is to hold.
 ghost use Rattle.std.specs.Prelude.{◌≤◌, ◌/◌};
 ghost use Rattle.hfs_blocks.specs.Layers.{changes, AreWithin};
-ghost use Rattle.hfs_commands.specs.Images.{patched_bytes};
+ghost use Rattle.hfs_commands.specs.Images.{IsPatchedOf};
 
 use crate::contents::{ReadContents, UnwrittenFault};
-use crate::holes::{HoleWriter, NewFileBytes};
-use crate::watched::Watched;
 use hfs_blocks::Patch;
+use hfs_files::Watched;
 use hfs_patched::write_patched;
 use hfs_sparse::BlockSource;
 use std::alloc::Global;
-use std::fs::OpenFile;
-use std::io::{Seek, Write};
+use std::io::Write;
 
 /// The bytes of an image that is read as they are written, with changed blocks in place of its own.
 #[derive(Drop)]
-pub struct PatchedImage<S: BlockSource> {
+pub struct PatchedImage<S> {
     pub alloc: Global,
     /// Where the image is read from.
     pub source: S,
@@ -28,11 +26,7 @@ pub struct PatchedImage<S: BlockSource> {
 }
 
 impl<S: BlockSource + Watched> ReadContents for PatchedImage<S> {
-    ghost use Rattle.std.specs.Prelude.{None};
-
-    ghost known = { λ image. patched_bytes (S.image image.source) image.len image.patch };
-
-    ghost filled = { λ _. None };
+    ghost Holds = { λ image. IsPatchedOf (S.Holds image.source) image.len image.patch };
 
     ghost settled = { λ image. S.settled image.source };
 
@@ -44,10 +38,7 @@ impl<S: BlockSource + Watched> ReadContents for PatchedImage<S> {
         }
     }
 
-    fn fill<F: Write + Seek + OpenFile>(&mut self, file: &mut F) -> Result<(), UnwrittenFault> {
-        let mut writer = HoleWriter(NewFileBytes::new(file));
-        self.write_to(&mut writer)?;
-        writer.0.end()?;
-        Ok(())
+    fn leaves_holes(&self) -> bool {
+        true
     }
 }

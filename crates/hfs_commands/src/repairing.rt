@@ -1,9 +1,8 @@
 //! What is told of a repair.
-ghost use Rattle.std.specs.Prelude.{◌≡◌, IfOk, MatchOption, OnOk, string_bytes};
-ghost use Rattle.hfs_needed.specs.Known.{OfKnown};
+ghost use Rattle.std.specs.Prelude.{◌≡◌, IfOk, OnOk, length, string_bytes};
+ghost use Rattle.hfs_source.specs.Images.{OfEach};
 ghost use Rattle.hfs_texts.specs.Texts.{Gains};
-ghost use Rattle.hfs_commands.specs.Repairs.{place_text, fix_text, fixed_line, fixed_lines, repaired_lines, IsMendedText, IsRefused, IsRepairedAs, TellsRefusal, TellsRepair};
-ghost use Rattle.hfs_commands.specs.Images.{patched_bytes};
+ghost use Rattle.hfs_commands.specs.Repairs.{place_text, fix_text, fixed_line, fixed_lines, repaired_lines, source_of, IsMendedText, TellsRepair};
 
 use crate::checking::refused_text;
 use crate::fault::Status;
@@ -12,7 +11,7 @@ use hfs_check::MountFault;
 use hfs_mending::{Mended, mend_needed};
 use hfs_sparse::{BlockSource, SparseFault};
 use hfs_texts::{Show, push_line};
-use hfs_volume::{Fix, FixPlace, Volume, mount_repaired};
+use hfs_volume::{Fix, FixPlace};
 use std::alloc::{AllocError, Global};
 
 /// Appends which number it is.
@@ -84,63 +83,6 @@ fn repaired_text(alloc: Global, fixes: &[Fix]) -> Result<String, AllocError>
     Ok(text)
 }
 
-/// What a repair makes of an image, and what is told of it.
-#[derive(Drop)]
-pub struct RepairAnswer {
-    /// The volume of the repaired image. None where that is refused.
-    pub volume: Option<Volume>,
-    /// The first fault of the repaired image, where it has one.
-    pub fault: Option<MountFault>,
-    /// The exit status: 0, or 2 where the image is refused.
-    pub status: u8,
-    /// The lines: `fixed PLACE WAS NOW` for each number that was wrong and then `sound`, or `refused TEXT`.
-    pub lines: String,
-}
-
-/// The answer where the repaired image has a fault, which is not want of memory.
-fn refused_answer(alloc: Global, why: MountFault) -> Result<RepairAnswer, AllocError>
-    ensures { TellsRefusal why result }
-{
-    let (status, lines) = refused_text(alloc, why)?;
-    Ok(RepairAnswer {
-        volume: None,
-        fault: Some(why),
-        status,
-        lines,
-    })
-}
-
-/// Mends the counted numbers of an image, and tells of it. The only error is want of memory.
-pub fn repair_answer(alloc: Global, image: Vec<u8>) -> Result<RepairAnswer, AllocError>
-    ensures { IfOk result (TellsRepair image.items) }
-{
-    match mount_repaired(alloc, image) {
-        Ok((volume, fixes)) => Ok(RepairAnswer {
-            volume: Some(volume),
-            fault: None,
-            status: Status::Done.number(),
-            lines: repaired_text(alloc, &fixes)?,
-        }),
-        Err(refused) => match refused.fault {
-            MountFault::Memory => Err(AllocError),
-            why => refused_answer(alloc, why),
-        },
-    }
-}
-
-/// What a repair makes of an image that is read where it is needed, and what is told of it.
-#[derive(Drop)]
-pub struct NeededRepair<S: BlockSource> {
-    /// The repaired image, as what a file is to hold. None where that is refused.
-    pub image: Option<PatchedImage<S>>,
-    /// The first fault of the repaired image, where it has one.
-    pub fault: Option<MountFault>,
-    /// The exit status: 0, or 2 where the image is refused.
-    pub status: u8,
-    /// The lines: `fixed PLACE WAS NOW` for each number that was wrong and then `sound`, or `refused TEXT`.
-    pub lines: String,
-}
-
 /// The status and the lines of a mended image: those of its numbers, or of its fault.
 fn mended_text(
     alloc: Global,
@@ -155,19 +97,34 @@ fn mended_text(
     }
 }
 
-/// Answers what [`repair_answer`] answers of an image of `len` bytes, of which only the blocks are read that decide it. Its bytes are read once more when the
-/// repaired image is written. Errors: `ReadFailed` where a read of one of these blocks failed, or the source ends before one does; `Memory`
-/// where it was refused. A fault of the image is no error: it is told of.
-pub fn needed_repair_answer<S: BlockSource + Drop>(
+/// What a repair makes of an image that is read where it is needed, and what is told of it.
+#[derive(Drop)]
+pub struct RepairAnswer<S> {
+    /// The repaired image, as what a file is to hold; or what it was read from, where it is refused.
+    pub image: Result<PatchedImage<S>, S>,
+    /// The first fault of the repaired image, where it has one.
+    pub fault: Option<MountFault>,
+    /// The exit status: 0, or 2 where the image is refused.
+    pub status: u8,
+    /// The lines: `fixed PLACE WAS NOW` for each number that was wrong and then `sound`, or `refused TEXT`.
+    pub lines: String,
+}
+
+/// Mends the counted numbers of an image of `len` bytes, of which only the blocks are read that decide it, and tells of it: what is told is so of
+/// each image that has the bytes which were read. Its bytes are read once more when the repaired image is written. Errors: `ReadFailed`
+/// where a read of one of these blocks failed, or the source ends before one does; `Memory` where it was refused. A fault of the image is no
+/// error: it is told of.
+pub fn repair_answer<S: BlockSource + Drop>(
     alloc: Global,
     source: S,
     len: u64,
-) -> Result<NeededRepair<S>, SparseFault>
-    ensures { IfOk result (λ answer. OfKnown (S.image source) len (λ image. MatchOption answer.image
-        (IsRefused image answer.fault answer.status (string_bytes answer.lines))
-        (λ contents. IsRepairedAs image
-        (patched_bytes (S.image contents.source) contents.len contents.patch)
-        answer.fault answer.status (string_bytes answer.lines)))) }
+) -> Result<RepairAnswer<S>, SparseFault>
+    ensures told { IfOk result (λ answer. OfEach (S.Holds (source_of answer.image))
+        (λ image. length image ≡ len → TellsRepair image answer.image
+        answer.fault answer.status (string_bytes answer.lines))) }
+    ensures narrows { IfOk result (λ answer. OfEach (S.Holds (source_of answer.image))
+        (S.Holds source)) }
+    ensures image { IfOk result (λ answer. S.image (source_of answer.image) ≡ S.image source) }
 {
     let mut source = source;
     let Mended {
@@ -186,15 +143,15 @@ pub fn needed_repair_answer<S: BlockSource + Drop>(
                 len,
                 patch,
             };
-            Ok(NeededRepair {
-                image: Some(image),
+            Ok(RepairAnswer {
+                image: Ok(image),
                 fault: None,
                 status,
                 lines,
             })
         }
-        Some(why) => Ok(NeededRepair {
-            image: None,
+        Some(why) => Ok(RepairAnswer {
+            image: Err(source),
             fault: Some(why),
             status,
             lines,

@@ -1,19 +1,19 @@
 //! Scripts that are run on images of which only what they need is read.
-ghost use Rattle.std.specs.Prelude.{◌≡◌, ◌≤◌, ◌⊎◌, ◌/◌, All, IfErr, IfOk, Ok, Some};
+ghost use Rattle.std.specs.Prelude.{◌≡◌, ◌≤◌, ◌⊎◌, ◌/◌, All, IfErr, IfOk, Ok, Some, length};
 ghost use Rattle.hfs_blocks.specs.Layers.{changes, AreWithin};
 ghost use Rattle.hfs_check.specs.Faults.{fault_of};
-ghost use Rattle.hfs_needed.specs.Known.{OfKnown};
 ghost use Rattle.hfs_runs.specs.Asking.{IsSmall};
 ghost use Rattle.hfs_runs.specs.Pieces.{text_of_pieces};
 ghost use Rattle.hfs_runs.specs.Runs.{IsStartFault};
 ghost use Rattle.hfs_scripts.specs.Scripts.{script_of};
 ghost use Rattle.hfs_commands.specs.Faults.{IsTooMuch};
-ghost use Rattle.hfs_commands.specs.Running.{IsNeededFault, IsNeededRunOf, IsScriptFault, run_value};
+ghost use Rattle.hfs_commands.specs.Running.{IsNeededFault, IsNeededRunOf, IsScriptFault};
+ghost use Rattle.hfs_source.specs.Images.{OfEach};
 
 use crate::fault::Fault;
 use crate::patched_image::PatchedImage;
-use crate::watched::Watched;
 use hfs_check::MountFault;
+use hfs_files::Watched;
 use hfs_needed::NeededFault;
 use hfs_needed_runs::{NeededRan, fetch_named_forks, run_needed_at};
 use hfs_runs::{Answers, Gate, ScriptFault};
@@ -37,34 +37,50 @@ pub struct RunImage<S: BlockSource> {
 }
 
 impl<S: BlockSource> Model for RunImage<S> {
-    ghost use Rattle.hfs_commands.specs.Running.{RunValue, run_value, IsRunnable};
+    ghost use Rattle.std.specs.Prelude.{ℕ};
+    ghost use Rattle.hfs_commands.specs.Running.{IsRunnable};
 
-    ghost Value = { RunValue };
+    ghost Value = { S × ℕ };
 
-    ghost view = { λ image. run_value (S.image image.source) image.len };
+    ghost view = { λ image. (image.source, image.len) };
 
-    ghost invariant = { λ image. IsRunnable (S.image image.source) image.len image.working };
+    ghost invariant = { λ image. IsRunnable (S.Holds image.source) image.len image.working };
+}
+
+/// An image on which no script is run, since it is refused.
+#[derive(Drop)]
+pub struct RefusedRun<S> {
+    /// Its first fault.
+    pub why: MountFault,
+    /// Where it was read from.
+    pub source: S,
 }
 
 /// What a run of a script made of an image.
 #[derive(Drop)]
-pub struct RanImage<S: BlockSource> {
+pub struct RanImage<S> {
     /// The image with what was changed laid over it, as what a file is to hold.
     pub image: PatchedImage<S>,
     /// The answers, of which long bytes have no digits yet.
     pub answers: Answers,
     /// Whether each line was answered.
     pub whole: bool,
+    /// Whether viewers were shown each change at once, and none later for want of memory.
+    pub shown: bool,
 }
 
 /// What a run made, with the image that it was made of.
 fn ran_image<S: BlockSource>(alloc: Global, source: S, len: u64, ran: NeededRan) -> RanImage<S>
     requires small { len ≤ 2147483648 }
     requires within { AreWithin (changes ran.patch) (len / 512) }
+    ensures source { result.image.source ≡ source }
+    ensures len { result.image.len ≡ len }
     ensures patch { result.image.patch ≡ ran.patch }
     ensures answers { result.answers ≡ ran.answers }
     ensures whole { result.whole ≡ ran.whole }
+    ensures shown { result.shown ≡ ran.shown }
 {
+    let at_once = ran.shown;
     let NeededRan {
         patch,
         answers,
@@ -81,6 +97,7 @@ fn ran_image<S: BlockSource>(alloc: Global, source: S, len: u64, ran: NeededRan)
         image,
         answers,
         whole,
+        shown: at_once,
     }
 }
 
@@ -113,11 +130,16 @@ impl<S: BlockSource + Watched + Drop> RunImage<S> {
         source: S,
         len: u64,
         path: &'a str,
-    ) -> Result<Result<RunImage<S>, MountFault>, Fault<'a>>
+    ) -> Result<Result<RunImage<S>, RefusedRun<S>>, Fault<'a>>
+        ensures len { IfOk result (λ opened. IfOk opened (λ image. image.1 ≡ len)) }
         ensures image { IfOk result (λ opened. IfOk opened (λ image.
-            image ≡ run_value (S.image source) len)) }
-        ensures refused { IfOk result (λ opened. IfErr opened (λ why.
-            OfKnown (S.image source) len (λ bytes. fault_of bytes ≡ Some why))) }
+            S.image image.0 ≡ S.image source)) }
+        ensures narrows { IfOk result (λ opened. IfOk opened (λ image.
+            OfEach (S.Holds image.0) (S.Holds source))) }
+        ensures refused { IfOk result (λ opened. IfErr opened (λ refused.
+            OfEach (S.Holds refused.source) (λ bytes. length bytes ≡ len → fault_of bytes ≡ Some refused.why))) }
+        ensures back { IfOk result (λ opened. IfErr opened (λ refused.
+            OfEach (S.Holds refused.source) (S.Holds source))) }
         ensures fault { IfErr result (λ why. (why ≡ Fault.CannotRead path.entry) ⊎ IsTooMuch why) }
     {
         if len > IMAGE_LIMIT as u64 {
@@ -130,7 +152,7 @@ impl<S: BlockSource + Watched + Drop> RunImage<S> {
                 len,
                 working,
             })),
-            Err(NeededFault::Refused(why)) => Ok(Err(why)),
+            Err(NeededFault::Refused(why)) => Ok(Err(RefusedRun { why, source })),
             Err(NeededFault::ReadFailed) => Err(Fault::CannotRead(path)),
             Err(NeededFault::Memory) => Err(Fault::NoMemory),
         }
@@ -147,8 +169,12 @@ impl<S: BlockSource + Watched + Drop> RunImage<S> {
         path: &'a str,
     ) -> Result<RanImage<S>, Fault<'a>>
         requires { All (λ line. IsSmall line.caller) script }
-        ensures ran { IfOk result (λ ran. IsNeededRunOf self.known self.len script
-            ran.image.patch (text_of_pieces ran.answers) ran.whole) }
+        ensures ran { IfOk result (λ ran. IsNeededRunOf (S.Holds ran.image.source) self.1 script
+            ran.image.patch (text_of_pieces ran.answers) ran.whole ran.shown) }
+        ensures len { IfOk result (λ ran. ran.image.len ≡ self.1) }
+        ensures image { IfOk result (λ ran. S.image ran.image.source ≡ S.image self.0) }
+        ensures narrows { IfOk result (λ ran. OfEach (S.Holds ran.image.source) (S.Holds self.0)) }
+        ensures settled { IfOk result (λ ran. S.settled ran.image.source) }
         ensures fault { IfErr result (IsNeededFault path.entry) }
     {
         let RunImage {

@@ -1,15 +1,16 @@
 //! Files that are written in place of what they had.
-ghost use Rattle.std.specs.Prelude.{◌≡◌, None, IfErr, IfOk, IfSome, OnErr, OnOk, string_bytes};
-ghost use Rattle.std.specs.Io.KnownBytes.{Appends};
+ghost use Rattle.std.specs.Prelude.{◌≡◌, [], None, Some, IfErr, IfOk, OnOk, string_bytes};
 ghost use Rattle.std.specs.Option.{option_map};
-ghost use Rattle.hfs_texts.specs.Writing.{AppendsFront};
+ghost use Rattle.hfs_source.specs.Images.{OfEach};
+ghost use Rattle.hfs_files.specs.Writes.{bytes_after};
 ghost use Rattle.hfs_commands.specs.Saving.{IsNoPlace, IsOpenTarget, IsUnmade, IsUnsaved, TellsSomeFirst};
 ghost use Rattle.hfs_commands.specs.Paths.{TellsFirst};
 
 use crate::beside::{Leftover, NewFile, create_beside};
-use crate::contents::{Contents, ReadContents, UnwrittenFault, Whole};
+use crate::contents::{Contents, ReadContents, UnwrittenFault, Whole, fill};
 use crate::fault::Fault;
 use crate::free_place::FreePlace;
+use hfs_files::TrustedNewFile;
 use std::fs::{File, Metadata, OpenFile, OpenOptions};
 use std::io::ErrorKind;
 use std::os::unix::fs::MetadataExt;
@@ -91,32 +92,33 @@ fn real_path<R: Files + AllocGlobal>(rt: &R, path: &str) -> io::Result<String> {
 
 /// Gives a new file the owner and the group of another, each where the system allows it, and its
 /// permissions.
-fn keep_access<R: Files>(rt: &R, made: &NewFile<R::File>, old: &Metadata) -> io::Result<()> {
-    let _group = rt.lchown(made.path.as_str(), None, Some(old.gid()));
-    let _owner = rt.lchown(made.path.as_str(), Some(old.uid()), None);
-    made.file.set_permissions(old.permissions())
+fn keep_access<R: Files>(rt: &R, file: &R::File, path: &str, old: &Metadata) -> io::Result<()> {
+    let _group = rt.lchown(path, None, Some(old.gid()));
+    let _owner = rt.lchown(path, Some(old.uid()), None);
+    file.set_permissions(old.permissions())
 }
 
-/// Writes a new file that is to be put in an old one's place, and all of it to the device. Then the
-/// file has got all the bytes; at an error a part of them, from the first on.
-fn fill<R: Files, C: ReadContents>(
+/// Writes a new file, and all of it to the device: then it has these bytes and no others. It gets the access of the file in whose place
+/// it is to be put.
+fn fill_new<R: Files, C: ReadContents>(
     rt: &R,
-    made: &mut NewFile<R::File>,
+    file: TrustedNewFile<R::File>,
+    path: &str,
     contents: &mut C,
     old: Option<Metadata>,
-) -> Result<(), UnwrittenFault>
-    ensures ok { OnOk result (IfSome (C.filled contents.old) (Appends
-        (R.File.contents made.old.file) (R.File.contents made.new.file))) }
-    ensures err { OnErr result (IfSome (C.filled contents.old) (AppendsFront
-        (R.File.contents made.old.file) (R.File.contents made.new.file))) }
+) -> Result<TrustedNewFile<R::File>, UnwrittenFault>
+    requires { file.log.steps ≡ [] }
+    ensures filled { IfOk result (λ file. OfEach (C.Holds contents.new)
+        (λ bytes. bytes_after file.log.steps ≡ Some bytes)) }
+    ensures narrows { OfEach (C.Holds contents.new) (C.Holds contents.old) }
     ensures settled { OnOk result (C.settled contents.new) }
 {
-    contents.fill(&mut made.file)?;
+    let file = fill(contents, file)?;
     if let Some(old) = old {
-        keep_access(rt, made, &old)?;
+        keep_access(rt, file.file(), path, &old)?;
     }
-    made.file.sync_all()?;
-    Ok(())
+    file.file().sync_all()?;
+    Ok(file)
 }
 
 /// Writes to a file beside this path, and renames that over it. At an error the path is as it was,
@@ -134,20 +136,20 @@ fn replace<R: Files + AllocGlobal, C: ReadContents>(
     ensures settled { OnOk result (C.settled contents.new) }
 {
     let mode = if old.is_some() { FOR_OWNER } else { FOR_ALL };
-    let mut made = create_beside(rt, path, mode, leftover)?;
-    let placed = match fill(rt, &mut made, contents, old) {
-        Ok(()) => place(rt, &made, path),
+    let NewFile { file, path: beside } = create_beside(rt, path, mode, leftover)?;
+    let placed = match fill_new(rt, file, beside.as_str(), contents, old) {
+        Ok(_file) => place(rt, beside.as_str(), path),
         Err(fault) => Err(fault),
     };
     if placed.is_err() {
-        let _removed = fs::remove_file(rt, made.path.as_str());
+        let _removed = fs::remove_file(rt, beside.as_str());
     }
     placed
 }
 
 /// Renames a file that is whole over a path.
-fn place<R: Files>(rt: &R, made: &NewFile<R::File>, path: &str) -> Result<(), UnwrittenFault> {
-    fs::rename(rt, made.path.as_str(), path)?;
+fn place<R: Files>(rt: &R, beside: &str, path: &str) -> Result<(), UnwrittenFault> {
+    fs::rename(rt, beside, path)?;
     Ok(())
 }
 
@@ -240,11 +242,11 @@ fn filled_beside<R: Files + AllocGlobal, C: ReadContents>(
         (option_map (λ told. string_bytes told.path) leftover.new) }
     ensures settled { OnOk result (C.settled contents.new) }
 {
-    let mut made = create_beside(rt, path, FOR_ALL, leftover)?;
-    match fill(rt, &mut made, contents, None) {
-        Ok(()) => Ok(made),
+    let NewFile { file, path: beside } = create_beside(rt, path, FOR_ALL, leftover)?;
+    match fill_new(rt, file, beside.as_str(), contents, None) {
+        Ok(file) => Ok(NewFile { file, path: beside }),
         Err(fault) => {
-            let _removed = fs::remove_file(rt, made.path.as_str());
+            let _removed = fs::remove_file(rt, beside.as_str());
             Err(fault)
         }
     }

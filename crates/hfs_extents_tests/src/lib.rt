@@ -1,8 +1,15 @@
-//! Records that come to small extents trees and leave them, with all checks of the tree after each.
+//! Tests of forks that grow and shrink, on blocks by hand: records that come to small extents trees and leave them, with all checks
+//! of the tree after each; which blocks come, their bits, the extents, and the bytes and zeros over them.
 #![tactic(auto)]
 
 #[cfg(test)]
+mod choices;
+#[cfg(test)]
+mod claims;
+#[cfg(test)]
 mod coming;
+#[cfg(test)]
+mod extents;
 #[cfg(test)]
 mod forks;
 #[cfg(test)]
@@ -13,3 +20,5 @@ mod leaving;
 mod trees;
 #[cfg(test)]
 mod wants;
+#[cfg(test)]
+mod written;

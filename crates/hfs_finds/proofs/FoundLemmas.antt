@@ -10,6 +10,7 @@ use Rattle.hfs_check.specs.Faults.{length_fault}
 use Rattle.hfs_check.specs.Parts.{Blocks}
 use Rattle.hfs_needed.specs.Known.{OfKnown}
 use Rattle.hfs_needed.proofs.Reported.{length-large, length-short}
+use Rattle.hfs_sparse.specs.Seen.{EachKnown, IsSeen}
 use Rattle.hfs_sparse.specs.Sparse.{sparse}
 use Rattle.hfs_sparse.proofs.SparseLemmas.{each-of}
 use Rattle.hfs_rescue.specs.Directory.{directory_in, directory_of, mdb_at, usual_directory}
@@ -47,6 +48,11 @@ outside-found known len outside =
     (cases_lt 2147483648 len)
 
 -- ---- what was gathered
+
+-- what was gathered is of each image of which what was read is
+pub gathered-each : {Holds : List ℕ → Type 0} {known : Option (List ℕ)} {total : ℕ} {gathered : Gathered} → IsGathered known total gathered → IsSeen Holds gathered.read
+    → EachKnown Holds (λ some. IsGathered some total gathered)
+gathered-each is seen = λ image h. record { needed = is.needed; of = seen image h; directory = is.directory }
 
 some-none : (n : ℕ) → None ≡ Some n → ⊥
 some-none n e = cc

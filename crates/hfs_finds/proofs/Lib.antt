@@ -5,3 +5,4 @@ pub mod SameFinds
 mod GatherLemmas
 mod FoundLemmas
 pub mod LawsProved
+mod LookLemmas

@@ -3,3 +3,4 @@ pub mod Images
 pub mod Needed
 pub mod FileReads
 pub mod NeededFinds
+pub mod Looks

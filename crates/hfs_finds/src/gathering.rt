@@ -6,6 +6,8 @@ ghost use Rattle.hfs_rescue.specs.CatalogRecords.{looks_elsewhere};
 ghost use Rattle.hfs_rescue.specs.OverflowRecords.{catalog_extents, overflow_records};
 ghost use Rattle.hfs_rescue.specs.Remains.{catalog_file_extents, extents_file_blocks};
 ghost use Rattle.hfs_rescue.specs.TreeFiles.{AreThere};
+ghost use Rattle.hfs_source.specs.Images.{OfEach};
+ghost use Rattle.hfs_sparse.specs.Seen.{IsSeen, SeesMore};
 ghost use Rattle.hfs_sparse.specs.Sparse.{HasEach, sparse};
 ghost use Rattle.hfs_finds.specs.Needed as spec;
 ghost use Rattle.hfs_finds.specs.FileReads.{HasPlaces, LieBeside};
@@ -30,6 +32,7 @@ pub(crate) struct Gathered {
 }
 
 /// Reads the block in which a tree begins whose file has these extents, where it is there.
+#[tactic(auto, using(hfs_sparse::proofs::Seen::sees_itself))]
 fn fetch_beginning<S: BlockSource>(
     source: &mut S,
     read: &mut SparseBlocks,
@@ -41,6 +44,7 @@ fn fetch_beginning<S: BlockSource>(
         (spec.listed (beginning_of count mdb.now extents.now))) }
     ensures reads { OnOk result (HasRead (S.image source.old) count read.old read.new) }
     ensures image { S.image source.new ≡ S.image source.old }
+    ensures sees { SeesMore (S.Holds source.old) (S.Holds source.new) read.old read.new }
 {
     let Some(n) = beginning_of(count, mdb, extents) else {
         return Ok(());
@@ -60,6 +64,7 @@ fn fetch_place<S: BlockSource>(
     ensures has { OnOk result (HasEach read.new (spec.needed_at count (sparse read.new) n)) }
     ensures reads { OnOk result (HasRead (S.image source.old) count read.old read.new) }
     ensures image { S.image source.new ≡ S.image source.old }
+    ensures sees { SeesMore (S.Holds source.old) (S.Holds source.new) read.old read.new }
 {
     fetch(source, read, n)?;
     let mdb = read_mdb_at(&read.volume(count), n);
@@ -78,6 +83,7 @@ fn fetch_places<S: BlockSource>(
     ensures has { OnOk result (HasEach read.new (spec.needed_of_places count (sparse read.new))) }
     ensures reads { OnOk result (HasRead (S.image source.old) count read.old read.new) }
     ensures image { S.image source.new ≡ S.image source.old }
+    ensures sees { SeesMore (S.Holds source.old) (S.Holds source.new) read.old read.new }
 {
     fetch_place(source, read, count, 2)?;
     fetch_place(source, read, count, count - 2)?;
@@ -111,6 +117,7 @@ fn side_by_side(file: &[Option<u16>], i: usize, b: u16) -> usize
 }
 
 /// Reads the allocation block at place `i` of a file, and with it those at the places behind it that follow it. How many places they have.
+#[tactic(auto, using(hfs_sparse::proofs::Seen::sees_itself))]
 fn fetch_from<S: BlockSource>(
     source: &mut S,
     read: &mut SparseBlocks,
@@ -126,6 +133,7 @@ fn fetch_from<S: BlockSource>(
     ensures has { IfOk result (λ step. HasPlaces read.new mdb.now file.now i (i + step)) }
     ensures reads { OnOk result (HasRead (S.image source.old) count read.old read.new) }
     ensures image { S.image source.new ≡ S.image source.old }
+    ensures sees { SeesMore (S.Holds source.old) (S.Holds source.new) read.old read.new }
 {
     let Some(b) = file[i] else {
         return Ok(1);
@@ -141,6 +149,7 @@ fn fetch_from<S: BlockSource>(
 }
 
 /// Reads the allocation blocks of a file that are there, those that follow each other together.
+#[tactic(auto, using(hfs_sparse::proofs::Seen::sees_itself))]
 fn fetch_file<S: BlockSource>(
     source: &mut S,
     read: &mut SparseBlocks,
@@ -153,6 +162,7 @@ fn fetch_file<S: BlockSource>(
     ensures has { OnOk result (HasEach read.new (spec.needed_of_file mdb.now file.now)) }
     ensures reads { OnOk result (HasRead (S.image source.old) count read.old read.new) }
     ensures image { S.image source.new ≡ S.image source.old }
+    ensures sees { SeesMore (S.Holds source.old) (S.Holds source.new) read.old read.new }
 {
     let mut i = 0;
     while i < file.len() {
@@ -182,6 +192,7 @@ fn extents_of<B: Blocks>(
 }
 
 /// Reads the blocks of the extents file. All extents of the catalog file.
+#[tactic(auto, using(hfs_sparse::proofs::Seen::sees_itself))]
 fn fetch_extents<S: BlockSource>(
     alloc: Global,
     source: &mut S,
@@ -197,6 +208,7 @@ fn fetch_extents<S: BlockSource>(
     ensures few { IfOk result (λ extents. length extents.items ≤ 196611) }
     ensures reads { OnOk result (HasRead (S.image source.old) count read.old read.new) }
     ensures image { S.image source.new ≡ S.image source.old }
+    ensures sees { SeesMore (S.Holds source.old) (S.Holds source.new) read.old read.new }
 {
     let Ok(file) = file_blocks(alloc, count, mdb, &mdb.extents_file) else {
         return Err(SparseFault::Memory);
@@ -247,6 +259,7 @@ fn fetch_files<S: BlockSource>(
         (sparse read.new) mdb.now) }
     ensures reads { OnOk result (HasRead (S.image source.old) count read.old read.new) }
     ensures image { S.image source.new ≡ S.image source.old }
+    ensures sees { SeesMore (S.Holds source.old) (S.Holds source.new) read.old read.new }
 {
     let extents = fetch_extents(alloc, source, read, count, mdb)?;
     let Ok(file) = file_blocks(alloc, count, mdb, &extents) else {
@@ -276,6 +289,8 @@ pub(crate) fn gather<S: BlockSource>(
     requires { 3 ≤ count }
     ensures gathered { IfOk result (IsGathered (S.image source.old) count) }
     ensures image { S.image source.new ≡ S.image source.old }
+    ensures seen { IfOk result (λ gathered. IsSeen (S.Holds source.new) gathered.read) }
+    ensures narrows { OfEach (S.Holds source.new) (S.Holds source.old) }
 {
     let mut read = SparseBlocks::new(alloc);
     fetch_places(source, &mut read, count)?;

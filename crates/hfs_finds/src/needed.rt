@@ -1,5 +1,7 @@
 //! Finding what there is of an image, of which only the blocks are read that are needed.
 ghost use Rattle.std.specs.Prelude.{◌≡◌, IfOk};
+ghost use Rattle.hfs_source.specs.Images.{OfEach};
+ghost use Rattle.hfs_sparse.specs.Seen.{EachKnown};
 ghost use Rattle.hfs_finds.specs.NeededFinds.{IsNeededOf};
 
 use crate::finding::finds_by;
@@ -29,6 +31,9 @@ pub fn needed_finds<S: BlockSource>(
 ) -> Result<NeededFinds, SparseFault>
     ensures needed { IfOk result (IsNeededOf (S.image source.old) len) }
     ensures image { S.image source.new ≡ S.image source.old }
+    ensures each { IfOk result (λ found. EachKnown (S.Holds source.new)
+        (λ known. IsNeededOf known len found)) }
+    ensures narrows { OfEach (S.Holds source.new) (S.Holds source.old) }
 {
     if len < 1_536 || len > 2_147_483_648 {
         return Ok(NeededFinds::Found(None));

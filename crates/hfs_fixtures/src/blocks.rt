@@ -14,17 +14,3 @@ pub fn lay(image: &mut [u8], block: usize, at: usize, bytes: &[u8]) -> Result<()
     image[start..end].copy_from_slice(bytes);
     Ok(())
 }
-
-/// A block of an image. An error where it isn't there.
-pub fn block_of(image: &[u8], block: usize) -> Result<[u8; 512], FixtureFault> {
-    if block >= 65_536 {
-        return Err(FixtureFault::Outside);
-    }
-    let start = 512 * block;
-    if image.len() < 512 || start > image.len() - 512 {
-        return Err(FixtureFault::Outside);
-    }
-    let mut bytes = [0; 512];
-    bytes.copy_from_slice(&image[start..start + 512]);
-    Ok(bytes)
-}

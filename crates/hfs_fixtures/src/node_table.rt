@@ -15,21 +15,6 @@ pub struct NodeTable {
 }
 
 impl NodeTable {
-    /// The whole nodes of a file; none where it is too long.
-    pub fn of(alloc: Global, file: &[u8]) -> Result<Option<NodeTable>, AllocError> {
-        let mut nodes = Vec::new(alloc);
-        for chunk in file.chunks_exact(512) {
-            let mut node = [0; 512];
-            node.copy_from_slice(chunk);
-            nodes.push(node)?;
-        }
-        if nodes.len() < 8_388_608 {
-            Ok(Some(NodeTable { nodes }))
-        } else {
-            Ok(None)
-        }
-    }
-
     /// A copy of these nodes; none where they are too many.
     pub fn of_nodes(alloc: Global, nodes: &[[u8; 512]]) -> Result<Option<NodeTable>, AllocError> {
         let nodes = Vec::from_slice(alloc, nodes)?;

@@ -9,4 +9,4 @@ mod zero_runs;
 
 pub use clearing::{Cleared, clear_fork};
 pub use forks::write_fork;
-pub use zero_runs::{ZeroRuns, Zeroed};
+pub use zero_runs::{ZeroRuns, Zeroed, runs_from};

@@ -40,7 +40,7 @@ use Rattle.hfs_fork_changes.proofs.Rooms.{length-blocks, extents_within}
 use Rattle.hfs_fork_changes.proofs.SoundForks.{own, forks_r, own_owns, own_once, own_sound, own_within}
 
 -- how many blocks of 512 bytes extents have
-numbers_long : (mdb : Mdb) (es : List Extent) → mdb.allocation_block_size % 512 ≡ 0 → 512 * length (block_numbers mdb es) ≡ length (extent_blocks es) * mdb.allocation_block_size
+pub numbers_long : (mdb : Mdb) (es : List Extent) → mdb.allocation_block_size % 512 ≡ 0 → 512 * length (block_numbers mdb es) ≡ length (extent_blocks es) * mdb.allocation_block_size
 unfolding nodes_in
 numbers_long mdb es whole =
     let blocks : ℕ → List ℕ = λ n. [] in

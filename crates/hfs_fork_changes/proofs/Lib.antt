@@ -1,9 +1,9 @@
 mod Files
 mod TreeKeys
 mod Overflows
-mod Beside
+pub mod Beside
 mod BesideTrees
-mod Rooms
+pub mod Rooms
 pub mod SoundForks
 mod Changed
 mod Contents
@@ -12,4 +12,4 @@ pub mod Moves
 mod Bytes
 pub mod Laid
 pub mod Edited
-mod LawsProved
+pub mod LawsProved

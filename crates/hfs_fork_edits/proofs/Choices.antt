@@ -1,6 +1,7 @@
 -- What SetEof and WriteFork choose, where the file was looked for already.
-use Rattle.std.proofs.Common.{◌≡◌, ℕ, ◌+◌, ℤ, Bool, true, false, cond, ◌||◌, List, length, refl, sym, ◌∙◌, ap, subst, Result, Ok, Err}
-use Rattle.std.specs.Prelude.{nat_lt}
+use Rattle.std.proofs.Common.{◌≡◌, ℕ, ◌+◌, ◌≤◌, ℤ, Bool, true, false, cond, ltb, ◌||◌, List, length, refl, sym, ◌∙◌, ap, subst, Result, Ok, Err}
+use Rattle.std.specs.Prelude.{nat_lt, IfOk}
+use Rattle.std.proofs.lemmas.Bool.{ltb-false}
 use Rattle.hfs_fields.specs.Records.{file_record_of}
 use Rattle.hfs_fields.specs.declared.file_record.FileRecord.{FileRecord}
 use Rattle.hfs_scans.specs.Members.{In}
@@ -23,7 +24,7 @@ use Rattle.hfs_fork_calls.specs.Forks.{fork_bytes}
 use Rattle.hfs_fork_calls.specs.ForkCalls.{file_to_write, unless_past_end, to_set_eof, to_write_fork}
 use Rattle.hfs_fork_changes.specs.Files.{fork_of}
 use Rattle.hfs_fork_edits.specs.declared.choosing.FoundFile.{FoundFile}
-use Rattle.hfs_fork_edits.specs.Found.{IsFoundFile, FindsFile, AreWholeSound, if_short, unless_past, if_writable, ChoosesSetEof, ChoosesWriteFork}
+use Rattle.hfs_fork_edits.specs.Found.{IsFoundFile, FindsFile, AreWholeSound, if_short, unless_past, if_writable, ChoosesSetEof, ChoosesWriteFork, IsWritable}
 
 -- ---- a file that was found
 
@@ -102,3 +103,26 @@ write_fork_chosen found fork offset bytes total old dir name h finds = by (nat_l
     by : (b : Bool) → FindsFile old (cond b (Err PARAMETER) (and_then (file_to_write (volume_in old) dir name) (unless_past_end fork offset))) (cond b (Err PARAMETER) (and_then found (unless_past fork offset)))
     by true = refl
     by false = next found finds
+
+-- ---- what was found, where a file is chosen
+
+pub short_found : (found : Result FoundFile ℤ) (length : ℕ) → IfOk (if_short length found) (λ f. found ≡ Ok f)
+short_found found length = by (nat_lt 2147483647 length) found
+  where
+    by : (b : Bool) (r : Result FoundFile ℤ) → IfOk (cond b (Err PARAMETER) r) (λ f. r ≡ Ok f)
+    by true r = tt
+    by false (Ok f) = refl
+    by false (Err code) = tt
+
+pub writable_found : (found : Result FoundFile ℤ) (fork : Fork) (offset : ℕ) (bytes : List ℕ) → IfOk (if_writable fork offset bytes found) (IsWritable found fork offset bytes)
+writable_found found fork offset bytes = by (ltb 65536 (length bytes)) (ltb 2147483647 (offset + length bytes)) refl found
+  where
+    past : (f : FoundFile) (b : Bool) → offset + length bytes ≤ 2147483647 → ltb (fork_of fork f.file).length offset ≡ b → IfOk (cond b (Err END_OF_FILE) (Ok f)) (IsWritable (Ok f) fork offset bytes)
+    past f true few e = tt
+    past f false few e = record { is = refl; starts = ltb-false (fork_of fork f.file).length offset e; ends = few }
+
+    by : (a b : Bool) → ltb 2147483647 (offset + length bytes) ≡ b → (r : Result FoundFile ℤ) → IfOk (cond (a || b) (Err PARAMETER) (and_then r (unless_past fork offset))) (IsWritable r fork offset bytes)
+    by true b e r = tt
+    by false true e r = tt
+    by false false e (Ok f) = past f (ltb (fork_of fork f.file).length offset) (ltb-false 2147483647 (offset + length bytes) e) refl
+    by false false e (Err code) = tt

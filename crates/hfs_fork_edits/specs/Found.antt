@@ -1,5 +1,5 @@
 -- The file that a call looks for, and what SetEof and WriteFork choose of what was found.
-use Rattle.std.specs.Prelude.{◌≡◌, ℕ, ◌+◌, ◌<◌, ℤ, ◌||◌, nat_lt, if◌then◌else◌, List, length, Result, Ok, Err}
+use Rattle.std.specs.Prelude.{◌≡◌, ℕ, ◌+◌, ◌<◌, ◌≤◌, ℤ, ◌||◌, nat_lt, if◌then◌else◌, List, length, Result, Ok, Err}
 use Rattle.std.specs.Result.{MatchResult}
 use Rattle.hfs_btree_edits.specs.Entries.{IsPlaceOf}
 use Rattle.hfs_catalog.specs.Tree.{cat_keys}
@@ -60,3 +60,9 @@ abbrev pub ChoosesWriteFork : Result FoundFile ℤ → Fork → ℕ → List ℕ
 ChoosesWriteFork found fork offset bytes result =
     (total : ℕ) (old : Blocks) (dir : ℕ) (name : List ℕ) → AreWholeSound total old → FindsFile old (file_to_write (volume_in old) dir name) found
     → FindsFile old (to_write_fork (volume_in old) dir name fork offset bytes) result
+
+-- the file was found, its fork goes as far as the offset, and the bytes from there on end at 2,147,483,647 or before
+pub record IsWritable (found : Result FoundFile ℤ) (fork : Fork) (offset : ℕ) (bytes : List ℕ) (f : FoundFile) : Type 0 where
+  pub is : found ≡ Ok f
+  pub starts : offset ≤ (fork_of fork f.file).length
+  pub ends : offset + length bytes ≤ 2147483647

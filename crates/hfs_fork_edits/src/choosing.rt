@@ -1,6 +1,6 @@
 //! What SetEof and WriteFork choose, where the file was looked for already. In each the first code that holds is the reply's.
 
-ghost use Rattle.std.specs.Prelude.{◌≡◌};
+ghost use Rattle.std.specs.Prelude.{◌≡◌, Ok, IfOk};
 ghost use Rattle.hfs_fork_edits.specs.Found as spec;
 
 use crate::records::fork_of;
@@ -71,7 +71,8 @@ fn if_writable(
 ///
 /// Errors: -50 where the length is above 2,147,483,647, also where the file wasn't found; else the code of `found`.
 pub fn to_set_eof(found: Result<FoundFile, i16>, length: u32) -> Result<FoundFile, i16>
-    ensures { spec.ChoosesSetEof found length result }
+    ensures chooses { spec.ChoosesSetEof found length result }
+    ensures found { IfOk result (λ file. found ≡ Ok file) }
 {
     if_short(length, found)
 }
@@ -86,7 +87,8 @@ pub fn to_write_fork(
     offset: u32,
     bytes: &[u8],
 ) -> Result<FoundFile, i16>
-    ensures { spec.ChoosesWriteFork found fork offset bytes.now result }
+    ensures chooses { spec.ChoosesWriteFork found fork offset bytes.now result }
+    ensures within { IfOk result (spec.IsWritable found fork offset bytes.now) }
 {
     if_writable(fork, offset, bytes, found)
 }

@@ -1,4 +1,4 @@
-mod CutLemmas
+pub mod CutLemmas
 mod AddLemmas
 pub mod RecordLemmas
 pub mod TreeEdits

@@ -39,8 +39,9 @@ pub fn cut_extents(extents: &[Extent; 3], count: u32) -> [Extent; 3]
     ]
 }
 
-/// The first `count` blocks of a fork's extents, each of which keeps its place.
-pub(crate) fn cut_all(extents: &mut Vec<Extent>, count: u32)
+/// The first `count` blocks of a fork's extents, each of which keeps its place; one that loses its last block is 0, 0, and one that had
+/// none stays as it is. Takes no memory.
+pub fn cut_all(extents: &mut Vec<Extent>, count: u32)
     ensures { extents.new.items ≡ spec.cut count extents.old.items }
 {
     let mut stay = count;

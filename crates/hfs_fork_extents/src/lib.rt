@@ -11,7 +11,7 @@ mod settling;
 mod shortening;
 mod threes;
 
-pub use cuts::{cut_extents, surplus};
+pub use cuts::{cut_all, cut_extents, surplus};
 pub use growing::{NodesWanted, lengthen_fork};
 pub use lengthening::lengthen;
 pub use records::cut_records;

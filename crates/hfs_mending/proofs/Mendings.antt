@@ -1,10 +1,10 @@
 -- What was made of the blocks that were read is what a repair makes of the image.
-use Rattle.std.proofs.Common.{◌≡◌, ℕ, ◌/◌, ◌<◌, ◌≤◌, false, List, [], length, Option, Some, None, refl, sym, ap, subst, ◌∙◌, arith}
-use Rattle.std.specs.Prelude.{IfOk, IfSome, Result, Ok, Err, nat_le, ◌&&◌}
+use Rattle.std.proofs.Common.{◌≡◌, ℕ, ◌/◌, ◌<◌, ◌≤◌, false, List, [], length, Option, Some, refl, sym, ap, subst, ◌∙◌, arith}
+use Rattle.std.specs.Prelude.{IfOk, Result, Ok, Err, nat_le, ◌&&◌}
 use Rattle.std.proofs.lemmas.Bool.{le-leb, lt-leb}
 use Rattle.hfs_fields.proofs.DecisionLemmas.{both_true}
 use Rattle.hfs_blocks.specs.Blocks.{block_at, block_count}
-use Rattle.hfs_blocks.specs.Layers.{Numbered, changes, AreWithin, over}
+use Rattle.hfs_blocks.specs.Layers.{Numbered, changes, AreWithin}
 use Rattle.hfs_blocks.proofs.LayerLemmas.{AreWithin-nothing}
 use Rattle.hfs_check.specs.declared.mount_fault.MountFault.{MountFault}
 use Rattle.hfs_check.specs.Faults.{◌or_fault◌, blocks_fault, length_fault, fault_of}
@@ -19,6 +19,9 @@ use Rattle.hfs_repair.proofs.Mendable.{image-right, image-wrong}
 use Rattle.hfs_repair.proofs.Openings.{first-false, second-false}
 use Rattle.hfs_repair.proofs.Repairs.{put-repair}
 use Rattle.hfs_needed.proofs.Reported.{length-right}
+use Rattle.hfs_source.specs.Images.{OfEach}
+use Rattle.hfs_sparse.specs.Sparse.{HasGrown, IsOf}
+use Rattle.hfs_mending.proofs.ReadParts.{of-earlier}
 use Rattle.hfs_volume.specs.Image.{patched}
 use Rattle.hfs_volume.proofs.Laid.{block_at-laid_over, laid_over-nothing}
 use Rattle.hfs_volume.proofs.SavedPieces.{length-laid_over}
@@ -37,12 +40,11 @@ no-fixes = record {
   order = λ i j d le lt. absurd (omega (arith, lt));
 }
 
-pub unmended-known : (known : Option (List ℕ)) (len : ℕ) (why : MountFault) (patch : Numbered) (fixes : List Fix) (fault : Option MountFault)
+pub unmended-each : (Holds : List ℕ → Type 0) (len : ℕ) (why : MountFault) (patch : Numbered) (fixes : List Fix) (fault : Option MountFault)
     → (nat_le len 2147483648 && nat_le 1536 len) ≡ false → length_fault len ≡ Some why → patch ≡ [] → fixes ≡ [] → fault ≡ Some why
-    → IfSome known (λ image. length image ≡ len → IsMendedBy image patch fixes fault)
+    → OfEach Holds (λ image. length image ≡ len → IsMendedBy image patch fixes fault)
 unfolding fault_of
-unmended-known None len why patch fixes fault wrong found p f e = tt
-unmended-known (Some image) len why patch fixes fault wrong found p f e = λ long.
+unmended-each Holds len why patch fixes fault wrong found p f e = λ image held long.
     let none : wrong_in image ≡ [] = sym (image-wrong image (ap (λ n. nat_le n 2147483648 && nat_le 1536 n) long ∙ wrong)) in
     let stays : repair image ≡ image = same-repair image none in
     record {
@@ -90,41 +92,38 @@ module _ (len : ℕ) (most : len ≤ 2147483648) (least : 1536 ≤ len) (patch :
     fault = h.fault ∙ sym left ∙ ap fault_of repaired;
   }
 
-pub mended-known : (known : Option (List ℕ)) (len : ℕ) → len ≤ 2147483648 → 1536 ≤ len → (mended : Mended) → AreWithin (changes mended.patch) (len / 512)
-    → MendsBlocksOf known (len / 512) mended → IsMendedOf known len mended
-mended-known None len most least mended within h = tt
-mended-known (Some image) len most least mended within h = λ long.
-    mended-by len most least mended.patch mended.fixes.items mended.fault within image long (h (ap (λ n. n / 512) long))
+pub mended-each : (Holds : List ℕ → Type 0) (len : ℕ) → len ≤ 2147483648 → 1536 ≤ len → (mended : Mended) → AreWithin (changes mended.patch) (len / 512)
+    → MendsBlocksOf Holds (len / 512) mended → IsMendedOf Holds len mended
+mended-each Holds len most least mended within h = λ image held long.
+    mended-by len most least mended.patch mended.fixes.items mended.fault within image long (h image held (ap (λ n. n / 512) long))
 
 -- ---- what was made of the blocks that were read
 
--- the volume with nothing laid over it is the volume
-pub nothing-laid : (known : Option (List ℕ)) (total : ℕ) (none read : Numbered) → none ≡ [] → DecidesFor known total none read → DecidesFor known total [] read
-nothing-laid known total none read e h = subst (λ (ns : Numbered). DecidesFor known total ns read) e h
+pub fault-each : (total : ℕ) (changed read : Numbered) (fault : Option MountFault) → DecidesFor total changed read
+    → fault ≡ blocks_fault total (laid_over_read changed read) → IsFaultOver read total changed fault
+fault-each total changed read fault h e = λ image of. e ∙ sym (h image of).fault
 
-pub fault-known : (known : Option (List ℕ)) (total : ℕ) (changed read : Numbered) (fault : Option MountFault) → DecidesFor known total changed read
-    → fault ≡ blocks_fault total (laid_over_read changed read) → IsFaultOver known total changed fault
-fault-known None total changed read fault h e = tt
-fault-known (Some image) total changed read fault h e = e ∙ sym h.fault
-
-pub blocks-mended : (known : Option (List ℕ)) (total : ℕ) (none read : Numbered) (puts : List BytePut) (patch : Numbered) (fixes : List Fix) (fault : Option MountFault)
-    → none ≡ [] → DecidesFor known total none read → puts ≡ puts_of (wrong_in_blocks total (laid_over_read none read))
-    → AreFixes (wrong_in_blocks total (laid_over_read none read)) fixes → PutsBytes known total puts [] patch → IsFaultOver known total patch fault
-    → IfSome known (λ image. block_count image ≡ total → MendsBlocks total image patch fixes fault)
-blocks-mended None total none read puts patch fixes fault e decides is are made over = tt
-blocks-mended (Some image) total none read puts patch fixes fault e decides is are made over = λ many.
-    let over-nothing : laid_over_image none image ≡ block_at image = ap (λ (ns : Numbered). laid_over_image ns image) e in
-    let same : wrong_in_blocks total (laid_over_read none read) ≡ wrong_in_blocks total (block_at image) =
-    sym decides.numbers ∙ ap (wrong_in_blocks total) over-nothing in
-    record {
-      puts = made many (AreWithin-nothing total) ∙ ap (put_all puts) (laid_over-nothing (changes []) image (λ n. refl))
-          ∙ ap (λ (ps : List BytePut). put_all ps image) (is ∙ ap puts_of same);
-      fixes = subst (λ (ns : List PlacedNumber). AreFixes ns fixes) same are;
-      fault = over;
-    }
+module _ (total : ℕ) (none first second last : Numbered) (puts : List BytePut) (patch : Numbered) (fixes : List Fix) (fault : Option MountFault)
+    (e : none ≡ []) (more : HasGrown first second) (all : HasGrown second last) (decides : DecidesFor total none first)
+    (is : puts ≡ puts_of (wrong_in_blocks total (laid_over_read none first))) (are : AreFixes (wrong_in_blocks total (laid_over_read none first)) fixes)
+    (made : PutsBytes second total puts [] patch) (over : IsFaultOver last total patch fault) where
+  -- of an image that has all that was read
+  pub blocks-mended : (image : List ℕ) → IsOf image last → block_count image ≡ total → MendsBlocks total image patch fixes fault
+  blocks-mended image of many =
+      let of-second : IsOf image second = of-earlier image second last all of in
+      let of-first : IsOf image first = of-earlier image first second more of-second in
+      let over-nothing : laid_over_image none image ≡ block_at image = ap (λ (ns : Numbered). laid_over_image ns image) e in
+      let same : wrong_in_blocks total (laid_over_read none first) ≡ wrong_in_blocks total (block_at image) =
+      sym (decides image of-first).numbers ∙ ap (wrong_in_blocks total) over-nothing in
+      record {
+        puts = made image of-second many (AreWithin-nothing total) ∙ ap (put_all puts) (laid_over-nothing (changes []) image (λ n. refl))
+            ∙ ap (λ (ps : List BytePut). put_all ps image) (is ∙ ap puts_of same);
+        fixes = subst (λ (ns : List PlacedNumber). AreFixes ns fixes) same are;
+        fault = over image of;
+      }
 
 -- of an answer
-pub mended-all : {E : Type 0} (known : Option (List ℕ)) (len : ℕ) → len ≤ 2147483648 → 1536 ≤ len → (r : Result Mended E) → IfOk r (MendsBlocksOf known (len / 512))
-    → IfOk r (λ mended. AreWithin (changes mended.patch) (len / 512)) → IfOk r (IsMendedOf known len)
-mended-all known len most least (Ok mended) h within = mended-known known len most least mended within h
-mended-all known len most least (Err e) h within = tt
+pub mended-all : {E : Type 0} (Holds : List ℕ → Type 0) (len : ℕ) → len ≤ 2147483648 → 1536 ≤ len → (r : Result Mended E) → IfOk r (MendsBlocksOf Holds (len / 512))
+    → IfOk r (λ mended. AreWithin (changes mended.patch) (len / 512)) → IfOk r (IsMendedOf Holds len)
+mended-all Holds len most least (Ok mended) h within = mended-each Holds len most least mended within h
+mended-all Holds len most least (Err e) h within = tt

@@ -1,11 +1,12 @@
 -- A byte that is put into its block, and the image over which that is laid.
-use Rattle.std.proofs.Common.{◌≡◌, ◌≢◌, ℕ, suc, ◌+◌, ◌-◌, ◌*◌, ◌/◌, ◌<◌, ◌≤◌, Bool, cond, List, [], ◌∷◌, ◌++◌, length, drop, set, Option, Some, None, IsSome, unwrap_or, refl, sym, ap, subst, ◌∙◌, arith, append_assoc, ⊎_elim}
+use Rattle.std.proofs.Common.{◌≡◌, ◌≢◌, ℕ, suc, ◌+◌, ◌-◌, ◌*◌, ◌/◌, ◌<◌, ◌≤◌, Bool, cond, List, [], ◌∷◌, ◌++◌, length, drop, set, Some, IsSome, unwrap_or, refl, sym, ap, subst, ◌∙◌, arith, append_assoc, ⊎_elim}
 use Rattle.std.specs.Prelude.{◌%◌}
 use Rattle.std.proofs.lemmas.Bool.{cases_eq, eq-eqb, ne_eqb}
 use Rattle.std.proofs.lemmas.List.{set-append_left, set-append_right}
 use Rattle.hfs_blocks.specs.Blocks.{block_at, block_count}
 use Rattle.hfs_blocks.specs.Layers.{Numbered, Changes, changes, AreWithin, with_change}
-use Rattle.hfs_needed.specs.Gathered.{IsOfKnown}
+use Rattle.hfs_sparse.specs.Sparse.{HasGrown}
+use Rattle.hfs_mending.proofs.ReadParts.{of-earlier}
 use Rattle.hfs_patched.proofs.FlatBlocks.{blocks_from, flat-laid, length-blocks_from, blocks_from-add, blocks_from-same}
 use Rattle.hfs_repair.specs.declared.byte_put.BytePut.{BytePut}
 use Rattle.hfs_repair.specs.Puts.{put_all}
@@ -79,11 +80,10 @@ module _ (old new : Numbered) (n at v : ℕ) (image block : List ℕ) (is : n �
   put-one = set-laid f g image n at v lt (omega (arith, is)) (omega (arith, is)) (AreBlocks-within (changes old) image within) elsewhere at-here
 
 -- a byte that was put into a block that was read
-pub puts-byte : (known : Option (List ℕ)) (total : ℕ) (old new read : Numbered) (n : ℕ) (put : BytePut) (block : List ℕ) → IsOfKnown known read
+pub puts-byte : (total : ℕ) (old new read : Numbered) (n : ℕ) (put : BytePut) (block : List ℕ)
     → IsSome (changes read n) → n ≡ put.at / 512 → n < total → changes new ≡ with_change (changes old) n block
-    → block ≡ set (laid_over_read old read n) (put.at % 512) put.byte → PutsBytes known total (put ∷ []) old new
-puts-byte None total old new read n put block of has is lt changed byte = tt
-puts-byte (Some image) total old new read n put block of has is lt changed byte = λ many within.
+    → block ≡ set (laid_over_read old read n) (put.at % 512) put.byte → PutsBytes read total (put ∷ []) old new
+puts-byte total old new read n put block has is lt changed byte = λ image of many within.
     let same : laid_over_read old read n ≡ laid_over_image old image n =
     ap (unwrap_or (changes old n)) (sym (each-of image read of (n ∷ []) (has, tt)).0) in
     put-one old new n put.at put.byte image block is (omega (arith, lt, many)) (subst (λ m. AreWithin (changes old) m) (sym many) within) changed
@@ -91,19 +91,14 @@ puts-byte (Some image) total old new read n put block of has is lt changed byte 
 
 -- ---- one behind the other
 
-pub puts-more : (known later : Option (List ℕ)) (total : ℕ) (ps qs : List BytePut) (old middle new : Numbered) → later ≡ known
-    → (AreWithin (changes old) total → AreWithin (changes middle) total) → PutsBytes known total ps old middle → PutsBytes later total qs middle new
-    → PutsBytes known total (ps ++ qs) old new
-puts-more known later total ps qs old middle new e keeps p q = by known p (subst (λ o. PutsBytes o total qs middle new) e q)
-  where
-    by : (o : Option (List ℕ)) → PutsBytes o total ps old middle → PutsBytes o total qs middle new → PutsBytes o total (ps ++ qs) old new
-    by None p q = tt
-    by (Some image) p q = λ many within.
-        q many (keeps within) ∙ ap (put_all qs) (p many within) ∙ sym (put-append ps qs (patched old image))
+pub puts-more : (read later : Numbered) (total : ℕ) (ps qs : List BytePut) (old middle new : Numbered) → HasGrown read later
+    → (AreWithin (changes old) total → AreWithin (changes middle) total) → PutsBytes read total ps old middle → PutsBytes later total qs middle new
+    → PutsBytes later total (ps ++ qs) old new
+puts-more read later total ps qs old middle new grown keeps p q = λ image of many within.
+    q image of many (keeps within) ∙ ap (put_all qs) (p image (of-earlier image read later grown of) many within) ∙ sym (put-append ps qs (patched old image))
 
-pub puts-none : (known : Option (List ℕ)) (total : ℕ) (patch : Numbered) → PutsBytes known total [] patch patch
-puts-none None total patch = tt
-puts-none (Some image) total patch = λ many within. refl
+pub puts-none : (read : Numbered) (total : ℕ) (patch : Numbered) → PutsBytes read total [] patch patch
+puts-none read total patch = λ image of many within. refl
 
 -- with one more whole block among them
 pub within-put : (old new : Numbered) (n total : ℕ) (block : List ℕ) → changes new ≡ with_change (changes old) n block → n < total → length block ≡ 512

@@ -1,5 +1,5 @@
 -- What was read of an image, with changed blocks laid over both, decides what the image decides.
-use Rattle.std.proofs.Common.{◌≡◌, ℕ, Bool, true, false, List, [], ◌∷◌, Option, Some, None, IsSome, refl, sym, ap, subst, ◌∙◌}
+use Rattle.std.proofs.Common.{◌≡◌, ℕ, Bool, true, false, List, [], ◌∷◌, Option, IsSome, refl, sym, ap, subst, ◌∙◌}
 use Rattle.std.specs.Prelude.{◌&&◌, is_some, unwrap_or}
 use Rattle.std.specs.List.{flat_map}
 use Rattle.std.specs.Option.{is_none}
@@ -15,9 +15,8 @@ use Rattle.hfs_check.specs.Faults.{mdb_fault}
 use Rattle.hfs_check.specs.Parts.{Blocks, mdb_in, extents_blocks, extents_nodes, catalog_extents, catalog_blocks}
 use Rattle.hfs_check.specs.Sound.{IsMdbSound}
 use Rattle.hfs_check.proofs.LawsProved.{no_mdb_fault}
-use Rattle.hfs_needed.specs.Gathered.{HasRead, IsOfKnown}
+use Rattle.hfs_needed.specs.Gathered.{HasRead}
 use Rattle.hfs_needed.specs.Needed.{AgreeOn}
-use Rattle.hfs_needed.proofs.Gathered.{of-later}
 use Rattle.hfs_needed.proofs.SameParts.{mdb-same, extents_blocks-same, catalog_blocks-same}
 use Rattle.hfs_repair.specs.Opened.{is_extents_right, catalog_file_of}
 use Rattle.hfs_repair.proofs.Openings.{is-some-none}
@@ -35,11 +34,9 @@ agree-over g old new (n ∷ ns) h = (ap (unwrap_or (g n)) h.0, agree-over g old 
 
 -- ---- more was read
 
-pub of-source : (known later : Option (List ℕ)) (total : ℕ) (old new : Numbered) → later ≡ known → IsOfKnown known old → HasRead known total old new → IsOfKnown later new
-of-source known later total old new e of read = subst (λ (o : Option (List ℕ)). IsOfKnown o new) (sym e) (of-later known old new of read.stays)
-
-pub decides-source : (known later : Option (List ℕ)) (total : ℕ) (changed read : Numbered) → later ≡ known → DecidesFor later total changed read → DecidesFor known total changed read
-decides-source known later total changed read e h = subst (λ (o : Option (List ℕ)). DecidesFor o total changed read) e h
+-- an image that has what was read has what was read before
+pub of-earlier : (image : List ℕ) (old new : Numbered) → HasGrown old new → IsOf image new → IsOf image old
+of-earlier image old new grown of = λ n block is. of n block (grown n (subst (λ (o : Option (List ℕ)). IsSome o) (sym is) refl) ∙ is)
 
 module _ (changed old new : Numbered) (grown : HasGrown old new) where
   abbrev before : Blocks
@@ -85,30 +82,27 @@ module _ (total : ℕ) (changed read : Numbered) (image : List ℕ) (of : IsOf i
 
 -- ---- where nothing more is read
 
-pub decides-directory : (known : Option (List ℕ)) (total : ℕ) (changed read : Numbered) → IsOfKnown known read → IsSome (changes read 2)
-    → is_some (mdb_fault total (mdb_in (laid_over_read changed read))) ≡ true → DecidesFor known total changed read
-decides-directory None total changed read of two wrong = tt
-decides-directory (Some image) total changed read of two wrong =
+pub decides-directory : (total : ℕ) (changed read : Numbered) → IsSome (changes read 2)
+    → is_some (mdb_fault total (mdb_in (laid_over_read changed read))) ≡ true → DecidesFor total changed read
+decides-directory total changed read two wrong = λ image of.
     directory-wrong total (laid_over_read changed read) (laid_over_image changed image) (directory total changed read image of two)
     (is-some-none (mdb_fault total (mdb_in (laid_over_read changed read))) true wrong)
 
 right-directory : (total : ℕ) (blocks : Blocks) (mdb : Mdb) → IsMdbSound total mdb → mdb ≡ mdb_in blocks → is_none (mdb_fault total (mdb_in blocks)) ≡ true
 right-directory total blocks mdb sound is = ap is_none (ap (mdb_fault total) (sym is) ∙ (no_mdb_fault total mdb).1 sound)
 
-pub decides-no-extents : (known : Option (List ℕ)) (total : ℕ) (changed read : Numbered) (mdb : Mdb) → IsOfKnown known read → IsSome (changes read 2)
+pub decides-no-extents : (total : ℕ) (changed read : Numbered) (mdb : Mdb) → IsSome (changes read 2)
     → IsMdbSound total mdb → mdb ≡ mdb_in (laid_over_read changed read) → is_tree_file mdb mdb.extents_file mdb.extents_file_size ≡ false
-    → DecidesFor known total changed read
-decides-no-extents None total changed read mdb of two sound is wrong = tt
-decides-no-extents (Some image) total changed read mdb of two sound is wrong =
+    → DecidesFor total changed read
+decides-no-extents total changed read mdb two sound is wrong = λ image of.
     extents-file-wrong total (laid_over_read changed read) (laid_over_image changed image) (directory total changed read image of two)
     (right-directory total (laid_over_read changed read) mdb sound is)
     (ap (λ (m : Mdb). is_tree_file m m.extents_file m.extents_file_size) (sym is) ∙ wrong)
 
-pub decides-no-catalog : (known : Option (List ℕ)) (total : ℕ) (changed read : Numbered) (mdb : Mdb) → IsOfKnown known read → IsSome (changes read 2)
+pub decides-no-catalog : (total : ℕ) (changed read : Numbered) (mdb : Mdb) → IsSome (changes read 2)
     → HasEach read (extents_blocks (laid_over_read changed read)) → IsMdbSound total mdb → mdb ≡ mdb_in (laid_over_read changed read)
-    → has_catalog (laid_over_read changed read) mdb ≡ false → DecidesFor known total changed read
-decides-no-catalog None total changed read mdb of two has sound is wrong = tt
-decides-no-catalog (Some image) total changed read mdb of two has sound is wrong =
+    → has_catalog (laid_over_read changed read) mdb ≡ false → DecidesFor total changed read
+decides-no-catalog total changed read mdb two has sound is wrong = λ image of.
     let own = laid_over_read changed read in
     let its = laid_over_image changed image in
     let m = directory total changed read image of two in
@@ -135,12 +129,11 @@ unfolding catalog_blocks
 places-are early mdb is = ap (λ (d : Mdb). tree_blocks d (catalog_file_of early d) d.catalog_file_size) is
     ∙ ap (λ (file : List Extent). tree_blocks (mdb_in early) file (mdb_in early).catalog_file_size) (catalog-file early)
 
-pub decides-all : (known : Option (List ℕ)) (total : ℕ) (changed old new : Numbered) (mdb : Mdb) (runs : List Run) → IsOfKnown known new → HasGrown old new
+pub decides-all : (total : ℕ) (changed old new : Numbered) (mdb : Mdb) (runs : List Run) → HasGrown old new
     → IsSome (changes old 2) → HasEach old (bitmap_blocks mdb) → HasEach old (extents_blocks (laid_over_read changed old)) → mdb ≡ mdb_in (laid_over_read changed old)
     → flat_map run_of runs ≡ tree_blocks mdb (catalog_file_of (laid_over_read changed old) mdb) mdb.catalog_file_size → HasEach new (flat_map run_of runs)
-    → DecidesFor known total changed new
-decides-all None total changed old new mdb runs of grown two bitmap has is numbers read = tt
-decides-all (Some image) total changed old new mdb runs of grown two bitmap has is numbers read =
+    → DecidesFor total changed new
+decides-all total changed old new mdb runs grown two bitmap has is numbers read = λ image of.
     let early = laid_over_read changed old in
     let own = laid_over_read changed new in
     let its = laid_over_image changed image in

@@ -4,7 +4,8 @@ ghost use Rattle.hfs_blocks.specs.Layers.{changes};
 ghost use Rattle.hfs_check.specs.Agree.{bitmap_blocks};
 ghost use Rattle.hfs_check.specs.Parts.{mdb_in, extents_blocks};
 ghost use Rattle.hfs_check.specs.Sound.{IsMdbSound};
-ghost use Rattle.hfs_needed.specs.Gathered.{HasRead, IsOfKnown};
+ghost use Rattle.hfs_needed.specs.Gathered.{HasRead};
+ghost use Rattle.hfs_sparse.specs.Seen.{SeesMore};
 ghost use Rattle.hfs_sparse.specs.Sparse.{HasEach};
 ghost use Rattle.hfs_mending.specs.Mended.{laid_over_read, DecidesFor};
 
@@ -16,6 +17,7 @@ use hfs_sparse::{BlockSource, SparseBlocks, SparseFault, fetch, fetch_range, fet
 use std::alloc::Global;
 
 /// Reads the nodes of the catalog, where those of the extents tree were read, which says where the catalog goes on.
+#[tactic(auto, using(hfs_sparse::proofs::Seen::sees_itself))]
 fn gather_catalog<S: BlockSource>(
     alloc: Global,
     source: &mut S,
@@ -26,13 +28,13 @@ fn gather_catalog<S: BlockSource>(
 ) -> Result<(), SparseFault>
     requires sound { IsMdbSound count mdb.now }
     requires is { mdb.now ≡ mdb_in (laid_over_read patch.now read.old) }
-    requires of { IsOfKnown (S.image source.old) read.old }
     requires has_mdb { IsSome (changes read.old 2) }
     requires has_bitmap { HasEach read.old (bitmap_blocks mdb.now) }
     requires has_extents { HasEach read.old (extents_blocks (laid_over_read patch.now read.old)) }
-    ensures decides { OnOk result (DecidesFor (S.image source.old) count patch.now read.new) }
+    ensures decides { OnOk result (DecidesFor count patch.now read.new) }
     ensures reads { HasRead (S.image source.old) count read.old read.new }
     ensures image { S.image source.new ≡ S.image source.old }
+    ensures sees { SeesMore (S.Holds source.old) (S.Holds source.new) read.old read.new }
 {
     let Ok(found) = catalog_runs(alloc, &patch.over(&read.volume(count)), mdb) else {
         return Err(SparseFault::Memory);
@@ -45,6 +47,7 @@ fn gather_catalog<S: BlockSource>(
 }
 
 /// Reads the nodes of both trees, where the master directory block and the bitmap were read.
+#[tactic(auto, using(hfs_sparse::proofs::Seen::sees_itself))]
 fn gather_trees<S: BlockSource>(
     alloc: Global,
     source: &mut S,
@@ -55,12 +58,12 @@ fn gather_trees<S: BlockSource>(
 ) -> Result<(), SparseFault>
     requires sound { IsMdbSound count mdb.now }
     requires is { mdb.now ≡ mdb_in (laid_over_read patch.now read.old) }
-    requires of { IsOfKnown (S.image source.old) read.old }
     requires has_mdb { IsSome (changes read.old 2) }
     requires has_bitmap { HasEach read.old (bitmap_blocks mdb.now) }
-    ensures decides { OnOk result (DecidesFor (S.image source.old) count patch.now read.new) }
+    ensures decides { OnOk result (DecidesFor count patch.now read.new) }
     ensures reads { HasRead (S.image source.old) count read.old read.new }
     ensures image { S.image source.new ≡ S.image source.old }
+    ensures sees { SeesMore (S.Holds source.old) (S.Holds source.new) read.old read.new }
 {
     let size = mdb.extents_file_size;
     let volume = read.volume(count);
@@ -86,11 +89,11 @@ fn gather_rest<S: BlockSource>(
 ) -> Result<(), SparseFault>
     requires sound { IsMdbSound count mdb.now }
     requires is { mdb.now ≡ mdb_in (laid_over_read patch.now read.old) }
-    requires of { IsOfKnown (S.image source.old) read.old }
     requires has_mdb { IsSome (changes read.old 2) }
-    ensures decides { OnOk result (DecidesFor (S.image source.old) count patch.now read.new) }
+    ensures decides { OnOk result (DecidesFor count patch.now read.new) }
     ensures reads { HasRead (S.image source.old) count read.old read.new }
     ensures image { S.image source.new ≡ S.image source.old }
+    ensures sees { SeesMore (S.Holds source.old) (S.Holds source.new) read.old read.new }
 {
     let first = u32::from(mdb.bitmap_start);
     let blocks = u32::from(mdb.allocation_blocks).div_ceil(4_096);
@@ -111,10 +114,10 @@ pub(crate) fn gather_mending<S: BlockSource>(
     count: u32,
 ) -> Result<(), SparseFault>
     requires some { 3 ≤ count }
-    requires of { IsOfKnown (S.image source.old) read.old }
-    ensures decides { OnOk result (DecidesFor (S.image source.old) count patch.now read.new) }
+    ensures decides { OnOk result (DecidesFor count patch.now read.new) }
     ensures reads { HasRead (S.image source.old) count read.old read.new }
     ensures image { S.image source.new ≡ S.image source.old }
+    ensures sees { SeesMore (S.Holds source.old) (S.Holds source.new) read.old read.new }
 {
     fetch(source, read, 2)?;
     let mdb = read_mdb(&patch.over(&read.volume(count)));

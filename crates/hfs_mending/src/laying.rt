@@ -1,7 +1,8 @@
 //! Bytes that are put into blocks, each block as it was read or as it was changed before.
 ghost use Rattle.std.specs.Prelude.{◌≡◌, ◌*◌, ◌<◌, ◌∷◌, [], OnOk, IfOk};
 ghost use Rattle.hfs_blocks.specs.Layers.{changes, AreWithin, KeepsWithin};
-ghost use Rattle.hfs_needed.specs.Gathered.{HasRead, IsOfKnown};
+ghost use Rattle.hfs_needed.specs.Gathered.{HasRead};
+ghost use Rattle.hfs_sparse.specs.Seen.{SeesMore};
 ghost use Rattle.hfs_repair.specs.Puts.{AreInBlocks};
 ghost use Rattle.hfs_mending.specs.Mended.{PutsBytes};
 
@@ -18,13 +19,13 @@ fn lay_put<S: BlockSource>(
     count: u32,
     put: &BytePut,
 ) -> Result<(), SparseFault>
-    requires of { IsOfKnown (S.image source.old) read.old }
     requires within { put.now.at < 512 * count }
     ensures put { OnOk result
-        (PutsBytes (S.image source.old) count (put.now ∷ []) patch.old patch.new) }
+        (PutsBytes read.new count (put.now ∷ []) patch.old patch.new) }
     ensures within { KeepsWithin patch.old patch.new count }
     ensures reads { HasRead (S.image source.old) count read.old read.new }
     ensures image { S.image source.new ≡ S.image source.old }
+    ensures sees { SeesMore (S.Holds source.old) (S.Holds source.new) read.old read.new }
 {
     let n = (put.at / 512) as u32;
     fetch(source, read, n)?;
@@ -38,6 +39,7 @@ fn lay_put<S: BlockSource>(
 }
 
 /// The blocks of an image of `count` blocks with these bytes put into them, one after the other. Errors: as the first that fails has them.
+#[tactic(auto, using(hfs_sparse::proofs::Seen::sees_itself))]
 pub(crate) fn lay_puts<S: BlockSource>(
     alloc: Global,
     source: &mut S,
@@ -45,12 +47,12 @@ pub(crate) fn lay_puts<S: BlockSource>(
     count: u32,
     puts: &[BytePut],
 ) -> Result<Patch, SparseFault>
-    requires of { IsOfKnown (S.image source.old) read.old }
     requires within { AreInBlocks count puts.now }
-    ensures puts { IfOk result (λ patch. PutsBytes (S.image source.old) count puts.now [] patch) }
+    ensures puts { IfOk result (λ patch. PutsBytes read.new count puts.now [] patch) }
     ensures within { IfOk result (λ patch. AreWithin (changes patch) count) }
     ensures reads { HasRead (S.image source.old) count read.old read.new }
     ensures image { S.image source.new ≡ S.image source.old }
+    ensures sees { SeesMore (S.Holds source.old) (S.Holds source.new) read.old read.new }
 {
     let mut patch = Patch::new(alloc);
     for put in puts {

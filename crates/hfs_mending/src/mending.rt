@@ -1,7 +1,9 @@
 //! What a repair of an image changes, tells and leaves, by the blocks that it needs.
 ghost use Rattle.std.specs.Prelude.{◌≡◌, ◌/◌, ◌≤◌, [], Some, None, IfOk};
 ghost use Rattle.hfs_blocks.specs.Layers.{changes, AreWithin};
-ghost use Rattle.hfs_needed.specs.Gathered.{IsOfKnown};
+ghost use Rattle.hfs_needed.specs.Gathered.{HasRead};
+ghost use Rattle.hfs_source.specs.Images.{OfEach};
+ghost use Rattle.hfs_sparse.specs.Seen.{SeesMore};
 ghost use Rattle.hfs_mending.specs.Mended.{IsFaultOver, IsMendedOf, MendsBlocksOf};
 
 use crate::gathering::gather_mending;
@@ -45,9 +47,10 @@ fn fault_over<S: BlockSource>(
     count: u32,
 ) -> Result<Option<MountFault>, SparseFault>
     requires some { 3 ≤ count }
-    requires of { IsOfKnown (S.image source.old) read.old }
-    ensures fault { IfOk result (IsFaultOver (S.image source.old) count patch.now) }
+    ensures fault { IfOk result (IsFaultOver read.new count patch.now) }
+    ensures reads { HasRead (S.image source.old) count read.old read.new }
     ensures image { S.image source.new ≡ S.image source.old }
+    ensures sees { SeesMore (S.Holds source.old) (S.Holds source.new) read.old read.new }
 {
     gather_mending(alloc, source, read, patch, count)?;
     match check_blocks(alloc, &patch.over(&read.volume(count))) {
@@ -64,8 +67,9 @@ fn mend_blocks<S: BlockSource>(
     count: u32,
 ) -> Result<Mended, SparseFault>
     requires { 3 ≤ count }
-    ensures mended { IfOk result (MendsBlocksOf (S.image source.old) count) }
+    ensures mended { IfOk result (MendsBlocksOf (S.Holds source.new) count) }
     ensures within { IfOk result (λ mended. AreWithin (changes mended.patch) count) }
+    ensures narrows { OfEach (S.Holds source.new) (S.Holds source.old) }
     ensures image { S.image source.new ≡ S.image source.old }
 {
     let mut read = SparseBlocks::new(alloc);
@@ -85,15 +89,16 @@ fn mend_blocks<S: BlockSource>(
 
 /// What a repair of an image of `len` bytes changes, tells and leaves, of which only the blocks are read that decide it: the master directory block, the bitmap,
 /// and all nodes of both trees. Errors: a read failed, or the image ends before that many bytes; memory was refused. A fault of the image is
-/// no error: it is told of.
+/// no error: it is told of. What is told is said of each image that has the bytes which were read.
 pub fn mend_needed<S: BlockSource>(
     alloc: Global,
     source: &mut S,
     len: u64,
 ) -> Result<Mended, SparseFault>
-    ensures mended { IfOk result (IsMendedOf (S.image source.old) len) }
+    ensures mended { IfOk result (IsMendedOf (S.Holds source.new) len) }
     ensures within { IfOk result (λ mended. AreWithin (changes mended.patch) (len / 512)) }
     ensures small { IfOk result (λ mended. mended.fault ≡ None → len ≤ 2147483648) }
+    ensures narrows { OfEach (S.Holds source.new) (S.Holds source.old) }
     ensures image { S.image source.new ≡ S.image source.old }
 {
     if len > 2_147_483_648 {

@@ -1,118 +1,10 @@
-//! Calls with borrowed names, and volumes to make them on.
+//! A plain volume, and items that are laid on it.
 use hfs_fields::Name;
-use hfs_model::{Call, Content, File, Fork, Info, Item, Kind, Reply, SharedBytes, Value};
+use hfs_model::{Content, File, Info, Item, Kind, Reply, Value};
 use hfs_store::PlainVolume;
 use std::alloc::{AllocError, Global};
 use std::process::Abort;
 use std::test::Fail;
-
-/// A call whose names are borrowed.
-pub enum Ask<'a> {
-    DirInfo(u32),
-    Info(u32, &'a [u8]),
-    Indexed(u32, u32),
-    List(u32),
-    Read(u32, &'a [u8], u32, u32),
-    Create(u32, &'a [u8]),
-    DirCreate(u32, &'a [u8]),
-    Delete(u32, &'a [u8]),
-    Rename(u32, &'a [u8], &'a [u8]),
-    Move(u32, &'a [u8], u32),
-    SetFInfo(u32, &'a [u8]),
-    SetInfo(u32, &'a [u8]),
-    Lock(u32, &'a [u8]),
-    Unlock(u32, &'a [u8]),
-    CreateId(u32, &'a [u8]),
-    DeleteId(u32),
-    Resolve(u32),
-}
-
-/// The folder of the call, or its file ID, and the name in the folder, empty where the call has none.
-fn place_of<'a>(ask: &Ask<'a>) -> (u32, &'a [u8]) {
-    match *ask {
-        Ask::DirInfo(dir) => (dir, b""),
-        Ask::Info(dir, name) => (dir, name),
-        Ask::Indexed(dir, _) => (dir, b""),
-        Ask::List(dir) => (dir, b""),
-        Ask::Read(dir, name, _, _) => (dir, name),
-        Ask::Create(dir, name) => (dir, name),
-        Ask::DirCreate(dir, name) => (dir, name),
-        Ask::Delete(dir, name) => (dir, name),
-        Ask::Rename(dir, name, _) => (dir, name),
-        Ask::Move(dir, name, _) => (dir, name),
-        Ask::SetFInfo(dir, name) => (dir, name),
-        Ask::SetInfo(dir, name) => (dir, name),
-        Ask::Lock(dir, name) => (dir, name),
-        Ask::Unlock(dir, name) => (dir, name),
-        Ask::CreateId(dir, name) => (dir, name),
-        Ask::DeleteId(id) => (id, b""),
-        Ask::Resolve(id) => (id, b""),
-    }
-}
-
-/// The call that reads a part of a data fork.
-fn read_of(dir: u32, name: SharedBytes, offset: u32, count: u32) -> Call {
-    Call::ReadFork {
-        dir,
-        name,
-        fork: Fork::DataFork,
-        offset,
-        count,
-    }
-}
-
-/// The call that sets all Finder bytes to 7, and the dates to 1, 2 and 3.
-fn set_info_of(dir: u32, name: SharedBytes, now: u32) -> Call {
-    Call::SetCatInfo {
-        dir,
-        name,
-        created: 1,
-        modified: 2,
-        backup: 3,
-        info: [7; 32],
-        now,
-    }
-}
-
-/// The call at that moment. Data forks are read; Finder bytes are set to 7, dates to 1, 2 and 3.
-pub fn call_of(alloc: Global, ask: &Ask, now: u32) -> Result<Call, AllocError> {
-    let (dir, name) = place_of(ask);
-    let name = SharedBytes::from_slice(alloc, name)?;
-    Ok(match *ask {
-        Ask::DirInfo(_) => Call::GetDirInfo { dir },
-        Ask::Info(_, _) => Call::GetCatInfo { dir, name },
-        Ask::Indexed(_, index) => Call::GetIndexed { dir, index },
-        Ask::List(_) => Call::List { dir },
-        Ask::Read(_, _, offset, count) => read_of(dir, name, offset, count),
-        Ask::Create(_, _) => Call::Create { dir, name, now },
-        Ask::DirCreate(_, _) => Call::DirCreate { dir, name, now },
-        Ask::Delete(_, _) => Call::Delete { dir, name, now },
-        Ask::Rename(_, _, new_name) => Call::Rename {
-            dir,
-            name,
-            new_name: SharedBytes::from_slice(alloc, new_name)?,
-            now,
-        },
-        Ask::Move(_, _, new_dir) => Call::CatMove {
-            dir,
-            name,
-            new_dir,
-            now,
-        },
-        Ask::SetFInfo(_, _) => Call::SetFInfo {
-            dir,
-            name,
-            info: [7; 16],
-            now,
-        },
-        Ask::SetInfo(_, _) => set_info_of(dir, name, now),
-        Ask::Lock(_, _) => Call::SetFLock { dir, name, now },
-        Ask::Unlock(_, _) => Call::RstFLock { dir, name, now },
-        Ask::CreateId(_, _) => Call::CreateFileId { dir, name, now },
-        Ask::DeleteId(id) => Call::DeleteFileId { id, now },
-        Ask::Resolve(id) => Call::ResolveFileId { id },
-    })
-}
 
 /// A new volume named `D`, made at moment 0.
 pub fn volume(alloc: Global) -> Result<PlainVolume, AllocError> {
@@ -130,38 +22,9 @@ fn info_of(reply: &Reply) -> Option<Info> {
     }
 }
 
-/// The ID of a new item or of a file with a new thread, 0 where there is none.
-pub fn id_of(reply: &Reply) -> u32 {
-    match reply.value {
-        Value::Id(id) => id,
-        _ => 0,
-    }
-}
-
 /// What is told of an item of the root.
 pub fn root_item(plain: &PlainVolume, name: &[u8]) -> Option<Info> {
     info_of(&plain.get_cat_info(2, name))
-}
-
-/// Whether a reply is a list of items with these names, in order.
-pub fn are_told(reply: &Reply, names: &[&[u8]]) -> bool {
-    match &reply.value {
-        Value::Many(infos) => reply.code == 0 && have_names(infos.as_slice(), names),
-        _ => false,
-    }
-}
-
-/// Whether items have these names, in order.
-fn have_names(infos: &[Info], names: &[&[u8]]) -> bool {
-    if infos.len() != names.len() {
-        return false;
-    }
-    for (info, name) in infos.iter().zip(names.iter()) {
-        if info.name.bytes() != *name {
-            return false;
-        }
-    }
-    true
 }
 
 /// An item of the root, all dates 0.

@@ -1,5 +1,5 @@
-//! Tests of names, of shared bytes, of the free nodes that calls need, and of what the plain program
-//! alone can be asked for. Each code of each call, and worked lists of calls, stand as text in
+//! Tests of names, records and nodes, of shared bytes, of the text of scripts, and of what the plain
+//! program alone can be asked for. Each code of each call, and worked lists of calls, stand as text in
 //! `tests/volumes/lists`.
 #![tactic(auto)]
 
@@ -10,7 +10,11 @@ mod forks;
 #[cfg(test)]
 mod names;
 #[cfg(test)]
-mod nodes;
+mod node_bytes;
+#[cfg(test)]
+mod records;
+#[cfg(test)]
+mod scripts;
 #[cfg(test)]
 mod shared;
 #[cfg(test)]

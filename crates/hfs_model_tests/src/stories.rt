@@ -1,7 +1,7 @@
-//! Parts of a fork that is laid, and a list of calls.
-use crate::fixture::{Ask, are_told, call_of, file_item, id_of, lay, root_item, volume};
+//! Parts of a fork that is laid.
+use crate::fixture::{file_item, lay, root_item, volume};
 use hfs_fields::Name;
-use hfs_model::{Call, Fork, Reply, Value};
+use hfs_model::{Fork, Reply, Value};
 use hfs_store::PlainVolume;
 use std::alloc::{AllocError, Global};
 use std::process::Abort;
@@ -98,54 +98,4 @@ fn expect_forks(rt: &impl Abort, alloc: Global, plain: &mut PlainVolume) -> Resu
 fn parts_of_a_fork(rt: HostRuntime) -> Result<(), Fail> {
     let mut plain = volume(rt.alloc())?;
     expect_forks(&rt, rt.alloc(), &mut plain)
-}
-
-/// Calls of a list.
-const LISTED: [Ask<'static>; 4] = [
-    Ask::DirCreate(2, b"Docs"),
-    Ask::Create(16, b"Read Me"),
-    Ask::Create(16, b"READ ME"),
-    Ask::List(2),
-];
-
-/// The calls of the list.
-fn calls_of(alloc: Global) -> Result<Vec<Call>, AllocError> {
-    let mut calls = Vec::new(alloc);
-    for ask in LISTED.iter() {
-        calls.push(call_of(alloc, ask, 100)?)?;
-    }
-    Ok(calls)
-}
-
-/// Whether these replies answer the calls of the list.
-fn are_answers(replies: &[Reply]) -> bool {
-    match replies {
-        [folder, file, again, list] => {
-            id_of(folder) == 16
-                && id_of(file) == 17
-                && again.code == -48
-                && are_told(list, &[b"Docs"])
-        }
-        _ => false,
-    }
-}
-
-/// Whether calls are answered so.
-fn is_answered(plain: &mut PlainVolume, calls: &[Call]) -> Result<bool, Fail> {
-    let replies = plain.run(calls)?;
-    Ok(are_answers(&replies))
-}
-
-/// Makes the calls of the list.
-fn expect_answers(rt: &impl Abort, alloc: Global, plain: &mut PlainVolume) -> Result<(), Fail> {
-    let calls = calls_of(alloc)?;
-    assert!(rt; is_answered(plain, &calls)?);
-    Ok(())
-}
-
-/// A list of calls answers as the calls one after another.
-#[test]
-fn a_run(rt: HostRuntime) -> Result<(), Fail> {
-    let mut plain = volume(rt.alloc())?;
-    expect_answers(&rt, rt.alloc(), &mut plain)
 }

@@ -113,7 +113,7 @@ file-is catalog dir name (Err reply) is = tt
 
 -- ---- with distinct IDs
 
-not-dir : (body : List ℕ) → is_file body ≡ true → is_dir body ≡ false
+pub not-dir : (body : List ℕ) → is_file body ≡ true → is_dir body ≡ false
 not-dir body file = elim (is_dir body) as (λ (b : Bool). is_dir body ≡ b → b ≡ false) [
   | true ↦ λ e.
       let one : length body ≡ 70 = eqb-true (length body) 70 (and_parts (eqb (type_byte body) 1) (eqb (length body) 70) e).1 in
@@ -125,7 +125,7 @@ not-dir body file = elim (is_dir body) as (λ (b : Bool). is_dir body ≡ b → 
 item-id : (body : List ℕ) → is_file body ≡ true → item_id body ≡ (file_record_of body).id
 item-id body file = ap (λ (b : Bool). cond b (dir_record_of body).id (file_record_of body).id) (not-dir body file)
 
-item-is : (body : List ℕ) → is_file body ≡ true → is_item body ≡ true
+pub item-is : (body : List ℕ) → is_file body ≡ true → is_item body ≡ true
 item-is body file = ap (λ (b : Bool). b || is_file body) (not-dir body file) ∙ file
 
 same-some : {A : Type 0} (x y : A) → Some x ≡ Some y → x ≡ y

@@ -3,3 +3,6 @@ pub mod KeptBlocks
 pub mod MoreRead
 pub mod WorkingRuns
 pub mod KeptWorking
+pub mod SameNames
+pub mod ForksOfLines
+pub mod OnImage

@@ -5,6 +5,7 @@ ghost use Rattle.hfs_check.specs.Sound.{AreBlocksSound};
 ghost use Rattle.hfs_check.specs.Trees.{HasTrees};
 ghost use Rattle.hfs_needed.specs.Forks.{AreForkRuns, AreForksIn, IsForkIn};
 ghost use Rattle.hfs_queries.specs.Told as told;
+ghost use Rattle.hfs_sparse.specs.Seen.{SeesMore};
 ghost use Rattle.hfs_sparse.specs.Sparse.{sparse, HasEach, HasGrown, StaysOf};
 ghost use Rattle.hfs_working.specs.Opened.{IsWorkingOf};
 ghost use Rattle.hfs_needed_runs.specs.NamedForks.{AreAmong, GainForks, HaveMet, HaveNamedForks, HasNamedForks, IsFileOf, LieAmong, OfNamed, blocks_of_runs, file_blocks};
@@ -182,6 +183,7 @@ fn named_forks(
 }
 
 /// Reads the blocks of forks that lie in these runs, each block unless it was read before.
+#[tactic(auto, using(hfs_sparse::proofs::Seen::sees_itself))]
 fn fetch_forks<S: BlockSource>(
     source: &mut S,
     read: &mut SparseBlocks,
@@ -194,6 +196,7 @@ fn fetch_forks<S: BlockSource>(
     ensures stays { StaysOf (S.image source.old) read.old read.new }
     ensures within { KeepsWithin read.old read.new count }
     ensures image { S.image source.new ≡ S.image source.old }
+    ensures sees { SeesMore (S.Holds source.old) (S.Holds source.new) read.old read.new }
 {
     for runs in forks {
         fetch_runs(source, read, runs)?;
@@ -204,6 +207,7 @@ fn fetch_forks<S: BlockSource>(
 /// Reads both forks of each file that a line of a script names by its folder and name, of whatever call, where a line of the script reads
 /// bytes of a fork at all; a fork's blocks that have none of its bytes aren't read. So a read of a fork finds its bytes, also where the file was
 /// renamed or moved by then. At an error some of these blocks may have been read. Errors: a read failed, memory was refused.
+#[tactic(auto, using(hfs_sparse::proofs::Seen::sees_itself))]
 pub fn fetch_named_forks<S: BlockSource>(
     alloc: Global,
     source: &mut S,
@@ -217,6 +221,8 @@ pub fn fetch_named_forks<S: BlockSource>(
     ensures forks { OnOk result (read_forks script.now ≡ true
         → HasNamedForks (sparse working.new.read) script.now working.new.read) }
     ensures image { S.image source.new ≡ S.image source.old }
+    ensures sees { SeesMore (S.Holds source.old) (S.Holds source.new) working.old.read
+        working.new.read }
 {
     let lines = script.lines();
     if !read_forks(lines) {

@@ -1,12 +1,12 @@
 -- Pieces of an image, with changed blocks laid over them.
-use Rattle.std.proofs.Common.{◌≡◌, ℕ, ◌+◌, ◌-◌, ◌*◌, ◌/◌, ◌<◌, ◌≤◌, List, [], ◌++◌, length, take, drop, Option, Some, None, unwrap_or, refl, sym, ap, subst, ◌∙◌, arith, ⊎_elim, append-nil, append_assoc, length-append, length-take, length-drop}
+use Rattle.std.proofs.Common.{◌≡◌, ℕ, ◌+◌, ◌-◌, ◌*◌, ◌/◌, ◌<◌, ◌≤◌, List, [], ◌++◌, length, take, drop, unwrap_or, refl, sym, ap, subst, ◌∙◌, arith, ⊎_elim, append-nil, append_assoc, length-append, length-take, length-drop}
 use Rattle.std.proofs.lemmas.List.{take_all, take_at, drop_all, drop_at, drop-drop}
 use Rattle.std.proofs.lemmas.Bool.{cases_lt}
 use borrow.Rule.Slice.PartMut.{put_mid}
 use Rattle.hfs_blocks.specs.Blocks.{block_at, block_count}
 use Rattle.hfs_blocks.specs.Layers.{Numbered, changes, AreWithin, over}
 use Rattle.hfs_sparse.proofs.BlockBytes.{from-block}
-use Rattle.hfs_sparse.specs.Sparse.{HoldsFrom}
+use Rattle.hfs_source.specs.Images.{HasAt, OfEach}
 use Rattle.hfs_volume.specs.Image.{patched}
 use Rattle.hfs_volume.specs.Laid.{laid_from, laid}
 use Rattle.hfs_volume.proofs.Laid.{AreBlocks-within, drop-laid}
@@ -150,18 +150,11 @@ module _ (changed : Numbered) (image : List ℕ) (first count : ℕ) (within : A
       let e : 512 * first + count ≡ length image = omega (arith, ge, piece.within) in outer e)
       (cases_lt (512 * first + count) (length image))
 
--- ---- of an image that may be known
+-- ---- of each image that has the bytes which were read
 
 -- what holds of a piece that was read, and over which the changed blocks were laid
-pub of-piece : (known : Option (List ℕ)) (changed : Numbered) (first count : ℕ) (into laid : List ℕ) (Fact : List ℕ → Type 0) → length into ≡ count
-    → laid ≡ patched_from first changed into → HoldsFrom known (512 * first) into → Fact laid → OfPiece known changed first count Fact
-of-piece None changed first count into laid Fact fits is held fact = tt
-of-piece (Some image) changed first count into laid Fact fits is held fact = λ within piece.
-    let read : into ≡ piece_of first count image = held ∙ ap (λ n. take n (drop (512 * first) image)) fits in
+pub of-piece : (Holds : List ℕ → Type 0) (changed : Numbered) (first count : ℕ) (into laid : List ℕ) (Fact : List ℕ → Type 0) → length into ≡ count
+    → laid ≡ patched_from first changed into → OfEach Holds (HasAt (512 * first) into) → Fact laid → OfPiece Holds changed first count Fact
+of-piece Holds changed first count into laid Fact fits is own fact = λ image held within piece.
+    let read : into ≡ piece_of first count image = own image held ∙ ap (λ n. take n (drop (512 * first) image)) fits in
     subst Fact (is ∙ ap (patched_from first changed) read ∙ piece-patched changed image first count within piece) fact
-
--- what holds of any bytes
-pub of-any : (known : Option (List ℕ)) (changed : Numbered) (first count : ℕ) (Fact : List ℕ → Type 0) → ((bytes : List ℕ) → Fact bytes)
-    → OfPiece known changed first count Fact
-of-any None changed first count Fact fact = tt
-of-any (Some image) changed first count Fact fact = λ within piece. fact (piece_of first count (patched changed image))

@@ -1,7 +1,8 @@
 -- What is written of an image with changed blocks laid over it.
-use Rattle.std.specs.Prelude.{◌≡◌, ℕ, ◌+◌, ◌*◌, ◌%◌, ◌<◌, ◌≤◌, List, length, take, drop, Option, IfSome}
+use Rattle.std.specs.Prelude.{◌≡◌, ℕ, ◌+◌, ◌*◌, ◌%◌, ◌<◌, ◌≤◌, List, length, take, drop}
 use Rattle.hfs_blocks.specs.Blocks.{block_count}
 use Rattle.hfs_blocks.specs.Layers.{Numbered, changes, AreWithin}
+use Rattle.hfs_source.specs.Images.{OfEach}
 use Rattle.hfs_volume.specs.Image.{patched}
 use Rattle.hfs_volume.specs.Laid.{laid_over}
 
@@ -13,16 +14,16 @@ patched_from first changed bytes = laid_over (λ k. changes changed (first + k))
 abbrev pub piece_of : ℕ → ℕ → List ℕ → List ℕ
 piece_of first count bytes = take count (drop (512 * first) bytes)
 
--- where so many of an image's bytes are known, they hold this with the changed blocks in place of their own
-abbrev pub OfPatched : Option (List ℕ) → ℕ → Numbered → (List ℕ → Type 0) → Type 0
-OfPatched known len changed Fact = IfSome known (λ image. length image ≡ len → Fact (patched changed image))
+-- each image of these that has so many bytes holds this with the changed blocks in place of its own
+abbrev pub OfPatched : (List ℕ → Type 0) → ℕ → Numbered → (List ℕ → Type 0) → Type 0
+OfPatched Holds len changed Fact = OfEach Holds (λ image. length image ≡ len → Fact (patched changed image))
 
 -- so many bytes from a block of an image on are whole blocks, or the last of its bytes
 pub record IsPiece (image : List ℕ) (first count : ℕ) : Type 0 where
   pub within : 512 * first + count ≤ length image
   pub whole : 512 * first + count < length image → count % 512 ≡ 0
 
--- where the bytes of an image that has the changed blocks are known, a piece of them holds this with these in place of its own
-abbrev pub OfPiece : Option (List ℕ) → Numbered → ℕ → ℕ → (List ℕ → Type 0) → Type 0
-OfPiece known changed first count Fact =
-    IfSome known (λ image. AreWithin (changes changed) (block_count image) → IsPiece image first count → Fact (piece_of first count (patched changed image)))
+-- a piece of each image of these that has the changed blocks holds this with these in place of its own
+abbrev pub OfPiece : (List ℕ → Type 0) → Numbered → ℕ → ℕ → (List ℕ → Type 0) → Type 0
+OfPiece Holds changed first count Fact =
+    OfEach Holds (λ image. AreWithin (changes changed) (block_count image) → IsPiece image first count → Fact (piece_of first count (patched changed image)))

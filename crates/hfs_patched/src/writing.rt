@@ -3,6 +3,7 @@ ghost use Rattle.std.specs.Prelude.{◌≡◌, ◌≢◌, ◌+◌, ◌/◌, ◌�
 ghost use Rattle.std.specs.Io.KnownBytes.{Appends};
 ghost use Rattle.hfs_texts.specs.Writing.{AppendsFront};
 ghost use Rattle.hfs_blocks.specs.Layers.{changes, AreWithin};
+ghost use Rattle.hfs_source.specs.Images.{OfEach};
 ghost use Rattle.hfs_patched.specs.Patched.{OfPatched, OfPiece};
 
 use crate::laying::lay_piece;
@@ -37,12 +38,13 @@ fn write_piece<S: BlockSource, W: Write>(
 ) -> Result<(), PatchedFault>
     requires room { count ≤ length buffer.old }
     requires numbers { first + count / 512 ≤ 4294967295 }
-    ensures written { OnOk result (OfPiece (S.image source.old) patch.now first count
+    ensures written { OnOk result (OfPiece (S.Holds source.new) patch.now first count
         (Appends (W.contents writer.old) (W.contents writer.new))) }
-    ensures part { OnErr result (OfPiece (S.image source.old) patch.now first count
+    ensures part { OnErr result (OfPiece (S.Holds source.new) patch.now first count
         (AppendsFront (W.contents writer.old) (W.contents writer.new))) }
     ensures memory { result ≢ Err PatchedFault.Memory }
     ensures room { length buffer.new ≡ length buffer.old }
+    ensures narrows { OfEach (S.Holds source.new) (S.Holds source.old) }
     ensures image { S.image source.new ≡ S.image source.old }
 {
     let piece = &mut buffer[..count];
@@ -67,11 +69,12 @@ fn write_pieces<S: BlockSource, W: Write>(
     requires small { len ≤ 2147483648 }
     requires room { 1048576 ≤ length buffer.old }
     requires within { AreWithin (changes patch.now) (len / 512) }
-    ensures written { OnOk result (OfPatched (S.image source.old) len patch.now
+    ensures written { OnOk result (OfPatched (S.Holds source.new) len patch.now
         (Appends (W.contents writer.old) (W.contents writer.new))) }
-    ensures part { OnErr result (OfPatched (S.image source.old) len patch.now
+    ensures part { OnErr result (OfPatched (S.Holds source.new) len patch.now
         (AppendsFront (W.contents writer.old) (W.contents writer.new))) }
     ensures memory { result ≢ Err PatchedFault.Memory }
+    ensures narrows { OfEach (S.Holds source.new) (S.Holds source.old) }
     ensures image { S.image source.new ≡ S.image source.old }
 {
     let mut done = 0;
@@ -91,7 +94,8 @@ fn buffer_of(alloc: Global, count: usize) -> Result<Vec<u8>, AllocError>
     vec![in alloc; 0; count]
 }
 
-/// Writes the `len` bytes of an image with the changed blocks in place of its own, at most 1,048,576 at a time, as they are read. Errors:
+/// Writes the `len` bytes of an image with the changed blocks in place of its own, at most 1,048,576 at a time, as they are read. What was written is
+/// said of each image that has the bytes which were read. Errors:
 /// memory was refused, and nothing was written; a read failed, the image ends before that many bytes, or the writer failed, where a part
 /// may have gone out, from the first byte on, and nothing else.
 pub fn write_patched<S: BlockSource, W: Write>(
@@ -103,11 +107,12 @@ pub fn write_patched<S: BlockSource, W: Write>(
 ) -> Result<(), PatchedFault>
     requires small { len ≤ 2147483648 }
     requires within { AreWithin (changes patch.now) (len / 512) }
-    ensures written { OnOk result (OfPatched (S.image source.old) len patch.now
+    ensures written { OnOk result (OfPatched (S.Holds source.new) len patch.now
         (Appends (W.contents writer.old) (W.contents writer.new))) }
-    ensures part { OnErr result (OfPatched (S.image source.old) len patch.now
+    ensures part { OnErr result (OfPatched (S.Holds source.new) len patch.now
         (AppendsFront (W.contents writer.old) (W.contents writer.new))) }
     ensures memory { result ≡ Err PatchedFault.Memory → writer.new ≡ writer.old }
+    ensures narrows { OfEach (S.Holds source.new) (S.Holds source.old) }
     ensures image { S.image source.new ≡ S.image source.old }
 {
     let Ok(mut buffer) = buffer_of(alloc, MOST_AT_ONCE as usize) else {

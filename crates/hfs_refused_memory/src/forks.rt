@@ -1,7 +1,7 @@
 //! A fork that is opened and read piece by piece, where memory is refused once.
 
 use anyhow::Result;
-use hfs_fixtures::{SmallVolume, fork_byte, small_image};
+use hfs_fixtures::{fork_byte, one_file_image};
 use hfs_model::Fork;
 use hfs_volume::{OpenFork, Opened, Volume};
 use hfs_volume_fixtures::refused::mounted;
@@ -82,7 +82,7 @@ fn opens_on(alloc: Global, volume: &Volume) -> bool {
 
 /// The volume with the file `f`.
 fn volume_of_one_file(alloc: Global) -> Result<Volume> {
-    mounted(alloc, small_image(alloc, SmallVolume::OneFile)?)
+    mounted(alloc, one_file_image(alloc)?)
 }
 
 /// Whether the fork of `f` is opened, and read to its end.

@@ -1,5 +1,6 @@
-//! What takes memory and goes on where it is refused, which no run of `hfs_tool` shows, since it ends there: images and volumes that are
-//! handed back, a list of calls and a fork that are gone on with, a publish that lags, and workers whose calls are made by and by. What met
+//! What takes memory and goes on where it is refused, which no run of `hfs_tool` shows, since it ends there: an image that is handed
+//! back, a list of calls and a fork that are gone on with, a publish that lags, and workers whose calls are made by and by. Each line mounts
+//! a volume, twice where memory is refused, and two share it, twice likewise, so that what is handed back then serves as well. What met
 //! the refusal must have left all as it was, and once more it must do what it always does, so that each line reads `as said` whichever
 //! allocation is refused.
 //!
@@ -16,7 +17,6 @@ mod lists;
 mod mounting;
 mod sharing;
 mod showing;
-mod starting;
 mod trials;
 mod working;
 

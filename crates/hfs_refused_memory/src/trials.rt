@@ -1,6 +1,5 @@
 //! What a line says is to be tried.
 use crate::showing::shows_as_said;
-use crate::starting::starts_as_said;
 use crate::working::works_as_said;
 use crate::{forks, lists, mounting};
 use anyhow::{Result, bail};
@@ -35,9 +34,6 @@ pub fn outcome_of<T: Threads + Wait + Sync>(
     if word == b"publish".as_slice() {
         return shows_as_said(threads, alloc);
     }
-    if word == b"start".as_slice() {
-        return Ok(plain(starts_as_said(threads, alloc)?));
-    }
     if word == b"work".as_slice() {
         return Ok(plain(works_as_said(threads, alloc)?));
     }
@@ -52,19 +48,8 @@ fn is_as_said(alloc: Global, word: &[u8]) -> Result<bool> {
     if word == b"open".as_slice() {
         return forks::opens(alloc);
     }
-    mounts_as_said(alloc, word)
-}
-
-/// The same of the words about mounting.
-fn mounts_as_said(alloc: Global, word: &[u8]) -> Result<bool> {
-    if word == b"mount".as_slice() {
-        return mounting::mounts(alloc);
-    }
     if word == b"repair".as_slice() {
         return mounting::repairs(alloc);
-    }
-    if word == b"refuse".as_slice() {
-        return mounting::refuses(alloc);
     }
     bail!("no such word")
 }

@@ -28,8 +28,9 @@ pub use crate::laws::{
 };
 pub use crate::listing::{list_rescue, write_remains};
 pub use crate::paging::write_found_page;
-pub use crate::remains::{Again, Remains, remains_of};
+pub use crate::remains::{Remains, remains_of};
 pub use crate::rescuing::{PlacedBag, UnplacedBag, rescue, rescue_opened};
 pub use crate::showing::{image_fault, write_found_folder, write_found_fork, write_found_items};
 pub use crate::words::{BagWords, RescueWords};
+pub use hfs_finds::{RefusedImage, look};
 pub use hfs_remains_page::{RemainsTexts, found_texts};

@@ -1,128 +1,77 @@
-//! What remains of a refused image, wherever its bytes are.
-ghost use Rattle.std.specs.Prelude.{◌≡◌, Err, None, IfErr, IfNone, IfOk};
-ghost use Rattle.hfs_commands.specs.Faults.{IsUnprinted, IsUnreadFile};
-ghost use Rattle.hfs_finds.specs.Finds.{found_directory};
-ghost use Rattle.hfs_salvage.specs.Faults.{IsUnread};
+//! What remains of a refused image, read where it was looked at.
+ghost use Rattle.std.specs.Prelude.{◌≡◌, Err, Some, IfErr, IfOk, IfSome};
+ghost use Rattle.std.specs.Option.{option_map};
+ghost use Rattle.hfs_commands.specs.Faults.{IsUnprinted};
 
-use crate::held::HeldBytes;
-use crate::image::{HoldFault, RescuedImage};
-use crate::loading::{Loaded, LoadedImage, load_image};
+use crate::image::RescuedImage;
 use crate::paging::write_found_page;
 use crate::showing::{image_fault, write_found_folder, write_found_fork, write_found_items};
 use crate::words::RescueWords;
 use hfs_check::MountFault;
-use hfs_commands::{CopyFault, Fault, Format, OpenedFile, Window};
+use hfs_commands::{CheckAnswer, CopyFault, Fault, Format, refused_text};
+use hfs_finds::RefusedImage;
 use hfs_model::Reply;
 use hfs_remains_page::RemainsTexts;
+use hfs_source::PlacedBlocks;
 use hfs_space::ForkKind;
-use hfs_sparse::BlockSource;
-use std::alloc::Global;
+use hfs_sparse::{BlockSource, SeenBlocks};
+use std::alloc::{AllocError, Global};
 use std::io::Write;
-use std::rt::Files;
 
 /// What remains of an image that is refused.
 #[derive(Drop)]
 pub struct Remains<S: BlockSource> {
-    image: Loaded<S>,
+    image: RescuedImage<S>,
 }
 
-/// Where a refused image is looked at once more.
-#[derive(Drop)]
-pub enum Again {
-    /// In the file that it was read from, which is opened anew.
-    File,
-    /// Among these bytes, which are all of it: they came out of a pipe.
-    Held(HeldBytes),
+/// What the check of an image tells that is refused for this fault.
+fn refused_check(alloc: Global, why: MountFault) -> Result<CheckAnswer, AllocError>
+    ensures { IfOk result (λ check. check.fault ≡ Some why) }
+{
+    let (status, lines) = refused_text(alloc, why)?;
+    Ok(CheckAnswer {
+        fault: Some(why),
+        status,
+        lines,
+    })
 }
 
-/// Whether a fault says that nothing is found, and not that reading failed or that memory was refused.
-fn is_unfound(fault: &Fault<'_>) -> bool {
-    match fault {
-        Fault::Refused(_) | Fault::NoVolume(_) | Fault::NoVolumes | Fault::SeveralVolumes(_) => {
-            true
-        }
-        Fault::WordsNotText
-        | Fault::NotWritten
-        | Fault::BadName
-        | Fault::BadSize
-        | Fault::BadNodeCount
-        | Fault::NoRoom
-        | Fault::ScriptLine(_)
-        | Fault::ScriptTooLarge
-        | Fault::NoPlace
-        | Fault::CannotRead(_)
-        | Fault::BrokenOff(_)
-        | Fault::CannotWrite(_)
-        | Fault::IsThere(_)
-        | Fault::OutputFailed
-        | Fault::NoMemory => false,
-    }
-}
-
-/// What is found of bytes that are held; None where there is no directory in them.
-fn held_remains<'a>(
+/// What remains of an image that was looked at and is refused; None where nothing is found of it. The only error is want of memory.
+pub fn remains_of<S: PlacedBlocks + Drop>(
     alloc: Global,
-    bytes: HeldBytes,
-    path: &'a str,
-) -> Result<Option<RescuedImage<HeldBytes>>, Fault<'a>>
-    ensures none { IfOk result (λ found. IfNone found (found_directory bytes ≡ None)) }
-    ensures fault { IfErr result (IsUnreadFile path.entry) }
+    image: RefusedImage<S>,
+) -> Result<Option<Remains<SeenBlocks<S>>>, AllocError>
+    ensures found { IfOk result (λ remains. option_map (λ some. some.image.finds) remains
+        ≡ image.found) }
+    ensures source { IfOk result (λ remains. IfSome remains
+        (λ some. some.image.source ≡ image.source)) }
+    ensures fault { IfOk result (λ remains. IfSome remains
+        (λ some. some.image.check.fault ≡ Some image.why)) }
 {
-    match RescuedImage::held(alloc, bytes, None) {
-        Ok(image) => Ok(Some(image)),
-        Err(HoldFault::NoDirectory(_)) => Ok(None),
-        Err(HoldFault::ReadFailed) => Err(Fault::CannotRead(path)),
-        Err(HoldFault::NoMemory) => Err(Fault::NoMemory),
-    }
-}
-
-/// What is found of the file that is asked for; None where nothing is.
-fn file_remains<'a, R: Files + AllocGlobal>(
-    rt: &R,
-    words: &RescueWords<'a>,
-) -> Result<Option<Loaded<Window<OpenedFile<R::File>>>>, Fault<'a>>
-    ensures { IfErr result (IsUnread words.now) }
-{
-    match load_image(rt, words) {
-        Ok(LoadedImage { image, sum: _ }) => Ok(Some(image)),
-        Err(fault) => {
-            if is_unfound(&fault) {
-                Ok(None)
-            } else {
-                Err(fault)
-            }
-        }
-    }
-}
-
-/// What `rescue` finds of an image that is refused; None where it finds nothing. Faults: it can't be read, memory was refused.
-pub fn remains_of<'a, R: Files + AllocGlobal>(
-    rt: &R,
-    words: &RescueWords<'a>,
-    again: Again,
-) -> Result<Option<Remains<Window<OpenedFile<R::File>>>>, Fault<'a>>
-    ensures { IfErr result (IsUnread words.now) }
-{
-    let found = match again {
-        Again::File => file_remains(rt, words)?,
-        Again::Held(bytes) => match held_remains(rt.alloc(), bytes, words.image)? {
-            Some(image) => Some(Loaded::Held(image)),
-            None => None,
-        },
+    let RefusedImage {
+        source,
+        len,
+        why,
+        found,
+    } = image;
+    let Some(finds) = found else {
+        return Ok(None);
     };
-    match found {
-        Some(image) => Ok(Some(Remains { image })),
-        None => Ok(None),
-    }
+    let check = refused_check(alloc, why)?;
+    let image = RescuedImage {
+        source,
+        len,
+        line: None,
+        check,
+        finds,
+    };
+    Ok(Some(Remains { image }))
 }
 
 impl<S: BlockSource + Drop> Remains<S> {
     /// The fault that the image's check tells; None of a sound one.
     pub fn fault(&self) -> Option<MountFault> {
-        match &self.image {
-            Loaded::Held(image) => image_fault(image),
-            Loaded::Opened(image) => image_fault(image),
-        }
+        image_fault(&self.image)
     }
 
     /// Writes the table of what was found, as [`write_found_items`] does.
@@ -135,10 +84,7 @@ impl<S: BlockSource + Drop> Remains<S> {
     ) -> Result<u8, Fault<'static>>
         ensures { IfErr result IsUnprinted }
     {
-        match &self.image {
-            Loaded::Held(image) => write_found_items(alloc, writer, image, words, format),
-            Loaded::Opened(image) => write_found_items(alloc, writer, image, words, format),
-        }
+        write_found_items(alloc, writer, &self.image, words, format)
     }
 
     /// Writes the page of what was found, with this fault in words, as [`write_found_page`] does.
@@ -152,10 +98,7 @@ impl<S: BlockSource + Drop> Remains<S> {
     ) -> Result<u8, Fault<'static>>
         ensures { IfErr result IsUnprinted }
     {
-        match &self.image {
-            Loaded::Held(image) => write_found_page(alloc, writer, image, words, why, texts),
-            Loaded::Opened(image) => write_found_page(alloc, writer, image, words, why, texts),
-        }
+        write_found_page(alloc, writer, &self.image, words, why, texts)
     }
 
     /// Writes the rows of a folder, as [`write_found_folder`] does.
@@ -168,10 +111,7 @@ impl<S: BlockSource + Drop> Remains<S> {
     ) -> Result<Result<u8, Reply>, Fault<'static>>
         ensures { IfErr result IsUnprinted }
     {
-        match &self.image {
-            Loaded::Held(image) => write_found_folder(alloc, writer, image, words, path),
-            Loaded::Opened(image) => write_found_folder(alloc, writer, image, words, path),
-        }
+        write_found_folder(alloc, writer, &self.image, words, path)
     }
 
     /// Writes the bytes of a fork, as [`write_found_fork`] does.
@@ -186,9 +126,6 @@ impl<S: BlockSource + Drop> Remains<S> {
         ensures none { result ≡ Err CopyFault.ReadFailed → writer.new ≡ writer.old }
         ensures memory { result ≡ Err CopyFault.Memory → writer.new ≡ writer.old }
     {
-        match self.image {
-            Loaded::Held(image) => write_found_fork(alloc, writer, image, words, path, kind),
-            Loaded::Opened(image) => write_found_fork(alloc, writer, image, words, path, kind),
-        }
+        write_found_fork(alloc, writer, self.image, words, path, kind)
     }
 }

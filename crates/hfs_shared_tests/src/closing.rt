@@ -36,7 +36,7 @@ fn make_all<K: Session>(
 }
 
 /// What closing gives when each worker has made these files.
-pub fn closed_after<K: Session, R: Wait>(
+fn closed_after<K: Session, R: Wait>(
     rt: &R,
     alloc: Global,
     parts: Parts,
@@ -71,11 +71,16 @@ fn closed_one(rt: &impl Wait, alloc: Global) -> Result<Option<Closed>, Fail> {
     Ok(closed)
 }
 
-#[test]
-fn a_journal_has_all_calls(rt: HostRuntime) -> Result<(), Fail> {
-    let counts = counts_of(closed_one(&rt, rt.alloc())?);
-    assert!(rt; counts == Some((20, 20, true)));
-    Ok(())
+/// Whether a journal has ten calls that are made, and behind them the same ten that are refused, since the files are there; and all
+/// are shown.
+fn is_made_once(closed: &Closed) -> bool {
+    for (place, entry) in closed.journal.iter().enumerate() {
+        let wanted = if place < 10 { 0 } else { -48 };
+        if entry.code != wanted {
+            return false;
+        }
+    }
+    (closed.journal.len(), closed.shown) == (20, 20)
 }
 
 /// The volume, shared again and closed without a call, if its viewer lists the ten files.
@@ -88,12 +93,15 @@ fn shared_again(rt: &impl Wait, alloc: Global, volume: Volume) -> Result<Option<
     Ok(closed)
 }
 
-/// The counts of the volume that two workers have closed, when it was shared again.
+/// The counts of the volume that two workers have closed with such a journal, when it was shared again.
 fn counts_again(rt: &impl Wait, alloc: Global) -> Result<Option<(usize, u64, bool)>, Fail> {
-    match closed_one(rt, alloc)? {
-        Some(closed) => Ok(counts_of(shared_again(rt, alloc, closed.volume)?)),
-        None => Ok(None),
+    let Some(closed) = closed_one(rt, alloc)? else {
+        return Ok(None);
+    };
+    if !is_made_once(&closed) {
+        return Ok(None);
     }
+    Ok(counts_of(shared_again(rt, alloc, closed.volume)?))
 }
 
 #[test]

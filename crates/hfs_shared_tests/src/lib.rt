@@ -7,15 +7,9 @@ mod beside;
 #[cfg(test)]
 mod closing;
 #[cfg(test)]
-mod many;
-#[cfg(test)]
 mod meeting;
 #[cfg(test)]
 mod passes;
-#[cfg(test)]
-mod reading;
-#[cfg(test)]
-mod replaying;
 #[cfg(test)]
 mod sharing;
 #[cfg(test)]

@@ -175,7 +175,7 @@ fn are_names(alloc: Global, infos: &[Info], wanted: &[u8]) -> bool {
 }
 
 /// Whether a reply tells these names, each with a space behind it.
-pub fn tells(alloc: Global, reply: &Reply, wanted: &[u8]) -> bool {
+fn tells(alloc: Global, reply: &Reply, wanted: &[u8]) -> bool {
     match &reply.value {
         Value::Many(infos) => are_names(alloc, infos.as_slice(), wanted),
         Value::Nothing

@@ -1,7 +1,7 @@
 //! What the words do on items by their paths.
 
 use crate::commands::{print_code, print_fork, print_macbinary, print_told};
-use crate::remaining::{Looked, look, show_folder, show_fork};
+use crate::remaining::{look_at, show_folder, show_fork};
 use crate::words::{ForkPathWords, PathWords};
 use hfs_commands::{Fault, PartImage, file_path_reply, open_seen, path_reply, seen_list_text};
 use hfs_model::{Reply, Value};
@@ -10,9 +10,9 @@ use std::io::{Read, Seek};
 /// Prints the children of the folder that a path leads to, or the code that refuses the path; or the rows of that folder, where the
 /// image is refused.
 pub fn print_list_at<'a>(rt: &HostRuntime, place: &PathWords<'a>) -> Result<u8, Fault<'a>> {
-    match look(rt, place.image, place.volume)? {
-        Looked::Sound(image) => print_list_in(rt, place, &image),
-        Looked::Refused(refused) => show_folder(rt, place, refused),
+    match look_at(rt, place.image, place.volume)? {
+        Ok(image) => print_list_in(rt, place, &image),
+        Err(refused) => show_folder(rt, place, refused),
     }
 }
 
@@ -47,9 +47,9 @@ fn file_at<'a, F: Read + Seek + Drop>(
 /// image is refused.
 pub fn print_fork_at<'a>(rt: &HostRuntime, words: &ForkPathWords<'a>) -> Result<u8, Fault<'a>> {
     let place = &words.place;
-    match look(rt, place.image, place.volume)? {
-        Looked::Sound(image) => print_fork_in(rt, words, image),
-        Looked::Refused(refused) => show_fork(rt, words, refused),
+    match look_at(rt, place.image, place.volume)? {
+        Ok(image) => print_fork_in(rt, words, image),
+        Err(refused) => show_fork(rt, words, refused),
     }
 }
 

@@ -4,7 +4,7 @@ use crate::commands::{
     print_fork, print_info_of, print_macbinary, print_needed_check, print_refused, print_table,
     print_told,
 };
-use crate::remaining::{Looked, look, show_items};
+use crate::remaining::{look_at, show_items};
 use crate::volumes::print_volume_info;
 use crate::words::{FileWords, ForkWords};
 use hfs_commands::{Fault, Format, open_part, open_seen, part_blocks, seen_list_text};
@@ -52,9 +52,9 @@ pub fn tell_items<'a>(
     volume: Option<u64>,
     format: Format,
 ) -> Result<u8, Fault<'a>> {
-    match look(rt, image, volume)? {
-        Looked::Sound(image) => print_table(rt, &image, format),
-        Looked::Refused(refused) => show_items(rt, image, volume, format, refused),
+    match look_at(rt, image, volume)? {
+        Ok(image) => print_table(rt, &image, format),
+        Err(refused) => show_items(rt, image, volume, format, refused),
     }
 }
 

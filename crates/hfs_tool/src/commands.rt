@@ -12,9 +12,9 @@ use crate::volumes::print_volumes;
 use crate::words::{NewVolume, Words};
 use hfs_check::MountFault;
 use hfs_commands::{
-    CheckAnswer, Fault, Format, NeededFile, NeededRepair, PartBlocks, PartImage, RepairAnswer,
-    Status, WatchedFile, WatchedImage, code_text, needed_check_answer, needed_repair_answer,
-    open_watched, put_macbinary, refused_text, repair_answer, run_info, write_items,
+    CheckAnswer, Fault, Format, NeededFile, PartBlocks, PartImage, RepairAnswer, Status,
+    WatchedImage, code_text, needed_check_answer, open_watched, put_macbinary, refused_text,
+    repair_answer, run_info, write_items,
 };
 use hfs_console::{print_lines, tell_hint};
 use hfs_format::{FormatPlan, format};
@@ -212,51 +212,42 @@ fn write_new<'a>(rt: &HostRuntime, volume: &NewVolume<'a>) -> Result<u8, Fault<'
 /// written; where the write fails nothing else is printed.
 fn write_repaired<'a>(rt: &HostRuntime, path: &'a str, file: &'a str) -> Result<u8, Fault<'a>> {
     match open_watched(rt, path) {
-        Ok(WatchedImage::InFile(source)) => write_needed(rt, path, file, source),
-        Ok(WatchedImage::Whole(image)) => write_whole(rt, file, image),
+        Ok(source) => write_mended(rt, path, file, source),
         Err(Fault::Refused(why)) => print_refused(rt, why),
         Err(fault) => Err(fault),
     }
 }
 
-/// Mends an image of which all bytes are there, and writes it to a file.
-fn write_whole<'a>(rt: &HostRuntime, file: &'a str, image: Vec<u8>) -> Result<u8, Fault<'a>> {
-    match repair_answer(rt.alloc(), image) {
-        Ok(answer) => write_answer(rt, file, &answer),
-        Err(_refused) => Err(Fault::NoMemory),
-    }
-}
-
-/// Mends the image in the file of this path, which is read where it is needed, and writes it to a file.
-fn write_needed<'a>(
+/// Mends an image that was opened by this path, and writes it to a file.
+fn write_mended<'a>(
     rt: &HostRuntime,
     path: &'a str,
     file: &'a str,
-    source: WatchedFile<File>,
+    source: WatchedImage<File>,
 ) -> Result<u8, Fault<'a>> {
     let len = source.len();
-    match needed_repair_answer(rt.alloc(), source, len) {
-        Ok(answer) => write_needed_answer(rt, path, file, answer),
+    match repair_answer(rt.alloc(), source, len) {
+        Ok(answer) => write_answer(rt, path, file, answer),
         Err(fault) => Err(Fault::of_sparse(fault, path)),
     }
 }
 
 /// Writes a mended image to a file as it is read, and prints what was mended.
-fn write_needed_answer<'a>(
+fn write_answer<'a>(
     rt: &HostRuntime,
     path: &'a str,
     file: &'a str,
-    answer: NeededRepair<WatchedFile<File>>,
+    answer: RepairAnswer<WatchedImage<File>>,
 ) -> Result<u8, Fault<'a>> {
-    let NeededRepair {
+    let RepairAnswer {
         image,
         fault,
         status,
         lines,
     } = answer;
     let leftover = match image {
-        Some(mut image) => save_as_read(rt, file, path, &mut image)?,
-        None => None,
+        Ok(mut image) => save_as_read(rt, file, path, &mut image)?,
+        Err(_refused) => None,
     };
     print_lines(rt, lines.as_str())?;
     tell(rt, &leftover);
@@ -264,24 +255,6 @@ fn write_needed_answer<'a>(
         tell_hint(rt, why);
     }
     Ok(status)
-}
-
-/// Writes a mended volume to a file, and prints what was mended.
-fn write_answer<'a>(
-    rt: &HostRuntime,
-    file: &'a str,
-    answer: &RepairAnswer,
-) -> Result<u8, Fault<'a>> {
-    let leftover = match &answer.volume {
-        Some(volume) => save(rt, file, volume)?,
-        None => None,
-    };
-    print_lines(rt, answer.lines.as_str())?;
-    tell(rt, &leftover);
-    if let Some(why) = answer.fault {
-        tell_hint(rt, why);
-    }
-    Ok(answer.status)
 }
 
 /// Prints why an image is refused, and what that means.

@@ -4,94 +4,102 @@ use crate::commands::print_code;
 use crate::words::{ForkPathWords, PathWords};
 use hfs_check::MountFault;
 use hfs_commands::{
-    ByteRange, Fault, Format, NeededFault, OpenedFile, PartBlocks, PartImage, ReadAt, SeenImage,
-    StoredFile, Unopened, Window, open_part, part_blocks,
+    Counted, Fault, FilePart, Format, OpenedFile, PartBlocks, PartImage, SeenImage, StoredFile,
+    Unopened, Window, open_asked, part_blocks,
 };
 use hfs_console::tell_hint;
+use hfs_containers::{Asked, find_asked};
 use hfs_model::{Fork, Reply};
-use hfs_salvage::{Again, HeldBytes, Remains, RemainsTexts, RescueWords, remains_of};
-use hfs_source::RangeBytes;
+use hfs_salvage::{RefusedImage, Remains, RemainsTexts, RescueWords, look, remains_of};
+use hfs_source::{BlocksOf, PlacedBlocks, RangeBytes};
 use hfs_space::ForkKind;
 use std::alloc::Global;
 use std::fs::File;
-use std::io::{Read, Seek};
 
-/// What comes of opening an image.
-#[derive(Drop)]
-pub enum Looked {
-    Sound(PartImage<File>),
-    Refused(RefusedImage),
+/// The blocks of a part of a file.
+pub type Part = BlocksOf<RangeBytes<OpenedFile<File>>>;
+
+/// What comes of a look: a sound image, or a refused one.
+pub type Looked = Result<PartImage<File>, RefusedImage<Part>>;
+
+/// What is looked at of a file, and whether it is the only range that it may be.
+pub struct Chosen {
+    pub part: Window<OpenedFile<File>>,
+    pub is_one: bool,
 }
 
-/// An image that is refused, and where it can be looked at once more, if it can.
-#[derive(Drop)]
-pub struct RefusedImage {
-    pub why: MountFault,
-    pub again: Option<Again>,
-}
-
-/// A range of bytes that are held, to be looked at once more.
-fn held_in(all: Vec<u8>, range: ByteRange) -> Option<Again> {
-    match HeldBytes::of(all, range) {
-        Some(bytes) => Some(Again::Held(bytes)),
-        None => None,
-    }
-}
-
-/// The same of the user data of raw sectors that are held.
-fn data_in<S: ReadAt>(
-    alloc: Global,
-    file: &mut S,
-    range: ByteRange,
-) -> Result<Option<Again>, Fault<'static>> {
-    let len = range.len;
-    let Ok(mut all) = vec![in alloc; 0u8; len as usize] else {
-        return Err(Fault::NoMemory);
-    };
-    match file.read_at(range.start, &mut all) {
-        Ok(()) => Ok(held_in(all, ByteRange { start: 0, len })),
-        Err(_) => Ok(None),
-    }
-}
-
-/// Where a range of an opened file can be looked at once more: what came out of a pipe comes once, and is held.
-fn again_in<F: Read + Seek + Drop>(
-    alloc: Global,
-    file: OpenedFile<F>,
-    range: ByteRange,
-) -> Result<Option<Again>, Fault<'static>> {
+/// Whether all bytes of what was opened are held, as a pipe's.
+fn is_held(file: &OpenedFile<File>) -> bool {
     match file {
-        OpenedFile::Plain(StoredFile::Seekable(_)) => Ok(Some(Again::File)),
-        OpenedFile::Plain(StoredFile::Whole(all)) => Ok(held_in(all, range)),
-        OpenedFile::Raw(mut raw) => match &raw.data.bytes {
-            StoredFile::Seekable(_) => Ok(Some(Again::File)),
-            StoredFile::Whole(_) => data_in(alloc, &mut raw, range),
-        },
+        OpenedFile::Plain(StoredFile::Whole(_)) => true,
+        OpenedFile::Plain(StoredFile::Seekable(_)) | OpenedFile::Raw(_) => false,
     }
 }
 
-/// The same of the blocks of a part of it.
-pub fn again_of<F: Read + Seek + Drop>(
+/// What is looked at of a file in which no volume was found: the only range that lies in it, also one without a volume, else the file as
+/// it is.
+fn choose_range<'a>(
     alloc: Global,
-    source: PartBlocks<F>,
-) -> Result<Option<Again>, Fault<'static>> {
-    let blocks = source.blocks;
-    let RangeBytes { bytes, start, len } = blocks.bytes;
-    again_in(alloc, bytes, ByteRange { start, len })
+    file: Window<OpenedFile<File>>,
+    path: &'a str,
+) -> Result<Chosen, Fault<'a>> {
+    let Window { mut source, range } = file;
+    let layout = source.layout();
+    let asked = find_asked(alloc, &mut source, range.len, layout, Counted::Ranges, None);
+    let (range, is_one) = match asked {
+        Ok(Asked::Inside(place)) => (place.found.range, true),
+        Ok(Asked::WholeFile) | Ok(Asked::Missing(_)) => (range, true),
+        Ok(Asked::Several(_)) => (range, false),
+        Err(fault) => return Err(Fault::of_sparse(fault, path)),
+    };
+    Ok(Chosen {
+        part: Window { source, range },
+        is_one,
+    })
 }
 
-/// Opens an image, or the volume in it that is asked for, and makes all checks.
-pub fn look<'a>(rt: &HostRuntime, path: &'a str, volume: Option<u64>) -> Result<Looked, Fault<'a>> {
-    let part = open_part(rt, path, volume)?;
+/// What is looked at of an image: the volume that is asked for, or that lies alone in it; where none does, what `rescue` would take.
+pub fn choose<'a>(
+    rt: &HostRuntime,
+    path: &'a str,
+    volume: Option<u64>,
+) -> Result<Chosen, Fault<'a>> {
+    let FilePart { bytes, place } = open_asked(rt, path, Counted::Volumes, volume)?;
+    if volume.is_some() || place.is_some() || is_held(&bytes.source) {
+        return Ok(Chosen {
+            part: bytes,
+            is_one: true,
+        });
+    }
+    choose_range(rt.alloc(), bytes, path)
+}
+
+/// Opens what holds several ranges and no volume, which is refused.
+fn open_several<'a>(
+    rt: &HostRuntime,
+    part: Window<OpenedFile<File>>,
+    path: &'a str,
+) -> Result<Looked, Fault<'a>> {
     match SeenImage::open(rt.alloc(), part_blocks(part)) {
-        Ok(image) => Ok(Looked::Sound(image)),
-        Err(Unopened { fault, source }) => match fault {
-            NeededFault::Refused(why) => {
-                let again = again_of(rt.alloc(), source)?;
-                Ok(Looked::Refused(RefusedImage { why, again }))
-            }
-            NeededFault::ReadFailed | NeededFault::Memory => Err(Fault::of_needed(fault, path)),
-        },
+        Ok(image) => Ok(Ok(image)),
+        Err(Unopened { fault, source: _ }) => Err(Fault::of_needed(fault, path)),
+    }
+}
+
+/// Looks at an image, or at the volume in it that is asked for: opens it once, makes all checks, and where it is refused finds what
+/// remains of it.
+pub fn look_at<'a>(
+    rt: &HostRuntime,
+    path: &'a str,
+    volume: Option<u64>,
+) -> Result<Looked, Fault<'a>> {
+    let Chosen { part, is_one } = choose(rt, path, volume)?;
+    if !is_one {
+        return open_several(rt, part, path);
+    }
+    match look(rt.alloc(), part_blocks(part)) {
+        Ok(looked) => Ok(looked),
+        Err(fault) => Err(Fault::of_sparse(fault, path)),
     }
 }
 
@@ -123,36 +131,16 @@ fn print_end(rt: &HostRuntime, told: Result<u8, Reply>) -> Result<u8, Fault<'sta
     }
 }
 
-/// What is found of a refused image, if anything is.
-fn found_of<'a>(
+/// What remains of a refused image. Where nothing does, its refusal is the fault.
+fn find(
     rt: &HostRuntime,
-    words: &RescueWords<'a>,
-    again: Option<Again>,
-) -> Result<Option<Remains<Window<OpenedFile<File>>>>, Fault<'a>> {
-    match again {
-        Some(again) => remains_of(rt, words, again),
-        None => Ok(None),
-    }
-}
-
-/// What is found of a refused image. Where nothing is, its refusal is the fault.
-fn find<'a>(
-    rt: &HostRuntime,
-    words: &RescueWords<'a>,
-    refused: RefusedImage,
-) -> Result<Remains<Window<OpenedFile<File>>>, Fault<'a>> {
-    let RefusedImage { why, again } = refused;
-    match found_of(rt, words, again)? {
-        Some(remains) => Ok(remains),
-        None => Err(Fault::Refused(why)),
-    }
-}
-
-/// Why an image is refused: the fault that the check of what is shown tells, or the first one, where that is sound by now.
-fn refusal_of(told: Option<MountFault>, why: MountFault) -> MountFault {
-    match told {
-        Some(fault) => fault,
-        None => why,
+    refused: RefusedImage<Part>,
+) -> Result<Remains<PartBlocks<File>>, Fault<'static>> {
+    let why = refused.why;
+    match remains_of(rt.alloc(), refused) {
+        Ok(Some(remains)) => Ok(remains),
+        Ok(None) => Err(Fault::Refused(why)),
+        Err(_) => Err(Fault::NoMemory),
     }
 }
 
@@ -162,34 +150,35 @@ pub fn show_items<'a>(
     image: &'a str,
     volume: Option<u64>,
     format: Format,
-    refused: RefusedImage,
+    refused: RefusedImage<Part>,
 ) -> Result<u8, Fault<'a>> {
     let words = rescue_words(image, volume);
     let why = refused.why;
-    let remains = find(rt, &words, refused)?;
-    let why = refusal_of(remains.fault(), why);
+    let remains = find(rt, refused)?;
     let status = remains.write_items(rt.alloc(), &mut rt.stdout(), &words, format)?;
     tell_refused(rt, why, status)
 }
 
 /// Prints the page of what is found of a refused image, and behind it on standard error why it is refused; None where nothing is found,
 /// and nothing is printed.
-pub fn show_page<'a>(
+pub fn show_page<'a, S: PlacedBlocks + Drop>(
     rt: &HostRuntime,
     image: &'a str,
     volume: Option<u64>,
     texts: &RemainsTexts<'_>,
-    refused: RefusedImage,
+    refused: RefusedImage<S>,
 ) -> Result<Option<u8>, Fault<'a>> {
     let words = rescue_words(image, volume);
-    let RefusedImage { why, again } = refused;
-    let Some(remains) = found_of(rt, &words, again)? else {
-        return Ok(None);
-    };
-    let why = refusal_of(remains.fault(), why);
-    let status = remains.write_page(rt.alloc(), &mut rt.stdout(), &words, why, texts)?;
-    let status = tell_refused(rt, why, status)?;
-    Ok(Some(status))
+    let why = refused.why;
+    match remains_of(rt.alloc(), refused) {
+        Ok(Some(remains)) => {
+            let status = remains.write_page(rt.alloc(), &mut rt.stdout(), &words, why, texts)?;
+            let status = tell_refused(rt, why, status)?;
+            Ok(Some(status))
+        }
+        Ok(None) => Ok(None),
+        Err(_) => Err(Fault::NoMemory),
+    }
 }
 
 /// Prints the rows of the folder of a refused image that a path leads to, or the code that refuses the path; and behind them on
@@ -197,12 +186,11 @@ pub fn show_page<'a>(
 pub fn show_folder<'a>(
     rt: &HostRuntime,
     place: &PathWords<'a>,
-    refused: RefusedImage,
+    refused: RefusedImage<Part>,
 ) -> Result<u8, Fault<'a>> {
     let words = rescue_words(place.image, place.volume);
     let why = refused.why;
-    let remains = find(rt, &words, refused)?;
-    let why = refusal_of(remains.fault(), why);
+    let remains = find(rt, refused)?;
     let told = remains.write_folder(rt.alloc(), &mut rt.stdout(), &words, place.path)?;
     let status = print_end(rt, told)?;
     tell_refused(rt, why, status)
@@ -221,13 +209,12 @@ fn kind_of(fork: Fork) -> ForkKind {
 pub fn show_fork<'a>(
     rt: &HostRuntime,
     file: &ForkPathWords<'a>,
-    refused: RefusedImage,
+    refused: RefusedImage<Part>,
 ) -> Result<u8, Fault<'a>> {
     let place = &file.place;
     let words = rescue_words(place.image, place.volume);
     let why = refused.why;
-    let remains = find(rt, &words, refused)?;
-    let why = refusal_of(remains.fault(), why);
+    let remains = find(rt, refused)?;
     let kind = kind_of(file.fork);
     match remains.write_fork(rt.alloc(), &mut rt.stdout(), &words, place.path, kind) {
         Ok(told) => {

@@ -4,10 +4,11 @@ use crate::progress::Progress;
 use crate::saving::{save, save_as_read, tell};
 use crate::words::RunWords;
 use hfs_commands::{
-    Fault, Leftover, Ran, RanImage, RunImage, Status, WatchedFile, WatchedImage, load_script,
-    open_watched, run_script_at, script_lines, write_answers,
+    Fault, Leftover, Ran, RanImage, RunImage, Status, WatchedImage, load_script, open_watched,
+    run_script_at, script_lines, write_answers,
 };
 use hfs_console::print_lines;
+use hfs_files::WatchedFile;
 use std::fs::File;
 use std::io::IsTerminal;
 use std::sync::Wait;
@@ -85,7 +86,7 @@ fn run_in_file<'a, T: Threads + Wait + Sync>(
             progress.end(bytes.len());
             print_ran_image(rt, run, ran?)
         }
-        Err(why) => Err(Fault::Refused(why)),
+        Err(refused) => Err(Fault::Refused(refused.why)),
     }
 }
 
@@ -99,6 +100,7 @@ fn print_ran_image<'a>(
         image,
         answers,
         whole,
+        shown: _,
     } = ran;
     let mut image = image;
     let leftover = match run.out {

@@ -1,5 +1,5 @@
-//! Volumes of any size for tests: mounted, called, saved and mounted again; a writer that fails; and
-//! in `refused` what a program needs that runs while memory is refused. No function here promises
+//! Volumes of any size for tests, mounted; a writer that fails; and in `refused` what a program needs
+//! that runs while memory is refused. No function here promises
 //! anything, so that no test reads the contracts of these calls again: what a test finds out, it
 //! compares with values that were written by hand.
 #![tactic(auto)]
@@ -8,5 +8,5 @@ pub mod refused;
 mod volumes;
 mod writers;
 
-pub use crate::volumes::{mounted, mounted_again, reply_to, small_volume};
+pub use crate::volumes::mounted;
 pub use crate::writers::LimitedWriter;

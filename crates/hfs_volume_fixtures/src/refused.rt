@@ -7,5 +7,5 @@ mod images;
 mod text;
 
 pub use crate::refused::calls::call_of;
-pub use crate::refused::images::{Edit, has_bytes, image_with, mounted, put};
+pub use crate::refused::images::{Edit, has_bytes, image_with, mounted};
 pub use crate::refused::text::{input, split_at};

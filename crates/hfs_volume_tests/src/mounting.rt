@@ -4,36 +4,35 @@ use hfs_volume::{Refused, mount, mount_repaired};
 use std::alloc::{AllocError, Global};
 use std::test::Fail;
 
-/// Whether an image was refused for this fault, and is handed back as it was.
-fn is_for(refused: &Refused, given: &[u8], fault: MountFault) -> bool {
-    refused.fault == fault && refused.image.as_slice() == given
+/// The refusal of an image that isn't mounted.
+fn refusal_of(alloc: Global, image: Vec<u8>) -> Option<Refused> {
+    match mount(alloc, image) {
+        Ok(_volume) => None,
+        Err(refused) => Some(refused),
+    }
+}
+
+/// The refusal of one that isn't mounted with its counts mended either.
+fn refusal_in_repair(alloc: Global, image: Vec<u8>) -> Option<Refused> {
+    match mount_repaired(alloc, image) {
+        Ok(_mended) => None,
+        Err(refused) => Some(refused),
+    }
 }
 
 /// Whether an image is refused for this fault, and handed back as it was.
-fn has_fault(alloc: Global, image: &[u8], fault: MountFault) -> Result<bool, AllocError> {
-    match mount(alloc, Vec::from_slice(alloc, image)?) {
-        Ok(_volume) => Ok(false),
-        Err(refused) => Ok(is_for(&refused, image, fault)),
+fn is_for(refused: Option<Refused>, given: &[u8], fault: MountFault) -> bool {
+    match refused {
+        Some(refused) => refused.fault == fault && refused.image.as_slice() == given,
+        None => false,
     }
 }
 
-/// Whether an image is refused for this fault with its counts mended too, and handed back as it was.
-fn has_fault_in_repair(alloc: Global, image: &[u8], fault: MountFault) -> Result<bool, AllocError> {
-    match mount_repaired(alloc, Vec::from_slice(alloc, image)?) {
-        Ok(_mended) => Ok(false),
-        Err(refused) => Ok(is_for(&refused, image, fault)),
-    }
-}
-
-/// Whether an image is refused for this fault, and with its counts mended too, and handed back as it was both times.
-fn is_refused(alloc: Global, image: &[u8], fault: MountFault) -> Result<bool, AllocError> {
-    Ok(has_fault(alloc, image, fault)? && has_fault_in_repair(alloc, image, fault)?)
-}
-
-/// Whether so many bytes of 0 are refused for this fault.
+/// Whether so many bytes of 0 are refused for this fault both times, and handed back as they were.
 fn are_zeros_refused(alloc: Global, len: usize, fault: MountFault) -> Result<bool, AllocError> {
     let zeros = vec![in alloc; 0u8; len]?;
-    is_refused(alloc, &zeros, fault)
+    let is_refused = is_for(refusal_of(alloc, zeros.clone()?), &zeros, fault);
+    Ok(is_refused && is_for(refusal_in_repair(alloc, zeros.clone()?), &zeros, fault))
 }
 
 #[test]

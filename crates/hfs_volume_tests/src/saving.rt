@@ -6,8 +6,6 @@ use hfs_blocks::Patch;
 use hfs_volume::{Image, SaveFault};
 use hfs_volume_fixtures::LimitedWriter;
 use std::alloc::{AllocError, Global};
-use std::io;
-use std::io::Write;
 use std::process::Abort;
 use std::test::Fail;
 
@@ -105,48 +103,4 @@ fn expect_fronts(rt: &impl Abort, alloc: Global, image: &mut Image) -> Result<()
 fn a_writer_that_fails_has_the_first_bytes(rt: HostRuntime) -> Result<(), Fail> {
     let mut image = pattern_image(rt.alloc(), 2660)?;
     expect_fronts(&rt, rt.alloc(), &mut image)
-}
-
-/// Takes a byte at a time, and none after some.
-#[derive(Drop)]
-struct StoppingWriter {
-    taken: usize,
-    left: usize,
-}
-
-impl Write for StoppingWriter {
-    fn write(&mut self, bytes: &[u8]) -> io::Result<usize> {
-        let count = bytes.len().min(self.left).min(1);
-        self.taken = self.taken.saturating_add(count);
-        self.left -= count;
-        Ok(count)
-    }
-
-    fn flush(&mut self) -> io::Result<()> {
-        Ok(())
-    }
-}
-
-/// Whether a writer that takes no more after so many bytes got exactly these, and so many are told.
-fn is_stopped(image: &Image, left: usize) -> bool {
-    let mut writer = StoppingWriter { taken: 0, left };
-    match image.save(&mut writer) {
-        Ok(()) => false,
-        Err(fault) => fault.written == left as u64 && writer.taken == left,
-    }
-}
-
-/// Changes three blocks, and wants a writer that takes no more to be left after each byte.
-fn expect_stopped(rt: &impl Abort, alloc: Global, image: &mut Image) -> Result<(), Fail> {
-    change(alloc, image, [7, 8, 9])?;
-    for left in 0..2660 {
-        assert!(rt; is_stopped(image, left), "after {left}");
-    }
-    Ok(())
-}
-
-#[test]
-fn a_writer_that_takes_no_more_is_left(rt: HostRuntime) -> Result<(), Fail> {
-    let mut image = pattern_image(rt.alloc(), 2660)?;
-    expect_stopped(&rt, rt.alloc(), &mut image)
 }

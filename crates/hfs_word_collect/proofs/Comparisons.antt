@@ -1,14 +1,19 @@
 -- What was asked of the database, and what is told of a file by it.
-use Rattle.std.proofs.Common.{◌≡◌, refl, ℕ, List, Option, Some, None, Result, Ok, Err}
-use Rattle.std.specs.Prelude.{IfOk}
+use Rattle.std.proofs.Common.{◌≡◌, ◌≢◌, ◌∙◌, ◌⊎◌, inl, inr, refl, sym, ap, ℕ, Bool, true, false, cond, List, length, Option, Some, None, Result, Ok, Err}
+use Rattle.std.specs.Prelude.{IfOk, ◌&&◌, ◌==◌, is_some, nat_eq, String, string_bytes}
+use Rattle.hex.specs.Hex.{encode_lower}
+use Rattle.sha2.specs.Sha256.{sha256}
+use Rattle.std.specs.Cmp.Lexicographic.{pointwise}
+use Rattle.std.proofs.Math.Logic.{∥∥₁_map}
 use Rattle.sqlite.specs.State.{State}
+use Rattle.hfs_contents.specs.Failing.{SomeFail}
+use Rattle.hfs_source.specs.Images.{FailsWhere, OfEach}
 use Rattle.hfs_database.specs.Asking.{IsKnown}
-use Rattle.hfs_database.specs.Comparing.{comparison}
+use Rattle.hfs_database.specs.Comparing.{by_digest, comparison, needs_digest}
 use Rattle.hfs_database.specs.declared.comparing.Comparison.{Comparison}
-use Rattle.hfs_database.specs.declared.comparing.Comparison.TheVariants.{Missing, New}
+use Rattle.hfs_database.specs.declared.comparing.Comparison.TheVariants.{Changed, Missing, New, Same}
 use Rattle.hfs_database.specs.declared.comparing.KnownImage.{KnownImage}
-use Rattle.hfs_needed.specs.Known.{OfKnown}
-use Rattle.hfs_word_collect.specs.Comparing.{IsAsked, IsCompared, IsComparedIn, IsComparison}
+use Rattle.hfs_word_collect.specs.Comparing.{IsAsked, IsCompared, IsComparedIn, IsComparison, IsReadUnless}
 
 -- a length and a digest tell it
 pub told_by : (known : KnownImage) (found : Comparison) (len : ℕ) (digits : List ℕ) → found ≡ comparison known len digits → IsComparison known found
@@ -21,13 +26,15 @@ told_missing known = λ read. absurd (read refl)
 pub asked_missing : (old new : State) (path : List ℕ) → IsAsked old new path Missing
 asked_missing old new path = λ read. absurd (read refl)
 
+pub compared_missing : (old new : State) (path file : List ℕ) → IsComparedIn old new path Missing file
+compared_missing old new path file = λ read. absurd (read refl)
+
 -- the database has no row of the path
 pub asked_new : (old new : State) (path : List ℕ) → IsKnown old new path None → IsAsked old new path New
 asked_new old new path known = λ read. ∣ (None, known, refl) ∣₁
 
-pub compared_new : (bytes : Option (List ℕ)) (len : ℕ) (old new : State) (path : List ℕ) → IsKnown old new path None → OfKnown bytes len (IsComparedIn old new path New)
-compared_new None len old new path known = tt
-compared_new (Some file) len old new path known = λ whole read. ∣ (None, known, refl) ∣₁
+pub compared_new : (old new : State) (path file : List ℕ) → IsKnown old new path None → IsComparedIn old new path New file
+compared_new old new path file known = λ read. ∣ (None, known, refl) ∣₁
 
 -- the database has this row of it
 pub asked_known : {E : Type 0} (result : Result Comparison E) (old new : State) (path : List ℕ) (known : KnownImage) → IsKnown old new path (Some known)
@@ -35,8 +42,67 @@ pub asked_known : {E : Type 0} (result : Result Comparison E) (old new : State) 
 asked_known (Ok found) old new path known is told = λ read. ∣ (Some known, is, told) ∣₁
 asked_known (Err why) old new path known is told = tt
 
-pub compared_known : {E : Type 0} (result : Result Comparison E) (bytes : Option (List ℕ)) (len : ℕ) (old new : State) (path : List ℕ) (known : KnownImage) → IsKnown old new path (Some known)
-    → IfOk result (λ found. OfKnown bytes len (IsCompared known found)) → IfOk result (λ found. OfKnown bytes len (IsComparedIn old new path found))
-compared_known (Ok found) None len old new path known is told = tt
-compared_known (Ok found) (Some file) len old new path known is told = λ whole read. ∣ (Some known, is, told whole) ∣₁
-compared_known (Err why) bytes len old new path known is told = tt
+pub compared_known : {E : Type 0} (result : Result Comparison E) (Holds : List ℕ → Type 0) (old new : State) (path : List ℕ) (known : KnownImage) → IsKnown old new path (Some known)
+    → IfOk result (λ found. OfEach Holds (IsCompared known found)) → IfOk result (λ found. OfEach Holds (IsComparedIn old new path found))
+compared_known (Ok found) Holds old new path known is told = λ file holds read. ∣ (Some known, is, told file holds) ∣₁
+compared_known (Err why) Holds old new path known is told = tt
+
+-- ---- by its bytes
+
+unneeded : {Z : Type 0} (t : Bool) (digest : Option (String Z)) (a b : List ℕ) → (t && is_some digest) ≡ false
+    → cond t (by_digest digest a) Changed ≡ cond t (by_digest digest b) Changed
+unneeded true None a b needs = refl
+unneeded true (Some known) a b needs = cc
+unneeded false digest a b needs = refl
+
+-- where its digest isn't needed, any digits do
+pub compared_unread : (known : KnownImage) (found : Comparison) (len : ℕ) (digits file : List ℕ) → found ≡ comparison known len digits → needs_digest known len ≡ false → length file ≡ len
+    → IsCompared known found file
+compared_unread known found len digits file is needs long = λ read.
+    is ∙ unneeded (known.bytes == len) known.digest digits (encode_lower (sha256 file)) needs ∙ ap (λ n. comparison known n (encode_lower (sha256 file))) (sym long)
+
+pub compared_missing_of : (known : KnownImage) (file : List ℕ) → IsCompared known Missing file
+compared_missing_of known file = λ read. absurd (read refl)
+
+-- by its digest
+pub compared_read : (known : KnownImage) (found : Comparison) (len : ℕ) (digits file : List ℕ) → found ≡ comparison known len digits → digits ≡ encode_lower (sha256 file) → length file ≡ len
+    → IsCompared known found file
+compared_read known found len digits file is told long = λ read. is ∙ (λ i. comparison known (sym long i) (told i))
+
+-- ---- what was read
+
+-- of a file that was read
+matched : (t : Bool) → cond t Same Changed ≡ Missing → ⊥
+matched true is = cc
+matched false is = cc
+
+digested : {Z : Type 0} (digest : Option (String Z)) (digits : List ℕ) → by_digest digest digits ≡ Missing → ⊥
+digested None digits is = cc
+digested (Some known) digits is = matched (pointwise nat_eq (string_bytes known) digits) is
+
+measured : {Z : Type 0} (t : Bool) (digest : Option (String Z)) (digits : List ℕ) → cond t (by_digest digest digits) Changed ≡ Missing → ⊥
+measured true digest digits is = digested digest digits is
+measured false digest digits is = cc
+
+pub read_by : (known : KnownImage) (found : Comparison) (len : ℕ) (digits : List ℕ) → found ≡ comparison known len digits → found ≢ Missing
+read_by known found len digits is = λ missing. measured (known.bytes == len) known.digest digits (sym is ∙ missing)
+
+pub new_read : New ≢ Missing
+new_read = λ is. cc
+
+pub known_read : (Holds : List ℕ → Type 0) (Fails : ℕ → ℕ → Type 0) (found : Comparison) → found ≢ Missing → IsReadUnless Holds Fails found
+known_read Holds Fails found read = inl read
+
+-- of one that wasn't
+pub unread_missing : (Holds : List ℕ → Type 0) (Fails : ℕ → ℕ → Type 0) → SomeFail Holds Fails → IsReadUnless Holds Fails Missing
+unread_missing Holds Fails some = inr some
+
+-- a read that may fail later might have failed before
+fails-before : (Holds : List ℕ → Type 0) (Later Before : ℕ → ℕ → Type 0) → FailsWhere Later Before → SomeFail Holds Later → SomeFail Holds Before
+fails-before Holds Later Before later some = ∥∥₁_map some (λ it. (it.0, it.1, it.2, later it.0 it.1 it.3))
+
+pub read_before : {E : Type 0} (result : Result Comparison E) (Holds : List ℕ → Type 0) (Later Before : ℕ → ℕ → Type 0) → FailsWhere Later Before → IfOk result (IsReadUnless Holds Later)
+    → IfOk result (IsReadUnless Holds Before)
+read_before (Ok found) Holds Later Before later (inl read) = inl read
+read_before (Ok found) Holds Later Before later (inr some) = inr (fails-before Holds Later Before later some)
+read_before (Err why) Holds Later Before later told = tt

@@ -1,5 +1,5 @@
 -- Images beside what a collection has of them.
-use Rattle.std.specs.Prelude.{◌≡◌, ◌≢◌, ℕ, List, length, Option, Some, None}
+use Rattle.std.specs.Prelude.{◌≡◌, ◌≢◌, ◌⊎◌, ℕ, List, length, Option, Some, None}
 use Rattle.hex.specs.Hex.{encode_lower}
 use Rattle.sha2.specs.Sha256.{sha256}
 use Rattle.hfs_database.specs.declared.comparing.Comparison.{Comparison}
@@ -8,6 +8,7 @@ use Rattle.hfs_database.specs.Asking.{IsKnown}
 use Rattle.hfs_database.specs.declared.comparing.Comparison.TheVariants.{Missing, New}
 use Rattle.hfs_database.specs.declared.comparing.KnownImage.{KnownImage}
 use Rattle.hfs_database.specs.Comparing.{comparison}
+use Rattle.hfs_contents.specs.Failing.{SomeFail}
 
 -- a file with these bytes is told of by its length and its digest, unless it could not be read
 abbrev pub IsCompared : KnownImage → Comparison → List ℕ → Type 0
@@ -34,3 +35,7 @@ IsComparedTo None found file = found ≡ New
 -- the database was asked for the image of this path, and a file with these bytes stands so to what it has
 abbrev pub IsComparedIn : State → State → List ℕ → Comparison → List ℕ → Type 0
 IsComparedIn old new path found file = found ≢ Missing → ∥ ((known : Option KnownImage) × IsKnown old new path known × IsComparedTo known found file) ∥₁
+
+-- the file was read, or some read of its bytes may fail
+abbrev pub IsReadUnless : (List ℕ → Type 0) → (ℕ → ℕ → Type 0) → Comparison → Type 0
+IsReadUnless Holds Fails found = (found ≢ Missing) ⊎ SomeFail Holds Fails

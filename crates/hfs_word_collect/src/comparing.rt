@@ -1,31 +1,35 @@
 //! Images beside what the database has of them.
-ghost use Rattle.std.specs.Prelude.{◌≡◌, IfOk, IfSome, string_bytes};
+ghost use Rattle.std.specs.Prelude.{◌≡◌, ◌≢◌, IfNone, IfOk, IfSome, OnErr, string_bytes};
 ghost use Rattle.hex.specs.Hex.{encode_lower};
 ghost use Rattle.sha2.specs.Sha256.{sha256};
 ghost use Rattle.sqlite.specs.Held.{state};
-ghost use Rattle.hfs_needed.specs.Known.{OfKnown};
-ghost use Rattle.hfs_word_collect.specs.Comparing.{IsAsked, IsCompared, IsComparedIn, IsComparison};
+ghost use Rattle.hfs_contents.specs.Failing.{SomeFail};
+ghost use Rattle.hfs_database.specs.Comparing.{comparison};
+ghost use Rattle.hfs_database.specs.declared.comparing.Comparison.TheVariants.{Missing};
+ghost use Rattle.hfs_source.specs.Images.{FailsWhere, OfEach};
+ghost use Rattle.hfs_word_collect.specs.Comparing.{IsAsked, IsCompared, IsComparedIn, IsComparison, IsReadUnless};
 
 use crate::fault::RunFault;
 use crate::files::FileByPath;
-use crate::watched::ReadWatch;
-use hfs_collection::{ImageFile, file_digest};
-use hfs_containers::ReadAt;
+use crate::watched::{ReadWatch, WatchedFile};
+use hfs_collection::ImageFile;
+use hfs_contents::file_digest;
 use hfs_database::{Collection, Comparison, KnownImage, known_image};
+use hfs_source::PlacedBytes;
 use sqlite::Alter;
 use std::alloc::Global;
+use std::io;
 use std::rt::Files;
 
-/// The hexadecimal digits of the digest of a file of `len` bytes. None where a read fails.
-fn file_digits<S: ReadAt>(
-    alloc: Global,
-    source: &mut S,
-    len: u64,
-) -> Result<Option<String>, RunFault>
-    ensures { IfOk result (λ found. IfSome found (λ digits. OfKnown (S.known source.old) len
+/// The hexadecimal digits of the digest of an image. None where a read fails.
+fn image_digits<S: PlacedBytes>(alloc: Global, source: &mut S) -> Result<Option<String>, RunFault>
+    ensures digits { IfOk result (λ found. IfSome found (λ digits. OfEach (S.Holds source.new)
         (λ file. string_bytes digits ≡ encode_lower (sha256 file)))) }
+    ensures none { IfOk result (λ found. IfNone found
+        (SomeFail (S.Holds source.new) (S.Fails source.old))) }
+    ensures held { OfEach (S.Holds source.new) (S.Holds source.old) }
 {
-    let Ok(digest) = file_digest(source, len) else {
+    let Ok(digest) = file_digest(source) else {
         return Ok(None);
     };
     match hex::encode(alloc, digest.as_slice()) {
@@ -34,73 +38,106 @@ fn file_digits<S: ReadAt>(
     }
 }
 
-/// How a file of `len` bytes stands to what the database has of it. It is read where its digest is needed; where a read fails, it
-/// is missing. The only fault is `NoMemory`.
-#[tactic(auto, using(crate::proofs::Comparisons::told_by, crate::proofs::Comparisons::told_missing))]
-pub fn compare_known<S: ReadAt>(
+/// How an image of `len` bytes stands to what the database has of it, by the digits of its digest; where these aren't needed, any do.
+fn told_by(known: &KnownImage, len: u64, digits: &str) -> Comparison
+    ensures told { result ≡ comparison known.now len digits.now }
+    ensures read { result ≢ Missing }
+{
+    known.compared(len, digits)
+}
+
+/// How an image stands to what the database has of it. It is read where its digest is needed; where a read fails, it is missing. The
+/// only fault is `NoMemory`.
+#[tactic(auto, using(crate::proofs::Comparisons::told_by, crate::proofs::Comparisons::told_missing, crate::proofs::Comparisons::compared_missing_of, crate::proofs::Comparisons::compared_unread, crate::proofs::Comparisons::compared_read, crate::proofs::Comparisons::known_read, crate::proofs::Comparisons::unread_missing))]
+pub fn compare_known<S: PlacedBytes>(
     alloc: Global,
     source: &mut S,
-    len: u64,
     known: &KnownImage,
 ) -> Result<Comparison, RunFault>
-    ensures compared { IfOk result (λ found. OfKnown (S.known source.old) len (IsCompared known.now found)) }
+    ensures compared { IfOk result (λ found. OfEach (S.Holds source.new)
+        (IsCompared known.now found)) }
     ensures comparison { IfOk result (IsComparison known.now) }
+    ensures read { IfOk result (IsReadUnless (S.Holds source.new) (S.Fails source.old)) }
+    ensures held { OfEach (S.Holds source.new) (S.Holds source.old) }
 {
+    let len = source.len();
     if !known.needs_digest(len) {
-        return Ok(known.compared(len, ""));
+        return Ok(told_by(known, len, ""));
     }
-    match file_digits(alloc, source, len)? {
-        Some(digits) => Ok(known.compared(len, digits.as_str())),
+    match image_digits(alloc, source)? {
+        Some(digits) => Ok(told_by(known, len, digits.as_str())),
         None => Ok(Comparison::Missing),
     }
 }
 
-/// How a file of `len` bytes stands to what the database has of this path: `New` where it has no row of it, else by its length and its
-/// digest; `Missing` where a read fails. Faults: `CannotWrite` where the database can't be read, `NoMemory`.
-#[tactic(auto, using(crate::proofs::Comparisons::asked_known, crate::proofs::Comparisons::asked_new, crate::proofs::Comparisons::compared_known, crate::proofs::Comparisons::compared_new))]
-pub fn compare_file<D: Alter + Drop, S: ReadAt>(
+/// How an image stands to what the database has of this path: `New` where it has no row of it, else by its length and its digest;
+/// `Missing` where a read fails. Faults: `CannotWrite` where the database can't be read, `NoMemory`.
+#[tactic(auto, using(crate::proofs::Comparisons::asked_known, crate::proofs::Comparisons::asked_new, crate::proofs::Comparisons::compared_known, crate::proofs::Comparisons::compared_new, crate::proofs::Comparisons::known_read, crate::proofs::Comparisons::new_read))]
+pub fn compare_file<D: Alter + Drop, S: PlacedBytes>(
     alloc: Global,
     collection: &mut Collection<D>,
     path: &str,
     source: &mut S,
-    len: u64,
 ) -> Result<Comparison, RunFault>
     ensures asked { IfOk result (IsAsked (state D.Store collection.old.conn)
         (state D.Store collection.new.conn) path.now) }
-    ensures compared { IfOk result (λ found. OfKnown (S.known source.old) len (IsComparedIn
+    ensures compared { IfOk result (λ found. OfEach (S.Holds source.new) (IsComparedIn
         (state D.Store collection.old.conn) (state D.Store collection.new.conn) path.now found)) }
+    ensures read { IfOk result (IsReadUnless (S.Holds source.new) (S.Fails source.old)) }
+    ensures held { OfEach (S.Holds source.new) (S.Holds source.old) }
 {
     match known_image(collection, path)? {
-        Some(known) => compare_known(alloc, source, len, &known),
+        Some(known) => compare_known(alloc, source, &known),
         None => Ok(Comparison::New),
     }
 }
 
-/// Whether the first byte of a file of `len` bytes can be read, where it has any.
-fn is_readable<S: ReadAt>(source: &mut S, len: u64) -> bool {
-    len == 0 || source.read_at(0, &mut [0; 1]).is_ok()
+/// Reads the first byte of an image, where it has any.
+fn read_first<S: PlacedBytes>(source: &mut S) -> io::Result<()>
+    ensures held { OfEach (S.Holds source.new) (S.Holds source.old) }
+    ensures fails { OnErr result (SomeFail (S.Holds source.new) (S.Fails source.old)) }
+    ensures later { FailsWhere (S.Fails source.new) (S.Fails source.old) }
+{
+    if source.len() == 0 {
+        return Ok(());
+    }
+    let mut first = [0; 1];
+    source.read_at(0, &mut first)?;
+    Ok(())
 }
 
-/// How the image of this path stands to what the database has of it, as [`compare_file`] says; `Missing` also where it can't be opened, and then the
-/// database isn't asked.
-#[tactic(auto, using(crate::proofs::Comparisons::asked_missing))]
-pub fn compare_image<D: Alter + Drop, R: Files + AllocGlobal, W: ReadWatch>(
-    rt: &R,
+/// How an image that was opened stands to what the database has of its path, as [`compare_file`] says; `Missing` also where its first byte can't be
+/// read, and then the database isn't asked. It is said of each image that has the bytes which were read.
+#[tactic(auto, using(crate::proofs::Comparisons::asked_missing, crate::proofs::Comparisons::compared_missing, crate::proofs::Comparisons::unread_missing, crate::proofs::Comparisons::read_before))]
+pub fn compare_image<D: Alter + Drop, S: PlacedBytes>(
+    alloc: Global,
     collection: &mut Collection<D>,
     path: &str,
-    watch: &W,
+    source: &mut S,
 ) -> Result<Comparison, RunFault>
-    ensures { IfOk result (IsAsked (state D.Store collection.old.conn)
+    ensures asked { IfOk result (IsAsked (state D.Store collection.old.conn)
         (state D.Store collection.new.conn) path.now) }
+    ensures compared { IfOk result (λ found. OfEach (S.Holds source.new) (IsComparedIn
+        (state D.Store collection.old.conn) (state D.Store collection.new.conn) path.now found)) }
+    ensures read { IfOk result (IsReadUnless (S.Holds source.new) (S.Fails source.old)) }
+    ensures held { OfEach (S.Holds source.new) (S.Holds source.old) }
 {
-    let file = FileByPath { rt, path, watch };
-    let Ok(mut source) = file.open() else {
+    let Ok(()) = read_first(source) else {
         return Ok(Comparison::Missing);
     };
-    let len = source.file.len();
-    if !is_readable(&mut source, len) {
-        return Ok(Comparison::Missing);
-    }
-    watch.opened(len);
-    compare_file(rt.alloc(), collection, path, &mut source, len)
+    compare_file(alloc, collection, path, source)
+}
+
+/// Opens the image of this path, whose length is told to the watch. None where it can't be opened, or not be sought in.
+pub fn open_image<'a, R: Files + AllocGlobal, W: ReadWatch>(
+    rt: &'a R,
+    path: &'a str,
+    watch: &'a W,
+) -> Option<WatchedFile<'a, R::File, W>> {
+    let file = FileByPath { rt, path, watch };
+    let Ok(source) = file.open() else {
+        return None;
+    };
+    watch.opened(source.file.len());
+    Some(source)
 }

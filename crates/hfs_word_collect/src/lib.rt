@@ -10,7 +10,7 @@ mod watched;
 mod writing;
 
 pub use crate::collecting::{collect_file, collect_image, put_image};
-pub use crate::comparing::{compare_file, compare_image, compare_known};
+pub use crate::comparing::{compare_file, compare_image, compare_known, open_image};
 pub use crate::fault::RunFault;
 pub use crate::files::{FileByPath, can_open_database};
 pub use crate::lines::{comparison_line, image_line};

@@ -1,5 +1,5 @@
 -- The working blocks, where the needed ones were read and then the files of both trees.
-use Rattle.std.proofs.Common.{◌≡◌, ℕ, ◌/◌, ◌<◌, Bool, true, List, ◌∷◌, ◌++◌, map, Option, Some, None, IsSome, refl, sym, ap, subst, ◌∙◌}
+use Rattle.std.proofs.Common.{◌≡◌, ℕ, ◌/◌, ◌<◌, Bool, true, List, ◌∷◌, ◌++◌, Option, Some, None, IsSome, refl, sym, ap, subst, ◌∙◌}
 use Rattle.std.specs.Prelude.{◌-◌}
 use Rattle.std.specs.List.{flat_map}
 use Rattle.std.specs.Option.{is_none}
@@ -26,7 +26,7 @@ use Rattle.hfs_working.specs.declared.opening.WorkingVolume.{WorkingVolume}
 use Rattle.hfs_working.specs.Opened.{LieWithin, IsWorking, IsWorkingOf, IsCopyOf}
 use Rattle.hfs_volume.specs.Image.{copy_of}
 use Rattle.hfs_working.specs.Working.{working_blocks, HasWorking}
-use Rattle.hfs_working.proofs.Copies.{copy-sound, is-copy, directory-copy, trees-copy}
+use Rattle.hfs_working.proofs.Copies.{copy-sound, is-copy}
 use Rattle.hfs_working.proofs.SameTrees.{trees-same}
 
 -- trees that were found lie among the volume's blocks

@@ -6,6 +6,8 @@ ghost use Rattle.hfs_blocks.specs.Layers.{KeepsWithin};
 ghost use Rattle.hfs_check.specs.declared.mount_fault.MountFault.{MountFault};
 ghost use Rattle.hfs_check.specs.Sound.{IsSound};
 ghost use Rattle.hfs_needed.specs.Opened.{AreRefusedFor, IsRefusedFor};
+ghost use Rattle.hfs_source.specs.Images.{OfEach};
+ghost use Rattle.hfs_sparse.specs.Seen.{EachKnown, IsSeen, SeesMore};
 ghost use Rattle.hfs_sparse.specs.Sparse.{HasEach, HasGrown, StaysOf};
 ghost use Rattle.hfs_volume.specs.Image.{copy_of};
 ghost use Rattle.hfs_working.specs.Opened.{IsCopyOf, IsWorkingOf, LieWithin};
@@ -50,6 +52,7 @@ fn read_trees<S: BlockSource>(
     ensures within { (total : ℕ) → LieWithin total trees.now
         → KeepsWithin read.old read.new total }
     ensures image { S.image source.new ≡ S.image source.old }
+    ensures sees { SeesMore (S.Holds source.old) (S.Holds source.new) read.old read.new }
 {
     fetch_runs(source, read, &trees.extents)?;
     fetch_runs(source, read, &trees.catalog)?;
@@ -66,6 +69,10 @@ fn open_blocks<S: BlockSource>(
     ensures opened { IfOk result (IsWorkingOf (S.image source.old) count) }
     ensures refused { IfErr result (λ fault. AreRefusedFor (S.image source.old) count fault) }
     ensures image { S.image source.new ≡ S.image source.old }
+    ensures seen { IfOk result (λ volume. IsSeen (S.Holds source.new) volume.read) }
+    ensures each_refused { IfErr result (λ fault. EachKnown (S.Holds source.new)
+        (λ known. AreRefusedFor known count fault)) }
+    ensures narrows { OfEach (S.Holds source.new) (S.Holds source.old) }
 {
     let mut read = match gather_needed(alloc, source, count) {
         Ok(read) => read,
@@ -83,8 +90,8 @@ fn open_blocks<S: BlockSource>(
 }
 
 /// Reads the working blocks of an image of `len` bytes, and makes all checks: the blocks that the checks need, and the free nodes of both trees.
-/// What was read, with zeros elsewhere, is sound, and is a copy of the image over which calls can be made. Errors: a read failed, memory
-/// was refused, or the image is refused.
+/// What was read, with zeros elsewhere, is sound, and is a copy of the image over which calls can be made; it is of each image that has the
+/// bytes which were read. Errors: a read failed, memory was refused, or the image is refused.
 pub fn open_working<S: BlockSource>(
     alloc: Global,
     source: &mut S,
@@ -96,6 +103,10 @@ pub fn open_working<S: BlockSource>(
     ensures copy { IfOk result (IsCopyOf (S.image source.old) len) }
     ensures refused { IfErr result (λ fault. IsRefusedFor (S.image source.old) len fault) }
     ensures image { S.image source.new ≡ S.image source.old }
+    ensures seen { IfOk result (λ volume. IsSeen (S.Holds source.new) volume.read) }
+    ensures each_refused { IfErr result (λ fault. EachKnown (S.Holds source.new)
+        (λ known. IsRefusedFor known len fault)) }
+    ensures narrows { OfEach (S.Holds source.new) (S.Holds source.old) }
 {
     if len > 2_147_483_648 {
         return Err(NeededFault::Refused(MountFault::TooLarge));

@@ -15,11 +15,6 @@ pub struct Edit<'a> {
     pub bytes: &'a [u8],
 }
 
-/// Other bytes in a block of an image, from byte `at` on.
-pub fn put(block: usize, at: usize, bytes: &[u8]) -> Edit<'_> {
-    Edit { block, at, bytes }
-}
-
 /// The image of the volume with the folder `d`, and in it the file `f`, with these bytes in place of its own.
 pub fn image_with(alloc: Global, edits: &[Edit<'_>]) -> Result<Vec<u8>, FixtureFault> {
     let mut image = tiny_image(alloc)?;

@@ -1,13 +1,11 @@
-use Rattle.std.proofs.Common.{◌≡◌, Some, inl, inr}
-use Rattle.hfs_check.specs.Faults.{fault_of}
-use Rattle.hfs_repair.specs.Repair.{repair}
+use Rattle.std.proofs.Common.{Option, string_bytes, subst, sym}
+use Rattle.hfs_check.specs.declared.mount_fault.MountFault.{MountFault}
+use Rattle.hfs_commands.specs.Repairs.{IsMendedText}
+use Rattle.hfs_commands.proofs.RepairLemmas.{refused_told, sound_told}
 use Rattle.hfs_commands.proofs.repairing.repair_answer.Goals as goal
 
-pub returns : goal.returns
-returns c =
-    let fault : fault_of (repair c.args.image.items) ≡ Some c.in-Err.refused.fault =
-    elim c.in-Err.ensures.fault [
-      | inl memory ↦ absurd (c.in_default.not-Memory memory)
-      | inr e ↦ e
-    ] in
-    c.refused_answer.ensures c.args.image.items fault
+pub returns-in-Some-clause-told : goal.returns-in-Some-clause-told
+returns-in-Some-clause-told g c = λ image held long.
+    let told = subst (λ (f : Option MountFault). IsMendedText c.deref.result.now f (c.in-Ok.status, c.in-Ok.lines)) c.in-Some.is c.in-Ok.ensures in
+    refused_told image c.in_ok-patch.field-0.patch c.in_ok-patch.field-0.fixes.items c.in_ok-patch.field-0.fault c.in-Some.why c.in-Ok.status
+    (string_bytes c.in-Ok.lines) c.in-Some.is (c.in_ok-patch.ensures.mended image held long) told.0 told.1

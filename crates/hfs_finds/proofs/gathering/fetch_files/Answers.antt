@@ -6,6 +6,7 @@ use Rattle.hfs_rescue.specs.TreeFiles.{file_blocks}
 use Rattle.hfs_sparse.specs.Sparse.{sparse}
 use Rattle.hfs_needed.proofs.Gathered.{reads-on}
 use Rattle.hfs_finds.proofs.GatherLemmas.{elsewhere-read, files-read}
+use Rattle.hfs_sparse.proofs.Seen.{sees_on}
 use Rattle.hfs_finds.proofs.gathering.fetch_files.Goals as goal
 
 pub returns-in-Ok-is_elsewhere-clause-has : goal.returns-in-Ok-is_elsewhere-clause-has
@@ -29,3 +30,12 @@ pub returns-in-Ok-is_elsewhere-clause-reads : goal.returns-in-Ok-is_elsewhere-cl
 returns-in-Ok-is_elsewhere-clause-reads g c =
     reads-on (g.S.BlockSource.image c.args.source.now) (g.S.BlockSource.image c.fetch_extents.new.source) c.args.count c.args.read.now c.fetch_extents.new.read
     c.fetch_file.new.read c.in_ok-extents.ensures.image c.in_ok-extents.ensures.reads c.in_ok-fetch_file.ensures.reads
+
+pub returns-in_err-fetch_file-clause-sees : goal.returns-in_err-fetch_file-clause-sees
+returns-in_err-fetch_file-clause-sees g c = sees_on c.in_ok-extents.ensures.sees c.in_err-fetch_file.ensures.sees
+
+pub returns-in-Ok-is_elsewhere-clause-sees : goal.returns-in-Ok-is_elsewhere-clause-sees
+returns-in-Ok-is_elsewhere-clause-sees g c = sees_on c.in_ok-extents.ensures.sees c.in_ok-fetch_file.ensures.sees
+
+pub returns-clause-sees : goal.returns-clause-sees
+returns-clause-sees g c = sees_on c.in_ok-extents.ensures.sees c.in_ok-fetch_file.ensures.sees

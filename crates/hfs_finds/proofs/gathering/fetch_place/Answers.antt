@@ -1,6 +1,7 @@
 -- The block, and then those that it names.
 use Rattle.std.proofs.Common.{◌∙◌}
 use Rattle.hfs_needed.proofs.Gathered.{reads-block, reads-on}
+use Rattle.hfs_sparse.proofs.Seen.{sees_on}
 use Rattle.hfs_finds.proofs.gathering.fetch_place.Goals as goal
 
 pub returns-clause-reads : goal.returns-clause-reads
@@ -12,3 +13,13 @@ returns-clause-reads g c =
     (reads-block image c.args.count c.args.read.now c.fetch.new.read c.args.n c.requires c.in_ok-fetch.ensures.grown c.in_ok-fetch.ensures.stays c.in_ok-fetch.ensures.within)
     c.in_ok-fetch_beginning.ensures.reads)
     c.in_ok-fetch_beginning-2.ensures.reads
+
+pub returns-in_err-fetch_beginning-clause-sees : goal.returns-in_err-fetch_beginning-clause-sees
+returns-in_err-fetch_beginning-clause-sees g c = sees_on c.in_ok-fetch.ensures.sees c.in_err-fetch_beginning.ensures.sees
+
+pub returns-in_err-fetch_beginning-2-clause-sees : goal.returns-in_err-fetch_beginning-2-clause-sees
+returns-in_err-fetch_beginning-2-clause-sees g c =
+    sees_on (sees_on c.in_ok-fetch.ensures.sees c.in_ok-fetch_beginning.ensures.sees) c.in_err-fetch_beginning-2.ensures.sees
+
+pub returns-clause-sees : goal.returns-clause-sees
+returns-clause-sees g c = sees_on (sees_on c.in_ok-fetch.ensures.sees c.in_ok-fetch_beginning.ensures.sees) c.in_ok-fetch_beginning-2.ensures.sees

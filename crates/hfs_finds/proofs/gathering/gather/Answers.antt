@@ -4,6 +4,8 @@ use Rattle.hfs_rescue.specs.Directory.{mdb_at, usual_directory}
 use Rattle.hfs_sparse.specs.Sparse.{sparse}
 use Rattle.hfs_needed.proofs.Gathered.{reads-on, reads-start}
 use Rattle.hfs_finds.proofs.GatherLemmas.{all-read, none-read, none-wants, usual-read, wants-read}
+use Rattle.hfs_sparse.proofs.Seen.{sees_on}
+use Rattle.hfs_needed.proofs.SeenStart.{seen-start}
 use Rattle.hfs_finds.proofs.gathering.gather.Goals as goal
 
 pub returns-in_default-clause-gathered : goal.returns-in_default-clause-gathered
@@ -33,3 +35,21 @@ returns-clause-gathered g c =
           ∙ (λ i. if sym (wants-read c.args.count old new grown has c.in-Some.n c.read_mdb_at-mdb.result usual fields c.in_ok-elsewhere.elsewhere c.in_ok-elsewhere.ensures.elsewhere) i
           then None else sym (usual-read c.args.count old new grown has c.in-Some.n c.read_mdb_at-mdb.result usual fields) i);
     }
+
+pub returns-in_err-fetch_places-clause-narrows : goal.returns-in_err-fetch_places-clause-narrows
+returns-in_err-fetch_places-clause-narrows g c = c.in_err-fetch_places.ensures.sees.held
+
+pub returns-in_default-clause-seen : goal.returns-in_default-clause-seen
+returns-in_default-clause-seen g c = seen-start c.new-read.ensures c.in_ok-fetch_places.ensures.sees
+
+pub returns-in_default-clause-narrows : goal.returns-in_default-clause-narrows
+returns-in_default-clause-narrows g c = c.in_ok-fetch_places.ensures.sees.held
+
+pub returns-in_err-elsewhere-clause-narrows : goal.returns-in_err-elsewhere-clause-narrows
+returns-in_err-elsewhere-clause-narrows g c = (sees_on c.in_ok-fetch_places.ensures.sees c.in_err-elsewhere.ensures.sees).held
+
+pub returns-clause-seen : goal.returns-clause-seen
+returns-clause-seen g c = seen-start c.new-read.ensures (sees_on c.in_ok-fetch_places.ensures.sees c.in_ok-elsewhere.ensures.sees)
+
+pub returns-clause-narrows : goal.returns-clause-narrows
+returns-clause-narrows g c = (sees_on c.in_ok-fetch_places.ensures.sees c.in_ok-elsewhere.ensures.sees).held

@@ -10,7 +10,6 @@ use Rattle.hfs_check.specs.Parts.{Blocks}
 use Rattle.hfs_needed.specs.Gathered.{LieAt}
 use Rattle.hfs_repair.specs.Opened.{catalog_file_of}
 use Rattle.hfs_mending.specs.Found.{has_catalog}
-use Rattle.hfs_needed.proofs.Gathered.{of-later}
 use Rattle.hfs_mending.proofs.ReadParts.{decides-no-catalog, decides-all, reads-runs, seen-is}
 use Rattle.hfs_mending.proofs.gathering.gather_catalog.Goals as goal
 
@@ -20,7 +19,7 @@ returns-in_default-found-clause-decides g c =
     let is = seen-is c.over.result.patch.now c.args.patch.now c.over.result.below.now.read.now c.args.read.now c.over.ensures.patch
     (ap (λ (v : SparseVolume). v.read.now) c.over.ensures.below ∙ c.volume.ensures.read) in
     let none : has_catalog seen c.args.mdb.now ≡ false = search rules in
-    decides-no-catalog (g.S.BlockSource.image c.args.source.now) c.args.count c.args.patch.now c.args.read.now c.args.mdb.now c.requires.of c.requires.has_mdb
+    decides-no-catalog c.args.count c.args.patch.now c.args.read.now c.args.mdb.now c.requires.has_mdb
     c.requires.has_extents c.requires.sound c.requires.is (ap (λ (b : Blocks). has_catalog b c.args.mdb.now) (sym is) ∙ none)
 
 pub returns-in_err-fetch_runs-clause-reads : goal.returns-in_err-fetch_runs-clause-reads
@@ -39,8 +38,7 @@ returns-clause-decides g c =
     (ap (λ (v : SparseVolume). v.read.now) c.over.ensures.below ∙ c.volume.ensures.read) in
     let found : (has_catalog seen c.args.mdb.now ≡ true)
     × LieAt c.over.result.below.now.count (tree_blocks c.args.mdb.now (catalog_file_of seen c.args.mdb.now) c.args.mdb.now.catalog_file_size) c.in-Some.runs.items = search rules in
-    decides-all (g.S.BlockSource.image c.args.source.now) c.args.count c.args.patch.now c.args.read.now c.fetch_runs.new.read c.args.mdb.now c.deref.result.now
-    (of-later (g.S.BlockSource.image c.args.source.now) c.args.read.now c.fetch_runs.new.read c.requires.of c.in_ok-fetch_runs.ensures.stays)
+    decides-all c.args.count c.args.patch.now c.args.read.now c.fetch_runs.new.read c.args.mdb.now c.deref.result.now
     c.in_ok-fetch_runs.ensures.grown c.requires.has_mdb c.requires.has_bitmap c.requires.has_extents c.requires.is
     (ap (flat_map run_of) c.deref.ensures.value ∙ found.1.numbers
     ∙ ap (λ (b : Blocks). tree_blocks c.args.mdb.now (catalog_file_of b c.args.mdb.now) c.args.mdb.now.catalog_file_size) is)

@@ -7,7 +7,6 @@ use Rattle.hfs_sparse.specs.Sparse.{sparse}
 use Rattle.hfs_check.specs.Faults as faults
 use Rattle.hfs_check.specs.Parts.{Blocks, mdb_in}
 use Rattle.hfs_needed.proofs.Gathered.{reads-block, reads-on}
-use Rattle.hfs_needed.proofs.Gathered.{of-later}
 use Rattle.hfs_mending.proofs.ReadParts.{decides-directory, seen-is}
 use Rattle.hfs_mending.proofs.gathering.gather_mending.Goals as goal
 
@@ -23,8 +22,7 @@ returns-then-is_some-clause-decides g c =
     let is = seen-is c.over.result.patch.now c.args.patch.now c.over.result.below.now.read.now c.fetch.new.read c.over.ensures.patch
     (ap (λ (v : SparseVolume). v.read.now) c.over.ensures.below ∙ c.volume.ensures.read) in
     let wrong : is_some (faults.mdb_fault c.args.count (mdb_in seen)) ≡ true = search rules in
-    decides-directory (g.S.BlockSource.image c.args.source.now) c.args.count c.args.patch.now c.fetch.new.read
-    (of-later (g.S.BlockSource.image c.args.source.now) c.args.read.now c.fetch.new.read c.requires.of c.in_ok-fetch.ensures.stays) c.in_ok-fetch.ensures.has
+    decides-directory c.args.count c.args.patch.now c.fetch.new.read c.in_ok-fetch.ensures.has
     (ap (λ (b : Blocks). is_some (faults.mdb_fault c.args.count (mdb_in b))) (sym is) ∙ wrong)
 
 pub returns-then-is_some-clause-reads : goal.returns-then-is_some-clause-reads

@@ -15,7 +15,7 @@ use Rattle.hfs_mending.proofs.gathering.gather_trees.Goals as goal
 pub returns-in_default-found-clause-decides : goal.returns-in_default-found-clause-decides
 returns-in_default-found-clause-decides g c =
     let none : is_tree_file c.args.mdb.now c.args.mdb.now.extents_file c.args.mdb.now.extents_file_size ≡ false = search rules in
-    decides-no-extents (g.S.BlockSource.image c.args.source.now) c.args.count c.args.patch.now c.args.read.now c.args.mdb.now c.requires.of c.requires.has_mdb
+    decides-no-extents c.args.count c.args.patch.now c.args.read.now c.args.mdb.now c.requires.has_mdb
     c.requires.sound c.requires.is none
 
 pub returns-in_err-fetch_runs-clause-reads : goal.returns-in_err-fetch_runs-clause-reads

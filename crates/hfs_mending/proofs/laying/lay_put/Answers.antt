@@ -4,7 +4,6 @@ use Rattle.std.specs.Prelude.{◌%◌, slice_set}
 use Rattle.std.proofs.lemmas.List.{length-set}
 use Rattle.hfs_sparse.specs.declared.volume.SparseVolume.{SparseVolume}
 use Rattle.hfs_needed.proofs.Gathered.{reads-block}
-use Rattle.hfs_needed.proofs.Gathered.{of-later}
 use Rattle.hfs_mending.proofs.ReadParts.{seen-is}
 use Rattle.hfs_mending.proofs.PutBlocks.{puts-byte, within-put, within-same}
 use Rattle.hfs_mending.proofs.laying.lay_put.Goals as goal
@@ -21,9 +20,9 @@ returns-in-Ok-clause-put g c =
     let lt : n < c.args.count = omega (arith, c.requires.within) in
     let seen = seen-is c.over.result.patch.now c.args.patch.now c.over.result.below.now.read.now c.fetch.new.read c.over.ensures.patch
     (ap (λ (v : SparseVolume). v.read.now) c.over.ensures.below ∙ c.volume.ensures.read) in
-    puts-byte (g.S.BlockSource.image c.args.source.now) c.args.count c.args.patch.now c.put.new.self c.fetch.new.read n c.args.put.now
+    puts-byte c.args.count c.args.patch.now c.put.new.self c.fetch.new.read n c.args.put.now
     (slice_set c.block.new.into (c.args.put.now.at % 512) c.args.put.now.byte)
-    (of-later (g.S.BlockSource.image c.args.source.now) c.args.read.now c.fetch.new.read c.requires.of c.in_ok-fetch.ensures.stays) c.in_ok-fetch.ensures.has refl lt
+    c.in_ok-fetch.ensures.has refl lt
     c.in-Ok.ensures.written
     (ap (λ (b : List ℕ). slice_set b (c.args.put.now.at % 512) c.args.put.now.byte) (c.block.ensures ∙ ap (λ (f : ℕ → List ℕ). f n) seen))
 

@@ -4,7 +4,7 @@ use Rattle.std.proofs.lemmas.List.{take_more}
 use Rattle.hfs_needed.proofs.Gathered.{reads-on}
 use Rattle.hfs_repair.specs.declared.byte_put.BytePut.{BytePut}
 use Rattle.hfs_mending.specs.Mended.{PutsBytes}
-use Rattle.hfs_mending.proofs.ReadParts.{of-source}
+use Rattle.hfs_sparse.proofs.Seen.{sees_on}
 use Rattle.hfs_mending.proofs.PutBlocks.{puts-more}
 use Rattle.hfs_mending.proofs.laying.lay_puts.Goals as goal
 
@@ -19,15 +19,17 @@ returns-in_err-lay_put-clause-reads g c =
 
 pub loop-put-preserved : goal.loop-put-preserved
 loop-put-preserved g c = record {
-  puts = subst (λ (ps : List BytePut). PutsBytes (g.S.BlockSource.image c.args.source.now) c.args.count ps [] c.lay_put.new.patch)
+  puts = subst (λ (ps : List BytePut). PutsBytes c.lay_put.new.read c.args.count ps [] c.lay_put.new.patch)
       (sym (take_more c.args.puts.now c.loop-put.put-index none c.loop-put-test.true))
-      (puts-more (g.S.BlockSource.image c.args.source.now) (g.S.BlockSource.image c.loop-put.source) c.args.count (take c.loop-put.put-index c.args.puts.now)
-      (get_or c.args.puts.now c.loop-put.put-index none ∷ []) [] c.loop-put.patch c.lay_put.new.patch c.loop-put.invariant.image
+      (puts-more c.loop-put.read c.lay_put.new.read c.args.count (take c.loop-put.put-index c.args.puts.now)
+      (get_or c.args.puts.now c.loop-put.put-index none ∷ []) [] c.loop-put.patch c.lay_put.new.patch c.in_ok-lay_put.ensures.reads.grown
       (λ before. c.loop-put.invariant.within) c.loop-put.invariant.puts c.in_ok-lay_put.ensures.put);
   within = c.in_ok-lay_put.ensures.within c.loop-put.invariant.within;
-  of = of-source (g.S.BlockSource.image c.loop-put.source) (g.S.BlockSource.image c.lay_put.new.source) c.args.count c.loop-put.read c.lay_put.new.read
-      c.in_ok-lay_put.ensures.image c.loop-put.invariant.of c.in_ok-lay_put.ensures.reads;
   reads = reads-on (g.S.BlockSource.image c.args.source.now) (g.S.BlockSource.image c.loop-put.source) c.args.count c.args.read.now c.loop-put.read
       c.lay_put.new.read c.loop-put.invariant.image c.loop-put.invariant.reads c.in_ok-lay_put.ensures.reads;
+  sees = sees_on c.loop-put.invariant.sees c.in_ok-lay_put.ensures.sees;
   image = c.in_ok-lay_put.ensures.image ∙ c.loop-put.invariant.image;
 }
+
+pub returns-in_err-lay_put-clause-sees : goal.returns-in_err-lay_put-clause-sees
+returns-in_err-lay_put-clause-sees g c = sees_on c.loop-put.invariant.sees c.in_err-lay_put.ensures.sees

@@ -6,6 +6,7 @@ use Rattle.hfs_blocks.specs.Blocks.{AreRunsWithin}
 use Rattle.hfs_blocks.specs.Layers.{changes}
 use Rattle.hfs_sparse.proofs.SparseLemmas.{grown-on}
 use Rattle.hfs_sparse.proofs.Fetched.{stays-later}
+use Rattle.hfs_sparse.proofs.Seen.{sees_on}
 use Rattle.hfs_needed_runs.proofs.MoreRead.{each-forks, one-fork-more}
 use Rattle.hfs_needed_runs.proofs.forks.fetch_forks.Goals as goal
 
@@ -21,6 +22,9 @@ returns-in_err-fetch_runs-clause-within g c = λ within.
     (each-at (λ (runs : Vec Run Global). AreRunsWithin runs.items c.args.count) c.args.forks.now c.loop-runs.runs-index c.runs-item.result c.requires c.loop-runs-test.true))
     (c.loop-runs.invariant.within within)
 
+pub returns-in_err-fetch_runs-clause-sees : goal.returns-in_err-fetch_runs-clause-sees
+returns-in_err-fetch_runs-clause-sees g c = sees_on c.loop-runs.invariant.sees c.in_err-fetch_runs.ensures.sees
+
 pub loop-runs-preserved : goal.loop-runs-preserved
 loop-runs-preserved g c = record {
   has = one-fork-more c.loop-runs.read c.fetch_runs.new.read c.in_ok-fetch_runs.ensures.grown c.args.forks.now c.loop-runs.runs-index c.runs-item.result c.loop-runs-test.true
@@ -34,6 +38,7 @@ loop-runs-preserved g c = record {
       (each-at (λ (runs : Vec Run Global). AreRunsWithin runs.items c.args.count) c.args.forks.now c.loop-runs.runs-index c.runs-item.result c.requires c.loop-runs-test.true))
       (c.loop-runs.invariant.within within);
   image = c.in_ok-fetch_runs.ensures.image ∙ c.loop-runs.invariant.image;
+  sees = sees_on c.loop-runs.invariant.sees c.in_ok-fetch_runs.ensures.sees;
 }
 
 pub returns-clause-has : goal.returns-clause-has

@@ -5,6 +5,7 @@ use Rattle.std.proofs.Common.{Vec, Global}
 use Rattle.hfs_blocks.specs.declared.run.Run.{Run}
 use Rattle.hfs_blocks.specs.Blocks.{run_of}
 use Rattle.hfs_blocks.specs.Layers.{KeepsWithin}
+use Rattle.hfs_sparse.specs.Seen.{SeesMore}
 use Rattle.hfs_sparse.specs.Sparse.{HasEach, HasGrown, StaysOf}
 use Rattle.hfs_needed_runs.proofs.forks.fetch_forks.Given as goal
 
@@ -15,4 +16,5 @@ invariant-loop-runs g l = record {
   stays : StaysOf (g.S.BlockSource.image l.initial.source) l.initial.read l.read;
   within : KeepsWithin l.initial.read l.read l.count;
   image : g.S.BlockSource.image l.source ≡ g.S.BlockSource.image l.initial.source;
+  sees : SeesMore (g.S.BlockSource.Holds l.initial.source) (g.S.BlockSource.Holds l.source) l.initial.read l.read;
 }

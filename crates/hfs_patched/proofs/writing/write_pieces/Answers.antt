@@ -10,8 +10,8 @@ returns-in_err-write_piece-clause-part g c =
     let count = c.min-count.result in
     on-err _ _ (written-part c.args.len c.args.patch.now done count (done / 512) refl (c.loop-done.invariant.even c.loop-done-test.true)
     (omega (arith, c.min-count.ensures, c.loop-done.invariant.few)) (λ lt. omega (arith, lt, c.min-count.ensures)) c.requires.within
-    (g.S.BlockSource.image c.args.source.now) (g.S.BlockSource.image c.loop-done.source) c.loop-done.invariant.image (g.W.Write.contents c.args.writer.now)
-    (g.W.Write.contents c.loop-done.writer) (g.W.Write.contents c.write_piece.new.writer) c.loop-done.invariant.written c.in_err-write_piece.ensures.part)
+    (g.S.BlockSource.Holds c.loop-done.source) (g.S.BlockSource.Holds c.write_piece.new.source) c.write_piece.ensures.narrows
+    (g.W.Write.contents c.args.writer.now) (g.W.Write.contents c.loop-done.writer) (g.W.Write.contents c.write_piece.new.writer) c.loop-done.invariant.written c.in_err-write_piece.ensures.part)
 
 pub loop-done-preserved : goal.loop-done-preserved
 loop-done-preserved g c =
@@ -24,13 +24,14 @@ loop-done-preserved g c =
       even = λ lt. omega (arith, lt, c.min-count.ensures, even);
       room = c.in_ok-write_piece.ensures.room ∙ c.loop-done.invariant.room;
       written = written-next c.args.len c.args.patch.now done count (done / 512) refl even fits (λ lt. omega (arith, lt, c.min-count.ensures)) c.requires.within
-          (g.S.BlockSource.image c.args.source.now) (g.S.BlockSource.image c.loop-done.source) c.loop-done.invariant.image
+          (g.S.BlockSource.Holds c.loop-done.source) (g.S.BlockSource.Holds c.write_piece.new.source) c.in_ok-write_piece.ensures.narrows
           (g.W.Write.contents c.args.writer.now) (g.W.Write.contents c.loop-done.writer) (g.W.Write.contents c.write_piece.new.writer)
           c.loop-done.invariant.written c.in_ok-write_piece.ensures.written;
+      narrows = λ image held. c.loop-done.invariant.narrows image (c.in_ok-write_piece.ensures.narrows image held);
       image = c.in_ok-write_piece.ensures.image ∙ c.loop-done.invariant.image;
     }
 
 pub returns-clause-written : goal.returns-clause-written
 returns-clause-written g c =
-    written-all (g.S.BlockSource.image c.args.source.now) c.args.len c.args.patch.now c.loop-done.done (g.W.Write.contents c.args.writer.now)
+    written-all (g.S.BlockSource.Holds c.loop-done.source) c.args.len c.args.patch.now c.loop-done.done (g.W.Write.contents c.args.writer.now)
     (g.W.Write.contents c.loop-done.writer) (omega (arith, c.loop-done-test.false)) c.requires.within c.loop-done.invariant.written

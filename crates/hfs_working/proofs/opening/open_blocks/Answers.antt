@@ -1,5 +1,5 @@
 -- The checks are made over the needed blocks, and the others are read behind them.
-use Rattle.std.proofs.Common.{◌≡◌, Option, subst, rules}
+use Rattle.std.proofs.Common.{◌≡◌, Option, Some, subst, rules}
 use Rattle.hfs_check.specs.declared.mount_fault.MountFault.{MountFault}
 use Rattle.hfs_check.specs.declared.mount_fault.MountFault.TheVariants as fault
 use Rattle.hfs_check.specs.Answers.{IsFaultOf}
@@ -20,6 +20,13 @@ returns-in-Err-check_blocks g c =
           (subst (λ (f : Option MountFault). IsFaultOf f c.in-Err-check_blocks.fault)
           (λ i. blocks_fault (c.volume.ensures.count i) (sparse (c.volume.ensures.read i))) c.in-Err-check_blocks.ensures.wrong);
       image = c.gather_needed.ensures.image;
+      seen = tt;
+      each_refused = λ image h.
+          blocks-refused gathered_is_enough (Some image) c.args.count c.in-Ok.read c.in-Ok.ensures.needed (c.in-Ok.ensures.seen image h)
+          c.in-Err-check_blocks.fault other
+          (subst (λ (f : Option MountFault). IsFaultOf f c.in-Err-check_blocks.fault)
+          (λ i. blocks_fault (c.volume.ensures.count i) (sparse (c.volume.ensures.read i))) c.in-Err-check_blocks.ensures.wrong);
+      narrows = c.gather_needed.ensures.narrows;
     }
 
 pub returns-in-Ok-read_trees-clause-opened : goal.returns-in-Ok-read_trees-clause-opened
@@ -29,3 +36,7 @@ returns-in-Ok-read_trees-clause-opened g c =
     c.volume.ensures.read c.in-Ok.ensures.needed c.in-Ok.ensures.told c.in-Ok.ensures.within c.in-Ok-check_blocks.ensures.sound
     c.in-Ok-check_blocks.ensures.mdb c.in-Ok-check_blocks.ensures.trees c.in-Ok-read_trees.ensures.grown c.in-Ok-read_trees.ensures.stays
     c.in-Ok-read_trees.ensures.within c.in-Ok-read_trees.ensures.extents c.in-Ok-read_trees.ensures.catalog
+
+pub returns-in-Ok-read_trees-clause-seen : goal.returns-in-Ok-read_trees-clause-seen
+returns-in-Ok-read_trees-clause-seen g c = λ image h.
+    c.in-Ok-read_trees.ensures.sees.stays image h (c.in-Ok.ensures.seen image (c.in-Ok-read_trees.ensures.sees.held image h))

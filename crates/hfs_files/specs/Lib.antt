@@ -1,0 +1,4 @@
+pub mod Writes
+pub mod WriteLogs
+pub mod Watches
+pub mod WatchLogs

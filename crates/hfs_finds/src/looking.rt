@@ -1,0 +1,108 @@
+//! A look at an image: it is sound and opened, or it is refused, and what there is of it is found.
+ghost use Rattle.std.specs.Prelude.{◌≤◌, IfErr, IfOk, IfSome};
+ghost use Rattle.hfs_finds.specs.Looks.{AreFindsOfEach, HasFault, IsRefusedAs};
+ghost use Rattle.hfs_needed.specs.Seen.{HasNoFault};
+ghost use Rattle.hfs_source.specs.Images.{OfEach};
+
+use crate::finding::find_in;
+use crate::finds::Finds;
+use crate::needed::{NeededFinds, needed_finds};
+use crate::refused::RefusedImage;
+use hfs_check::MountFault;
+use hfs_needed::{NeededFault, SeenImage, Unopened};
+use hfs_source::PlacedBlocks;
+use hfs_sparse::{BlockSource, SeenBlocks, SparseFault};
+use std::alloc::Global;
+
+/// What is found of an image of `len` bytes, all of which are read at once, and let go. Errors: a read failed, memory was refused.
+#[tactic(auto, using(crate::proofs::LookLemmas::all_found))]
+fn find_by_all<S: BlockSource>(
+    alloc: Global,
+    source: &mut S,
+    len: u64,
+) -> Result<Option<Finds>, SparseFault>
+    requires { len ≤ 2147483648 }
+    ensures found { IfOk result (AreFindsOfEach (S.Holds source.new) len) }
+    ensures narrows { OfEach (S.Holds source.new) (S.Holds source.old) }
+{
+    let Ok(mut all) = vec![in alloc; 0u8; len as usize] else {
+        return Err(SparseFault::Memory);
+    };
+    let Ok(()) = source.read_blocks(0, &mut all) else {
+        return Err(SparseFault::ReadFailed);
+    };
+    match find_in(alloc, &all) {
+        Ok(found) => Ok(found),
+        Err(_) => Err(SparseFault::Memory),
+    }
+}
+
+/// What is found of an image of `len` bytes, by the blocks that are needed for that, or by all of them, where others are wanted. None
+/// where there is no directory in it. Errors: a read failed, memory was refused.
+pub fn finds_of<S: BlockSource>(
+    alloc: Global,
+    source: &mut S,
+    len: u64,
+) -> Result<Option<Finds>, SparseFault>
+    ensures found { IfOk result (AreFindsOfEach (S.Holds source.new) len) }
+    ensures few { IfOk result (λ found. IfSome found (λ _. len ≤ 2147483648)) }
+    ensures narrows { OfEach (S.Holds source.new) (S.Holds source.old) }
+{
+    if len > 2_147_483_648 {
+        return Ok(None);
+    }
+    match needed_finds(alloc, source, len)? {
+        NeededFinds::Found(found) => Ok(found),
+        NeededFinds::Whole => find_by_all(alloc, source, len),
+    }
+}
+
+/// What is found of an image that is refused for this fault.
+fn refused_image<S: PlacedBlocks + Drop>(
+    alloc: Global,
+    source: SeenBlocks<S>,
+    why: MountFault,
+) -> Result<RefusedImage<S>, SparseFault>
+    requires { OfEach (S.Holds source.blocks) (HasFault why) }
+    ensures refused { IfOk result (λ image. IsRefusedAs (S.Holds image.source.blocks) image.len
+        image.why image.found) }
+    ensures narrows { IfOk result (λ image. OfEach (S.Holds image.source.blocks)
+        (S.Holds source.blocks)) }
+{
+    let mut source = source;
+    let len = source.blocks.len();
+    let found = finds_of(alloc, &mut source, len)?;
+    Ok(RefusedImage {
+        source,
+        len,
+        why,
+        found,
+    })
+}
+
+/// Looks at an image: reads the needed blocks and makes all checks, and gives it opened; or where it is refused, what there is of it, which is
+/// found in the blocks of the same source. Errors: a read failed, memory was refused.
+pub fn look<S: PlacedBlocks + Drop>(
+    alloc: Global,
+    source: SeenBlocks<S>,
+) -> Result<Result<SeenImage<S>, RefusedImage<S>>, SparseFault>
+    ensures sound { IfOk result (λ looked. IfOk looked (λ image. OfEach (S.Holds image) HasNoFault)) }
+    ensures refused { IfOk result (λ looked. IfErr looked (λ image.
+        IsRefusedAs (S.Holds image.source.blocks) image.len image.why image.found)) }
+    ensures held { IfOk result (λ looked. IfOk looked (λ image. OfEach (S.Holds image)
+        (S.Holds source.blocks))) }
+    ensures back { IfOk result (λ looked. IfErr looked (λ image.
+        OfEach (S.Holds image.source.blocks) (S.Holds source.blocks))) }
+{
+    match SeenImage::open(alloc, source) {
+        Ok(image) => Ok(Ok(image)),
+        Err(Unopened { fault, source }) => match fault {
+            NeededFault::Refused(why) => {
+                let image = refused_image(alloc, source, why)?;
+                Ok(Err(image))
+            }
+            NeededFault::ReadFailed => Err(SparseFault::ReadFailed),
+            NeededFault::Memory => Err(SparseFault::Memory),
+        },
+    }
+}

@@ -1,0 +1,14 @@
+//! What a run over a copy of an image answers, of the image itself, each as the contract of a function that does nothing.
+ghost use Rattle.hfs_needed_runs.specs.OnImage.{NamedForksAreTheImages, WorkersReadTheImage};
+
+/// What was read of an image for a script, with zeros elsewhere, has the image's working blocks, and the forks of all files that the script's
+/// lines name, of each image that has the bytes which were read.
+pub fn named_forks_are_the_images()
+    ensures { NamedForksAreTheImages }
+{}
+
+/// Over such a copy each reply to a worker is what the image answers behind the same calls: reads of forks too, where these are calls of the
+/// script's lines.
+pub fn workers_read_the_image()
+    ensures { WorkersReadTheImage }
+{}

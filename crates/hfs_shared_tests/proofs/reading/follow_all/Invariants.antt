@@ -1,6 +1,0 @@
-use Rattle.std.specs.Prelude.{◌≡◌}
-use Rattle.hfs_shared_tests.proofs.reading.follow_all.Given as goal
-
--- it is a viewer of the shared volume
-abbrev pub invariant-loop-line : goal.invariant-loop-line
-invariant-loop-line g l = l.viewer.book ≡ g.K.Session.book

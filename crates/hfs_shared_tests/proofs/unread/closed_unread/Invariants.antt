@@ -1,5 +1,0 @@
-use Rattle.hfs_shared_tests.proofs.unread.closed_unread.Given as goal
-
--- the parts that were just made
-abbrev pub ghosts-closed_after : goal.ghosts-closed_after
-ghosts-closed_after g a = record { book = a.parts.book; base = a.parts.base }

@@ -1,5 +1,0 @@
-use Rattle.std.proofs.Common.{refl}
-use Rattle.hfs_space_tests.proofs.overflow.leaf_node.Goals as goal
-
-pub returns : goal.returns
-returns c = rw (c.copy_from_slice.ensures.after, c.copy_from_slice-2.ensures.after, c.copy_from_slice-3.ensures.after) refl
