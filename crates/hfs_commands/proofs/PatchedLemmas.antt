@@ -1,5 +1,5 @@
 -- An image with changed blocks laid over it, as what a file is to hold.
-use Rattle.std.proofs.Common.{◌≡◌, ℕ, List, sym, subst}
+use Rattle.std.proofs.Common.{ℕ, List, sym, subst}
 use Rattle.hfs_blocks.specs.Layers.{Numbered}
 use Rattle.hfs_source.specs.Images.{OfEach}
 use Rattle.hfs_patched.specs.Patched.{OfPatched}
@@ -9,6 +9,3 @@ use Rattle.hfs_commands.specs.Images.{IsPatchedOf}
 pub of-patched : (Held Then : List ℕ → Type 0) (len : ℕ) (changed : Numbered) (Fact : List ℕ → Type 0) → OfEach Then Held → OfPatched Held len changed Fact
     → OfEach (IsPatchedOf Then len changed) Fact
 of-patched Held Then len changed Fact narrows h = λ bytes is. subst Fact (sym is.is) (h is.image (narrows is.image is.held) is.long)
-
-pub patched-narrows : (Held Then : List ℕ → Type 0) (len : ℕ) (changed : Numbered) → OfEach Then Held → OfEach (IsPatchedOf Then len changed) (IsPatchedOf Held len changed)
-patched-narrows Held Then len changed narrows = λ bytes is. record { image = is.image; held = narrows is.image is.held; long = is.long; is = is.is }

@@ -1,5 +1,5 @@
 -- Bytes that are written one behind the other, also where writing ends in them.
-use Rattle.std.proofs.Common.{◌≡◌, ◌∙◌, refl, sym, subst, ap, arith, ℕ, ◌+◌, ◌-◌, ◌≤◌, List, [], ◌++◌, length, take, drop, min, replicate, Option, Result, Ok, Err, OnOk, OnErr, IfOk}
+use Rattle.std.proofs.Common.{◌≡◌, ◌∙◌, refl, sym, subst, arith, ℕ, ◌+◌, List, ◌++◌, length, take, min, replicate, Option, Result, Ok, Err, OnOk, OnErr, IfOk}
 use Rattle.std.specs.Io.KnownBytes.{Appends}
 use Rattle.std.proofs.KnownBytes.{Appends-trans}
 use Rattle.std.proofs.lemmas.List.{take-append-le, take_min}

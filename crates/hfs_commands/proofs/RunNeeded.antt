@@ -1,5 +1,5 @@
 -- What was read of an image for a run, and what the run made of it.
-use Rattle.std.proofs.Common.{◌≡◌, ◌⊎◌, inl, inr, ⊎_elim, ℕ, ◌/◌, Bool, true, List, length, Option, Some, None, refl, sym, ap, subst, ◌∙◌}
+use Rattle.std.proofs.Common.{◌≡◌, ◌⊎◌, inl, inr, ⊎_elim, ℕ, ◌/◌, Bool, true, List, length, Some, None, sym, ap, subst, ◌∙◌}
 use Rattle.hfs_blocks.specs.Layers.{Numbered}
 use Rattle.hfs_check.specs.Sound.{IsSound, IsImageLength}
 use Rattle.hfs_source.specs.Images.{OfEach}
@@ -21,7 +21,7 @@ use Rattle.hfs_volume.specs.Image.{copy_of}
 use Rattle.hfs_volume.proofs.CopyLemmas.{length-copy}
 use Rattle.hfs_working.specs.declared.opening.WorkingVolume.{WorkingVolume}
 use Rattle.hfs_working.specs.Opened.{IsWorkingOf}
-use Rattle.hfs_working.specs.Working.{IsWorkingCopy, CarriesOver}
+use Rattle.hfs_working.specs.Working.{CarriesOver}
 use Rattle.hfs_working.proofs.ReadWork.{opened-sound, opened-copy}
 use Rattle.hfs_commands.specs.declared.fault.Fault.{Fault}
 use Rattle.hfs_commands.specs.declared.fault.Fault.TheVariants as fault

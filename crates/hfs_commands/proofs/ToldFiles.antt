@@ -8,7 +8,6 @@ use Rattle.hfs_model.specs.declared.call.Fork.TheVariants.{DataFork, ResFork}
 use Rattle.hfs_model.specs.declared.item.Kind.{Kind}
 use Rattle.hfs_model.specs.declared.item.Kind.TheVariants as kind
 use Rattle.hfs_model.specs.declared.reply.Info.{Info}
-use Rattle.hfs_model.specs.declared.reply.Reply.{Reply}
 use Rattle.hfs_model.specs.Children.{is_folder, child_named}
 use Rattle.hfs_model.specs.Reading.{get_cat_info}
 use Rattle.hfs_model.specs.Reading as reading

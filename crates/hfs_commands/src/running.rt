@@ -189,9 +189,9 @@ impl<S: BlockSource + Watched + Drop> RunImage<S> {
             Err(SparseFault::ReadFailed) => return Err(Fault::CannotRead(path)),
             Err(SparseFault::Memory) => return Err(Fault::NoMemory),
         }
-        if source.look_again().is_err() {
+        let Ok(()) = source.look_again() else {
             return Err(Fault::CannotRead(path));
-        }
+        };
         match run_needed_at(rt, alloc, gate, working, len, script) {
             Ok(ran) => Ok(ran_image(alloc, source, len, ran)),
             Err(fault) => Err(start_fault(fault)),

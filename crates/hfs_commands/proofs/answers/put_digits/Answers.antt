@@ -1,5 +1,5 @@
 -- The digits so far, and those of some bytes more.
-use Rattle.std.proofs.Common.{◌+◌, ◌-◌, ◌*◌, ◌/◌, ◌≤◌, ℕ, length, refl, subst, sym, ◌∙◌, arith}
+use Rattle.std.proofs.Common.{◌+◌, ◌*◌, ◌/◌, ◌≤◌, ℕ, length, refl, subst, sym, ◌∙◌, arith}
 use Rattle.std.proofs.KnownBytes.{Appends-nil}
 use Rattle.hfs_texts.specs.Lines.{hex_text}
 use Rattle.hfs_sparse.proofs.Written.{on-err as on_err}

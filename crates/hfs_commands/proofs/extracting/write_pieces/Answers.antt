@@ -1,5 +1,5 @@
 -- Piece by piece.
-use Rattle.std.proofs.Common.{◌≡◌, ℕ, ◌+◌, ◌*◌, ◌/◌, ◌%◌, ◌<◌, ◌≤◌, ◌∙◌, List, ◌++◌, length, take, drop, arith, rules, subst}
+use Rattle.std.proofs.Common.{◌≡◌, ℕ, ◌*◌, ◌/◌, ◌%◌, ◌∙◌, ◌++◌, length, take, drop, arith, rules, subst}
 use Rattle.std.proofs.lemmas.List.{length-append, length-drop, length-take}
 use Rattle.hfs_commands.specs.Extracts.{WritesAt, WritesFrontAt}
 use Rattle.hfs_commands.proofs.Fronts.{on_err}

@@ -1,7 +1,7 @@
-use Rattle.std.proofs.Common.{Option, string_bytes, subst, sym}
+use Rattle.std.proofs.Common.{Option, string_bytes, subst}
 use Rattle.hfs_check.specs.declared.mount_fault.MountFault.{MountFault}
 use Rattle.hfs_commands.specs.Repairs.{IsMendedText}
-use Rattle.hfs_commands.proofs.RepairLemmas.{refused_told, sound_told}
+use Rattle.hfs_commands.proofs.RepairLemmas.{refused_told}
 use Rattle.hfs_commands.proofs.repairing.repair_answer.Goals as goal
 
 pub returns-in-Some-clause-told : goal.returns-in-Some-clause-told
