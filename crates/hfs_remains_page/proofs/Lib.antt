@@ -1,4 +1,5 @@
 mod GatherLemmas
+mod ListLemmas
 mod NestedLemmas
 mod TreeLemmas
 mod PieceLemmas

@@ -24,13 +24,14 @@ fn empty_lists(alloc: Global, count: usize) -> Result<Vec<Vec<usize>>, AllocErro
 }
 
 /// Notes that a thing stands right below a node.
-#[tactic(auto, using(crate::proofs::TreeLemmas::none_gained))]
+#[tactic(auto, using(crate::proofs::ListLemmas::gained, crate::proofs::TreeLemmas::none_gained))]
 fn note(lists: &mut Vec<Vec<usize>>, thing: usize, node: usize) -> Result<(), AllocError>
     ensures { OnOk result (GainsBelow lists.old.items lists.new.items thing node) }
 {
-    if node < lists.len() {
-        lists[node].push(thing)?;
+    if node >= lists.len() {
+        return Ok(());
     }
+    lists[node].push(thing)?;
     Ok(())
 }
 
