@@ -2,6 +2,7 @@ pub mod PieceLemmas
 pub mod ReadLemmas
 pub mod TableLemmas
 pub mod SourceLemmas
+pub mod KnownLemmas
 pub mod RootLemmas
 pub mod PlainNames
 pub mod PlacedLemmas

@@ -2,16 +2,20 @@
 #![tactic(auto)]
 
 mod fork_reading;
+mod image;
 mod items;
 mod laws;
+mod opened;
 mod paths;
 mod piece;
 mod pieces;
 mod reading;
+mod seen;
 mod table_reading;
 mod watch;
 
-pub use crate::items::ImageItems;
+pub use crate::image::ItemImage;
+pub use crate::items::{ImageItems, Unbegun};
 pub use crate::laws::{
     bag_paths_are_told, items_are_placed, sound_items_are_placed, sound_paths_are_told,
 };

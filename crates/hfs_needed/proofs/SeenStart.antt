@@ -9,6 +9,7 @@ use Rattle.hfs_check.specs.Faults.{length_fault}
 use Rattle.hfs_check.proofs.LawTypes.{NoBlocksFault}
 use Rattle.hfs_needed.specs.declared.opening.NeededFault.{NeededFault}
 use Rattle.hfs_needed.specs.declared.opening.NeededVolume.{NeededVolume}
+use Rattle.hfs_needed.specs.declared.reporting.ReportedVolume.{ReportedVolume}
 use Rattle.hfs_needed.specs.Opened.{AreRefusedFor, IsOpenedOf, IsRefusedFor, IsSoundOf}
 use Rattle.hfs_needed.specs.Seen.{IsOpenedBy, IsSeenAs}
 use Rattle.hfs_needed.proofs.Gathered.{of-start}
@@ -43,6 +44,13 @@ pub sound-each : NoBlocksFault → GatheredIsEnough → (Holds : List ℕ → Ty
 sound-each law enough Holds len right known (Err f) opened seen = tt
 sound-each law enough Holds len right known (Ok volume) opened seen = λ image holds.
     opened-sound law enough (Some image) len right volume (opened-each known (len / 512) volume opened seen image holds)
+
+-- nor has one that is reported
+pub reported-each : NoBlocksFault → GatheredIsEnough → (Holds : List ℕ → Type 0) (len : ℕ) → length_fault len ≡ None → (known : Option (List ℕ)) (r : Result ReportedVolume NeededFault)
+    → IfOk r (λ found. IsOpenedOf known (len / 512) found.volume) → IfOk r (λ found. IsSeen Holds found.volume.read) → IfOk r (λ found. EachKnown Holds (λ some. IsSoundOf some len))
+reported-each law enough Holds len right known (Err f) opened seen = tt
+reported-each law enough Holds len right known (Ok found) opened seen = λ image holds.
+    opened-sound law enough (Some image) len right found.volume (opened-each known (len / 512) found.volume opened seen image holds)
 
 -- and by each, as many bytes as it has
 pub opened-by : (Holds : List ℕ → Type 0) (len : ℕ) (volume : NeededVolume) → IsSeenAs Holds len volume → OfEach Holds (IsOpenedBy volume)

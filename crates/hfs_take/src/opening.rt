@@ -3,6 +3,9 @@ ghost use Rattle.std.specs.Prelude.{◌≡◌, IfErr, IfOk, IfSome, None, string
 ghost use Rattle.std.specs.Option.{option_map};
 ghost use Rattle.hfs_commands.specs.Faults.{IsUnopened, IsUnreadFile};
 ghost use Rattle.hfs_commands.specs.OpenedFiles.{AreOthersOf, known_bytes, known_in, stored_bytes};
+ghost use Rattle.hfs_commands.specs.SeenFiles.{parts_of};
+ghost use Rattle.hfs_needed.specs.Seen.{HasNoFault};
+ghost use Rattle.hfs_source.specs.Images.{OfEach};
 ghost use Rattle.hfs_take.specs.Digests.{TellsSame};
 ghost use Rattle.hfs_take.specs.Faults.{IsImageFault};
 ghost use Rattle.hfs_take.specs.Opening.{IsLineOf, IsToldLine, IsToldPart, TellsVolume};
@@ -10,12 +13,15 @@ ghost use Rattle.hfs_take.specs.Opening.{IsLineOf, IsToldLine, IsToldPart, Tells
 use crate::facts::volume_text;
 use crate::image::TakenImage;
 use crate::words::TakeWords;
+use hfs_check::MountFault;
 use hfs_commands::{
     Counted, Fault, FilePart, NumberedRange, OpenedFile, RawFile, StoredFile, Window, open_asked,
-    sum_told,
+    part_blocks, sum_told,
 };
 use hfs_containers::volume_name;
-use hfs_sparse::BlockSource;
+use hfs_needed::Unopened;
+use hfs_source::{BlocksOf, PlacedBlocks, RangeBytes};
+use hfs_sparse::SeenBlocks;
 use std::alloc::Global;
 use std::fs::{File, Metadata, OpenFile};
 use std::io::{Read, Seek};
@@ -197,9 +203,22 @@ fn open_beside<R: Files>(
 
 /// What is to be taken apart, and whether the sum of a disk copy is right in which it lies.
 #[derive(Drop)]
-pub(crate) struct OpenedTake<S: BlockSource> {
+pub(crate) struct OpenedTake<S: PlacedBlocks> {
     pub(crate) image: TakenImage<S>,
     pub(crate) sum: Option<bool>,
+}
+
+/// The blocks of a part of a file, known by what is read of them.
+type PlacedPart<F> = BlocksOf<RangeBytes<OpenedFile<F>>>;
+
+/// The blocks of the same bytes once more, where they are there.
+fn blocks_beside<F: Read + Seek>(
+    beside: Option<Window<OpenedFile<F>>>,
+) -> Option<SeenBlocks<PlacedPart<F>>> {
+    match beside {
+        Some(bytes) => Some(part_blocks(bytes)),
+        None => None,
+    }
 }
 
 /// Opens what is to be taken apart, once more where its digest is to be made beside it, and makes all checks. Faults, the first that holds: the image can't be
@@ -207,9 +226,10 @@ pub(crate) struct OpenedTake<S: BlockSource> {
 pub(crate) fn open_image<'a, R: Files + AllocGlobal>(
     rt: &R,
     words: &TakeWords<'a>,
-) -> Result<OpenedTake<Window<OpenedFile<R::File>>>, Fault<'a>>
+) -> Result<OpenedTake<PlacedPart<R::File>>, Fault<'a>>
     ensures line { IfOk result (λ opened. TellsVolume words.now.volume opened.image.len
         (option_map string_bytes opened.image.volume)) }
+    ensures sound { IfOk result (λ opened. OfEach (parts_of opened.image.opened) HasNoFault) }
     ensures fault { IfErr result (IsImageFault words.now) }
 {
     let was = fs::metadata(rt, words.image);
@@ -225,8 +245,15 @@ pub(crate) fn open_image<'a, R: Files + AllocGlobal>(
         None
     };
     let len = bytes.len();
-    match TakenImage::open(rt.alloc(), bytes, beside, len, line) {
-        Ok(image) => Ok(OpenedTake { image, sum }),
-        Err(fault) => Err(Fault::of_needed(fault, words.image)),
+    let source = part_blocks(bytes);
+    match TakenImage::open(rt.alloc(), source, blocks_beside(beside), line) {
+        Ok(image) => {
+            if image.len != len {
+                // A range that doesn't lie in its file has no bytes, and was refused.
+                return Err(Fault::Refused(MountFault::Short));
+            }
+            Ok(OpenedTake { image, sum })
+        }
+        Err(Unopened { fault, source: _ }) => Err(Fault::of_needed(fault, words.image)),
     }
 }

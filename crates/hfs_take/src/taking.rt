@@ -3,23 +3,26 @@ ghost use Rattle.std.specs.Prelude.{◌≡◌, IfErr, IfOk, string_bytes};
 ghost use Rattle.std.specs.Option.{option_map};
 ghost use Rattle.hfs_bag.specs.Sums.{IsSumOf};
 ghost use Rattle.hfs_image_items.specs.Items.{bag_items, entries_in};
-ghost use Rattle.hfs_needed.specs.Known.{OfKnown};
+ghost use Rattle.hfs_source.specs.Images.{OfEach};
 ghost use Rattle.hfs_shelves.specs.MadeFolders.{given_by};
 ghost use Rattle.hfs_shelves.specs.Removals.{IsPlaced};
 ghost use Rattle.hfs_take.specs.Bags.{OfBag};
+ghost use Rattle.hfs_take.specs.Digests.{HoldsBoth};
 ghost use Rattle.hfs_take.specs.Faults.{IsTakeFault, taken_text};
 ghost use Rattle.hfs_take.specs.Folders.{IsFolderPath};
 ghost use Rattle.hfs_take.specs.Placed.{HasPlaced};
 
 use crate::fault::TakeFault;
-use crate::giving::give_image;
+use crate::giving::{GivenBag, give_image};
 use crate::image::TakenImage;
 use crate::opening::{OpenedTake, open_image};
 use crate::words::TakeWords;
 use hfs_bag::BagSums;
 use hfs_image_items::Watch;
+use hfs_needed::SeenImage;
 use hfs_shelves::{FileShelf, FileSystem, SystemFiles};
-use hfs_sparse::BlockSource;
+use hfs_source::PlacedBlocks;
+use hfs_sparse::SeenBlocks;
 use hfs_texts::push_line;
 use std::alloc::{AllocError, Global};
 use std::rt::Files;
@@ -34,52 +37,67 @@ pub struct Taken {
     pub sum: Option<bool>,
 }
 
-/// A bag that has its place, and the system on which it lies.
+/// A bag that has its place, the system on which it lies, and what it was taken from.
 #[derive(Drop)]
-pub struct PlacedBag<Y> {
+pub struct PlacedBag<Y, S: PlacedBlocks> {
     /// How much it has.
     pub sums: BagSums,
     pub system: Y,
+    pub image: SeenImage<S>,
+    /// What the image's digest was made of, where that is another source.
+    pub beside: Option<SeenBlocks<S>>,
 }
 
 /// Gives a whole bag its place.
 fn place_bag<'a, Y: FileSystem + Drop>(
     shelf: FileShelf<Y>,
-    sums: BagSums,
     words: &TakeWords<'a>,
-) -> Result<PlacedBag<Y>, TakeFault<'a>>
+) -> Result<Y, TakeFault<'a>>
     ensures fault { IfErr result (IsTakeFault words.now) }
-    ensures sums { IfOk result (λ placed. placed.sums ≡ sums) }
-    ensures placed { IfOk result (λ placed. IsPlaced words.now.folder.now (string_bytes shelf.folder)
-        (given_by (string_bytes shelf.folder) shelf.modified (Y.did shelf.system)) (Y.did placed.system)) }
+    ensures placed { IfOk result (λ system. IsPlaced words.now.folder.now (string_bytes shelf.folder)
+        (given_by (string_bytes shelf.folder) shelf.modified (Y.did shelf.system)) (Y.did system)) }
 {
     match shelf.place(words.folder) {
-        Ok(system) => Ok(PlacedBag { sums, system }),
+        Ok(system) => Ok(system),
         Err(back) => Err(TakeFault::of_shelf(back.fault)),
     }
 }
 
 /// Writes the bag of an image: to a folder beside its place, which gets its place when it is whole, and is taken away at a fault.
-fn write_bag<'a, Y: FileSystem + Drop, H: Threads, S: BlockSource + Drop + Send, W: Watch>(
+fn write_bag<'a, Y: FileSystem + Drop, H: Threads, S: PlacedBlocks + Drop + Send, W: Watch>(
     alloc: Global,
     system: Y,
     threads: &H,
     image: TakenImage<S>,
     words: &TakeWords<'a>,
     watch: &W,
-) -> Result<PlacedBag<Y>, TakeFault<'a>>
+) -> Result<PlacedBag<Y, S>, TakeFault<'a>>
     ensures fault { IfErr result (IsTakeFault words.now) }
-    ensures sums { IfOk result (λ placed. OfKnown image.opened.known image.opened.len
+    ensures sums { IfOk result (λ placed. OfEach (S.Holds placed.image)
         (λ bytes. IsSumOf placed.sums (bag_items (entries_in bytes)))) }
-    ensures placed { IfOk result (λ placed. OfBag image.opened (option_map string_bytes image.volume) words.now
-        (λ bag. HasPlaced words.now.folder.now bag (Y.did placed.system))) }
+    ensures placed { IfOk result (λ placed. OfEach (HoldsBoth S.Holds placed.image placed.beside)
+        (OfBag (option_map string_bytes image.volume) words.now (λ bag. HasPlaced words.now.folder.now bag (Y.did placed.system)))) }
+    ensures narrows { IfOk result (λ placed. OfEach (S.Holds placed.image) (S.Holds image.opened)) }
 {
     let mut shelf = match FileShelf::create(alloc, system, words.folder) {
         Ok(shelf) => shelf,
         Err(back) => return Err(TakeFault::of_shelf(back.fault)),
     };
-    match give_image(threads, alloc, &mut shelf, image, words, watch) {
-        Ok(sums) => place_bag(shelf, sums, words),
+    let GivenBag {
+        sums,
+        image,
+        beside,
+    } = give_image(threads, alloc, &mut shelf, image, words, watch);
+    match sums {
+        Ok(sums) => {
+            let system = place_bag(shelf, words)?;
+            Ok(PlacedBag {
+                sums,
+                system,
+                image,
+                beside,
+            })
+        }
         Err(fault) => {
             let _system = shelf.take_away();
             Err(TakeFault::of_bag(fault, words.image))
@@ -87,21 +105,22 @@ fn write_bag<'a, Y: FileSystem + Drop, H: Threads, S: BlockSource + Drop + Send,
     }
 }
 
-/// Takes an image apart that was opened, over any system, where nothing has the folder's name. Where the image's bytes are known, exactly its bag
-/// has this place then, as the last that the system did. Faults: `IsThere`; as [`write_bag`] has them.
-pub fn take_opened<'a, Y: FileSystem + Drop, H: Threads, S: BlockSource + Drop + Send, W: Watch>(
+/// Takes an image apart that was opened, over any system, where nothing has the folder's name. Exactly the bag of each image that has the bytes which were
+/// read has this place then, as the last that the system did. Faults: `IsThere`; as [`write_bag`] has them.
+pub fn take_opened<'a, Y: FileSystem + Drop, H: Threads, S: PlacedBlocks + Drop + Send, W: Watch>(
     alloc: Global,
     system: Y,
     threads: &H,
     image: TakenImage<S>,
     words: &TakeWords<'a>,
     watch: &W,
-) -> Result<PlacedBag<Y>, TakeFault<'a>>
+) -> Result<PlacedBag<Y, S>, TakeFault<'a>>
     ensures fault { IfErr result (IsTakeFault words.now) }
-    ensures sums { IfOk result (λ placed. OfKnown image.opened.known image.opened.len
+    ensures sums { IfOk result (λ placed. OfEach (S.Holds placed.image)
         (λ bytes. IsSumOf placed.sums (bag_items (entries_in bytes)))) }
-    ensures placed { IfOk result (λ placed. OfBag image.opened (option_map string_bytes image.volume) words.now
-        (λ bag. HasPlaced words.now.folder.now bag (Y.did placed.system))) }
+    ensures placed { IfOk result (λ placed. OfEach (HoldsBoth S.Holds placed.image placed.beside)
+        (OfBag (option_map string_bytes image.volume) words.now (λ bag. HasPlaced words.now.folder.now bag (Y.did placed.system)))) }
+    ensures narrows { IfOk result (λ placed. OfEach (S.Holds placed.image) (S.Holds image.opened)) }
 {
     let mut system = system;
     if system.is_there(words.folder) {
