@@ -89,13 +89,17 @@ fn open_stream<'a>(
 }
 
 impl<'a, S: BlockSource + Drop> RescueItems<'a, S> {
-    /// What was found of an image, from its first item on; the bytes of forks are read from this source. The only error is want of memory.
-    pub fn new(alloc: Global, found: Found<'a>, source: S) -> Result<RescueItems<'a, S>, AllocError>
+    /// What was found of an image, from its first item on; the bytes of forks are read from this source. The only error is want of memory, and
+    /// the source comes back.
+    pub fn new(alloc: Global, found: Found<'a>, source: S) -> Result<RescueItems<'a, S>, S>
         ensures found { IfOk result (λ made. made.found ≡ found.entry) }
         ensures source { IfOk result (λ made. made.source ≡ source) }
         ensures plan { IfOk result (λ made. made.plan.items ≡ whole_plan found.entry) }
+        ensures back { IfErr result (λ back. back ≡ source) }
     {
-        let plan = plan_of(alloc, &found)?;
+        let Ok(plan) = plan_of(alloc, &found) else {
+            return Err(source);
+        };
         Ok(RescueItems {
             alloc,
             found,
@@ -105,6 +109,22 @@ impl<'a, S: BlockSource + Drop> RescueItems<'a, S> {
             came: Came::nothing(alloc),
             reading: Reading::Fork(empty_fork(alloc)),
         })
+    }
+
+    /// The source that the bytes of forks were read from.
+    pub fn into_source(self) -> S
+        ensures { result ≡ self.source }
+    {
+        let RescueItems {
+            alloc: _,
+            found: _,
+            source,
+            plan: _,
+            next: _,
+            came: _,
+            reading: _,
+        } = self;
+        source
     }
 }
 
