@@ -54,6 +54,12 @@ bag-placed Holds Now len line words folder now before given steps (Ok placed) em
 }
 bag-placed Holds Now len line words folder now before given steps (Err e) empty same beside whole is held = tt
 
+-- what holds of the source that comes back held of that which was given
+pub kept_source : {T E S : Type 0} (source_of : T → S) (source : S) (Holds : S → List ℕ → Type 0) (came : Result T E) → IfOk came (λ placed. source_of placed ≡ source)
+    → IfOk came (λ placed. OfEach (Holds (source_of placed)) (Holds source))
+kept_source source_of source Holds (Ok placed) same = λ image h. subst (λ s. Holds s image) same h
+kept_source source_of source Holds (Err e) same = tt
+
 -- and it is taken away where it gets no place
 pub bag-away : {T E : Type 0} (path folder now : List ℕ) (fault : E → TakeFault) (steps : E → List SystemStep) (old filled : List SystemStep) (came : Result T E)
     → now ≡ folder → IsNewFolder path folder → IfErr came (λ back. IsAwayFor (fault back) now filled (steps back))
