@@ -41,7 +41,7 @@ pub fn remains_of<S: PlacedBlocks + Drop>(
     alloc: Global,
     image: RefusedImage<S>,
 ) -> Result<Option<Remains<S>>, AllocError>
-    requires { IsRefusedAs (S.Holds image.source.blocks) image }
+    requires { IsRefusedAs (S.Holds image.source.blocks) image.len image.why image.found }
     ensures found { IfOk result (λ remains. option_map (λ some. some.image.finds) remains
         ≡ image.found) }
     ensures source { IfOk result (λ remains. IfSome remains
