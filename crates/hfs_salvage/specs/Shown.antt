@@ -19,6 +19,7 @@ use Rattle.hfs_rescue_rows.specs.Forks.{whole_fork}
 use Rattle.hfs_rescue_rows.specs.Paths.{path_end}
 use Rattle.hfs_rescue_rows.specs.Rows.{selected_text}
 use Rattle.hfs_space.specs.declared.fork_kind.ForkKind.{ForkKind}
+use Rattle.hfs_sparse.specs.Seen.{EachKnown}
 use Rattle.hfs_texts.specs.Writing.{AppendsFront}
 use Rattle.hfs_salvage.specs.declared.words.RescueWords.{RescueWords}
 use Rattle.hfs_salvage.specs.Answers.{answer_status, found_sums}
@@ -28,6 +29,10 @@ use Rattle.hfs_salvage.specs.Words.{limit_of}
 -- where an image's bytes are known, and are so many, this holds of it and of what was found of it, as these words ask for it
 abbrev pub OfKnownFound : Option (List ℕ) → ℕ → RescueWords → (List ℕ → Found → Type 0) → Type 0
 OfKnownFound known len words Fact = OfKnown known len (λ image. OfFound image (limit_of words image) (Fact image))
+
+-- of each of these images that has so many bytes this holds, and of what was found of it
+abbrev pub OfEachFound : (List ℕ → Type 0) → ℕ → RescueWords → (List ℕ → Found → Type 0) → Type 0
+OfEachFound Holds len words Fact = EachKnown Holds (λ known. OfKnownFound known len words Fact)
 
 -- ---- rows
 

@@ -5,7 +5,6 @@ mod answer;
 mod facts;
 mod filling;
 mod found;
-mod held;
 mod image;
 mod laws;
 mod listing;
@@ -18,14 +17,14 @@ mod watched;
 mod words;
 
 pub use crate::answer::{RescueAnswer, Rescued};
-pub use crate::filling::give_remains;
-pub use crate::held::HeldBytes;
+pub use crate::filling::{GivenRemains, give_remains};
 pub use crate::image::{HoldFault, RescuedImage};
 pub use crate::laws::{
     remains_are_found, rescued_paths_are_lawful, sound_payloads_are_volumes, sums_are_of_bags,
     taken_paths_are_lawful,
 };
 pub use crate::listing::{list_rescue, write_remains};
+pub use crate::loading::Part;
 pub use crate::remains::{Remains, remains_of};
 pub use crate::rescuing::{PlacedBag, UnplacedBag, rescue, rescue_opened};
 pub use crate::showing::{image_fault, write_found_folder, write_found_fork, write_found_items};

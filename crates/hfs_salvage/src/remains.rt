@@ -1,7 +1,9 @@
 //! What remains of a refused image, read where it was looked at.
-ghost use Rattle.std.specs.Prelude.{◌≡◌, Err, Some, IfErr, IfOk, IfSome};
+ghost use Rattle.std.specs.Prelude.{◌≡◌, Err, Some, IfErr, IfOk, IfSome, string_bytes};
 ghost use Rattle.std.specs.Option.{option_map};
+ghost use Rattle.hfs_commands.specs.Checks.{refused_line};
 ghost use Rattle.hfs_commands.specs.Faults.{IsUnprinted};
+ghost use Rattle.hfs_finds.specs.Looks.{IsRefusedAs};
 
 use crate::image::RescuedImage;
 use crate::showing::{image_fault, write_found_folder, write_found_fork, write_found_items};
@@ -12,19 +14,19 @@ use hfs_finds::RefusedImage;
 use hfs_model::Reply;
 use hfs_source::PlacedBlocks;
 use hfs_space::ForkKind;
-use hfs_sparse::{BlockSource, SeenBlocks};
 use std::alloc::{AllocError, Global};
 use std::io::Write;
 
 /// What remains of an image that is refused.
 #[derive(Drop)]
-pub struct Remains<S: BlockSource> {
+pub struct Remains<S: PlacedBlocks> {
     image: RescuedImage<S>,
 }
 
 /// What the check of an image tells that is refused for this fault.
 fn refused_check(alloc: Global, why: MountFault) -> Result<CheckAnswer, AllocError>
-    ensures { IfOk result (λ check. check.fault ≡ Some why) }
+    ensures fault { IfOk result (λ check. check.fault ≡ Some why) }
+    ensures lines { IfOk result (λ check. string_bytes check.lines ≡ refused_line why) }
 {
     let (status, lines) = refused_text(alloc, why)?;
     Ok(CheckAnswer {
@@ -38,7 +40,8 @@ fn refused_check(alloc: Global, why: MountFault) -> Result<CheckAnswer, AllocErr
 pub fn remains_of<S: PlacedBlocks + Drop>(
     alloc: Global,
     image: RefusedImage<S>,
-) -> Result<Option<Remains<SeenBlocks<S>>>, AllocError>
+) -> Result<Option<Remains<S>>, AllocError>
+    requires { IsRefusedAs (S.Holds image.source.blocks) image.len image.why image.found }
     ensures found { IfOk result (λ remains. option_map (λ some. some.image.finds) remains
         ≡ image.found) }
     ensures source { IfOk result (λ remains. IfSome remains
@@ -66,7 +69,7 @@ pub fn remains_of<S: PlacedBlocks + Drop>(
     Ok(Some(Remains { image }))
 }
 
-impl<S: BlockSource + Drop> Remains<S> {
+impl<S: PlacedBlocks + Drop> Remains<S> {
     /// The fault that the image's check tells; None of a sound one.
     pub fn fault(&self) -> Option<MountFault> {
         image_fault(&self.image)
@@ -110,6 +113,6 @@ impl<S: BlockSource + Drop> Remains<S> {
         ensures none { result ≡ Err CopyFault.ReadFailed → writer.new ≡ writer.old }
         ensures memory { result ≡ Err CopyFault.Memory → writer.new ≡ writer.old }
     {
-        write_found_fork(alloc, writer, self.image, words, path, kind)
+        write_found_fork(alloc, writer, self.image, words, path, kind).told
     }
 }

@@ -4,8 +4,8 @@ use crate::commands::print_code;
 use crate::words::{ForkPathWords, PathWords};
 use hfs_check::MountFault;
 use hfs_commands::{
-    Counted, Fault, FilePart, Format, OpenedFile, PartBlocks, PartImage, SeenImage, StoredFile,
-    Unopened, Window, open_asked, part_blocks,
+    Counted, Fault, FilePart, Format, OpenedFile, PartImage, SeenImage, StoredFile, Unopened,
+    Window, open_asked, part_blocks,
 };
 use hfs_console::tell_hint;
 use hfs_containers::{Asked, find_asked};
@@ -128,10 +128,7 @@ fn print_end(rt: &HostRuntime, told: Result<u8, Reply>) -> Result<u8, Fault<'sta
 }
 
 /// What remains of a refused image. Where nothing does, its refusal is the fault.
-fn find(
-    rt: &HostRuntime,
-    refused: RefusedImage<Part>,
-) -> Result<Remains<PartBlocks<File>>, Fault<'static>> {
+fn find(rt: &HostRuntime, refused: RefusedImage<Part>) -> Result<Remains<Part>, Fault<'static>> {
     let why = refused.why;
     match remains_of(rt.alloc(), refused) {
         Ok(Some(remains)) => Ok(remains),

@@ -2,4 +2,4 @@
 use Rattle.hfs_salvage.proofs.looking.checked.Goals as goal
 
 pub returns-in-Err-clause-none : goal.returns-in-Err-clause-none
-returns-in-Err-clause-none g c = c.fault_of.ensures (g.S.BlockSource.image c.args.source.now) c.args.len
+returns-in-Err-clause-none g c = c.fault_of.ensures (g.S.BlockSource.Holds c.needed_report.new.source) c.args.len
