@@ -51,6 +51,9 @@ piece_moved old new piece before after reads written = record {
   last = λ is. absurd (true≢false is);
 }
 
+pub no_more : (before after : ℕ) → false ≡ true → after < before
+no_more before after is = absurd (true≢false (sym is))
+
 -- and fewer are left
 pub piece_fewer : (piece before after : List ℕ) → IsFewer piece before after → 0 < length piece → length after < length before
 piece_fewer piece before after fewer some = omega (arith, fewer, some)

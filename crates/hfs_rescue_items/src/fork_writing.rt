@@ -33,7 +33,7 @@ fn copy_fault(fault: SourceFault, is_begun: bool) -> CopyFault
 }
 
 /// Reads the next bytes of a fork and writes them, and answers whether there were any.
-#[tactic(auto, using(crate::proofs::WritingLemmas::none_moved, crate::proofs::WritingLemmas::piece_moved, crate::proofs::WritingLemmas::piece_front, crate::proofs::WritingLemmas::rest_front))]
+#[tactic(auto, using(crate::proofs::WritingLemmas::none_moved, crate::proofs::WritingLemmas::no_more, crate::proofs::WritingLemmas::piece_moved, crate::proofs::WritingLemmas::piece_fewer, crate::proofs::WritingLemmas::piece_front, crate::proofs::WritingLemmas::nothing_written))]
 fn write_next<S: BlockSource, W: Write>(
     source: &mut S,
     reading: &mut ForkReading,
@@ -70,7 +70,7 @@ fn write_next<S: BlockSource, W: Write>(
 /// Writes the bytes of a fork that was found, at most 65,536 at a time, as they are read: memory doesn't grow with them. Errors: a read
 /// failed or memory was refused, before anything was written; either behind bytes that were written (`BrokenOff`), or the writer
 /// failed: then a part of the fork may have gone out, from its first byte on, and nothing else.
-#[tactic(auto, using(crate::proofs::WritingLemmas::begun, crate::proofs::WritingLemmas::goes_on, crate::proofs::WritingLemmas::ended_front, crate::proofs::WritingLemmas::all_written, crate::proofs::WritingLemmas::nothing_front))]
+#[tactic(auto, using(crate::proofs::WritingLemmas::begun, crate::proofs::WritingLemmas::goes_on, crate::proofs::WritingLemmas::ended_front, crate::proofs::WritingLemmas::all_written, crate::proofs::WritingLemmas::nothing_written))]
 pub fn write_fork<S: BlockSource, W: Write>(
     alloc: Global,
     source: &mut S,
