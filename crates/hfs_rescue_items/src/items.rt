@@ -155,7 +155,7 @@ impl<S: BlockSource> BagSource for RescueItems<'_, S> {
         Ok(())
     }
 
-    #[tactic(auto, using(crate::proofs::SourceLemmas::has_no_item))]
+    #[tactic(auto, using(crate::proofs::SourceLemmas::has_no_item, crate::proofs::SourceLemmas::plan_fewer))]
     fn next_item(&mut self) -> Result<Option<BagHead>, SourceFault>
         ensures taken { MatchResult result (λ head. OfEach (S.Holds self.new.source) (λ image. TakesItem
             (source_of image self.old.found self.old.plan.items self.old.next self.old.came self.old.reading)
