@@ -6,7 +6,7 @@ use Rattle.hfs_needed.proofs.Reported.{length-large, length-short, length-right,
 use Rattle.hfs_check.proofs.LawsProved.{no_blocks_fault}
 use Rattle.hfs_needed.proofs.LawsProved.{gathered_is_enough}
 use Rattle.hfs_check.specs.declared.mount_fault.MountFault.TheVariants as fault
-use Rattle.hfs_needed.proofs.SeenStart.{errs-each, reported-each}
+use Rattle.hfs_needed.proofs.SeenStart.{errs-each, reported-each, reports-each}
 use Rattle.hfs_needed.proofs.reporting.open_reported.Goals as goal
 
 pub returns-then-len-gt2147483648-clause-refused :
@@ -52,8 +52,7 @@ returns-clause-each_refused g c =
 
 pub returns-clause-each_report : goal.returns-clause-each_report
 returns-clause-each_report g c =
-    ok-so c.report_opened.result
-    (λ (found : ReportedVolume) each image h. reports-right (Some image) c.args.len (search rules) (search rules) found.report (each image h)) c.report_opened.ensures.each_report
+    reports-each (g.S.BlockSource.Holds c.report_opened.new.source) c.args.len (search rules) (search rules) c.report_opened.result c.report_opened.ensures.each_report
 
 pub returns-clause-each_sound : goal.returns-clause-each_sound
 returns-clause-each_sound g c =
