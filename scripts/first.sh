@@ -21,4 +21,4 @@ show 'hfs_tool --version'
 show "hfs_tool check $disk"
 show "hfs_tool items $disk | cut -f 1,2,14,15"
 show "hfs_tool ls $disk --path 'My Floppy:Games'"
-show "hfs_tool info < $disk"
+show "hfs_tool < $disk"
