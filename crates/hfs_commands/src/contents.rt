@@ -81,6 +81,11 @@ pub trait ReadContents {
     /// What it is read from is as it was when it was opened, as far as was looked.
     ghost settled: { Self → Type 0 };
 
+    /// What of it no writing changes: of what is read its bytes, where they are known, how many there are, and the changed blocks.
+    ghost Kept: { Type 0 };
+
+    ghost kept: { Self → Self.Kept };
+
     /// Writes all its bytes. At an error a part of them may have gone out, from the first on, and
     /// nothing else. Errors: memory was refused, a read or a write failed, or what it is read from
     /// has changed since it was opened.
@@ -90,6 +95,7 @@ pub trait ReadContents {
         ensures err { OnErr result (OfEach (Holds self.new)
             (AppendsFront (W.contents writer.old) (W.contents writer.new))) }
         ensures narrows { OfEach (Holds self.new) (Holds self.old) }
+        ensures kept { kept self.new ≡ kept self.old }
         ensures settled { OnOk result (settled self.new) };
 
     /// Whether zeros of a new file may be left out, as holes.
@@ -106,6 +112,7 @@ pub(crate) fn fill<C: ReadContents, P: PlacedWriter + Drop>(
     ensures filled { IfOk result (λ file. OfEach (C.Holds contents.new)
         (λ bytes. P.bytes file ≡ Some bytes)) }
     ensures narrows { OfEach (C.Holds contents.new) (C.Holds contents.old) }
+    ensures kept { C.kept contents.new ≡ C.kept contents.old }
     ensures settled { OnOk result (C.settled contents.new) }
 {
     let mut writer = NewFileWriter::new(file, contents.leaves_holes());
@@ -118,11 +125,15 @@ pub(crate) fn fill<C: ReadContents, P: PlacedWriter + Drop>(
 pub struct Whole<'a, C>(pub &'a C);
 
 impl<C: Contents> ReadContents for Whole<'_, C> {
-    ghost use Rattle.std.specs.Prelude.{◌≡◌, ⊤};
+    ghost use Rattle.std.specs.Prelude.{◌≡◌, ⊤, ℕ, List};
 
     ghost Holds = { λ whole bytes. bytes ≡ C.bytes whole.0.now };
 
     ghost settled = { λ _. ⊤ };
+
+    ghost Kept = { List ℕ };
+
+    ghost kept = { λ whole. C.bytes whole.0.now };
 
     fn write_to<W: Write>(&mut self, writer: &mut W) -> Result<(), UnwrittenFault> {
         match self.0.write_to(writer) {

@@ -113,11 +113,15 @@ pub struct ImageContents<S: BlockSource> {
 }
 
 impl<S: BlockSource> ReadContents for ImageContents<S> {
-    ghost use Rattle.std.specs.Prelude.{⊤};
+    ghost use Rattle.std.specs.Prelude.{⊤, ℕ, List, Option};
 
     ghost Holds = { λ image. IsSized (S.Holds image.source) image.len };
 
     ghost settled = { λ _. ⊤ };
+
+    ghost Kept = { Option (List ℕ) × ℕ };
+
+    ghost kept = { λ image. (S.image image.source, image.len) };
 
     fn write_to<W: Write>(&mut self, writer: &mut W) -> Result<(), UnwrittenFault> {
         write_range(self.alloc, &mut self.source, self.len, writer)

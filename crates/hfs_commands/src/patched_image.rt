@@ -26,9 +26,16 @@ pub struct PatchedImage<S> {
 }
 
 impl<S: BlockSource + Watched> ReadContents for PatchedImage<S> {
+    ghost use Rattle.std.specs.Prelude.{ℕ, List, Option};
+    ghost use Rattle.hfs_blocks.specs.Layers.{Numbered};
+
     ghost Holds = { λ image. IsPatchedOf (S.Holds image.source) image.len image.patch };
 
     ghost settled = { λ image. S.settled image.source };
+
+    ghost Kept = { Option (List ℕ) × ℕ × Numbered };
+
+    ghost kept = { λ image. (S.image image.source, image.len, image.patch) };
 
     fn write_to<W: Write>(&mut self, writer: &mut W) -> Result<(), UnwrittenFault> {
         write_patched(self.alloc, &mut self.source, self.len, &self.patch, writer)?;

@@ -140,6 +140,8 @@ impl<S: BlockSource + Watched + Drop> RunImage<S> {
             OfEach (S.Holds refused.source) (λ bytes. length bytes ≡ len → fault_of bytes ≡ Some refused.why))) }
         ensures back { IfOk result (λ opened. IfErr opened (λ refused.
             OfEach (S.Holds refused.source) (S.Holds source))) }
+        ensures back_image { IfOk result (λ opened. IfErr opened (λ refused.
+            S.image refused.source ≡ S.image source)) }
         ensures fault { IfErr result (λ why. (why ≡ Fault.CannotRead path.entry) ⊎ IsTooMuch why) }
     {
         if len > IMAGE_LIMIT as u64 {

@@ -111,6 +111,7 @@ fn fill_new<R: Files, C: ReadContents>(
     ensures filled { IfOk result (λ file. OfEach (C.Holds contents.new)
         (λ bytes. bytes_after file.log.steps ≡ Some bytes)) }
     ensures narrows { OfEach (C.Holds contents.new) (C.Holds contents.old) }
+    ensures kept { C.kept contents.new ≡ C.kept contents.old }
     ensures settled { OnOk result (C.settled contents.new) }
 {
     let file = fill(contents, file)?;
