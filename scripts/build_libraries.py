@@ -69,6 +69,8 @@ def main(*words):
     if hasattr(rt, "share_work"):
         rt.share_work(True)
     rt.rtlib.Crate.stamp = functools.lru_cache(None)(rt.rtlib.Crate.stamp)
+    below = functools.lru_cache(None)(rt.rtlib.Crate.below)
+    rt.rtlib.Crate.below = lambda crate: [*below(crate)]
     crates = {it.name: it for it in rt.rtlib.crates_below(root)}
     lacking = [it for it in names if it not in crates]
     if lacking:

@@ -1,5 +1,5 @@
 #!/usr/bin/env bash
-# What the program does, before anything is proved: builds crates/hfs_tool/out/hfs_tool.unproved, in some five minutes of one
+# What the program does, before anything is proved: builds crates/hfs_tool/out/hfs_tool.unproved, in some two minutes of one
 # processor, and shows a stored disk with it. The program stays, says '(not proved)' of itself by --version, and is built anew
 # where a source is newer. What the proved program prints is the same; scripts/build.sh builds that.
 set -euo pipefail
@@ -9,7 +9,7 @@ disk=tests/volumes/hfsutils-800k.img
 
 if [ ! -x "$tool" ] || [ -n "$(find crates -name '*.rt' -newer "$tool" -print -quit)" ]; then
     mkdir -p crates/hfs_tool/out
-    python3 scripts/unproved_program.py hfs_tool "$tool" -O1
+    python3 scripts/unproved_program.py hfs_tool "$tool" -O0
 fi
 
 # Prints a command line and runs it.

@@ -1,14 +1,18 @@
 #!/usr/bin/env bash
-# Makes a Debian package of both proved programs, which scripts/build.sh leaves: the binaries, stripped, their man pages, the licence, what is new, the
-# README and the documents that the programs' help names, and completion files for bash. It needs the C library and nothing else. Made twice of the
-# same programs it has the same bytes: its dates are SOURCE_DATE_EPOCH, or else the day of the newest release that CHANGELOG.md has a day of.
+# Makes a Debian package of both proved programs, which scripts/build.sh leaves or HFS_TOOL and HFS_COLLECT name: the binaries, stripped, their man
+# pages, the licence, what is new, the README and the documents for users, and completion files for bash. It needs the C library and nothing else. Made
+# twice of the same programs it has the same bytes: its dates are SOURCE_DATE_EPOCH, or else the day of the newest release that CHANGELOG.md has a day of.
 #
 # scripts/package.sh [FOLDER], which is this one where none is named; prints the package's path.
 set -euo pipefail
 root=$(cd "$(dirname "$0")/.." && pwd)
 into=$(cd "${1:-.}" && pwd)
 programs=(hfs_tool hfs_collect)
-documents=(MANUAL CALLS CHECKS FORMATS SCRIPTS)
+declare -A built=(
+    [hfs_tool]=${HFS_TOOL:-$root/crates/hfs_tool/out/hfs_tool}
+    [hfs_collect]=${HFS_COLLECT:-$root/crates/hfs_collect/out/hfs_collect}
+)
+documents=(MANUAL HFSUTILS EMULATORS CALLS CHECKS FORMATS SCRIPTS)
 maintainer='The Foyersage developers <foyersage@localhost>'
 
 stop() {
@@ -17,8 +21,8 @@ stop() {
 }
 
 for program in "${programs[@]}"; do
-    [ -x "$root/crates/$program/out/$program" ] || stop 'build the programs first: scripts/build.sh'
-    said=$("$root/crates/$program/out/$program" --version)
+    [ -x "${built[$program]}" ] || stop 'build the programs first: scripts/build.sh'
+    said=$("${built[$program]}" --version)
     [[ $said == *'(proved with '* ]] || stop "this program is not a proved one: $said"
 done
 for needed in dpkg-deb strip readelf; do
@@ -45,12 +49,13 @@ umask 022
 
 install -d "$share/man/man1" "$shelf/docs" "$tree/DEBIAN"
 for program in "${programs[@]}"; do
-    install -D -m 755 "$root/crates/$program/out/$program" "$tree/usr/bin/$program"
+    install -D -m 755 "${built[$program]}" "$tree/usr/bin/$program"
     strip --remove-section=.comment --remove-section=.note "$tree/usr/bin/$program"
     install -D -m 644 "$root/packaging/$program.bash" "$share/bash-completion/completions/$program"
     gzip -9 -n < "$root/docs/$program.1" > "$share/man/man1/$program.1.gz"
 done
 for document in "${documents[@]}"; do install -m 644 "$root/docs/$document.md" "$shelf/docs"; done
+install -m 644 "$root/docs/page.png" "$shelf/docs"
 install -m 644 "$root/README.md" "$root/CHANGELOG.md" "$shelf"
 {
     printf 'Files: *\nLicense:\n\n'

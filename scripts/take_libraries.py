@@ -39,6 +39,8 @@ def main(checkout, log=None):
     os.chdir(root)
     rt = load_rt()
     rt.rtlib.Crate.stamp = functools.lru_cache(None)(rt.rtlib.Crate.stamp)
+    below = functools.lru_cache(None)(rt.rtlib.Crate.below)
+    rt.rtlib.Crate.below = lambda crate: [*below(crate)]
     crates = rt.rtlib.crates_below(root)
     proved = {it.name for it in crates}
     if log:

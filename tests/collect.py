@@ -164,7 +164,7 @@ class Place:
 
     def run(self, *words, errors='', **how):
         """The status of the words, and what they print; on standard error this."""
-        how = {'stdin': subprocess.DEVNULL, 'timeout': 300, 'cwd': self.folder, **how}
+        how = {**({} if 'input' in how else {'stdin': subprocess.DEVNULL}), 'timeout': 300, 'cwd': self.folder, **how}
         ran = subprocess.run(called(*words), stdout=subprocess.PIPE, stderr=subprocess.PIPE, **how)
         ensure(ran.stderr.decode('utf-8') == errors, f'{words} writes to standard error: {ran.stderr[:500]!r}')
         return ran.returncode, ran.stdout.decode('utf-8')
@@ -1002,10 +1002,9 @@ def unread_images(place):
     (place.folder / 'gone.img').unlink()
     (place.folder / 'folder').mkdir()
     rows = image_rows(place, 'p6.img')
-    for name in ('gone.img', 'none.img', 'folder', '/dev/stdin', 'none/none', ''):
-        how = {'stdin': subprocess.PIPE} if name == '/dev/stdin' else {}
-        place.wants(4, f'cannot read {name}\n' + line_of(rows), 'collect', 'c.db', name, 'p6.img', **how)
-        place.wants(4, line_of(rows) + f'cannot read {name}\n', 'collect', 'c.db', 'p6.img', name, **how)
+    for name in ('gone.img', 'none.img', 'folder', 'none/none', ''):
+        place.wants(4, f'cannot read {name}\n' + line_of(rows), 'collect', 'c.db', name, 'p6.img')
+        place.wants(4, line_of(rows) + f'cannot read {name}\n', 'collect', 'c.db', 'p6.img', name)
     holds(place, [kept, rows])
     # The database itself, by each of its names.
     (place.folder / 'link').symlink_to('c.db')
@@ -1015,6 +1014,38 @@ def unread_images(place):
     place.wants(4, 'cannot read new.db\ncannot read new.db-wal\n', 'collect', 'new.db', 'new.db', 'new.db-wal')
     holds(place, [], 'new.db')
     holds(place, [kept, rows])
+
+
+def piped_images(place):
+    """Images out of pipes: the same rows as by their paths, but for the path; so are comparisons. What comes later takes the rows' place."""
+    content = small_volume(place)
+    floppy = small_file('OneFile')
+    files = {'p6.img': content, 'one.img': floppy, 'map.img': in_map(content, 512), 'refused.img': with_bytes(content, (1024 + 87, b'\xff')), 'disk.bin': in_sectors(content),
+             'copy.img': in_disk_copy(content), 'lost.img': with_bytes(floppy, (1024, bytes(512))), 'zeros.img': bytes(70000), 'empty.img': b''}
+    for name, data in files.items():
+        place.file(name, data)
+        for digests in ([], ['--no-digest']):
+            rows = image_rows(place, name, not digests)
+            piped = (('/dev/stdin', *rows[0][1:]), rows[1])
+            how = {'errors': '/dev/stdin: the sum of the disk copy is wrong\n'} if any('sum wrong' in row[1] for row, _ in rows[1]) else {}
+            place.wants(0, line_of(piped), 'collect', 'c.db', '/dev/stdin', *digests, input=data, **how)
+            holds(place, [piped])
+        place.wants(0, 'same length\t/dev/stdin\n', 'collect', 'c.db', '--compare', input=data)
+        place.wants(3, 'changed\t/dev/stdin\n', 'collect', 'c.db', '--compare', '/dev/stdin', input=data + b'x')
+    place.done('collect', 'c.db', '/dev/stdin', input=content)
+    place.wants(0, 'same\t/dev/stdin\n', 'collect', 'c.db', '--compare', '/dev/stdin', input=content)
+    place.wants(3, 'changed\t/dev/stdin\n', 'collect', 'c.db', '--compare', '/dev/stdin', input=content[:-1] + b'x')
+    # A named pipe, and beside it an image by its path.
+    os.mkfifo(place.folder / 'pipe')
+    writer = subprocess.Popen(['sh', '-c', 'cat one.img > pipe'], cwd=place.folder)
+    rows = image_rows(place, 'one.img')
+    piped = (('pipe', *rows[0][1:]), rows[1])
+    reader = subprocess.Popen(called('collect', 'new.db', 'pipe', 'p6.img'), stdin=subprocess.DEVNULL, stdout=subprocess.PIPE, cwd=place.folder)
+    writer.wait(timeout=300)
+    told = reader.communicate(timeout=300)[0].decode()
+    others = image_rows(place, 'p6.img')
+    ensure((reader.returncode, told) == (0, line_of(piped) + line_of(others)), f'a named pipe: {reader.returncode}, {told!r}')
+    holds(place, [piped, others], 'new.db')
 
 
 def broken_reads(place, library):
@@ -1209,7 +1240,7 @@ def main():
         else:
             left_out.append('reads and memory that are refused, for want of a C compiler')
         parts = [worked_example, cut_dumps, raw_sectors, rows_beside_words, damaged_disks, odd_paths, comparisons, refused_words, made_by_sqlite, other_tables, damaged_databases, other_programs, read_only,
-                 few_files, unread_images, full_output, terminal]
+                 few_files, unread_images, piped_images, full_output, terminal]
         parts = [(part.__name__, part) for part in parts]
         parts.append(('full_devices', lambda place: full_devices(place, left_out)))
         if library:

@@ -310,12 +310,12 @@ def needed_blocks(bench, image):
 
 
 def needed_rescues(bench, image):
-    """`rescue --list` reads, beside what `check` does, both places of the directory and both trees' files; the whole image only where
-    no record of the catalog is there, or no directory. No block of a fork is among the former."""
+    """`rescue --list` of a sound volume reads what `check` does; of one that is refused both places of the directory and both trees'
+    files, too, and the whole image only where no record of the catalog is there, or no directory. No other reads a block of a fork."""
     two_levels = gzip.decompress((HERE / 'volumes' / 'small' / 'two-levels.img.gz').read_bytes())
     without = lambda *blocks: b''.join(bytes(BLOCK) if n in blocks else image[BLOCK * n:BLOCK * (n + 1)] for n in range(64))
     trees, whole = [0, 1] + WORKING, list(range(64))
-    for what, content, blocks in (('a sound volume', image, trees), ('a name with a bullet', edited(image, (7 * BLOCK + 153, 0xA5)), trees),
+    for what, content, blocks in (('a sound volume', image, [0, 1] + NEEDED), ('a name with a bullet', edited(image, (7 * BLOCK + 153, 0xA5)), trees),
                                   ('a leaf that is lost beside another', edited(two_levels, (8 * BLOCK + 8, 7)), trees),
                                   ('the only leaf is lost', edited(image, (7 * BLOCK + 8, 7)), whole),
                                   ('block 2 is lost', without(2), [it for it in trees if it != 3]), ('no directory', without(2, 62), whole)):

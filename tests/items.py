@@ -45,11 +45,11 @@ class Differs(Exception):
     """What the program prints isn't what it is to print."""
 
 
-def told(*words, given=None):
-    """The status of the words, and what they print."""
+def told(*words, given=None, errors=b''):
+    """The status of the words, and what they print; on standard error this."""
     how = {'stdin': subprocess.DEVNULL} if given is None else {'input': given}
     run = subprocess.run([TOOL, *map(str, words)], stdout=subprocess.PIPE, stderr=subprocess.PIPE, timeout=600, **how)
-    if run.stderr:
+    if run.stderr != errors:
         raise Differs(f'{words} writes to standard error: {run.stderr!r}')
     return run.returncode, run.stdout
 

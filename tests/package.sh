@@ -1,7 +1,7 @@
 #!/usr/bin/env bash
-# Makes the package, twice, lays it into a folder, and runs what was installed: the programs, their man pages at 80 columns, and the completion of their
-# words; lintian finds no error but the mail host, since the project has no address. Prints 'the package agrees', or what differs and ends with status
-# 1. Where dpkg-deb is missing it says that it was skipped.
+# Makes a release of stand-ins, twice, and looks into it. Then makes the package, twice, lays it into a folder, and runs what was installed: the
+# programs, their man pages at 80 columns, and the completion of their words; lintian finds no error but the mail host, since the project has no
+# address. Prints 'the package agrees', or what differs and ends with status 1. Where dpkg-deb is missing it says that it was skipped.
 . "$(dirname "$0")/common.sh"
 command -v dpkg-deb > /dev/null || { echo 'the package: skipped, since dpkg-deb is missing'; exit 0; }
 folder=$(mktemp -d)
@@ -17,8 +17,61 @@ mkdir -p "$folder/unproved/scripts" "$folder/unproved/crates/hfs_tool/out"
 cp scripts/package.sh "$folder/unproved/scripts"
 printf '#!/bin/sh\necho "hfs_tool 1.0.0 (not proved)"\n' > "$folder/unproved/crates/hfs_tool/out/hfs_tool"
 chmod +x "$folder/unproved/crates/hfs_tool/out/hfs_tool"
-[ "$("$folder/unproved/scripts/package.sh" "$folder" 2>&1 || true)" = 'package: this program is not a proved one: hfs_tool 1.0.0 (not proved)' ] &&
+[ "$(env -u HFS_TOOL -u HFS_COLLECT "$folder/unproved/scripts/package.sh" "$folder" 2>&1 || true)" = 'package: this program is not a proved one: hfs_tool 1.0.0 (not proved)' ] &&
     ! compgen -G "$folder/*.deb" > /dev/null || fail 'it is made of a program that is not proved'
+
+# A release of two programs that do nothing but print their version, made by a copy that git knows nothing of.
+copy=$folder/copy
+release=$folder/release
+mkdir -p "$copy/tests" "$release" "$folder/released again" "$folder/dated release" "$folder/no release"
+cp -r scripts packaging docs README.md CHANGELOG.md LICENSE "$copy"
+cp tests/common.sh "$copy/tests"
+
+releases() {
+    (umask 077 && HFS_TOOL=$folder/hfs_tool HFS_COLLECT=$folder/hfs_collect "$copy/scripts/release.sh" "$1" 2> "$folder/errors")
+}
+
+# How many lines of an archive's list are not of this day, or of a file that not everybody may read.
+other_lines() {
+    TZ=UTC tar -tvzf "$1" | grep -vc "^[-d]r[-w][-x]r-[-x]r-[-x] 0/0 .* $2 " || true
+}
+
+try_release() {
+    local name=hfs-tool-1.2.3-linux-amd64 day part
+    [ "$(releases "$release" | sed 's|.*/||')" = $'hfs-tool_1.2.3_amd64.deb\n'$name$'.tar.gz\nhfs-tool-1.2.3.sha256' ] || fail "what release.sh prints: $(cat "$folder/errors")"
+    [ "$(cat "$folder/errors")" = 'release: CHANGELOG.md has no day of 1.2.3 yet' ] || fail "what release.sh says of the day: $(cat "$folder/errors")"
+    (cd "$release" && [ "$(wc -l < hfs-tool-1.2.3.sha256)" = 2 ] && sha256sum --check --quiet hfs-tool-1.2.3.sha256) || fail 'the sums of a release'
+    day=$(sed -n 's/^## [0-9.]*, \(.*\)$/\1/p' CHANGELOG.md | sed -n 1p)
+    [ "$(other_lines "$release/$name.tar.gz" "$(date -u -d "$day" +%F)")" = 0 ] || fail 'the dates of the archive, or who may read its files'
+
+    # The archive has what the package has.
+    tar -xzf "$release/$name.tar.gz" -C "$folder" && dpkg-deb -x "$release/hfs-tool_1.2.3_amd64.deb" "$folder/laid"
+    [ "$(ls "$folder/$name" | tr '\n' ' ')" = 'CHANGELOG.md LICENSE README.md bin docs share ' ] || fail 'what the archive has'
+    for part in bin share/man share/bash-completion; do diff -r "$folder/$name/$part" "$folder/laid/usr/$part" || fail "the archive's $part"; done
+    for part in docs README.md CHANGELOG.md; do diff -r "$folder/$name/$part" "$folder/laid/usr/share/doc/hfs-tool/$part" || fail "the archive's $part"; done
+    cmp -s LICENSE "$folder/$name/LICENSE" || fail "the archive's licence"
+    [ "$("$folder/$name/bin/hfs_collect")" = 'hfs_collect 1.2.3 (proved with a stand-in)' ] || fail 'a program of the archive'
+
+    # It has the same bytes where it is made again later; its dates are those that are asked for.
+    touch "$copy"/* "$copy"/*/* "$folder/hfs_tool" && releases "$folder/released again" > /dev/null
+    diff -r "$release" "$folder/released again" > /dev/null || fail 'a release has other bytes where it is made again'
+    sed -i 's/^## 0\.1\.0, /## 1.2.3, /' "$copy/CHANGELOG.md" && SOURCE_DATE_EPOCH=1000000000 releases "$folder/dated release" > /dev/null
+    [ "$(other_lines "$folder/dated release/$name.tar.gz" 2001-09-09)" = 0 ] || fail 'the dates of the archive are not SOURCE_DATE_EPOCH'
+    [ ! -s "$folder/errors" ] || fail "what release.sh says of a day that is there: $(cat "$folder/errors")"
+    cp CHANGELOG.md "$copy"
+
+    # A program that isn't proved makes no release.
+    cp "$folder/unproved/crates/hfs_tool/out/hfs_tool" "$folder/hfs_tool"
+    ! releases "$folder/no release" > /dev/null && [ -z "$(ls "$folder/no release")" ] || fail 'a release is made of a program that is not proved'
+}
+
+if command -v cc > /dev/null; then
+    printf '#include <stdio.h>\nint main(void) { return puts(NAME " 1.2.3 (proved with a stand-in)") < 0; }\n' > "$folder/stand_in.c"
+    for name in hfs_tool hfs_collect; do cc -DNAME="\"$name\"" -o "$folder/$name" "$folder/stand_in.c"; done
+    try_release
+else
+    echo 'the package: no release was made, since cc is missing'
+fi
 
 package=$(scripts/package.sh "$folder")
 version=$($(program hfs_tool) --version | awk '{ print $2 }')
@@ -27,11 +80,10 @@ version=$($(program hfs_tool) --version | awk '{ print $2 }')
 [[ $(dpkg-deb -f "$package" Depends) =~ ^'libc6 (>= '2\.[0-9]+')'$ ]] || fail "what it stands on: $(dpkg-deb -f "$package" Depends)"
 
 # It has the same bytes where it is made again, also by a copy that git knows nothing of; its dates are those that are asked for.
-mkdir -p "$folder/again" "$folder/dated" "$folder/copy/crates"
-cp -r scripts packaging docs README.md CHANGELOG.md LICENSE "$folder/copy"
-for name in hfs_tool hfs_collect; do install -D "crates/$name/out/$name" "$folder/copy/crates/$name/out/$name"; done
-cmp -s "$package" "$("$folder/copy/scripts/package.sh" "$folder/again")" || fail 'it has other bytes where it is made again'
-dated=$(SOURCE_DATE_EPOCH=1000000000 "$folder/copy/scripts/package.sh" "$folder/dated")
+mkdir -p "$folder/again" "$folder/dated"
+for name in hfs_tool hfs_collect; do install -D "$(program "$name")" "$copy/crates/$name/out/$name"; done
+cmp -s "$package" "$(env -u HFS_TOOL -u HFS_COLLECT "$copy/scripts/package.sh" "$folder/again")" || fail 'it has other bytes where it is made again'
+dated=$(SOURCE_DATE_EPOCH=1000000000 env -u HFS_TOOL -u HFS_COLLECT "$copy/scripts/package.sh" "$folder/dated")
 [ "$(dpkg-deb -c "$dated" | grep -vc ' 2001-09-09 ')" = 0 ] || fail 'its dates are not SOURCE_DATE_EPOCH'
 if command -v lintian > /dev/null; then
     errors=$(lintian --allow-root --tag-display-limit 0 "$package" 2> /dev/null | grep '^E:' | grep -v ' bogus-mail-host' || true)
@@ -79,7 +131,7 @@ if command -v man > /dev/null; then
 else
     echo 'the package: its man page was not read, since man is missing'
 fi
-for name in README.md CHANGELOG.md docs/MANUAL.md copyright changelog.gz; do
+for name in README.md CHANGELOG.md docs/MANUAL.md docs/HFSUTILS.md docs/EMULATORS.md copyright changelog.gz; do
     [ -s "$share/doc/hfs-tool/$name" ] || fail "$name is not there"
 done
 

@@ -306,11 +306,11 @@ class Pages:
         self.folder = folder
         self.count, self.items, self.parts = 0, 0, Counter()
 
-    def printed(self, image, status=0):
-        """What `page` prints of an image, by its path and out of a pipe."""
-        page = told('page', image)
+    def printed(self, image, status=0, errors=b''):
+        """What `page` prints of an image, by its path and out of a pipe; on standard error this."""
+        page = told('page', image, errors=errors)
         ensure(page[0] == status, f'page of {image.name} ends with {page[0]}')
-        piped = told('page', '/dev/stdin', given=image.read_bytes())
+        piped = told('page', '/dev/stdin', given=image.read_bytes(), errors=errors)
         ensure((piped[0], renamed(piped[1], 'stdin', image.name)) == page, f'page of {image.name} is another one out of a pipe')
         return page[1]
 
@@ -482,17 +482,11 @@ def compare_ways(pages):
 
 
 def compare_refused(pages):
-    """The page of a refused image has the fault, as `ls` tells it, and what it means."""
+    """The page of a refused image in which nothing is found has the fault, as `ls` tells it, and what it means."""
     new = bytes(new_volume())
-    damaged = 'the disk is damaged; hfs_tool rescue takes off what is there'
-    counts = 'counts are wrong, the files may be whole; hfs_tool repair mends counts, and hfs_tool rescue takes the files off as they are'
     length = 'a volume has at least 1,536 bytes and at most 2,147,483,648'
     cases = {'short': (new[:1535], 'image too short', length), 'empty': (b'', 'image too short', length),
-             'zeros': (bytes(32_768), 'not an HFS volume (-57)', 'no HFS volume begins here; hfs_tool volumes FILE looks for one inside, and hfs_tool rescue for what remains of one'),
-             'cut': (new[:61 * 512], 'bad master directory block M4 (-60)', damaged),
-             'miscounted': (new[:MDB + 87] + b'\1' + new[MDB + 88:], 'check C10 at 3', counts),
-             'unnamed': ((VOLUMES / 'refused-icon.img').read_bytes(), 'check C7 at 4', 'the disk may be sound: it has a name that this program does not take; hfs_tool rescue takes its files off'),
-             'bitmap': (new[:1_536] + b'\0' * 512 + new[2_048:], 'check C12 at 0', damaged)}
+             'zeros': (bytes(32_768), 'not an HFS volume (-57)', 'no HFS volume begins here; hfs_tool volumes FILE looks for one inside, and hfs_tool rescue for what remains of one')}
     for name, (content, fault, meaning) in cases.items():
         image = pages.image(f'refused-{name}', content)
         ensure(told('ls', image) == (2, f'{fault}\n'.encode()), f'ls of {name} prints {told("ls", image)}')
@@ -508,6 +502,26 @@ def compare_refused(pages):
     document = Document(told('page', pages.folder / 'huge.img')[1].decode('utf-8'))
     ensure([it.text for it in document.top.only('main').elements if it.tag != 'dl'] == ['Refused', 'image too large', length, f'Printed by {VERSION}'],
            'the page of an image that is too large')
+
+
+def compare_remains(pages):
+    """The page of a refused image of which something is found has the fault and what it means too, and the fault stands on standard
+    error; what else it has is wanted by refused_disks.py."""
+    new = bytes(new_volume())
+    damaged = 'the disk is damaged; hfs_tool rescue takes off what is there'
+    counts = 'counts are wrong, the files may be whole; hfs_tool repair mends counts, and hfs_tool rescue takes the files off as they are'
+    cases = {'cut': (new[:61 * 512], 'bad master directory block M4 (-60)', damaged),
+             'miscounted': (new[:MDB + 87] + b'\1' + new[MDB + 88:], 'check C10 at 3', counts),
+             'unnamed': ((VOLUMES / 'refused-icon.img').read_bytes(), 'check C7 at 4', 'the disk may be sound: it has a name that this program does not take; hfs_tool rescue takes its files off'),
+             'bitmap': (new[:1_536] + b'\0' * 512 + new[2_048:], 'check C12 at 0', damaged)}
+    for name, (content, fault, meaning) in cases.items():
+        image = pages.image(f'refused-{name}', content)
+        page = pages.printed(image, told('rescue', image, '--list')[0], f'{fault}\n'.encode())
+        document = Document(page.decode('utf-8'))
+        pages.want_dress(document, characters(content[MDB + 37:][:content[MDB + 36]]))
+        texts = [it.text for it in document.top.only('main').elements if it.tag == 'p']
+        ensure(texts == [fault, meaning], f'the page of {name} says {texts}')
+        pages.count += 1
 
 
 def compare_links(pages):
@@ -537,11 +551,13 @@ def compare_digests(pages):
     """With --digest the page has the digest of the image, or of the volume in it, and nothing else changes."""
     volume = (VOLUMES / 'hfsutils-800k.img').read_bytes()
     within = pages.image('digested', in_map(volume, 512))
-    for image, words, content in ((VOLUMES / 'hfsutils-800k.img', (), volume), (within, ('--volume', 1), volume),
-                                  (VOLUMES / 'refused-icon.img', (), (VOLUMES / 'refused-icon.img').read_bytes()), (pages.image('odd', volume + b'x'), (), volume + b'x')):
-        status, page = told('page', image, *words, '--digest')
+    refused = VOLUMES / 'refused-icon.img'
+    for image, words, content, errors in ((VOLUMES / 'hfsutils-800k.img', (), volume, b''), (within, ('--volume', 1), volume, b''),
+                                          (refused, (), refused.read_bytes(), b'check C7 at 4\n'), (pages.image('odd', volume + b'x'), (), volume + b'x', b'')):
+        status, page = told('page', image, *words, '--digest', errors=errors)
         row = f'<div><dt>SHA-256</dt><dd>{hashlib.sha256(content).hexdigest()}</dd></div>\n'.encode()
-        ensure(page.count(row) == 1 and (status, page.replace(row, b'')) == told('page', image, *words), f'the page of {image.name} has no digest')
+        plain_page = told('page', image, *words, errors=errors)
+        ensure(page.count(row) == 1 and (status, page.replace(row, b'')) == plain_page, f'the page of {image.name} has no digest')
     piped = told('page', '/dev/stdin', '--digest', given=volume)
     ensure((piped[0], renamed(piped[1], 'stdin', 'hfsutils-800k.img')) == told('page', VOLUMES / 'hfsutils-800k.img', '--digest'), 'a digest out of a pipe')
 
@@ -560,6 +576,7 @@ def main():
             compare_deep(pages)
             compare_ways(pages)
             compare_refused(pages)
+            compare_remains(pages)
             compare_links(pages)
             compare_digests(pages)
             each = compare_many(pages, words.items)
@@ -567,7 +584,8 @@ def main():
                 words.kept.mkdir(parents=True, exist_ok=True)
                 kept = [*pages.folder.glob('*.img'), *VOLUMES.glob('*.img')]
                 for image in kept:
-                    (words.kept / f'{image.stem}.html').write_bytes(told('page', image)[1])
+                    page = subprocess.run([TOOL, 'page', image], stdout=subprocess.PIPE, stderr=subprocess.DEVNULL, timeout=600).stdout
+                    (words.kept / f'{image.stem}.html').write_bytes(page)
         except Differs as differs:
             print(f'the pages differ: {differs}')
             return 1

@@ -340,15 +340,18 @@ def read_collection(browser, folder, kept, volumes):
 
 def look_at_own(browser, folder, kept, items, volumes):
     """Pages of the volumes in tests/volumes, of one with each part, and of a large one."""
-    def printed(image, status=0, words=(), name=''):
-        answer = told('page', image, *words)
+    def printed(image, status=0, words=(), name='', errors=b''):
+        answer = told('page', image, *words, errors=errors)
         ensure(answer[0] == status, f'page of {image.name} ends with {answer[0]}')
         page = folder / f'{image.stem}{name}.html'
         page.write_bytes(answer[1])
         return page
 
     for image in sorted(VOLUMES.glob('*.img')):
-        page = printed(image, 2 if image.name.startswith('refused') else 0)
+        if image.name.startswith('refused'):
+            page = printed(image, told('rescue', image, '--list')[0], errors=told('ls', image)[1])
+        else:
+            page = printed(image)
         look_at(browser, page, kept, True)
         look_at_colours(page) if 'id="k0"' in page.read_text('utf-8') else None
     parts, many = folder / 'parts.img', folder / 'many.img'

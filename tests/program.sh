@@ -110,62 +110,9 @@ change() {
     printf "$3" | dd of="$folder/changed.img" bs=1 seek="$2" conv=notrunc 2> /dev/null
 }
 
-# What the README and the manual are shown with: images in a folder, and three volumes with something before them.
+# What the README and the pages for users are shown with.
 readme=$folder/readme
-mkdir "$readme" "$readme/images"
-ln -s "$PWD/crates" "$PWD/scripts" "$PWD/tests" "$readme"
-cp "$volumes/hfsutils-800k.img" "$readme/images/m0.img"
-cp "$volumes/genisoimage-locked.img" "$readme/images/old disk.img"
-cp "$volumes/refused-icon.img" "$readme/images/icon.img"
-head -c 50000 "$volumes/hfsutils-800k.img" > "$readme/images/cut.img"
-
-# Four bytes, the greatest first.
-number() {
-    printf "$(printf '\\%03o\\%03o\\%03o\\%03o' $(($1 >> 24)) $(($1 >> 16 & 255)) $(($1 >> 8 & 255)) $(($1 & 255)))"
-}
-
-# An entry of a partition map: where the partition begins, how many blocks it has, its type.
-partition() {
-    { printf 'PM\0\0' && number 2 && number "$1" && number "$2" && head -c 32 /dev/zero && printf %s "$3" && head -c 512 /dev/zero; } | head -c 512
-}
-
-{
-    { printf 'ER' && head -c 512 /dev/zero; } | head -c 512
-    partition 1 63 Apple_partition_map
-    partition 64 1600 Apple_HFS
-    head -c $((61 * 512)) /dev/zero
-    cat "$volumes/hfsutils-800k.img"
-} > "$readme/hard_disk.img"
-# The sum of Disk Copy: each 16-bit word is added, and then the sum is turned right by one bit.
-data_sum() {
-    python3 - "$1" << 'END'
-import struct
-import sys
-total = 0
-for word, in struct.iter_unpack('>H', open(sys.argv[1], 'rb').read()):
-    total = (total + word) & 0xffffffff
-    total = total >> 1 | (total & 1) << 31
-print(total)
-END
-}
-
-{
-    printf '\006Floppy' && head -c 57 /dev/zero && number 819200 && number 0 && number "$(data_sum "$volumes/hfsutils-800k.img")"
-    head -c 6 /dev/zero && printf '\001\000'
-    cat "$volumes/hfsutils-800k.img"
-} > "$readme/floppy.dc42"
-{
-    printf '\000\006Floppy' && head -c 75 /dev/zero && number 819200 && head -c 41 /dev/zero
-    cat "$volumes/hfsutils-800k.img"
-} > "$readme/floppy.bin"
-# The floppy in raw CD sectors of mode 1, and two sectors of music behind it.
-python3 - "$volumes/hfsutils-800k.img" > "$readme/disc.bin" << 'END'
-import sys
-data = open(sys.argv[1], 'rb').read()
-for at in range(0, len(data), 2048):
-    sys.stdout.buffer.write(b'\0' + bytes([255] * 10) + b'\0\0\2\0\1' + data[at:at + 2048] + bytes(288))
-sys.stdout.buffer.write(bytes([7]) * 4704)
-END
+scripts/example_disks.sh "$readme"
 
 # What the manual asks of a database is asked of Python's SQLite where the program sqlite3 isn't installed.
 if ! command -v sqlite3 > /dev/null; then
@@ -205,6 +152,8 @@ runs_page() (
 
 runs_page README.md 8
 runs_page docs/MANUAL.md 40
+runs_page docs/HFSUTILS.md 30
+runs_page docs/EMULATORS.md 20
 
 # The man page is what the help says.
 for name in hfs_tool hfs_collect; do

@@ -1,7 +1,7 @@
 #!/usr/bin/env python3
-"""What `items`, `ls --path` and `cat --path` print of images that are refused, beside the model of what `rescue` finds in tests/remains,
+"""What `items`, `page`, `ls --path` and `cat --path` print of images that are refused, beside the model of what `rescue` finds in tests/remains,
 which shares no line with the program: the table in its three formats, the rows of folders, both forks of files by their paths, the
-status, and behind them the image's fault on standard error; by the image's path and out of a pipe. Of an image in which nothing is found,
+page with each item once and what is said of its forks, the status, and behind them the image's fault on standard error; by the image's path and out of a pipe. Of an image in which nothing is found,
 the refusal alone. The images are those of tests/rescue.py, of which some have their rows by hand there, and volumes inside other files.
 And what the other words answer of a refused image.
 
@@ -17,9 +17,11 @@ from pathlib import Path
 from typing import Optional
 
 import rescue
+from items import Differs as PageDiffers
 from remains.bag import COLUMNS, Remains, Rescued, Source, finder_of, plain, quoted, row_of
 from remains.places import Item
 from remains.runs import PATIENCE, PIPE, TOOL, Bench, Differs, ensure
+from remains_pages import want_remains
 from volumes import WRAPPINGS
 from volumes import found as volumes_in
 
@@ -102,7 +104,7 @@ class Shown:
 class Refused(Bench):
     """A folder in which images that are refused are shown."""
 
-    shown = tables = paths = nothing = 0
+    shown = tables = pages = paths = nothing = 0
 
     def attempt(self, content: bytes, what: str, bags: str = 'fp', lists: str = 'fp', limit: Optional[int] = None, has_digest: bool = True) -> Rescued:
         """Wants of the program what the model tells of an image. Gives what `rescue` prints of it by the model."""
@@ -125,13 +127,27 @@ class Refused(Bench):
             for source, given in ways:
                 for asked in (('items', source), ('ls', source, '--path', ':'), ('cat', source, '--path', ':x')):
                     same(ran(*asked, *words, given=given), (2, checked.removeprefix('refused ').encode(), b''), f'{what}: {asked}')
+            status, page, errors = ran('page', image, *words)
+            ensure(status == 2 and b'<h1>Refused</h1>' in page and not errors, f'{what}: the page of nothing ends with {status}')
             return
         shown = Shown(remains, checked)
         for n, how in enumerate(('tab', 'csv', 'json')):
             source, given = ways[(self.number + n) % 2]
             same(ran('items', source, '--format', how, *words, given=given), (shown.status, shown.table(how), shown.errors), f'{what}: items --format {how}')
             self.tables += 1
+        self.show_page(image, content, shown, what, words)
         self.show_paths(image, content, shown, what, words)
+
+    def show_page(self, image: Path, content: bytes, shown: Shown, what: str, words: tuple) -> None:
+        """Wants of the page of an image each item once, with what is said of its forks."""
+        source, given, name = ((image, None, image.name), (PIPE, content, 'stdin'))[self.number % 2]
+        status, page, errors = ran('page', source, *words, given=given)
+        ensure((status, errors) == (shown.status, shown.errors), f'{what}: page ends with {status} and {errors[:200]!r}')
+        try:
+            want_remains(page, name, shown.remains, shown.errors.decode().removesuffix('\n'))
+        except PageDiffers as differs:
+            raise Differs(f'{what}: on the page {differs}') from differs
+        self.pages += 1
 
     def show_paths(self, image: Path, content: bytes, shown: Shown, what: str, words: tuple) -> None:
         items = shown.remains.items
@@ -201,7 +217,7 @@ def main() -> int:
                 print(f'what is shown of a refused disk differs, {part}: {differs}')
                 bench.keep(Path('rescue.kept'))
                 return 1
-    print(f'{bench.shown} refused images ({bench.nothing} in which nothing is found), {bench.tables} tables and {bench.paths} paths are shown as they are to be, in {time.monotonic() - begin:.0f} s')
+    print(f'{bench.shown} refused images ({bench.nothing} in which nothing is found), {bench.tables} tables, {bench.pages} pages and {bench.paths} paths are shown as they are to be, in {time.monotonic() - begin:.0f} s')
     return 0
 
 

@@ -229,12 +229,16 @@ def unread_images(place, library):
     small_volume(place)
     good = done(place, 'p6.img')
     (place.folder / 'folder').mkdir()
-    for name in ('none.img', 'folder', '/dev/stdin', ''):
-        how = {'stdin': subprocess.PIPE} if name == '/dev/stdin' else {}
+    for name in ('none.img', 'folder', ''):
         told = f'cannot read {name}\n'.encode()
         for words, wanted in ((['--', name, 'p6.img'], good), (['--', 'p6.img', name, 'p6.img'], good * 2), (['--', name], b'')):
-            found = run(place, *words, **how)
+            found = run(place, *words)
             ensure(found == (4, wanted, told), f'rows of {words}: {found}')
+    # Out of a pipe the same rows, but for the path.
+    with open(place.folder / 'p6.img', 'rb') as image:
+        with subprocess.Popen(['cat'], stdin=image, stdout=subprocess.PIPE) as pipe:
+            found = run(place, '/dev/stdin', 'p6.img', stdin=pipe.stdout)
+    ensure(found == (0, good.replace(b'"p6.img"', b'"/dev/stdin"') + good, b''), f'rows of a pipe: {found}')
     if not library:
         return
     floppy = small_file('OneFile')

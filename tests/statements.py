@@ -151,4 +151,5 @@ def main():
     return int(bool(lost))
 
 
-sys.exit(main())
+if __name__ == "__main__":
+    sys.exit(main())

@@ -1,5 +1,5 @@
 -- Faults that are passed on.
-use Rattle.std.proofs.Common.{◌≡◌, ◌+◌, ℕ, Bool, true, false, List, [], refl, ap, ◌∙◌, inl, inr, arith}
+use Rattle.std.proofs.Common.{◌≡◌, ◌+◌, ℕ, List, [], ap, ◌∙◌, inl, inr, arith}
 use Rattle.std.specs.Prelude.{⊤}
 use Rattle.hfs_shelves.specs.declared.fault.ShelfFault.{ShelfFault}
 use Rattle.hfs_shelves.specs.Entries.{ShelfEntry}
@@ -10,7 +10,7 @@ use Rattle.hfs_bag.specs.declared.item.BagHead.{BagHead}
 use Rattle.hfs_bag.specs.declared.item.ItemDigests.{ItemDigests}
 use Rattle.hfs_bag.specs.declared.source.SourceFault.{SourceFault}
 use Rattle.hfs_bag.specs.Items.{BagItem, item_entries}
-use Rattle.hfs_bag.specs.Sources.{BagTables, SourceState, HasItem, WhereKnown}
+use Rattle.hfs_bag.specs.Sources.{BagTables, SourceState, HasItem}
 use Rattle.hfs_bag.specs.Bags.{bytes_in, items_entries, payload}
 use Rattle.hfs_bag.specs.Giving.{HasGiven}
 use Rattle.hfs_bag.specs.Tags.{bag_of, tag_files}
@@ -23,11 +23,11 @@ module _ (Gave : SourceFault → Type 0) (Shelf : ShelfFault → Type 0) where
   larger (bag.Shelf why) more is = is
   larger bag.TooLarge more is = more is
 
-  pub source-failed : (A : Type 0) (known : Bool) (fault : BagFault) → IsBagFault Gave Shelf A fault → IsBagFault (HasFailed Gave known) Shelf A fault
-  source-failed A known (bag.Source why) (inl gave) = inl (inl gave)
-  source-failed A known (bag.Source why) (inr memory) = inr memory
-  source-failed A known (bag.Shelf why) is = is
-  source-failed A known bag.TooLarge is = is
+  pub source-failed : (A : Type 0) (Holds : List ℕ → Type 0) (fault : BagFault) → IsBagFault Gave Shelf A fault → IsBagFault (HasFailed Gave Holds) Shelf A fault
+  source-failed A Holds (bag.Source why) (inl gave) = inl (inl gave)
+  source-failed A Holds (bag.Source why) (inr memory) = inr memory
+  source-failed A Holds (bag.Shelf why) is = is
+  source-failed A Holds bag.TooLarge is = is
 
   -- whatever the source may give
   pub any-source : (A : Type 0) (fault : BagFault) → IsBagFault Gave Shelf A fault → IsBagFault (λ _. ⊤) Shelf A fault
@@ -42,29 +42,24 @@ module _ (Gave : SourceFault → Type 0) (Shelf : ShelfFault → Type 0) where
   of-keeping bag.TooLarge more is = more is
 
 -- the next item is too large, so all that are to come are
-pub item-large : (s0 s1 : SourceState) (head : BagHead) (n b : ℕ) → HasItem head s0 s1 → WhereKnown s0 (b ≡ bytes_in (item_entries s1.item)) → AreTooMany (n + b)
-    → WhereKnown s0 (AreTooMany (n + bytes_in (items_entries s0.left)))
-item-large s0 s1 head n b taken is many known =
+pub item-large : (s0 s1 : SourceState) (head : BagHead) (n b : ℕ) → HasItem head s0 s1 → b ≡ bytes_in (item_entries s1.item) → AreTooMany (n + b)
+    → AreTooMany (n + bytes_in (items_entries s0.left))
+item-large s0 s1 head n b taken is many =
     let entries = item_entries s1.item in
     let rest = items_entries s1.left in
     let sum : bytes_in (items_entries s0.left) ≡ bytes_in entries + bytes_in rest =
     ap (λ (items : List BagItem). bytes_in (items_entries items)) taken.left ∙ bytes_in-append entries rest in
-    omega (arith, sum, is known, many)
+    omega (arith, sum, is, many)
 
 -- those to come behind others are too large, so all are
 pub rest-large : (g0 g1 : List ShelfEntry) (s0 s1 : SourceState) (ds : List ItemDigests) (n : ℕ) → HasGiven g0 g1 s0 s1 [] ds 0 n
-    → WhereKnown s1 (AreTooMany (n + bytes_in (items_entries s1.left))) → WhereKnown s0 (AreTooMany (bytes_in (items_entries s0.left)))
-rest-large g0 g1 s0 s1 ds n given many known =
+    → AreTooMany (n + bytes_in (items_entries s1.left)) → AreTooMany (bytes_in (items_entries s0.left))
+rest-large g0 g1 s0 s1 ds n given many =
     let sum : bytes_in (items_entries s0.left) ≡ bytes_in (items_entries given.items) + bytes_in (items_entries s1.left) =
     ap (λ (items : List BagItem). bytes_in (items_entries items)) given.left ∙ ap bytes_in (items_entries-append given.items s1.left)
     ∙ bytes_in-append (items_entries given.items) (items_entries s1.left) in
-    omega (arith, sum, given.bytes known, many (given.known ∙ known))
+    omega (arith, sum, given.bytes, many)
 
 -- a bag is too large where its payload is
 pub bag-large : (items : List BagItem) (tables : BagTables) (facts : BagFacts) → AreTooMany (bytes_in (payload items)) → AreTooMany (bytes_in (bag_of items tables facts))
 bag-large items tables facts many = omega (arith, bytes_in-append (payload items) (tag_files items tables facts), many)
-
--- what cannot be known is not
-pub not-known : (known : Bool) → (known ≡ true → ⊥) → known ≡ false
-not-known true never = absurd (never refl)
-not-known false never = refl

@@ -1,8 +1,8 @@
 -- Lists that a shelf was given by one call behind another.
-use Rattle.std.proofs.Common.{◌≡◌, true, List, ◌++◌, sym, ap, ◌∙◌, subst, append_assoc, Result, Ok, Err, OnErr}
+use Rattle.std.proofs.Common.{◌≡◌, ℕ, List, ◌++◌, sym, ap, ◌∙◌, subst, append_assoc, Result, Ok, Err, OnErr}
 use Rattle.hfs_shelves.specs.Entries.{ShelfEntry, IsBeginning}
 use Rattle.hfs_shelves.proofs.Beginnings.{begins_appended, begins_before}
-use Rattle.hfs_bag.specs.Sources.{SourceState, WhereKnown}
+use Rattle.hfs_source.specs.Images.{OfEach}
 
 -- nothing of what is to come was given
 pub part_none : (g0 now more : List ShelfEntry) → now ≡ g0 → IsBeginning now (g0 ++ more)
@@ -38,7 +38,7 @@ pub on_err : {A E : Type 0} (result : Result A E) {P : Type 0} → P → OnErr r
 on_err (Ok x) p = tt
 on_err (Err e) p = p
 
--- and so does what holds where a source's bytes are known
-pub where_err : {A E : Type 0} (result : Result A E) (state : SourceState) {P : Type 0} → (state.known ≡ true → P) → OnErr result (WhereKnown state P)
-where_err (Ok x) state p = tt
-where_err (Err e) state p = p
+-- and so does what holds of each image
+pub each_err : {A E : Type 0} (result : Result A E) (Holds : List ℕ → Type 0) {P : List ℕ → Type 0} → ((image : List ℕ) → Holds image → P image) → OnErr result (OfEach Holds P)
+each_err (Ok x) Holds p = tt
+each_err (Err e) Holds p = p

@@ -1,24 +1,24 @@
 -- Streams that go to a shelf and to a digest.
-use Rattle.std.specs.Prelude.{◌≡◌, ℕ, ◌<◌, List, [], ◌∷◌, ◌++◌, length, Bool, true, false, Option, None}
+use Rattle.std.specs.Prelude.{◌≡◌, ℕ, ◌<◌, List, [], ◌∷◌, ◌++◌, Bool, true, false, Option, None}
 use Rattle.hfs_shelves.specs.Entries.{ShelfEntry, file, with_piece}
-use Rattle.hfs_bag.specs.Sources.{SourceState, SameItems, WhereKnown}
+use Rattle.hfs_bag.specs.Sources.{SourceState, SameItems}
 
 -- a digest that held a message holds these bytes behind it
 abbrev pub HoldsMore : (List ℕ → Type 0) → (List ℕ → Type 0) → List ℕ → Type 0
 HoldsMore Held Holds bytes = (m : List ℕ) → Held m → Holds (m ++ bytes)
 
--- some of a stream's bytes went to the shelf and to the digest: where they are known, the shelf with those that are left is as the shelf before with all of them
+-- some of a stream's bytes went to the shelf and to the digest: the shelf with those that are left is as the shelf before with all of them
 pub record HasMoved (given_old given_new : List ShelfEntry) (old new : SourceState) (Held Holds : List ℕ → Type 0) : Type 0 where
   pub same : SameItems old new
   pub moved : List ℕ
-  pub bytes : WhereKnown old (old.bytes ≡ moved ++ new.bytes)
-  pub given : WhereKnown old (with_piece given_new new.bytes ≡ with_piece given_old old.bytes)
+  pub bytes : old.bytes ≡ moved ++ new.bytes
+  pub given : with_piece given_new new.bytes ≡ with_piece given_old old.bytes
   pub digest : HoldsMore Held Holds moved
 
--- fewer bytes are left, or none are
-abbrev pub IsMore : SourceState → SourceState → Bool → Type 0
-IsMore old new true = length new.bytes < length old.bytes
-IsMore old new false = new.bytes ≡ []
+-- fewer are left; or none are, and then this holds
+abbrev pub IsMore : ℕ → ℕ → Type 0 → Bool → Type 0
+IsMore old new Done true = new < old
+IsMore old new Done false = Done
 
 -- what was given, and then a whole file, which is to have a time
 abbrev pub with_dated_file : List ShelfEntry → List ℕ → Option ℕ → List ℕ → List ShelfEntry

@@ -1,7 +1,8 @@
 //! The whole of a bag, and its halves: the payload, and the tag files behind it.
 ghost use Rattle.std.specs.Prelude.{◌≡◌, ◌++◌, IfErr, IfOk, OnErr, OnOk};
 ghost use Rattle.hfs_shelves.specs.Entries.{IsBeginning};
-ghost use Rattle.hfs_bag.specs.Sources.{KeepsItems, WhereKnown};
+ghost use Rattle.hfs_source.specs.Images.{OfEach};
+ghost use Rattle.hfs_bag.specs.Sources.{KeepsItems};
 ghost use Rattle.hfs_bag.specs.Bags.{payload};
 ghost use Rattle.hfs_bag.specs.Faults.{HasFailed, IsFillFault, IsPassedOn, IsPayloadFault};
 ghost use Rattle.hfs_bag.specs.Payloads.{IsPayloadOf};
@@ -25,16 +26,18 @@ pub fn give_payload<S: Shelf, B: BagSource>(
     shelf: &mut S,
     source: &mut B,
 ) -> Result<GivenPayload, BagFault>
-    ensures whole { OnOk result (WhereKnown (B.state source.old)
-        (S.given shelf.new ≡ S.given shelf.old ++ payload (B.state source.old).all)) }
-    ensures part { OnErr result (WhereKnown (B.state source.old)
-        (IsBeginning (S.given shelf.new) (S.given shelf.old ++ payload (B.state source.old).all))) }
-    ensures told { IfOk result (λ given. WhereKnown (B.state source.old)
-        (IsPayloadOf given (B.state source.old).all)) }
-    ensures kept { OnOk result (KeepsItems (B.state source.old) (B.state source.new)) }
+    ensures whole { OnOk result (OfEach (B.Holds source.new)
+        (λ image. S.given shelf.new ≡ S.given shelf.old ++ payload (B.state source.old image).all)) }
+    ensures part { OnErr result (OfEach (B.Holds source.new)
+        (λ image. IsBeginning (S.given shelf.new) (S.given shelf.old ++ payload (B.state source.old image).all))) }
+    ensures told { IfOk result (λ given. OfEach (B.Holds source.new)
+        (λ image. IsPayloadOf given (B.state source.old image).all)) }
+    ensures kept { OnOk result (OfEach (B.Holds source.new)
+        (λ image. KeepsItems (B.state source.old image) (B.state source.new image))) }
     ensures fault { IfErr result (IsPayloadFault B.Fails (S.Fails (S.place shelf.old))
-        (B.state source.old)) }
+        (B.Holds source.new) (B.state source.old)) }
     ensures place { S.place shelf.new ≡ S.place shelf.old }
+    ensures narrows { OfEach (B.Holds source.new) (B.Holds source.old) }
 {
     source.restart()?;
     shelf.make_folder("data")?;
@@ -43,7 +46,7 @@ pub fn give_payload<S: Shelf, B: BagSource>(
 }
 
 /// Gives a shelf the tag files of a bag, whose payload was given, and answers how much the bag holds. At a fault what was given is a beginning of
-/// them. Faults: the source's, the shelf's, memory was refused; `ReadFailed` also where a source whose bytes aren't known tells fewer items.
+/// them. Faults: the source's, the shelf's, memory was refused; `ReadFailed` also where a source tells fewer items than before.
 pub fn give_tag_files<S: Shelf, B: BagSource>(
     alloc: Global,
     shelf: &mut S,
@@ -51,16 +54,18 @@ pub fn give_tag_files<S: Shelf, B: BagSource>(
     facts: &BagFacts<'_>,
     given: &GivenPayload,
 ) -> Result<BagSums, BagFault>
-    requires { WhereKnown (B.state source.old) (IsPayloadOf given.now (B.state source.old).all) }
-    ensures whole { OnOk result (WhereKnown (B.state source.old)
-        (S.given shelf.new ≡ S.given shelf.old ++ tag_files (B.state source.old).all (B.state source.old).tables facts.now)) }
-    ensures part { OnErr result (WhereKnown (B.state source.old)
-        (IsBeginning (S.given shelf.new) (S.given shelf.old ++ tag_files (B.state source.old).all (B.state source.old).tables facts.now))) }
-    ensures sums { IfOk result (λ sums. WhereKnown (B.state source.old)
-        (IsSumOf sums (B.state source.old).all)) }
-    ensures fault { IfErr result (IsPassedOn (HasFailed B.Fails (B.state source.old).known)
+    requires { OfEach (B.Holds source.old)
+        (λ image. IsPayloadOf given.now (B.state source.old image).all) }
+    ensures whole { OnOk result (OfEach (B.Holds source.new)
+        (λ image. S.given shelf.new ≡ S.given shelf.old ++ tag_files (B.state source.old image).all (B.state source.old image).tables facts.now)) }
+    ensures part { OnErr result (OfEach (B.Holds source.new)
+        (λ image. IsBeginning (S.given shelf.new) (S.given shelf.old ++ tag_files (B.state source.old image).all (B.state source.old image).tables facts.now))) }
+    ensures sums { IfOk result (λ sums. OfEach (B.Holds source.new)
+        (λ image. IsSumOf sums (B.state source.old image).all)) }
+    ensures fault { IfErr result (IsPassedOn (HasFailed B.Fails (B.Holds source.new))
         (S.Fails (S.place shelf.old))) }
     ensures place { S.place shelf.new ≡ S.place shelf.old }
+    ensures narrows { OfEach (B.Holds source.new) (B.Holds source.old) }
 {
     let streams = count_streams(&given.digests);
     give_tags(alloc, shelf, source, facts, given, streams)?;
@@ -74,23 +79,24 @@ pub fn give_tag_files<S: Shelf, B: BagSource>(
 }
 
 /// Gives a shelf the bag of all items of a source, and answers how much it holds: the payload, in the order of the items, and then the tag
-/// files. At a fault what was given is a beginning of the bag. All this where the source's bytes are known; a file's are not. Faults: as both
-/// halves have them.
+/// files. At a fault what was given is a beginning of the bag. All this of each image that has the bytes which were read. Faults: as both halves
+/// have them.
 pub fn give_bag<S: Shelf, B: BagSource>(
     alloc: Global,
     shelf: &mut S,
     source: &mut B,
     facts: &BagFacts<'_>,
 ) -> Result<BagSums, BagFault>
-    ensures whole { OnOk result (WhereKnown (B.state source.old)
-        (S.given shelf.new ≡ S.given shelf.old ++ bag_of (B.state source.old).all (B.state source.old).tables facts.now)) }
-    ensures part { OnErr result (WhereKnown (B.state source.old)
-        (IsBeginning (S.given shelf.new) (S.given shelf.old ++ bag_of (B.state source.old).all (B.state source.old).tables facts.now))) }
-    ensures sums { IfOk result (λ sums. WhereKnown (B.state source.old)
-        (IsSumOf sums (B.state source.old).all)) }
+    ensures whole { OnOk result (OfEach (B.Holds source.new)
+        (λ image. S.given shelf.new ≡ S.given shelf.old ++ bag_of (B.state source.old image).all (B.state source.old image).tables facts.now)) }
+    ensures part { OnErr result (OfEach (B.Holds source.new)
+        (λ image. IsBeginning (S.given shelf.new) (S.given shelf.old ++ bag_of (B.state source.old image).all (B.state source.old image).tables facts.now))) }
+    ensures sums { IfOk result (λ sums. OfEach (B.Holds source.new)
+        (λ image. IsSumOf sums (B.state source.old image).all)) }
     ensures fault { IfErr result (IsFillFault B.Fails (S.Fails (S.place shelf.old))
-        (B.state source.old)) }
+        (B.Holds source.new) (B.state source.old)) }
     ensures place { S.place shelf.new ≡ S.place shelf.old }
+    ensures narrows { OfEach (B.Holds source.new) (B.Holds source.old) }
 {
     let given = give_payload(alloc, shelf, source)?;
     let sums = give_tag_files(alloc, shelf, source, facts, &given)?;

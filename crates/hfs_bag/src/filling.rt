@@ -1,9 +1,10 @@
 //! Files of a bag, whose bytes come in pieces, with their digests.
-ghost use Rattle.std.specs.Prelude.{◌≡◌, ◌++◌, IfErr, IfOk, OnErr, OnOk};
+ghost use Rattle.std.specs.Prelude.{◌≡◌, ◌++◌, [], IfErr, IfOk, OnErr, OnOk};
 ghost use Rattle.sha2.specs.Hashers.{Holds256};
 ghost use Rattle.sha2.specs.Sha256.{sha256};
 ghost use Rattle.hfs_shelves.specs.Entries.{IsBeginning, with_piece};
-ghost use Rattle.hfs_bag.specs.Sources.{SameItems, WhereKnown, stream_bytes};
+ghost use Rattle.hfs_source.specs.Images.{OfEach};
+ghost use Rattle.hfs_bag.specs.Sources.{SameItems, stream_bytes};
 ghost use Rattle.hfs_bag.specs.Faults.{IsOfShelf, IsPassedOn};
 ghost use Rattle.hfs_bag.specs.Filling.{HasMoved, HoldsMore, IsMore, with_dated_file, with_whole_file};
 
@@ -20,13 +21,16 @@ fn move_piece<S: Shelf, B: BagSource>(
     digest: &mut Sha256,
     piece: &mut Vec<u8>,
 ) -> Result<bool, BagFault>
-    ensures moved { OnOk result (HasMoved (S.given shelf.old) (S.given shelf.new)
-        (B.state source.old) (B.state source.new) (Holds256 digest.old) (Holds256 digest.new)) }
-    ensures more { IfOk result (IsMore (B.state source.old) (B.state source.new)) }
-    ensures part { OnErr result (WhereKnown (B.state source.old)
-        (IsBeginning (S.given shelf.new) (with_piece (S.given shelf.old) (B.state source.old).bytes))) }
+    ensures moved { OnOk result (OfEach (B.Holds source.new)
+        (λ image. HasMoved (S.given shelf.old) (S.given shelf.new) (B.state source.old image) (B.state source.new image) (Holds256 digest.old) (Holds256 digest.new))) }
+    ensures stays { B.items_left source.new ≡ B.items_left source.old }
+    ensures more { IfOk result (IsMore (B.bytes_left source.old) (B.bytes_left source.new)
+        (OfEach (B.Holds source.new) (λ image. (B.state source.new image).bytes ≡ []))) }
+    ensures part { OnErr result (OfEach (B.Holds source.new)
+        (λ image. IsBeginning (S.given shelf.new) (with_piece (S.given shelf.old) (B.state source.old image).bytes))) }
     ensures fault { IfErr result (IsPassedOn B.Fails (S.Fails (S.place shelf.old))) }
     ensures place { S.place shelf.new ≡ S.place shelf.old }
+    ensures narrows { OfEach (B.Holds source.new) (B.Holds source.old) }
 {
     source.read(piece)?;
     if piece.is_empty() {
@@ -44,15 +48,18 @@ fn move_stream<S: Shelf, B: BagSource>(
     source: &mut B,
     digest: &mut Sha256,
 ) -> Result<(), BagFault>
-    ensures whole { OnOk result (WhereKnown (B.state source.old)
-        (S.given shelf.new ≡ with_piece (S.given shelf.old) (B.state source.old).bytes)) }
-    ensures part { OnErr result (WhereKnown (B.state source.old)
-        (IsBeginning (S.given shelf.new) (with_piece (S.given shelf.old) (B.state source.old).bytes))) }
-    ensures digest { OnOk result (WhereKnown (B.state source.old)
-        (HoldsMore (Holds256 digest.old) (Holds256 digest.new) (B.state source.old).bytes)) }
-    ensures same { OnOk result (SameItems (B.state source.old) (B.state source.new)) }
+    ensures whole { OnOk result (OfEach (B.Holds source.new)
+        (λ image. S.given shelf.new ≡ with_piece (S.given shelf.old) (B.state source.old image).bytes)) }
+    ensures part { OnErr result (OfEach (B.Holds source.new)
+        (λ image. IsBeginning (S.given shelf.new) (with_piece (S.given shelf.old) (B.state source.old image).bytes))) }
+    ensures digest { OnOk result (OfEach (B.Holds source.new)
+        (λ image. HoldsMore (Holds256 digest.old) (Holds256 digest.new) (B.state source.old image).bytes)) }
+    ensures same { OnOk result (OfEach (B.Holds source.new)
+        (λ image. SameItems (B.state source.old image) (B.state source.new image))) }
+    ensures stays { B.items_left source.new ≡ B.items_left source.old }
     ensures fault { IfErr result (IsPassedOn B.Fails (S.Fails (S.place shelf.old))) }
     ensures place { S.place shelf.new ≡ S.place shelf.old }
+    ensures narrows { OfEach (B.Holds source.new) (B.Holds source.old) }
 {
     let mut piece = Vec::new(alloc);
     while move_piece(shelf, source, digest, &mut piece)? {}
@@ -69,15 +76,18 @@ pub(crate) fn put_file<S: Shelf, B: BagSource>(
     head: &[u8],
     stream: Stream,
 ) -> Result<[u8; 32], BagFault>
-    ensures whole { OnOk result (WhereKnown (B.state source.old)
-        (S.given shelf.new ≡ with_dated_file (S.given shelf.old) path.now modified (head.now ++ stream_bytes (B.state source.old) stream))) }
-    ensures part { OnErr result (WhereKnown (B.state source.old)
-        (IsBeginning (S.given shelf.new) (with_dated_file (S.given shelf.old) path.now modified (head.now ++ stream_bytes (B.state source.old) stream)))) }
-    ensures digest { IfOk result (λ digest. WhereKnown (B.state source.old)
-        (digest ≡ sha256 (head.now ++ stream_bytes (B.state source.old) stream))) }
-    ensures same { OnOk result (SameItems (B.state source.old) (B.state source.new)) }
+    ensures whole { OnOk result (OfEach (B.Holds source.new)
+        (λ image. S.given shelf.new ≡ with_dated_file (S.given shelf.old) path.now modified (head.now ++ stream_bytes (B.state source.old image) stream))) }
+    ensures part { OnErr result (OfEach (B.Holds source.new)
+        (λ image. IsBeginning (S.given shelf.new) (with_dated_file (S.given shelf.old) path.now modified (head.now ++ stream_bytes (B.state source.old image) stream)))) }
+    ensures digest { IfOk result (λ digest. OfEach (B.Holds source.new)
+        (λ image. digest ≡ sha256 (head.now ++ stream_bytes (B.state source.old image) stream))) }
+    ensures same { OnOk result (OfEach (B.Holds source.new)
+        (λ image. SameItems (B.state source.old image) (B.state source.new image))) }
+    ensures stays { B.items_left source.new ≡ B.items_left source.old }
     ensures fault { IfErr result (IsPassedOn B.Fails (S.Fails (S.place shelf.old))) }
     ensures place { S.place shelf.new ≡ S.place shelf.old }
+    ensures narrows { OfEach (B.Holds source.new) (B.Holds source.old) }
 {
     source.open(stream)?;
     shelf.make_file(path, modified)?;

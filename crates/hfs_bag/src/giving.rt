@@ -2,10 +2,11 @@
 ghost use Rattle.std.specs.Prelude.{◌≡◌, ◌+◌, ◌++◌, [], ◌∷◌, map, IfErr, IfOk, OnErr, OnOk};
 ghost use Rattle.hfs_shelves.specs.Entries.{IsBeginning};
 ghost use Rattle.hfs_bag.specs.Items.{item_digests};
-ghost use Rattle.hfs_bag.specs.Sources.{WhereKnown};
+ghost use Rattle.hfs_source.specs.Images.{OfEach};
 ghost use Rattle.hfs_bag.specs.Bags.{bytes_in, items_entries};
 ghost use Rattle.hfs_bag.specs.Faults.{AreTooMany, IsBagFault};
-ghost use Rattle.hfs_bag.specs.Giving.{HasGiven, IsMoreItems};
+ghost use Rattle.hfs_bag.specs.Filling.{IsMore};
+ghost use Rattle.hfs_bag.specs.Giving.{HasGiven};
 
 use crate::fault::BagFault;
 use crate::item::ItemDigests;
@@ -47,15 +48,18 @@ fn give_next<S: Shelf, B: BagSource>(
     source: &mut B,
     given: &mut GivenPayload,
 ) -> Result<bool, BagFault>
-    ensures given { OnOk result (HasGiven (S.given shelf.old) (S.given shelf.new)
-        (B.state source.old) (B.state source.new)
-        given.old.digests.items given.new.digests.items given.old.bytes given.new.bytes) }
-    ensures more { IfOk result (IsMoreItems (B.state source.old) (B.state source.new)) }
-    ensures part { OnErr result (WhereKnown (B.state source.old)
-        (IsBeginning (S.given shelf.new) (S.given shelf.old ++ items_entries (B.state source.old).left))) }
+    ensures given { OnOk result (OfEach (B.Holds source.new)
+        (λ image. HasGiven (S.given shelf.old) (S.given shelf.new) (B.state source.old image) (B.state source.new image)
+        given.old.digests.items given.new.digests.items given.old.bytes given.new.bytes)) }
+    ensures more { IfOk result (IsMore (B.items_left source.old) (B.items_left source.new)
+        (OfEach (B.Holds source.new) (λ image. (B.state source.new image).left ≡ []))) }
+    ensures part { OnErr result (OfEach (B.Holds source.new)
+        (λ image. IsBeginning (S.given shelf.new) (S.given shelf.old ++ items_entries (B.state source.old image).left))) }
     ensures fault { IfErr result (IsBagFault B.Fails (S.Fails (S.place shelf.old))
-        (WhereKnown (B.state source.old) (AreTooMany (given.old.bytes + bytes_in (items_entries (B.state source.old).left))))) }
+        (OfEach (B.Holds source.new)
+        (λ image. AreTooMany (given.old.bytes + bytes_in (items_entries (B.state source.old image).left))))) }
     ensures place { S.place shelf.new ≡ S.place shelf.old }
+    ensures narrows { OfEach (B.Holds source.new) (B.Holds source.old) }
 {
     let Some(head) = source.next_item()? else {
         return Ok(false);
@@ -71,20 +75,23 @@ pub(crate) fn give_items<S: Shelf, B: BagSource>(
     shelf: &mut S,
     source: &mut B,
 ) -> Result<GivenPayload, BagFault>
-    ensures whole { OnOk result (WhereKnown (B.state source.old)
-        (S.given shelf.new ≡ S.given shelf.old ++ items_entries (B.state source.old).left)) }
-    ensures part { OnErr result (WhereKnown (B.state source.old)
-        (IsBeginning (S.given shelf.new) (S.given shelf.old ++ items_entries (B.state source.old).left))) }
-    ensures digests { IfOk result (λ given. WhereKnown (B.state source.old)
-        (given.digests.items ≡ map item_digests (B.state source.old).left)) }
-    ensures bytes { IfOk result (λ given. WhereKnown (B.state source.old)
-        (given.bytes ≡ bytes_in (items_entries (B.state source.old).left))) }
-    ensures known { OnOk result ((B.state source.new).known ≡ (B.state source.old).known) }
-    ensures all { OnOk result ((B.state source.new).all ≡ (B.state source.old).all) }
-    ensures tables { OnOk result ((B.state source.new).tables ≡ (B.state source.old).tables) }
+    ensures whole { OnOk result (OfEach (B.Holds source.new)
+        (λ image. S.given shelf.new ≡ S.given shelf.old ++ items_entries (B.state source.old image).left)) }
+    ensures part { OnErr result (OfEach (B.Holds source.new)
+        (λ image. IsBeginning (S.given shelf.new) (S.given shelf.old ++ items_entries (B.state source.old image).left))) }
+    ensures digests { IfOk result (λ given. OfEach (B.Holds source.new)
+        (λ image. given.digests.items ≡ map item_digests (B.state source.old image).left)) }
+    ensures bytes { IfOk result (λ given. OfEach (B.Holds source.new)
+        (λ image. given.bytes ≡ bytes_in (items_entries (B.state source.old image).left))) }
+    ensures all { OnOk result (OfEach (B.Holds source.new)
+        (λ image. (B.state source.new image).all ≡ (B.state source.old image).all)) }
+    ensures tables { OnOk result (OfEach (B.Holds source.new)
+        (λ image. (B.state source.new image).tables ≡ (B.state source.old image).tables)) }
     ensures fault { IfErr result (IsBagFault B.Fails (S.Fails (S.place shelf.old))
-        (WhereKnown (B.state source.old) (AreTooMany (bytes_in (items_entries (B.state source.old).left))))) }
+        (OfEach (B.Holds source.new)
+        (λ image. AreTooMany (bytes_in (items_entries (B.state source.old image).left))))) }
     ensures place { S.place shelf.new ≡ S.place shelf.old }
+    ensures narrows { OfEach (B.Holds source.new) (B.Holds source.old) }
 {
     let mut given = GivenPayload {
         digests: Vec::new(alloc),

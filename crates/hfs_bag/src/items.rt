@@ -6,7 +6,8 @@ ghost use Rattle.hfs_shelves.specs.Entries.{IsBeginning};
 ghost use Rattle.hfs_bag.specs.declared.item.BagKind.TheVariants as kind;
 ghost use Rattle.hfs_bag.specs.Faults.{IsOfShelf, IsPassedOn};
 ghost use Rattle.hfs_bag.specs.Items.{BagItem, IsHead, folder_entry, double_head, double_bytes, double_entry, entries_of_kind, item_digests, item_entries, digests_of_kind};
-ghost use Rattle.hfs_bag.specs.Sources.{SameItems, WhereKnown};
+ghost use Rattle.hfs_source.specs.Images.{OfEach};
+ghost use Rattle.hfs_bag.specs.Sources.{SameItems};
 
 use crate::fault::BagFault;
 use crate::filling::put_file;
@@ -25,8 +26,8 @@ pub(crate) fn marked_path<B: BagSource>(
     source: &B,
     mark: &str,
 ) -> Result<String, AllocError>
-    ensures { IfOk result (λ path. string_bytes path ≡ codes "data/"
-        ++ ((B.state source.now).item.above ++ (mark.now ++ (B.state source.now).item.name))) }
+    ensures { IfOk result (λ path. OfEach (B.Holds source.now)
+        (λ image. string_bytes path ≡ codes "data/" ++ ((B.state source.now image).item.above ++ (mark.now ++ (B.state source.now image).item.name)))) }
 {
     let mut path = String::from_str(alloc, "data/")?;
     source.push_above(&mut path)?;
@@ -54,16 +55,20 @@ fn give_double<S: Shelf, B: BagSource>(
     source: &mut B,
     head: &BagHead,
 ) -> Result<[u8; 32], BagFault>
-    requires { WhereKnown (B.state source.old) (IsHead head.now (B.state source.old).item) }
-    ensures whole { OnOk result (WhereKnown (B.state source.old)
-        (S.given shelf.new ≡ S.given shelf.old ++ double_entry (B.state source.old).item ∷ [])) }
-    ensures part { OnErr result (WhereKnown (B.state source.old)
-        (IsBeginning (S.given shelf.new) (S.given shelf.old ++ double_entry (B.state source.old).item ∷ []))) }
-    ensures digest { IfOk result (λ digest. WhereKnown (B.state source.old)
-        (digest ≡ sha256 (double_bytes (B.state source.old).item))) }
-    ensures same { OnOk result (SameItems (B.state source.old) (B.state source.new)) }
+    requires { OfEach (B.Holds source.old)
+        (λ image. IsHead head.now (B.state source.old image).item) }
+    ensures whole { OnOk result (OfEach (B.Holds source.new)
+        (λ image. S.given shelf.new ≡ S.given shelf.old ++ double_entry (B.state source.old image).item ∷ [])) }
+    ensures part { OnErr result (OfEach (B.Holds source.new)
+        (λ image. IsBeginning (S.given shelf.new) (S.given shelf.old ++ double_entry (B.state source.old image).item ∷ []))) }
+    ensures digest { IfOk result (λ digest. OfEach (B.Holds source.new)
+        (λ image. digest ≡ sha256 (double_bytes (B.state source.old image).item))) }
+    ensures same { OnOk result (OfEach (B.Holds source.new)
+        (λ image. SameItems (B.state source.old image) (B.state source.new image))) }
+    ensures stays { B.items_left source.new ≡ B.items_left source.old }
     ensures fault { IfErr result (IsPassedOn B.Fails (S.Fails (S.place shelf.old))) }
     ensures place { S.place shelf.new ≡ S.place shelf.old }
+    ensures narrows { OfEach (B.Holds source.new) (B.Holds source.old) }
 {
     let path = marked_path(alloc, source, DOUBLE)?;
     let bytes = double_head(head);
@@ -85,16 +90,20 @@ fn give_file<S: Shelf, B: BagSource>(
     source: &mut B,
     head: &BagHead,
 ) -> Result<ItemDigests, BagFault>
-    requires { WhereKnown (B.state source.old) (IsHead head.now (B.state source.old).item) }
-    ensures whole { OnOk result (WhereKnown (B.state source.old)
-        (S.given shelf.new ≡ S.given shelf.old ++ entries_of_kind kind.File (B.state source.old).item)) }
-    ensures part { OnErr result (WhereKnown (B.state source.old)
-        (IsBeginning (S.given shelf.new) (S.given shelf.old ++ entries_of_kind kind.File (B.state source.old).item))) }
-    ensures digests { IfOk result (λ digests. WhereKnown (B.state source.old)
-        (digests ≡ digests_of_kind kind.File (B.state source.old).item)) }
-    ensures same { OnOk result (SameItems (B.state source.old) (B.state source.new)) }
+    requires { OfEach (B.Holds source.old)
+        (λ image. IsHead head.now (B.state source.old image).item) }
+    ensures whole { OnOk result (OfEach (B.Holds source.new)
+        (λ image. S.given shelf.new ≡ S.given shelf.old ++ entries_of_kind kind.File (B.state source.old image).item)) }
+    ensures part { OnErr result (OfEach (B.Holds source.new)
+        (λ image. IsBeginning (S.given shelf.new) (S.given shelf.old ++ entries_of_kind kind.File (B.state source.old image).item))) }
+    ensures digests { IfOk result (λ digests. OfEach (B.Holds source.new)
+        (λ image. digests ≡ digests_of_kind kind.File (B.state source.old image).item)) }
+    ensures same { OnOk result (OfEach (B.Holds source.new)
+        (λ image. SameItems (B.state source.old image) (B.state source.new image))) }
+    ensures stays { B.items_left source.new ≡ B.items_left source.old }
     ensures fault { IfErr result (IsPassedOn B.Fails (S.Fails (S.place shelf.old))) }
     ensures place { S.place shelf.new ≡ S.place shelf.old }
+    ensures narrows { OfEach (B.Holds source.new) (B.Holds source.old) }
 {
     let path = marked_path(alloc, source, "")?;
     let data = put_file(
@@ -117,16 +126,20 @@ fn give_folder<S: Shelf, B: BagSource>(
     source: &mut B,
     head: &BagHead,
 ) -> Result<ItemDigests, BagFault>
-    requires { WhereKnown (B.state source.old) (IsHead head.now (B.state source.old).item) }
-    ensures whole { OnOk result (WhereKnown (B.state source.old)
-        (S.given shelf.new ≡ S.given shelf.old ++ entries_of_kind kind.Folder (B.state source.old).item)) }
-    ensures part { OnErr result (WhereKnown (B.state source.old)
-        (IsBeginning (S.given shelf.new) (S.given shelf.old ++ entries_of_kind kind.Folder (B.state source.old).item))) }
-    ensures digests { IfOk result (λ digests. WhereKnown (B.state source.old)
-        (digests ≡ digests_of_kind kind.Folder (B.state source.old).item)) }
-    ensures same { OnOk result (SameItems (B.state source.old) (B.state source.new)) }
+    requires { OfEach (B.Holds source.old)
+        (λ image. IsHead head.now (B.state source.old image).item) }
+    ensures whole { OnOk result (OfEach (B.Holds source.new)
+        (λ image. S.given shelf.new ≡ S.given shelf.old ++ entries_of_kind kind.Folder (B.state source.old image).item)) }
+    ensures part { OnErr result (OfEach (B.Holds source.new)
+        (λ image. IsBeginning (S.given shelf.new) (S.given shelf.old ++ entries_of_kind kind.Folder (B.state source.old image).item))) }
+    ensures digests { IfOk result (λ digests. OfEach (B.Holds source.new)
+        (λ image. digests ≡ digests_of_kind kind.Folder (B.state source.old image).item)) }
+    ensures same { OnOk result (OfEach (B.Holds source.new)
+        (λ image. SameItems (B.state source.old image) (B.state source.new image))) }
+    ensures stays { B.items_left source.new ≡ B.items_left source.old }
     ensures fault { IfErr result (IsPassedOn B.Fails (S.Fails (S.place shelf.old))) }
     ensures place { S.place shelf.new ≡ S.place shelf.old }
+    ensures narrows { OfEach (B.Holds source.new) (B.Holds source.old) }
 {
     let double = give_double(alloc, shelf, source, head)?;
     let path = marked_path(alloc, source, "")?;
@@ -140,12 +153,12 @@ fn give_folder_alone<S: Shelf, B: BagSource>(
     shelf: &mut S,
     source: &B,
 ) -> Result<ItemDigests, BagFault>
-    ensures whole { OnOk result (S.given shelf.new ≡ S.given shelf.old
-        ++ folder_entry (B.state source.now).item ∷ []) }
-    ensures part { OnErr result (IsBeginning (S.given shelf.new)
-        (S.given shelf.old ++ folder_entry (B.state source.now).item ∷ [])) }
-    ensures digests { IfOk result (λ digests. digests ≡ digests_of_kind kind.FolderAlone
-        (B.state source.now).item) }
+    ensures whole { OnOk result (OfEach (B.Holds source.now)
+        (λ image. S.given shelf.new ≡ S.given shelf.old ++ folder_entry (B.state source.now image).item ∷ [])) }
+    ensures part { OnErr result (OfEach (B.Holds source.now)
+        (λ image. IsBeginning (S.given shelf.new) (S.given shelf.old ++ folder_entry (B.state source.now image).item ∷ []))) }
+    ensures digests { IfOk result (λ digests. OfEach (B.Holds source.now)
+        (λ image. digests ≡ digests_of_kind kind.FolderAlone (B.state source.now image).item)) }
     ensures fault { IfErr result (IsOfShelf (S.Fails (S.place shelf.old))) }
     ensures place { S.place shelf.new ≡ S.place shelf.old }
 {
@@ -161,16 +174,20 @@ fn give_double_alone<S: Shelf, B: BagSource>(
     source: &mut B,
     head: &BagHead,
 ) -> Result<ItemDigests, BagFault>
-    requires { WhereKnown (B.state source.old) (IsHead head.now (B.state source.old).item) }
-    ensures whole { OnOk result (WhereKnown (B.state source.old)
-        (S.given shelf.new ≡ S.given shelf.old ++ entries_of_kind kind.DoubleAlone (B.state source.old).item)) }
-    ensures part { OnErr result (WhereKnown (B.state source.old)
-        (IsBeginning (S.given shelf.new) (S.given shelf.old ++ entries_of_kind kind.DoubleAlone (B.state source.old).item))) }
-    ensures digests { IfOk result (λ digests. WhereKnown (B.state source.old)
-        (digests ≡ digests_of_kind kind.DoubleAlone (B.state source.old).item)) }
-    ensures same { OnOk result (SameItems (B.state source.old) (B.state source.new)) }
+    requires { OfEach (B.Holds source.old)
+        (λ image. IsHead head.now (B.state source.old image).item) }
+    ensures whole { OnOk result (OfEach (B.Holds source.new)
+        (λ image. S.given shelf.new ≡ S.given shelf.old ++ entries_of_kind kind.DoubleAlone (B.state source.old image).item)) }
+    ensures part { OnErr result (OfEach (B.Holds source.new)
+        (λ image. IsBeginning (S.given shelf.new) (S.given shelf.old ++ entries_of_kind kind.DoubleAlone (B.state source.old image).item))) }
+    ensures digests { IfOk result (λ digests. OfEach (B.Holds source.new)
+        (λ image. digests ≡ digests_of_kind kind.DoubleAlone (B.state source.old image).item)) }
+    ensures same { OnOk result (OfEach (B.Holds source.new)
+        (λ image. SameItems (B.state source.old image) (B.state source.new image))) }
+    ensures stays { B.items_left source.new ≡ B.items_left source.old }
     ensures fault { IfErr result (IsPassedOn B.Fails (S.Fails (S.place shelf.old))) }
     ensures place { S.place shelf.new ≡ S.place shelf.old }
+    ensures narrows { OfEach (B.Holds source.new) (B.Holds source.old) }
 {
     let double = give_double(alloc, shelf, source, head)?;
     Ok(ItemDigests::Double(double))
@@ -183,16 +200,20 @@ pub(crate) fn give_item<S: Shelf, B: BagSource>(
     source: &mut B,
     head: &BagHead,
 ) -> Result<ItemDigests, BagFault>
-    requires { WhereKnown (B.state source.old) (IsHead head.now (B.state source.old).item) }
-    ensures whole { OnOk result (WhereKnown (B.state source.old)
-        (S.given shelf.new ≡ S.given shelf.old ++ item_entries (B.state source.old).item)) }
-    ensures part { OnErr result (WhereKnown (B.state source.old)
-        (IsBeginning (S.given shelf.new) (S.given shelf.old ++ item_entries (B.state source.old).item))) }
-    ensures digests { IfOk result (λ digests. WhereKnown (B.state source.old)
-        (digests ≡ item_digests (B.state source.old).item)) }
-    ensures same { OnOk result (SameItems (B.state source.old) (B.state source.new)) }
+    requires { OfEach (B.Holds source.old)
+        (λ image. IsHead head.now (B.state source.old image).item) }
+    ensures whole { OnOk result (OfEach (B.Holds source.new)
+        (λ image. S.given shelf.new ≡ S.given shelf.old ++ item_entries (B.state source.old image).item)) }
+    ensures part { OnErr result (OfEach (B.Holds source.new)
+        (λ image. IsBeginning (S.given shelf.new) (S.given shelf.old ++ item_entries (B.state source.old image).item))) }
+    ensures digests { IfOk result (λ digests. OfEach (B.Holds source.new)
+        (λ image. digests ≡ item_digests (B.state source.old image).item)) }
+    ensures same { OnOk result (OfEach (B.Holds source.new)
+        (λ image. SameItems (B.state source.old image) (B.state source.new image))) }
+    ensures stays { B.items_left source.new ≡ B.items_left source.old }
     ensures fault { IfErr result (IsPassedOn B.Fails (S.Fails (S.place shelf.old))) }
     ensures place { S.place shelf.new ≡ S.place shelf.old }
+    ensures narrows { OfEach (B.Holds source.new) (B.Holds source.old) }
 {
     match head.kind {
         BagKind::File => give_file(alloc, shelf, source, head),

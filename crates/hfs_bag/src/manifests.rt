@@ -5,7 +5,7 @@ ghost use Rattle.sha2.specs.Sha256.{sha256};
 ghost use Rattle.hfs_texts.specs.Texts.{Gains};
 ghost use Rattle.hfs_shelves.specs.Entries.{IsBeginning, with_piece};
 ghost use Rattle.hfs_bag.specs.Items.{double_path, item_digests, item_entries, item_path};
-ghost use Rattle.hfs_bag.specs.Sources.{WhereKnown};
+ghost use Rattle.hfs_source.specs.Images.{OfEach};
 ghost use Rattle.hfs_bag.specs.Bags.{digest_line, items_entries, manifest};
 ghost use Rattle.hfs_bag.specs.Faults.{HasFailed, IsPassedOn};
 ghost use Rattle.hfs_bag.specs.Filling.{HoldsMore, with_whole_file};
@@ -43,8 +43,8 @@ fn push_data_line<B: BagSource>(
     source: &B,
     digest: &[u8; 32],
 ) -> Result<(), AllocError>
-    ensures { OnOk result (Gains text.old text.new
-        (digest_line digest.now (item_path (B.state source.now).item))) }
+    ensures { OnOk result (OfEach (B.Holds source.now)
+        (λ image. Gains text.old text.new (digest_line digest.now (item_path (B.state source.now image).item)))) }
 {
     let path = marked_path(alloc, source, "")?;
     push_digest_line(alloc, text, digest, path.as_str())
@@ -57,8 +57,8 @@ fn push_double_line<B: BagSource>(
     source: &B,
     digest: &[u8; 32],
 ) -> Result<(), AllocError>
-    ensures { OnOk result (Gains text.old text.new
-        (digest_line digest.now (double_path (B.state source.now).item))) }
+    ensures { OnOk result (OfEach (B.Holds source.now)
+        (λ image. Gains text.old text.new (digest_line digest.now (double_path (B.state source.now image).item)))) }
 {
     let path = marked_path(alloc, source, DOUBLE)?;
     push_digest_line(alloc, text, digest, path.as_str())
@@ -70,10 +70,10 @@ fn item_lines<B: BagSource>(
     source: &B,
     told: &ItemDigests,
 ) -> Result<String, AllocError>
-    requires { WhereKnown (B.state source.now)
-        (told.now ≡ item_digests (B.state source.now).item) }
-    ensures { IfOk result (λ text. WhereKnown (B.state source.now)
-        (string_bytes text ≡ manifest (item_entries (B.state source.now).item))) }
+    requires { OfEach (B.Holds source.now)
+        (λ image. told.now ≡ item_digests (B.state source.now image).item) }
+    ensures { IfOk result (λ text. OfEach (B.Holds source.now)
+        (λ image. string_bytes text ≡ manifest (item_entries (B.state source.now image).item))) }
 {
     let mut text = String::new(alloc);
     match told {
@@ -96,14 +96,16 @@ fn list_next<S: Shelf, B: BagSource>(
     digest: &mut Sha256,
     told: &ItemDigests,
 ) -> Result<(), BagFault>
-    requires { WhereKnown (B.state source.old) (IsNextOf told.now (B.state source.old).left) }
-    ensures listed { OnOk result (HasListed (S.given shelf.old) (S.given shelf.new)
-        (B.state source.old) (B.state source.new) (Holds256 digest.old) (Holds256 digest.new)) }
-    ensures part { OnErr result (WhereKnown (B.state source.old)
-        (IsBeginning (S.given shelf.new) (with_piece (S.given shelf.old) (manifest (items_entries (B.state source.old).left))))) }
-    ensures fault { IfErr result (IsPassedOn (HasFailed B.Fails (B.state source.old).known)
+    requires { OfEach (B.Holds source.old)
+        (λ image. IsNextOf told.now (B.state source.old image).left) }
+    ensures listed { OnOk result (OfEach (B.Holds source.new)
+        (λ image. HasListed (S.given shelf.old) (S.given shelf.new) (B.state source.old image) (B.state source.new image) (Holds256 digest.old) (Holds256 digest.new))) }
+    ensures part { OnErr result (OfEach (B.Holds source.new)
+        (λ image. IsBeginning (S.given shelf.new) (with_piece (S.given shelf.old) (manifest (items_entries (B.state source.old image).left))))) }
+    ensures fault { IfErr result (IsPassedOn (HasFailed B.Fails (B.Holds source.new))
         (S.Fails (S.place shelf.old))) }
     ensures place { S.place shelf.new ≡ S.place shelf.old }
+    ensures narrows { OfEach (B.Holds source.new) (B.Holds source.old) }
 {
     let Some(_) = source.next_item()? else {
         return Err(BagFault::Source(SourceFault::ReadFailed));
@@ -122,20 +124,22 @@ fn list_items<S: Shelf, B: BagSource>(
     digest: &mut Sha256,
     told: &[ItemDigests],
 ) -> Result<(), BagFault>
-    requires { WhereKnown (B.state source.old)
-        (told.now ≡ map item_digests (B.state source.old).left) }
-    ensures whole { OnOk result (WhereKnown (B.state source.old)
-        (S.given shelf.new ≡ with_piece (S.given shelf.old) (manifest (items_entries (B.state source.old).left)))) }
-    ensures digest { OnOk result (WhereKnown (B.state source.old)
-        (HoldsMore (Holds256 digest.old) (Holds256 digest.new) (manifest (items_entries (B.state source.old).left)))) }
-    ensures known { OnOk result ((B.state source.new).known ≡ (B.state source.old).known) }
-    ensures all { OnOk result ((B.state source.new).all ≡ (B.state source.old).all) }
-    ensures tables { OnOk result ((B.state source.new).tables ≡ (B.state source.old).tables) }
-    ensures part { OnErr result (WhereKnown (B.state source.old)
-        (IsBeginning (S.given shelf.new) (with_piece (S.given shelf.old) (manifest (items_entries (B.state source.old).left))))) }
-    ensures fault { IfErr result (IsPassedOn (HasFailed B.Fails (B.state source.old).known)
+    requires { OfEach (B.Holds source.old)
+        (λ image. told.now ≡ map item_digests (B.state source.old image).left) }
+    ensures whole { OnOk result (OfEach (B.Holds source.new)
+        (λ image. S.given shelf.new ≡ with_piece (S.given shelf.old) (manifest (items_entries (B.state source.old image).left)))) }
+    ensures digest { OnOk result (OfEach (B.Holds source.new)
+        (λ image. HoldsMore (Holds256 digest.old) (Holds256 digest.new) (manifest (items_entries (B.state source.old image).left)))) }
+    ensures all { OnOk result (OfEach (B.Holds source.new)
+        (λ image. (B.state source.new image).all ≡ (B.state source.old image).all)) }
+    ensures tables { OnOk result (OfEach (B.Holds source.new)
+        (λ image. (B.state source.new image).tables ≡ (B.state source.old image).tables)) }
+    ensures part { OnErr result (OfEach (B.Holds source.new)
+        (λ image. IsBeginning (S.given shelf.new) (with_piece (S.given shelf.old) (manifest (items_entries (B.state source.old image).left))))) }
+    ensures fault { IfErr result (IsPassedOn (HasFailed B.Fails (B.Holds source.new))
         (S.Fails (S.place shelf.old))) }
     ensures place { S.place shelf.new ≡ S.place shelf.old }
+    ensures narrows { OfEach (B.Holds source.new) (B.Holds source.old) }
 {
     for at in 0..told.len() {
         list_next(alloc, shelf, source, digest, &told[at])?;
@@ -150,20 +154,22 @@ pub(crate) fn give_manifest<S: Shelf, B: BagSource>(
     source: &mut B,
     told: &[ItemDigests],
 ) -> Result<[u8; 32], BagFault>
-    requires { WhereKnown (B.state source.old)
-        (told.now ≡ map item_digests (B.state source.old).all) }
-    ensures whole { OnOk result (WhereKnown (B.state source.old)
-        (S.given shelf.new ≡ with_whole_file (S.given shelf.old) (codes "manifest-sha256.txt") (manifest (items_entries (B.state source.old).all)))) }
-    ensures part { OnErr result (WhereKnown (B.state source.old)
-        (IsBeginning (S.given shelf.new) (with_whole_file (S.given shelf.old) (codes "manifest-sha256.txt") (manifest (items_entries (B.state source.old).all))))) }
-    ensures digest { IfOk result (λ digest. WhereKnown (B.state source.old)
-        (digest ≡ sha256 (manifest (items_entries (B.state source.old).all)))) }
-    ensures known { OnOk result ((B.state source.new).known ≡ (B.state source.old).known) }
-    ensures all { OnOk result ((B.state source.new).all ≡ (B.state source.old).all) }
-    ensures tables { OnOk result ((B.state source.new).tables ≡ (B.state source.old).tables) }
-    ensures fault { IfErr result (IsPassedOn (HasFailed B.Fails (B.state source.old).known)
+    requires { OfEach (B.Holds source.old)
+        (λ image. told.now ≡ map item_digests (B.state source.old image).all) }
+    ensures whole { OnOk result (OfEach (B.Holds source.new)
+        (λ image. S.given shelf.new ≡ with_whole_file (S.given shelf.old) (codes "manifest-sha256.txt") (manifest (items_entries (B.state source.old image).all)))) }
+    ensures part { OnErr result (OfEach (B.Holds source.new)
+        (λ image. IsBeginning (S.given shelf.new) (with_whole_file (S.given shelf.old) (codes "manifest-sha256.txt") (manifest (items_entries (B.state source.old image).all))))) }
+    ensures digest { IfOk result (λ digest. OfEach (B.Holds source.new)
+        (λ image. digest ≡ sha256 (manifest (items_entries (B.state source.old image).all)))) }
+    ensures all { OnOk result (OfEach (B.Holds source.new)
+        (λ image. (B.state source.new image).all ≡ (B.state source.old image).all)) }
+    ensures tables { OnOk result (OfEach (B.Holds source.new)
+        (λ image. (B.state source.new image).tables ≡ (B.state source.old image).tables)) }
+    ensures fault { IfErr result (IsPassedOn (HasFailed B.Fails (B.Holds source.new))
         (S.Fails (S.place shelf.old))) }
     ensures place { S.place shelf.new ≡ S.place shelf.old }
+    ensures narrows { OfEach (B.Holds source.new) (B.Holds source.old) }
 {
     source.restart()?;
     shelf.make_file("manifest-sha256.txt", None)?;

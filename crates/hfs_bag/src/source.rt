@@ -1,7 +1,8 @@
 //! What a bag is filled from.
-ghost use Rattle.std.specs.Prelude.{◌≡◌, ◌++◌, MatchResult, OnOk, string_bytes};
+ghost use Rattle.std.specs.Prelude.{◌≡◌, ◌+◌, ◌++◌, ℕ, List, IfOk, MatchResult, OnOk, length, string_bytes};
+ghost use Rattle.hfs_source.specs.Images.{OfEach};
 ghost use Rattle.hfs_bag.specs.declared.source.SourceFault.{SourceFault};
-ghost use Rattle.hfs_bag.specs.Sources.{HasOpened, HasRead, HasRestarted, SourceState, TakesItem, has_remains};
+ghost use Rattle.hfs_bag.specs.Sources.{HasOpened, HasRead, HasRestarted, IsFewer, SourceState, TakesItem, has_remains};
 
 use crate::item::BagHead;
 use std::alloc::AllocError;
@@ -28,40 +29,62 @@ pub enum SourceFault {
     Memory,
 }
 
-/// A volume's items below the root, one after the other, each behind the folder that holds it, with the bytes of their forks in pieces. Where its
-/// bytes are known, contracts know the items by them; and they know which faults a source of this kind may answer.
+/// A volume's items below the root, one after the other, each behind the folder that holds it, with the bytes of their forks in pieces. Contracts know
+/// the items by each image that has the bytes which were read; and they know which faults a source of this kind may answer.
 pub trait BagSource {
-    ghost state: { Self → SourceState };
+    /// The images that have the bytes which were read so far: over memory one, over a file each that it may be.
+    ghost Holds: { Self → List ℕ → Type 0 };
+
+    /// The items of such an image.
+    ghost state: { Self → List ℕ → SourceState };
+
+    /// How many items are to come, at most.
+    ghost items_left: { Self → ℕ };
+
+    /// How many bytes of a stream are still to be read, at most.
+    ghost bytes_left: { Self → ℕ };
 
     ghost Fails: { SourceFault → Type 0 };
 
     /// Whether there is a table of what remains of each item.
     fn tells_remains(&self) -> bool
-        ensures { result ≡ has_remains (state self.now).tables };
+        ensures { OfEach (Holds self.now) (λ image. result ≡ has_remains (state self.now image).tables) };
 
     /// Begins with the items anew.
     fn restart(&mut self) -> Result<(), SourceFault>
-        ensures { MatchResult result (λ _. HasRestarted (state self.old) (state self.new)) Fails };
+        ensures restarted { MatchResult result (λ _. OfEach (Holds self.new)
+            (λ image. HasRestarted (state self.old image) (state self.new image))) Fails }
+        ensures narrows { OfEach (Holds self.new) (Holds self.old) };
 
     /// What is told of the next item, or None behind the last one.
     fn next_item(&mut self) -> Result<Option<BagHead>, SourceFault>
-        ensures { MatchResult result (TakesItem (state self.old) (state self.new)) Fails };
+        ensures taken { MatchResult result (λ head. OfEach (Holds self.new)
+            (λ image. TakesItem (state self.old image) (state self.new image) head)) Fails }
+        ensures fewer { IfOk result (IsFewer (items_left self.old) (items_left self.new)) }
+        ensures narrows { OfEach (Holds self.new) (Holds self.old) };
 
     /// Appends the path, below the payload, of the folder that holds the item that came last, with a slash behind it.
     fn push_above(&self, text: &mut String) -> Result<(), AllocError>
-        ensures { OnOk result (string_bytes text.new ≡ string_bytes text.old ++
-            (state self.now).item.above) };
+        ensures { OnOk result (OfEach (Holds self.now)
+            (λ image. string_bytes text.new ≡ string_bytes text.old ++ (state self.now image).item.above)) };
 
     /// Appends how that item is called there.
     fn push_name(&self, text: &mut String) -> Result<(), AllocError>
-        ensures { OnOk result (string_bytes text.new ≡ string_bytes text.old ++
-            (state self.now).item.name) };
+        ensures { OnOk result (OfEach (Holds self.now)
+            (λ image. string_bytes text.new ≡ string_bytes text.old ++ (state self.now image).item.name)) };
 
     /// Makes a stream ready to be read from its first byte on.
     fn open(&mut self, stream: Stream) -> Result<(), SourceFault>
-        ensures { MatchResult result (λ _. HasOpened stream (state self.old) (state self.new)) Fails };
+        ensures opened { MatchResult result (λ _. OfEach (Holds self.new)
+            (λ image. HasOpened stream (state self.old image) (state self.new image))) Fails }
+        ensures stays { items_left self.new ≡ items_left self.old }
+        ensures narrows { OfEach (Holds self.new) (Holds self.old) };
 
     /// Puts the next bytes of the stream in the place of the piece, and none where none are left.
     fn read(&mut self, piece: &mut Vec<u8>) -> Result<(), SourceFault>
-        ensures { MatchResult result (λ _. HasRead piece.new.items (state self.old) (state self.new)) Fails };
+        ensures read { MatchResult result (λ _. OfEach (Holds self.new)
+            (λ image. HasRead piece.new.items (state self.old image) (state self.new image))) Fails }
+        ensures fewer { OnOk result (bytes_left self.old ≡ length piece.new.items + bytes_left self.new) }
+        ensures stays { items_left self.new ≡ items_left self.old }
+        ensures narrows { OfEach (Holds self.new) (Holds self.old) };
 }

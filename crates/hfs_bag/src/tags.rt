@@ -6,7 +6,7 @@ ghost use Rattle.hfs_texts.specs.Lines.{line};
 ghost use Rattle.hfs_texts.specs.Texts.{Gains};
 ghost use Rattle.hfs_shelves.specs.Entries.{IsBeginning};
 ghost use Rattle.hfs_bag.specs.Items.{item_digests};
-ghost use Rattle.hfs_bag.specs.Sources.{SameItems, WhereKnown};
+ghost use Rattle.hfs_source.specs.Images.{OfEach};
 ghost use Rattle.hfs_bag.specs.Bags.{bytes_in, files_in, manifest, payload};
 ghost use Rattle.hfs_bag.specs.Faults.{HasFailed, IsOfShelf, IsPassedOn};
 ghost use Rattle.hfs_bag.specs.Filling.{with_whole_file};
@@ -170,14 +170,15 @@ fn give_remains<S: Shelf, B: BagSource>(
     shelf: &mut S,
     source: &mut B,
 ) -> Result<Option<[u8; 32]>, BagFault>
-    ensures whole { OnOk result (WhereKnown (B.state source.old)
-        (S.given shelf.new ≡ S.given shelf.old ++ remains_files (B.state source.old).tables.remains)) }
-    ensures part { OnErr result (WhereKnown (B.state source.old)
-        (IsBeginning (S.given shelf.new) (S.given shelf.old ++ remains_files (B.state source.old).tables.remains))) }
-    ensures digest { IfOk result (λ digest. WhereKnown (B.state source.old)
-        (digest ≡ option_map sha256 (B.state source.old).tables.remains)) }
+    ensures whole { OnOk result (OfEach (B.Holds source.new)
+        (λ image. S.given shelf.new ≡ S.given shelf.old ++ remains_files (B.state source.old image).tables.remains)) }
+    ensures part { OnErr result (OfEach (B.Holds source.new)
+        (λ image. IsBeginning (S.given shelf.new) (S.given shelf.old ++ remains_files (B.state source.old image).tables.remains))) }
+    ensures digest { IfOk result (λ digest. OfEach (B.Holds source.new)
+        (λ image. digest ≡ option_map sha256 (B.state source.old image).tables.remains)) }
     ensures fault { IfErr result (IsPassedOn B.Fails (S.Fails (S.place shelf.old))) }
     ensures place { S.place shelf.new ≡ S.place shelf.old }
+    ensures narrows { OfEach (B.Holds source.new) (B.Holds source.old) }
 {
     if !source.tells_remains() {
         return Ok(None);
@@ -201,21 +202,22 @@ fn give_first<S: Shelf, B: BagSource>(
     source: &mut B,
     given: &GivenPayload,
 ) -> Result<([u8; 32], [u8; 32], Option<[u8; 32]>), BagFault>
-    requires { WhereKnown (B.state source.old)
-        (given.now.digests.items ≡ map item_digests (B.state source.old).all) }
-    ensures whole { OnOk result (WhereKnown (B.state source.old)
-        (S.given shelf.new ≡ S.given shelf.old ++ first_tags (B.state source.old).all (B.state source.old).tables)) }
-    ensures part { OnErr result (WhereKnown (B.state source.old)
-        (IsBeginning (S.given shelf.new) (S.given shelf.old ++ first_tags (B.state source.old).all (B.state source.old).tables))) }
-    ensures manifest { IfOk result (λ told. WhereKnown (B.state source.old)
-        (told.0 ≡ sha256 (manifest (payload (B.state source.old).all)))) }
-    ensures table { IfOk result (λ told. WhereKnown (B.state source.old)
-        (told.1 ≡ sha256 (B.state source.old).tables.items)) }
-    ensures remains { IfOk result (λ told. WhereKnown (B.state source.old)
-        (told.2 ≡ option_map sha256 (B.state source.old).tables.remains)) }
-    ensures fault { IfErr result (IsPassedOn (HasFailed B.Fails (B.state source.old).known)
+    requires { OfEach (B.Holds source.old)
+        (λ image. given.now.digests.items ≡ map item_digests (B.state source.old image).all) }
+    ensures whole { OnOk result (OfEach (B.Holds source.new)
+        (λ image. S.given shelf.new ≡ S.given shelf.old ++ first_tags (B.state source.old image).all (B.state source.old image).tables)) }
+    ensures part { OnErr result (OfEach (B.Holds source.new)
+        (λ image. IsBeginning (S.given shelf.new) (S.given shelf.old ++ first_tags (B.state source.old image).all (B.state source.old image).tables))) }
+    ensures manifest { IfOk result (λ told. OfEach (B.Holds source.new)
+        (λ image. told.0 ≡ sha256 (manifest (payload (B.state source.old image).all)))) }
+    ensures table { IfOk result (λ told. OfEach (B.Holds source.new)
+        (λ image. told.1 ≡ sha256 (B.state source.old image).tables.items)) }
+    ensures remains { IfOk result (λ told. OfEach (B.Holds source.new)
+        (λ image. told.2 ≡ option_map sha256 (B.state source.old image).tables.remains)) }
+    ensures fault { IfErr result (IsPassedOn (HasFailed B.Fails (B.Holds source.new))
         (S.Fails (S.place shelf.old))) }
     ensures place { S.place shelf.new ≡ S.place shelf.old }
+    ensures narrows { OfEach (B.Holds source.new) (B.Holds source.old) }
 {
     let manifest = give_manifest(alloc, shelf, source, &given.digests)?;
     let table = put_file(alloc, shelf, source, "items.csv", None, &[], Stream::Table)?;
@@ -276,19 +278,20 @@ pub(crate) fn give_tags<S: Shelf, B: BagSource>(
     given: &GivenPayload,
     files: u64,
 ) -> Result<(), BagFault>
-    requires told { WhereKnown (B.state source.old)
-        (given.now.digests.items ≡ map item_digests (B.state source.old).all) }
-    requires bytes { WhereKnown (B.state source.old)
-        (given.now.bytes ≡ bytes_in (payload (B.state source.old).all)) }
-    requires files { WhereKnown (B.state source.old)
-        (files ≡ files_in (payload (B.state source.old).all)) }
-    ensures whole { OnOk result (WhereKnown (B.state source.old)
-        (S.given shelf.new ≡ S.given shelf.old ++ tag_files (B.state source.old).all (B.state source.old).tables facts.now)) }
-    ensures part { OnErr result (WhereKnown (B.state source.old)
-        (IsBeginning (S.given shelf.new) (S.given shelf.old ++ tag_files (B.state source.old).all (B.state source.old).tables facts.now))) }
-    ensures fault { IfErr result (IsPassedOn (HasFailed B.Fails (B.state source.old).known)
+    requires told { OfEach (B.Holds source.old)
+        (λ image. given.now.digests.items ≡ map item_digests (B.state source.old image).all) }
+    requires bytes { OfEach (B.Holds source.old)
+        (λ image. given.now.bytes ≡ bytes_in (payload (B.state source.old image).all)) }
+    requires files { OfEach (B.Holds source.old)
+        (λ image. files ≡ files_in (payload (B.state source.old image).all)) }
+    ensures whole { OnOk result (OfEach (B.Holds source.new)
+        (λ image. S.given shelf.new ≡ S.given shelf.old ++ tag_files (B.state source.old image).all (B.state source.old image).tables facts.now)) }
+    ensures part { OnErr result (OfEach (B.Holds source.new)
+        (λ image. IsBeginning (S.given shelf.new) (S.given shelf.old ++ tag_files (B.state source.old image).all (B.state source.old image).tables facts.now))) }
+    ensures fault { IfErr result (IsPassedOn (HasFailed B.Fails (B.Holds source.new))
         (S.Fails (S.place shelf.old))) }
     ensures place { S.place shelf.new ≡ S.place shelf.old }
+    ensures narrows { OfEach (B.Holds source.new) (B.Holds source.old) }
 {
     let first = give_first(alloc, shelf, source, given)?;
     let second = give_second(alloc, shelf, facts, given.bytes, files)?;

@@ -9,7 +9,7 @@ use hfs_console::{print_lines, tell_sum, tell_unread};
 use hfs_word_collect::{
     Collection, Comparison, DatabaseFiles, FileCollection, ImageCounts, Obstacle, ReadWatch,
     RunFault, can_open_database, collect_image, compare_image, comparison_line, image_line,
-    next_path, open_image,
+    next_path, open_image, rows_at,
 };
 
 /// What a row tells of the program that read an image.
@@ -134,6 +134,17 @@ fn collect_images(
     Ok(status.number())
 }
 
+/// Puts the image that these facts are of into the database.
+fn put_rows<W: ReadWatch>(
+    rt: &HostRuntime,
+    database: &mut FileCollection,
+    facts: &ImageFacts<'_>,
+    progress: &W,
+) -> Result<Option<ImageCounts>, RunFault> {
+    let mut rows = rows_at(rt, facts, progress);
+    collect_image(database, &mut rows)
+}
+
 /// Puts the image at this place of the words into the database, and shows meanwhile how far it is.
 fn put_one(
     rt: &HostRuntime,
@@ -149,7 +160,7 @@ fn put_one(
     };
     let all = words.images.len() as u64;
     let progress = ReadProgress::on(rt, (i as u64).saturating_add(1), Some(all), path);
-    let counts = collect_image(rt, database, &facts, &progress);
+    let counts = put_rows(rt, database, &facts, &progress);
     progress.end();
     counts
 }

@@ -21,6 +21,8 @@ pub struct ReadProgress<'a> {
     read: Cell<u64>,
     /// How many bytes were read since the line was written.
     fresh: Cell<u64>,
+    /// Whether the image was opened before.
+    is_opened: Cell<bool>,
 }
 
 impl<'a> ReadProgress<'a> {
@@ -39,6 +41,7 @@ impl<'a> ReadProgress<'a> {
             bytes: Cell::new(0),
             read: Cell::new(0),
             fresh: Cell::new(0),
+            is_opened: Cell::new(false),
         }
     }
 
@@ -59,7 +62,10 @@ impl<'a> ReadProgress<'a> {
 impl ReadWatch for ReadProgress<'_> {
     fn opened(&self, len: u64) {
         self.bytes.set(len);
-        self.show();
+        if !self.is_opened.get() {
+            self.is_opened.set(true);
+            self.show();
+        }
     }
 
     fn bytes_read(&self, count: u64) {

@@ -71,8 +71,8 @@ path, is read anew. Of a volume that is refused the database has what
 hfs_tool rescue finds of it, with a verdict on each fork.
 
 The tables are image, volume and item; docs/MANUAL.md has questions that
-they answer. An image that can't be sought in, such as a pipe, can't be
-read.
+they answer. What can't be sought in, such as a pipe, is read whole and
+held meanwhile.
 
 With --compare a line for each image: missing, new, changed, same, or
 'same length' where the database has no digest of it.

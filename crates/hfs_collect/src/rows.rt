@@ -6,7 +6,9 @@ use crate::reading_rows::RowsWords;
 use hfs_collection::ImageFacts;
 use hfs_commands::{Fault, ShownPath, Status};
 use hfs_console::tell_sum;
-use hfs_word_collect::{RunFault, TextTaker, write_head, write_image_at};
+use hfs_word_collect::{
+    ImageCounts, ReadWatch, RunFault, TextTaker, rows_at, write_head, write_image,
+};
 use std::io::Stdout;
 
 /// Prints the rows of the images, and answers the exit status. Faults go to standard error, where no program looks for rows.
@@ -34,6 +36,17 @@ fn print_rows(rt: &HostRuntime, words: &RowsWords<'_>) -> Result<Status, RunFaul
     Ok(status)
 }
 
+/// Prints the rows of the image that these facts are of.
+fn write_rows<W: ReadWatch>(
+    rt: &HostRuntime,
+    taker: &mut TextTaker<Stdout>,
+    facts: &ImageFacts<'_>,
+    progress: &W,
+) -> Result<Option<ImageCounts>, RunFault> {
+    let mut rows = rows_at(rt, facts, progress);
+    write_image(taker, &mut rows)
+}
+
 /// Prints the rows of the image at this place of the words, and answers whether all of them came; where they don't, and where the sum of a disk copy is wrong, this is
 /// told on standard error.
 fn print_image(
@@ -52,7 +65,7 @@ fn print_image(
     };
     let all = words.images.len() as u64;
     let progress = ReadProgress::on(rt, (i as u64).saturating_add(1), Some(all), path);
-    let written = write_image_at(rt, taker, &facts, &progress);
+    let written = write_rows(rt, taker, &facts, &progress);
     progress.end();
     match written? {
         Some(counts) => {

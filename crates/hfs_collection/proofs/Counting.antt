@@ -6,7 +6,6 @@ use Rattle.hfs_check.specs.VolumeOf.{volume_of}
 use Rattle.hfs_inventory.specs.Told.{ToldRow, told_rows}
 use Rattle.hfs_model.specs.Children.{entries_of}
 use Rattle.hfs_model.specs.declared.reply.Info.{Info}
-use Rattle.hfs_needed.specs.Known.{OfKnown}
 use Rattle.hfs_remains.specs.declared.shares.FileShares.{FileShares}
 use Rattle.hfs_rescue.specs.declared.catalog.FoundRecord.{FoundRecord}
 use Rattle.hfs_rescue_items.specs.Found.{told}
@@ -31,11 +30,10 @@ files_more before after row rows left first more =
 pub files_none : (files : ℕ) (rows left : List ToldRow) → rows ≡ [] → left ≡ [] → files + file_total left ≡ files + file_total rows
 files_none files rows left none none_left = ap (λ (rs : List ToldRow). files + file_total rs) (none_left ∙ sym none)
 
--- those of the table of an image whose bytes may be known
-pub files_of : (known : Option (List ℕ)) (len files : ℕ) (left : List ToldRow) → files ≡ file_total left → OfKnown known len (λ image. left ≡ told_rows (entries_of (volume_of image)))
-    → OfKnown known len (λ bytes. files ≡ file_total (told_rows (entries_of (volume_of bytes))))
-files_of None len files left is rows = tt
-files_of (Some bytes) len files left is rows = λ whole. is ∙ ap file_total (rows whole)
+-- those of the table of an image
+pub files_of : (bytes : List ℕ) (files : ℕ) (left : List ToldRow) → files ≡ file_total left → left ≡ told_rows (entries_of (volume_of bytes))
+    → files ≡ file_total (told_rows (entries_of (volume_of bytes)))
+files_of bytes files left is rows = is ∙ ap file_total rows
 
 -- with all of them
 pub files_all : (files total : ℕ) (left : List ToldRow) → files + file_total left ≡ total → left ≡ [] → files ≡ total
@@ -130,24 +128,21 @@ no-volume-behind a =
     let wrong : a.wrong_sums + 0 ≡ a.wrong_sums = omega arith in
     λ i. record { volumes = volumes i; refused = refused i; files = files i; damaged = damaged i; wrong_sums = wrong i }
 
--- those so far, and those of the ranges that are still to come, are all
-abbrev pub VolumesToCount : Option (List ℕ) → ℕ → ℕ → List FoundRange → ImageCounts → Type 0
-VolumesToCount known len i ranges counts = OfKnown known len (λ file. both_volumes counts (volume_counts_from (drop i ranges) file) ≡ volume_counts_from ranges file)
+module _ (file : List ℕ) (ranges : List FoundRange) where
+  -- those so far, and those of the ranges that are still to come, are all
+  abbrev pub VolumesToCount : ℕ → ImageCounts → Type 0
+  VolumesToCount i counts = both_volumes counts (volume_counts_from (drop i ranges) file) ≡ volume_counts_from ranges file
 
-pub volumes_counted_first : (known : Option (List ℕ)) (len : ℕ) (ranges : List FoundRange) → VolumesToCount known len 0 ranges no_volumes
-volumes_counted_first None len ranges = tt
-volumes_counted_first (Some file) len ranges = λ whole. no-volume-before (volume_counts_from ranges file)
+  pub volumes_counted_first : VolumesToCount 0 no_volumes
+  volumes_counted_first = no-volume-before (volume_counts_from ranges file)
 
-pub volumes_counted_next : (known : Option (List ℕ)) (len i : ℕ) (ranges : List FoundRange) (d : FoundRange) (counts more sum : ImageCounts) → i < length ranges → VolumesToCount known len i ranges counts
-    → OfKnown known len (λ file. more ≡ range_counts (get_or ranges i d) file) → sum ≡ both_volumes counts more → VolumesToCount known len (i + 1) ranges sum
-volumes_counted_next None len i ranges d counts more sum within so is added = tt
-volumes_counted_next (Some file) len i ranges d counts more sum within so is added = λ whole.
-    let rest = volume_counts_from (drop (i + 1) ranges) file in
-    ap (λ (s : ImageCounts). both_volumes s rest) added ∙ sum-volumes counts more rest ∙ ap (λ (m : ImageCounts). both_volumes counts (both_volumes m rest)) (is whole)
-    ∙ ap (λ (xs : List FoundRange). both_volumes counts (volume_counts_from xs file)) (sym (drop_more ranges i d within)) ∙ so whole
+  pub volumes_counted_next : (i : ℕ) (d : FoundRange) (counts more sum : ImageCounts) → i < length ranges → VolumesToCount i counts
+      → more ≡ range_counts (get_or ranges i d) file → sum ≡ both_volumes counts more → VolumesToCount (i + 1) sum
+  volumes_counted_next i d counts more sum within so is added =
+      let rest = volume_counts_from (drop (i + 1) ranges) file in
+      ap (λ (s : ImageCounts). both_volumes s rest) added ∙ sum-volumes counts more rest ∙ ap (λ (m : ImageCounts). both_volumes counts (both_volumes m rest)) is
+      ∙ ap (λ (xs : List FoundRange). both_volumes counts (volume_counts_from xs file)) (sym (drop_more ranges i d within)) ∙ so
 
-pub volumes_counted_last : (known : Option (List ℕ)) (len i : ℕ) (ranges : List FoundRange) (counts : ImageCounts) → length ranges ≤ i → VolumesToCount known len i ranges counts
-    → OfKnown known len (λ file. counts ≡ volume_counts_from ranges file)
-volumes_counted_last None len i ranges counts end so = tt
-volumes_counted_last (Some file) len i ranges counts end so = λ whole.
-    sym (no-volume-behind counts) ∙ ap (λ (xs : List FoundRange). both_volumes counts (volume_counts_from xs file)) (sym (drop_all i ranges end)) ∙ so whole
+  pub volumes_counted_last : (i : ℕ) (counts : ImageCounts) → length ranges ≤ i → VolumesToCount i counts → counts ≡ volume_counts_from ranges file
+  volumes_counted_last i counts end so =
+      sym (no-volume-behind counts) ∙ ap (λ (xs : List FoundRange). both_volumes counts (volume_counts_from xs file)) (sym (drop_all i ranges end)) ∙ so

@@ -1,38 +1,43 @@
 -- The rows of an image, and those of the volumes in it.
-use Rattle.std.proofs.Common.{◌≡◌, ◌∙◌, ℕ, List, [], ◌∷◌, ◌++◌, length, append_assoc, Option, Some, None, ap, subst}
+use Rattle.std.proofs.Common.{◌≡◌, ◌∙◌, ℕ, List, [], ◌∷◌, ◌++◌, append_assoc, ap, refl, subst}
 use Rattle.hfs_containers.specs.declared.ranges.Layout.{Layout}
+use Rattle.hfs_containers.specs.declared.ranges.Layout.TheVariants.{Plain, Raw}
+use Rattle.hfs_containers.specs.Found.{found_by}
 use Rattle.hfs_containers.specs.Raw.{layout_of}
-use Rattle.hfs_containers.specs.Reading.{IsToldOf}
-use Rattle.hfs_needed.specs.Known.{OfKnown}
+use Rattle.hfs_contents.specs.Parts.{content_of}
 use Rattle.hfs_rows.specs.declared.value.RowValue.{RowValue}
 use Rattle.hfs_rows.specs.declared.value.Table.TheVariants.{Image}
 use Rattle.hfs_rows.specs.Taken.{TakenRow, row_of}
+use Rattle.hfs_collection.specs.declared.counts.ImageCounts.{ImageCounts}
 use Rattle.hfs_collection.specs.declared.image.ImageFacts.{ImageFacts}
+use Rattle.hfs_collection.specs.Counts.{all_volume_counts, content_counts, image_counts}
 use Rattle.hfs_collection.specs.Images.{image_rows, image_values}
-use Rattle.hfs_collection.specs.Values.{digest_value, where_taken}
-use Rattle.hfs_collection.specs.Volumes.{content_rows}
+use Rattle.hfs_collection.specs.Looking.{others_by}
+use Rattle.hfs_collection.specs.Volumes.{all_volume_rows, content_rows}
 
--- the digest of an image, where it is taken
-abbrev pub told_digest : ImageFacts → List ℕ → RowValue
-told_digest facts file = where_taken facts.takes_digests (digest_value file)
+rows-by : (facts : ImageFacts) (file : List ℕ) (layout : Layout)
+    → all_volume_rows facts.takes_digests (others_by layout file) (found_by layout (content_of layout file)) (content_of layout file) ≡ content_rows facts.takes_digests layout file
+rows-by facts file Plain = refl
+rows-by facts file Raw = refl
 
-rows_are : (facts : ImageFacts) (file : List ℕ) (values : List RowValue) (layout : Layout) (old mid : List TakenRow)
-    → mid ≡ old ++ row_of Image values ∷ [] → values ≡ image_values facts file → layout ≡ layout_of file
-    → mid ++ content_rows facts.takes_digests layout file ≡ old ++ image_rows facts file
-unfolding image_rows
-rows_are facts file values layout old mid first is found =
-    ap (λ (front : List TakenRow). front ++ content_rows facts.takes_digests layout file) first
-    ∙ append_assoc old (row_of Image values ∷ []) (content_rows facts.takes_digests layout file)
-    ∙ ap (λ (values : List RowValue). old ++ row_of Image values ∷ content_rows facts.takes_digests layout file) is
-    ∙ ap (λ (layout : Layout). old ++ row_of Image (image_values facts file) ∷ content_rows facts.takes_digests layout file) found
+counts-by : (file : List ℕ) (layout : Layout) → all_volume_counts (found_by layout (content_of layout file)) (content_of layout file) ≡ content_counts layout file
+counts-by file Plain = refl
+counts-by file Raw = refl
 
 -- what holds with the rows of the volumes behind the image's holds with those of the image
-pub image_given : (known now : Option (List ℕ)) → now ≡ known → (len : ℕ) (facts : ImageFacts) (digest : RowValue) (values : List RowValue) (layout : Layout) (old mid : List TakenRow)
-    (Fact : List TakenRow → Type 0) → mid ≡ old ++ row_of Image values ∷ [] → IsToldOf now len (told_digest facts) digest
-    → ((file : List ℕ) → length file ≡ len → digest ≡ told_digest facts file → values ≡ image_values facts file) → IsToldOf now len layout_of layout
-    → OfKnown known len (λ file. Fact (mid ++ content_rows facts.takes_digests layout file)) → OfKnown known len (λ file. Fact (old ++ image_rows facts file))
-image_given None now same len facts digest values layout old mid Fact first told is found given = tt
-image_given (Some file) now same len facts digest values layout old mid Fact first told is found given = λ whole.
-    let digests = subst (λ (k : Option (List ℕ)). IsToldOf k len (told_digest facts) digest) same told in
-    let finds = subst (λ (k : Option (List ℕ)). IsToldOf k len layout_of layout) same found in
-    subst Fact (rows_are facts file values layout old mid first (is file whole (digests whole)) (finds whole)) (given whole)
+pub image_given : (file : List ℕ) (facts : ImageFacts) (values : List RowValue) (layout : Layout) (others : ℕ) (old mid : List TakenRow) (Fact : List TakenRow → Type 0) → mid ≡ old ++ row_of Image values ∷ []
+    → values ≡ image_values facts file → layout ≡ layout_of file → others ≡ others_by layout file
+    → Fact (mid ++ all_volume_rows facts.takes_digests others (found_by layout (content_of layout file)) (content_of layout file)) → Fact (old ++ image_rows facts file)
+unfolding image_rows
+image_given file facts values layout others old mid Fact first is found others_are given =
+    subst Fact (ap (λ (n : ℕ). mid ++ all_volume_rows facts.takes_digests n (found_by layout (content_of layout file)) (content_of layout file)) others_are
+    ∙ ap (λ (rows : List TakenRow). mid ++ rows) (rows-by facts file layout)
+    ∙ ap (λ (front : List TakenRow). front ++ content_rows facts.takes_digests layout file) first
+    ∙ append_assoc old (row_of Image values ∷ []) (content_rows facts.takes_digests layout file)
+    ∙ ap (λ (values : List RowValue). old ++ row_of Image values ∷ content_rows facts.takes_digests layout file) is
+    ∙ ap (λ (layout : Layout). old ++ row_of Image (image_values facts file) ∷ content_rows facts.takes_digests layout file) found) given
+
+pub image_counted : (file : List ℕ) (layout : Layout) (counts : ImageCounts) → layout ≡ layout_of file
+    → counts ≡ all_volume_counts (found_by layout (content_of layout file)) (content_of layout file) → counts ≡ image_counts file
+unfolding image_counts
+image_counted file layout counts found told = told ∙ counts-by file layout ∙ ap (λ (by : Layout). content_counts by file) found

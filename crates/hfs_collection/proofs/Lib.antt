@@ -3,9 +3,10 @@ mod Going
 mod VolumeGiving
 mod VolumesGoing
 mod ImageGiving
-mod ContentGiving
 mod RemainsGoing
 mod ForkTelling
 mod Counting
 mod VolumeCounting
-mod HeldGiving
+mod FoundGiving
+mod Noting
+mod PartGiving

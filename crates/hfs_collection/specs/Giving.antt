@@ -8,7 +8,7 @@ use Rattle.hfs_blocks.specs.Blocks.{block_at}
 use Rattle.hfs_check.specs.Faults.{fault_of}
 use Rattle.hfs_check.specs.Parts.{mdb_in}
 use Rattle.hfs_inventory.specs.Told.{ToldRow}
-use Rattle.hfs_needed.specs.Known.{OfKnown}
+use Rattle.hfs_source.specs.Images.{OfEach}
 use Rattle.hfs_model.specs.Children.{entries_of}
 use Rattle.hfs_check.specs.VolumeOf.{volume_of}
 use Rattle.hfs_rows.specs.Taken.{TakenRow}
@@ -34,11 +34,10 @@ GoesOn taken before after rows left old new bytes =
     new ++ item_rows_from taken (entries_of (volume_of bytes)) after left ≡ old ++ item_rows_from taken (entries_of (volume_of bytes)) before rows
 
 -- the first of the rows was given, where there is one
-abbrev pub GivesNext : Bool → Option (List ℕ) → ℕ → ℕ → ℕ → Bool → List ToldRow → List ToldRow → List TakenRow → List TakenRow → Type 0
-GivesNext taken known len before after true rows left old new =
-    OfKnown known len (GoesOn taken before after rows left old new) × (length rows ≡ suc (length left))
-GivesNext taken known len before after false rows left old new = (new ≡ old) × (rows ≡ [])
+abbrev pub GivesNext : Bool → (List ℕ → Type 0) → ℕ → ℕ → Bool → List ToldRow → List ToldRow → List TakenRow → List TakenRow → Type 0
+GivesNext taken Holds before after true rows left old new = OfEach Holds (GoesOn taken before after rows left old new) × (length rows ≡ suc (length left))
+GivesNext taken Holds before after false rows left old new = (new ≡ old) × (rows ≡ [])
 
--- the master directory block of a sound volume in an image of so many bytes
-abbrev pub IsDirectory : Option (List ℕ) → ℕ → Mdb → Type 0
-IsDirectory known len mdb = OfKnown known len (λ bytes. fault_of bytes ≡ None → mdb ≡ mdb_in (block_at bytes))
+-- the master directory block of a sound volume
+abbrev pub IsDirectoryOf : Mdb → List ℕ → Type 0
+IsDirectoryOf mdb bytes = fault_of bytes ≡ None → mdb ≡ mdb_in (block_at bytes)

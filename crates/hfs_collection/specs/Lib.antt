@@ -4,5 +4,7 @@ pub mod Remains
 pub mod Volumes
 pub mod Images
 pub mod Giving
-pub mod Held
+pub mod Refused
 pub mod Counts
+pub mod Looking
+pub mod Openings

@@ -1,54 +1,49 @@
 //! The rows of the volumes in an image.
 ghost use Rattle.std.specs.Prelude.{◌≡◌, ◌++◌, IfOk, OnErr, OnOk};
 ghost use Rattle.hfs_containers.specs.Found.{found_by};
-ghost use Rattle.hfs_containers.specs.Reading.{IsToldOf};
-ghost use Rattle.hfs_needed.specs.Known.{OfKnown};
-ghost use Rattle.hfs_raw.specs.Sectors.{other_count};
+ghost use Rattle.hfs_contents.specs.Parts.{content_of};
 ghost use Rattle.hfs_rows.specs.Taken.{IsBeginning};
-ghost use Rattle.hfs_collection.specs.Counts.{all_volume_counts, content_counts, volume_counts_from};
-ghost use Rattle.hfs_collection.specs.Volumes.{all_volume_rows, content_rows, volume_rows_from};
+ghost use Rattle.hfs_source.specs.Images.{OfEach};
+ghost use Rattle.hfs_collection.specs.Counts.{all_volume_counts, volume_counts_from};
+ghost use Rattle.hfs_collection.specs.Volumes.{all_volume_rows, volume_rows_from};
 
 use crate::counts::ImageCounts;
 use crate::fault::CollectFault;
 use crate::giving_volumes::{give_lost, give_range};
-use crate::raw_image::RawImage;
 use crate::source::ImageFile;
-use hfs_containers::{FoundRange, Layout, ReadAt, find_in_layout, others_in};
+use hfs_containers::{FoundRange, Layout};
+use hfs_contents::{ImagePart, PickedImage, find_contents};
 use hfs_rows::RowTaker;
-use hfs_sparse::SparseFault;
+use hfs_source::PlacedBytes;
 use std::alloc::Global;
 
-/// Gives the rows of the volumes in these ranges of a file, with numbers from 1 on.
-fn give_volumes<S: ReadAt + Drop, F: ImageFile<S>, T: RowTaker>(
+/// Gives the rows of the volumes in these ranges of an image, with numbers from 1 on.
+fn give_volumes<S: PlacedBytes + Drop, K: PickedImage, F: ImageFile<S, K>, T: RowTaker>(
     alloc: Global,
     taker: &mut T,
-    file: &F,
-    len: u64,
+    file: &mut F,
+    layout: Layout,
     others: u64,
     ranges: &[FoundRange],
     taken: bool,
 ) -> Result<ImageCounts, CollectFault>
-    ensures whole { OnOk result (OfKnown (F.known file.now) len (λ file. T.given taker.new
-        ≡ T.given taker.old ++ volume_rows_from taken others 1 ranges.now file)) }
-    ensures part { OnErr result (OfKnown (F.known file.now) len (λ file. IsBeginning
-        (T.given taker.new) (T.given taker.old
-        ++ volume_rows_from taken others 1 ranges.now file))) }
-    ensures counted { IfOk result (λ counts. OfKnown (F.known file.now) len (λ file.
-        counts ≡ volume_counts_from ranges.now file)) }
+    ensures whole { OnOk result (F.Holds file.new K.image → T.given taker.new ≡ T.given taker.old
+        ++ volume_rows_from taken others 1 ranges.now (content_of layout K.image)) }
+    ensures part { OnErr result (F.Holds file.new K.image → IsBeginning (T.given taker.new)
+        (T.given taker.old
+        ++ volume_rows_from taken others 1 ranges.now (content_of layout K.image))) }
+    ensures counted { IfOk result (λ counts. F.Holds file.new K.image
+        → counts ≡ volume_counts_from ranges.now (content_of layout K.image)) }
+    ensures held { OfEach (F.Holds file.new) (F.Holds file.old) }
     ensures reference { T.reference taker.new ≡ T.reference taker.old }
     ensures place { T.place taker.new ≡ T.place taker.old }
 {
     let mut counts = ImageCounts::none();
     for i in 0..ranges.len() {
-        let more = give_range(
-            alloc,
-            taker,
-            file,
-            len,
-            others,
-            i as u64 + 1,
-            &ranges[i],
-            taken,
+        let number = i as u64 + 1;
+        let found = &ranges[i];
+        let more = give_range::<S, K, F, T>(
+            alloc, taker, file, layout, others, number, found, taken,
         )?;
         let Some(sum) = counts.with(more) else {
             return Err(CollectFault::NoMemory);
@@ -58,107 +53,74 @@ fn give_volumes<S: ReadAt + Drop, F: ImageFile<S>, T: RowTaker>(
     Ok(counts)
 }
 
-/// Gives the rows of the volumes in these ranges of a file, or of the one that is lost there where there are none.
-fn give_all<S: ReadAt + Drop, F: ImageFile<S>, T: RowTaker>(
+/// Gives the rows of the volumes in these ranges of an image, or of the one that is lost there where there are none.
+fn give_all<S: PlacedBytes + Drop, K: PickedImage, F: ImageFile<S, K>, T: RowTaker>(
     alloc: Global,
     taker: &mut T,
-    file: &F,
-    len: u64,
+    file: &mut F,
+    layout: Layout,
     others: u64,
     ranges: &[FoundRange],
     taken: bool,
 ) -> Result<ImageCounts, CollectFault>
-    ensures whole { OnOk result (OfKnown (F.known file.now) len (λ file. T.given taker.new
-        ≡ T.given taker.old ++ all_volume_rows taken others ranges.now file)) }
-    ensures part { OnErr result (OfKnown (F.known file.now) len (λ file. IsBeginning
-        (T.given taker.new) (T.given taker.old ++ all_volume_rows taken others ranges.now file))) }
-    ensures counted { IfOk result (λ counts. OfKnown (F.known file.now) len (λ file.
-        counts ≡ all_volume_counts ranges.now file)) }
+    ensures whole { OnOk result (F.Holds file.new K.image → T.given taker.new ≡ T.given taker.old
+        ++ all_volume_rows taken others ranges.now (content_of layout K.image)) }
+    ensures part { OnErr result (F.Holds file.new K.image → IsBeginning (T.given taker.new)
+        (T.given taker.old
+        ++ all_volume_rows taken others ranges.now (content_of layout K.image))) }
+    ensures counted { IfOk result (λ counts. F.Holds file.new K.image
+        → counts ≡ all_volume_counts ranges.now (content_of layout K.image)) }
+    ensures held { OfEach (F.Holds file.new) (F.Holds file.old) }
     ensures reference { T.reference taker.new ≡ T.reference taker.old }
     ensures place { T.place taker.new ≡ T.place taker.old }
 {
     match ranges {
-        [] => give_lost(alloc, taker, file, len, others, taken),
-        [_, ..] => give_volumes(alloc, taker, file, len, others, ranges, taken),
+        [] => give_lost::<S, K, F, T>(alloc, taker, file, layout, others, taken),
+        [_, ..] => give_volumes::<S, K, F, T>(alloc, taker, file, layout, others, ranges, taken),
     }
 }
 
-/// Gives the rows of the volumes that are found in a file of `len` bytes, or in as many bytes of user data, where so many sectors have none.
-fn give_found<S: ReadAt + Drop, F: ImageFile<S>, T: RowTaker>(
+/// The ranges of an image in which volumes lie, by an opening of it that is noted.
+fn find_ranges<S: PlacedBytes + Drop, K: PickedImage, F: ImageFile<S, K>>(
+    alloc: Global,
+    file: &mut F,
+    layout: Layout,
+) -> Result<Vec<FoundRange>, CollectFault>
+    ensures found { IfOk result (λ ranges. F.Holds file.new K.image
+        → ranges.items ≡ found_by layout (content_of layout K.image)) }
+    ensures held { OfEach (F.Holds file.new) (F.Holds file.old) }
+{
+    let source = file.open()?;
+    let Some(mut part) = ImagePart::<S, K>::whole(source, layout) else {
+        return Err(CollectFault::ReadFailed);
+    };
+    let ranges = find_contents(alloc, &mut part, layout)?;
+    file.note(part.source());
+    Ok(ranges)
+}
+
+/// Gives the rows of the volumes in an image, or in the user data of its raw sectors: of the one that is lost there, where there are none. Answers how much that is.
+pub(crate) fn give_content<S: PlacedBytes + Drop, K: PickedImage, F: ImageFile<S, K>, T: RowTaker>(
     alloc: Global,
     taker: &mut T,
-    file: &F,
-    len: u64,
+    file: &mut F,
     layout: Layout,
     others: u64,
     taken: bool,
 ) -> Result<ImageCounts, CollectFault>
-    ensures whole { OnOk result (OfKnown (F.known file.now) len (λ file. T.given taker.new
-        ≡ T.given taker.old ++ all_volume_rows taken others (found_by layout file) file)) }
-    ensures part { OnErr result (OfKnown (F.known file.now) len (λ file. IsBeginning
-        (T.given taker.new)
-        (T.given taker.old ++ all_volume_rows taken others (found_by layout file) file))) }
-    ensures counted { IfOk result (λ counts. OfKnown (F.known file.now) len (λ file.
-        counts ≡ all_volume_counts (found_by layout file) file)) }
+    ensures whole { OnOk result (F.Holds file.new K.image → T.given taker.new ≡ T.given taker.old
+        ++ all_volume_rows taken others (found_by layout (content_of layout K.image))
+        (content_of layout K.image)) }
+    ensures part { OnErr result (F.Holds file.new K.image → IsBeginning (T.given taker.new)
+        (T.given taker.old ++ all_volume_rows taken others
+        (found_by layout (content_of layout K.image)) (content_of layout K.image))) }
+    ensures counted { IfOk result (λ counts. F.Holds file.new K.image → counts
+        ≡ all_volume_counts (found_by layout (content_of layout K.image))
+        (content_of layout K.image)) }
+    ensures held { OfEach (F.Holds file.new) (F.Holds file.old) }
     ensures reference { T.reference taker.new ≡ T.reference taker.old }
     ensures place { T.place taker.new ≡ T.place taker.old }
 {
-    let mut source = file.open()?;
-    let ranges = find_in_layout(alloc, &mut source, len, layout)?;
-    give_all(alloc, taker, file, len, others, &ranges, taken)
-}
-
-/// How many sectors of an image of `len` bytes have no user data: each is looked at.
-fn count_others<S: ReadAt + Drop, F: ImageFile<S>>(file: &F, len: u64) -> Result<u64, SparseFault>
-    ensures { IfOk result (IsToldOf (F.known file.now) len other_count) }
-{
-    let mut source = file.open()?;
-    others_in(&mut source, len)
-}
-
-/// Gives the rows of the volumes in the user data of an image of raw sectors, which has `len` bytes.
-fn give_raw<S: ReadAt + Drop, F: ImageFile<S>, T: RowTaker>(
-    alloc: Global,
-    taker: &mut T,
-    file: &F,
-    len: u64,
-    taken: bool,
-) -> Result<ImageCounts, CollectFault>
-    ensures whole { OnOk result (OfKnown (F.known file.now) len (λ file. T.given taker.new
-        ≡ T.given taker.old ++ content_rows taken Layout.Raw file)) }
-    ensures part { OnErr result (OfKnown (F.known file.now) len (λ file. IsBeginning
-        (T.given taker.new) (T.given taker.old ++ content_rows taken Layout.Raw file))) }
-    ensures counted { IfOk result (λ counts. OfKnown (F.known file.now) len (λ file.
-        counts ≡ content_counts Layout.Raw file)) }
-    ensures reference { T.reference taker.new ≡ T.reference taker.old }
-    ensures place { T.place taker.new ≡ T.place taker.old }
-{
-    let others = count_others(file, len)?;
-    let raw = RawImage { file, len };
-    give_found(alloc, taker, &raw, raw.len(), Layout::Raw, others, taken)
-}
-
-/// Gives the rows of the volumes in an image of `len` bytes, or in the user data of its raw sectors: of the one that is lost there, where there are none. Answers how
-/// much that is.
-pub(crate) fn give_content<S: ReadAt + Drop, F: ImageFile<S>, T: RowTaker>(
-    alloc: Global,
-    taker: &mut T,
-    file: &F,
-    len: u64,
-    layout: Layout,
-    taken: bool,
-) -> Result<ImageCounts, CollectFault>
-    ensures whole { OnOk result (OfKnown (F.known file.now) len (λ file. T.given taker.new
-        ≡ T.given taker.old ++ content_rows taken layout file)) }
-    ensures part { OnErr result (OfKnown (F.known file.now) len (λ file. IsBeginning
-        (T.given taker.new) (T.given taker.old ++ content_rows taken layout file))) }
-    ensures counted { IfOk result (λ counts. OfKnown (F.known file.now) len (λ file.
-        counts ≡ content_counts layout file)) }
-    ensures reference { T.reference taker.new ≡ T.reference taker.old }
-    ensures place { T.place taker.new ≡ T.place taker.old }
-{
-    match layout {
-        Layout::Plain => give_found(alloc, taker, file, len, Layout::Plain, 0, taken),
-        Layout::Raw => give_raw(alloc, taker, file, len, taken),
-    }
+    let ranges = find_ranges::<S, K, F>(alloc, file, layout)?;
+    give_all::<S, K, F, T>(alloc, taker, file, layout, others, &ranges, taken)
 }

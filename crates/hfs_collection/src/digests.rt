@@ -1,11 +1,8 @@
-//! The digests of files and of forks.
-ghost use Rattle.std.specs.Prelude.{◌≡◌, ◌≤◌, ◌++◌, IfOk, OnOk};
+//! The digests of forks.
+ghost use Rattle.std.specs.Prelude.{◌≡◌, IfOk};
 ghost use Rattle.hex.specs.Hex.{encode_lower};
-ghost use Rattle.sha2.specs.Sha256.{sha256};
-ghost use Rattle.hfs_fields.specs.Mdb.{bytes_at};
-ghost use Rattle.hfs_containers.specs.Reading.{IsTold, IsToldOf};
 ghost use Rattle.hfs_needed.specs.Forks.{named_fork};
-ghost use Rattle.hfs_needed.specs.Known.{OfKnown};
+ghost use Rattle.hfs_source.specs.Images.{OfEach};
 ghost use Rattle.hfs_model.specs.Children.{entries_of};
 ghost use Rattle.hfs_check.specs.VolumeOf.{volume_of};
 ghost use Rattle.hfs_rows.specs.declared.value.RowValue.TheVariants.{Text};
@@ -13,16 +10,13 @@ ghost use Rattle.hfs_collection.specs.Items.{found_digest};
 ghost use Rattle.hfs_collection.specs.Giving.{AreDigests};
 
 use crate::fault::CollectFault;
-use hfs_containers::ReadAt;
 use hfs_digests::DigestWriter;
 use hfs_model::{Fork, Info, ItemKind, OwnedBytes};
-use hfs_needed::OpenedImage;
+use hfs_needed::SeenImage;
 use hfs_rows::RowValue;
-use hfs_sparse::{BlockSource, CopyFault, SparseFault};
+use hfs_source::PlacedBlocks;
+use hfs_sparse::CopyFault;
 use std::alloc::{AllocError, Global};
-
-/// How many bytes are read at once.
-const PIECE: u64 = 16_384;
 
 /// The digests of both forks of an item, as they stand in its row.
 #[derive(Drop)]
@@ -39,54 +33,16 @@ pub(crate) fn digest_text(alloc: Global, digest: &[u8; 32]) -> Result<RowValue, 
     Ok(RowValue::Text(OwnedBytes::new(digits.into_bytes())))
 }
 
-/// Gives `count` bytes from `place` on to a digest.
-fn add_bytes<S: ReadAt>(
-    source: &mut S,
-    digest: &mut DigestWriter,
-    place: u64,
-    count: u64,
-) -> Result<(), SparseFault>
-    requires { count ≤ 16384 }
-    ensures added { OnOk result (IsTold (S.known source.old)
-        (λ file. digest.old ++ bytes_at place count file) digest.new) }
-    ensures known { S.known source.new ≡ S.known source.old }
-{
-    let mut piece = [0; PIECE as usize];
-    let bytes = &mut piece[..count as usize];
-    match source.read_at(place, bytes) {
-        Ok(()) => {
-            digest.add(bytes);
-            Ok(())
-        }
-        Err(_) => Err(SparseFault::ReadFailed),
-    }
-}
-
-/// The SHA-256 digest of a file of `len` bytes, which are read once, in pieces. Error: the read failed, or the file has fewer.
-pub fn file_digest<S: ReadAt>(source: &mut S, len: u64) -> Result<[u8; 32], SparseFault>
-    ensures digest { IfOk result (IsToldOf (S.known source.old) len sha256) }
-    ensures known { S.known source.new ≡ S.known source.old }
-{
-    let mut digest = DigestWriter::new();
-    let mut done = 0;
-    while done < len {
-        let count = (len - done).min(PIECE);
-        add_bytes(source, &mut digest, done, count)?;
-        done += count;
-    }
-    Ok(digest.finish())
-}
-
 /// The digest of a fork of a file, as it stands in its row.
-fn fork_digest<S: BlockSource + Drop>(
+fn fork_digest<S: PlacedBlocks + Drop>(
     alloc: Global,
-    image: &mut OpenedImage<S>,
+    image: &mut SeenImage<S>,
     info: &Info,
     fork: Fork,
 ) -> Result<RowValue, CollectFault>
-    ensures digest { IfOk result (λ value. OfKnown image.old.known image.old.len
+    ensures digest { IfOk result (λ value. OfEach (S.Holds image.new)
         (λ bytes. value ≡ found_digest (named_fork (entries_of (volume_of bytes)) info.now.parent info.now.name fork))) }
-    ensures kept { image.new ≡ image.old }
+    ensures narrows { OfEach (S.Holds image.new) (S.Holds image.old) }
 {
     let mut digest = DigestWriter::new();
     match image.write_fork(alloc, info.parent, info.name.bytes(), fork, &mut digest) {
@@ -98,15 +54,15 @@ fn fork_digest<S: BlockSource + Drop>(
 }
 
 /// The digests of both forks of an item, where they are to be taken: a folder has none.
-pub(crate) fn fork_digests<S: BlockSource + Drop>(
+pub(crate) fn fork_digests<S: PlacedBlocks + Drop>(
     alloc: Global,
-    image: &mut OpenedImage<S>,
+    image: &mut SeenImage<S>,
     info: &Info,
     taken: bool,
 ) -> Result<ForkDigests, CollectFault>
-    ensures digests { IfOk result (λ found. OfKnown image.old.known image.old.len
+    ensures digests { IfOk result (λ found. OfEach (S.Holds image.new)
         (λ bytes. AreDigests taken (entries_of (volume_of bytes)) info.now found)) }
-    ensures kept { image.new ≡ image.old }
+    ensures narrows { OfEach (S.Holds image.new) (S.Holds image.old) }
 {
     if !taken || info.kind == ItemKind::Folder {
         return Ok(ForkDigests {

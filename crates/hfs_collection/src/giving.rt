@@ -2,7 +2,7 @@
 ghost use Rattle.std.specs.Prelude.{◌≡◌, ◌+◌, ◌++◌, [], false, IfOk, IfSome, OnErr, OnOk};
 ghost use Rattle.hfs_model.specs.Children.{entries_of};
 ghost use Rattle.hfs_check.specs.VolumeOf.{volume_of};
-ghost use Rattle.hfs_needed.specs.Known.{OfKnown};
+ghost use Rattle.hfs_source.specs.Images.{OfEach};
 ghost use Rattle.hfs_rows.specs.Taken.{IsBeginning};
 ghost use Rattle.hfs_collection.specs.Items.{item_rows, item_rows_from};
 ghost use Rattle.hfs_inventory.specs.Told.{told_rows};
@@ -15,9 +15,9 @@ use crate::items::item_values;
 use hfs_fields::Name;
 use hfs_inventory::Inventory;
 use hfs_model::{Info, ItemKind};
-use hfs_needed::OpenedImage;
+use hfs_needed::SeenImage;
 use hfs_rows::{RowTaker, Table};
-use hfs_sparse::BlockSource;
+use hfs_source::PlacedBlocks;
 use std::alloc::Global;
 
 /// How many items were given, and how many of them are files.
@@ -51,19 +51,19 @@ impl ItemCounts {
 }
 
 /// Gives the row of an item, to which these names lead.
-fn give_item<S: BlockSource + Drop, T: RowTaker>(
+fn give_item<S: PlacedBlocks + Drop, T: RowTaker>(
     alloc: Global,
     taker: &mut T,
-    image: &mut OpenedImage<S>,
+    image: &mut SeenImage<S>,
     number: u64,
     names: &[Name],
     info: &Info,
     taken: bool,
 ) -> Result<(), CollectFault>
-    ensures whole { OnOk result (OfKnown image.old.known image.old.len (GivesItem taken number
+    ensures whole { OnOk result (OfEach (S.Holds image.new) (GivesItem taken number
         (told_row names.now info.now) (T.given taker.old) (T.given taker.new))) }
     ensures part { OnErr result (T.given taker.new ≡ T.given taker.old) }
-    ensures kept { image.new ≡ image.old }
+    ensures narrows { OfEach (S.Holds image.new) (S.Holds image.old) }
     ensures reference { T.reference taker.new ≡ T.reference taker.old }
     ensures place { T.place taker.new ≡ T.place taker.old }
 {
@@ -75,22 +75,22 @@ fn give_item<S: BlockSource + Drop, T: RowTaker>(
 
 /// Gives the row of the next item, and answers whether there was one.
 #[tactic(auto, using(crate::proofs::Counting::files_more, crate::proofs::Counting::files_none))]
-fn give_next<S: BlockSource + Drop, T: RowTaker>(
+fn give_next<S: PlacedBlocks + Drop, T: RowTaker>(
     alloc: Global,
     taker: &mut T,
-    image: &mut OpenedImage<S>,
+    image: &mut SeenImage<S>,
     inventory: &mut Inventory,
     counts: &mut ItemCounts,
     taken: bool,
 ) -> Result<bool, CollectFault>
-    ensures given { IfOk result (λ more. GivesNext taken image.old.known image.old.len
+    ensures given { IfOk result (λ more. GivesNext taken (S.Holds image.new)
         counts.old.items counts.new.items more inventory.old.left inventory.new.left
         (T.given taker.old) (T.given taker.new)) }
     ensures counted { OnOk result (counts.new.files + file_total inventory.new.left
         ≡ counts.old.files + file_total inventory.old.left) }
     ensures ended { IfOk result (λ more. more ≡ false → inventory.new.left ≡ []) }
     ensures part { OnErr result (T.given taker.new ≡ T.given taker.old) }
-    ensures kept { image.new ≡ image.old }
+    ensures narrows { OfEach (S.Holds image.new) (S.Holds image.old) }
     ensures reference { T.reference taker.new ≡ T.reference taker.old }
     ensures place { T.place taker.new ≡ T.place taker.old }
 {
@@ -115,20 +115,20 @@ fn give_next<S: BlockSource + Drop, T: RowTaker>(
 
 /// Gives the rows of all items that are to come, and answers how many files are among them.
 #[tactic(auto, using(crate::proofs::Counting::files_all))]
-fn give_inventory<S: BlockSource + Drop, T: RowTaker>(
+fn give_inventory<S: PlacedBlocks + Drop, T: RowTaker>(
     alloc: Global,
     taker: &mut T,
-    image: &mut OpenedImage<S>,
+    image: &mut SeenImage<S>,
     inventory: &mut Inventory,
     taken: bool,
 ) -> Result<u64, CollectFault>
-    ensures whole { OnOk result (OfKnown image.old.known image.old.len (λ bytes. T.given taker.new
+    ensures whole { OnOk result (OfEach (S.Holds image.new) (λ bytes. T.given taker.new
         ≡ T.given taker.old ++ item_rows_from taken (entries_of (volume_of bytes)) 0 inventory.old.left)) }
-    ensures part { OnErr result (OfKnown image.old.known image.old.len (λ bytes. IsBeginning
+    ensures part { OnErr result (OfEach (S.Holds image.new) (λ bytes. IsBeginning
         (T.given taker.new)
         (T.given taker.old ++ item_rows_from taken (entries_of (volume_of bytes)) 0 inventory.old.left))) }
     ensures counted { IfOk result (λ files. files ≡ file_total inventory.old.left) }
-    ensures kept { image.new ≡ image.old }
+    ensures narrows { OfEach (S.Holds image.new) (S.Holds image.old) }
     ensures reference { T.reference taker.new ≡ T.reference taker.old }
     ensures place { T.place taker.new ≡ T.place taker.old }
 {
@@ -139,19 +139,19 @@ fn give_inventory<S: BlockSource + Drop, T: RowTaker>(
 
 /// Gives the rows of all items of a volume, and answers how many files are among them.
 #[tactic(auto, using(crate::proofs::Counting::files_of))]
-pub(crate) fn give_items<S: BlockSource + Drop, T: RowTaker>(
+pub(crate) fn give_items<S: PlacedBlocks + Drop, T: RowTaker>(
     alloc: Global,
     taker: &mut T,
-    image: &mut OpenedImage<S>,
+    image: &mut SeenImage<S>,
     taken: bool,
 ) -> Result<u64, CollectFault>
-    ensures whole { OnOk result (OfKnown image.old.known image.old.len (λ bytes. T.given taker.new
+    ensures whole { OnOk result (OfEach (S.Holds image.new) (λ bytes. T.given taker.new
         ≡ T.given taker.old ++ item_rows taken (entries_of (volume_of bytes)))) }
-    ensures part { OnErr result (OfKnown image.old.known image.old.len (λ bytes. IsBeginning
+    ensures part { OnErr result (OfEach (S.Holds image.new) (λ bytes. IsBeginning
         (T.given taker.new) (T.given taker.old ++ item_rows taken (entries_of (volume_of bytes))))) }
-    ensures counted { IfOk result (λ files. OfKnown image.old.known image.old.len (λ bytes.
+    ensures counted { IfOk result (λ files. OfEach (S.Holds image.new) (λ bytes.
         files ≡ file_total (told_rows (entries_of (volume_of bytes))))) }
-    ensures kept { image.new ≡ image.old }
+    ensures narrows { OfEach (S.Holds image.new) (S.Holds image.old) }
     ensures reference { T.reference taker.new ≡ T.reference taker.old }
     ensures place { T.place taker.new ≡ T.place taker.old }
 {

@@ -1,21 +1,19 @@
 //! The row of a volume, and those of its items.
-ghost use Rattle.std.specs.Prelude.{◌≡◌, ◌++◌, ℕ, List, ◌∷◌, length, None, Some, IsTrue, IfOk, OnErr, OnOk};
-ghost use Rattle.std.specs.Option.{option_map};
+ghost use Rattle.std.specs.Prelude.{◌≡◌, ◌++◌, ◌∷◌, length, None, Some, IfOk, OnErr, OnOk};
 ghost use Rattle.hfs_model.specs.Children.{entries_of};
-ghost use Rattle.hfs_check.specs.VolumeOf.{volume_of};
-ghost use Rattle.hfs_blocks.specs.Blocks.{block_at};
 ghost use Rattle.hfs_check.specs.Faults.{fault_of};
-ghost use Rattle.hfs_check.specs.Parts.{mdb_in};
+ghost use Rattle.hfs_check.specs.VolumeOf.{volume_of};
+ghost use Rattle.hfs_contents.specs.Parts.{content_of};
+ghost use Rattle.hfs_commands.specs.Volumes.{sum_told};
 ghost use Rattle.hfs_containers.specs.Ranges.{bytes_in};
-ghost use Rattle.hfs_containers.specs.Reading.{IsTold};
-ghost use Rattle.hfs_needed.specs.Known.{OfKnown};
+ghost use Rattle.hfs_inventory.specs.Told.{told_rows};
 ghost use Rattle.hfs_rows.specs.declared.value.Table.TheVariants as table;
 ghost use Rattle.hfs_rows.specs.Taken.{IsBeginning, row_of};
+ghost use Rattle.hfs_source.specs.Images.{OfEach};
+ghost use Rattle.hfs_collection.specs.Counts.{file_total, lost_counts, range_counts, volume_counts};
+ghost use Rattle.hfs_collection.specs.Giving.{IsDirectoryOf};
 ghost use Rattle.hfs_collection.specs.Items.{item_rows};
 ghost use Rattle.hfs_collection.specs.Volumes.{lost_place, lost_rows, place_in, range_rows, volume_rows, volume_values};
-ghost use Rattle.hfs_inventory.specs.Told.{told_rows};
-ghost use Rattle.hfs_collection.specs.Counts.{file_total, lost_counts, range_counts, volume_counts};
-ghost use Rattle.hfs_collection.specs.Giving.{IsDirectory};
 
 use crate::counts::ImageCounts;
 use crate::fault::CollectFault;
@@ -23,32 +21,35 @@ use crate::giving::give_items;
 use crate::giving_remains::{give_refused, give_volume_row, give_where_found};
 use crate::places::VolumePlace;
 use crate::source::ImageFile;
-use hfs_commands::sum_told;
-use hfs_containers::{ByteRange, FoundRange, ReadAt, Window};
+use hfs_containers::{Container, FoundRange, Layout};
+use hfs_contents::{ImagePart, PickedImage, range_sum};
 use hfs_fields::Mdb;
-use hfs_needed::{NeededFault, OpenedImage};
+use hfs_finds::look;
+use hfs_needed::SeenImage;
 use hfs_rows::RowTaker;
-use hfs_sparse::BlockSource;
+use hfs_source::{BlocksOf, PlacedBlocks, PlacedBytes};
+use hfs_sparse::{SeenBlocks, SparseFault};
 use std::alloc::Global;
 
 /// Gives the row of a sound volume and those of its items, and answers how many files are among them.
-fn give_sound<S: BlockSource + Drop, T: RowTaker>(
+fn give_sound<S: PlacedBlocks + Drop, T: RowTaker>(
     alloc: Global,
     taker: &mut T,
-    image: &mut OpenedImage<S>,
+    image: &mut SeenImage<S>,
     place: &VolumePlace,
     mdb: &Mdb,
     taken: bool,
 ) -> Result<u64, CollectFault>
-    ensures whole { OnOk result (OfKnown image.old.known image.old.len (λ bytes. T.given taker.new
+    ensures whole { OnOk result (OfEach (S.Holds image.new) (λ bytes. T.given taker.new
         ≡ T.given taker.old ++ row_of table.Volume (volume_values place.now None (Some mdb.now))
         ∷ item_rows taken (entries_of (volume_of bytes)))) }
-    ensures part { OnErr result (OfKnown image.old.known image.old.len (λ bytes. IsBeginning
+    ensures part { OnErr result (OfEach (S.Holds image.new) (λ bytes. IsBeginning
         (T.given taker.new) (T.given taker.old
         ++ row_of table.Volume (volume_values place.now None (Some mdb.now))
         ∷ item_rows taken (entries_of (volume_of bytes))))) }
-    ensures counted { IfOk result (λ files. OfKnown image.old.known image.old.len (λ bytes.
+    ensures counted { IfOk result (λ files. OfEach (S.Holds image.new) (λ bytes.
         files ≡ file_total (told_rows (entries_of (volume_of bytes))))) }
+    ensures narrows { OfEach (S.Holds image.new) (S.Holds image.old) }
     ensures reference { T.reference taker.new ≡ T.reference taker.old }
     ensures place { T.place taker.new ≡ T.place taker.old }
 {
@@ -57,159 +58,169 @@ fn give_sound<S: BlockSource + Drop, T: RowTaker>(
     give_items(alloc, taker, image, taken)
 }
 
-/// The master directory block, at byte 1,024.
-fn read_directory<S: ReadAt>(source: &mut S) -> Result<Mdb, CollectFault>
-    ensures directory { IfOk result (IsTold (S.known source.old)
-        (λ bytes. mdb_in (block_at bytes))) }
-    ensures known { S.known source.new ≡ S.known source.old }
+/// The master directory block of an image, block 2, and of one that is too short zeros in its place.
+fn directory<S: PlacedBlocks>(blocks: &mut S) -> Result<Mdb, CollectFault>
+    ensures directory { IfOk result (λ mdb. OfEach (S.Holds blocks.new) (IsDirectoryOf mdb)) }
+    ensures narrows { OfEach (S.Holds blocks.new) (S.Holds blocks.old) }
 {
     let mut block = [0; 512];
-    match source.read_at(1_024, &mut block) {
+    if blocks.len() < 1_536 {
+        return Ok(Mdb::read(&block));
+    }
+    match blocks.read_blocks(2, &mut block) {
         Ok(()) => Ok(Mdb::read(&block)),
         Err(_) => Err(CollectFault::ReadFailed),
     }
 }
 
-/// The master directory block of a volume of `len` bytes, and of one that is too short zeros in its place.
-fn directory<S: ReadAt>(source: &mut S, len: u64) -> Result<Mdb, CollectFault>
-    ensures directory { IfOk result (IsDirectory (S.known source.old) len) }
-    ensures known { S.known source.new ≡ S.known source.old }
-{
-    if len < 1_536 {
-        return Ok(Mdb::read(&[0; 512]));
-    }
-    read_directory(source)
-}
-
-/// Whether all bytes of a range lie in a file of `len` bytes.
-fn lies_within(len: u64, range: ByteRange) -> bool
-    ensures { IsTrue result → (file : List ℕ) → length file ≡ len
-        → length (bytes_in range file) ≡ range.len }
-{
-    range.len <= len - range.start.min(len)
-}
-
-/// Opens a range of a file.
-fn open_window<S: ReadAt, F: ImageFile<S>>(
-    file: &F,
-    range: ByteRange,
-) -> Result<Window<S>, CollectFault>
-    ensures { IfOk result (λ window. option_map (bytes_in window.range) (S.known window.source)
-        ≡ option_map (bytes_in range) (F.known file.now)) }
-{
-    let source = file.open()?;
-    Ok(Window { source, range })
-}
-
-/// Gives the row of the volume that lies in a range of a file of `len` bytes, and those of its items, or of what remains of them where it
-/// is refused. Answers how much that is.
-fn give_volume<S: ReadAt + Drop, F: ImageFile<S>, T: RowTaker>(
+/// Gives the row of the volume that lies in a range of an image, and those of its items, or of what remains of them where it is refused. Answers how much
+/// that is.
+fn give_volume<S: PlacedBytes + Drop, K: PickedImage, F: ImageFile<S, K>, T: RowTaker>(
     alloc: Global,
     taker: &mut T,
-    file: &F,
-    len: u64,
+    file: &mut F,
+    layout: Layout,
     place: &VolumePlace,
     taken: bool,
 ) -> Result<ImageCounts, CollectFault>
-    ensures whole { OnOk result (OfKnown (F.known file.now) len (λ file. T.given taker.new
-        ≡ T.given taker.old ++ volume_rows taken place.now (bytes_in place.now.range file))) }
-    ensures part { OnErr result (OfKnown (F.known file.now) len (λ file. IsBeginning
-        (T.given taker.new) (T.given taker.old
-        ++ volume_rows taken place.now (bytes_in place.now.range file)))) }
-    ensures counted { IfOk result (λ counts. OfKnown (F.known file.now) len (λ file.
-        counts ≡ volume_counts (bytes_in place.now.range file))) }
+    ensures whole { OnOk result (F.Holds file.new K.image → T.given taker.new ≡ T.given taker.old
+        ++ volume_rows taken place.now (bytes_in place.now.range (content_of layout K.image))) }
+    ensures part { OnErr result (F.Holds file.new K.image → IsBeginning (T.given taker.new)
+        (T.given taker.old
+        ++ volume_rows taken place.now (bytes_in place.now.range (content_of layout K.image)))) }
+    ensures counted { IfOk result (λ counts. F.Holds file.new K.image
+        → counts ≡ volume_counts (bytes_in place.now.range (content_of layout K.image))) }
+    ensures held { OfEach (F.Holds file.new) (F.Holds file.old) }
     ensures reference { T.reference taker.new ≡ T.reference taker.old }
     ensures place { T.place taker.new ≡ T.place taker.old }
 {
-    if !lies_within(len, place.range) {
+    let source = file.open()?;
+    let Some(bytes) = ImagePart::<S, K>::range(source, layout, place.range) else {
         return Err(CollectFault::ReadFailed);
-    }
-    let mut window = open_window(file, place.range)?;
-    let mdb = directory(&mut window, place.range.len)?;
-    match OpenedImage::open(alloc, window, place.range.len) {
+    };
+    let mut blocks = BlocksOf { bytes };
+    let mdb = directory(&mut blocks)?;
+    match look(alloc, SeenBlocks { blocks })? {
         Ok(mut image) => {
-            let files = give_sound(alloc, taker, &mut image, place, &mdb, taken)?;
-            Ok(ImageCounts::sound(files))
+            let given = give_sound(alloc, taker, &mut image, place, &mdb, taken);
+            file.note_volume(&image);
+            match given {
+                Ok(files) => Ok(ImageCounts::sound(files)),
+                Err(fault) => Err(fault),
+            }
         }
-        Err(NeededFault::Refused(why)) => {
-            let mut window = open_window(file, place.range)?;
-            give_refused(alloc, taker, &mut window, place, why, taken)
+        Err(mut image) => {
+            let given = give_refused(alloc, taker, &mut image, place, taken);
+            file.note(image.source.blocks.bytes.source());
+            given
         }
-        Err(NeededFault::ReadFailed) => Err(CollectFault::ReadFailed),
-        Err(NeededFault::Memory) => Err(CollectFault::NoMemory),
     }
 }
 
-/// Where a volume lies that was found in a file, with this number; of a disk copy all bytes are read, to tell whether its sum is right.
-fn place_in<S: ReadAt + Drop, F: ImageFile<S>>(
-    file: &F,
+/// Whether the sum that a disk copy's header tells is that of its data; None of what has no header.
+fn sum_told<S: PlacedBytes>(source: &mut S, found: &FoundRange) -> Result<Option<bool>, SparseFault>
+    ensures told { IfOk result (λ sum. OfEach (S.Holds source.new)
+        (λ file. sum ≡ sum_told found.now.container (bytes_in found.now.range file))) }
+    ensures held { OfEach (S.Holds source.new) (S.Holds source.old) }
+{
+    match found.container {
+        Container::DiskCopy { sum } => {
+            let own = range_sum(source, found.range)?;
+            Ok(Some(own == sum))
+        }
+        Container::Bare | Container::MacBinary | Container::Partition => Ok(None),
+        Container::RawBare | Container::RawPartition => Ok(None),
+    }
+}
+
+/// Where a volume lies that was found in an image, with this number; of a disk copy all bytes are read, to tell whether its sum is right.
+fn place_in<S: PlacedBytes + Drop, K: PickedImage, F: ImageFile<S, K>>(
+    file: &mut F,
+    layout: Layout,
     others: u64,
     number: u64,
     found: &FoundRange,
 ) -> Result<VolumePlace, CollectFault>
-    ensures place { IfOk result (IsTold (F.known file.now) (place_in others number found.now)) }
+    ensures place { IfOk result (λ place. F.Holds file.new K.image
+        → place ≡ place_in others number found.now (content_of layout K.image)) }
     ensures range { IfOk result (λ place. place.range ≡ found.now.range) }
+    ensures held { OfEach (F.Holds file.new) (F.Holds file.old) }
 {
-    let mut source = file.open()?;
-    let sum = sum_told(&mut source, found)?;
+    let source = file.open()?;
+    let Some(mut part) = ImagePart::<S, K>::whole(source, layout) else {
+        return Err(CollectFault::ReadFailed);
+    };
+    let sum = sum_told(&mut part, found)?;
+    file.note(part.source());
     Ok(VolumePlace::of(others, number, found, sum))
 }
 
-/// Gives the row of the volume in a range of a file of `len` bytes, with this number, and those of its items, or of what remains of them where it is
-/// refused. Answers how much that is.
-pub(crate) fn give_range<S: ReadAt + Drop, F: ImageFile<S>, T: RowTaker>(
+/// Gives the row of the volume in a range of an image, with this number, and those of its items, or of what remains of them where it is refused. Answers how much
+/// that is.
+pub(crate) fn give_range<S: PlacedBytes + Drop, K: PickedImage, F: ImageFile<S, K>, T: RowTaker>(
     alloc: Global,
     taker: &mut T,
-    file: &F,
-    len: u64,
+    file: &mut F,
+    layout: Layout,
     others: u64,
     number: u64,
     found: &FoundRange,
     taken: bool,
 ) -> Result<ImageCounts, CollectFault>
-    ensures whole { OnOk result (OfKnown (F.known file.now) len (λ file. T.given taker.new
-        ≡ T.given taker.old ++ range_rows taken others number found.now file)) }
-    ensures part { OnErr result (OfKnown (F.known file.now) len (λ file. IsBeginning
-        (T.given taker.new) (T.given taker.old ++ range_rows taken others number found.now file))) }
-    ensures counted { IfOk result (λ counts. OfKnown (F.known file.now) len (λ file.
-        counts ≡ range_counts found.now file)) }
+    ensures whole { OnOk result (F.Holds file.new K.image → T.given taker.new ≡ T.given taker.old
+        ++ range_rows taken others number found.now (content_of layout K.image)) }
+    ensures part { OnErr result (F.Holds file.new K.image → IsBeginning (T.given taker.new)
+        (T.given taker.old
+        ++ range_rows taken others number found.now (content_of layout K.image))) }
+    ensures counted { IfOk result (λ counts. F.Holds file.new K.image
+        → counts ≡ range_counts found.now (content_of layout K.image)) }
+    ensures held { OfEach (F.Holds file.new) (F.Holds file.old) }
     ensures reference { T.reference taker.new ≡ T.reference taker.old }
     ensures place { T.place taker.new ≡ T.place taker.old }
 {
-    let place = place_in(file, others, number, found)?;
-    let counts = give_volume(alloc, taker, file, len, &place, taken)?;
+    let place = place_in::<S, K, F>(file, layout, others, number, found)?;
+    let counts = give_volume::<S, K, F, T>(alloc, taker, file, layout, &place, taken)?;
     Ok(counts.lying(place.way))
 }
 
-/// Gives the row of the volume that is lost in a file of `len` bytes, and those of what remains of it, where a directory is found in the
-/// file; else no row. Answers how much that is.
-pub(crate) fn give_lost<S: ReadAt + Drop, F: ImageFile<S>, T: RowTaker>(
+/// Gives the row of the volume that is lost in an image, and those of what remains of it, where a directory is found in it; else no row. Answers how much that
+/// is.
+pub(crate) fn give_lost<S: PlacedBytes + Drop, K: PickedImage, F: ImageFile<S, K>, T: RowTaker>(
     alloc: Global,
     taker: &mut T,
-    file: &F,
-    len: u64,
+    file: &mut F,
+    layout: Layout,
     others: u64,
     taken: bool,
 ) -> Result<ImageCounts, CollectFault>
-    ensures whole { OnOk result (OfKnown (F.known file.now) len (λ file. T.given taker.new
-        ≡ T.given taker.old ++ lost_rows taken (lost_place others len) (fault_of file) file)) }
-    ensures part { OnErr result (OfKnown (F.known file.now) len (λ file. IsBeginning
-        (T.given taker.new) (T.given taker.old
-        ++ lost_rows taken (lost_place others len) (fault_of file) file))) }
-    ensures counted { IfOk result (λ counts. OfKnown (F.known file.now) len (λ file.
-        counts ≡ lost_counts (fault_of file) file)) }
+    ensures whole { OnOk result (F.Holds file.new K.image → T.given taker.new ≡ T.given taker.old
+        ++ lost_rows taken (lost_place others (length (content_of layout K.image)))
+        (fault_of (content_of layout K.image)) (content_of layout K.image)) }
+    ensures part { OnErr result (F.Holds file.new K.image → IsBeginning (T.given taker.new)
+        (T.given taker.old
+        ++ lost_rows taken (lost_place others (length (content_of layout K.image)))
+        (fault_of (content_of layout K.image)) (content_of layout K.image))) }
+    ensures counted { IfOk result (λ counts. F.Holds file.new K.image
+        → counts ≡ lost_counts (fault_of (content_of layout K.image)) (content_of layout K.image)) }
+    ensures held { OfEach (F.Holds file.new) (F.Holds file.old) }
     ensures reference { T.reference taker.new ≡ T.reference taker.old }
     ensures place { T.place taker.new ≡ T.place taker.old }
 {
-    let place = VolumePlace::lost(others, len);
-    let window = open_window(file, place.range)?;
-    match OpenedImage::open(alloc, window, len) {
-        Ok(_image) => Ok(ImageCounts::none()),
-        Err(NeededFault::Refused(why)) => {
-            let mut window = open_window(file, place.range)?;
-            give_where_found(alloc, taker, &mut window, &place, why, taken)
+    let source = file.open()?;
+    let Some(bytes) = ImagePart::<S, K>::whole(source, layout) else {
+        return Err(CollectFault::ReadFailed);
+    };
+    let place = VolumePlace::lost(others, bytes.len());
+    let blocks = BlocksOf { bytes };
+    match look(alloc, SeenBlocks { blocks })? {
+        Ok(image) => {
+            file.note_volume(&image);
+            Ok(ImageCounts::none())
         }
-        Err(NeededFault::ReadFailed) => Err(CollectFault::ReadFailed),
-        Err(NeededFault::Memory) => Err(CollectFault::NoMemory),
+        Err(mut image) => {
+            let given = give_where_found(alloc, taker, &mut image, &place, taken);
+            file.note(image.source.blocks.bytes.source());
+            given
+        }
     }
 }

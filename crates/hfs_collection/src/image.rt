@@ -1,20 +1,23 @@
 //! The rows of an image.
-ghost use Rattle.std.specs.Prelude.{◌≡◌, ◌++◌, ℕ, List, length, IfOk, OnErr, OnOk};
-ghost use Rattle.hfs_containers.specs.Reading.{IsToldOf};
-ghost use Rattle.hfs_needed.specs.Known.{OfKnown};
+ghost use Rattle.std.specs.Prelude.{◌≡◌, ◌++◌, ℕ, List, length, IfErr, IfOk, OnErr, OnOk};
 ghost use Rattle.hfs_rows.specs.Taken.{IsBeginning};
+ghost use Rattle.hfs_source.specs.Images.{OfEach};
 ghost use Rattle.hfs_collection.specs.Counts.{image_counts};
 ghost use Rattle.hfs_collection.specs.Images.{image_rows, image_values};
+ghost use Rattle.hfs_collection.specs.Looking.{IsFaultOf, IsLook, others_by};
 ghost use Rattle.hfs_collection.specs.Values.{digest_value, where_taken};
 
 use crate::content::give_content;
 use crate::counts::ImageCounts;
-use crate::digests::{digest_text, file_digest};
+use crate::digests::digest_text;
 use crate::fault::CollectFault;
 use crate::source::ImageFile;
 use crate::values::{push_number, push_value, push_whole_text};
-use hfs_containers::{ReadAt, find_layout};
+use hfs_containers::Layout;
+use hfs_contents::{PickedImage, file_digest, layout_in};
+use hfs_raw::count_others;
 use hfs_rows::{RowTaker, RowValue, Table};
+use hfs_source::PlacedBytes;
 use std::alloc::{AllocError, Global};
 
 /// What is told of an image beside its bytes.
@@ -28,22 +31,85 @@ pub struct ImageFacts<'a> {
     pub takes_digests: bool,
 }
 
-/// The digest of an image of `len` bytes as it stands in its row, where it is to be taken.
-fn digest_of<S: ReadAt>(
+/// What the first opening of an image tells.
+#[derive(Drop)]
+pub(crate) struct Look {
+    /// How many bytes it has.
+    pub(crate) len: u64,
+    /// Their digest as it stands in the image's row.
+    pub(crate) digest: RowValue,
+    /// What they are.
+    pub(crate) layout: Layout,
+    /// How many of its raw sectors have no user data.
+    pub(crate) others: u64,
+}
+
+/// The digest of an image as it stands in its row, where it is to be taken.
+fn digest_of<S: PlacedBytes>(
     alloc: Global,
     source: &mut S,
-    len: u64,
     taken: bool,
 ) -> Result<RowValue, CollectFault>
-    ensures digest { IfOk result (IsToldOf (S.known source.old) len
-        (λ file. where_taken taken (digest_value file))) }
-    ensures known { S.known source.new ≡ S.known source.old }
+    ensures digest { IfOk result (λ value. OfEach (S.Holds source.new)
+        (λ file. value ≡ where_taken taken (digest_value file))) }
+    ensures held { OfEach (S.Holds source.new) (S.Holds source.old) }
 {
     if !taken {
         return Ok(RowValue::Empty);
     }
-    let digest = file_digest(source, len)?;
-    Ok(digest_text(alloc, &digest)?)
+    match file_digest(source) {
+        Ok(digest) => Ok(digest_text(alloc, &digest)?),
+        Err(_) => Err(CollectFault::ReadFailed),
+    }
+}
+
+/// How many sectors of an image have no user data, where it is of raw ones: each is looked at.
+fn others_in<S: PlacedBytes>(source: &mut S, layout: Layout) -> Result<u64, CollectFault>
+    ensures others { IfOk result (λ others. OfEach (S.Holds source.new)
+        (λ file. others ≡ others_by layout file)) }
+    ensures held { OfEach (S.Holds source.new) (S.Holds source.old) }
+{
+    match layout {
+        Layout::Plain => Ok(0),
+        Layout::Raw => match count_others(source) {
+            Ok(others) => Ok(others),
+            Err(_) => Err(CollectFault::ReadFailed),
+        },
+    }
+}
+
+/// What an image is, by one opening.
+fn look_at<S: PlacedBytes>(alloc: Global, source: &mut S, taken: bool) -> Result<Look, CollectFault>
+    ensures look { IfOk result (λ look. OfEach (S.Holds source.new) (IsLook taken look)) }
+    ensures held { OfEach (S.Holds source.new) (S.Holds source.old) }
+{
+    let len = source.len();
+    let digest = digest_of(alloc, source, taken)?;
+    let Ok(layout) = layout_in(source) else {
+        return Err(CollectFault::ReadFailed);
+    };
+    let others = others_in(source, layout)?;
+    Ok(Look {
+        len,
+        digest,
+        layout,
+        others,
+    })
+}
+
+/// What an image is, and what was read for that is noted.
+fn noted_look<S: PlacedBytes + Drop, K: PickedImage, F: ImageFile<S, K>>(
+    alloc: Global,
+    file: &mut F,
+    taken: bool,
+) -> Result<Look, CollectFault>
+    ensures look { IfOk result (λ look. OfEach (F.Holds file.new) (IsLook taken look)) }
+    ensures held { OfEach (F.Holds file.new) (F.Holds file.old) }
+{
+    let mut source = file.open()?;
+    let look = look_at(alloc, &mut source, taken)?;
+    file.note(&source);
+    Ok(look)
 }
 
 /// The values of an image's row.
@@ -66,29 +132,62 @@ fn image_values(
     Ok(values)
 }
 
-/// Gives a taker the rows of an image of `len` bytes: its own, and for each volume that lies in it, or in the user data of its raw CD sectors, that
-/// volume's, with those of its items, or of what remains of them where it is refused; where no volume lies in it, those of the one that is lost. At a fault
-/// what was given is a beginning of them. Faults: `ReadFailed`, `CannotWrite`, `NoMemory`.
-pub fn give_image<S: ReadAt + Drop, F: ImageFile<S>, T: RowTaker>(
+/// Gives a taker the rows of an image, as [`give_image`] says.
+fn give_rows<S: PlacedBytes + Drop, K: PickedImage, F: ImageFile<S, K>, T: RowTaker>(
     alloc: Global,
     taker: &mut T,
-    file: &F,
-    len: u64,
+    file: &mut F,
     facts: &ImageFacts<'_>,
 ) -> Result<ImageCounts, CollectFault>
-    ensures whole { OnOk result (OfKnown (F.known file.now) len (λ file. T.given taker.new
-        ≡ T.given taker.old ++ image_rows facts.now file)) }
-    ensures part { OnErr result (OfKnown (F.known file.now) len (λ file. IsBeginning
-        (T.given taker.new) (T.given taker.old ++ image_rows facts.now file))) }
-    ensures counted { IfOk result (λ counts. OfKnown (F.known file.now) len (λ file.
-        counts ≡ image_counts file)) }
+    ensures whole { OnOk result (F.Holds file.new K.image → T.given taker.new
+        ≡ T.given taker.old ++ image_rows facts.now K.image) }
+    ensures part { OnErr result (F.Holds file.new K.image → IsBeginning
+        (T.given taker.new) (T.given taker.old ++ image_rows facts.now K.image)) }
+    ensures counted { IfOk result (λ counts. F.Holds file.new K.image
+        → counts ≡ image_counts K.image) }
+    ensures held { OfEach (F.Holds file.new) (F.Holds file.old) }
     ensures reference { T.reference taker.new ≡ T.reference taker.old }
     ensures place { T.place taker.new ≡ T.place taker.old }
 {
-    let mut source = file.open()?;
-    let digest = digest_of(alloc, &mut source, len, facts.takes_digests)?;
-    let layout = find_layout(&mut source, len)?;
+    let look = noted_look::<S, K, F>(alloc, file, facts.takes_digests)?;
+    let Look {
+        len,
+        digest,
+        layout,
+        others,
+    } = look;
     let values = image_values(alloc, facts, len, digest)?;
     taker.take(Table::Image, &values)?;
-    give_content(alloc, taker, file, len, layout, facts.takes_digests)
+    give_content::<S, K, F, T>(alloc, taker, file, layout, others, facts.takes_digests)
+}
+
+/// Gives a taker the rows of an image: its own, and for each volume that lies in it, or in the user data of its raw CD sectors, that volume's, with those of its
+/// items, or of what remains of them where it is refused; where no volume lies in it, those of the one that is lost. At a fault what was given is a beginning
+/// of them. It is proved of each picked image that has the bytes which were read. Faults: `ReadFailed`, and then the file is given up, `CannotWrite`, `NoMemory`.
+pub fn give_image<S: PlacedBytes + Drop, K: PickedImage, F: ImageFile<S, K>, T: RowTaker>(
+    alloc: Global,
+    taker: &mut T,
+    file: &mut F,
+    facts: &ImageFacts<'_>,
+) -> Result<ImageCounts, CollectFault>
+    ensures whole { OnOk result (F.Holds file.new K.image → T.given taker.new
+        ≡ T.given taker.old ++ image_rows facts.now K.image) }
+    ensures part { OnErr result (F.Holds file.new K.image → IsBeginning
+        (T.given taker.new) (T.given taker.old ++ image_rows facts.now K.image)) }
+    ensures counted { IfOk result (λ counts. F.Holds file.new K.image
+        → counts ≡ image_counts K.image) }
+    ensures fault { IfErr result (IsFaultOf (F.IsUnread file.new)) }
+    ensures held { OfEach (F.Holds file.new) (F.Holds file.old) }
+    ensures reference { T.reference taker.new ≡ T.reference taker.old }
+    ensures place { T.place taker.new ≡ T.place taker.old }
+{
+    match give_rows::<S, K, F, T>(alloc, taker, file, facts) {
+        Ok(counts) => Ok(counts),
+        Err(CollectFault::ReadFailed) => {
+            file.give_up();
+            Err(CollectFault::ReadFailed)
+        }
+        Err(CollectFault::CannotWrite) => Err(CollectFault::CannotWrite),
+        Err(CollectFault::NoMemory) => Err(CollectFault::NoMemory),
+    }
 }

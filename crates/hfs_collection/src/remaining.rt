@@ -7,8 +7,6 @@ use hfs_remains::Salvage;
 /// What was found of an image by its directory, and what is taken of the forks of its items.
 #[derive(Clone, Copy)]
 pub(crate) struct Remaining<'a> {
-    /// All bytes of the image.
-    pub(crate) image: &'a [u8],
     pub(crate) finds: &'a Finds,
     pub(crate) salvage: &'a Salvage<'a>,
     ghost same_mdb: { salvage.now.trees.mdb.now ≡ finds.now.mdb },

@@ -1,15 +1,49 @@
 //! Files in which volumes lie.
-ghost use Rattle.std.specs.Prelude.{◌≡◌, List, ℕ, Option, IfOk};
+ghost use Rattle.std.specs.Prelude.{List, ℕ, IfOk};
+ghost use Rattle.hfs_source.specs.Images.{OfEach};
 
-use hfs_containers::ReadAt;
+use hfs_contents::{ImagePart, PickedImage};
+use hfs_needed::SeenImage;
+use hfs_source::{BlocksOf, PlacedBytes};
 use hfs_sparse::SparseFault;
 
-/// A file that is opened as often as one likes, each time to be read from its beginning on. Contracts see its bytes, where they
-/// are known: a file on a disk doesn't tell them.
-pub trait ImageFile<S: ReadAt> {
-    ghost known: { Self → Option (List ℕ) };
+/// A sound volume that was opened in a part of an image.
+pub type OpenedPart<S, K> = SeenImage<BlocksOf<ImagePart<S, K>>>;
+
+/// A file that is opened as often as one likes, each time to be read from its beginning on. It keeps, for proofs, what was read by openings
+/// that are let go, and whether it was given up.
+pub trait ImageFile<S: PlacedBytes, K: PickedImage> {
+    /// The images that have the bytes which were read so.
+    ghost Holds: { Self → List ℕ → Type 0 };
+
+    /// It can't be opened, or can't be read as far as is wanted: so only giving it up makes it.
+    ghost IsUnread: { Self → Type 0 };
+
+    /// There is room to note what was read by an opening.
+    ghost HasRoom: { Self → Type 0 };
 
     /// Opens the file. Errors: it can't be opened, memory was refused.
-    fn open(&self) -> Result<S, SparseFault>
-        ensures { IfOk result (λ source. S.known source ≡ known self.now) };
+    fn open(&mut self) -> Result<S, SparseFault>
+        ensures room { IfOk result (λ _. HasRoom self.new) }
+        ensures unread { IsUnread self.new → IsUnread self.old }
+        ensures held { OfEach (Holds self.new) (Holds self.old) };
+
+    /// Notes what was read by an opening that is let go.
+    fn note(&mut self, source: &S)
+        requires { HasRoom self.old }
+        ensures noted { OfEach (Holds self.new) (S.Holds source.now) }
+        ensures unread { IsUnread self.new → IsUnread self.old }
+        ensures held { OfEach (Holds self.new) (Holds self.old) };
+
+    /// Notes what was read by an opening in which a volume was opened, and that is let go with it.
+    fn note_volume(&mut self, image: &OpenedPart<S, K>)
+        requires { HasRoom self.old }
+        ensures noted { OfEach (Holds self.new) (S.Holds image.now.bytes.source) }
+        ensures unread { IsUnread self.new → IsUnread self.old }
+        ensures held { OfEach (Holds self.new) (Holds self.old) };
+
+    /// Notes that it can't be opened, or not be read as far as is wanted.
+    fn give_up(&mut self)
+        ensures unread { IsUnread self.new }
+        ensures held { OfEach (Holds self.new) (Holds self.old) };
 }

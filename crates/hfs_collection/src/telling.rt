@@ -8,7 +8,8 @@ ghost use Rattle.hfs_remains.specs.ForkBytes.{fork_bytes};
 ghost use Rattle.hfs_collection.specs.Values.{digest_value, where_taken};
 ghost use Rattle.hfs_collection.specs.Remains.{said_digest, told_by, told_fork, told_values};
 ghost use Rattle.hfs_collection.specs.Counts.{remains_files};
-ghost use Rattle.hfs_collection.specs.Held.{image_of};
+ghost use Rattle.hfs_collection.specs.Refused.{image_of};
+ghost use Rattle.hfs_source.specs.Images.{OfEach};
 
 use crate::counts::FileCounts;
 use crate::digests::digest_text;
@@ -20,6 +21,7 @@ use hfs_model::{Info, OwnedBytes};
 use hfs_remains::FoundFork;
 use hfs_rescue_items::names_at;
 use hfs_rows::RowValue;
+use hfs_source::PlacedBlocks;
 use hfs_space::ForkKind;
 use hfs_verdicts::{Verdict, push_verdict};
 use std::alloc::{AllocError, Global};
@@ -62,41 +64,59 @@ impl Remaining<'_> {
     }
 
     /// The digest of the bytes of a fork, where it is to be taken.
-    fn taken_digest(
+    fn taken_digest<S: PlacedBlocks>(
         &self,
         alloc: Global,
+        source: &mut S,
         fork: &FoundFork,
         taken: bool,
     ) -> Result<RowValue, CollectFault>
-        ensures { IfOk result (λ value. value ≡ where_taken taken (digest_value (fork_bytes
-            self.now.image.now self.now.finds.now.mdb fork.now.length fork.now.places.items))) }
+        ensures digest { IfOk result (λ value. OfEach (S.Holds source.new) (λ image. value
+            ≡ where_taken taken (digest_value (fork_bytes image self.now.finds.now.mdb
+            fork.now.length fork.now.places.items)))) }
+        ensures narrows { OfEach (S.Holds source.new) (S.Holds source.old) }
     {
         if !taken {
             return Ok(RowValue::Empty);
         }
-        match fork_digest(self.image, self.finds.total, &self.finds.mdb, fork) {
-            Ok(digest) => Ok(digest_text(alloc, &digest)?),
-            Err(_) => Err(CollectFault::ReadFailed),
-        }
+        let digest = fork_digest(source, self.finds.total, &self.finds.mdb, fork)?;
+        let text = digest_text(alloc, &digest)?;
+        Ok(text)
     }
 
     /// The digest of the bytes of a fork, where it is to be taken and the fork isn't left.
-    fn digest(&self, alloc: Global, fork: &FoundFork, taken: bool) -> Result<RowValue, CollectFault>
-        ensures { IfOk result (λ value. value ≡ said_digest taken fork.now.verdict (fork_bytes
-            self.now.image.now self.now.finds.now.mdb fork.now.length fork.now.places.items)) }
+    fn digest<S: PlacedBlocks>(
+        &self,
+        alloc: Global,
+        source: &mut S,
+        fork: &FoundFork,
+        taken: bool,
+    ) -> Result<RowValue, CollectFault>
+        ensures digest { IfOk result (λ value. OfEach (S.Holds source.new) (λ image. value
+            ≡ said_digest taken fork.now.verdict (fork_bytes image self.now.finds.now.mdb
+            fork.now.length fork.now.places.items))) }
+        ensures narrows { OfEach (S.Holds source.new) (S.Holds source.old) }
     {
         match &fork.verdict {
             Verdict::Left => Ok(RowValue::Empty),
-            Verdict::Taken(_) => self.taken_digest(alloc, fork, taken),
+            Verdict::Taken(_) => self.taken_digest(alloc, source, fork, taken),
         }
     }
 
     /// What a row tells of a fork that was found.
-    fn told(&self, alloc: Global, fork: &FoundFork, taken: bool) -> Result<ForkTold, CollectFault>
-        ensures { IfOk result (λ told. told ≡ told_by taken fork.now.verdict (fork_bytes
-            self.now.image.now self.now.finds.now.mdb fork.now.length fork.now.places.items)) }
+    fn told<S: PlacedBlocks>(
+        &self,
+        alloc: Global,
+        source: &mut S,
+        fork: &FoundFork,
+        taken: bool,
+    ) -> Result<ForkTold, CollectFault>
+        ensures told { IfOk result (λ told. OfEach (S.Holds source.new) (λ image. told
+            ≡ told_by taken fork.now.verdict (fork_bytes image self.now.finds.now.mdb
+            fork.now.length fork.now.places.items))) }
+        ensures narrows { OfEach (S.Holds source.new) (S.Holds source.old) }
     {
-        let digest = self.digest(alloc, fork, taken)?;
+        let digest = self.digest(alloc, source, fork, taken)?;
         let verdict = verdict_value(alloc, &fork.verdict)?;
         Ok(ForkTold {
             digest,
@@ -106,18 +126,23 @@ impl Remaining<'_> {
     }
 
     /// What a row tells of a fork of an item: nothing of a folder.
-    fn told_fork(
+    fn told_fork<S: PlacedBlocks>(
         &self,
         alloc: Global,
+        source: &mut S,
         i: usize,
         kind: ForkKind,
         taken: bool,
     ) -> Result<ForkTold, CollectFault>
-        ensures { IfOk result (λ told. told ≡ told_fork taken (image_of self.now) kind (shares_at
-            self.now.salvage.now i)) }
+        ensures told { IfOk result (λ told. OfEach (S.Holds source.new) (λ image. told
+            ≡ told_fork taken (image_of self.now image) kind (shares_at self.now.salvage.now i))) }
+        ensures narrows { OfEach (S.Holds source.new) (S.Holds source.old) }
     {
         match self.fork(alloc, i, kind)? {
-            Some(fork) => self.told(alloc, &fork, taken),
+            Some(fork) => {
+                let told = self.told(alloc, source, &fork, taken)?;
+                Ok(told)
+            }
             None => Ok(ForkTold {
                 digest: RowValue::Empty,
                 verdict: RowValue::Empty,
@@ -128,22 +153,24 @@ impl Remaining<'_> {
 
     /// What is told of an item, of which its record tells this.
     #[tactic(auto, using(crate::proofs::RemainsGoing::values_told, crate::proofs::Counting::item_counted))]
-    pub(crate) fn told_item(
+    pub(crate) fn told_item<S: PlacedBlocks>(
         &self,
         alloc: Global,
+        source: &mut S,
         i: usize,
         info: &Info,
         taken: bool,
     ) -> Result<ToldItem, CollectFault>
-        ensures values { IfOk result (λ item. item.values.items
-            ≡ told_values taken (image_of self.now) i info.now) }
-        ensures counts { IfOk result (λ item. item.counts
-            ≡ remains_files (image_of self.now) i (Some info.now)) }
+        ensures values { IfOk result (λ item. OfEach (S.Holds source.new) (λ image.
+            item.values.items ≡ told_values taken (image_of self.now image) i info.now)) }
+        ensures counts { IfOk result (λ item. OfEach (S.Holds source.new) (λ image.
+            item.counts ≡ remains_files (image_of self.now image) i (Some info.now))) }
+        ensures narrows { OfEach (S.Holds source.new) (S.Holds source.old) }
     {
         let path = self.path(alloc, i)?;
         let names = names_at(alloc, &self.finds.places, &self.finds.mdb, i, path.as_str())?;
-        let data_fork = self.told_fork(alloc, i, ForkKind::Data, taken)?;
-        let resource_fork = self.told_fork(alloc, i, ForkKind::Resource, taken)?;
+        let data_fork = self.told_fork(alloc, source, i, ForkKind::Data, taken)?;
+        let resource_fork = self.told_fork(alloc, source, i, ForkKind::Resource, taken)?;
         let counts = FileCounts::of(info.kind, are_whole(&data_fork, &resource_fork));
         let values = remains_values(
             alloc,

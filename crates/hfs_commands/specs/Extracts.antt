@@ -4,7 +4,8 @@ use Rattle.std.specs.Borrow.{Bor}
 use Rattle.std.specs.Fmt.{decimal}
 use Rattle.std.specs.Option.{is_some}
 use Rattle.std.specs.Io.KnownBytes.{Appends}
-use Rattle.hfs_containers.specs.Ranges.{range_of, volume_name_in}
+use Rattle.hfs_containers.specs.declared.ranges.ByteRange.{ByteRange}
+use Rattle.hfs_containers.specs.Ranges.{volume_name_in}
 use Rattle.hfs_containers.specs.Reading.{IsTold}
 use Rattle.hfs_source.specs.Images.{OfEach}
 use Rattle.hfs_texts.specs.Lines.{line}
@@ -36,13 +37,13 @@ WritesFront Holds len old new = OfEach Holds (λ image. length image ≡ len →
 abbrev pub IsSized : (List ℕ → Type 0) → ℕ → List ℕ → Type 0
 IsSized Holds len image = Holds image × (length image ≡ len)
 
--- whether so many bytes hold a volume
-abbrev pub holds_volume : ℕ → List ℕ → Bool
-holds_volume len bytes = is_some (volume_name_in (range_of 0 len) bytes)
+-- whether a range of a file holds a volume
+abbrev pub holds_volume : ByteRange → List ℕ → Bool
+holds_volume range file = is_some (volume_name_in range file)
 
--- nothing is written: there is no volume, where the bytes are known; or they can't be read
-abbrev pub IsNoVolume : Option (List ℕ) → ℕ → Bor (List ℕ) → Fault → Type 0
-IsNoVolume known len path why = ((why ≡ NoVolumes) × IsTold known (holds_volume len) false) ⊎ ((why ≡ CannotRead path) ⊎ (why ≡ NoMemory))
+-- nothing is written: there is no volume, where the file's bytes are known; or they can't be read
+abbrev pub IsNoVolume : Option (List ℕ) → ByteRange → Bor (List ℕ) → Fault → Type 0
+IsNoVolume known range path why = ((why ≡ NoVolumes) × IsTold known (holds_volume range) false) ⊎ ((why ≡ CannotRead path) ⊎ (why ≡ NoMemory))
 
 -- what is printed of a volume of so many bytes
 unfoldable pub extracted_text : ℕ → List ℕ

@@ -3,16 +3,12 @@ use Rattle.std.specs.Prelude.{◌≡◌, ℕ, ℤ, pos, List, [], take, Result, 
 use Rattle.hfs_encodings.specs.MacBinary.{macbinary_bytes}
 use Rattle.hfs_encodings.specs.declared.macbinary.MacBinaryHead.{MacBinaryHead}
 use Rattle.hfs_model.specs.declared.codes.TheConstants.{NOT_FOUND}
-use Rattle.hfs_model.specs.declared.call.Fork.TheVariants.{DataFork, ResFork}
 use Rattle.hfs_model.specs.declared.reply.Info.{Info}
 use Rattle.hfs_model.specs.declared.reply.ItemKind.{ItemKind}
 use Rattle.hfs_model.specs.declared.reply.ItemKind.TheVariants.{Folder, File}
 use Rattle.hfs_model.specs.declared.reply.Reply.{Reply}
 use Rattle.hfs_model.specs.declared.reply.Value.{Value}
 use Rattle.hfs_model.specs.declared.reply.Value.TheVariants.{Nothing, Id, One, Many, Bytes, Full, Place}
-use Rattle.hfs_model.specs.Reading.{get_cat_info}
-use Rattle.hfs_model.specs.Volume.{Entry}
-use Rattle.hfs_commands.specs.Forks.{fork_named}
 
 -- the header of a file that is told of so
 abbrev pub macbinary_head : Info → MacBinaryHead
@@ -44,18 +40,10 @@ file_of_value (Place dir name) code = Err code
 abbrev pub file_of_reply : Reply → Result Info ℤ
 file_of_reply reply = file_of_value reply.value reply.code
 
--- what is told of the folder's file of that name: -37, -120, -43
-unfoldable pub file_named : List Entry → ℕ → List ℕ → Result Info ℤ
-file_named es dir name = file_of_reply (get_cat_info es dir name)
-
 -- the MacBinary file of a file with these forks; none where the file is refused
 abbrev pub macbinary_of : Result Info ℤ → List ℕ → List ℕ → List ℕ
 macbinary_of (Ok info) data_fork resource_fork = macbinary_bytes (macbinary_head info) data_fork resource_fork
 macbinary_of (Err code) data_fork resource_fork = []
-
--- the MacBinary file of the folder's file of that name; none where there is no such file
-unfoldable pub macbinary_named : List Entry → ℕ → List ℕ → List ℕ
-macbinary_named es dir name = macbinary_of (file_named es dir name) (fork_named es dir name DataFork) (fork_named es dir name ResFork)
 
 -- 0 of a file, else the code that refuses it
 abbrev pub IsCodeOf : Result Info ℤ → ℤ → Type 0

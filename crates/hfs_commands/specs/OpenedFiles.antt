@@ -1,14 +1,13 @@
 -- What is known of a file that was opened.
 use Rattle.std.specs.Prelude.{◌≡◌, ⊤, ℕ, ◌+◌, ◌*◌, ◌/◌, ◌<◌, List, length, Option, None, Some}
-use Rattle.std.specs.Option.{option_map}
+use Rattle.std.specs.Arc.{arc_value}
 use Rattle.hfs_source.specs.Steps.{IsReadFrom}
 use Rattle.hfs_raw.specs.Reading.{FailsInData, IsDataOfOne}
 use Rattle.hfs_raw.specs.Sectors.{other_count}
 use Rattle.hfs_containers.specs.declared.ranges.ByteRange.{ByteRange}
 use Rattle.hfs_containers.specs.declared.ranges.Layout.{Layout}
 use Rattle.hfs_containers.specs.declared.ranges.Layout.TheVariants as layout
-use Rattle.hfs_containers.specs.declared.window.Window.{Window}
-use Rattle.hfs_containers.specs.Ranges.{bytes_in, range_of}
+use Rattle.hfs_containers.specs.Ranges.{range_of}
 use Rattle.hfs_containers.specs.Raw.{known_data}
 use Rattle.hfs_containers.specs.Reading.{IsToldOf}
 use Rattle.hfs_commands.specs.declared.opened_file.OpenedFile.{OpenedFile}
@@ -19,26 +18,22 @@ use Rattle.hfs_commands.specs.declared.opened_file.StoredFile.TheVariants.{Seeka
 -- the bytes of a file, where all were read
 abbrev pub stored_bytes : {F : Type 0} → StoredFile F → Option (List ℕ)
 stored_bytes (Seekable file) = None
-stored_bytes (Whole bytes) = Some bytes.items
+stored_bytes (Whole bytes) = Some (arc_value bytes).items
 
 -- the bytes in which volumes are looked for, where all of the file were read
 abbrev pub known_bytes : {F : Type 0} → OpenedFile F → Option (List ℕ)
 known_bytes (Plain file) = stored_bytes file
 known_bytes (Raw file) = known_data file.len (stored_bytes file.data.bytes)
 
--- the bytes of a range of it, where these are known
-abbrev pub known_in : {F : Type 0} → Window (OpenedFile F) → Option (List ℕ)
-known_in window = option_map (bytes_in window.range) (known_bytes window.source)
-
 -- the files that have the bytes which were read: of what is held as a whole there is one
 abbrev pub stored_images : {F : Type 0} → StoredFile F → List ℕ → Type 0
 stored_images (Seekable file) image = IsReadFrom file.log.steps image
-stored_images (Whole bytes) image = image ≡ bytes.items
+stored_images (Whole bytes) image = image ≡ (arc_value bytes).items
 
 -- where a read of a file may fail, from a place on, of so many bytes: of what is held as a whole only past its end
 abbrev pub stored_failures : {F : Type 0} → StoredFile F → ℕ → ℕ → Type 0
 stored_failures (Seekable file) place count = ⊤
-stored_failures (Whole bytes) place count = length bytes.items < place + count
+stored_failures (Whole bytes) place count = length (arc_value bytes).items < place + count
 
 -- the bytes in which volumes are looked for, of each file that has the bytes which were read
 abbrev pub images_of : {F : Type 0} → OpenedFile F → List ℕ → Type 0

@@ -4,7 +4,7 @@ ghost use Rattle.hfs_commands.specs.Checks.{HasCheckLines, IsCheckFault, IsCheck
 ghost use Rattle.hfs_source.specs.Images.{OfEach};
 
 use crate::fault::Status;
-use hfs_check::{Alternate, MountFault, Report, report};
+use hfs_check::{Alternate, MountFault, Report};
 use hfs_needed::needed_report;
 use hfs_refusals::Refusal;
 use hfs_source::PlacedBlocks;
@@ -90,17 +90,7 @@ pub fn report_answer(alloc: Global, report: &Report) -> Result<CheckAnswer, Allo
     })
 }
 
-/// Checks an image: what its report tells. The only error is want of memory.
-pub fn check_answer(alloc: Global, image: &[u8]) -> Result<CheckAnswer, AllocError>
-    ensures fault { IfOk result (λ told. IsCheckFault told.fault image.now) }
-    ensures status { IfOk result (λ told. IsCheckStatus told.status image.now) }
-    ensures lines { IfOk result (λ told. HasCheckLines told.lines image.now) }
-{
-    let report = report(alloc, image)?;
-    report_answer(alloc, &report)
-}
-
-/// Answers what [`check_answer`] answers of each image that has the bytes which were read, of which only the blocks are read that its checks need.
+/// Checks an image: what the report of each image tells that has the bytes which were read. Only the blocks are read that its checks need.
 /// Errors: `ReadFailed` where a read of one of these blocks failed, or the image ends before one does; `Memory` where it was refused. A fault
 /// of the image is no error: it is told of.
 pub fn needed_check_answer<S: PlacedBlocks>(

@@ -1,7 +1,6 @@
 //! The bytes of a volume as a file of its own.
 ghost use Rattle.std.specs.Prelude.{◌≡◌, ◌≢◌, ◌*◌, true, Err, IfErr, IfOk, IsOk, OnErr, OnOk, length, string_bytes};
 ghost use Rattle.hfs_containers.specs.Reading.{IsTold};
-ghost use Rattle.hfs_containers.specs.Ranges.{range_of};
 ghost use Rattle.hfs_source.specs.Images.{OfEach};
 ghost use Rattle.hfs_commands.specs.Extracts.{IsNoVolume, WritesAll, WritesAt, WritesFront, WritesFrontAt, IsSized, extracted_text, holds_volume};
 
@@ -132,13 +131,17 @@ impl<S: BlockSource> ReadContents for ImageContents<S> {
     }
 }
 
-/// Looks that `len` bytes hold a volume. Faults: `NoVolumes` where they don't, a read failed.
-pub fn need_volume<'a, S: ReadAt>(source: &mut S, len: u64, path: &'a str) -> Result<(), Fault<'a>>
-    ensures volume { OnOk result (IsTold (S.known source.old) (holds_volume len) true) }
-    ensures fault { IfErr result (IsNoVolume (S.known source.old) len path.entry) }
+/// Looks that a range of a file holds a volume. Faults: `NoVolumes` where it doesn't, a read failed.
+pub fn need_volume<'a, S: ReadAt>(
+    source: &mut S,
+    range: ByteRange,
+    path: &'a str,
+) -> Result<(), Fault<'a>>
+    ensures volume { OnOk result (IsTold (S.known source.old) (holds_volume range) true) }
+    ensures fault { IfErr result (IsNoVolume (S.known source.old) range path.entry) }
     ensures known { S.known source.new ≡ S.known source.old }
 {
-    match volume_name(source, ByteRange { start: 0, len }) {
+    match volume_name(source, range) {
         Ok(Some(_)) => Ok(()),
         Ok(None) => Err(Fault::NoVolumes),
         Err(fault) => Err(Fault::of_sparse(fault, path)),

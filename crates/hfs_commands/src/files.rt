@@ -4,7 +4,6 @@ ghost use Rattle.hfs_commands.specs.Faults.{IsTooMuch, IsUnreadScript, IsUnwatch
 ghost use Rattle.hfs_commands.specs.Watches.{watched_len};
 
 use crate::fault::Fault;
-use hfs_check::MountFault;
 use hfs_files::{TrustedWatchedFile, Watched, WatchedBlocks, WatchedFile};
 use hfs_raw::{are_whole_sectors, data_start};
 use hfs_sparse::{BlockSource, ByteSource};
@@ -29,18 +28,6 @@ pub(crate) fn load_opened<'a, F: Read>(
         Ok(bytes) => Ok(bytes),
         Err(fault) => Err(Fault::of_load(fault, path)),
     }
-}
-
-/// All bytes of a file, at most 2,147,483,648. Faults: `CannotRead` where it can't be opened or a read fails,
-/// `Refused(TooLarge)` where it has more, `NoMemory`.
-pub fn load_file<'a, R: Files + AllocGlobal>(rt: &R, path: &'a str) -> Result<Vec<u8>, Fault<'a>>
-    ensures limit { IfOk result (λ bytes. length bytes.items ≤ IMAGE_LIMIT) }
-    ensures faults { IfErr result (λ why. (why ≡ Fault.CannotRead path.entry) ⊎ IsTooMuch why) }
-{
-    let Ok(mut file) = File::open(rt, path) else {
-        return Err(Fault::CannotRead(path));
-    };
-    load_opened(rt.alloc(), &mut file, path)
 }
 
 /// How many bytes a regular file has, where it has any. The system's own files, which have bytes but tell of none, are none of these.
@@ -157,7 +144,7 @@ fn whole_watched<'a, F: Read + Seek>(
 }
 
 /// Opens an image by its path, to write it anew with changes: a regular file is left to be read where it is needed, and of anything else all
-/// bytes are read. Faults: as [`load_file`] has them, but that of a file's length, which its checks tell; `NotWritten` where it is of raw CD sectors.
+/// bytes are read. Faults: as [`open_file`](crate::open_file) has them, but that of a file's length, which its checks tell; `NotWritten` where it is of raw CD sectors.
 pub fn open_watched<'a, R: Files + AllocGlobal>(
     rt: &R,
     path: &'a str,

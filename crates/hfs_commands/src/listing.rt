@@ -9,7 +9,6 @@ use hfs_model::{Info, ItemKind, Reply, Value};
 use hfs_needed::SeenImage;
 use hfs_source::PlacedBlocks;
 use hfs_texts::{Show, push_line};
-use hfs_volume::Volume;
 use std::alloc::{AllocError, Global};
 
 /// Appends a tab and a value.
@@ -85,18 +84,8 @@ pub fn children_text(alloc: Global, reply: &Reply) -> Result<(u8, String), Alloc
     }
 }
 
-/// Lists a folder by its ID, and answers the exit status and the lines: 0 and a line for each child in name order, or 3
-/// and the code of the call. The only error is want of memory.
-pub fn list_text(alloc: Global, volume: &Volume, dir: u32) -> Result<(u8, String), AllocError>
-    ensures status { IfOk result (λ told. IsFolderStatus dir told.0 volume.now.current) }
-    ensures lines { IfOk result (λ told. HasFolderLines dir told.1 volume.now.current) }
-{
-    let reply = volume.list_in_brief(alloc, dir)?;
-    children_text(alloc, &reply)
-}
-
-/// Answers what [`list_text`] answers of the volume of each image that has the bytes which were read of one that was opened. The only error is
-/// want of memory.
+/// Lists a folder by its ID, and answers the exit status and the lines: 0 and a line for each child in name order, or 3 and the code of the call; so
+/// of the volume of each image that has the bytes which were read of one that was opened. The only error is want of memory.
 pub fn seen_list_text<S: PlacedBlocks + Drop>(
     alloc: Global,
     image: &SeenImage<S>,

@@ -1,5 +1,5 @@
 //! A file that was opened, whatever it is.
-ghost use Rattle.std.specs.Prelude.{◌≡◌, IfErr, IfOk, None};
+ghost use Rattle.std.specs.Prelude.{◌≡◌, IfErr, IfOk, IfNone, IfSome, None};
 ghost use Rattle.hfs_containers.specs.Reading.{IsToldOf};
 ghost use Rattle.hfs_containers.specs.Raw.{known_data, layout_of};
 ghost use Rattle.hfs_commands.specs.Faults.{IsUnreadFile};
@@ -9,16 +9,18 @@ use crate::fault::Fault;
 use hfs_containers::{ByteRange, Layout, RawFile, ReadAt, Window, find_layout, others_in};
 use hfs_source::{MemoryBytes, PlacedBytes, SeekableBytes, TrustedFile};
 use hfs_sparse::SparseFault;
+use std::alloc::AllocError;
 use std::io;
 use std::io::{Read, Seek};
+use std::sync::Arc;
 
 /// The bytes of a file that was opened, as they stand in it.
 #[derive(Drop)]
 pub enum StoredFile<F: Read + Seek> {
     /// What can be sought in, to be read where it is needed.
     Seekable(SeekableBytes<TrustedFile<F>>),
-    /// All bytes of anything else, such as a pipe.
-    Whole(Vec<u8>),
+    /// All bytes of anything else, such as a pipe, which several may read.
+    Whole(Arc<Vec<u8>>),
 }
 
 impl<F: Read + Seek> StoredFile<F> {
@@ -29,6 +31,18 @@ impl<F: Read + Seek> StoredFile<F> {
         match SeekableBytes::open(TrustedFile::new(file)) {
             Ok(bytes) => Ok(StoredFile::Seekable(bytes)),
             Err(reader) => Err(reader.into_file()),
+        }
+    }
+
+    /// The same bytes once more, where all are held: no byte is copied. None of a file, which is opened anew. The only error is want of
+    /// memory.
+    pub fn again(&self) -> Result<Option<StoredFile<F>>, AllocError>
+        ensures held { IfOk result (λ found. IfSome found (λ again. stored_bytes again ≡ stored_bytes self.now)) }
+        ensures whole { IfOk result (λ found. IfNone found (stored_bytes self.now ≡ None)) }
+    {
+        match self {
+            StoredFile::Seekable(_) => Ok(None),
+            StoredFile::Whole(all) => Ok(Some(StoredFile::Whole(all.clone()?))),
         }
     }
 }

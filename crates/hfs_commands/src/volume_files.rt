@@ -17,6 +17,7 @@ use std::alloc::Global;
 use std::fs::{File, OpenFile};
 use std::io::{Read, Seek, SeekFrom};
 use std::rt::Files;
+use std::sync::Arc;
 
 /// Whether what was opened is a folder.
 fn is_folder<F: OpenFile>(file: &F) -> bool {
@@ -39,7 +40,7 @@ fn whole_file<F: Read + Seek>(source: StoredFile<F>) -> Window<StoredFile<F>>
     }
 }
 
-/// All bytes of what can't be sought in. Faults: as [`load_file`](crate::load_file) has them.
+/// All bytes of what can't be sought in. Faults: as [`open_file`] has them.
 fn loaded<'a, F: Read + Seek + Drop>(
     alloc: Global,
     mut file: F,
@@ -48,10 +49,13 @@ fn loaded<'a, F: Read + Seek + Drop>(
     ensures { IfErr result (IsUnreadFile path.entry) }
 {
     let bytes = load_opened(alloc, &mut file, path)?;
-    Ok(whole_file(StoredFile::Whole(bytes)))
+    match Arc::new(alloc, bytes) {
+        Ok(all) => Ok(whole_file(StoredFile::Whole(all))),
+        Err(_) => Err(Fault::NoMemory),
+    }
 }
 
-/// All bytes of a file, to be read where they are needed if it can be sought in. Faults: as [`load_file`](crate::load_file) has them.
+/// All bytes of a file, to be read where they are needed if it can be sought in. Faults: as [`open_file`] has them.
 fn opened<'a, F: Read + Seek + Drop>(
     alloc: Global,
     file: F,
@@ -65,22 +69,37 @@ fn opened<'a, F: Read + Seek + Drop>(
     }
 }
 
-/// Opens a file to look for volumes in it: its length is what seeking to its end says, and what can't be sought in is read whole. Faults:
-/// `CannotRead` where it can't be opened, is a folder or can't be read, `Refused(TooLarge)` where it can't be sought in and has more than 2,147,483,648
-/// bytes, `NoMemory`.
+/// Whether a file has bytes and can be sought in: a regular file or a device. A folder has none.
+fn has_places<F: OpenFile + Seek>(file: &mut F) -> bool {
+    if regular_len(file).is_some() {
+        return true;
+    }
+    if is_folder(file) {
+        return false;
+    }
+    match file.seek(SeekFrom::End(0)) {
+        Ok(0) | Err(_) => false,
+        Ok(_) => true,
+    }
+}
+
+/// Opens a file as it is: where it has bytes and can be sought in, it is read where it is needed, and its length is what seeking to its end says; of
+/// anything else, such as a pipe, all bytes are read. Faults: `CannotRead` where it can't be opened or a read fails, `Refused(TooLarge)` where all
+/// bytes are read and are more than 2,147,483,648, `NoMemory`.
 pub fn open_file<'a, R: Files + AllocGlobal>(
     rt: &R,
     path: &'a str,
 ) -> Result<Window<StoredFile<R::File>>, Fault<'a>>
     ensures { IfErr result (IsUnreadFile path.entry) }
 {
-    let Ok(file) = File::open(rt, path) else {
+    let Ok(mut file) = File::open(rt, path) else {
         return Err(Fault::CannotRead(path));
     };
-    if is_folder(&file) {
-        return Err(Fault::CannotRead(path));
+    if has_places(&mut file) {
+        opened(rt.alloc(), file, path)
+    } else {
+        loaded(rt.alloc(), file, path)
     }
-    opened(rt.alloc(), file, path)
 }
 
 /// A part of a file: the file as it is, or a range that lies inside.
@@ -148,37 +167,6 @@ pub fn part_of<'a, F: Read + Seek + Drop>(
     }
 }
 
-/// Whether a file has bytes and can be sought in: a regular file or a device. A folder has none.
-fn has_places<F: OpenFile + Seek>(file: &mut F) -> bool {
-    if regular_len(file).is_some() {
-        return true;
-    }
-    if is_folder(file) {
-        return false;
-    }
-    match file.seek(SeekFrom::End(0)) {
-        Ok(0) | Err(_) => false,
-        Ok(_) => true,
-    }
-}
-
-/// Opens an image as it is: what can be sought in is read where it is needed, and of anything else all bytes are read. Faults: as [`open_file`] has them.
-fn open_image_bytes<'a, R: Files + AllocGlobal>(
-    rt: &R,
-    path: &'a str,
-) -> Result<Window<StoredFile<R::File>>, Fault<'a>>
-    ensures { IfErr result (IsUnreadFile path.entry) }
-{
-    let Ok(mut file) = File::open(rt, path) else {
-        return Err(Fault::CannotRead(path));
-    };
-    if has_places(&mut file) {
-        opened(rt.alloc(), file, path)
-    } else {
-        loaded(rt.alloc(), file, path)
-    }
-}
-
 /// Whether all bytes of a file are held.
 fn is_held<F: Read + Seek>(file: &StoredFile<F>) -> bool
     ensures { result ≡ is_some (stored_bytes file.now) }
@@ -220,17 +208,11 @@ pub fn open_asked<'a, R: Files + AllocGlobal>(
     ensures range { IfOk result (λ part. IsRangeAt part.place part.bytes.range) }
     ensures fault { IfErr result (IsUnopened path.entry volume) }
 {
+    let file = open_file(rt, path)?;
     match volume {
-        None => {
-            let bytes = open_image_bytes(rt, path)?;
-            chosen_part(rt.alloc(), bytes, path, counted)
-        }
-        Some(0) => {
-            let bytes = open_image_bytes(rt, path)?;
-            Ok(stored_part(bytes))
-        }
+        None => chosen_part(rt.alloc(), file, path, counted),
+        Some(0) => Ok(stored_part(file)),
         Some(_) => {
-            let file = open_file(rt, path)?;
             let content = content_of(file, path)?;
             part_of(rt.alloc(), content, path, counted, volume)
         }

@@ -1,10 +1,11 @@
 //! What a file is that has no HFS volume, for who reads it at a terminal.
 
-use hfs_commands::{ReadAt, open_part};
+use hfs_commands::{OpenedFile, Window, open_part};
 use hfs_fields::{u16_at, u32_at};
 use hfs_kinds::{Beside, Glance, Kind, Piece};
+use hfs_source::PlacedBytes;
 use std::fs;
-use std::io::IsTerminal;
+use std::io::{IsTerminal, Read, Seek};
 use std::path::Path;
 
 /// How many bytes stand before the data fork of a MacBinary file.
@@ -28,12 +29,17 @@ const NOTHING: Beside = Beside {
     types: [0; 16],
 };
 
-/// The bytes of a file of `len` bytes from a place on, with zeros in place of those that it doesn't have or that can't be read.
-fn piece_at<S: ReadAt>(source: &mut S, len: u64, place: u64) -> Piece {
+/// A part of a file.
+type Part<F> = Window<OpenedFile<F>>;
+
+/// The bytes of a file's part from a place on, with zeros in place of those that it doesn't have or that can't be read.
+fn piece_at<F: Read + Seek>(part: &mut Part<F>, place: u64) -> Piece {
     let mut piece = [0; 16];
-    let count = len.saturating_sub(place).min(16) as usize;
-    // What can't be read says nothing.
-    let _read = source.read_at(place, &mut piece[..count]);
+    let count = part.range.len.saturating_sub(place).min(16) as usize;
+    if let Some(place) = part.range.start.checked_add(place) {
+        // What can't be read says nothing.
+        let _read = PlacedBytes::read_at(&mut part.source, place, &mut piece[..count]);
+    }
     piece
 }
 
@@ -43,84 +49,85 @@ fn filled(len: u64) -> u64 {
 }
 
 /// Where the resource fork of a file begins that is MacBinary: behind both headers and the data fork.
-fn resource_fork<S: ReadAt>(source: &mut S, len: u64) -> u64 {
-    let lengths = piece_at(source, len, 83);
-    let second = piece_at(source, len, 120);
+fn resource_fork<F: Read + Seek>(part: &mut Part<F>) -> u64 {
+    let lengths = piece_at(part, 83);
+    let second = piece_at(part, 120);
     let before_data = HEAD.saturating_add(filled(u64::from(u16_at(&second, 0))));
     before_data.saturating_add(filled(u64::from(u32_at(&lengths, 0))))
 }
 
 /// The first types of the resources in the fork that begins at `fork`: its header tells where the map is, and the map where the list of types.
-fn resource_types<S: ReadAt>(source: &mut S, len: u64, fork: u64) -> [u32; 16] {
-    let header = piece_at(source, len, fork);
+fn resource_types<F: Read + Seek>(part: &mut Part<F>, fork: u64) -> [u32; 16] {
+    let header = piece_at(part, fork);
     let map = fork.saturating_add(u64::from(u32_at(&header, 4)));
-    let places = piece_at(source, len, map.saturating_add(24));
+    let places = piece_at(part, map.saturating_add(24));
     let list = map.saturating_add(u64::from(u16_at(&places, 0)));
-    types_from(source, len, list.saturating_add(2))
+    types_from(part, list.saturating_add(2))
 }
 
 /// The types of the entries of eight bytes from a place on.
-fn types_from<S: ReadAt>(source: &mut S, len: u64, list: u64) -> [u32; 16] {
+fn types_from<F: Read + Seek>(part: &mut Part<F>, list: u64) -> [u32; 16] {
     let mut types = [0; 16];
     for i in 0..16 {
-        let entry = piece_at(source, len, list.saturating_add(8 * i as u64));
+        let entry = piece_at(part, list.saturating_add(8 * i as u64));
         types[i] = u32_at(&entry, 0);
     }
     types
 }
 
 /// Where the part of this kind begins in an AppleDouble file, by the first sixteen of its parts; none where it has no such part.
-fn part_place<S: ReadAt>(source: &mut S, len: u64, kind: u32) -> Option<u64> {
-    let head = piece_at(source, len, 24);
+fn part_place<F: Read + Seek>(part: &mut Part<F>, kind: u32) -> Option<u64> {
+    let head = piece_at(part, 24);
     let count = u16_at(&head, 0).min(16);
     for i in 0..count {
-        let part = piece_at(source, len, 26 + 12 * u64::from(i));
-        if u32_at(&part, 0) == kind {
-            return Some(u64::from(u32_at(&part, 4)));
+        let entry = piece_at(part, 26 + 12 * u64::from(i));
+        if u32_at(&entry, 0) == kind {
+            return Some(u64::from(u32_at(&entry, 4)));
         }
     }
     None
 }
 
 /// The creator in the Finder's bytes of an AppleDouble file, behind the type; zeros where it has none.
-fn creator_in<S: ReadAt>(source: &mut S, len: u64) -> Piece {
-    match part_place(source, len, FINDER_BYTES) {
-        Some(finder) => piece_at(source, len, finder.saturating_add(4)),
+fn creator_in<F: Read + Seek>(part: &mut Part<F>) -> Piece {
+    match part_place(part, FINDER_BYTES) {
+        Some(finder) => piece_at(part, finder.saturating_add(4)),
         None => NOTHING.creator,
     }
 }
 
 /// The first types of the resources in an AppleDouble file; zeros where it has none.
-fn types_in<S: ReadAt>(source: &mut S, len: u64) -> [u32; 16] {
-    match part_place(source, len, RESOURCE_FORK) {
-        Some(fork) => resource_types(source, len, fork),
+fn types_in<F: Read + Seek>(part: &mut Part<F>) -> [u32; 16] {
+    match part_place(part, RESOURCE_FORK) {
+        Some(fork) => resource_types(part, fork),
         None => NOTHING.types,
     }
 }
 
-/// What an AppleDouble file of `len` bytes says of the file beside it; nothing where it is none.
-fn beside_at<S: ReadAt>(source: &mut S, len: u64) -> Beside {
-    let head = piece_at(source, len, 0);
+/// What an AppleDouble file says of the file beside it; nothing where it is none.
+fn beside_at<F: Read + Seek>(part: &mut Part<F>) -> Beside {
+    let head = piece_at(part, 0);
     if u32_at(&head, 0) != APPLE_DOUBLE {
         return NOTHING;
     }
     Beside {
-        creator: creator_in(source, len),
-        types: types_in(source, len),
+        creator: creator_in(part),
+        types: types_in(part),
     }
 }
 
-/// What a file of `len` bytes says of itself at its known places.
-fn glance_at<S: ReadAt>(source: &mut S, len: u64, beside: Beside) -> Glance {
-    let fork = resource_fork(source, len);
+/// What a file's part says of itself at its known places.
+fn glance_at<F: Read + Seek>(part: &mut Part<F>, beside: Beside) -> Glance {
+    let fork = resource_fork(part);
+    let trailer = part.range.len.saturating_sub(TRAILER);
     Glance {
-        first: piece_at(source, len, 0),
-        creator: piece_at(source, len, 69),
-        fork: piece_at(source, len, HEAD),
-        directory: piece_at(source, len, 1_024),
-        descriptor: piece_at(source, len, 32_769),
-        trailer: piece_at(source, len, len.saturating_sub(TRAILER)),
-        types: resource_types(source, len, fork),
+        first: piece_at(part, 0),
+        creator: piece_at(part, 69),
+        fork: piece_at(part, HEAD),
+        directory: piece_at(part, 1_024),
+        descriptor: piece_at(part, 32_769),
+        trailer: piece_at(part, trailer),
+        types: resource_types(part, fork),
         beside,
     }
 }
@@ -153,10 +160,7 @@ fn beside_in(rt: &HostRuntime, path: &str) -> Beside {
         return NOTHING;
     }
     match open_part(rt, path, Some(0)) {
-        Ok(mut file) => {
-            let len = file.len();
-            beside_at(&mut file, len)
-        }
+        Ok(mut file) => beside_at(&mut file),
         Err(_) => NOTHING,
     }
 }
@@ -180,8 +184,8 @@ fn kind_in(rt: &HostRuntime, path: &str, volume: Option<u64>) -> Option<Kind> {
     }
     match open_part(rt, path, volume) {
         Ok(mut part) => {
-            let len = part.len();
-            Kind::of(&glance_at(&mut part, len, beside_of(rt, path, volume)))
+            let beside = beside_of(rt, path, volume);
+            Kind::of(&glance_at(&mut part, beside))
         }
         Err(_) => None,
     }

@@ -22,6 +22,6 @@ pub use crate::placed::PlacedFile;
 pub use crate::ranges::{ByteRange, Container, FoundRange, Layout};
 pub use crate::raw::{RawFile, find_layout, others_in};
 pub use crate::source::ReadAt;
-pub use crate::sums::data_sum;
+pub use crate::sums::{data_sum, sum_from};
 pub use crate::volumes::volume_name;
 pub use crate::window::Window;

@@ -28,7 +28,7 @@ fn with_word(sum: u32, high: u8, low: u8) -> u32
 }
 
 /// The sum that goes on over these bytes.
-fn sum_from(start: u32, bytes: &[u8]) -> u32
+pub fn sum_from(start: u32, bytes: &[u8]) -> u32
     ensures { result ≡ sum_from start bytes.now }
 {
     let mut sum = start;

@@ -1,2 +1,7 @@
 mod Digests
 pub mod FailLemmas
+mod HeadLemmas
+mod Alike
+mod SumPieces
+mod PartLemmas
+pub mod Picking

@@ -78,3 +78,8 @@ LeavesFile g start new = ∥ KeepsFile g start new ∥₁
 abbrev pub KeepsAtSource : {S F : Type 0} → Ghosts S → Held S → Held S → PutFault F → Type 0
 KeepsAtSource g start new (Source fault) = LeavesFile g start new
 KeepsAtSource g start new (Database fault) = ⊤
+
+-- where a source did not give all its rows, this is its fault
+abbrev pub IsSourceFault : {F : Type 0} → (F → Type 0) → PutFault F → Type 0
+IsSourceFault Fails (Source fault) = Fails fault
+IsSourceFault Fails (Database fault) = ⊤

@@ -2,7 +2,7 @@
 ghost use Rattle.std.specs.Prelude.{◌≡◌, [], IfErr, IfOk, OnErr, OnOk};
 ghost use Rattle.sqlite.specs.Held.{state};
 ghost use Rattle.sqlite.specs.State.{Survives};
-ghost use Rattle.hfs_database.specs.Transactions.{IsBegun, IsCommitted, KeepsAtSource, KeepsFile, LeavesAllOrNone, PutsAllInOne};
+ghost use Rattle.hfs_database.specs.Transactions.{IsBegun, IsCommitted, IsSourceFault, KeepsAtSource, KeepsFile, LeavesAllOrNone, PutsAllInOne};
 
 use crate::fault::{DatabaseFault, PutFault, writing_fault};
 use crate::taker::put_rows;
@@ -61,12 +61,13 @@ fn undo<S: Alter>(conn: &mut Connection<S>) -> Result<(), DatabaseFault>
 pub(crate) fn put_all<S: Alter, R: RowSource>(
     alloc: Global,
     conn: &mut Connection<S>,
-    source: &R,
+    source: &mut R,
 ) -> Result<R::Told, PutFault<R::Fault>>
-    ensures put { OnOk result (PutsAllInOne S.Store (R.Gives source.now []) conn.old conn.new) }
-    ensures told { IfOk result (R.Tells source.now) }
+    ensures put { OnOk result (PutsAllInOne S.Store (R.Gives source.old source.new []) conn.old conn.new) }
+    ensures told { IfOk result (R.Tells source.old source.new) }
+    ensures fault { IfErr result (IsSourceFault (R.Fails source.old source.new)) }
     ensures unread { IfErr result (KeepsAtSource S.Store conn.old conn.new) }
-    ensures all_or_none { LeavesAllOrNone S.Store (R.Gives source.now []) conn.old conn.new }
+    ensures all_or_none { LeavesAllOrNone S.Store (R.Gives source.old source.new []) conn.old conn.new }
 {
     match begin(conn) {
         Ok(()) => {}

@@ -1,10 +1,10 @@
 //! The taker that is a database.
-ghost use Rattle.std.specs.Prelude.{◌≡◌, false, [], map, IfOk, OnErr, OnOk};
+ghost use Rattle.std.specs.Prelude.{◌≡◌, false, [], map, IfErr, IfOk, OnErr, OnOk};
 ghost use Rattle.sqlite.specs.Held.{Held};
 ghost use Rattle.hfs_rows.specs.GivenRows.{with_given};
 ghost use Rattle.hfs_rows.specs.Taken.{with_row};
 ghost use Rattle.hfs_database.specs.Rows.{PutsRow};
-ghost use Rattle.hfs_database.specs.Transactions.{HasPutSince, KeepsFile, LeavesFile, PutsAll};
+ghost use Rattle.hfs_database.specs.Transactions.{HasPutSince, IsSourceFault, KeepsFile, LeavesFile, PutsAll};
 ghost use Rattle.hfs_database.specs.Values.{sql_value};
 
 use crate::fault::{DatabaseFault, PutFault};
@@ -116,10 +116,11 @@ impl<S: Alter> RowTaker for DatabaseTaker<'_, S> {
 pub(crate) fn put_rows<S: Alter, R: RowSource>(
     alloc: Global,
     conn: &mut Connection<S>,
-    source: &R,
+    source: &mut R,
 ) -> Result<R::Told, PutFault<R::Fault>>
-    ensures put { OnOk result (PutsAll S.Store (R.Gives source.now []) conn.old conn.new) }
-    ensures told { IfOk result (R.Tells source.now) }
+    ensures put { OnOk result (PutsAll S.Store (R.Gives source.old source.new []) conn.old conn.new) }
+    ensures told { IfOk result (R.Tells source.old source.new) }
+    ensures fault { IfErr result (IsSourceFault (R.Fails source.old source.new)) }
     ensures keeps { LeavesFile S.Store conn.old conn.new }
 {
     let mut history = History::of(conn);

@@ -6,3 +6,4 @@ mod GatherLemmas
 mod FoundLemmas
 pub mod LawsProved
 mod LookLemmas
+mod VolumeLemmas

@@ -4,3 +4,4 @@ pub mod Needed
 pub mod FileReads
 pub mod NeededFinds
 pub mod Looks
+pub mod Volumes

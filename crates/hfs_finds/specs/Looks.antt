@@ -1,7 +1,9 @@
 -- What comes of a look at an image.
 use Rattle.std.specs.Prelude.{◌≡◌, ℕ, List, Option, Some}
 use Rattle.hfs_check.specs.declared.mount_fault.MountFault.{MountFault}
+use Rattle.hfs_check.specs.declared.reported.Report.{Report}
 use Rattle.hfs_check.specs.Faults.{fault_of}
+use Rattle.hfs_check.specs.Report.{report_of}
 use Rattle.hfs_needed.specs.Known.{OfKnown}
 use Rattle.hfs_source.specs.Images.{HasLength, OfEach}
 use Rattle.hfs_sparse.specs.Seen.{EachKnown}
@@ -20,4 +22,10 @@ HasFault why image = fault_of image ≡ Some why
 pub record IsRefusedAs (Holds : List ℕ → Type 0) (len : ℕ) (why : MountFault) (found : Option Finds) : Type 0 where
   pub refused : OfEach Holds (HasFault why)
   pub long : OfEach Holds (HasLength len)
+  pub found_is : AreFindsOfEach Holds len found
+
+-- each of these images has so many bytes, this is its report, and this is found of it
+pub record IsLookedAt (Holds : List ℕ → Type 0) (len : ℕ) (report : Report) (found : Option Finds) : Type 0 where
+  pub long : OfEach Holds (HasLength len)
+  pub reported : OfEach Holds (λ image. report ≡ report_of image)
   pub found_is : AreFindsOfEach Holds len found

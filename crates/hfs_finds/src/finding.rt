@@ -19,7 +19,11 @@ use hfs_rescue::{
 use std::alloc::{AllocError, Global};
 
 /// The places of items, and of the folders that only these threads name.
-fn places_of(alloc: Global, items: &[FoundRecord], named: &[Thing]) -> Result<Places, AllocError>
+pub(crate) fn places_of(
+    alloc: Global,
+    items: &[FoundRecord],
+    named: &[Thing],
+) -> Result<Places, AllocError>
     ensures { IfOk result (λ places. places ≡ things_of (map thing_of items.now) named.now) }
 {
     let things = things_of(alloc, items)?;

@@ -10,12 +10,15 @@ mod looking;
 mod needed;
 mod refused;
 mod salvage;
+mod volume;
+mod whole;
 
 pub use finding::find_in;
 pub use finds::Finds;
-pub use forks::{Outside, fork_digest};
+pub use forks::fork_digest;
 pub use laws::needed_find_same;
-pub use looking::{finds_of, look};
+pub use looking::{Unlooked, finds_of, look, look_reported};
 pub use needed::{NeededFinds, needed_finds};
 pub use refused::RefusedImage;
 pub use salvage::salvage_of;
+pub use whole::{LookedImage, look_and_find};

@@ -1,14 +1,15 @@
 //! A look at an image: it is sound and opened, or it is refused, and what there is of it is found.
-ghost use Rattle.std.specs.Prelude.{◌≤◌, IfErr, IfOk, IfSome};
+ghost use Rattle.std.specs.Prelude.{◌≡◌, ◌≤◌, IfErr, IfOk, IfSome};
 ghost use Rattle.hfs_finds.specs.Looks.{AreFindsOfEach, HasFault, IsRefusedAs};
-ghost use Rattle.hfs_needed.specs.Seen.{HasNoFault};
+ghost use Rattle.hfs_check.specs.Report.{report_of};
+ghost use Rattle.hfs_needed.specs.Seen.{HasNoFault, IsRefusedBy};
 ghost use Rattle.hfs_source.specs.Images.{OfEach};
 
 use crate::finding::find_in;
 use crate::finds::Finds;
 use crate::needed::{NeededFinds, needed_finds};
 use crate::refused::RefusedImage;
-use hfs_check::MountFault;
+use hfs_check::{MountFault, Report};
 use hfs_needed::{NeededFault, SeenImage, Unopened};
 use hfs_source::PlacedBlocks;
 use hfs_sparse::{BlockSource, SeenBlocks, SparseFault};
@@ -57,27 +58,67 @@ pub fn finds_of<S: BlockSource>(
     }
 }
 
+/// Why an image was not looked at, and what it was read from.
+#[derive(Drop)]
+pub struct Unlooked<S: PlacedBlocks> {
+    /// A read failed, or memory was refused.
+    pub fault: SparseFault,
+    /// The source, of which some was read.
+    pub source: SeenBlocks<S>,
+}
+
 /// What is found of an image that is refused for this fault.
 fn refused_image<S: PlacedBlocks + Drop>(
     alloc: Global,
     source: SeenBlocks<S>,
     why: MountFault,
-) -> Result<RefusedImage<S>, SparseFault>
+) -> Result<RefusedImage<S>, Unlooked<S>>
     requires { OfEach (S.Holds source.blocks) (HasFault why) }
     ensures refused { IfOk result (λ image. IsRefusedAs (S.Holds image.source.blocks) image.len
         image.why image.found) }
     ensures narrows { IfOk result (λ image. OfEach (S.Holds image.source.blocks)
         (S.Holds source.blocks)) }
+    ensures back { IfErr result (λ back. OfEach (S.Holds back.source.blocks)
+        (S.Holds source.blocks)) }
 {
     let mut source = source;
     let len = source.blocks.len();
-    let found = finds_of(alloc, &mut source, len)?;
-    Ok(RefusedImage {
-        source,
-        len,
-        why,
-        found,
-    })
+    match finds_of(alloc, &mut source, len) {
+        Ok(found) => Ok(RefusedImage {
+            source,
+            len,
+            why,
+            found,
+        }),
+        Err(fault) => Err(Unlooked { fault, source }),
+    }
+}
+
+/// What there is of an image that was not opened, where it is refused.
+fn unopened_image<S: PlacedBlocks + Drop>(
+    alloc: Global,
+    back: Unopened<S>,
+) -> Result<RefusedImage<S>, Unlooked<S>>
+    requires { OfEach (S.Holds back.source.blocks) (IsRefusedBy back.fault) }
+    ensures refused { IfOk result (λ image. IsRefusedAs (S.Holds image.source.blocks) image.len
+        image.why image.found) }
+    ensures narrows { IfOk result (λ image. OfEach (S.Holds image.source.blocks)
+        (S.Holds back.source.blocks)) }
+    ensures back { IfErr result (λ unlooked. OfEach (S.Holds unlooked.source.blocks)
+        (S.Holds back.source.blocks)) }
+{
+    let Unopened { fault, source } = back;
+    match fault {
+        NeededFault::Refused(why) => refused_image(alloc, source, why),
+        NeededFault::ReadFailed => Err(Unlooked {
+            fault: SparseFault::ReadFailed,
+            source,
+        }),
+        NeededFault::Memory => Err(Unlooked {
+            fault: SparseFault::Memory,
+            source,
+        }),
+    }
 }
 
 /// Looks at an image: reads the needed blocks and makes all checks, and gives it opened; or where it is refused, what there is of it, which is
@@ -96,13 +137,36 @@ pub fn look<S: PlacedBlocks + Drop>(
 {
     match SeenImage::open(alloc, source) {
         Ok(image) => Ok(Ok(image)),
-        Err(Unopened { fault, source }) => match fault {
-            NeededFault::Refused(why) => {
-                let image = refused_image(alloc, source, why)?;
-                Ok(Err(image))
-            }
-            NeededFault::ReadFailed => Err(SparseFault::ReadFailed),
-            NeededFault::Memory => Err(SparseFault::Memory),
+        Err(back) => match unopened_image(alloc, back) {
+            Ok(image) => Ok(Err(image)),
+            Err(unlooked) => Err(unlooked.fault),
+        },
+    }
+}
+
+/// As [`look`], and gives of a sound image the report as well, which its checks make at once. Errors, with the source back: a read failed, memory
+/// was refused.
+pub fn look_reported<S: PlacedBlocks + Drop>(
+    alloc: Global,
+    source: SeenBlocks<S>,
+) -> Result<Result<(SeenImage<S>, Report), RefusedImage<S>>, Unlooked<S>>
+    ensures sound { IfOk result (λ looked. IfOk looked (λ told. OfEach (S.Holds told.0) HasNoFault)) }
+    ensures report { IfOk result (λ looked. IfOk looked (λ told. OfEach (S.Holds told.0)
+        (λ image. told.1 ≡ report_of image))) }
+    ensures refused { IfOk result (λ looked. IfErr looked (λ image.
+        IsRefusedAs (S.Holds image.source.blocks) image.len image.why image.found)) }
+    ensures held { IfOk result (λ looked. IfOk looked (λ told. OfEach (S.Holds told.0)
+        (S.Holds source.blocks))) }
+    ensures narrows { IfOk result (λ looked. IfErr looked (λ image.
+        OfEach (S.Holds image.source.blocks) (S.Holds source.blocks))) }
+    ensures back { IfErr result (λ back. OfEach (S.Holds back.source.blocks)
+        (S.Holds source.blocks)) }
+{
+    match SeenImage::open_reported(alloc, source) {
+        Ok(told) => Ok(Ok(told)),
+        Err(back) => match unopened_image(alloc, back) {
+            Ok(image) => Ok(Err(image)),
+            Err(unlooked) => Err(unlooked),
         },
     }
 }

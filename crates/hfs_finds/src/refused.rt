@@ -1,13 +1,16 @@
 //! A refused image, with what is found of it.
 ghost use Rattle.std.proofs.Props.{props};
-ghost use Rattle.std.specs.Prelude.{◌≤◌, IfSome};
+ghost use Rattle.std.specs.Prelude.{◌≤◌, IfSome, Some};
+ghost use Rattle.hfs_finds.specs.Looks.{AreFindsOfEach, HasFault};
+ghost use Rattle.hfs_source.specs.Images.{HasLength, OfEach};
 
 use crate::finds::Finds;
 use hfs_check::MountFault;
 use hfs_source::PlacedBlocks;
 use hfs_sparse::SeenBlocks;
 
-/// An image that is refused: where its blocks are read from, why, and what is found of it.
+/// An image that is refused: where its blocks are read from, why, and what is found of it; all this of each image that has the bytes which
+/// were read.
 #[derive(Drop)]
 pub struct RefusedImage<S: PlacedBlocks> {
     /// Where its blocks are read from.
@@ -18,5 +21,8 @@ pub struct RefusedImage<S: PlacedBlocks> {
     pub why: MountFault,
     /// What is found of it; None where there is no directory in it.
     pub found: Option<Finds>,
+    ghost refused: { OfEach (S.Holds source.blocks) (HasFault why) } by { Prim.hlevel props },
+    ghost long: { OfEach (S.Holds source.blocks) (HasLength len) } by { Prim.hlevel props },
+    ghost found_is: { IfSome found (λ finds. AreFindsOfEach (S.Holds source.blocks) len (Some finds)) } by { Prim.hlevel props },
     ghost few: { IfSome found (λ _. len ≤ 2147483648) } by { Prim.hlevel props },
 }

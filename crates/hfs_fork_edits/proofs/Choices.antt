@@ -1,5 +1,5 @@
 -- What SetEof and WriteFork choose, where the file was looked for already.
-use Rattle.std.proofs.Common.{◌≡◌, ℕ, ◌+◌, ◌≤◌, ℤ, Bool, true, false, cond, ltb, ◌||◌, List, length, refl, sym, ◌∙◌, ap, subst, Result, Ok, Err}
+use Rattle.std.proofs.Common.{◌≡◌, ℕ, ◌+◌, ◌≤◌, ℤ, Bool, true, false, cond, ltb, ◌||◌, List, length, refl, ◌∙◌, ap, Result, Ok, Err}
 use Rattle.std.specs.Prelude.{nat_lt, IfOk}
 use Rattle.std.proofs.lemmas.Bool.{ltb-false}
 use Rattle.hfs_fields.specs.Records.{file_record_of}

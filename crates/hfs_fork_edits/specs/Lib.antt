@@ -5,5 +5,10 @@ pub mod Laying
 pub mod Overflow
 pub mod Recorded
 pub mod Bits
+pub mod Wanting
 pub mod Extents
 pub mod Settling
+pub mod Written
+pub mod Zeros
+pub mod Gaining
+pub mod Calls

@@ -4,8 +4,8 @@ use Rattle.std.specs.Result.{MatchResult}
 use Rattle.std.specs.List.{flat_map}
 use Rattle.hfs_fields.specs.declared.extent.Extent.{Extent}
 use Rattle.hfs_blocks.specs.declared.run.Run.{Run}
-use Rattle.hfs_blocks.specs.Blocks.{run_of, nodes_in}
-use Rattle.hfs_blocks.specs.Layers.{Numbered, changes, over}
+use Rattle.hfs_blocks.specs.Blocks.{run_of}
+use Rattle.hfs_blocks.specs.Layers.{Numbered}
 use Rattle.hfs_btree_edits.specs.Files.{beside}
 use Rattle.hfs_space.specs.declared.fork_kind.ForkKind.{ForkKind}
 use Rattle.hfs_space.specs.Extents.{fork_byte}

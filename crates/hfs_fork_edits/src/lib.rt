@@ -3,14 +3,23 @@
 #![tactic(auto)]
 
 mod bits;
+mod calls;
 mod choosing;
 mod extents;
+mod gaining;
+mod growing;
 mod laying;
+mod losing;
 mod overflow;
 mod recorded;
 mod records;
+mod resizing;
 mod room;
 mod settling;
+mod shrinking;
 mod volume;
+mod written;
 
+pub use calls::{set_eof, write_fork};
 pub use choosing::{FoundFile, to_set_eof, to_write_fork};
+pub use volume::{ForkChange, ForkRefusal, ForkVolume};

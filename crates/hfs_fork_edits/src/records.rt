@@ -1,6 +1,6 @@
 //! A file's record and the volume's counts, where a fork of the file changes.
 
-ghost use Rattle.std.specs.Prelude.{◌≡◌, ◌<◌, ◌^◌};
+ghost use Rattle.std.specs.Prelude.{◌≡◌, ◌<◌, ◌≤◌, ◌^◌};
 ghost use Rattle.hfs_fork_calls.specs.Forks.{physical_length};
 ghost use Rattle.hfs_fork_changes.specs.Files as files;
 ghost use Rattle.hfs_fork_edits.specs.Counts.{counts_with};
@@ -71,4 +71,12 @@ pub(crate) fn counts_with(mdb: &Mdb, free_blocks: u16, now: u32) -> Mdb
         free_blocks,
         ..*mdb
     }
+}
+
+/// How many allocation blocks a volume has.
+pub(crate) fn volume_blocks(mdb: &Mdb) -> u16
+    ensures count { result ≡ mdb.now.allocation_blocks }
+    ensures few { mdb.now.allocation_blocks ≤ 65535 }
+{
+    mdb.allocation_blocks
 }

@@ -1,17 +1,12 @@
 -- Pieces of forks that are read.
-use Rattle.std.proofs.Common.{◌≡◌, ℕ, zero, suc, ◌+◌, ◌-◌, ◌*◌, ◌<◌, ◌≤◌, Bool, true, false, List, [], ◌∷◌, ◌++◌, length, get_or, take, drop, min, Option, Some, None, refl, sym, ap, ◌∙◌, arith, length-append, length-take}
-use Rattle.std.specs.Prelude.{replicate, unwrap_or}
+use Rattle.std.proofs.Common.{◌≡◌, ℕ, zero, suc, ◌+◌, ◌-◌, ◌*◌, ◌<◌, ◌≤◌, List, [], ◌∷◌, ◌++◌, length, get_or, take, drop, min, sym, ap, ◌∙◌, arith, length-take}
 use Rattle.std.specs.List.{flat_map}
-use Rattle.std.proofs.lemmas.List.{drop_more, length-replicate, take_min}
+use Rattle.std.proofs.lemmas.List.{drop_more, take_min}
 use Rattle.std.proofs.lemmas.List.Concat.{flat_map-append}
-use Rattle.hfs_model.proofs.Facts.{true_false}
-use Rattle.hfs_sparse.specs.Sparse.{HoldsFrom}
 use Rattle.hfs_sparse.specs.Writing.{blocks_of}
 use Rattle.hfs_blocks.specs.Blocks.{block_at}
 use Rattle.hfs_sparse.proofs.Copied.{flat-range}
-use Rattle.hfs_needed.specs.OpenedValues.{OpenedValue}
 use Rattle.hfs_image_items.specs.declared.piece.Piece.{Piece}
-use Rattle.hfs_image_items.specs.Items.{image_in, is_known, is_known_so}
 use Rattle.hfs_image_items.specs.Pieces.{piece_blocks}
 use Rattle.hfs_image_items.specs.Reading.{ReadsOn, first_bytes}
 
@@ -24,29 +19,19 @@ take-both (suc n) (x ∷ xs) ys =
     let less : n - length xs ≡ suc n - suc (length xs) = omega arith in
     ap (λ l. x ∷ l) (take-both n xs ys ∙ ap (λ m. take n xs ++ take m ys) less)
 
-never : {P : Type 0} → false ≡ true → P
-never e = absurd (true_false false e refl)
-
 -- ---- no bytes are left
 
-pub none_left : (known : Bool) (image : List ℕ) (left : ℕ) (numbers : List ℕ) → left ≡ 0 → first_bytes known image left numbers ≡ []
-none_left true image left numbers e = ap (λ n. take n (blocks_of image numbers)) e
-none_left false image left numbers e = ap (λ n. replicate n 0) e
+pub none_left : (image : List ℕ) (left : ℕ) (numbers : List ℕ) → left ≡ 0 → first_bytes image left numbers ≡ []
+none_left image left numbers e = ap (λ n. take n (blocks_of image numbers)) e
 
-pub reads_none : (known : Bool) (image : List ℕ) (left : ℕ) (numbers piece : List ℕ) → left ≡ 0 → piece ≡ []
-    → ReadsOn known piece (first_bytes known image left numbers) (first_bytes known image left numbers)
-reads_none known image left numbers piece e none = record {
-  bytes = λ is. ap (λ (p : List ℕ). p ++ first_bytes known image left numbers) (sym none);
-  fewer = omega (arith, ap length none);
-  none = λ is. none_left known image left numbers e;
+pub reads_none : (image : List ℕ) (left : ℕ) (numbers piece : List ℕ) → left ≡ 0 → piece ≡ []
+    → ReadsOn piece (first_bytes image left numbers) (first_bytes image left numbers)
+reads_none image left numbers piece e none = record {
+  bytes = ap (λ (p : List ℕ). p ++ first_bytes image left numbers) (sym none);
+  none = λ is. none_left image left numbers e;
 }
 
 -- ---- a piece is read
-
--- an image that is known holds what was read of it
-held-known : (known : Option (List ℕ)) (len place : ℕ) (into : List ℕ) → is_known_so known len ≡ true → HoldsFrom known place into → into ≡ take (length into) (drop place (unwrap_or known []))
-held-known None len place into e held = never e
-held-known (Some image) len place into e held = held
 
 module _ (pieces : List Piece) (next : ℕ) (piece : Piece) (left left' most : ℕ) (into part : List ℕ) (split : drop next pieces ≡ piece ∷ drop (next + 1) pieces)
     (fits : length into ≡ piece.count * 512) (some : 1 ≤ piece.count) (cut : part ≡ take most into) (least : most ≡ min (piece.count * 512) left) (after : left' ≡ left - most)
@@ -75,22 +60,15 @@ module _ (pieces : List Piece) (next : ℕ) (piece : Piece) (left left' most : �
   some-part : part ≡ [] → ⊥
   some-part e = absurd (omega (arith, ap length e, long, least, some, begun))
 
-  by-known : (known : Bool) (image : List ℕ) → (known ≡ true → into ≡ take (length into) (drop (512 * piece.first) image))
-      → ReadsOn known part (first_bytes known image left (flat_map piece_blocks (drop next pieces))) (first_bytes known image left' rest)
-  by-known true image held = record {
-    bytes = λ e. bytes-are image (held e);
-    fewer = omega (arith, ap length (bytes-are image (held refl)), length-append part (take left' (blocks_of image rest)));
-    none = λ e. absurd (some-part e);
-  }
-  by-known false image held = record {
-    bytes = λ e. never e;
-    fewer = omega (arith, long, least, after, length-replicate {A = ℕ} left 0, length-replicate {A = ℕ} left' 0);
+  pub reads_piece : (image : List ℕ) → into ≡ take (length into) (drop (512 * piece.first) image)
+      → ReadsOn part (first_bytes image left (flat_map piece_blocks (drop next pieces))) (first_bytes image left' rest)
+  reads_piece image held = record {
+    bytes = bytes-are image held;
     none = λ e. absurd (some-part e);
   }
 
-  pub reads_piece : (opened : OpenedValue) → HoldsFrom opened.known (512 * piece.first) into
-      → ReadsOn (is_known opened) part (first_bytes (is_known opened) (image_in opened) left (flat_map piece_blocks (drop next pieces))) (first_bytes (is_known opened) (image_in opened) left' rest)
-  reads_piece opened held = by-known (is_known opened) (image_in opened) (λ e. held-known opened.known opened.len (512 * piece.first) into e held)
+  pub fewer_left : left ≡ length part + left'
+  fewer_left = omega (arith, long, least, after)
 
 -- the piece at a place stands before those behind it
 pub split_at : (pieces : List Piece) (next : ℕ) (piece : Piece) → next < length pieces → piece ≡ get_or pieces next piece → drop next pieces ≡ piece ∷ drop (next + 1) pieces

@@ -1,7 +1,6 @@
--- The table of an opened image, whose bytes are known, has its root.
-use Rattle.std.proofs.Common.{◌≡◌, ◌≢◌, ℕ, ◌/◌, true, false, List, [], ◌∷◌, length, map, Option, Some, None, refl, ap, subst, ◌∙◌, arith}
+-- The table of an image that was opened has its root.
+use Rattle.std.proofs.Common.{◌≡◌, ◌≢◌, ℕ, ◌/◌, List, [], ◌∷◌, length, map, Some, refl, ap, subst, ◌∙◌, arith}
 use Rattle.std.specs.List.{Contains}
-use Rattle.std.specs.Prelude.{unwrap_or}
 use Rattle.hfs_blocks.specs.Blocks.{block_at}
 use Rattle.hfs_catalog.proofs.LawsProved.{sound_is_lawful}
 use Rattle.hfs_check.proofs.LawfulVolume.{sound_catalog}
@@ -9,25 +8,24 @@ use Rattle.hfs_check.proofs.LawsProved.{no_blocks_fault}
 use Rattle.hfs_check.specs.Parts.{catalog_in, mdb_in}
 use Rattle.hfs_check.specs.Sound.{AreBlocksSound}
 use Rattle.hfs_check.specs.VolumeOf.{contents_in, volume_in, volume_of}
-use Rattle.hfs_inventory.specs.Levels.{GivesRow, Going}
 use Rattle.hfs_inventory.specs.Rows.{Row, table_of}
-use Rattle.hfs_inventory.specs.Told.{told_row, told_rows}
+use Rattle.hfs_inventory.specs.Told.{told_row}
 use Rattle.hfs_inventory.proofs.TableLemmas.{tables_are_inventories}
 use Rattle.hfs_model.specs.Children.{entries_of}
 use Rattle.hfs_model.specs.Lawful.{IsLawful}
 use Rattle.hfs_model.specs.Volume.{Entry, Volume}
-use Rattle.hfs_model.specs.declared.reply.Info.{Info}
-use Rattle.hfs_model.proofs.Facts.{true_false}
 use Rattle.hfs_model.proofs.Members.{in_from_contains}
 use Rattle.hfs_needed.proofs.LawsProved.{gathered_is_enough}
-use Rattle.hfs_needed.specs.Listing.{HoldsTable}
 use Rattle.hfs_needed.specs.Opened.{IsOpenedOf}
-use Rattle.hfs_needed.specs.OpenedValues.{OpenedValue}
 use Rattle.hfs_needed.specs.declared.opening.NeededVolume.{NeededVolume}
 use Rattle.hfs_sparse.specs.Sparse.{sparse}
-use Rattle.hfs_image_items.specs.Items.{entries_in, image_in, is_known, is_known_so}
-use Rattle.hfs_image_items.specs.Reading.{AreBegunBy}
-use Rattle.hfs_image_items.proofs.SourceLemmas.{begins_with}
+use Rattle.hfs_needed.specs.Seen.{IsOpenedBy}
+use Rattle.hfs_image_items.specs.Items.{entries_in}
+use Rattle.hfs_inventory.specs.Told.{told_rows}
+
+-- an image's table has a row
+abbrev pub HasSomeRow : List ℕ → Type 0
+HasSomeRow image = told_rows (entries_in image) ≢ []
 
 -- the table of a lawful volume has a row
 has-row : (v : Volume) → IsLawful v → table_of v ≢ []
@@ -52,14 +50,11 @@ sound-of image total volume opened =
     (no_blocks_fault total (block_at image)).0
     ((gathered_is_enough total image volume.read opened.needed opened.of).fault ∙ (no_blocks_fault total (sparse volume.read)).1 opened.sound)
 
-some-rows : (known : Option (List ℕ)) (len : ℕ) (volume : NeededVolume) → IsOpenedOf known (len / 512) volume → is_known_so known len ≡ true
-    → told_rows (entries_in (unwrap_or known [])) ≢ []
-some-rows None len volume opened is = absurd (true_false false is refl)
-some-rows (Some image) len volume opened is =
-    λ none. has-row (volume_of image) (lawful-of image (len / 512) (sound-of image (len / 512) volume opened)) (none-told (entries_of (volume_of image)) (table_of (volume_of image)) none)
+-- so its table has a row
+pub has_some_row : (image : List ℕ) (total : ℕ) (volume : NeededVolume) → IsOpenedOf (Some image) total volume → HasSomeRow image
+has_some_row image total volume opened =
+    λ none. has-row (volume_of image) (lawful-of image total (sound-of image total volume opened)) (none-told (entries_of (volume_of image)) (table_of (volume_of image)) none)
 
--- the first row is that of the root, and there is one
-pub begun_by_root : (opened : OpenedValue) (volume : NeededVolume) (old new : Going) (row : Option Info) → IsOpenedOf opened.known (opened.len / 512) volume
-    → HoldsTable opened.known opened.len old → GivesRow old new row → is_known opened ≡ true → AreBegunBy row (told_rows (entries_in (image_in opened)))
-begun_by_root opened volume old new row is holds gives known =
-    begins_with opened old new row (some-rows opened.known opened.len volume is known) holds gives known
+-- an image that was seen
+pub row_of_seen : (volume : NeededVolume) (image : List ℕ) → IsOpenedBy volume image → HasSomeRow image
+row_of_seen volume image is = has_some_row image (length image / 512) volume is

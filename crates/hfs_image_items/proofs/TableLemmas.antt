@@ -1,5 +1,5 @@
 -- Pieces of the table that are read.
-use Rattle.std.proofs.Common.{◌≡◌, ℕ, suc, ◌≤◌, Bool, true, false, List, [], ◌++◌, length, refl, sym, ap, ◌∙◌, arith, length-append}
+use Rattle.std.proofs.Common.{◌≡◌, ℕ, suc, ◌+◌, ◌≤◌, Bool, true, false, List, [], ◌++◌, length, refl, sym, ap, ◌∙◌, arith, length-append}
 use Rattle.hfs_inventory.specs.Told.{ToldRow}
 use Rattle.std.specs.Prelude.{codes}
 use Rattle.std.specs.List.{join_by}
@@ -10,10 +10,9 @@ use Rattle.hfs_image_items.specs.Items.{rows_text, table_text}
 use Rattle.hfs_image_items.specs.Reading.{AddsRow, ReadsOn}
 
 -- bytes that were read, and those that are left
-pub reads_on : (piece old new : List ℕ) → old ≡ piece ++ new → (piece ≡ [] → new ≡ []) → ReadsOn true piece old new
+pub reads_on : (piece old new : List ℕ) → old ≡ piece ++ new → (piece ≡ [] → new ≡ []) → ReadsOn piece old new
 reads_on piece old new is none = record {
-  bytes = λ known. is;
-  fewer = omega (arith, ap length is, length-append piece new);
+  bytes = is;
   none = none;
 }
 
@@ -29,14 +28,14 @@ rows_fewer false piece piece' rows left added is = absurd (true_false false is r
 
 -- no row is left
 pub rows_done : (more : Bool) (whole piece piece' : List ℕ) (rows left : List ToldRow) → piece ++ rows_text rows ≡ whole → AddsRow more piece piece' rows left → more ≡ false
-    → ReadsOn true piece' whole (rows_text left)
+    → ReadsOn piece' whole (rows_text left)
 rows_done true whole piece piece' rows left so added is = absurd (true_false true refl is)
 rows_done false whole piece piece' rows left so added is =
     let all : whole ≡ piece' ++ rows_text left = sym so ∙ (λ i. sym added.0 i ++ rows_text ((added.1 ∙ sym added.2) i)) in
     reads_on piece' whole (rows_text left) all (λ e. ap rows_text added.2)
 
 -- the piece is whole
-pub rows_read : (whole piece : List ℕ) (left : List ToldRow) → piece ++ rows_text left ≡ whole → 65536 ≤ length piece → ReadsOn true piece whole (rows_text left)
+pub rows_read : (whole piece : List ℕ) (left : List ToldRow) → piece ++ rows_text left ≡ whole → 65536 ≤ length piece → ReadsOn piece whole (rows_text left)
 rows_read whole piece left so long = reads_on piece whole (rows_text left) (sym so) (λ e. absurd (omega (arith, ap length e, long)))
 
 -- the head ends with a line's end
@@ -47,6 +46,10 @@ head-some e =
     absurd (omega (arith, some, ap length e, length-append (join_by column_name (codes ",") columns) (codes ",bag_path\r\n")))
 
 -- the head was read
-pub head_read : (piece : List ℕ) (rows : List ToldRow) → piece ≡ [] ++ bag_head → ReadsOn true piece (table_text rows) (rows_text rows)
+pub head_read : (piece : List ℕ) (rows : List ToldRow) → piece ≡ [] ++ bag_head → ReadsOn piece (table_text rows) (rows_text rows)
 unfolding table_text
 head_read piece rows is = reads_on piece (table_text rows) (rows_text rows) (ap (λ (l : List ℕ). l ++ rows_text rows) (sym is)) (λ e. absurd (head-some (sym is ∙ e)))
+
+-- so many bytes were read that fewer are left
+pub text_fewer : (piece old new : List ℕ) → ReadsOn piece old new → length old ≡ length piece + length new
+text_fewer piece old new reads = ap length reads.bytes ∙ length-append piece new

@@ -1,5 +1,5 @@
 -- The items of a volume as a bag has them.
-use Rattle.std.specs.Prelude.{ℕ, ◌-◌, ◌==◌, Bool, false, List, [], ◌++◌, length, map, take, drop, codes, Option, Some, None, Result, Ok, Err, unwrap_or}
+use Rattle.std.specs.Prelude.{ℕ, ◌-◌, List, [], ◌++◌, length, map, take, drop, codes, Result, Ok, Err}
 use Rattle.std.specs.List.{flat_map}
 use Rattle.hfs_bag.specs.declared.item.BagKind.{BagKind}
 use Rattle.hfs_bag.specs.declared.item.BagKind.TheVariants as bag
@@ -18,7 +18,6 @@ use Rattle.hfs_model.specs.Volume.{Entry}
 use Rattle.hfs_table.specs.Lines.{bag_head, bag_line}
 use Rattle.hfs_names.specs.HostNames.{host_name}
 use Rattle.hfs_needed.specs.Forks.{named_fork}
-use Rattle.hfs_needed.specs.OpenedValues.{OpenedValue}
 
 -- ---- paths
 
@@ -81,20 +80,8 @@ rows_text rows = flat_map (λ (row : ToldRow). bag_line row.path row.info) rows
 unfoldable pub table_text : List ToldRow → List ℕ
 table_text rows = bag_head ++ rows_text rows
 
--- ---- opened images
+-- ---- images
 
 -- the items of an image's volume
 abbrev pub entries_in : List ℕ → List Entry
 entries_in image = entries_of (volume_of image)
-
--- an image's bytes, where they are known
-abbrev pub image_in : OpenedValue → List ℕ
-image_in opened = unwrap_or opened.known []
-
-abbrev pub is_known_so : Option (List ℕ) → ℕ → Bool
-is_known_so None len = false
-is_known_so (Some image) len = length image == len
-
--- whether they are known, and are as many as are told
-abbrev pub is_known : OpenedValue → Bool
-is_known opened = is_known_so opened.known opened.len

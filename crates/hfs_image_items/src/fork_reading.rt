@@ -1,17 +1,15 @@
 //! Forks that are read piece by piece.
-ghost use Rattle.std.specs.Prelude.{◌≡◌, ◌≤◌, ◌*◌, [], length, IfErr, IfOk, OnOk};
-ghost use Rattle.hfs_sparse.specs.Sparse.{HoldsFrom};
+ghost use Rattle.std.specs.Prelude.{◌≡◌, ◌≤◌, ◌+◌, ◌*◌, [], length, List, ℕ, IfErr, IfOk, OnOk};
+ghost use Rattle.hfs_source.specs.Images.{HasAt, OfEach};
 ghost use Rattle.std.specs.List.{flat_map};
 ghost use Rattle.hfs_blocks.specs.Blocks.{AreRunsWithin, run_of};
-ghost use Rattle.hfs_needed.specs.OpenedValues.{OpenedValue};
-ghost use Rattle.hfs_image_items.specs.Items.{image_in, is_known};
 ghost use Rattle.hfs_image_items.specs.Reading.{ReadsOn, first_bytes, fork_rest};
 
 use crate::piece::Piece;
 use crate::pieces::pieces_of;
 use hfs_bag::SourceFault;
-use hfs_needed::{ForkRuns, OpenedImage};
-use hfs_sparse::BlockSource;
+use hfs_needed::{ForkRuns, SeenImage};
+use hfs_source::PlacedBlocks;
 use std::alloc::{AllocError, Global};
 
 /// Where reading a fork stands.
@@ -28,7 +26,7 @@ pub(crate) struct ForkReading {
 /// A fork without bytes.
 #[tactic(auto, using(crate::proofs::ReadLemmas::none_left))]
 pub(crate) fn empty_fork(alloc: Global) -> ForkReading
-    ensures { (opened : OpenedValue) → fork_rest opened result ≡ [] }
+    ensures { (image : List ℕ) → fork_rest image result ≡ [] }
 {
     ForkReading {
         pieces: Vec::new(alloc),
@@ -40,9 +38,8 @@ pub(crate) fn empty_fork(alloc: Global) -> ForkReading
 /// Begins with a fork, whose bytes lie there. Error: memory was refused.
 pub(crate) fn begin_fork(alloc: Global, found: &ForkRuns) -> Result<ForkReading, AllocError>
     requires { AreRunsWithin found.now.runs.items 4294967296 }
-    ensures { (opened : OpenedValue) → IfOk result (λ fork. fork_rest opened fork
-        ≡ first_bytes (is_known opened) (image_in opened) found.now.length
-        (flat_map run_of found.now.runs.items)) }
+    ensures { (image : List ℕ) → IfOk result (λ fork. fork_rest image fork
+        ≡ first_bytes image found.now.length (flat_map run_of found.now.runs.items)) }
 {
     let pieces = pieces_of(alloc, &found.runs)?;
     Ok(ForkReading {
@@ -53,15 +50,15 @@ pub(crate) fn begin_fork(alloc: Global, found: &ForkRuns) -> Result<ForkReading,
 }
 
 /// Reads so many bytes of the blocks from number `first` on in the place of a piece.
-fn fill_piece<S: BlockSource + Drop>(
-    image: &mut OpenedImage<S>,
+fn fill_piece<S: PlacedBlocks>(
+    image: &mut SeenImage<S>,
     first: u32,
     len: usize,
     piece: &mut Vec<u8>,
 ) -> Result<(), SourceFault>
-    ensures read { OnOk result (HoldsFrom image.old.known (512 * first) piece.new.items) }
+    ensures read { OnOk result (OfEach (S.Holds image.new) (HasAt (512 * first) piece.new.items)) }
     ensures len { OnOk result (length piece.new.items ≡ len) }
-    ensures image { image.new ≡ image.old }
+    ensures narrows { OfEach (S.Holds image.new) (S.Holds image.old) }
 {
     let Ok(()) = piece.resize(len, 0) else {
         return Err(SourceFault::Memory);
@@ -74,14 +71,15 @@ fn fill_piece<S: BlockSource + Drop>(
 
 /// Reads the next bytes of a fork, at most 65,536, in the place of a piece, and none where none are left.
 #[tactic(auto, using(crate::proofs::ReadLemmas::reads_none))]
-pub(crate) fn read_fork<S: BlockSource + Drop>(
-    image: &mut OpenedImage<S>,
+pub(crate) fn read_fork<S: PlacedBlocks>(
+    image: &mut SeenImage<S>,
     fork: &mut ForkReading,
     piece: &mut Vec<u8>,
 ) -> Result<(), SourceFault>
-    ensures read { OnOk result (ReadsOn (is_known image.old) piece.new.items
-        (fork_rest image.old fork.old) (fork_rest image.old fork.new)) }
-    ensures image { image.new ≡ image.old }
+    ensures read { OnOk result (OfEach (S.Holds image.new)
+        (λ bytes. ReadsOn piece.new.items (fork_rest bytes fork.old) (fork_rest bytes fork.new))) }
+    ensures fewer { OnOk result (fork.old.left ≡ length piece.new.items + fork.new.left) }
+    ensures narrows { OfEach (S.Holds image.new) (S.Holds image.old) }
     ensures fault { IfErr result (λ _. 1 ≤ fork.old.left) }
 {
     if fork.left == 0 {

@@ -1,15 +1,15 @@
 //! The items of an opened image, for a bag.
-ghost use Rattle.std.specs.Prelude.{◌≡◌, ⊤, ℕ, List, true, drop, IfErr, IfOk, MatchResult, string_bytes};
+ghost use Rattle.std.specs.Prelude.{◌≡◌, ◌+◌, ⊤, ℕ, List, drop, length, IfErr, IfOk, MatchResult, OnOk, string_bytes};
 ghost use Rattle.hfs_bag.specs.Faults.{HasFailed};
 ghost use Rattle.hfs_bag.specs.Items.{IsHead};
-ghost use Rattle.hfs_bag.specs.Sources.{HasOpened, HasRead, HasRestarted, TakesItem};
+ghost use Rattle.hfs_bag.specs.Sources.{HasOpened, HasRead, HasRestarted, IsFewer, TakesItem};
 ghost use Rattle.hfs_model.specs.declared.call.Fork.TheVariants.{DataFork, ResFork};
 ghost use Rattle.hfs_inventory.specs.Told.{told_rows};
-ghost use Rattle.hfs_needed.specs.OpenedValues.{OpenedValue};
+ghost use Rattle.hfs_source.specs.Images.{OfEach};
 ghost use Rattle.hfs_names.specs.HostNames.{host_name};
-ghost use Rattle.hfs_image_items.specs.Items.{bag_kind, entries_in, fork_told, folders_text, image_in, is_known, item_at, names_between, table_text};
+ghost use Rattle.hfs_image_items.specs.Items.{bag_kind, entries_in, fork_told, folders_text, item_at, names_between, table_text};
 ghost use Rattle.hfs_image_items.specs.Faults.{FailsToRead, WantsMemory};
-ghost use Rattle.hfs_image_items.specs.Reading.{AreBegunBy, BeginsWith, LieThere, fork_rest, reading_rest, table_rest};
+ghost use Rattle.hfs_image_items.specs.Reading.{AreBegunBy, AreTold, BeginsWith, LieThere, fork_rest, reading_left, reading_rest, table_rest};
 ghost use Rattle.hfs_image_items.specs.Sources.{source_of, stream_told};
 
 use crate::fork_reading::{ForkReading, begin_fork, empty_fork};
@@ -22,8 +22,8 @@ use hfs_fields::Name;
 use hfs_inventory::Inventory;
 use hfs_model::{Info, ItemKind};
 use hfs_names::host_name;
-use hfs_needed::{FileRuns, OpenedImage};
-use hfs_sparse::BlockSource;
+use hfs_needed::{FileRuns, SeenImage};
+use hfs_source::PlacedBlocks;
 use std::alloc::{AllocError, Global};
 
 /// An item that came.
@@ -38,9 +38,9 @@ struct CameItem {
 
 /// The items of an opened image below its root, one after the other, and the bytes of their forks in pieces, each block of which is read once.
 #[derive(Drop)]
-pub struct ImageItems<'a, S: BlockSource, W: Watch> {
+pub struct ImageItems<'a, S: PlacedBlocks, W: Watch> {
     alloc: Global,
-    image: OpenedImage<S>,
+    image: SeenImage<S>,
     /// What is told of the root.
     pub root: Info,
     /// The rows of the items that are to come.
@@ -54,15 +54,15 @@ pub struct ImageItems<'a, S: BlockSource, W: Watch> {
 }
 
 /// The rows behind the root's, and what is told of the root. Error: memory was refused.
-#[tactic(auto, using(crate::proofs::SourceLemmas::rows_behind, crate::proofs::RootLemmas::begun_by_root))]
-fn rows_below<S: BlockSource + Drop>(
+#[tactic(auto, using(crate::proofs::SourceLemmas::rows_behind, crate::proofs::SourceLemmas::begins_with, crate::proofs::RootLemmas::row_of_seen))]
+fn rows_below<S: PlacedBlocks + Drop>(
     alloc: Global,
-    image: &OpenedImage<S>,
+    image: &SeenImage<S>,
 ) -> Result<(Inventory, Option<Info>), AllocError>
-    ensures root { IfOk result (λ below. is_known image.now ≡ true
-        → AreBegunBy below.1 (told_rows (entries_in (image_in image.now)))) }
-    ensures left { IfOk result (λ below. is_known image.now ≡ true
-        → below.0.left ≡ drop 1 (told_rows (entries_in (image_in image.now)))) }
+    ensures root { IfOk result (λ below. OfEach (S.Holds image.now)
+        (λ bytes. AreBegunBy below.1 (told_rows (entries_in bytes)))) }
+    ensures left { IfOk result (λ below. OfEach (S.Holds image.now)
+        (λ bytes. below.0.left ≡ drop 1 (told_rows (entries_in bytes)))) }
 {
     let _sound = image.volume();
     let mut rows = image.inventory(alloc)?;
@@ -72,12 +72,13 @@ fn rows_below<S: BlockSource + Drop>(
 
 /// Where both forks of a file lie. None of a folder. Error: memory was refused.
 #[tactic(auto, using(crate::proofs::SourceLemmas::fork_lies, crate::proofs::SourceLemmas::fork_refused, crate::proofs::SourceLemmas::folder_empty))]
-fn runs_of<S: BlockSource + Drop>(
+fn runs_of<S: PlacedBlocks + Drop>(
     alloc: Global,
-    image: &OpenedImage<S>,
+    image: &SeenImage<S>,
     info: &Info,
 ) -> Result<Option<FileRuns>, AllocError>
-    ensures { IfOk result (λ runs. LieThere image.now info.now runs) }
+    ensures told { IfOk result AreTold }
+    ensures there { IfOk result (λ runs. OfEach (S.Holds image.now) (LieThere info.now runs)) }
 {
     match info.kind {
         ItemKind::Folder => Ok(None),
@@ -99,9 +100,8 @@ fn bag_kind(kind: ItemKind) -> BagKind
 
 /// What is told of an item whose forks lie there.
 fn head_of(info: &Info, runs: &Option<FileRuns>) -> BagHead
-    ensures { (opened : OpenedValue) → LieThere opened info.now runs.now
-        → is_known opened ≡ true → (above name : List ℕ)
-        → IsHead result (item_at (entries_in (image_in opened)) above name info.now) }
+    ensures { (image : List ℕ) → LieThere info.now runs.now image → (above name : List ℕ)
+        → IsHead result (item_at (entries_in image) above name info.now) }
 {
     let (data_length, resource_length) = match runs {
         Some(runs) => (runs.data.length, runs.resource.length),
@@ -138,13 +138,13 @@ fn came_item(alloc: Global, path: &[Name], info: Info) -> Result<CameItem, Alloc
 
 /// The data fork of an item, from its first byte on. Error: memory was refused.
 #[tactic(auto, using(crate::proofs::SourceLemmas::fork_begun))]
-fn open_data<S: BlockSource + Drop>(
+fn open_data<S: PlacedBlocks + Drop>(
     alloc: Global,
-    image: &OpenedImage<S>,
+    image: &SeenImage<S>,
     info: &Info,
 ) -> Result<ForkReading, AllocError>
-    ensures { IfOk result (λ fork. is_known image.now ≡ true → fork_rest image.now fork
-        ≡ fork_told (entries_in (image_in image.now)) DataFork info.now) }
+    ensures { IfOk result (λ fork. OfEach (S.Holds image.now)
+        (λ bytes. fork_rest bytes fork ≡ fork_told (entries_in bytes) DataFork info.now)) }
 {
     match runs_of(alloc, image, info)? {
         Some(runs) => begin_fork(alloc, &runs.data),
@@ -154,13 +154,13 @@ fn open_data<S: BlockSource + Drop>(
 
 /// The resource fork of an item, from its first byte on. Error: memory was refused.
 #[tactic(auto, using(crate::proofs::SourceLemmas::fork_begun))]
-fn open_resource<S: BlockSource + Drop>(
+fn open_resource<S: PlacedBlocks + Drop>(
     alloc: Global,
-    image: &OpenedImage<S>,
+    image: &SeenImage<S>,
     info: &Info,
 ) -> Result<ForkReading, AllocError>
-    ensures { IfOk result (λ fork. is_known image.now ≡ true → fork_rest image.now fork
-        ≡ fork_told (entries_in (image_in image.now)) ResFork info.now) }
+    ensures { IfOk result (λ fork. OfEach (S.Holds image.now)
+        (λ bytes. fork_rest bytes fork ≡ fork_told (entries_in bytes) ResFork info.now)) }
 {
     match runs_of(alloc, image, info)? {
         Some(runs) => begin_fork(alloc, &runs.resource),
@@ -170,12 +170,12 @@ fn open_resource<S: BlockSource + Drop>(
 
 /// The table of all items, from its head on. Error: memory was refused.
 #[tactic(auto, using(crate::proofs::SourceLemmas::table_begun))]
-fn open_table<S: BlockSource + Drop>(
+fn open_table<S: PlacedBlocks + Drop>(
     alloc: Global,
-    image: &OpenedImage<S>,
+    image: &SeenImage<S>,
 ) -> Result<TableReading, AllocError>
-    ensures { IfOk result (λ table. is_known image.now ≡ true
-        → table_rest table.is_begun table.rows.left ≡ table_text (told_rows (entries_in (image_in image.now)))) }
+    ensures { IfOk result (λ table. OfEach (S.Holds image.now)
+        (λ bytes. table_rest table.is_begun table.rows.left ≡ table_text (told_rows (entries_in bytes)))) }
 {
     let rows = image.inventory(alloc)?;
     Ok(TableReading {
@@ -185,14 +185,14 @@ fn open_table<S: BlockSource + Drop>(
 }
 
 /// A stream of an item, from its first byte on. Error: memory was refused.
-fn open_stream<S: BlockSource + Drop>(
+fn open_stream<S: PlacedBlocks + Drop>(
     alloc: Global,
-    image: &OpenedImage<S>,
+    image: &SeenImage<S>,
     info: &Info,
     stream: Stream,
 ) -> Result<Reading, AllocError>
-    ensures { IfOk result (λ reading. is_known image.now ≡ true → reading_rest image.now reading
-        ≡ stream_told image.now info.now stream) }
+    ensures { IfOk result (λ reading. OfEach (S.Holds image.now)
+        (λ bytes. reading_rest bytes reading ≡ stream_told info.now stream bytes)) }
 {
     match stream {
         Stream::DataFork => Ok(Reading::Fork(open_data(alloc, image, info)?)),
@@ -203,9 +203,9 @@ fn open_stream<S: BlockSource + Drop>(
 }
 
 /// The items of an image, of which these rows are to come, behind that of the root.
-fn begin<'a, S: BlockSource + Drop, W: Watch>(
+fn begin<'a, S: PlacedBlocks + Drop, W: Watch>(
     alloc: Global,
-    image: OpenedImage<S>,
+    image: SeenImage<S>,
     rows: Inventory,
     root: &Info,
     all: u64,
@@ -233,32 +233,56 @@ fn begin<'a, S: BlockSource + Drop, W: Watch>(
     }
 }
 
-impl<'a, S: BlockSource + Drop, W: Watch> ImageItems<'a, S, W> {
-    /// The items of an image, of which there are so many. Errors: memory was refused; `ReadFailed` where there is no root, as in no image whose bytes
-    /// are known.
+/// Why the items of an image were not begun with, and the image.
+#[derive(Drop)]
+pub struct Unbegun<S: PlacedBlocks> {
+    /// Why.
+    pub fault: SourceFault,
+    pub image: SeenImage<S>,
+}
+
+impl<'a, S: PlacedBlocks + Drop, W: Watch> ImageItems<'a, S, W> {
+    /// The items of an image, of which there are so many. Errors, with the image back: memory was refused; `ReadFailed` where there is no root, as in
+    /// no image that holds.
     pub fn new(
         alloc: Global,
-        image: OpenedImage<S>,
+        image: SeenImage<S>,
         all: u64,
         watch: &'a W,
-    ) -> Result<ImageItems<'a, S, W>, SourceFault>
+    ) -> Result<ImageItems<'a, S, W>, Unbegun<S>>
         ensures image { IfOk result (λ made. made.image ≡ image) }
-        ensures root { IfOk result (λ made. is_known image ≡ true
-            → BeginsWith made.root (told_rows (entries_in (image_in image)))) }
-        ensures fault { IfErr result (HasFailed WantsMemory (is_known image)) }
+        ensures root { IfOk result (λ made. OfEach (S.Holds image)
+            (λ bytes. BeginsWith made.root (told_rows (entries_in bytes)))) }
+        ensures back { IfErr result (λ back. back.image ≡ image) }
+        ensures fault { IfErr result (λ back. HasFailed WantsMemory (S.Holds image) back.fault) }
     {
         let Ok((rows, root)) = rows_below(alloc, &image) else {
-            return Err(SourceFault::Memory);
+            let fault = SourceFault::Memory;
+            return Err(Unbegun { fault, image });
         };
         let Some(info) = root else {
-            return Err(SourceFault::ReadFailed);
+            let fault = SourceFault::ReadFailed;
+            return Err(Unbegun { fault, image });
         };
         Ok(begin(alloc, image, rows, &info, all, watch))
     }
+
+    /// The image back.
+    pub fn into_image(self) -> SeenImage<S>
+        ensures { result ≡ self.entry.image }
+    {
+        self.image
+    }
 }
 
-impl<S: BlockSource + Drop, W: Watch> BagSource for ImageItems<'_, S, W> {
-    ghost state = { λ items. source_of items.image items.rows.left items.came items.reading };
+impl<S: PlacedBlocks + Drop, W: Watch> BagSource for ImageItems<'_, S, W> {
+    ghost Holds = { λ items. S.Holds items.image };
+
+    ghost state = { λ items. source_of items.rows.left items.came items.reading };
+
+    ghost items_left = { λ items. length items.rows.left };
+
+    ghost bytes_left = { λ items. reading_left items.reading };
 
     ghost Fails = { λ _. ⊤ };
 
@@ -268,9 +292,9 @@ impl<S: BlockSource + Drop, W: Watch> BagSource for ImageItems<'_, S, W> {
 
     #[tactic(auto, using(crate::proofs::StateLemmas::has_restarted))]
     fn restart(&mut self) -> Result<(), SourceFault>
-        ensures restarted { MatchResult result (λ _. HasRestarted
-            (source_of self.old.image self.old.rows.left self.old.came self.old.reading)
-            (source_of self.new.image self.new.rows.left self.new.came self.new.reading)) (λ _. ⊤) }
+        ensures restarted { MatchResult result (λ _. OfEach (S.Holds self.new.image)
+            (λ bytes. HasRestarted (source_of self.old.rows.left self.old.came self.old.reading bytes) (source_of self.new.rows.left self.new.came self.new.reading bytes))) (λ _. ⊤) }
+        ensures narrows { OfEach (S.Holds self.new.image) (S.Holds self.old.image) }
         ensures fault { IfErr result WantsMemory }
     {
         let Ok((rows, _root)) = rows_below(self.alloc, &self.image) else {
@@ -282,9 +306,10 @@ impl<S: BlockSource + Drop, W: Watch> BagSource for ImageItems<'_, S, W> {
 
     #[tactic(auto, using(crate::proofs::StateLemmas::has_item, crate::proofs::StateLemmas::has_no_item))]
     fn next_item(&mut self) -> Result<Option<BagHead>, SourceFault>
-        ensures taken { MatchResult result (TakesItem
-            (source_of self.old.image self.old.rows.left self.old.came self.old.reading)
-            (source_of self.new.image self.new.rows.left self.new.came self.new.reading)) (λ _. ⊤) }
+        ensures taken { MatchResult result (λ head. OfEach (S.Holds self.new.image)
+            (λ bytes. TakesItem (source_of self.old.rows.left self.old.came self.old.reading bytes) (source_of self.new.rows.left self.new.came self.new.reading bytes) head)) (λ _. ⊤) }
+        ensures fewer { IfOk result (IsFewer (length self.old.rows.left) (length self.new.rows.left)) }
+        ensures narrows { OfEach (S.Holds self.new.image) (S.Holds self.old.image) }
         ensures fault { IfErr result WantsMemory }
     {
         let Ok(next) = self.rows.next() else {
@@ -315,9 +340,10 @@ impl<S: BlockSource + Drop, W: Watch> BagSource for ImageItems<'_, S, W> {
 
     #[tactic(auto, using(crate::proofs::StateLemmas::has_opened))]
     fn open(&mut self, stream: Stream) -> Result<(), SourceFault>
-        ensures opened { MatchResult result (λ _. HasOpened stream
-            (source_of self.old.image self.old.rows.left self.old.came self.old.reading)
-            (source_of self.new.image self.new.rows.left self.new.came self.new.reading)) (λ _. ⊤) }
+        ensures opened { MatchResult result (λ _. OfEach (S.Holds self.new.image)
+            (λ bytes. HasOpened stream (source_of self.old.rows.left self.old.came self.old.reading bytes) (source_of self.new.rows.left self.new.came self.new.reading bytes))) (λ _. ⊤) }
+        ensures stays { length self.new.rows.left ≡ length self.old.rows.left }
+        ensures narrows { OfEach (S.Holds self.new.image) (S.Holds self.old.image) }
         ensures fault { IfErr result WantsMemory }
     {
         match open_stream(self.alloc, &self.image, &self.came.info, stream) {
@@ -331,9 +357,12 @@ impl<S: BlockSource + Drop, W: Watch> BagSource for ImageItems<'_, S, W> {
 
     #[tactic(auto, using(crate::proofs::StateLemmas::has_read))]
     fn read(&mut self, piece: &mut Vec<u8>) -> Result<(), SourceFault>
-        ensures read { MatchResult result (λ _. HasRead piece.new.items
-            (source_of self.old.image self.old.rows.left self.old.came self.old.reading)
-            (source_of self.new.image self.new.rows.left self.new.came self.new.reading)) (λ _. ⊤) }
+        ensures read { MatchResult result (λ _. OfEach (S.Holds self.new.image)
+            (λ bytes. HasRead piece.new.items (source_of self.old.rows.left self.old.came self.old.reading bytes) (source_of self.new.rows.left self.new.came self.new.reading bytes))) (λ _. ⊤) }
+        ensures fewer { OnOk result (reading_left self.old.reading
+            ≡ length piece.new.items + reading_left self.new.reading) }
+        ensures stays { length self.new.rows.left ≡ length self.old.rows.left }
+        ensures narrows { OfEach (S.Holds self.new.image) (S.Holds self.old.image) }
         ensures fault { IfErr result (FailsToRead self.old.reading) }
     {
         read_next(self.alloc, &mut self.image, &mut self.reading, piece)?;

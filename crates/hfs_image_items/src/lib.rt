@@ -11,7 +11,7 @@ mod reading;
 mod table_reading;
 mod watch;
 
-pub use crate::items::ImageItems;
+pub use crate::items::{ImageItems, Unbegun};
 pub use crate::laws::{
     bag_paths_are_told, items_are_placed, sound_items_are_placed, sound_paths_are_told,
 };

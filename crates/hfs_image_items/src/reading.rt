@@ -1,14 +1,14 @@
 //! What of a source is being read.
-ghost use Rattle.std.specs.Prelude.{◌≡◌, IfErr, OnOk};
+ghost use Rattle.std.specs.Prelude.{◌≡◌, ◌+◌, length, IfErr, OnOk};
+ghost use Rattle.hfs_source.specs.Images.{OfEach};
 ghost use Rattle.hfs_image_items.specs.Faults.{FailsToRead};
-ghost use Rattle.hfs_image_items.specs.Items.{is_known};
-ghost use Rattle.hfs_image_items.specs.Reading.{ReadsOn, reading_rest};
+ghost use Rattle.hfs_image_items.specs.Reading.{ReadsOn, reading_left, reading_rest};
 
 use crate::fork_reading::{ForkReading, read_fork};
 use crate::table_reading::{TableReading, read_table};
 use hfs_bag::SourceFault;
-use hfs_needed::OpenedImage;
-use hfs_sparse::BlockSource;
+use hfs_needed::SeenImage;
+use hfs_source::PlacedBlocks;
 use std::alloc::Global;
 
 /// The stream that is being read.
@@ -19,15 +19,17 @@ pub(crate) enum Reading {
 }
 
 /// Reads the next bytes of a stream in the place of a piece, and none where none are left.
-pub(crate) fn read_next<S: BlockSource + Drop>(
+pub(crate) fn read_next<S: PlacedBlocks>(
     alloc: Global,
-    image: &mut OpenedImage<S>,
+    image: &mut SeenImage<S>,
     reading: &mut Reading,
     piece: &mut Vec<u8>,
 ) -> Result<(), SourceFault>
-    ensures read { OnOk result (ReadsOn (is_known image.old) piece.new.items
-        (reading_rest image.old reading.old) (reading_rest image.old reading.new)) }
-    ensures image { image.new ≡ image.old }
+    ensures read { OnOk result (OfEach (S.Holds image.new)
+        (λ bytes. ReadsOn piece.new.items (reading_rest bytes reading.old) (reading_rest bytes reading.new))) }
+    ensures fewer { OnOk result (reading_left reading.old
+        ≡ length piece.new.items + reading_left reading.new) }
+    ensures narrows { OfEach (S.Holds image.new) (S.Holds image.old) }
     ensures fault { IfErr result (FailsToRead reading.old) }
 {
     match reading {

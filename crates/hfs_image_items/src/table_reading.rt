@@ -34,7 +34,7 @@ fn push_next(alloc: Global, piece: &mut Vec<u8>, rows: &mut Inventory) -> Result
 #[tactic(auto, using(crate::proofs::TableLemmas::row_more, crate::proofs::TableLemmas::rows_fewer, crate::proofs::TableLemmas::rows_done, crate::proofs::TableLemmas::rows_read))]
 fn read_rows(alloc: Global, rows: &mut Inventory, piece: &mut Vec<u8>) -> Result<(), AllocError>
     requires { piece.old.items ≡ [] }
-    ensures { OnOk result (ReadsOn true piece.new.items (table_rest true rows.old.left)
+    ensures { OnOk result (ReadsOn piece.new.items (table_rest true rows.old.left)
         (table_rest true rows.new.left)) }
 {
     while push_next(alloc, piece, rows)? {
@@ -52,7 +52,7 @@ pub(crate) fn read_table(
     table: &mut TableReading,
     piece: &mut Vec<u8>,
 ) -> Result<(), AllocError>
-    ensures { OnOk result (ReadsOn true piece.new.items
+    ensures { OnOk result (ReadsOn piece.new.items
         (table_rest table.old.is_begun table.old.rows.left)
         (table_rest table.new.is_begun table.new.rows.left)) }
 {

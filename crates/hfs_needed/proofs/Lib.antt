@@ -20,3 +20,4 @@ pub mod LawsProved
 pub mod GatheredLaws
 pub mod SeenStart
 pub mod SeenFiles
+pub mod SeenRuns

@@ -21,7 +21,6 @@ use Rattle.hfs_inventory.proofs.LawTypes.{CatalogsTellTables}
 use Rattle.hfs_inventory.specs.Levels.{Going, catalog_rows}
 use Rattle.hfs_inventory.specs.Told.{told_rows}
 use Rattle.hfs_needed.specs.Laws.{AnswerSame, HoldSame}
-use Rattle.hfs_needed.specs.Listing.{HoldsTable}
 use Rattle.hfs_needed.specs.Gathered.{HasNeeded, IsOfKnown}
 use Rattle.hfs_needed.proofs.GatheredLaws.{GatheredIsEnough}
 use Rattle.hfs_needed.specs.Known.{OfKnown}
@@ -57,22 +56,13 @@ lists-known law enough answers (Some bytes) len read needed of sound dir reply e
     ∙ listed-is law enough answers bytes read (subst (λ (n : ℕ). HasNeeded (n / 512) read) (sym same) needed) of
     (subst (λ (n : ℕ). AreBlocksSound (n / 512) (sparse read)) (sym same) sound) dir
 
-pub records-known : NoBlocksFault → GatheredIsEnough → RecordsAreEntries → (known : Option (List ℕ)) (len : ℕ) (read : Numbered) → HasNeeded (len / 512) read
-    → IsOfKnown known read → AreBlocksSound (len / 512) (sparse read) → (records : Catalog) → records ≡ catalog_in (sparse read)
-    → OfKnown known len (λ bytes. records ≡ catalog_in (block_at bytes))
-records-known law enough answers None len read needed of sound records e = tt
-records-known law enough answers (Some bytes) len read needed of sound records e = λ same.
-    e
-    ∙ sym (held law enough answers bytes read (subst (λ (n : ℕ). HasNeeded (n / 512) read) (sym same) needed) of
-    (subst (λ (n : ℕ). AreBlocksSound (n / 512) (sparse read)) (sym same) sound)).catalog
-
 told-of : CatalogsTellTables → (bytes : List ℕ) → AreBlocksSound (block_count bytes) (block_at bytes) → catalog_rows (catalog_in (block_at bytes)) ≡ told_rows (entries_of (volume_of bytes))
 unfolding volume_of
 told-of tells bytes sound = tells (block_count bytes) (block_at bytes) (length-block_at bytes) sound
 
 pub table-known : NoBlocksFault → GatheredIsEnough → RecordsAreEntries → CatalogsTellTables → (known : Option (List ℕ)) (len : ℕ) (read : Numbered) → HasNeeded (len / 512) read
     → IsOfKnown known read → AreBlocksSound (len / 512) (sparse read) → (records : Catalog) → records ≡ catalog_in (sparse read) → (inventory : Going)
-    → inventory.left ≡ catalog_rows records → HoldsTable known len inventory
+    → inventory.left ≡ catalog_rows records → OfKnown known len (λ bytes. inventory.left ≡ told_rows (entries_of (volume_of bytes)))
 table-known law enough answers tells None len read needed of sound records e inventory is = tt
 table-known law enough answers tells (Some bytes) len read needed of sound records e inventory is = λ same.
     let needed' = subst (λ (n : ℕ). HasNeeded (n / 512) read) (sym same) needed in

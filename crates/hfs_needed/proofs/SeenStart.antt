@@ -1,5 +1,5 @@
 -- What was opened is of each image that has the bytes which were read.
-use Rattle.std.proofs.Common.{◌≡◌, ℕ, List, [], Option, Some, subst, sym}
+use Rattle.std.proofs.Common.{◌≡◌, ℕ, ◌≤◌, List, [], Option, Some, subst, sym}
 use Rattle.hfs_blocks.specs.Layers.{Numbered}
 use Rattle.hfs_sparse.specs.Sparse.{StaysOf}
 use Rattle.hfs_source.specs.Images.{OfEach}
@@ -9,11 +9,14 @@ use Rattle.hfs_check.specs.Faults.{length_fault}
 use Rattle.hfs_check.proofs.LawTypes.{NoBlocksFault}
 use Rattle.hfs_needed.specs.declared.opening.NeededFault.{NeededFault}
 use Rattle.hfs_needed.specs.declared.opening.NeededVolume.{NeededVolume}
+use Rattle.hfs_needed.specs.declared.reporting.ReportedVolume.{ReportedVolume}
+use Rattle.hfs_needed.specs.Known.{IsReportIn, IsReportOf}
 use Rattle.hfs_needed.specs.Opened.{AreRefusedFor, IsOpenedOf, IsRefusedFor, IsSoundOf}
 use Rattle.hfs_needed.specs.Seen.{IsOpenedBy, IsSeenAs}
 use Rattle.hfs_needed.proofs.Gathered.{of-start}
 use Rattle.hfs_needed.proofs.GatheredLaws.{GatheredIsEnough}
 use Rattle.hfs_needed.proofs.Refused.{err-so, opened-sound}
+use Rattle.hfs_needed.proofs.Reported.{reports-right}
 
 -- where nothing was read before, all that was read is
 pub seen-start : {first last : List ℕ → Type 0} {start read : Numbered} → start ≡ [] → SeesMore first last start read → IsSeen last read
@@ -43,6 +46,19 @@ pub sound-each : NoBlocksFault → GatheredIsEnough → (Holds : List ℕ → Ty
 sound-each law enough Holds len right known (Err f) opened seen = tt
 sound-each law enough Holds len right known (Ok volume) opened seen = λ image holds.
     opened-sound law enough (Some image) len right volume (opened-each known (len / 512) volume opened seen image holds)
+
+-- nor has one that is reported
+pub reported-each : NoBlocksFault → GatheredIsEnough → (Holds : List ℕ → Type 0) (len : ℕ) → length_fault len ≡ None → (known : Option (List ℕ)) (r : Result ReportedVolume NeededFault)
+    → IfOk r (λ found. IsOpenedOf known (len / 512) found.volume) → IfOk r (λ found. IsSeen Holds found.volume.read) → IfOk r (λ found. EachKnown Holds (λ some. IsSoundOf some len))
+reported-each law enough Holds len right known (Err f) opened seen = tt
+reported-each law enough Holds len right known (Ok found) opened seen = λ image holds.
+    opened-sound law enough (Some image) len right found.volume (opened-each known (len / 512) found.volume opened seen image holds)
+
+-- its report is that of each image
+pub reports-each : (Holds : List ℕ → Type 0) (len : ℕ) → len ≤ 2147483648 → 1536 ≤ len → (r : Result ReportedVolume NeededFault)
+    → IfOk r (λ found. EachKnown Holds (λ known. IsReportIn known (len / 512) found.report)) → IfOk r (λ found. EachKnown Holds (λ known. IsReportOf known len found.report))
+reports-each Holds len most least (Err f) each = tt
+reports-each Holds len most least (Ok found) each = λ image h. reports-right (Some image) len most least found.report (each image h)
 
 -- and by each, as many bytes as it has
 pub opened-by : (Holds : List ℕ → Type 0) (len : ℕ) (volume : NeededVolume) → IsSeenAs Holds len volume → OfEach Holds (IsOpenedBy volume)

@@ -9,7 +9,6 @@ pub mod Forks
 pub mod Finding
 pub mod Listing
 pub mod TreeReads
-pub mod OpenedValues
 pub mod SeenFiles
 pub mod Paths
 pub mod ForkRuns

@@ -1,5 +1,5 @@
 -- The forks of files, of each image that has the bytes which were read.
-use Rattle.std.specs.Prelude.{◌≡◌, ℕ, List, Result, Ok, Err, Option, MatchResult, ⊤}
+use Rattle.std.specs.Prelude.{◌≡◌, ℕ, List, Result, Ok, Err, Option, Some, MatchResult, ⊤}
 use Rattle.std.proofs.Common.{Vec, Global}
 use Rattle.std.specs.Io.KnownBytes.{Appends}
 use Rattle.hfs_blocks.specs.Blocks.{block_count}
@@ -13,6 +13,8 @@ use Rattle.hfs_source.specs.Images.{OfEach}
 use Rattle.hfs_sparse.specs.Seen.{IsSeen}
 use Rattle.hfs_needed.specs.declared.opening.NeededVolume.{NeededVolume}
 use Rattle.hfs_needed.specs.declared.whole_files.NeededFile.{NeededFile}
+use Rattle.hfs_needed.specs.declared.fork_runs.ForkRuns.{ForkRuns}
+use Rattle.hfs_needed.specs.ForkRuns.{IsForkBytes}
 use Rattle.hfs_needed.specs.Forks.{named_fork}
 
 -- what was read of the volume is of each of these images, and they have as many blocks as it
@@ -35,6 +37,10 @@ pub record HasForkOf (dir : ℕ) (name : List ℕ) (fork : Fork) (Fact : List �
   pub bytes : List ℕ
   pub has : HasFork dir name fork bytes image
   pub so : Fact bytes
+
+-- its volume has a fork under that name, whose bytes lie there
+abbrev pub LiesInRuns : ℕ → List ℕ → Fork → ForkRuns → List ℕ → Type 0
+LiesInRuns dir name fork found image = HasForkOf dir name fork (IsForkBytes (Some image) found) image
 
 -- this is told of the item of that name, and it has these forks
 pub record HasFile (dir : ℕ) (name : List ℕ) (file : NeededFile) (image : List ℕ) : Type 0 where

@@ -1,22 +1,18 @@
 //! Lists of folders, by the needed blocks of an image.
-ghost use Rattle.std.specs.Prelude.{◌≡◌, IfOk, IfErr};
-ghost use Rattle.hfs_model.specs.Reading.{list};
+ghost use Rattle.std.specs.Prelude.{◌≡◌, IfOk};
 ghost use Rattle.hfs_check.specs.Parts.{catalog_in};
 ghost use Rattle.hfs_check.specs.Sound.{AreBlocksSound};
 ghost use Rattle.hfs_check.specs.Trees.{HasTrees};
 ghost use Rattle.hfs_queries.specs.Brief.{listed_in};
 ghost use Rattle.hfs_space.specs.Results.{Gives};
 ghost use Rattle.hfs_sparse.specs.Sparse.{sparse};
-ghost use Rattle.hfs_needed.specs.Opened.{IsRefusedFor, IsSoundOf};
-ghost use Rattle.hfs_needed.specs.Listing.{IsBriefList};
 
-use crate::opening::{NeededFault, open_needed};
 use hfs_btree::RunNodes;
 use hfs_catalog::{CatalogRecord, read_records};
 use hfs_check::VolumeTrees;
 use hfs_model::Reply;
 use hfs_queries::{Detail, list};
-use hfs_sparse::{BlockSource, SparseBlocks};
+use hfs_sparse::SparseBlocks;
 use std::alloc::{AllocError, Global};
 
 /// What the children's own records tell of all children of a folder, in name order, where these blocks were read of a volume of `count`
@@ -40,7 +36,7 @@ pub(crate) fn list_in_brief(
 }
 
 /// All records of the catalog, where these blocks were read of a volume of `count` blocks.
-pub(crate) fn catalog_records(
+pub fn catalog_records(
     alloc: Global,
     read: &SparseBlocks,
     count: u32,
@@ -55,25 +51,4 @@ pub(crate) fn catalog_records(
         runs: &trees.catalog,
     };
     read_records(alloc, &nodes)
-}
-
-/// Lists a folder of the volume of an image of `len` bytes, of which only the blocks are read that its checks need: the reply to List, with
-/// has_id false in each item. Errors: a read failed, memory was refused, or the image is refused.
-pub fn needed_list<S: BlockSource>(
-    alloc: Global,
-    source: &mut S,
-    len: u64,
-    dir: u32,
-) -> Result<Reply, NeededFault>
-    ensures reply { IfOk result (IsBriefList (S.image source.old) len dir) }
-    ensures sound { IfOk result (λ told. IsSoundOf (S.image source.old) len) }
-    ensures refused { IfErr result (λ fault. IsRefusedFor (S.image source.old) len fault) }
-    ensures image { S.image source.new ≡ S.image source.old }
-{
-    let volume = open_needed(alloc, source, len)?;
-    let trees = &volume.sound.trees;
-    match list_in_brief(alloc, &volume.read, volume.count, trees, dir) {
-        Ok(reply) => Ok(reply),
-        Err(_) => Err(NeededFault::Memory),
-    }
 }

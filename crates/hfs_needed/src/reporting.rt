@@ -6,7 +6,7 @@ ghost use Rattle.hfs_check.specs.Trees.{HasTrees};
 ghost use Rattle.hfs_needed.specs.Known.{IsReportIn, IsReportOf};
 ghost use Rattle.hfs_needed.specs.Opened.{AreRefusedFor, IsOpenedOf, IsRefusedFor, IsSoundOf};
 ghost use Rattle.hfs_source.specs.Images.{OfEach};
-ghost use Rattle.hfs_sparse.specs.Seen.{EachKnown};
+ghost use Rattle.hfs_sparse.specs.Seen.{EachKnown, IsSeen};
 ghost use Rattle.hfs_sparse.specs.Sparse.{sparse};
 
 use crate::gathering::gather_needed;
@@ -94,6 +94,12 @@ fn report_opened<S: BlockSource>(
     ensures report { IfOk result (λ found. IsReportIn (S.image source.old) count found.report) }
     ensures refused { IfErr result (λ fault. AreRefusedFor (S.image source.old) count fault) }
     ensures image { S.image source.new ≡ S.image source.old }
+    ensures seen { IfOk result (λ found. IsSeen (S.Holds source.new) found.volume.read) }
+    ensures each_report { IfOk result (λ found. EachKnown (S.Holds source.new)
+        (λ known. IsReportIn known count found.report)) }
+    ensures each_refused { IfErr result (λ fault. EachKnown (S.Holds source.new)
+        (λ known. AreRefusedFor known count fault)) }
+    ensures narrows { OfEach (S.Holds source.new) (S.Holds source.old) }
 {
     let read = match gather_needed(alloc, source, count) {
         Ok(read) => read,
@@ -123,6 +129,14 @@ pub(crate) fn open_reported<S: BlockSource>(
     ensures sound { IfOk result (λ found. IsSoundOf (S.image source.old) len) }
     ensures refused { IfErr result (λ fault. IsRefusedFor (S.image source.old) len fault) }
     ensures image { S.image source.new ≡ S.image source.old }
+    ensures seen { IfOk result (λ found. IsSeen (S.Holds source.new) found.volume.read) }
+    ensures each_report { IfOk result (λ found. EachKnown (S.Holds source.new)
+        (λ known. IsReportOf known len found.report)) }
+    ensures each_refused { IfErr result (λ fault. EachKnown (S.Holds source.new)
+        (λ known. IsRefusedFor known len fault)) }
+    ensures narrows { OfEach (S.Holds source.new) (S.Holds source.old) }
+    ensures each_sound { IfOk result (λ found. EachKnown (S.Holds source.new)
+        (λ known. IsSoundOf known len)) }
 {
     if len > 2_147_483_648 {
         return Err(NeededFault::Refused(MountFault::TooLarge));

@@ -1,27 +1,34 @@
 //! An image that is opened and checked once, of which what is answered holds for each image that has the bytes which were read.
-ghost use Rattle.std.specs.Prelude.{◌≡◌, Err, IfErr, IfOk, None, OnErr};
+ghost use Rattle.std.specs.Prelude.{◌≡◌, ◌*◌, Err, IfErr, IfOk, None, OnErr, OnOk};
 ghost use Rattle.hfs_texts.specs.Writing.{AppendsFront};
+ghost use Rattle.hfs_blocks.specs.Blocks.{AreRunsWithin};
 ghost use Rattle.hfs_model.specs.Children.{entries_of};
+ghost use Rattle.hfs_model.specs.declared.call.Fork.TheVariants.{DataFork, ResFork};
 ghost use Rattle.hfs_check.specs.VolumeOf.{volume_of};
 ghost use Rattle.hfs_inventory.specs.Told.{told_rows};
-ghost use Rattle.hfs_source.specs.Images.{OfEach};
+ghost use Rattle.hfs_check.specs.Report.{report_of};
+ghost use Rattle.hfs_source.specs.Images.{HasAt, OfEach};
 ghost use Rattle.hfs_needed.specs.Listing.{brief_list};
 ghost use Rattle.hfs_needed.specs.Opened.{IsOpenedOf};
 ghost use Rattle.hfs_needed.specs.Paths.{path_told};
 ghost use Rattle.hfs_needed.specs.Seen.{HasNoFault, IsOpenedBy, IsRefusedBy};
-ghost use Rattle.hfs_needed.specs.SeenFiles.{HasForkOf, IsFileFound, IsForkFound, IsForkWritten};
+ghost use Rattle.hfs_needed.specs.SeenFiles.{HasForkOf, IsFileFound, IsForkFound, IsForkWritten, LiesInRuns, RefusesFile};
 
+use crate::fork_runs::{FileRuns, opened_runs};
 use crate::forks::{opened_fork, write_opened};
 use crate::listing::{catalog_records, list_in_brief};
 use crate::opening::{NeededFault, NeededVolume, open_needed};
 use crate::paths::told_in;
+use crate::reporting::{ReportedVolume, open_reported};
 use crate::whole_files::{NeededFile, opened_file};
+use hfs_check::Report;
 use hfs_fields::Name;
 use hfs_inventory::Inventory;
 use hfs_model::{Fork, Reply};
 use hfs_source::PlacedBlocks;
-use hfs_sparse::{CopyFault, SeenBlocks, SparseFault};
+use hfs_sparse::{BlockSource, CopyFault, SeenBlocks, SparseFault};
 use std::alloc::{AllocError, Global};
+use std::io;
 use std::io::Write;
 use std::marker::Model;
 
@@ -78,12 +85,53 @@ impl<S: PlacedBlocks> SeenImage<S> {
         }
     }
 
+    /// As [`SeenImage::open`], and gives the image's report as well, which tells of a sound volume: all checks are made once.
+    pub fn open_reported(
+        alloc: Global,
+        source: SeenBlocks<S>,
+    ) -> Result<(SeenImage<S>, Report), Unopened<S>>
+        ensures sound { IfOk result (λ told. OfEach (S.Holds told.0) HasNoFault) }
+        ensures report { IfOk result (λ told. OfEach (S.Holds told.0)
+            (λ image. told.1 ≡ report_of image)) }
+        ensures narrows { IfOk result (λ told. OfEach (S.Holds told.0) (S.Holds source.blocks)) }
+        ensures refused { IfErr result (λ back. OfEach (S.Holds back.source.blocks)
+            (IsRefusedBy back.fault)) }
+        ensures back { IfErr result (λ back. OfEach (S.Holds back.source.blocks)
+            (S.Holds source.blocks)) }
+    {
+        let mut source = source;
+        let len = source.blocks.len();
+        match open_reported(alloc, &mut source, len) {
+            Ok(ReportedVolume { volume, report }) => {
+                let image = SeenImage {
+                    source,
+                    len,
+                    volume,
+                };
+                Ok((image, report))
+            }
+            Err(why) => Err(Unopened { fault: why, source }),
+        }
+    }
+
     /// What was read of the image, and what its checks found out: all that is told of it but for the bytes of forks.
     pub fn volume(&self) -> &NeededVolume
         ensures opened { OfEach (S.Holds self.now) (IsOpenedBy result.now) }
         ensures sound { IsOpenedOf None result.now.count result.now }
     {
         &self.volume
+    }
+
+    /// What the image is read from, of which all is known that was known of the image.
+    pub fn into_source(self) -> SeenBlocks<S>
+        ensures { result.blocks ≡ self }
+    {
+        let SeenImage {
+            source,
+            len: _,
+            volume: _,
+        } = self;
+        source
     }
 
     /// The reply to List of a folder, with has_id false in each item. Nothing is read. Error: memory was refused.
@@ -169,5 +217,36 @@ impl<S: PlacedBlocks> SeenImage<S> {
     {
         let (source, volume) = (&mut self.source, &self.volume);
         write_opened(alloc, source, volume, dir, name, fork, writer)
+    }
+
+    /// Where the bytes of both forks of the folder's file of that name lie; or what a call that reads a fork answers where there is no such
+    /// file: -37, -120 or -43. Nothing is read. Error: memory was refused.
+    pub fn file_runs(
+        &self,
+        alloc: Global,
+        dir: u32,
+        name: &[u8],
+    ) -> Result<Result<FileRuns, Reply>, AllocError>
+        ensures data_within { IfOk result (λ told. IfOk told
+            (λ found. AreRunsWithin found.data.runs.items 4294967296)) }
+        ensures within { IfOk result (λ told. IfOk told
+            (λ found. AreRunsWithin found.resource.runs.items 4294967296)) }
+        ensures data_fork { IfOk result (λ told. IfOk told
+            (λ found. OfEach (S.Holds self.now) (LiesInRuns dir name.now DataFork found.data))) }
+        ensures resource_fork { IfOk result (λ told. IfOk told
+            (λ found. OfEach (S.Holds self.now) (LiesInRuns dir name.now ResFork found.resource))) }
+        ensures unread { IfOk result (λ told. IfErr told
+            (λ reply. OfEach (S.Holds self.now) (RefusesFile dir name.now reply))) }
+    {
+        opened_runs(alloc, &self.volume, dir, name)
+    }
+
+    /// Reads the blocks from number `first` on, as many as there is room for in `into`, by one read. Error: the read failed, or the image ends
+    /// before the room is full.
+    pub fn read_blocks(&mut self, first: u32, into: &mut [u8]) -> io::Result<()>
+        ensures read { OnOk result (OfEach (S.Holds self.new) (HasAt (512 * first) into.new)) }
+        ensures narrows { OfEach (S.Holds self.new) (S.Holds self.old) }
+    {
+        self.source.read_blocks(first, into)
     }
 }

@@ -3,8 +3,8 @@ pub mod MarkupLemmas
 pub mod NestedItems
 pub mod NestedPages
 mod HoldingLemmas
-mod UseLemmas
+pub mod UseLemmas
 mod ItemLemmas
-mod Joins
+pub mod Joins
 mod DiskLemmas
-mod Written
+pub mod Written

@@ -67,7 +67,7 @@ module _ (names : List (List ℕ)) where
   abbrev pub bold : List (List ℕ)
   bold = codes "b" ∷ names
 
-  abbrev span : List (List ℕ)
+  abbrev pub span : List (List ℕ)
   span = codes "span" ∷ names
 
   name-passes : (info : Info) → Passes names names (item.name_tagged info)
@@ -81,7 +81,7 @@ module _ (names : List (List ℕ)) where
       goes-if (date == 0) (constant (at names) (at names) [] (λ outer. refl))
       (constant (at names) (at span) (codes "<span>") (λ outer. refl) ▹ date-passes span date ▹ constant (at span) (at names) (codes "\n(modified)</span>") (λ outer. refl))
 
-  items-pass : (count : ℕ) → Passes span names (item.items_word count)
+  pub items-pass : (count : ℕ) → Passes span names (item.items_word count)
   items-pass count =
       goes-if (count == 1) (constant (at span) (at names) (codes " item</span>") (λ outer. refl)) (constant (at span) (at names) (codes " items</span>") (λ outer. refl))
 
@@ -114,7 +114,7 @@ module _ (names : List (List ℕ)) where
       constant (at names) (at bold) (codes "<b>") (λ outer. refl) ▹ link-start-passes base (bag_path path) ▹ escaped-passes (linked base) (plain_text info.name)
       ▹ link-end-passes base ▹ constant (at bold) (at names) (codes "</b>") (λ outer. refl)
 
-  sizes-pass : (info : Info) → Passes names names (item.sizes_text info)
+  pub sizes-pass : (info : Info) → Passes names names (item.sizes_text info)
   unfolding item.sizes_text told_size
   sizes-pass info =
       (constant (at names) (at span) (codes "<span>") (λ outer. refl) ▹ size-passes span (info.data_len + info.res_len))
@@ -122,7 +122,7 @@ module _ (names : List (List ℕ)) where
       ▹ number-passes span span (codes " bytes, resource fork ") info.res_len (label-passes span (codes " bytes, resource fork ") refl)
       ▹ constant (at span) (at names) (codes " bytes)</span>") (λ outer. refl)
 
-  type-passes : (info : Info) → Passes names names (item.type_text info)
+  pub type-passes : (info : Info) → Passes names names (item.type_text info)
   unfolding item.type_text
   type-passes info =
       told-passes names span (codes "<span>") (take 4 info.finder) (constant (at names) (at span) (codes "<span>") (λ outer. refl))
@@ -147,13 +147,13 @@ start-passes names info =
     ▹ constant (in-tag (codes "li") names) (at (codes "li" ∷ names)) (codes "\">") (λ outer. refl)
 
 module _ (names : List (List ℕ)) where
-  abbrev line : List (List ℕ)
+  abbrev pub line : List (List ℕ)
   line = codes "li" ∷ names
 
-  abbrev summary : List (List ℕ)
+  abbrev pub summary : List (List ℕ)
   summary = codes "summary" ∷ codes "details" ∷ line
 
-  opening-passes : (depth valence : ℕ) → Passes line summary (item.opening depth valence)
+  pub opening-passes : (depth valence : ℕ) → Passes line summary (item.opening depth valence)
   opening-passes depth valence =
       goes-if (depth == 0 && nat_le valence 1000) (constant (at line) (at summary) (codes "<details open><summary>") (λ outer. refl))
       (constant (at line) (at summary) (codes "<details><summary>") (λ outer. refl))
@@ -185,7 +185,7 @@ kind-passes Folder base path depth info = folder-kind depth info (nat_lt depth 1
 kind-passes File base path depth info = leaf-passes (folders depth) base path info
 
 -- so many folders more than these
-abbrev more : ℕ → List (List ℕ) → List (List ℕ)
+abbrev pub more : ℕ → List (List ℕ) → List (List ℕ)
 more zero names = names
 more (suc n) names = codes "ul" ∷ codes "details" ∷ codes "li" ∷ more n names
 
@@ -195,13 +195,13 @@ more-folders (suc n) depth =
     let same : suc (n + depth) ≡ suc n + depth = omega arith in
     ap (λ (names : List (List ℕ)). codes "ul" ∷ codes "details" ∷ codes "li" ∷ names) (more-folders n depth) ∙ ap folders same
 
-closings-pass : (n : ℕ) (names : List (List ℕ)) → Passes (more n names) names (closings n)
+pub closings-pass : (n : ℕ) (names : List (List ℕ)) → Passes (more n names) names (closings n)
 unfolding closings
 closings-pass zero names = text-goes names [] refl
 closings-pass (suc n) names =
     constant (at (more (suc n) names)) (at (more n names)) (codes "</ul></details></li>\n") (λ outer. refl) ▹ closings-pass n names
 
-folders-close : (opened depth : ℕ) → depth ≤ opened → Passes (folders opened) (folders depth) (closings (opened - depth))
+pub folders-close : (opened depth : ℕ) → depth ≤ opened → Passes (folders opened) (folders depth) (closings (opened - depth))
 folders-close opened depth within =
     let all : (opened - depth) + depth ≡ opened = omega arith in
     subst (λ (names : List (List ℕ)). Passes names (folders depth) (closings (opened - depth)))

@@ -57,7 +57,7 @@ module _ (names : List (List ℕ)) where
   date-row-passes label date plain =
       head-passes label plain ▹ date-passes row date ▹ constant (at row) (at names) (codes "</dd></div>\n") (λ outer. refl)
 
-  count-row-passes : (label : List ℕ) (count : ℕ) → list_all is_no_delimiter label ≡ true → Passes names names (fact.count_row label count)
+  pub count-row-passes : (label : List ℕ) (count : ℕ) → list_all is_no_delimiter label ≡ true → Passes names names (fact.count_row label count)
   unfolding fact.count_row
   count-row-passes label count plain =
       head-passes label plain ▹ decimal-passes row count ▹ constant (at row) (at names) (codes "</dd></div>\n") (λ outer. refl)
@@ -77,7 +77,7 @@ module _ (names : List (List ℕ)) where
   digest-row-passes None = constant (at names) (at names) [] (λ outer. refl)
   digest-row-passes (Some digest) = text-row-passes (codes "SHA-256") digest.now refl
 
-  image-rows-pass : (image : PageImage) → Passes names names (image_rows image)
+  pub image-rows-pass : (image : PageImage) → Passes names names (image_rows image)
   unfolding image_rows
   image-rows-pass image = text-row-passes (codes "Image") image.name.now refl ▹ digest-row-passes image.digest
 
@@ -86,7 +86,7 @@ module _ (names : List (List ℕ)) where
   lengths-pass total mdb =
       size-row-passes (codes "Length") (total * 512) refl ▹ size-row-passes (codes "Free") (mdb.free_blocks * mdb.allocation_block_size) refl
 
-  dates-pass : (mdb : Mdb) → Passes names names (fact.dates_text mdb)
+  pub dates-pass : (mdb : Mdb) → Passes names names (fact.dates_text mdb)
   unfolding fact.dates_text
   dates-pass mdb =
       date-row-passes (codes "Created") mdb.created refl ▹ date-row-passes (codes "Modified") mdb.modified refl ▹ date-row-passes (codes "Backup") mdb.backup refl
@@ -106,7 +106,7 @@ module _ (names : List (List ℕ)) where
 abbrev pub body : List (List ℕ)
 body = codes "main" ∷ codes "body" ∷ codes "html" ∷ []
 
-abbrev facts : List (List ℕ)
+abbrev pub facts : List (List ℕ)
 facts = codes "dl" ∷ body
 
 facts-pass : (image : PageImage) (total : ℕ) (mdb : Mdb) → Passes body body (facts_text image total mdb)
@@ -133,7 +133,7 @@ page-head-passes style title clean plain =
 
 -- ---- the picture
 
-part-passes : (names : List (List ℕ)) (p : Part) → Passes names names (part_text p)
+pub part-passes : (names : List (List ℕ)) (p : Part) → Passes names names (part_text p)
 part-passes names part.BadBlocks = text-goes names (part_text part.BadBlocks) refl
 part-passes names part.ExtentsTree = text-goes names (part_text part.ExtentsTree) refl
 part-passes names part.Catalog = text-goes names (part_text part.Catalog) refl
@@ -142,7 +142,7 @@ part-passes names part.FirstExtents = text-goes names (part_text part.FirstExten
 part-passes names part.Stray = text-goes names (part_text part.Stray) refl
 part-passes names part.Free = text-goes names (part_text part.Free) refl
 
-fork-passes : (names : List (List ℕ)) (kind : ForkKind) → Passes names names (fork_text kind)
+pub fork-passes : (names : List (List ℕ)) (kind : ForkKind) → Passes names names (fork_text kind)
 fork-passes names Data = text-goes names (fork_text Data) refl
 fork-passes names Resource = text-goes names (fork_text Resource) refl
 
@@ -159,7 +159,7 @@ use-passes : (names : List (List ℕ)) (catalog : Catalog) (used : BlockUse) →
 unfolding drawn.use_text
 use-passes names catalog used = part-passes names used.part ▹ owner-passes names catalog used.fork
 
-range-passes : (names : List (List ℕ)) (first last : ℕ) → Passes names names (drawn.blocks_text first last)
+pub range-passes : (names : List (List ℕ)) (first last : ℕ) → Passes names names (drawn.blocks_text first last)
 unfolding drawn.blocks_text
 range-passes names first last =
     goes-if (first == last) (number-passes names names (codes "Block ") first (label-passes names (codes "Block ") refl))
@@ -170,14 +170,14 @@ module _ (names : List (List ℕ)) where
   abbrev tag : At
   tag = in-tag (codes "rect") names
 
-  abbrev in-rect : List (List ℕ)
+  abbrev pub in-rect : List (List ℕ)
   in-rect = codes "title" ∷ codes "rect" ∷ names
 
   number-goes : (from : At) (label : List ℕ) (n : ℕ) → Goes from tag label → Goes from tag (told_number label n)
   unfolding told_number
   number-goes from label n goes = goes ▹ tag-goes (codes "rect") names (decimal n) (decimal-plain n)
 
-  rect-passes : (place : ℕ) (p : Part) → Passes names in-rect (drawn.rect_head place p)
+  pub rect-passes : (place : ℕ) (p : Part) → Passes names in-rect (drawn.rect_head place p)
   unfolding drawn.rect_head
   rect-passes place p =
       number-goes (at names) (codes "<rect x=\"") (place % 64) (constant (at names) tag (codes "<rect x=\"") (λ outer. refl))
@@ -230,7 +230,7 @@ holdings-pass : (names : List (List ℕ)) (holdings : List Holding) → Passes n
 holdings-pass names [] = text-goes names [] refl
 holdings-pass names (h ∷ holdings) = extent-passes names h ▹ holdings-pass names holdings
 
-extents-pass : (names : List (List ℕ)) (holdings : List Holding) → Passes names names (extents_text holdings)
+pub extents-pass : (names : List (List ℕ)) (holdings : List Holding) → Passes names names (extents_text holdings)
 unfolding extents_text
 extents-pass names holdings =
     constant (at names) (at (codes "p" ∷ names)) (codes "<p id=\"extents\" hidden>") (λ outer. refl) ▹ holdings-pass (codes "p" ∷ names) holdings
@@ -238,7 +238,7 @@ extents-pass names holdings =
 
 -- ---- pages
 
-version-passes : (names : List (List ℕ)) (version : List ℕ) → Passes names names (version_text version)
+pub version-passes : (names : List (List ℕ)) (version : List ℕ) → Passes names names (version_text version)
 unfolding version_text
 version-passes names version =
     constant (at names) (at (codes "footer" ∷ names)) (codes "<footer>Printed by hfs_tool ") (λ outer. refl) ▹ escaped-passes (codes "footer" ∷ names) version

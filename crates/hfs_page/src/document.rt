@@ -83,7 +83,7 @@ pub(crate) fn front(
 
 /// Appends which version of the program printed the page.
 #[tactic(auto, unfolding(crate::specs::Document::version_text))]
-fn push_version(page: &mut Vec<u8>, version: &[u8]) -> Result<(), AllocError>
+pub fn push_version(page: &mut Vec<u8>, version: &[u8]) -> Result<(), AllocError>
     ensures { OnOk result (Gains page.old page.new (version_text version.now)) }
 {
     push_bytes(page, b"<footer>Printed by hfs_tool ")?;

@@ -63,7 +63,7 @@ fn push_each(alloc: Global, page: &mut Vec<u8>, holdings: &[Holding]) -> Result<
 /// Appends a list, which no reader sees, of all extents of files: each with the file's ID, its first
 /// block, and how many it has.
 #[tactic(auto, unfolding(crate::specs::Extents::extents_text))]
-pub(crate) fn push_extents(
+pub fn push_extents(
     alloc: Global,
     page: &mut Vec<u8>,
     holdings: &[Holding],

@@ -40,7 +40,7 @@ fn push_date_row(
 
 /// Appends a row of a number.
 #[tactic(auto, unfolding(crate::specs::Facts::count_row))]
-fn push_count_row(
+pub fn push_count_row(
     alloc: Global,
     page: &mut Vec<u8>,
     label: &[u8],
@@ -102,7 +102,7 @@ fn push_lengths(alloc: Global, page: &mut Vec<u8>, total: u32, mdb: &Mdb) -> Res
 }
 
 /// Appends the rows of the volume's dates.
-fn push_dates(alloc: Global, page: &mut Vec<u8>, mdb: &Mdb) -> Result<(), AllocError>
+pub fn push_dates(alloc: Global, page: &mut Vec<u8>, mdb: &Mdb) -> Result<(), AllocError>
     ensures { OnOk result (Gains page.old page.new (dates_text mdb.now)) }
 {
     push_date_row(alloc, page, b"Created", mdb.created)?;
@@ -154,7 +154,7 @@ fn push_digest_row(page: &mut Vec<u8>, digest: Option<&[u8]>) -> Result<(), Allo
 
 /// Appends what the image's file is called, and its digest.
 #[tactic(auto, unfolding(crate::specs::Facts::image_rows))]
-pub(crate) fn push_image_rows(page: &mut Vec<u8>, image: &PageImage<'_>) -> Result<(), AllocError>
+pub fn push_image_rows(page: &mut Vec<u8>, image: &PageImage<'_>) -> Result<(), AllocError>
     ensures { OnOk result (Gains page.old page.new (image_rows image.now)) }
 {
     push_text_row(page, b"Image", image.name)?;

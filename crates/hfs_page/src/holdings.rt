@@ -14,7 +14,11 @@ use hfs_space::{CatalogFile, ForkKind, fork_extents, owned_extents};
 use std::alloc::{AllocError, Global};
 
 /// Adds extents that are no file's.
-fn push_held(holdings: &mut Vec<Holding>, part: Part, extents: &[Extent]) -> Result<(), AllocError>
+pub fn push_held(
+    holdings: &mut Vec<Holding>,
+    part: Part,
+    extents: &[Extent],
+) -> Result<(), AllocError>
     ensures { OnOk result (AddsHoldings holdings.old holdings.new (all_held part extents.now)) }
 {
     for extent in extents {
@@ -27,7 +31,7 @@ fn push_held(holdings: &mut Vec<Holding>, part: Part, extents: &[Extent]) -> Res
 }
 
 /// Adds the extents of a fork: up to the first that has a block, and behind it.
-fn push_fork_held(
+pub fn push_fork_held(
     holdings: &mut Vec<Holding>,
     fork: FileFork,
     extents: &[Extent],

@@ -41,7 +41,7 @@ fn push_modified(alloc: Global, page: &mut Vec<u8>, date: u32) -> Result<(), All
 }
 
 /// Appends what comes after a number of items.
-fn push_items_word(page: &mut Vec<u8>, count: u32) -> Result<(), AllocError>
+pub fn push_items_word(page: &mut Vec<u8>, count: u32) -> Result<(), AllocError>
     ensures { OnOk result (Gains page.old page.new (items_word count)) }
 {
     if count == 1 {
@@ -80,7 +80,7 @@ fn push_fork(alloc: Global, page: &mut Vec<u8>, label: &[u8], bytes: u32) -> Res
 }
 
 /// Appends how many bytes the forks of a file have, together and each.
-fn push_sizes(alloc: Global, page: &mut Vec<u8>, info: &Info) -> Result<(), AllocError>
+pub fn push_sizes(alloc: Global, page: &mut Vec<u8>, info: &Info) -> Result<(), AllocError>
     ensures { OnOk result (Gains page.old page.new (sizes_text info.now)) }
 {
     push_both(alloc, page, info)?;
@@ -91,7 +91,7 @@ fn push_sizes(alloc: Global, page: &mut Vec<u8>, info: &Info) -> Result<(), Allo
 
 /// Appends a file's type and creator.
 #[tactic(auto, unfolding(crate::specs::Items::type_text))]
-fn push_type(alloc: Global, page: &mut Vec<u8>, info: &Info) -> Result<(), AllocError>
+pub fn push_type(alloc: Global, page: &mut Vec<u8>, info: &Info) -> Result<(), AllocError>
     ensures { OnOk result (Gains page.old page.new (type_text info.now)) }
 {
     push_told_text(alloc, page, b"<span>", &info.finder[..4])?;
@@ -136,7 +136,7 @@ fn push_file(
 
 /// Appends the ends of so many folders.
 #[tactic(auto, unfolding(crate::specs::Items::closings))]
-pub(crate) fn push_closings(page: &mut Vec<u8>, count: usize) -> Result<(), AllocError>
+pub fn push_closings(page: &mut Vec<u8>, count: usize) -> Result<(), AllocError>
     ensures { OnOk result (Gains page.old page.new (closings count)) }
 {
     let mut left = count;
@@ -158,7 +158,7 @@ fn push_row_start(alloc: Global, page: &mut Vec<u8>, info: &Info) -> Result<(), 
 
 /// Appends the beginning of a folder of so many items that opens and closes. The root, which lies in
 /// none, is open, but where it has so many that a browser would take seconds to lay them out.
-fn push_opening(page: &mut Vec<u8>, depth: usize, valence: u32) -> Result<(), AllocError>
+pub fn push_opening(page: &mut Vec<u8>, depth: usize, valence: u32) -> Result<(), AllocError>
     ensures { OnOk result (Gains page.old page.new (opening depth valence)) }
 {
     if depth == 0 && valence <= MOST_SHOWN {

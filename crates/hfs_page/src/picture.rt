@@ -19,7 +19,7 @@ use std::alloc::{AllocError, Global};
 const COLUMNS: usize = 64;
 
 /// Appends what a part is called.
-fn push_part(page: &mut Vec<u8>, part: Part) -> Result<(), AllocError>
+pub fn push_part(page: &mut Vec<u8>, part: Part) -> Result<(), AllocError>
     ensures { OnOk result (Gains page.old page.new (part_text part)) }
 {
     match part {
@@ -34,7 +34,7 @@ fn push_part(page: &mut Vec<u8>, part: Part) -> Result<(), AllocError>
 }
 
 /// Appends what a fork is called.
-fn push_kind(page: &mut Vec<u8>, kind: ForkKind) -> Result<(), AllocError>
+pub fn push_kind(page: &mut Vec<u8>, kind: ForkKind) -> Result<(), AllocError>
     ensures { OnOk result (Gains page.old page.new (fork_text kind)) }
 {
     match kind {
@@ -103,7 +103,7 @@ fn push_use(
 
 /// Appends the number of a cell's block, or of the first and the last of several.
 #[tactic(auto, unfolding(crate::specs::Picture::blocks_text))]
-fn push_blocks(
+pub fn push_blocks(
     alloc: Global,
     page: &mut Vec<u8>,
     first: usize,
@@ -138,7 +138,7 @@ fn push_rows(
 }
 
 /// Appends where a cell stands, and the class of its part.
-fn push_rect_head(
+pub fn push_rect_head(
     alloc: Global,
     page: &mut Vec<u8>,
     place: usize,

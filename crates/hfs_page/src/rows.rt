@@ -61,7 +61,7 @@ fn push_next_row(
 }
 
 /// Writes bytes; at a fault a part of them, from the first on.
-pub(crate) fn put_piece<W: Write>(writer: &mut W, piece: &[u8]) -> Result<(), PageFault>
+pub fn put_piece<W: Write>(writer: &mut W, piece: &[u8]) -> Result<(), PageFault>
     ensures written { OnOk result (Appends (W.contents writer.old) (W.contents writer.new) piece.now) }
     ensures part { OnErr result (AppendsFront (W.contents writer.old) (W.contents writer.new)
         piece.now) }

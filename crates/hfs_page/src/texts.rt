@@ -11,7 +11,7 @@ use hfs_names::{push_moment, push_plain_text};
 use std::alloc::{AllocError, Global};
 
 /// Appends bytes of a volume as text: plain text, escaped.
-pub(crate) fn push_shown(alloc: Global, page: &mut Vec<u8>, bytes: &[u8]) -> Result<(), AllocError>
+pub fn push_shown(alloc: Global, page: &mut Vec<u8>, bytes: &[u8]) -> Result<(), AllocError>
     ensures { OnOk result (Gains page.old page.new (shown bytes.now)) }
 {
     let mut text = String::new(alloc);
@@ -45,7 +45,7 @@ fn push_day_and_time(page: &mut Vec<u8>, moment: &[u8]) -> Result<(), AllocError
 
 /// Appends a date as YYYY-MM-DD hh:mm:ss; nothing where there is none.
 #[tactic(auto, unfolding(crate::specs::Texts::date_text))]
-pub(crate) fn push_date(alloc: Global, page: &mut Vec<u8>, date: u32) -> Result<(), AllocError>
+pub fn push_date(alloc: Global, page: &mut Vec<u8>, date: u32) -> Result<(), AllocError>
     ensures { OnOk result (Gains page.old page.new (date_text date)) }
 {
     if date == 0 {
@@ -104,7 +104,7 @@ pub(crate) fn push_told_date(
 
 /// Appends a number behind what says what it is.
 #[tactic(auto, unfolding(crate::specs::Texts::told_number))]
-pub(crate) fn push_told_number(
+pub fn push_told_number(
     alloc: Global,
     page: &mut Vec<u8>,
     label: &[u8],
@@ -118,7 +118,7 @@ pub(crate) fn push_told_number(
 
 /// Appends a count or a place behind what says what it is.
 #[tactic(auto, unfolding(crate::specs::Texts::told_number))]
-pub(crate) fn push_told_count(
+pub fn push_told_count(
     alloc: Global,
     page: &mut Vec<u8>,
     label: &[u8],

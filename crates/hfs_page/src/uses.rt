@@ -48,7 +48,7 @@ fn lay(uses: &mut [BlockUse], holding: &Holding)
 }
 
 /// Sets the blocks of all extents, so that of two that have one block the first stays.
-fn lay_all(uses: &mut [BlockUse], holdings: &[Holding])
+pub fn lay_all(uses: &mut [BlockUse], holdings: &[Holding])
     ensures len { length uses.new ≡ length uses.old }
     ensures used { AreUsed holdings.now uses.old uses.new }
 {

@@ -5,9 +5,8 @@ mod counting;
 mod data;
 mod pieces;
 mod sector;
-#[cfg(test)]
-mod tests;
 
 pub use crate::counting::{are_whole_sectors, count_others, is_raw};
 pub use crate::data::UserData;
+pub use crate::pieces::read_data;
 pub use crate::sector::{data_start, put_data};

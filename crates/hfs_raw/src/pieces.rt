@@ -21,11 +21,7 @@ fn sector_at<S: PlacedBytes>(bytes: &mut S, n: u64) -> io::Result<[u8; 2352]>
 }
 
 /// Reads user data from byte `place` of it on, as much as there is room for: one read of each sector in which some of it is.
-pub(crate) fn read_data<S: PlacedBytes>(
-    bytes: &mut S,
-    place: u64,
-    into: &mut [u8],
-) -> io::Result<()>
+pub fn read_data<S: PlacedBytes>(bytes: &mut S, place: u64, into: &mut [u8]) -> io::Result<()>
     requires { (place + length into.old) * 2352 < 2 ^ 64 * 2048 }
     ensures read { OnOk result ((sectors : ℕ) → place + length into.old ≤ sectors * 2048
         → OfEach (IsDataOfOne (S.Holds bytes.new) sectors) (HasAt place into.new)) }

@@ -116,7 +116,7 @@ module _ (total : ℕ) (blocks : Blocks) (h : AreBlocksSound total blocks) where
   each-some : 1 ≤ blocks_each (mdb_in blocks)
   each-some = omega (arith, h.mdb.least_size)
 
-  extents-begin : tree_begins total blocks (mdb_in blocks) (mdb_in blocks).extents_file ≡ true
+  pub extents-begin : tree_begins total blocks (mdb_in blocks) (mdb_in blocks).extents_file ≡ true
   unfolding extents_nodes
   extents-begin =
       let file = (mdb_in blocks).extents_file in

@@ -16,5 +16,5 @@ pub mod WholeLemmas
 pub mod OnwardLemmas
 pub mod SoundLemmas
 mod SoundItemLemmas
-mod DirectoryLemmas
+pub mod DirectoryLemmas
 pub mod LawsProved

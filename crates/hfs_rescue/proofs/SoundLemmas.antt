@@ -162,13 +162,13 @@ module _ (total : ℕ) (blocks : Blocks) (h : AreBlocksSound total blocks) where
       ap (λ (records : Overflow). catalog_extents records (mdb_in blocks)) overflow-is
       ∙ all-extents (overflow_in blocks) h.extents.ordered.rises 4 0 (mdb_in blocks).catalog_file
 
-  catalog-nodes : catalog_nodes blocks (mdb_in blocks) (catalog_file_blocks total blocks (mdb_in blocks)) ≡ whole_catalog_nodes blocks
+  pub catalog-nodes : catalog_nodes blocks (mdb_in blocks) (catalog_file_blocks total blocks (mdb_in blocks)) ≡ whole_catalog_nodes blocks
   unfolding whole_catalog_nodes
   catalog-nodes =
       ap (λ (l : List Extent). catalog_nodes blocks (mdb_in blocks) (file_blocks total (mdb_in blocks) l)) extents-are
       ∙ same-nodes total blocks (mdb_in blocks) h.mdb.area h.mdb.least_size h.mdb.whole_size (whole_catalog_extents blocks) catalog-once catalog-below (mdb_in blocks).catalog_file_size h.catalog.file
 
-  catalog-right : is_catalog_tree_right (mdb_in blocks) (whole_catalog_extents blocks) (whole_catalog_nodes blocks) ≡ true
+  pub catalog-right : is_catalog_tree_right (mdb_in blocks) (whole_catalog_extents blocks) (whole_catalog_nodes blocks) ≡ true
   unfolding is_catalog_tree_right
   catalog-right = ap is_none ((no_catalog_fault (mdb_in blocks) (whole_catalog_extents blocks) (whole_catalog_nodes blocks)).1 h.catalog)
 

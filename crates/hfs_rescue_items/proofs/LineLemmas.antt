@@ -1,5 +1,5 @@
 -- Pieces of tables that are read.
-use Rattle.std.proofs.Common.{◌≡◌, ℕ, ◌+◌, ◌≤◌, Bool, true, List, [], ◌∷◌, ◌++◌, length, refl, sym, ap, ◌∙◌, append_assoc, length-append, arith}
+use Rattle.std.proofs.Common.{◌≡◌, ℕ, ◌+◌, ◌≤◌, List, [], ◌∷◌, ◌++◌, length, refl, sym, ap, ◌∙◌, append_assoc, length-append, arith}
 use Rattle.hfs_rescue.specs.declared.catalog.FoundRecord.{FoundRecord}
 use Rattle.hfs_table.specs.Columns.{column_name, columns}
 use Rattle.hfs_table.specs.Lines.{bag_head}
@@ -7,7 +7,7 @@ use Rattle.std.specs.Prelude.{codes}
 use Rattle.std.specs.List.{join_by}
 use Rattle.hfs_rescue_items.specs.Lines.{lines_of}
 use Rattle.hfs_rescue_items.specs.declared.table_lines.Lines.{Lines}
-use Rattle.hfs_rescue_items.specs.Reading.{Reads, ReadsLines, lines_rest}
+use Rattle.hfs_rescue_items.specs.Reading.{IsFewer, Reads, ReadsLines, lines_rest}
 
 -- a line more came
 pub line_more : (line : ℕ → FoundRecord → List ℕ) (whole piece piece' : List ℕ) (i i' : ℕ) (item : FoundRecord) (items behind : List FoundRecord)
@@ -18,21 +18,17 @@ line_more line whole piece piece' i i' item items behind so first pushed next =
     ∙ ap (λ (n : ℕ). piece ++ (line i item ++ lines_of line n behind)) (omega (arith, next))
     ∙ ap (λ (xs : List FoundRecord). piece ++ lines_of line i xs) (sym first) ∙ so
 
--- so many bytes were read, of which some are left
-reads-so : (known : Bool) (piece old new : List ℕ) → old ≡ piece ++ new → (piece ≡ [] → new ≡ []) → Reads known piece old new
-reads-so known piece old new so none = record { bytes = λ e. so; fewer = ap length so ∙ length-append piece new; none = none }
-
--- what was read of lines is read of any image
-pub lines_read : (known : Bool) (piece old new : List ℕ) → Reads true piece old new → Reads known piece old new
-lines_read known piece old new reads = record { bytes = λ e. reads.bytes refl; fewer = reads.fewer; none = reads.none }
+-- what was read is as much less to read
+pub lines_fewer : (piece old new : List ℕ) → Reads piece old new → IsFewer piece old new
+lines_fewer piece old new reads = ap length reads.bytes ∙ length-append piece new
 
 -- no line is left
 pub lines_none : (line : ℕ → FoundRecord → List ℕ) (piece : List ℕ) (old new : Lines) → piece ++ lines_rest line new ≡ lines_rest line old → new.items.now ≡ [] → ReadsLines line piece old new
-lines_none line piece old new so none = reads-so true piece (lines_rest line old) (lines_rest line new) (sym so) (λ e. ap (lines_of line new.next) none)
+lines_none line piece old new so none = record { bytes = sym so; none = λ e. ap (lines_of line new.next) none }
 
 -- the piece is whole
 pub lines_whole : (line : ℕ → FoundRecord → List ℕ) (piece : List ℕ) (old new : Lines) → piece ++ lines_rest line new ≡ lines_rest line old → 65536 ≤ length piece → ReadsLines line piece old new
-lines_whole line piece old new so long = reads-so true piece (lines_rest line old) (lines_rest line new) (sym so) (λ e. absurd (omega (arith, ap length e, long)))
+lines_whole line piece old new so long = record { bytes = sym so; none = λ e. absurd (omega (arith, ap length e, long)) }
 
 -- the head ends with a line's end
 head-some : bag_head ≡ [] → ⊥
@@ -42,5 +38,5 @@ head-some e =
     absurd (omega (arith, some, ap length e, length-append (join_by column_name (codes ",") columns) (codes ",bag_path\r\n")))
 
 -- the head was read
-pub head_read : (known : Bool) (piece rest : List ℕ) → piece ≡ [] ++ bag_head → Reads known piece (bag_head ++ rest) rest
-head_read known piece rest is = reads-so known piece (bag_head ++ rest) rest (ap (λ (xs : List ℕ). xs ++ rest) (sym is)) (λ e. absurd (head-some (sym is ∙ e)))
+pub head_read : (piece rest : List ℕ) → piece ≡ [] ++ bag_head → Reads piece (bag_head ++ rest) rest
+head_read piece rest is = record { bytes = ap (λ (xs : List ℕ). xs ++ rest) (sym is); none = λ e. absurd (head-some (sym is ∙ e)) }

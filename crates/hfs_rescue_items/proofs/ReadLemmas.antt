@@ -1,17 +1,14 @@
 -- Pieces of forks that are read.
-use Rattle.std.proofs.Common.{◌≡◌, ℕ, ◌+◌, ◌*◌, ◌<◌, ◌≤◌, Bool, true, List, [], ◌∷◌, ◌++◌, length, get_or, take, drop, replicate, Option, Some, None, inl, inr, refl, sym, ap, ◌∙◌, arith, length-append, length-take}
-use Rattle.std.specs.Prelude.{IfSome}
-use Rattle.std.specs.Option.{is_some}
+use Rattle.std.proofs.Common.{◌≡◌, ℕ, ◌+◌, ◌*◌, ◌<◌, ◌≤◌, List, [], ◌∷◌, ◌++◌, length, get_or, take, drop, replicate, Option, Some, None, inl, inr, refl, sym, ap, ◌∙◌, arith, length-append, length-take}
 use Rattle.std.specs.List.{AllClonesOf, AppendsClonesOf}
 use Rattle.std.proofs.Math.Seq.{take-nil}
-use Rattle.std.proofs.lemmas.Bool.{true≢false}
 use Rattle.std.proofs.lemmas.List.{drop_all, drop_more, length-replicate, take-append-le, take-take}
-use Rattle.hfs_sparse.specs.Sparse.{HoldsFrom}
+use Rattle.hfs_source.specs.Images.{HasAt, OfEach}
 use Rattle.hfs_remains.specs.ForkBytes.{filled}
 use Rattle.hfs_remains.proofs.ForkByteLemmas.{length-filled}
 use Rattle.hfs_rescue_items.specs.declared.piece.Piece.{Piece}
-use Rattle.hfs_rescue_items.specs.Bytes.{first_bytes, image_in, piece_bytes, pieces_bytes}
-use Rattle.hfs_rescue_items.specs.Reading.{Reads}
+use Rattle.hfs_rescue_items.specs.Bytes.{first_bytes, piece_bytes, pieces_bytes}
+use Rattle.hfs_rescue_items.specs.Reading.{IsFewer, Reads}
 
 -- ---- zeros
 
@@ -37,11 +34,10 @@ held-so image into place len fits held =
     let enough : len ≤ length whole = omega (arith, fits, ap length held, length-take (length into) whole) in
     ap (take len) held ∙ take-take len (length into) whole fits ∙ sym (take-append-le len whole (replicate len 0) enough)
 
--- the first of the blocks that were read are those of the image
-pub blocks_read : (known : Option (List ℕ)) (into new : List ℕ) (place len : ℕ) → HoldsFrom known place into → len ≤ length into → new ≡ take len into
-    → IfSome known (λ image. new ≡ filled len (drop place image))
-blocks_read None into new place len held fits cut = tt
-blocks_read (Some image) into new place len held fits cut = cut ∙ held-so image into place len fits held
+-- the first of the blocks that were read are those of each image
+pub blocks_read : (Holds : List ℕ → Type 0) (into new : List ℕ) (place len : ℕ) → OfEach Holds (HasAt place into) → len ≤ length into → new ≡ take len into
+    → OfEach Holds (λ image. new ≡ filled len (drop place image))
+blocks_read Holds into new place len held fits cut = λ image h. cut ∙ held-so image into place len fits (held image h)
 
 -- ---- pieces
 
@@ -51,12 +47,14 @@ length-first image (Some n) count = length-filled count (drop (512 * n) image)
 
 module _ (pieces : List Piece) (next : ℕ) where
   -- none is left
-  pub reads_none : (known : Bool) (image piece : List ℕ) → length pieces ≤ next → piece ≡ [] → Reads known piece (pieces_bytes image (drop next pieces)) (pieces_bytes image (drop next pieces))
-  reads_none known image piece past none = record {
-    bytes = λ is. ap (λ (p : List ℕ). p ++ pieces_bytes image (drop next pieces)) (sym none);
-    fewer = omega (arith, ap length none);
+  pub reads_none : (image piece : List ℕ) → length pieces ≤ next → piece ≡ [] → Reads piece (pieces_bytes image (drop next pieces)) (pieces_bytes image (drop next pieces))
+  reads_none image piece past none = record {
+    bytes = ap (λ (p : List ℕ). p ++ pieces_bytes image (drop next pieces)) (sym none);
     none = λ is. ap (pieces_bytes image) (drop_all next pieces past);
   }
+
+  pub fewer_none : (image piece : List ℕ) → piece ≡ [] → IsFewer piece (pieces_bytes image (drop next pieces)) (pieces_bytes image (drop next pieces))
+  fewer_none image piece none = omega (arith, ap length none)
 
   module _ (piece : Piece) (within : next < length pieces) (is : piece ≡ get_or pieces next piece) where
     split : drop next pieces ≡ piece ∷ drop (next + 1) pieces
@@ -65,19 +63,16 @@ module _ (pieces : List Piece) (next : ℕ) where
     bytes-split : (image : List ℕ) → pieces_bytes image (drop next pieces) ≡ piece_bytes image piece ++ pieces_bytes image (drop (next + 1) pieces)
     bytes-split image = ap (pieces_bytes image) split
 
-    known-bytes : (known : Option (List ℕ)) (new : List ℕ) → IfSome known (λ image. new ≡ piece_bytes image piece) → is_some known ≡ true
-        → pieces_bytes (image_in known) (drop next pieces) ≡ new ++ pieces_bytes (image_in known) (drop (next + 1) pieces)
-    known-bytes None new held is = absurd (true≢false (sym is))
-    known-bytes (Some image) new held is = bytes-split image ∙ ap (λ (l : List ℕ). l ++ pieces_bytes image (drop (next + 1) pieces)) (sym held)
-
     -- the one that is next was read
-    pub reads_piece : (known : Option (List ℕ)) (new : List ℕ) → 1 ≤ piece.len → IfSome known (λ image. new ≡ piece_bytes image piece) → length new ≡ piece.len
-        → Reads (is_some known) new (pieces_bytes (image_in known) (drop next pieces)) (pieces_bytes (image_in known) (drop (next + 1) pieces))
-    reads_piece known new some held long = record {
-      bytes = known-bytes known new held;
-      fewer =
-          ap length (bytes-split (image_in known))
-          ∙ length-append (piece_bytes (image_in known) piece) (pieces_bytes (image_in known) (drop (next + 1) pieces))
-          ∙ ap (λ (n : ℕ). n + length (pieces_bytes (image_in known) (drop (next + 1) pieces))) (length-first (image_in known) piece.first piece.len ∙ sym long);
+    pub reads_piece : (image new : List ℕ) → 1 ≤ piece.len → new ≡ piece_bytes image piece → length new ≡ piece.len
+        → Reads new (pieces_bytes image (drop next pieces)) (pieces_bytes image (drop (next + 1) pieces))
+    reads_piece image new some held long = record {
+      bytes = bytes-split image ∙ ap (λ (l : List ℕ). l ++ pieces_bytes image (drop (next + 1) pieces)) (sym held);
       none = λ e. absurd (omega (arith, ap length e, long, some));
     }
+
+    pub fewer_piece : (image new : List ℕ) → length new ≡ piece.len → IsFewer new (pieces_bytes image (drop next pieces)) (pieces_bytes image (drop (next + 1) pieces))
+    fewer_piece image new long =
+        ap length (bytes-split image)
+        ∙ length-append (piece_bytes image piece) (pieces_bytes image (drop (next + 1) pieces))
+        ∙ ap (λ (n : ℕ). n + length (pieces_bytes image (drop (next + 1) pieces))) (length-first image piece.first piece.len ∙ sym long)

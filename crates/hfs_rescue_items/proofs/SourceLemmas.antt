@@ -1,7 +1,7 @@
 -- What the calls of a source make of its state.
-use Rattle.std.proofs.Common.{◌≡◌, ◌≤◌, ◌<◌, ◌+◌, ℕ, Bool, true, false, if◌then◌else◌, Some, None, List, [], ◌∷◌, ◌++◌, drop, length, map, slice_index_or, Option, refl, sym, ap, subst, ◌∙◌}
+use Rattle.std.proofs.Common.{◌≡◌, ◌≤◌, ◌<◌, ◌+◌, ◌-◌, ℕ, Bool, true, false, if◌then◌else◌, Some, None, List, [], ◌∷◌, ◌++◌, drop, length, map, slice_index_or, Option, refl, sym, ap, ◌∙◌, arith}
 use Rattle.std.specs.Prelude.{string_bytes}
-use Rattle.std.specs.Option.{is_some, option_map_or}
+use Rattle.std.specs.Option.{option_map_or}
 use Rattle.std.proofs.lemmas.List.{drop_all, drop_more}
 use Rattle.hfs_bag.specs.declared.item.BagHead.{BagHead}
 use Rattle.hfs_bag.specs.declared.source.Stream.{Stream}
@@ -21,7 +21,7 @@ use Rattle.hfs_rescue_items.specs.declared.found.Found.{Found}
 use Rattle.hfs_rescue_items.specs.declared.plan.Planned.{Planned}
 use Rattle.hfs_rescue_items.specs.declared.table_lines.Lines.{Lines}
 use Rattle.hfs_rescue_items.specs.declared.reading.Reading.{Reading}
-use Rattle.hfs_rescue_items.specs.Bytes.{HasBytes, bytes_by, image_in, taken_bytes}
+use Rattle.hfs_rescue_items.specs.Bytes.{HasBytes, bytes_by, taken_bytes}
 use Rattle.hfs_rescue_items.specs.Lines.{item_line, lines_of, remains_line, remains_text, table_text}
 use Rattle.hfs_rescue_items.specs.Reading.{Reads, lines_rest, reading_rest}
 use Rattle.hfs_rescue_items.specs.Sources.{above_of, came_item, finder_told, modified_told, is_alone, item_with, name_of, part_bytes, part_stream, part_told, planned_item, source_of}
@@ -66,55 +66,41 @@ module _ (found : Found) where
   pub remains_begun : (lines : Lines) → lines.next ≡ 0 → lines.items.now ≡ found.items.now → lines_rest (remains_line found) lines ≡ remains_text found
   remains_begun lines next items = λ i. lines_of (remains_line found) (next i) (items i)
 
-module _ (known : Option (List ℕ)) (found : Found) (plan : List Planned) where
-  pub has_restarted : (next : ℕ) (came : Came) (reading : Reading) → HasRestarted (source_of known found plan next came reading) (source_of known found plan 0 came reading)
-  has_restarted next came reading = record { known = refl; all = refl; left = λ is. refl; tables = refl }
+module _ (image : List ℕ) (found : Found) (plan : List Planned) where
+  pub has_restarted : (next : ℕ) (came : Came) (reading : Reading) → HasRestarted (source_of image found plan next came reading) (source_of image found plan 0 came reading)
+  has_restarted next came reading = record { all = refl; left = refl; tables = refl }
 
   stream-is : (next : ℕ) (came : Came) (reading : Reading) (s : Stream)
-      → part_stream (image_in known) found came.planned s ≡ stream_bytes (source_of known found plan next came reading) s
+      → part_stream image found came.planned s ≡ stream_bytes (source_of image found plan next came reading) s
   stream-is next came reading stream.DataFork = refl
   stream-is next came reading stream.ResourceFork = refl
   stream-is next came reading stream.Table = refl
   stream-is next came reading stream.Remains = refl
 
   pub has_opened : (next : ℕ) (came : Came) (reading reading' : Reading) (s : Stream)
-      → ((image : List ℕ) → reading_rest image found reading' ≡ part_stream image found came.planned s)
-      → HasOpened s (source_of known found plan next came reading) (source_of known found plan next came reading')
+      → reading_rest image found reading' ≡ part_stream image found came.planned s
+      → HasOpened s (source_of image found plan next came reading) (source_of image found plan next came reading')
   has_opened next came reading reading' s opened = record {
-    same = record { known = refl; all = refl; left = refl; item = refl; tables = refl };
-    bytes = λ is. opened (image_in known) ∙ stream-is next came reading s;
+    same = record { all = refl; left = refl; item = refl; tables = refl };
+    bytes = opened ∙ stream-is next came reading s;
   }
 
-  read-so : (next : ℕ) (came : Came) (reading reading' : Reading) (piece : List ℕ)
-      → Reads (is_some known) piece (reading_rest (image_in known) found reading) (reading_rest (image_in known) found reading')
-      → HasRead piece (source_of known found plan next came reading) (source_of known found plan next came reading')
-  read-so next came reading reading' piece reads = record {
-    same = record { known = refl; all = refl; left = refl; item = refl; tables = refl };
+  pub has_read : (next : ℕ) (came : Came) (reading reading' : Reading) (piece : List ℕ) → Reads piece (reading_rest image found reading) (reading_rest image found reading')
+      → HasRead piece (source_of image found plan next came reading) (source_of image found plan next came reading')
+  has_read next came reading reading' piece reads = record {
+    same = record { all = refl; left = refl; item = refl; tables = refl };
     bytes = reads.bytes;
-    fewer = reads.fewer;
     none = reads.none;
   }
 
-  -- reading leaves the image's bytes as they are
-  pub has_read : (known' : Option (List ℕ)) → known' ≡ known → (next : ℕ) (came : Came) (reading reading' : Reading) (piece : List ℕ)
-      → Reads (is_some known) piece (reading_rest (image_in known) found reading) (reading_rest (image_in known) found reading')
-      → HasRead piece (source_of known found plan next came reading) (source_of known' found plan next came reading')
-  has_read known' same next came reading reading' piece reads =
-      subst (λ (k : Option (List ℕ)). HasRead piece (source_of known found plan next came reading) (source_of k found plan next came reading')) (sym same)
-      (read-so next came reading reading' piece reads)
-
   pub has_no_item : (next : ℕ) (came : Came) (reading : Reading) → length plan ≤ next
-      → HasNoItem (source_of known found plan next came reading) (source_of known found plan next came reading)
+      → HasNoItem (source_of image found plan next came reading) (source_of image found plan next came reading)
   has_no_item next came reading end = record {
-    known = refl;
     all = refl;
     tables = refl;
-    none = ap (map (planned_item (image_in known) found)) (drop_all next plan end);
-    none_left = ap (map (planned_item (image_in known) found)) (drop_all next plan end);
+    none = ap (map (planned_item image found)) (drop_all next plan end);
+    none_left = ap (map (planned_item image found)) (drop_all next plan end);
   }
-
-  abbrev image : List ℕ
-  image = image_in known
 
   -- how many bytes a fork has no image decides
   head-of : (head : BagHead) (came : Came) (planned : Planned) → came.planned ≡ planned → IsHead head (planned_item [] found planned) → IsHead head (came_item image found came)
@@ -129,13 +115,16 @@ module _ (known : Option (List ℕ)) (found : Found) (plan : List Planned) where
   pub has_item : (next : ℕ) (came came' : Came) (reading : Reading) (head : BagHead) (planned : Planned) → next < length plan → planned ≡ slice_index_or plan next planned
       → string_bytes came'.above ≡ above_of found planned → string_bytes came'.name ≡ name_of found planned → came'.planned ≡ planned
       → IsHead head (planned_item [] found planned)
-      → HasItem head (source_of known found plan next came reading) (source_of known found plan (next + 1) came' reading)
+      → HasItem head (source_of image found plan next came reading) (source_of image found plan (next + 1) came' reading)
   has_item next came came' reading head planned within is above name planned_is told = record {
-    known = refl;
     all = refl;
     tables = refl;
     left = ap (map (planned_item image found)) (drop_more plan next planned within)
         ∙ ap (λ (p : Planned). planned_item image found p ∷ map (planned_item image found) (drop (next + 1) plan)) (sym is)
         ∙ (λ i. item_with image found (sym above i) (sym name i) (sym planned_is i) ∷ map (planned_item image found) (drop (next + 1) plan));
-    told = λ is. head-of head came' planned planned_is told;
+    told = head-of head came' planned planned_is told;
   }
+
+-- the part that came is no more to come
+pub plan_fewer : (plan : List Planned) (next : ℕ) → next < length plan → length plan - (next + 1) < length plan - next
+plan_fewer plan next within = omega (arith, within)

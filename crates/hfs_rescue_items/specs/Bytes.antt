@@ -1,5 +1,5 @@
 -- The bytes that are taken of forks.
-use Rattle.std.specs.Prelude.{◌≡◌, ℕ, ◌+◌, ◌*◌, List, [], ◌++◌, drop, length, replicate, Option, Some, None, unwrap_or}
+use Rattle.std.specs.Prelude.{◌≡◌, ℕ, ◌+◌, ◌*◌, List, [], ◌++◌, drop, length, replicate, Option, Some, None}
 use Rattle.std.specs.List.{flat_map}
 use Rattle.std.specs.Option.{option_map_or}
 use Rattle.hfs_space.specs.declared.fork_kind.ForkKind.{ForkKind}
@@ -10,10 +10,6 @@ use Rattle.hfs_remains.specs.ForkBytes.{filled, fork_bytes, share_bytes}
 use Rattle.hfs_remains.specs.Verdicts.{fork_share, shares_at}
 use Rattle.hfs_rescue_items.specs.declared.found.Found.{Found}
 use Rattle.hfs_rescue_items.specs.declared.piece.Piece.{Piece}
-
--- an image's bytes, where they are known
-abbrev pub image_in : Option (List ℕ) → List ℕ
-image_in known = unwrap_or known []
 
 -- ---- forks
 

@@ -1,5 +1,5 @@
 -- What is still to be read of a stream.
-use Rattle.std.specs.Prelude.{◌≡◌, ℕ, ◌+◌, Bool, true, List, [], ◌++◌, drop, length}
+use Rattle.std.specs.Prelude.{◌≡◌, ℕ, ◌+◌, List, [], ◌++◌, drop, length}
 use Rattle.hfs_rescue.specs.declared.catalog.FoundRecord.{FoundRecord}
 use Rattle.hfs_table.specs.Lines.{bag_head}
 use Rattle.hfs_rescue_items.specs.declared.fork_reading.ForkReading.{ForkReading}
@@ -23,12 +23,15 @@ reading_rest image found (reading.Table lines) = bag_head ++ lines_rest (item_li
 reading_rest image found (reading.Items lines) = lines_rest (item_line found) lines
 reading_rest image found (reading.Remains lines) = lines_rest (remains_line found) lines
 
--- so many bytes were read of what was left, and none only where none are left; they are the next ones where the image's bytes are known
-pub record Reads (known : Bool) (piece old new : List ℕ) : Type 0 where
-  pub bytes : known ≡ true → old ≡ piece ++ new
-  pub fewer : length old ≡ length piece + length new
+-- the next bytes were read of what was left, and none only where none are left
+pub record Reads (piece old new : List ℕ) : Type 0 where
+  pub bytes : old ≡ piece ++ new
   pub none : piece ≡ [] → new ≡ []
+
+-- so many bytes were read of what was left
+abbrev pub IsFewer : List ℕ → List ℕ → List ℕ → Type 0
+IsFewer piece old new = length old ≡ length piece + length new
 
 -- these are the next lines
 abbrev pub ReadsLines : (ℕ → FoundRecord → List ℕ) → List ℕ → Lines → Lines → Type 0
-ReadsLines line piece old new = Reads true piece (lines_rest line old) (lines_rest line new)
+ReadsLines line piece old new = Reads piece (lines_rest line old) (lines_rest line new)

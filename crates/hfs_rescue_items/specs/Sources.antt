@@ -1,6 +1,5 @@
 -- What remains of a volume as the source of a bag.
 use Rattle.std.specs.Prelude.{ℕ, ◌-◌, Bool, true, false, if◌then◌else◌, List, [], drop, map, replicate, take, Option, None, Some, string_bytes}
-use Rattle.std.specs.Option.{is_some}
 use Rattle.hfs_bag.specs.declared.item.BagKind.{BagKind}
 use Rattle.hfs_bag.specs.declared.item.BagKind.TheVariants as bag
 use Rattle.hfs_bag.specs.declared.source.Stream.{Stream}
@@ -15,7 +14,7 @@ use Rattle.hfs_rescue_items.specs.declared.came.Came.{Came}
 use Rattle.hfs_rescue_items.specs.declared.found.Found.{Found}
 use Rattle.hfs_rescue_items.specs.declared.plan.Planned.{Planned}
 use Rattle.hfs_rescue_items.specs.declared.reading.Reading.{Reading}
-use Rattle.hfs_rescue_items.specs.Bytes.{image_in, taken_bytes}
+use Rattle.hfs_rescue_items.specs.Bytes.{taken_bytes}
 use Rattle.hfs_rescue_items.specs.Found.{path_at, told_at}
 use Rattle.hfs_rescue_items.specs.Lines.{remains_text, table_text}
 use Rattle.hfs_rescue_items.specs.Reading.{reading_rest}
@@ -85,13 +84,12 @@ part_stream image found planned stream.Remains = remains_text found
 abbrev pub rescued_tables : Found → BagTables
 rescued_tables found = record { items = table_text found; remains = Some (remains_text found) }
 
--- the plan, of which the part from a place on is to come, this came, and this is still to be read, of an image whose bytes may be known
-abbrev pub source_of : Option (List ℕ) → Found → List Planned → ℕ → Came → Reading → SourceState
-source_of known found plan next came reading = record {
-  known = is_some known;
-  all = map (planned_item (image_in known) found) plan;
-  left = map (planned_item (image_in known) found) (drop next plan);
-  item = came_item (image_in known) found came;
-  bytes = reading_rest (image_in known) found reading;
+-- the plan, of which the part from a place on is to come, this came, and this is still to be read, of an image
+abbrev pub source_of : List ℕ → Found → List Planned → ℕ → Came → Reading → SourceState
+source_of image found plan next came reading = record {
+  all = map (planned_item image found) plan;
+  left = map (planned_item image found) (drop next plan);
+  item = came_item image found came;
+  bytes = reading_rest image found reading;
   tables = rescued_tables found;
 }

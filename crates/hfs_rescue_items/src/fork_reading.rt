@@ -1,10 +1,9 @@
 //! Forks that are read piece by piece.
-ghost use Rattle.std.specs.Prelude.{◌≡◌, ◌*◌, ◌≤◌, ◌<◌, ℕ, List, [], drop, length, replicate, IfErr, IfOk, IfSome, OnOk};
-ghost use Rattle.std.specs.Option.{is_some};
+ghost use Rattle.std.specs.Prelude.{◌≡◌, ◌*◌, ◌≤◌, ◌<◌, ℕ, List, [], drop, length, replicate, IfErr, IfOk, OnOk};
 ghost use Rattle.hfs_remains.specs.ForkBytes.{filled, fork_bytes};
-ghost use Rattle.hfs_sparse.specs.Sparse.{HoldsFrom};
-ghost use Rattle.hfs_rescue_items.specs.Bytes.{image_in, piece_bytes};
-ghost use Rattle.hfs_rescue_items.specs.Reading.{Reads, fork_rest};
+ghost use Rattle.hfs_source.specs.Images.{HasAt, OfEach};
+ghost use Rattle.hfs_rescue_items.specs.Bytes.{piece_bytes};
+ghost use Rattle.hfs_rescue_items.specs.Reading.{IsFewer, Reads, fork_rest};
 
 use crate::piece::Piece;
 use crate::pieces::pieces_of;
@@ -65,9 +64,10 @@ fn fill_whole<S: BlockSource>(
     len: usize,
     piece: &mut Vec<u8>,
 ) -> Result<(), SourceFault>
-    ensures read { OnOk result (HoldsFrom (S.image source.old) (512 * first) piece.new.items) }
+    ensures read { OnOk result (OfEach (S.Holds source.new)
+        (HasAt (512 * first) piece.new.items)) }
     ensures len { OnOk result (length piece.new.items ≡ len) }
-    ensures image { S.image source.new ≡ S.image source.old }
+    ensures narrows { OfEach (S.Holds source.new) (S.Holds source.old) }
 {
     let Ok(()) = piece.resize(len, 0) else {
         return Err(SourceFault::Memory);
@@ -86,10 +86,10 @@ fn fill_blocks<S: BlockSource>(
     piece: &mut Vec<u8>,
 ) -> Result<(), SourceFault>
     requires { len ≤ 65536 }
-    ensures read { OnOk result (IfSome (S.image source.old)
+    ensures read { OnOk result (OfEach (S.Holds source.new)
         (λ image. piece.new.items ≡ filled len (drop (512 * first) image))) }
     ensures len { OnOk result (length piece.new.items ≡ len) }
-    ensures image { S.image source.new ≡ S.image source.old }
+    ensures narrows { OfEach (S.Holds source.new) (S.Holds source.old) }
 {
     let blocks = len.div_ceil(512) as usize;
     fill_whole(source, first, blocks * 512, piece)?;
@@ -103,10 +103,10 @@ fn fill_piece<S: BlockSource>(
     next: Piece,
     piece: &mut Vec<u8>,
 ) -> Result<(), SourceFault>
-    ensures read { OnOk result (IfSome (S.image source.old)
+    ensures read { OnOk result (OfEach (S.Holds source.new)
         (λ image. piece.new.items ≡ piece_bytes image next)) }
     ensures len { OnOk result (length piece.new.items ≡ next.len) }
-    ensures image { S.image source.new ≡ S.image source.old }
+    ensures narrows { OfEach (S.Holds source.new) (S.Holds source.old) }
 {
     match next.first {
         Some(first) => fill_blocks(source, first, next.len, piece),
@@ -115,17 +115,18 @@ fn fill_piece<S: BlockSource>(
 }
 
 /// Reads the next bytes of a fork, at most 65,536, in the place of a piece, and none where none are left.
-#[tactic(auto, using(crate::proofs::ReadLemmas::reads_none))]
+#[tactic(auto, using(crate::proofs::ReadLemmas::reads_none, crate::proofs::ReadLemmas::fewer_none))]
 pub(crate) fn read_fork<S: BlockSource>(
     source: &mut S,
     fork: &mut ForkReading,
     piece: &mut Vec<u8>,
 ) -> Result<(), SourceFault>
-    ensures read { OnOk result (Reads (is_some (S.image source.old)) piece.new.items
-        (fork_rest (image_in (S.image source.old)) fork.old)
-        (fork_rest (image_in (S.image source.old)) fork.new)) }
+    ensures read { OnOk result (OfEach (S.Holds source.new)
+        (λ image. Reads piece.new.items (fork_rest image fork.old) (fork_rest image fork.new))) }
+    ensures fewer { OnOk result (IsFewer piece.new.items (fork_rest [] fork.old)
+        (fork_rest [] fork.new)) }
     ensures fault { IfErr result (λ _. fork.old.next < length fork.old.pieces.items) }
-    ensures image { S.image source.new ≡ S.image source.old }
+    ensures narrows { OfEach (S.Holds source.new) (S.Holds source.old) }
 {
     if fork.next >= fork.pieces.len() {
         piece.clear();

@@ -1,9 +1,8 @@
 //! A fork that is written as it is read.
-ghost use Rattle.std.specs.Prelude.{◌≡◌, false, Err, IfOk, OnErr, OnOk};
-ghost use Rattle.std.specs.Option.{is_some};
+ghost use Rattle.std.specs.Prelude.{◌≡◌, ◌<◌, [], false, true, length, Err, IfOk, OnErr, OnOk};
 ghost use Rattle.hfs_remains.specs.ForkBytes.{fork_bytes};
 ghost use Rattle.hfs_texts.specs.Writing.{AppendsFront};
-ghost use Rattle.hfs_rescue_items.specs.Bytes.{image_in};
+ghost use Rattle.hfs_source.specs.Images.{OfEach};
 ghost use Rattle.hfs_rescue_items.specs.Reading.{fork_rest};
 ghost use Rattle.hfs_rescue_items.specs.Writing.{MovesPiece, WritesFrontOf, WritesOf};
 
@@ -34,7 +33,7 @@ fn copy_fault(fault: SourceFault, is_begun: bool) -> CopyFault
 }
 
 /// Reads the next bytes of a fork and writes them, and answers whether there were any.
-#[tactic(auto, using(crate::proofs::WritingLemmas::none_moved, crate::proofs::WritingLemmas::piece_moved, crate::proofs::WritingLemmas::piece_front, crate::proofs::WritingLemmas::rest_front))]
+#[tactic(auto, using(crate::proofs::WritingLemmas::none_moved, crate::proofs::WritingLemmas::no_more, crate::proofs::WritingLemmas::piece_moved, crate::proofs::WritingLemmas::piece_fewer, crate::proofs::WritingLemmas::piece_front, crate::proofs::WritingLemmas::nothing_written))]
 fn write_next<S: BlockSource, W: Write>(
     source: &mut S,
     reading: &mut ForkReading,
@@ -42,17 +41,18 @@ fn write_next<S: BlockSource, W: Write>(
     is_begun: bool,
     writer: &mut W,
 ) -> Result<bool, CopyFault>
-    ensures moved { IfOk result (λ more. MovesPiece (is_some (S.image source.old)) more
+    ensures moved { IfOk result (λ more. OfEach (S.Holds source.new) (λ image. MovesPiece more
         (W.contents writer.old) (W.contents writer.new)
-        (fork_rest (image_in (S.image source.old)) reading.old)
-        (fork_rest (image_in (S.image source.old)) reading.new)) }
-    ensures part { OnErr result (WritesFrontOf (S.image source.old) (W.contents writer.old)
+        (fork_rest image reading.old) (fork_rest image reading.new))) }
+    ensures fewer { IfOk result (λ more. more ≡ true →
+        length (fork_rest [] reading.new) < length (fork_rest [] reading.old)) }
+    ensures part { OnErr result (WritesFrontOf (S.Holds source.new) (W.contents writer.old)
         (W.contents writer.new) (λ image. fork_rest image reading.old)) }
     ensures none { result ≡ Err CopyFault.ReadFailed → writer.new ≡ writer.old }
     ensures none_begun { result ≡ Err CopyFault.ReadFailed → is_begun ≡ false }
     ensures memory { result ≡ Err CopyFault.Memory → writer.new ≡ writer.old }
     ensures memory_begun { result ≡ Err CopyFault.Memory → is_begun ≡ false }
-    ensures image { S.image source.new ≡ S.image source.old }
+    ensures narrows { OfEach (S.Holds source.new) (S.Holds source.old) }
 {
     match read_fork(source, reading, piece) {
         Ok(()) => {}
@@ -70,7 +70,7 @@ fn write_next<S: BlockSource, W: Write>(
 /// Writes the bytes of a fork that was found, at most 65,536 at a time, as they are read: memory doesn't grow with them. Errors: a read
 /// failed or memory was refused, before anything was written; either behind bytes that were written (`BrokenOff`), or the writer
 /// failed: then a part of the fork may have gone out, from its first byte on, and nothing else.
-#[tactic(auto, using(crate::proofs::WritingLemmas::begun, crate::proofs::WritingLemmas::goes_on, crate::proofs::WritingLemmas::ended_front, crate::proofs::WritingLemmas::all_written, crate::proofs::WritingLemmas::nothing_front))]
+#[tactic(auto, using(crate::proofs::WritingLemmas::begun, crate::proofs::WritingLemmas::goes_on, crate::proofs::WritingLemmas::ended_front, crate::proofs::WritingLemmas::all_written, crate::proofs::WritingLemmas::nothing_written))]
 pub fn write_fork<S: BlockSource, W: Write>(
     alloc: Global,
     source: &mut S,
@@ -78,13 +78,13 @@ pub fn write_fork<S: BlockSource, W: Write>(
     fork: &FoundFork,
     writer: &mut W,
 ) -> Result<(), CopyFault>
-    ensures written { OnOk result (WritesOf (S.image source.old) (W.contents writer.old) (W.contents writer.new)
+    ensures written { OnOk result (WritesOf (S.Holds source.new) (W.contents writer.old) (W.contents writer.new)
         (λ image. fork_bytes image mdb.now fork.now.length fork.now.places.items)) }
-    ensures part { OnErr result (WritesFrontOf (S.image source.old) (W.contents writer.old) (W.contents writer.new)
+    ensures part { OnErr result (WritesFrontOf (S.Holds source.new) (W.contents writer.old) (W.contents writer.new)
         (λ image. fork_bytes image mdb.now fork.now.length fork.now.places.items)) }
     ensures none { result ≡ Err CopyFault.ReadFailed → writer.new ≡ writer.old }
     ensures memory { result ≡ Err CopyFault.Memory → writer.new ≡ writer.old }
-    ensures image { S.image source.new ≡ S.image source.old }
+    ensures narrows { OfEach (S.Holds source.new) (S.Holds source.old) }
 {
     let mut reading = match begin_fork(alloc, mdb, fork) {
         Ok(reading) => reading,

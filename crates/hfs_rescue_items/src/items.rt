@@ -1,6 +1,7 @@
 //! What remains of a volume, for a bag.
-ghost use Rattle.std.specs.Prelude.{◌≡◌, ⊤, ℕ, List, IfErr, IfOk, MatchResult};
-ghost use Rattle.hfs_bag.specs.Sources.{HasOpened, HasRead, HasRestarted, TakesItem};
+ghost use Rattle.std.specs.Prelude.{◌≡◌, ◌+◌, ◌-◌, ⊤, ℕ, List, [], length, IfErr, IfOk, MatchResult, OnOk};
+ghost use Rattle.hfs_bag.specs.Sources.{HasOpened, HasRead, HasRestarted, IsFewer, TakesItem};
+ghost use Rattle.hfs_source.specs.Images.{OfEach};
 ghost use Rattle.hfs_rescue_items.specs.Faults.{FailsToComeAt, FailsToOpen, FailsToRead, Never};
 ghost use Rattle.hfs_rescue_items.specs.Plan.{whole_plan};
 ghost use Rattle.hfs_rescue_items.specs.Reading.{reading_rest};
@@ -88,13 +89,17 @@ fn open_stream<'a>(
 }
 
 impl<'a, S: BlockSource + Drop> RescueItems<'a, S> {
-    /// What was found of an image, from its first item on; the bytes of forks are read from this source. The only error is want of memory.
-    pub fn new(alloc: Global, found: Found<'a>, source: S) -> Result<RescueItems<'a, S>, AllocError>
+    /// What was found of an image, from its first item on; the bytes of forks are read from this source. The only error is want of memory, and
+    /// the source comes back.
+    pub fn new(alloc: Global, found: Found<'a>, source: S) -> Result<RescueItems<'a, S>, S>
         ensures found { IfOk result (λ made. made.found ≡ found.entry) }
-        ensures source { IfOk result (λ made. S.image made.source ≡ S.image source) }
+        ensures source { IfOk result (λ made. made.source ≡ source) }
         ensures plan { IfOk result (λ made. made.plan.items ≡ whole_plan found.entry) }
+        ensures back { IfErr result (λ back. back ≡ source) }
     {
-        let plan = plan_of(alloc, &found)?;
+        let Ok(plan) = plan_of(alloc, &found) else {
+            return Err(source);
+        };
         Ok(RescueItems {
             alloc,
             found,
@@ -105,10 +110,32 @@ impl<'a, S: BlockSource + Drop> RescueItems<'a, S> {
             reading: Reading::Fork(empty_fork(alloc)),
         })
     }
+
+    /// The source that the bytes of forks were read from.
+    pub fn into_source(self) -> S
+        ensures { result ≡ self.entry.source }
+    {
+        let RescueItems {
+            alloc: _,
+            found: _,
+            source,
+            plan: _,
+            next: _,
+            came: _,
+            reading: _,
+        } = self;
+        source
+    }
 }
 
 impl<S: BlockSource> BagSource for RescueItems<'_, S> {
-    ghost state = { λ items. source_of (S.image items.source) items.found items.plan.items items.next items.came items.reading };
+    ghost Holds = { λ items. S.Holds items.source };
+
+    ghost state = { λ items image. source_of image items.found items.plan.items items.next items.came items.reading };
+
+    ghost items_left = { λ items. length items.plan.items - items.next };
+
+    ghost bytes_left = { λ items. length (reading_rest [] items.found items.reading) };
 
     ghost Fails = { λ _. ⊤ };
 
@@ -118,24 +145,24 @@ impl<S: BlockSource> BagSource for RescueItems<'_, S> {
 
     #[tactic(auto, using(crate::proofs::SourceLemmas::has_restarted))]
     fn restart(&mut self) -> Result<(), SourceFault>
-        ensures restarted { MatchResult result (λ _. HasRestarted
-            (source_of (S.image self.old.source) self.old.found self.old.plan.items self.old.next self.old.came
-            self.old.reading)
-            (source_of (S.image self.new.source) self.new.found self.new.plan.items self.new.next self.new.came
-            self.new.reading)) (λ _. ⊤) }
+        ensures restarted { MatchResult result (λ _. OfEach (S.Holds self.new.source) (λ image. HasRestarted
+            (source_of image self.old.found self.old.plan.items self.old.next self.old.came self.old.reading)
+            (source_of image self.new.found self.new.plan.items self.new.next self.new.came self.new.reading))) (λ _. ⊤) }
+        ensures narrows { OfEach (S.Holds self.new.source) (S.Holds self.old.source) }
         ensures fault { IfErr result Never }
     {
         self.next = 0;
         Ok(())
     }
 
-    #[tactic(auto, using(crate::proofs::SourceLemmas::has_no_item))]
+    #[tactic(auto, using(crate::proofs::SourceLemmas::has_no_item, crate::proofs::SourceLemmas::plan_fewer))]
     fn next_item(&mut self) -> Result<Option<BagHead>, SourceFault>
-        ensures taken { MatchResult result (TakesItem
-            (source_of (S.image self.old.source) self.old.found self.old.plan.items self.old.next self.old.came
-            self.old.reading)
-            (source_of (S.image self.new.source) self.new.found self.new.plan.items self.new.next self.new.came
-            self.new.reading)) (λ _. ⊤) }
+        ensures taken { MatchResult result (λ head. OfEach (S.Holds self.new.source) (λ image. TakesItem
+            (source_of image self.old.found self.old.plan.items self.old.next self.old.came self.old.reading)
+            (source_of image self.new.found self.new.plan.items self.new.next self.new.came self.new.reading) head)) (λ _. ⊤) }
+        ensures fewer { IfOk result (IsFewer (length self.old.plan.items - self.old.next)
+            (length self.new.plan.items - self.new.next)) }
+        ensures narrows { OfEach (S.Holds self.new.source) (S.Holds self.old.source) }
         ensures fault { IfErr result (FailsToComeAt self.old.found self.old.plan.items self.old.next) }
     {
         if self.next >= self.plan.len() {
@@ -158,11 +185,12 @@ impl<S: BlockSource> BagSource for RescueItems<'_, S> {
 
     #[tactic(auto, using(crate::proofs::SourceLemmas::has_opened))]
     fn open(&mut self, stream: Stream) -> Result<(), SourceFault>
-        ensures opened { MatchResult result (λ _. HasOpened stream
-            (source_of (S.image self.old.source) self.old.found self.old.plan.items self.old.next self.old.came
-            self.old.reading)
-            (source_of (S.image self.new.source) self.new.found self.new.plan.items self.new.next self.new.came
-            self.new.reading)) (λ _. ⊤) }
+        ensures opened { MatchResult result (λ _. OfEach (S.Holds self.new.source) (λ image. HasOpened stream
+            (source_of image self.old.found self.old.plan.items self.old.next self.old.came self.old.reading)
+            (source_of image self.new.found self.new.plan.items self.new.next self.new.came self.new.reading))) (λ _. ⊤) }
+        ensures stays { length self.new.plan.items - self.new.next
+            ≡ length self.old.plan.items - self.old.next }
+        ensures narrows { OfEach (S.Holds self.new.source) (S.Holds self.old.source) }
         ensures fault { IfErr result (FailsToOpen stream) }
     {
         self.reading = open_stream(self.alloc, &self.found, self.came.planned, stream)?;
@@ -171,11 +199,14 @@ impl<S: BlockSource> BagSource for RescueItems<'_, S> {
 
     #[tactic(auto, using(crate::proofs::SourceLemmas::has_read))]
     fn read(&mut self, piece: &mut Vec<u8>) -> Result<(), SourceFault>
-        ensures read { MatchResult result (λ _. HasRead piece.new.items
-            (source_of (S.image self.old.source) self.old.found self.old.plan.items self.old.next self.old.came
-            self.old.reading)
-            (source_of (S.image self.new.source) self.new.found self.new.plan.items self.new.next self.new.came
-            self.new.reading)) (λ _. ⊤) }
+        ensures read { MatchResult result (λ _. OfEach (S.Holds self.new.source) (λ image. HasRead piece.new.items
+            (source_of image self.old.found self.old.plan.items self.old.next self.old.came self.old.reading)
+            (source_of image self.new.found self.new.plan.items self.new.next self.new.came self.new.reading))) (λ _. ⊤) }
+        ensures fewer { OnOk result (length (reading_rest [] self.old.found self.old.reading)
+            ≡ length piece.new.items + length (reading_rest [] self.new.found self.new.reading)) }
+        ensures stays { length self.new.plan.items - self.new.next
+            ≡ length self.old.plan.items - self.old.next }
+        ensures narrows { OfEach (S.Holds self.new.source) (S.Holds self.old.source) }
         ensures fault { IfErr result (FailsToRead self.old.reading) }
     {
         read_next(

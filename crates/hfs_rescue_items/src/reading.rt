@@ -1,11 +1,10 @@
 //! What of a source is being read.
 ghost use Rattle.std.specs.Prelude.{◌≡◌, ◌++◌, [], IfErr, OnOk};
-ghost use Rattle.std.specs.Option.{is_some};
 ghost use Rattle.hfs_table.specs.Lines.{bag_head};
-ghost use Rattle.hfs_rescue_items.specs.Bytes.{image_in};
+ghost use Rattle.hfs_source.specs.Images.{OfEach};
 ghost use Rattle.hfs_rescue_items.specs.Faults.{FailsToRead, WantsMemory};
 ghost use Rattle.hfs_rescue_items.specs.Lines.{item_line, remains_line};
-ghost use Rattle.hfs_rescue_items.specs.Reading.{ReadsLines, Reads, reading_rest};
+ghost use Rattle.hfs_rescue_items.specs.Reading.{IsFewer, Reads, ReadsLines, reading_rest};
 
 use crate::fork_reading::{ForkReading, read_fork};
 use crate::found::Found;
@@ -97,7 +96,7 @@ fn push_table_head(piece: &mut Vec<u8>) -> Result<(), SourceFault>
 }
 
 /// Reads the next bytes of a stream in the place of a piece, and none where none are left.
-#[tactic(auto, using(crate::proofs::LineLemmas::lines_read))]
+#[tactic(auto, using(crate::proofs::LineLemmas::lines_fewer))]
 pub(crate) fn read_next<'a, S: BlockSource>(
     alloc: Global,
     source: &mut S,
@@ -105,11 +104,12 @@ pub(crate) fn read_next<'a, S: BlockSource>(
     reading: &mut Reading<'a>,
     piece: &mut Vec<u8>,
 ) -> Result<(), SourceFault>
-    ensures read { OnOk result (Reads (is_some (S.image source.old)) piece.new.items
-        (reading_rest (image_in (S.image source.old)) found.now reading.old)
-        (reading_rest (image_in (S.image source.old)) found.now reading.new)) }
+    ensures read { OnOk result (OfEach (S.Holds source.new) (λ image. Reads piece.new.items
+        (reading_rest image found.now reading.old) (reading_rest image found.now reading.new))) }
+    ensures fewer { OnOk result (IsFewer piece.new.items (reading_rest [] found.now reading.old)
+        (reading_rest [] found.now reading.new)) }
     ensures fault { IfErr result (FailsToRead reading.old) }
-    ensures image { S.image source.new ≡ S.image source.old }
+    ensures narrows { OfEach (S.Holds source.new) (S.Holds source.old) }
 {
     piece.clear();
     match reading {

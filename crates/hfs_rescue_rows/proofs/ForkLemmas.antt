@@ -1,7 +1,6 @@
 -- What is written of a fork that is found, and whether it is whole.
 use Rattle.std.proofs.Common.{◌≡◌, ◌∙◌, ℕ, Bool, List, [], Option, Some, None, sym, ap, subst}
 use Rattle.std.specs.Option.{IsSomeAnd, option_map}
-use Rattle.std.specs.Prelude.{IfSome}
 use Rattle.std.proofs.KnownBytes.{Appends-nil}
 use Rattle.std.specs.Io.KnownBytes.{Appends}
 use Rattle.hfs_texts.specs.Writing.{AppendsFront}
@@ -35,10 +34,9 @@ module _ (found : Found) (kind : ForkKind) (i : ℕ) where
   found_whole part fork some finds = whole-by fork (shares_at found.salvage.now i) (subst (FindsFork found.salvage.now i kind) some finds)
 
   -- nothing is written of a folder
-  pub none_written : (known old : Option (List ℕ)) (part : Option FoundFork) → part ≡ None → ((image : List ℕ) → GivesBytes image found (taken_bytes image found kind i) part)
-      → WritesOf known old old (λ image. taken_bytes image found kind i)
-  none_written None old part none gives = tt
-  none_written (Some image) old part none gives =
+  pub none_written : (Holds : List ℕ → Type 0) (old : Option (List ℕ)) (part : Option FoundFork) → part ≡ None → ((image : List ℕ) → GivesBytes image found (taken_bytes image found kind i) part)
+      → WritesOf Holds old old (λ image. taken_bytes image found kind i)
+  none_written Holds old part none gives = λ image h.
       let is : taken_bytes image found kind i ≡ [] = subst (GivesBytes image found (taken_bytes image found kind i)) none (gives image) in
       subst (Appends old old) (sym is) (Appends-nil old)
 
@@ -47,20 +45,17 @@ module _ (found : Found) (kind : ForkKind) (i : ℕ) where
   bytes-are image part fork some gives = (subst (GivesBytes image found (taken_bytes image found kind i)) some gives).bytes_are
 
   -- what is written of a fork is what is taken of it
-  pub fork_written : (known old new : Option (List ℕ)) (part : Option FoundFork) (fork : FoundFork) → part ≡ Some fork
+  pub fork_written : (Holds : List ℕ → Type 0) (old new : Option (List ℕ)) (part : Option FoundFork) (fork : FoundFork) → part ≡ Some fork
       → ((image : List ℕ) → GivesBytes image found (taken_bytes image found kind i) part)
-      → WritesOf known old new (λ image. fork_bytes image found.mdb.now fork.length fork.places.items) → WritesOf known old new (λ image. taken_bytes image found kind i)
-  fork_written None old new part fork some gives written = tt
-  fork_written (Some image) old new part fork some gives written = subst (Appends old new) (bytes-are image part fork some (gives image)) written
+      → WritesOf Holds old new (λ image. fork_bytes image found.mdb.now fork.length fork.places.items) → WritesOf Holds old new (λ image. taken_bytes image found kind i)
+  fork_written Holds old new part fork some gives written = λ image h. subst (Appends old new) (bytes-are image part fork some (gives image)) (written image h)
 
   -- or a part of it
-  pub fork_front : (known old new : Option (List ℕ)) (part : Option FoundFork) (fork : FoundFork) → part ≡ Some fork
+  pub fork_front : (Holds : List ℕ → Type 0) (old new : Option (List ℕ)) (part : Option FoundFork) (fork : FoundFork) → part ≡ Some fork
       → ((image : List ℕ) → GivesBytes image found (taken_bytes image found kind i) part)
-      → WritesFrontOf known old new (λ image. fork_bytes image found.mdb.now fork.length fork.places.items) → WritesFrontOf known old new (λ image. taken_bytes image found kind i)
-  fork_front None old new part fork some gives front = tt
-  fork_front (Some image) old new part fork some gives front = subst (AppendsFront old new) (bytes-are image part fork some (gives image)) front
+      → WritesFrontOf Holds old new (λ image. fork_bytes image found.mdb.now fork.length fork.places.items) → WritesFrontOf Holds old new (λ image. taken_bytes image found kind i)
+  fork_front Holds old new part fork some gives front = λ image h. subst (AppendsFront old new) (bytes-are image part fork some (gives image)) (front image h)
 
   -- nothing was written yet
-  pub nothing_front : (known old : Option (List ℕ)) → WritesFrontOf known old old (λ image. taken_bytes image found kind i)
-  nothing_front None old = tt
-  nothing_front (Some image) old = (0, Appends-nil old)
+  pub nothing_front : (Holds : List ℕ → Type 0) (old : Option (List ℕ)) → WritesFrontOf Holds old old (λ image. taken_bytes image found kind i)
+  nothing_front Holds old = λ image h. (0, Appends-nil old)

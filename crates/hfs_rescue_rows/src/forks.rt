@@ -1,5 +1,6 @@
 //! A fork of an item, as it is taken.
 ghost use Rattle.std.specs.Prelude.{◌≡◌, Err, IfOk, OnErr, OnOk};
+ghost use Rattle.hfs_source.specs.Images.{OfEach};
 ghost use Rattle.hfs_rescue_items.specs.Bytes.{taken_bytes};
 ghost use Rattle.hfs_rescue_items.specs.Writing.{WritesFrontOf, WritesOf};
 ghost use Rattle.hfs_rescue_rows.specs.Forks.{whole_fork};
@@ -23,13 +24,13 @@ pub fn write_item_fork<S: BlockSource, W: Write>(
     writer: &mut W,
 ) -> Result<Option<bool>, CopyFault>
     ensures whole { IfOk result (λ whole. whole ≡ whole_fork found.now kind i) }
-    ensures written { OnOk result (WritesOf (S.image source.old) (W.contents writer.old) (W.contents writer.new)
+    ensures written { OnOk result (WritesOf (S.Holds source.new) (W.contents writer.old) (W.contents writer.new)
         (λ image. taken_bytes image found.now kind i)) }
-    ensures part { OnErr result (WritesFrontOf (S.image source.old) (W.contents writer.old) (W.contents writer.new)
+    ensures part { OnErr result (WritesFrontOf (S.Holds source.new) (W.contents writer.old) (W.contents writer.new)
         (λ image. taken_bytes image found.now kind i)) }
     ensures none { result ≡ Err CopyFault.ReadFailed → writer.new ≡ writer.old }
     ensures memory { result ≡ Err CopyFault.Memory → writer.new ≡ writer.old }
-    ensures image { S.image source.new ≡ S.image source.old }
+    ensures narrows { OfEach (S.Holds source.new) (S.Holds source.old) }
 {
     let Ok(part) = found.fork(alloc, i, kind) else {
         return Err(CopyFault::Memory);

@@ -1,11 +1,11 @@
 //! The trait of sources.
-ghost use Rattle.std.specs.Prelude.{◌≡◌, List, IfOk, OnOk};
+ghost use Rattle.std.specs.Prelude.{◌≡◌, List, IfErr, IfOk, OnOk};
 ghost use Rattle.hfs_rows.specs.Taken.{TakenRow};
 
 use crate::taker::RowTaker;
 
 /// What has rows for a taker. Contracts know a source by the rows that it gives: how the list of a taker that was given
-/// all of them stands to the one before.
+/// all of them stands to the one before. Giving them may read the source, so they are told by what it was and what it is then.
 pub trait RowSource {
     /// What is told of the rows, once all are given.
     type Told: Copy;
@@ -13,14 +13,18 @@ pub trait RowSource {
     /// Why they were not all given.
     type Fault: Copy;
 
-    ghost Gives: { Self → List TakenRow → List TakenRow → Type 0 };
+    ghost Gives: { Self → Self → List TakenRow → List TakenRow → Type 0 };
 
-    ghost Tells: { Self → Self.Told → Type 0 };
+    ghost Tells: { Self → Self → Self.Told → Type 0 };
+
+    /// Which fault may be told.
+    ghost Fails: { Self → Self → Self.Fault → Type 0 };
 
     /// Gives a taker all rows, in their order.
-    fn give<T: RowTaker>(&self, taker: &mut T) -> Result<Self::Told, Self::Fault>
-        ensures whole { OnOk result (Gives self.now (T.given taker.old) (T.given taker.new)) }
-        ensures told { IfOk result (Tells self.now) }
+    fn give<T: RowTaker>(&mut self, taker: &mut T) -> Result<Self::Told, Self::Fault>
+        ensures whole { OnOk result (Gives self.old self.new (T.given taker.old) (T.given taker.new)) }
+        ensures told { IfOk result (Tells self.old self.new) }
+        ensures fault { IfErr result (Fails self.old self.new) }
         ensures reference { T.reference taker.new ≡ T.reference taker.old }
         ensures place { T.place taker.new ≡ T.place taker.old };
 }

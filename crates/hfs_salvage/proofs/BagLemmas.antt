@@ -1,16 +1,19 @@
 -- What is given of what was found is given of the image.
-use Rattle.std.proofs.Common.{◌≡◌, ◌∙◌, ℕ, List, [], ◌++◌, map, Option, None, Some, refl, sym, ap, subst}
-use Rattle.std.specs.Prelude.{string_bytes, unwrap_or}
+use Rattle.std.proofs.Common.{◌≡◌, ◌∙◌, ℕ, List, [], ◌++◌, map, Option, None, Some, Result, Ok, Err, OnErr, OnOk, sym, ap, subst}
+use Rattle.std.specs.Prelude.{IfErr, IfOk, string_bytes}
 use Rattle.std.specs.Option.{option_map}
 use Rattle.hfs_bag.specs.declared.facts.BagFacts.{BagFacts}
+use Rattle.hfs_bag.specs.declared.fault.BagFault.{BagFault}
+use Rattle.hfs_bag.specs.declared.sums.BagSums.{BagSums}
 use Rattle.hfs_bag.specs.Items.{BagItem}
 use Rattle.hfs_bag.specs.Tags.{bag_of}
 use Rattle.hfs_check.specs.declared.mount_fault.MountFault.{MountFault}
 use Rattle.hfs_commands.specs.Checks.{IsCheckFault}
 use Rattle.hfs_fields.specs.declared.mdb.Mdb.{Mdb}
 use Rattle.hfs_rescue_items.specs.declared.found.Found.{Found}
-use Rattle.hfs_rescue_items.specs.Bytes.{image_in}
-use Rattle.hfs_rescue_items.specs.Sources.{rescued_tables}
+use Rattle.hfs_rescue_items.specs.declared.plan.Planned.{Planned}
+use Rattle.hfs_rescue_items.specs.Plan.{whole_plan}
+use Rattle.hfs_rescue_items.specs.Sources.{planned_item, rescued_tables}
 use Rattle.hfs_shelves.proofs.Beginnings.{begins_appended}
 use Rattle.hfs_shelves.specs.Entries.{IsBeginning, ShelfEntry}
 use Rattle.hfs_check.specs.Report.{report_of}
@@ -19,11 +22,12 @@ use Rattle.hfs_finds.specs.Finds.{IsFoundIn, is_found_right, is_unsure}
 use Rattle.hfs_needed.specs.Known.{OfKnown}
 use Rattle.hfs_rescue.specs.Directory.{directory_of}
 use Rattle.hfs_take.specs.Bags.{text_in}
+use Rattle.hfs_sparse.specs.Seen.{EachKnown}
 use Rattle.hfs_salvage.specs.declared.answer.RescueAnswer.{RescueAnswer}
 use Rattle.hfs_salvage.specs.declared.facts.Told.{Told}
 use Rattle.hfs_salvage.specs.declared.words.BagWords.{BagWords}
 use Rattle.hfs_salvage.specs.declared.words.RescueWords.{RescueWords}
-use Rattle.hfs_salvage.specs.Answers.{IsAnswerBy, IsAnswerOf, IsKnownAnswer, answer_status, answer_text}
+use Rattle.hfs_salvage.specs.Answers.{IsAnswerBy, IsAnswerOf, IsKnownAnswer, answer_status, answer_text, told_after}
 use Rattle.hfs_salvage.specs.Bags.{IsToldOf, OfBag, OfKnownBag, TellsOf, rescued_bag}
 use Rattle.hfs_salvage.specs.Found.{IsFoundOf}
 use Rattle.hfs_salvage.specs.Words.{limit_of, limit_or_usual}
@@ -85,12 +89,13 @@ tells_known (Some image) len mdb line words told facts is identifier program nam
   report_is = report ∙ is.report_is same;
 }
 
--- a fact about the bag of what was found is one about that of the image
-pub of_known_bag : (known : Option (List ℕ)) (len : ℕ) (line : Option (List ℕ)) (words : BagWords) (found : Found) (facts : BagFacts) (P : List ShelfEntry → Type 0)
-    → OfKnown known len (λ image. IsFoundOf image (limit_of words.words image) found) → OfKnown known len (λ image. TellsOf image found.mdb.now line words facts)
-    → ((image : List ℕ) → known ≡ Some image → P (rescued_bag image found facts)) → OfKnownBag known len line words P
-of_known_bag None len line words found facts P is tells given = tt
-of_known_bag (Some image) len line words found facts P is tells given = λ same. of-bag image line words found facts P (is same) (tells same) (given image refl)
+-- what was given of a source that was made of what was found of an image is given of its bag
+pub given_bag : (image : List ℕ) (len : ℕ) (line : Option (List ℕ)) (words : BagWords) (found made : Found) (plan : List Planned) (facts : BagFacts) (P : List ShelfEntry → Type 0)
+    → OfKnown (Some image) len (λ own. IsFoundOf own (limit_of words.words own) found) → OfKnown (Some image) len (λ own. TellsOf own found.mdb.now line words facts)
+    → made ≡ found → plan ≡ whole_plan found → P (bag_of (map (planned_item image made) plan) (rescued_tables made) facts) → OfKnownBag (Some image) len line words P
+given_bag image len line words found made plan facts P is tells same planned given = λ long.
+    of-bag image line words found facts P (is long) (tells long)
+    (subst P (λ i. bag_of (map (planned_item image (same i)) (planned i)) (rescued_tables (same i)) facts) given)
 
 -- nothing was given yet
 pub nothing_given : (known : Option (List ℕ)) (len : ℕ) (line : Option (List ℕ)) (words : BagWords) (given : List ShelfEntry)
@@ -98,12 +103,45 @@ pub nothing_given : (known : Option (List ℕ)) (len : ℕ) (line : Option (List
 nothing_given None len line words given = tt
 nothing_given (Some image) len line words given = λ same found is facts tells. begins_appended given (rescued_bag image found facts)
 
--- the bag of a source that was made of what was found
-pub source_bag : {P : Type 0} (item : List ℕ → Found → P → BagItem) (whole : Found → List P) (known : Option (List ℕ)) (image : List ℕ) (made found : Found) (plan : List P) (facts : BagFacts)
-    → known ≡ Some image → made ≡ found → plan ≡ whole found
-    → bag_of (map (item (image_in known) made) plan) (rescued_tables made) facts ≡ bag_of (map (item image found) (whole found)) (rescued_tables found) facts
-source_bag item whole known image made found plan facts is same planned = λ i. bag_of (map (item (unwrap_or (is i) []) (same i)) (planned i)) (rescued_tables (same i)) facts
+-- nor where giving failed before
+pub none_given : (told : Result RescueAnswer BagFault) (why : BagFault) (Holds : List ℕ → Type 0) (len : ℕ) (line : Option (List ℕ)) (words : BagWords) (given : List ShelfEntry)
+    → told ≡ Err why → OnErr told (EachKnown Holds (λ known. OfKnownBag known len line words (λ bag. IsBeginning given (given ++ bag))))
+none_given told why Holds len line words given is =
+    subst (λ (r : Result RescueAnswer BagFault). OnErr r (EachKnown Holds (λ known. OfKnownBag known len line words (λ bag. IsBeginning given (given ++ bag))))) (sym is)
+    (λ image h. nothing_given (Some image) len line words given)
 
--- what is known of a bag whose image and line are these
-pub carry : (P : Option (List ℕ) → Option (List ℕ) → Type 0) (known known' : Option (List ℕ)) → known ≡ known' → (line line' : Option (List ℕ)) → line ≡ line' → P known line → P known' line'
-carry P known known' same line line' lines holds = subst (λ (k : Option (List ℕ)). P k line') same (subst (P known) lines holds)
+-- what a result fails for is this where it is that
+pub err_then : {A E : Type 0} (r : Result A E) (P Q : E → Type 0) → ((e : E) → P e → Q e) → IfErr r P → IfErr r Q
+err_then (Ok a) P Q by is = tt
+err_then (Err e) P Q by is = by e is
+
+-- ---- the answer behind a bag
+
+module _ (came : Result BagSums BagFault) (answer : RescueAnswer) (told : Result RescueAnswer BagFault) (same : told ≡ told_after came answer) where
+  pub told_ok : (P : Type 0) → OnOk came P → OnOk told P
+  told_ok P is = subst (λ (r : Result RescueAnswer BagFault). OnOk r P) (sym same) (by came is)
+    where
+      by : (r : Result BagSums BagFault) → OnOk r P → OnOk (told_after r answer) P
+      by (Ok sums) p = p
+      by (Err fault) p = tt
+
+  pub told_err : (P : Type 0) → OnErr came P → OnErr told P
+  told_err P is = subst (λ (r : Result RescueAnswer BagFault). OnErr r P) (sym same) (by came is)
+    where
+      by : (r : Result BagSums BagFault) → OnErr r P → OnErr (told_after r answer) P
+      by (Ok sums) p = tt
+      by (Err fault) p = p
+
+  pub told_fault : (P : BagFault → Type 0) → IfErr came P → IfErr told P
+  told_fault P is = subst (λ (r : Result RescueAnswer BagFault). IfErr r P) (sym same) (by came is)
+    where
+      by : (r : Result BagSums BagFault) → IfErr r P → IfErr (told_after r answer) P
+      by (Ok sums) p = tt
+      by (Err fault) p = p
+
+  pub told_answer : (P : RescueAnswer → Type 0) → P answer → IfOk told P
+  told_answer P is = subst (λ (r : Result RescueAnswer BagFault). IfOk r P) (sym same) (by came)
+    where
+      by : (r : Result BagSums BagFault) → IfOk (told_after r answer) P
+      by (Ok sums) = is
+      by (Err fault) = tt

@@ -16,9 +16,10 @@ mod RescueGivenLemmas
 mod JoinLemmas
 mod TakenPathLemmas
 pub mod LawsProved
-mod HeldLemmas
 mod PlacedLemmas
-mod UnfoundLemmas
 mod ThereLemmas
 mod BagSumLemmas
 mod ShownLemmas
+mod PagedLemmas
+mod RemainsLemmas
+mod LookedLemmas

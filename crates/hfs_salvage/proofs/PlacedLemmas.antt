@@ -1,5 +1,5 @@
 -- A bag that was given is the one that got its place, and one that was not is taken away.
-use Rattle.std.proofs.Common.{◌≡◌, ℕ, Bool, true, false, List, [], ◌∷◌, ◌++◌, Option, Result, Ok, Err, refl, sym, ap, subst, ◌∙◌, inl, inr}
+use Rattle.std.proofs.Common.{◌≡◌, ℕ, Bool, true, false, List, [], ◌∷◌, ◌++◌, Option, Some, Result, Ok, Err, refl, sym, ap, subst, ◌∙◌, inl, inr}
 use Rattle.std.specs.Prelude.{IfErr, IfOk}
 use Rattle.hfs_commands.specs.declared.fault.Fault.TheVariants.{NoMemory}
 use Rattle.hfs_shelves.specs.declared.fault.ShelfFault.{ShelfFault}
@@ -10,6 +10,8 @@ use Rattle.hfs_shelves.specs.Removals.{IsPlaced}
 use Rattle.hfs_shelves.specs.ShelfPaths.{IsNewFolder}
 use Rattle.hfs_shelves.specs.SystemSteps.{SystemStep, done, looked}
 use Rattle.hfs_shelves.specs.Told.{Tells}
+use Rattle.hfs_source.specs.Images.{OfEach}
+use Rattle.hfs_sparse.specs.Seen.{EachKnown}
 use Rattle.hfs_take.specs.declared.fault.TakeFault.{TakeFault}
 use Rattle.hfs_take.specs.declared.fault.TakeFault.TheVariants as take
 use Rattle.hfs_take.specs.declared.words.TakeWords.{TakeWords}
@@ -39,18 +41,24 @@ stays_told words was is (inr none) told = subst (IsTakeFault words) (sym none) (
 -- ---- a bag
 
 -- what was given to an empty folder lies in it
-pub bag-placed : {T E : Type 0} (known : Option (List ℕ)) (len : ℕ) (line : Option (List ℕ)) (words : BagWords) (folder now : List ℕ) (before given : List ShelfEntry)
+pub bag-placed : {T E : Type 0} (Holds : T → List ℕ → Type 0) (Now : List ℕ → Type 0) (len : ℕ) (line : Option (List ℕ)) (words : BagWords) (folder now : List ℕ) (before given : List ShelfEntry)
     (steps : T → List SystemStep) (came : Result T E) → before ≡ [] → now ≡ folder → IsNewFolder words.folder.now folder
-    → OfKnownBag known len line words (λ bag. given ≡ before ++ bag) → IfOk came (λ placed. IsPlaced words.folder.now now given (steps placed))
-    → IfOk came (λ placed. IsBagPlaced known len line words (steps placed))
-bag-placed known len line words folder now before given steps (Ok placed) empty same beside whole is = record {
+    → EachKnown Now (λ known. OfKnownBag known len line words (λ bag. given ≡ before ++ bag)) → IfOk came (λ placed. IsPlaced words.folder.now now given (steps placed))
+    → IfOk came (λ placed. OfEach (Holds placed) Now) → IfOk came (λ placed. IsBagPlaced (Holds placed) len line words (steps placed))
+bag-placed Holds Now len line words folder now before given steps (Ok placed) empty same beside whole is held = record {
   folder = now;
   beside = subst (IsNewFolder words.folder.now) (sym same) beside;
   entries = given;
   placed = is;
-  bag_is = subst (λ (b : List ShelfEntry). OfKnownBag known len line words (λ (bag : List ShelfEntry). given ≡ b ++ bag)) empty whole;
+  bag_is = λ image h. subst (λ (b : List ShelfEntry). OfKnownBag (Some image) len line words (λ (bag : List ShelfEntry). given ≡ b ++ bag)) empty (whole image (held image h));
 }
-bag-placed known len line words folder now before given steps (Err e) empty same beside whole is = tt
+bag-placed Holds Now len line words folder now before given steps (Err e) empty same beside whole is held = tt
+
+-- what holds of the source that comes back held of that which was given
+pub kept_source : {T E S : Type 0} (source_of : T → S) (source : S) (Holds : S → List ℕ → Type 0) (came : Result T E) → IfOk came (λ placed. source_of placed ≡ source)
+    → IfOk came (λ placed. OfEach (Holds (source_of placed)) (Holds source))
+kept_source source_of source Holds (Ok placed) same = λ image h. subst (λ s. Holds s image) same h
+kept_source source_of source Holds (Err e) same = tt
 
 -- and it is taken away where it gets no place
 pub bag-away : {T E : Type 0} (path folder now : List ℕ) (fault : E → TakeFault) (steps : E → List SystemStep) (old filled : List SystemStep) (came : Result T E)

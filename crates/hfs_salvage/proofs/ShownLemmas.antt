@@ -21,11 +21,12 @@ use Rattle.hfs_rescue_rows.specs.Forks.{whole_fork}
 use Rattle.hfs_rescue_rows.specs.Paths.{has_path, item_at, path_end}
 use Rattle.hfs_rescue_rows.specs.Rows.{child_row, found_row, selected_text}
 use Rattle.hfs_space.specs.declared.fork_kind.ForkKind.{ForkKind}
+use Rattle.hfs_sparse.specs.Seen.{EachKnown}
 use Rattle.hfs_texts.specs.Writing.{AppendsFront}
 use Rattle.hfs_salvage.specs.declared.words.RescueWords.{RescueWords}
 use Rattle.hfs_salvage.specs.Answers.{answer_status}
 use Rattle.hfs_salvage.specs.Found.{IsFoundOf}
-use Rattle.hfs_salvage.specs.Shown.{OfKnownFound, end_bytes, end_rows, folder_told, fork_told, found_status, told_whole}
+use Rattle.hfs_salvage.specs.Shown.{OfEachFound, OfKnownFound, end_bytes, end_rows, folder_told, fork_told, found_status, told_whole}
 use Rattle.hfs_salvage.specs.Words.{limit_of}
 use Rattle.hfs_salvage.proofs.SameLemmas.{Fits, Values, fits, holding, same-values, same_mdb, same_seen, values}
 
@@ -159,31 +160,32 @@ carried_by None len words found is fault finds check finds_are P given = tt
 carried_by (Some image) len words found is fault finds check finds_are P given = λ same other others.
     subst (P image) (same-shows image (limit_of words image) found other (is same) others) (given image (check same) (finds_are same))
 
--- what a result tells of what was found it tells of the image
-pub told_by : {T E : Type 0} (result : Result T E) (F : Shows → T) (known : Option (List ℕ)) (len : ℕ) (words : RescueWords) (found : Found)
-    → OfKnown known len (λ image. IsFoundOf image (limit_of words image) found) → (fault : Option MountFault) (finds : Finds) → OfKnown known len (IsCheckFault fault)
-    → OfKnown known len (λ image. IsFoundIn image (Some finds))
+-- what a result tells of what was found it tells of each image
+pub told_by_each : {T E : Type 0} (result : Result T E) (F : Shows → T) (len : ℕ) (words : RescueWords) (found : Found) (Holds : List ℕ → Type 0)
+    → EachKnown Holds (λ known. OfKnown known len (λ image. IsFoundOf image (limit_of words image) found)) → (fault : Option MountFault) (finds : Finds)
+    → EachKnown Holds (λ known. OfKnown known len (IsCheckFault fault)) → EachKnown Holds (λ known. OfKnown known len (λ image. IsFoundIn image (Some finds)))
     → ((image : List ℕ) → IsCheckFault fault image → IsFoundIn image (Some finds) → IfOk result (λ told. told ≡ F (shows image found)))
-    → IfOk result (λ told. OfKnownFound known len words (λ image other. told ≡ F (shows image other)))
-told_by (Ok told) F known len words found is fault finds check finds_are given = carried_by known len words found is fault finds check finds_are (λ image s. told ≡ F s) given
-told_by (Err e) F known len words found is fault finds check finds_are given = tt
+    → IfOk result (λ told. OfEachFound Holds len words (λ image other. told ≡ F (shows image other)))
+told_by_each (Ok told) F len words found Holds is fault finds check finds_are given = λ image h.
+    carried_by (Some image) len words found (is image h) fault finds (check image h) (finds_are image h) (λ image s. told ≡ F s) given
+told_by_each (Err e) F len words found Holds is fault finds check finds_are given = tt
 
 -- the bytes of a fork at the end of a path that were written of what was found are those of the image
-pub bytes_shown : (known : Option (List ℕ)) (len : ℕ) (words : RescueWords) (found : Found) → OfKnown known len (λ image. IsFoundOf image (limit_of words image) found)
-    → (kind : ForkKind) (path : List ℕ) (last : PathEnd) → last ≡ path_end found path → (old new : Option (List ℕ)) → WritesOf known old new (λ image. end_bytes image found kind last)
-    → OfKnownFound known len words (λ image other. Appends old new (end_bytes image other kind (path_end other path)))
-bytes_shown None len words found is kind path last leads old new written = tt
-bytes_shown (Some image) len words found is kind path last leads old new written = λ same other others.
-    subst (λ (s : Shows). Appends old new (s.bytes kind path)) (same-shows image (limit_of words image) found other (is same) others)
-    (subst (λ (e : PathEnd). Appends old new (end_bytes image found kind e)) leads written)
+pub bytes_shown : (Holds : List ℕ → Type 0) (len : ℕ) (words : RescueWords) (found : Found)
+    → EachKnown Holds (λ known. OfKnown known len (λ image. IsFoundOf image (limit_of words image) found))
+    → (kind : ForkKind) (path : List ℕ) (last : PathEnd) → last ≡ path_end found path → (old new : Option (List ℕ)) → WritesOf Holds old new (λ image. end_bytes image found kind last)
+    → OfEachFound Holds len words (λ image other. Appends old new (end_bytes image other kind (path_end other path)))
+bytes_shown Holds len words found is kind path last leads old new written = λ image h same other others.
+    subst (λ (s : Shows). Appends old new (s.bytes kind path)) (same-shows image (limit_of words image) found other (is image h same) others)
+    (subst (λ (e : PathEnd). Appends old new (end_bytes image found kind e)) leads (written image h))
 
-pub front_shown : (known : Option (List ℕ)) (len : ℕ) (words : RescueWords) (found : Found) → OfKnown known len (λ image. IsFoundOf image (limit_of words image) found)
-    → (kind : ForkKind) (path : List ℕ) (last : PathEnd) → last ≡ path_end found path → (old new : Option (List ℕ)) → WritesFrontOf known old new (λ image. end_bytes image found kind last)
-    → OfKnownFound known len words (λ image other. AppendsFront old new (end_bytes image other kind (path_end other path)))
-front_shown None len words found is kind path last leads old new front = tt
-front_shown (Some image) len words found is kind path last leads old new front = λ same other others.
-    subst (λ (s : Shows). AppendsFront old new (s.bytes kind path)) (same-shows image (limit_of words image) found other (is same) others)
-    (subst (λ (e : PathEnd). AppendsFront old new (end_bytes image found kind e)) leads front)
+pub front_shown : (Holds : List ℕ → Type 0) (len : ℕ) (words : RescueWords) (found : Found)
+    → EachKnown Holds (λ known. OfKnown known len (λ image. IsFoundOf image (limit_of words image) found))
+    → (kind : ForkKind) (path : List ℕ) (last : PathEnd) → last ≡ path_end found path → (old new : Option (List ℕ)) → WritesFrontOf Holds old new (λ image. end_bytes image found kind last)
+    → OfEachFound Holds len words (λ image other. AppendsFront old new (end_bytes image other kind (path_end other path)))
+front_shown Holds len words found is kind path last leads old new front = λ image h same other others.
+    subst (λ (s : Shows). AppendsFront old new (s.bytes kind path)) (same-shows image (limit_of words image) found other (is image h same) others)
+    (subst (λ (e : PathEnd). AppendsFront old new (end_bytes image found kind e)) leads (front image h))
 
 -- nothing was written yet
 pub nothing_shown : (known : Option (List ℕ)) (len : ℕ) (words : RescueWords) (now : Option (List ℕ)) (text : List ℕ → Found → List ℕ)

@@ -1,6 +1,8 @@
 -- What is told of an image of which something remains.
-use Rattle.std.specs.Prelude.{◌≡◌, ℕ, ◌-◌, ◌^◌, Bool, true, false, ◌&&◌, ◌==◌, if◌then◌else◌, List, [], ◌++◌, codes, min, Option, Some, None, string_bytes}
+use Rattle.std.specs.Prelude.{◌≡◌, ℕ, ◌-◌, ◌^◌, Bool, true, false, ◌&&◌, ◌==◌, if◌then◌else◌, List, [], ◌++◌, codes, min, Option, Some, None, Result, Ok, Err, string_bytes}
 use Rattle.std.specs.Fmt.{decimal}
+use Rattle.hfs_bag.specs.declared.fault.BagFault.{BagFault}
+use Rattle.hfs_bag.specs.declared.sums.BagSums.{BagSums}
 use Rattle.hfs_check.specs.declared.mount_fault.MountFault.{MountFault}
 use Rattle.hfs_check.specs.Report.{report_of}
 use Rattle.hfs_commands.specs.declared.fault.Status.TheVariants.{CallRefused, Done}
@@ -67,6 +69,11 @@ pub record IsAnswerBy (image : List ℕ) (answer : RescueAnswer) (found : Found)
 -- this is told of an image, where forks of so many bytes are taken at most
 abbrev pub IsAnswerOf : List ℕ → ℕ → RescueAnswer → Type 0
 IsAnswerOf image limit answer = OfFound image limit (IsAnswerBy image answer)
+
+-- this is told of an image whose bag was given, or the fault
+abbrev pub told_after : Result BagSums BagFault → RescueAnswer → Result RescueAnswer BagFault
+told_after (Ok sums) answer = Ok answer
+told_after (Err fault) answer = Err fault
 
 -- where the image's bytes are known, and are so many, this is told of it, as these words ask for it
 abbrev pub IsKnownAnswer : Option (List ℕ) → ℕ → RescueWords → RescueAnswer → Type 0

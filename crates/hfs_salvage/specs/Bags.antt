@@ -21,6 +21,7 @@ use Rattle.hfs_rescue_items.specs.Plan.{whole_plan}
 use Rattle.hfs_rescue_items.specs.Sources.{planned_item, rescued_tables}
 use Rattle.hfs_shelves.specs.declared.fault.ShelfFault.{ShelfFault}
 use Rattle.hfs_shelves.specs.Entries.{ShelfEntry}
+use Rattle.hfs_sparse.specs.Seen.{EachKnown}
 use Rattle.hfs_take.specs.Bags.{IsDigestTold, digest_told, text_in}
 use Rattle.hfs_take.specs.Facts.{image_name}
 use Rattle.hfs_texts.specs.Info.{info_lines}
@@ -70,9 +71,10 @@ OfBag image line words Fact =
 abbrev pub OfKnownBag : Option (List ℕ) → ℕ → Option (List ℕ) → BagWords → (List ShelfEntry → Type 0) → Type 0
 OfKnownBag known len line words Fact = OfKnown known len (λ image. OfBag image line words Fact)
 
--- a fault of a shelf, want of memory, or a read that failed; or the bag of what remains has too many bytes, where the image's bytes are known
-abbrev pub IsUnfilled : (ShelfFault → Type 0) → Option (List ℕ) → ℕ → Option (List ℕ) → BagWords → BagFault → Type 0
-IsUnfilled ShelfGave known len line words = IsBagFault (λ _. ⊤) ShelfGave (OfKnownBag known len line words (λ bag. AreTooMany (bytes_in bag)))
+-- a fault of a shelf, want of memory, or a read that failed; or the bag of what remains of each of these images has too many bytes
+abbrev pub IsUnfilled : (ShelfFault → Type 0) → (List ℕ → Type 0) → ℕ → Option (List ℕ) → BagWords → BagFault → Type 0
+IsUnfilled ShelfGave Holds len line words =
+    IsBagFault (λ _. ⊤) ShelfGave (EachKnown Holds (λ known. OfKnownBag known len line words (λ bag. AreTooMany (bytes_in bag))))
 
 -- ---- before the items are read
 

@@ -5,19 +5,20 @@ use Rattle.hfs_shelves.specs.Entries.{ShelfEntry}
 use Rattle.hfs_shelves.specs.Removals.{HasNoNewFolder, HasSince, IsPlaced, IsTakenAway, RemovesIn}
 use Rattle.hfs_shelves.specs.ShelfPaths.{IsNewFolder}
 use Rattle.hfs_shelves.specs.SystemSteps.{SystemStep, done, looked}
+use Rattle.hfs_sparse.specs.Seen.{EachKnown}
 use Rattle.hfs_take.specs.declared.fault.TakeFault.{TakeFault}
 use Rattle.hfs_take.specs.declared.fault.TakeFault.TheVariants as take
 use Rattle.hfs_salvage.specs.declared.words.BagWords.{BagWords}
 use Rattle.hfs_salvage.specs.Bags.{OfKnownBag}
 
--- the last of these steps gave a folder that was made under a name of its own its place; where the image's bytes are known, and are so many, exactly its
--- bag was made in it
-pub record IsBagPlaced (known : Option (List ℕ)) (len : ℕ) (line : Option (List ℕ)) (words : BagWords) (steps : List SystemStep) : Type 0 where
+-- the last of these steps gave a folder that was made under a name of its own its place; exactly the bag of each of these images, which have so many bytes,
+-- was made in it
+pub record IsBagPlaced (Holds : List ℕ → Type 0) (len : ℕ) (line : Option (List ℕ)) (words : BagWords) (steps : List SystemStep) : Type 0 where
   pub folder : List ℕ
   pub beside : IsNewFolder words.folder.now folder
   pub entries : List ShelfEntry
   pub placed : IsPlaced words.folder.now folder entries steps
-  pub bag_is : OfKnownBag known len line words (λ bag. entries ≡ bag)
+  pub bag_is : EachKnown Holds (λ known. OfKnownBag known len line words (λ bag. entries ≡ bag))
 
 -- the fault stayed, or memory was refused
 abbrev pub StaysOrNoMemory : TakeFault → TakeFault → Type 0

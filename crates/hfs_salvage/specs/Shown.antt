@@ -1,6 +1,7 @@
 -- What is shown of what was found of a refused image: rows, and the bytes of a fork.
 use Rattle.std.specs.Prelude.{◌≡◌, ℕ, ℤ, Bool, true, false, List, [], Option, Some, None, Result, Ok, Err}
 use Rattle.std.specs.Io.KnownBytes.{Appends}
+use Rattle.hfs_check.specs.declared.mount_fault.MountFault.{MountFault}
 use Rattle.hfs_commands.specs.declared.fault.Status.TheVariants.{CallRefused, Done}
 use Rattle.hfs_commands.specs.Faults.{status_number}
 use Rattle.hfs_finds.specs.Finds.{is_found_right}
@@ -8,6 +9,10 @@ use Rattle.hfs_model.specs.declared.codes.TheConstants.{NOT_A_FOLDER, NOT_FOUND}
 use Rattle.hfs_model.specs.declared.reply.Reply.{Reply}
 use Rattle.hfs_model.specs.Replies.{refusal}
 use Rattle.hfs_needed.specs.Known.{OfKnown}
+use Rattle.hfs_refusals.specs.Hints.{meaning_text}
+use Rattle.hfs_refusals.specs.Refusals.{refusal_text}
+use Rattle.hfs_remains_page.specs.declared.remains_texts.RemainsTexts.{RemainsTexts}
+use Rattle.hfs_remains_page.specs.Pages.{remains_page}
 use Rattle.hfs_rescue_items.specs.declared.found.Found.{Found}
 use Rattle.hfs_rescue_items.specs.Bytes.{taken_bytes}
 use Rattle.hfs_rescue_rows.specs.declared.paths.PathEnd.{PathEnd}
@@ -19,6 +24,7 @@ use Rattle.hfs_rescue_rows.specs.Forks.{whole_fork}
 use Rattle.hfs_rescue_rows.specs.Paths.{path_end}
 use Rattle.hfs_rescue_rows.specs.Rows.{selected_text}
 use Rattle.hfs_space.specs.declared.fork_kind.ForkKind.{ForkKind}
+use Rattle.hfs_sparse.specs.Seen.{EachKnown}
 use Rattle.hfs_texts.specs.Writing.{AppendsFront}
 use Rattle.hfs_salvage.specs.declared.words.RescueWords.{RescueWords}
 use Rattle.hfs_salvage.specs.Answers.{answer_status, found_sums}
@@ -28,6 +34,10 @@ use Rattle.hfs_salvage.specs.Words.{limit_of}
 -- where an image's bytes are known, and are so many, this holds of it and of what was found of it, as these words ask for it
 abbrev pub OfKnownFound : Option (List ℕ) → ℕ → RescueWords → (List ℕ → Found → Type 0) → Type 0
 OfKnownFound known len words Fact = OfKnown known len (λ image. OfFound image (limit_of words image) (Fact image))
+
+-- of each of these images that has so many bytes this holds, and of what was found of it
+abbrev pub OfEachFound : (List ℕ → Type 0) → ℕ → RescueWords → (List ℕ → Found → Type 0) → Type 0
+OfEachFound Holds len words Fact = EachKnown Holds (λ known. OfKnownFound known len words Fact)
 
 -- ---- rows
 
@@ -46,6 +56,12 @@ abbrev pub folder_told : List ℕ → Found → PathEnd → Result ℕ Reply
 folder_told image found end.Nothing = Err (refusal NOT_FOUND)
 folder_told image found (end.File k) = Err (refusal NOT_A_FOLDER)
 folder_told image found (end.Folder k) = Ok (found_status image found)
+
+-- ---- a page
+
+-- with the fault in words
+abbrev pub found_page : RemainsTexts → MountFault → Found → List ℕ
+found_page texts why found = remains_page texts (refusal_text why) (meaning_text why) found
 
 -- ---- forks
 

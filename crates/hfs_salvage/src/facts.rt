@@ -1,10 +1,11 @@
 //! What a bag tells of the image from which it was rescued.
-ghost use Rattle.std.specs.Prelude.{◌≡◌, ◌*◌, ◌++◌, Some, replicate, IfOk, string_bytes};
+ghost use Rattle.std.specs.Prelude.{◌≡◌, ◌*◌, ◌++◌, ℕ, List, Option, Some, replicate, IfOk, string_bytes};
 ghost use Rattle.std.specs.Option.{option_map};
 ghost use Rattle.hfs_commands.specs.Checks.{HasCheckLines};
 ghost use Rattle.hfs_finds.specs.Finds.{IsFoundIn};
 ghost use Rattle.hfs_needed.specs.Known.{OfKnown};
-ghost use Rattle.hfs_sparse.specs.Sparse.{HoldsFrom};
+ghost use Rattle.hfs_source.specs.Images.{HasAt, OfEach};
+ghost use Rattle.hfs_sparse.specs.Seen.{EachKnown};
 ghost use Rattle.hfs_take.specs.Bags.{IsDigestTold};
 ghost use Rattle.hfs_salvage.specs.Bags.{IsDirectoryTold, IsReportTold, IsToldOf, directory_text};
 
@@ -13,8 +14,9 @@ use hfs_bag::SourceFault;
 use hfs_commands::CheckAnswer;
 use hfs_finds::Finds;
 use hfs_rescue_items::field_name;
-use hfs_sparse::BlockSource;
-use hfs_take::{SourceBlocks, image_digest, image_name, plain_name, report_text};
+use hfs_source::PlacedBlocks;
+use hfs_sparse::SeenBlocks;
+use hfs_take::{image_digest, image_name, plain_name, report_text};
 use std::alloc::{AllocError, Global};
 
 /// What a bag tells of an image before its items are read.
@@ -42,30 +44,36 @@ fn head_with(block: &[u8; 512]) -> [u8; 1536]
 }
 
 /// The block of an image that is taken for its directory.
-fn directory_block<S: BlockSource>(source: &mut S, directory: u32) -> Result<[u8; 512], SourceFault>
-    ensures block { IfOk result (HoldsFrom (S.image source.old) (512 * directory)) }
-    ensures image { S.image source.new ≡ S.image source.old }
+fn directory_block<S: PlacedBlocks>(
+    source: &mut SeenBlocks<S>,
+    directory: u32,
+) -> Result<[u8; 512], SourceFault>
+    ensures block { IfOk result (λ block. OfEach (S.Holds source.new.blocks)
+        (HasAt (512 * directory) block)) }
+    ensures narrows { OfEach (S.Holds source.new.blocks) (S.Holds source.old.blocks) }
 {
     let mut block = [0; 512];
-    match source.read_blocks(directory, &mut block) {
+    match source.blocks.read_blocks(directory, &mut block) {
         Ok(()) => Ok(block),
         Err(_) => Err(SourceFault::ReadFailed),
     }
 }
 
 /// The lines of an image's directory, and those of its check.
-fn report_of<S: BlockSource>(
+fn report_of<S: PlacedBlocks>(
     alloc: Global,
-    source: &mut S,
+    source: &mut SeenBlocks<S>,
     len: u64,
     check: &CheckAnswer,
     finds: &Finds,
 ) -> Result<String, SourceFault>
-    requires lines { OfKnown (S.image source.old) len (HasCheckLines check.now.lines) }
-    requires finds { OfKnown (S.image source.old) len (λ image. IsFoundIn image (Some finds.now)) }
-    ensures text { IfOk result (λ text. IsReportTold (S.image source.old) len finds.now.mdb
-        (string_bytes text)) }
-    ensures image { S.image source.new ≡ S.image source.old }
+    requires lines { EachKnown (S.Holds source.old.blocks)
+        (λ known. OfKnown known len (HasCheckLines check.now.lines)) }
+    requires finds { EachKnown (S.Holds source.old.blocks)
+        (λ known. OfKnown known len (λ image. IsFoundIn image (Some finds.now))) }
+    ensures text { IfOk result (λ text. EachKnown (S.Holds source.new.blocks)
+        (λ known. IsReportTold known len finds.now.mdb (string_bytes text))) }
+    ensures narrows { OfEach (S.Holds source.new.blocks) (S.Holds source.old.blocks) }
 {
     let block = directory_block(source, finds.directory)?;
     let head = head_with(&block);
@@ -90,15 +98,10 @@ fn directory_text(alloc: Global, block: u32, is_unsure: bool) -> Result<Option<S
 
 /// What is told of the block of an image that was taken for its directory.
 #[tactic(auto, using(crate::proofs::FactLemmas::directory_known))]
-fn directory_of<S: BlockSource>(
-    alloc: Global,
-    source: &S,
-    len: u64,
-    finds: &Finds,
-) -> Result<Option<String>, SourceFault>
-    requires { OfKnown (S.image source.now) len (λ image. IsFoundIn image (Some finds.now)) }
-    ensures { IfOk result (λ told. IsDirectoryTold (S.image source.now) len finds.now.mdb
-        (option_map string_bytes told)) }
+fn directory_of(alloc: Global, finds: &Finds) -> Result<Option<String>, SourceFault>
+    ensures { (known : Option (List ℕ)) (len : ℕ)
+        → OfKnown known len (λ image. IsFoundIn image (Some finds.now))
+        → IfOk result (λ told. IsDirectoryTold known len finds.now.mdb (option_map string_bytes told)) }
 {
     match directory_text(alloc, finds.directory, finds.is_unsure) {
         Ok(told) => Ok(told),
@@ -106,54 +109,55 @@ fn directory_of<S: BlockSource>(
     }
 }
 
-/// The digest of an image, where it is to be told, and the source of its blocks back.
-fn digest_of<S: BlockSource + Drop>(
+/// The digest of an image, where it is to be told.
+fn digest_of<S: PlacedBlocks>(
     alloc: Global,
-    source: S,
+    source: &mut SeenBlocks<S>,
     len: u64,
     is_digested: bool,
-) -> Result<(Option<[u8; 32]>, S), SourceFault>
-    ensures digest { IfOk result (λ made. IsDigestTold (S.image source) len is_digested made.0) }
-    ensures source { IfOk result (λ made. S.image made.1 ≡ S.image source) }
+) -> Result<Option<[u8; 32]>, SourceFault>
+    ensures digest { IfOk result (λ told. EachKnown (S.Holds source.new.blocks)
+        (λ known. IsDigestTold known len is_digested told)) }
+    ensures narrows { OfEach (S.Holds source.new.blocks) (S.Holds source.old.blocks) }
 {
     if !is_digested {
-        return Ok((None, source));
+        return Ok(None);
     }
-    let mut blocks = SourceBlocks::new(source);
-    let digest = image_digest(alloc, &mut blocks, len)?;
-    Ok((Some(digest), blocks.into_source()))
+    let digest = image_digest(alloc, source, len)?;
+    Ok(Some(digest))
 }
 
-/// What a bag tells of an image before its items are read, and the source of its blocks back.
-pub(crate) fn told_of<S: BlockSource + Drop>(
+/// What a bag tells of an image before its items are read.
+pub(crate) fn told_of<S: PlacedBlocks>(
     alloc: Global,
-    source: S,
+    source: &mut SeenBlocks<S>,
     len: u64,
     check: &CheckAnswer,
     finds: &Finds,
     words: &BagWords<'_>,
-) -> Result<(Told, S), SourceFault>
-    requires lines { OfKnown (S.image source) len (HasCheckLines check.now.lines) }
-    requires finds { OfKnown (S.image source) len (λ image. IsFoundIn image (Some finds.now)) }
-    ensures told { IfOk result (λ made. IsToldOf (S.image source) len finds.now.mdb words.now made.0) }
-    ensures source { IfOk result (λ made. S.image made.1 ≡ S.image source) }
+) -> Result<Told, SourceFault>
+    requires lines { EachKnown (S.Holds source.old.blocks)
+        (λ known. OfKnown known len (HasCheckLines check.now.lines)) }
+    requires finds { EachKnown (S.Holds source.old.blocks)
+        (λ known. OfKnown known len (λ image. IsFoundIn image (Some finds.now))) }
+    ensures told { IfOk result (λ told. EachKnown (S.Holds source.new.blocks)
+        (λ known. IsToldOf known len finds.now.mdb words.now told)) }
+    ensures narrows { OfEach (S.Holds source.new.blocks) (S.Holds source.old.blocks) }
 {
-    let mut source = source;
-    let report = report_of(alloc, &mut source, len, check, finds)?;
+    let report = report_of(alloc, source, len, check, finds)?;
     let Ok(identifier) = plain_name(alloc, field_name(&finds.mdb.volume_name)) else {
         return Err(SourceFault::Memory);
     };
     let Ok(name) = image_name(alloc, words.words.image) else {
         return Err(SourceFault::Memory);
     };
-    let directory = directory_of(alloc, &source, len, finds)?;
-    let (digest, source) = digest_of(alloc, source, len, words.is_digested)?;
-    let told = Told {
+    let directory = directory_of(alloc, finds)?;
+    let digest = digest_of(alloc, source, len, words.is_digested)?;
+    Ok(Told {
         identifier,
         name,
         directory,
         digest,
         report,
-    };
-    Ok((told, source))
+    })
 }

@@ -12,6 +12,7 @@ use hfs_rescue_items::Found;
 pub(crate) fn found_in<'a>(finds: &'a Finds, salvage: &'a Salvage<'a>) -> Found<'a>
     requires { salvage.now.trees.mdb.now ≡ finds.now.mdb }
     ensures mdb { result.mdb.now ≡ finds.now.mdb }
+    ensures salvage { result.salvage.now ≡ salvage.now }
     ensures found { (image : List ℕ) (limit : ℕ) → IsFoundIn image (Some finds.now)
         → IsSalvageOf finds.now limit salvage.now → IsFoundOf image limit result }
 {

@@ -1,16 +1,19 @@
 //! An image of which something remains.
 ghost use Rattle.std.proofs.Props.{props};
-ghost use Rattle.std.specs.Prelude.{◌≡◌, ◌≤◌, Some, IfErr, IfOk, length};
+ghost use Rattle.std.specs.Prelude.{◌≡◌, ◌≤◌, IfErr, IfOk, Some};
 ghost use Rattle.hfs_commands.specs.Checks.{HasCheckLines, IsCheckFault};
 ghost use Rattle.hfs_finds.specs.Finds.{IsFoundIn};
 ghost use Rattle.hfs_needed.specs.Known.{OfKnown};
+ghost use Rattle.hfs_source.specs.Images.{HasLength, OfEach};
+ghost use Rattle.hfs_sparse.specs.Seen.{EachKnown};
 ghost use Rattle.hfs_salvage.specs.Faults.{IsUnheld};
 
-use crate::held::HeldBytes;
+use crate::looking::{fault_of, rescued_image};
 use hfs_check::MountFault;
-use hfs_commands::{CheckAnswer, check_answer};
-use hfs_finds::{Finds, find_in};
-use hfs_sparse::BlockSource;
+use hfs_commands::CheckAnswer;
+use hfs_finds::{Finds, Unlooked, look_and_find};
+use hfs_source::PlacedBlocks;
+use hfs_sparse::SeenBlocks;
 use std::alloc::Global;
 
 /// Why nothing is found of an image.
@@ -24,50 +27,53 @@ pub enum HoldFault {
     NoMemory,
 }
 
-/// An image in which a directory is found: where its blocks are read from, what its check tells, and what is found of it by its directory.
+/// An image in which a directory is found: where its blocks are read from, what its check tells, and what is found of it by its directory; all
+/// this of each image that has the bytes which were read.
 #[derive(Drop)]
-pub struct RescuedImage<S: BlockSource> {
-    pub(crate) source: S,
+pub struct RescuedImage<S: PlacedBlocks> {
+    pub(crate) source: SeenBlocks<S>,
     /// How many bytes it has.
     pub(crate) len: u64,
     /// Where the volume lies in its file, where it was looked for there: the line that a bag has of it.
     pub(crate) line: Option<String>,
     pub(crate) check: CheckAnswer,
     pub(crate) finds: Finds,
-    ghost fault_is: { OfKnown (S.image source) len (IsCheckFault check.fault) } by { Prim.hlevel props },
-    ghost lines_are: { OfKnown (S.image source) len (HasCheckLines check.lines) } by { Prim.hlevel props },
-    ghost finds_are: { OfKnown (S.image source) len (λ image. IsFoundIn image (Some finds)) } by { Prim.hlevel props },
+    ghost long: { OfEach (S.Holds source.blocks) (HasLength len) } by { Prim.hlevel props },
+    ghost fault_is: { EachKnown (S.Holds source.blocks) (λ known. OfKnown known len (IsCheckFault check.fault)) } by { Prim.hlevel props },
+    ghost lines_are: { EachKnown (S.Holds source.blocks) (λ known. OfKnown known len (HasCheckLines check.lines)) } by { Prim.hlevel props },
+    ghost finds_are: { EachKnown (S.Holds source.blocks) (λ known. OfKnown known len (λ image. IsFoundIn image (Some finds))) } by { Prim.hlevel props },
     ghost few: { len ≤ 2147483648 },
 }
 
-impl RescuedImage<HeldBytes> {
-    /// Checks an image whose bytes are all held, and finds what there is of it. Faults: there is no directory in it, memory was refused.
-    pub fn held(
+/// Why nothing is found of an image, and what it was read from.
+#[derive(Drop)]
+pub struct Unfound<S: PlacedBlocks> {
+    pub fault: HoldFault,
+    pub source: SeenBlocks<S>,
+}
+
+impl<S: PlacedBlocks + Drop> RescuedImage<S> {
+    /// Checks an image, and finds what there is of it, in the blocks that are needed for that. Faults, with the source back, of which they are said: no
+    /// directory is found in it, a read failed, memory was refused.
+    pub fn open(
         alloc: Global,
-        bytes: HeldBytes,
+        source: SeenBlocks<S>,
         line: Option<String>,
-    ) -> Result<RescuedImage<HeldBytes>, HoldFault>
-        ensures source { IfOk result (λ image. image.source ≡ bytes) }
-        ensures len { IfOk result (λ image. image.len ≡ length bytes) }
+    ) -> Result<RescuedImage<S>, Unfound<S>>
         ensures line { IfOk result (λ image. image.line ≡ line) }
-        ensures none { IfErr result (IsUnheld (Some bytes) (length bytes)) }
+        ensures narrows { IfOk result (λ image. OfEach (S.Holds image.source.blocks)
+            (S.Holds source.blocks)) }
+        ensures none { IfErr result (λ back. OfEach (S.Holds back.source.blocks)
+            (IsUnheld back.fault)) }
+        ensures back { IfErr result (λ back. OfEach (S.Holds back.source.blocks)
+            (S.Holds source.blocks)) }
     {
-        let Ok(check) = check_answer(alloc, bytes.bytes()) else {
-            return Err(HoldFault::NoMemory);
-        };
-        let Ok(found) = find_in(alloc, bytes.bytes()) else {
-            return Err(HoldFault::NoMemory);
-        };
-        let len = bytes.bytes().len() as u64;
-        match found {
-            Some(finds) => Ok(RescuedImage {
-                source: bytes,
-                len,
-                line,
-                check,
-                finds,
-            }),
-            None => Err(HoldFault::NoDirectory(check.fault)),
+        match look_and_find(alloc, source) {
+            Ok(image) => rescued_image(alloc, image, line),
+            Err(Unlooked { fault, source }) => {
+                let fault = fault_of(fault);
+                Err(Unfound { fault, source })
+            }
         }
     }
 }

@@ -3,6 +3,7 @@ ghost use Rattle.std.specs.Prelude.{◌≡◌, ◌++◌, ◌<◌, ◌⊎◌, [],
 ghost use Rattle.std.specs.Io.KnownBytes.{Appends};
 ghost use Rattle.hfs_commands.specs.Faults.{IsUnprinted};
 ghost use Rattle.hfs_rescue_items.specs.Lines.{remains_line, remains_text};
+ghost use Rattle.hfs_sparse.specs.Seen.{EachKnown};
 ghost use Rattle.hfs_texts.specs.Writing.{AppendsFront};
 ghost use Rattle.hfs_salvage.specs.Answers.{IsKnownAnswer};
 ghost use Rattle.hfs_salvage.specs.Faults.{IsUnlisted};
@@ -11,13 +12,13 @@ ghost use Rattle.hfs_salvage.specs.Lists.{Gathers, TellsRemains, TellsRemainsFro
 use crate::answer::{RescueAnswer, Rescued};
 use crate::found::found_in;
 use crate::image::RescuedImage;
-use crate::loading::{Loaded, LoadedImage, load_image};
+use crate::loading::{LoadedImage, load_image};
 use crate::words::RescueWords;
 use hfs_commands::Fault;
 use hfs_finds::salvage_of;
 use hfs_rescue::FoundRecord;
 use hfs_rescue_items::{Found, push_remains_line};
-use hfs_sparse::BlockSource;
+use hfs_source::PlacedBlocks;
 use hfs_texts::put;
 use std::alloc::Global;
 use std::io::Write;
@@ -86,19 +87,20 @@ fn write_lines<W: Write>(
 
 /// Writes the list of what was found of an image.
 ///
-/// A line for each item that remains, in their order; and answers what is told of the image. All this where the image's bytes are known; a file's
-/// are not. Faults: memory was refused; `OutputFailed`, and then a part of the lines may have gone out, from the first on.
-pub fn write_remains<S: BlockSource, W: Write>(
+/// A line for each item that remains, in their order; and answers what is told of the image. All this of each image that has the bytes which were
+/// read. Faults: memory was refused; `OutputFailed`, and then a part of the lines may have gone out, from the first on.
+pub fn write_remains<S: PlacedBlocks, W: Write>(
     alloc: Global,
     writer: &mut W,
     image: &RescuedImage<S>,
     words: &RescueWords<'_>,
 ) -> Result<RescueAnswer, Fault<'static>>
-    ensures written { OnOk result (TellsRemains (S.image image.now.source) image.now.len words.now
-        (W.contents writer.old) (W.contents writer.new)) }
-    ensures part { OnErr result (TellsRemainsFront (S.image image.now.source) image.now.len words.now
-        (W.contents writer.old) (W.contents writer.new)) }
-    ensures answer { IfOk result (IsKnownAnswer (S.image image.now.source) image.now.len words.now) }
+    ensures written { OnOk result (EachKnown (S.Holds image.now.source.blocks)
+        (λ known. TellsRemains known image.now.len words.now (W.contents writer.old) (W.contents writer.new))) }
+    ensures part { OnErr result (EachKnown (S.Holds image.now.source.blocks)
+        (λ known. TellsRemainsFront known image.now.len words.now (W.contents writer.old) (W.contents writer.new))) }
+    ensures answer { IfOk result (λ answer. EachKnown (S.Holds image.now.source.blocks)
+        (λ known. IsKnownAnswer known image.now.len words.now answer)) }
     ensures faults { IfErr result IsUnprinted }
 {
     let limit = words.limit_for(image.len);
@@ -124,9 +126,6 @@ pub fn list_rescue<'a, R: Files + AllocGlobal, W: Write>(
     ensures { IfErr result (IsUnlisted words.now) }
 {
     let LoadedImage { image, sum } = load_image(rt, words)?;
-    let answer = match image {
-        Loaded::Held(image) => write_remains(rt.alloc(), writer, &image, words)?,
-        Loaded::Opened(image) => write_remains(rt.alloc(), writer, &image, words)?,
-    };
+    let answer = write_remains(rt.alloc(), writer, &image, words)?;
     Ok(Rescued { answer, sum })
 }

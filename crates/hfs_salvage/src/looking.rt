@@ -1,29 +1,19 @@
-//! What is found of an image by the blocks that are needed for it.
-ghost use Rattle.std.specs.Prelude.{◌≡◌, ℕ, List, Option, IfErr, IfOk};
-ghost use Rattle.hfs_commands.specs.Checks.{HasCheckLines, IsCheckFault};
-ghost use Rattle.hfs_needed.specs.Known.{OfKnown};
+//! What is rescued of an image that was looked at.
+ghost use Rattle.std.specs.Prelude.{◌≡◌, ◌≤◌, IfErr, IfOk, IfSome, ℕ, List};
+ghost use Rattle.hfs_finds.specs.Looks.{IsLookedAt};
+ghost use Rattle.hfs_source.specs.Images.{OfEach};
 ghost use Rattle.hfs_salvage.specs.Faults.{IsUnheld};
-ghost use Rattle.hfs_salvage.specs.Looks.{IsLookAt};
 
-use crate::image::HoldFault;
-use hfs_commands::{CheckAnswer, report_answer};
-use hfs_finds::{Finds, NeededFinds, needed_finds};
-use hfs_needed::needed_report;
-use hfs_sparse::{BlockSource, SparseFault};
+use crate::image::{HoldFault, RescuedImage, Unfound};
+use hfs_commands::report_answer;
+use hfs_finds::LookedImage;
+use hfs_source::PlacedBlocks;
+use hfs_sparse::SparseFault;
 use std::alloc::Global;
 
-/// What comes of a look at the blocks that are needed.
-#[derive(Drop)]
-pub(crate) enum Look {
-    /// What the image's check tells, and what is found of it.
-    Found(CheckAnswer, Finds),
-    /// All blocks must be looked at.
-    Whole,
-}
-
 /// What it means that blocks weren't read.
-fn fault_of(fault: SparseFault) -> HoldFault
-    ensures { (known : Option (List ℕ)) (len : ℕ) → IsUnheld known len result }
+pub(crate) fn fault_of(fault: SparseFault) -> HoldFault
+    ensures { (image : List ℕ) → IsUnheld result image }
 {
     match fault {
         SparseFault::ReadFailed => HoldFault::ReadFailed,
@@ -31,43 +21,41 @@ fn fault_of(fault: SparseFault) -> HoldFault
     }
 }
 
-/// What the check of an image of `len` bytes tells, of which only the blocks are read that its checks need.
-fn checked<S: BlockSource>(
+/// An image that was looked at, with what its check tells. Faults, with the source back: there is no directory in it, memory was refused.
+pub(crate) fn rescued_image<S: PlacedBlocks + Drop>(
     alloc: Global,
-    source: &mut S,
-    len: u64,
-) -> Result<CheckAnswer, HoldFault>
-    ensures fault { IfOk result (λ check. OfKnown (S.image source.old) len (IsCheckFault check.fault)) }
-    ensures lines { IfOk result (λ check. OfKnown (S.image source.old) len (HasCheckLines check.lines)) }
-    ensures none { IfErr result (IsUnheld (S.image source.old) len) }
-    ensures image { S.image source.new ≡ S.image source.old }
+    image: LookedImage<S>,
+    line: Option<String>,
+) -> Result<RescuedImage<S>, Unfound<S>>
+    requires looked { IsLookedAt (S.Holds image.source.blocks) image.len image.report image.found }
+    requires few { IfSome image.found (λ _. image.len ≤ 2147483648) }
+    ensures line { IfOk result (λ rescued. rescued.line ≡ line) }
+    ensures source { IfOk result (λ rescued. rescued.source ≡ image.source) }
+    ensures none { IfErr result (λ back. OfEach (S.Holds back.source.blocks)
+        (IsUnheld back.fault)) }
+    ensures back { IfErr result (λ back. back.source ≡ image.source) }
 {
-    let report = match needed_report(alloc, source, len) {
-        Ok(report) => report,
-        Err(fault) => return Err(fault_of(fault)),
+    let LookedImage {
+        source,
+        len,
+        report,
+        found,
+    } = image;
+    let Ok(check) = report_answer(alloc, &report) else {
+        let fault = HoldFault::NoMemory;
+        return Err(Unfound { fault, source });
     };
-    match report_answer(alloc, &report) {
-        Ok(check) => Ok(check),
-        Err(_) => Err(HoldFault::NoMemory),
-    }
-}
-
-/// Checks an image of `len` bytes, and finds what there is of it, by the blocks that are needed. Faults: there is no directory in it, a read failed,
-/// memory was refused.
-pub(crate) fn look_at<S: BlockSource>(
-    alloc: Global,
-    source: &mut S,
-    len: u64,
-) -> Result<Look, HoldFault>
-    ensures found { IfOk result (IsLookAt (S.image source.old) len) }
-    ensures none { IfErr result (IsUnheld (S.image source.old) len) }
-    ensures image { S.image source.new ≡ S.image source.old }
-{
-    let check = checked(alloc, source, len)?;
-    match needed_finds(alloc, source, len) {
-        Ok(NeededFinds::Found(Some(finds))) => Ok(Look::Found(check, finds)),
-        Ok(NeededFinds::Found(None)) => Err(HoldFault::NoDirectory(check.fault)),
-        Ok(NeededFinds::Whole) => Ok(Look::Whole),
-        Err(fault) => Err(fault_of(fault)),
+    match found {
+        Some(finds) => Ok(RescuedImage {
+            source,
+            len,
+            line,
+            check,
+            finds,
+        }),
+        None => Err(Unfound {
+            fault: HoldFault::NoDirectory(check.fault),
+            source,
+        }),
     }
 }

@@ -1,30 +1,44 @@
 //! What remains of a refused image, read where it was looked at.
-ghost use Rattle.std.specs.Prelude.{◌≡◌, Err, Some, IfErr, IfOk, IfSome};
+ghost use Rattle.std.specs.Prelude.{◌≡◌, Err, Some, IfErr, IfOk, IfSome, OnErr, OnOk, string_bytes};
+ghost use Rattle.std.specs.Io.KnownBytes.{Appends};
 ghost use Rattle.std.specs.Option.{option_map};
+ghost use Rattle.hfs_commands.specs.Checks.{IsCheckFault, refused_line};
 ghost use Rattle.hfs_commands.specs.Faults.{IsUnprinted};
+ghost use Rattle.hfs_needed.specs.Known.{OfKnown};
+ghost use Rattle.hfs_rescue_rows.specs.Paths.{path_end};
+ghost use Rattle.hfs_rescue_rows.specs.Rows.{selected_text};
+ghost use Rattle.hfs_source.specs.Images.{OfEach};
+ghost use Rattle.hfs_sparse.specs.Seen.{EachKnown};
+ghost use Rattle.hfs_texts.specs.Writing.{AppendsFront};
+ghost use Rattle.hfs_salvage.specs.Shown.{OfEachFound, end_bytes, end_rows, folder_told, fork_told, found_page, found_status};
 
 use crate::image::RescuedImage;
-use crate::showing::{image_fault, write_found_folder, write_found_fork, write_found_items};
+use crate::paging::write_found_page;
+use crate::showing::{
+    ShownFork, image_fault, write_found_folder, write_found_fork, write_found_items,
+};
 use crate::words::RescueWords;
 use hfs_check::MountFault;
 use hfs_commands::{CheckAnswer, CopyFault, Fault, Format, refused_text};
 use hfs_finds::RefusedImage;
 use hfs_model::Reply;
+use hfs_remains_page::RemainsTexts;
+use hfs_rescue_rows::Selection;
 use hfs_source::PlacedBlocks;
 use hfs_space::ForkKind;
-use hfs_sparse::{BlockSource, SeenBlocks};
 use std::alloc::{AllocError, Global};
 use std::io::Write;
 
 /// What remains of an image that is refused.
 #[derive(Drop)]
-pub struct Remains<S: BlockSource> {
+pub struct Remains<S: PlacedBlocks> {
     image: RescuedImage<S>,
 }
 
 /// What the check of an image tells that is refused for this fault.
 fn refused_check(alloc: Global, why: MountFault) -> Result<CheckAnswer, AllocError>
-    ensures { IfOk result (λ check. check.fault ≡ Some why) }
+    ensures fault { IfOk result (λ check. check.fault ≡ Some why) }
+    ensures lines { IfOk result (λ check. string_bytes check.lines ≡ refused_line why) }
 {
     let (status, lines) = refused_text(alloc, why)?;
     Ok(CheckAnswer {
@@ -38,7 +52,7 @@ fn refused_check(alloc: Global, why: MountFault) -> Result<CheckAnswer, AllocErr
 pub fn remains_of<S: PlacedBlocks + Drop>(
     alloc: Global,
     image: RefusedImage<S>,
-) -> Result<Option<Remains<SeenBlocks<S>>>, AllocError>
+) -> Result<Option<Remains<S>>, AllocError>
     ensures found { IfOk result (λ remains. option_map (λ some. some.image.finds) remains
         ≡ image.found) }
     ensures source { IfOk result (λ remains. IfSome remains
@@ -66,9 +80,12 @@ pub fn remains_of<S: PlacedBlocks + Drop>(
     Ok(Some(Remains { image }))
 }
 
-impl<S: BlockSource + Drop> Remains<S> {
+impl<S: PlacedBlocks + Drop> Remains<S> {
     /// The fault that the image's check tells; None of a sound one.
-    pub fn fault(&self) -> Option<MountFault> {
+    pub fn fault(&self) -> Option<MountFault>
+        ensures { EachKnown (S.Holds self.now.image.source.blocks)
+            (λ known. OfKnown known self.now.image.len (IsCheckFault result)) }
+    {
         image_fault(&self.image)
     }
 
@@ -80,9 +97,39 @@ impl<S: BlockSource + Drop> Remains<S> {
         words: &RescueWords<'_>,
         format: Format,
     ) -> Result<u8, Fault<'static>>
-        ensures { IfErr result IsUnprinted }
+        ensures written { OnOk result (OfEachFound (S.Holds self.now.image.source.blocks) self.now.image.len words.now
+            (λ bytes found. Appends (W.contents writer.old) (W.contents writer.new)
+            (selected_text (Selection.All format) found))) }
+        ensures part { OnErr result (OfEachFound (S.Holds self.now.image.source.blocks) self.now.image.len words.now
+            (λ bytes found. AppendsFront (W.contents writer.old) (W.contents writer.new)
+            (selected_text (Selection.All format) found))) }
+        ensures status { IfOk result (λ status. OfEachFound (S.Holds self.now.image.source.blocks) self.now.image.len words.now
+            (λ bytes found. status ≡ found_status bytes found)) }
+        ensures faults { IfErr result IsUnprinted }
     {
         write_found_items(alloc, writer, &self.image, words, format)
+    }
+
+    /// Writes the page of what was found, with this fault in words, as [`write_found_page`] does.
+    pub fn write_page<W: Write>(
+        &self,
+        alloc: Global,
+        writer: &mut W,
+        words: &RescueWords<'_>,
+        why: MountFault,
+        texts: &RemainsTexts<'_>,
+    ) -> Result<u8, Fault<'static>>
+        ensures written { OnOk result (OfEachFound (S.Holds self.now.image.source.blocks) self.now.image.len words.now
+            (λ bytes found. Appends (W.contents writer.old) (W.contents writer.new)
+            (found_page texts.now why found))) }
+        ensures part { OnErr result (OfEachFound (S.Holds self.now.image.source.blocks) self.now.image.len words.now
+            (λ bytes found. AppendsFront (W.contents writer.old) (W.contents writer.new)
+            (found_page texts.now why found))) }
+        ensures status { IfOk result (λ status. OfEachFound (S.Holds self.now.image.source.blocks) self.now.image.len words.now
+            (λ bytes found. status ≡ found_status bytes found)) }
+        ensures faults { IfErr result IsUnprinted }
+    {
+        write_found_page(alloc, writer, &self.image, words, why, texts)
     }
 
     /// Writes the rows of a folder, as [`write_found_folder`] does.
@@ -93,7 +140,15 @@ impl<S: BlockSource + Drop> Remains<S> {
         words: &RescueWords<'_>,
         path: &str,
     ) -> Result<Result<u8, Reply>, Fault<'static>>
-        ensures { IfErr result IsUnprinted }
+        ensures written { OnOk result (OfEachFound (S.Holds self.now.image.source.blocks) self.now.image.len words.now
+            (λ bytes found. Appends (W.contents writer.old) (W.contents writer.new)
+            (end_rows found (path_end found path.now)))) }
+        ensures part { OnErr result (OfEachFound (S.Holds self.now.image.source.blocks) self.now.image.len words.now
+            (λ bytes found. AppendsFront (W.contents writer.old) (W.contents writer.new)
+            (end_rows found (path_end found path.now)))) }
+        ensures told { IfOk result (λ told. OfEachFound (S.Holds self.now.image.source.blocks) self.now.image.len words.now
+            (λ bytes found. told ≡ folder_told bytes found (path_end found path.now))) }
+        ensures faults { IfErr result IsUnprinted }
     {
         write_found_folder(alloc, writer, &self.image, words, path)
     }
@@ -106,9 +161,18 @@ impl<S: BlockSource + Drop> Remains<S> {
         words: &RescueWords<'_>,
         path: &str,
         kind: ForkKind,
-    ) -> Result<Result<u8, Reply>, CopyFault>
-        ensures none { result ≡ Err CopyFault.ReadFailed → writer.new ≡ writer.old }
-        ensures memory { result ≡ Err CopyFault.Memory → writer.new ≡ writer.old }
+    ) -> ShownFork<S>
+        ensures written { OnOk result.told (OfEachFound (S.Holds result.source.blocks) self.image.len words.now
+            (λ bytes found. Appends (W.contents writer.old) (W.contents writer.new)
+            (end_bytes bytes found kind (path_end found path.now)))) }
+        ensures part { OnErr result.told (OfEachFound (S.Holds result.source.blocks) self.image.len words.now
+            (λ bytes found. AppendsFront (W.contents writer.old) (W.contents writer.new)
+            (end_bytes bytes found kind (path_end found path.now)))) }
+        ensures told { IfOk result.told (λ told. OfEachFound (S.Holds result.source.blocks) self.image.len words.now
+            (λ bytes found. told ≡ fork_told found kind (path_end found path.now))) }
+        ensures none { result.told ≡ Err CopyFault.ReadFailed → writer.new ≡ writer.old }
+        ensures memory { result.told ≡ Err CopyFault.Memory → writer.new ≡ writer.old }
+        ensures narrows { OfEach (S.Holds result.source.blocks) (S.Holds self.image.source.blocks) }
     {
         write_found_fork(alloc, writer, self.image, words, path, kind)
     }

@@ -4,27 +4,31 @@ ghost use Rattle.std.specs.Option.{option_map};
 ghost use Rattle.hfs_shelves.specs.MadeFolders.{given_by};
 ghost use Rattle.hfs_shelves.specs.Removals.{IsPlaced};
 ghost use Rattle.hfs_take.specs.Faults.{IsTakeFault};
+ghost use Rattle.hfs_source.specs.Images.{OfEach};
+ghost use Rattle.hfs_sparse.specs.Seen.{EachKnown};
 ghost use Rattle.hfs_salvage.specs.Answers.{IsKnownAnswer};
 ghost use Rattle.hfs_salvage.specs.Placed.{IsAwayFor, IsBagAway, IsBagPlaced, IsBagUnplaced, StaysOrNoMemory};
 ghost use Rattle.hfs_salvage.specs.Words.{as_take_words};
 
 use crate::answer::{RescueAnswer, Rescued};
-use crate::filling::give_remains;
+use crate::filling::{GivenRemains, give_remains};
 use crate::image::RescuedImage;
-use crate::loading::{Loaded, LoadedImage, load_image};
+use crate::loading::{LoadedImage, load_image};
 use crate::words::BagWords;
 use hfs_commands::Fault;
 use hfs_shelves::{FileShelf, FileSystem, SystemFiles};
-use hfs_sparse::BlockSource;
+use hfs_source::PlacedBlocks;
+use hfs_sparse::SeenBlocks;
 use hfs_take::{TakeFault, Watch};
 use std::alloc::Global;
 use std::rt::Files;
 
-/// A bag that has its place: what is told of its image, and the system on which it lies.
+/// A bag that has its place: what is told of its image, the system on which it lies, and what the image was read from.
 #[derive(Drop)]
-pub struct PlacedBag<Y> {
+pub struct PlacedBag<Y, S: PlacedBlocks> {
     pub answer: RescueAnswer,
     pub system: Y,
+    pub source: SeenBlocks<S>,
 }
 
 /// Why a bag has no place, and the system back.
@@ -35,20 +39,26 @@ pub struct UnplacedBag<'a, Y> {
 }
 
 /// Gives a whole bag its place. At a fault it is taken away.
-fn place_bag<'a, Y: FileSystem + Drop>(
+fn place_bag<'a, Y: FileSystem + Drop, S: PlacedBlocks + Drop>(
     shelf: FileShelf<Y>,
     answer: RescueAnswer,
+    source: SeenBlocks<S>,
     words: &BagWords<'a>,
-) -> Result<PlacedBag<Y>, UnplacedBag<'a, Y>>
+) -> Result<PlacedBag<Y, S>, UnplacedBag<'a, Y>>
     ensures placed { IfOk result (λ placed. IsPlaced words.now.folder.now (string_bytes shelf.folder)
         (given_by (string_bytes shelf.folder) shelf.modified (Y.did shelf.system)) (Y.did placed.system)) }
     ensures answer { IfOk result (λ placed. placed.answer ≡ answer) }
+    ensures source { IfOk result (λ placed. placed.source ≡ source) }
     ensures fault { IfErr result (λ back. IsTakeFault (as_take_words words.now) back.fault) }
     ensures away { IfErr result (λ back. IsAwayFor back.fault (string_bytes shelf.folder)
         (Y.did shelf.system) (Y.did back.system)) }
 {
     match shelf.place(words.folder) {
-        Ok(system) => Ok(PlacedBag { answer, system }),
+        Ok(system) => Ok(PlacedBag {
+            answer,
+            system,
+            source,
+        }),
         Err(back) => Err(UnplacedBag {
             fault: TakeFault::of_shelf(back.fault),
             system: back.system,
@@ -75,17 +85,19 @@ fn take_away<'a, Y: FileSystem + Drop>(
 }
 
 /// Writes the bag of an image: to a folder beside its place, which gets its place when it is whole, and is taken away at a fault.
-fn write_bag<'a, Y: FileSystem + Drop, S: BlockSource + Drop, W: Watch>(
+fn write_bag<'a, Y: FileSystem + Drop, S: PlacedBlocks + Drop, W: Watch>(
     alloc: Global,
     system: Y,
     image: RescuedImage<S>,
     words: &BagWords<'a>,
     watch: &W,
-) -> Result<PlacedBag<Y>, UnplacedBag<'a, Y>>
-    ensures placed { IfOk result (λ placed. IsBagPlaced (S.image image.source) image.len
+) -> Result<PlacedBag<Y, S>, UnplacedBag<'a, Y>>
+    ensures placed { IfOk result (λ placed. IsBagPlaced (S.Holds placed.source.blocks) image.len
         (option_map string_bytes image.line) words.now (Y.did placed.system)) }
-    ensures answer { IfOk result (λ placed. IsKnownAnswer (S.image image.source) image.len
-        words.now.words placed.answer) }
+    ensures answer { IfOk result (λ placed. EachKnown (S.Holds placed.source.blocks)
+        (λ known. IsKnownAnswer known image.len words.now.words placed.answer)) }
+    ensures narrows { IfOk result (λ placed. OfEach (S.Holds placed.source.blocks)
+        (S.Holds image.source.blocks)) }
     ensures fault { IfErr result (λ back. IsTakeFault (as_take_words words.now) back.fault) }
     ensures away { IfErr result (λ back. IsBagAway words.now.folder.now back.fault
         (Y.did system) (Y.did back.system)) }
@@ -99,8 +111,9 @@ fn write_bag<'a, Y: FileSystem + Drop, S: BlockSource + Drop, W: Watch>(
             });
         }
     };
-    match give_remains(alloc, &mut shelf, image, words, watch) {
-        Ok(answer) => place_bag(shelf, answer, words),
+    let GivenRemains { answer, source } = give_remains(alloc, &mut shelf, image, words, watch);
+    match answer {
+        Ok(answer) => place_bag(shelf, answer, source, words),
         Err(fault) => {
             let told = TakeFault::of_bag(fault, words.words.image);
             Err(take_away(shelf, told))
@@ -110,20 +123,22 @@ fn write_bag<'a, Y: FileSystem + Drop, S: BlockSource + Drop, W: Watch>(
 
 /// Rescues what remains of an image that was opened, over any system, where nothing has the folder's name.
 ///
-/// By the last step of the system a folder has this place then: where the image's bytes are known, exactly its bag lies in it; and what is told of the
-/// image is answered. At a fault nothing has the place that did not have it, and what was written is taken away. Faults: `IsThere`; `CannotWrite` of the
+/// By the last step of the system a folder has this place then, in which exactly the bag lies of each image that has the bytes which were read; and what is
+/// told of the image is answered. At a fault nothing has the place that did not have it, and what was written is taken away. Faults: `IsThere`; `CannotWrite` of the
 /// path that isn't written, the image can't be read in the middle, memory was refused.
-pub fn rescue_opened<'a, Y: FileSystem + Drop, S: BlockSource + Drop, W: Watch>(
+pub fn rescue_opened<'a, Y: FileSystem + Drop, S: PlacedBlocks + Drop, W: Watch>(
     alloc: Global,
     system: Y,
     image: RescuedImage<S>,
     words: &BagWords<'a>,
     watch: &W,
-) -> Result<PlacedBag<Y>, UnplacedBag<'a, Y>>
-    ensures placed { IfOk result (λ placed. IsBagPlaced (S.image image.source) image.len
+) -> Result<PlacedBag<Y, S>, UnplacedBag<'a, Y>>
+    ensures placed { IfOk result (λ placed. IsBagPlaced (S.Holds placed.source.blocks) image.len
         (option_map string_bytes image.line) words.now (Y.did placed.system)) }
-    ensures answer { IfOk result (λ placed. IsKnownAnswer (S.image image.source) image.len
-        words.now.words placed.answer) }
+    ensures answer { IfOk result (λ placed. EachKnown (S.Holds placed.source.blocks)
+        (λ known. IsKnownAnswer known image.len words.now.words placed.answer)) }
+    ensures narrows { IfOk result (λ placed. OfEach (S.Holds placed.source.blocks)
+        (S.Holds image.source.blocks)) }
     ensures fault { IfErr result (λ back. IsTakeFault (as_take_words words.now) back.fault) }
     ensures unplaced { IfErr result (λ back. IsBagUnplaced words.now back.fault
         (Y.did system) (Y.did back.system)) }
@@ -137,14 +152,13 @@ pub fn rescue_opened<'a, Y: FileSystem + Drop, S: BlockSource + Drop, W: Watch>(
 }
 
 /// The same with the system's own files, which nothing is told of then.
-fn rescue_loaded<'a, R: Files + AllocGlobal, S: BlockSource + Drop, W: Watch>(
+fn rescue_loaded<'a, R: Files + AllocGlobal, S: PlacedBlocks + Drop, W: Watch>(
     rt: &R,
     image: RescuedImage<S>,
     words: &BagWords<'a>,
     watch: &W,
 ) -> Result<RescueAnswer, TakeFault<'a>>
-    ensures fault { IfErr result (IsTakeFault (as_take_words words.now)) }
-    ensures answer { IfOk result (IsKnownAnswer (S.image image.source) image.len words.now.words) }
+    ensures { IfErr result (IsTakeFault (as_take_words words.now)) }
 {
     match rescue_opened(rt.alloc(), SystemFiles::new(rt), image, words, watch) {
         Ok(placed) => Ok(placed.answer),
@@ -167,9 +181,6 @@ pub fn rescue<'a, R: Files + AllocGlobal, W: Watch>(
         Ok(loaded) => loaded,
         Err(fault) => return Err(TakeFault::Image(fault)),
     };
-    let answer = match image {
-        Loaded::Held(image) => rescue_loaded(rt, image, words, watch)?,
-        Loaded::Opened(image) => rescue_loaded(rt, image, words, watch)?,
-    };
+    let answer = rescue_loaded(rt, image, words, watch)?;
     Ok(Rescued { answer, sum })
 }

@@ -8,8 +8,10 @@ ghost use Rattle.hfs_needed.specs.Known.{OfKnown};
 ghost use Rattle.hfs_rescue_items.specs.Writing.{WritesFrontOf, WritesOf};
 ghost use Rattle.hfs_rescue_rows.specs.Paths.{path_end};
 ghost use Rattle.hfs_rescue_rows.specs.Rows.{selected_text};
+ghost use Rattle.hfs_source.specs.Images.{OfEach};
+ghost use Rattle.hfs_sparse.specs.Seen.{EachKnown};
 ghost use Rattle.hfs_texts.specs.Writing.{AppendsFront};
-ghost use Rattle.hfs_salvage.specs.Shown.{OfKnownFound, end_bytes, end_rows, folder_told, fork_told, found_status, told_whole, whole_status};
+ghost use Rattle.hfs_salvage.specs.Shown.{OfEachFound, end_bytes, end_rows, folder_told, fork_told, found_status, told_whole, whole_status};
 
 use crate::answer::RescueAnswer;
 use crate::found::found_in;
@@ -24,8 +26,9 @@ use hfs_rescue_items::Found;
 use hfs_rescue_rows::{
     PathEnd, Selection, TableFault, home_number, path_end, write_item_fork, write_rows,
 };
+use hfs_source::PlacedBlocks;
 use hfs_space::ForkKind;
-use hfs_sparse::BlockSource;
+use hfs_sparse::{BlockSource, SeenBlocks};
 use std::alloc::Global;
 use std::io::Write;
 
@@ -40,14 +43,15 @@ fn fault_of_rows(fault: TableFault) -> Fault<'static>
 }
 
 /// The fault that an image's check tells; None of a sound one.
-pub fn image_fault<S: BlockSource>(image: &RescuedImage<S>) -> Option<MountFault>
-    ensures { OfKnown (S.image image.now.source) image.now.len (IsCheckFault result) }
+pub fn image_fault<S: PlacedBlocks>(image: &RescuedImage<S>) -> Option<MountFault>
+    ensures { EachKnown (S.Holds image.now.source.blocks)
+        (λ known. OfKnown known image.now.len (IsCheckFault result)) }
 {
     image.check.fault
 }
 
 /// Writes the rows of what was found of an image that are selected, and answers the exit status of `rescue`.
-fn write_selected<S: BlockSource, W: Write>(
+fn write_selected<S: PlacedBlocks, W: Write>(
     alloc: Global,
     writer: &mut W,
     image: &RescuedImage<S>,
@@ -74,22 +78,22 @@ fn write_selected<S: BlockSource, W: Write>(
 }
 
 /// Writes the table of what was found of an image, a row for each item, in their order, and answers the exit status of `rescue`. All this
-/// where the image's bytes are known; a file's are not. Faults: memory was refused; `OutputFailed`, and then a part of the table may
+/// of each image that has the bytes which were read. Faults: memory was refused; `OutputFailed`, and then a part of the table may
 /// have gone out, from its beginning on.
-pub fn write_found_items<S: BlockSource, W: Write>(
+pub fn write_found_items<S: PlacedBlocks, W: Write>(
     alloc: Global,
     writer: &mut W,
     image: &RescuedImage<S>,
     words: &RescueWords<'_>,
     format: Format,
 ) -> Result<u8, Fault<'static>>
-    ensures written { OnOk result (OfKnownFound (S.image image.now.source) image.now.len words.now
+    ensures written { OnOk result (OfEachFound (S.Holds image.now.source.blocks) image.now.len words.now
         (λ bytes found. Appends (W.contents writer.old) (W.contents writer.new)
         (selected_text (Selection.All format) found))) }
-    ensures part { OnErr result (OfKnownFound (S.image image.now.source) image.now.len words.now
+    ensures part { OnErr result (OfEachFound (S.Holds image.now.source.blocks) image.now.len words.now
         (λ bytes found. AppendsFront (W.contents writer.old) (W.contents writer.new)
         (selected_text (Selection.All format) found))) }
-    ensures status { IfOk result (λ status. OfKnownFound (S.image image.now.source) image.now.len words.now
+    ensures status { IfOk result (λ status. OfEachFound (S.Holds image.now.source.blocks) image.now.len words.now
         (λ bytes found. status ≡ found_status bytes found)) }
     ensures faults { IfErr result IsUnprinted }
 {
@@ -102,7 +106,7 @@ pub fn write_found_items<S: BlockSource, W: Write>(
 }
 
 /// Writes the rows of the folder that an end of a path is, and answers the exit status of `rescue`, or the code where it is none.
-fn write_end_rows<S: BlockSource, W: Write>(
+fn write_end_rows<S: PlacedBlocks, W: Write>(
     alloc: Global,
     writer: &mut W,
     image: &RescuedImage<S>,
@@ -131,22 +135,22 @@ fn write_end_rows<S: BlockSource, W: Write>(
 }
 
 /// Writes the rows of what lies in the folder that a path leads to, which is read as the rows print it, and answers the exit status of `rescue`;
-/// or -43 where no item has that path, -120 where it is a file's, and nothing is written. All this where the image's bytes are known; a
-/// file's are not. Faults: as [`write_found_items`] has them.
-pub fn write_found_folder<S: BlockSource, W: Write>(
+/// or -43 where no item has that path, -120 where it is a file's, and nothing is written. All this of each image that has the
+/// bytes which were read. Faults: as [`write_found_items`] has them.
+pub fn write_found_folder<S: PlacedBlocks, W: Write>(
     alloc: Global,
     writer: &mut W,
     image: &RescuedImage<S>,
     words: &RescueWords<'_>,
     path: &str,
 ) -> Result<Result<u8, Reply>, Fault<'static>>
-    ensures written { OnOk result (OfKnownFound (S.image image.now.source) image.now.len words.now
+    ensures written { OnOk result (OfEachFound (S.Holds image.now.source.blocks) image.now.len words.now
         (λ bytes found. Appends (W.contents writer.old) (W.contents writer.new)
         (end_rows found (path_end found path.now)))) }
-    ensures part { OnErr result (OfKnownFound (S.image image.now.source) image.now.len words.now
+    ensures part { OnErr result (OfEachFound (S.Holds image.now.source.blocks) image.now.len words.now
         (λ bytes found. AppendsFront (W.contents writer.old) (W.contents writer.new)
         (end_rows found (path_end found path.now)))) }
-    ensures told { IfOk result (λ told. OfKnownFound (S.image image.now.source) image.now.len words.now
+    ensures told { IfOk result (λ told. OfEachFound (S.Holds image.now.source.blocks) image.now.len words.now
         (λ bytes found. told ≡ folder_told bytes found (path_end found path.now))) }
     ensures faults { IfErr result IsUnprinted }
 {
@@ -192,13 +196,14 @@ fn write_end_fork<S: BlockSource, W: Write>(
     end: PathEnd,
     writer: &mut W,
 ) -> Result<Result<u8, Reply>, CopyFault>
-    ensures written { OnOk result (WritesOf (S.image source.old) (W.contents writer.old)
+    ensures written { OnOk result (WritesOf (S.Holds source.new) (W.contents writer.old)
         (W.contents writer.new) (λ bytes. end_bytes bytes found.now kind end)) }
-    ensures part { OnErr result (WritesFrontOf (S.image source.old) (W.contents writer.old)
+    ensures part { OnErr result (WritesFrontOf (S.Holds source.new) (W.contents writer.old)
         (W.contents writer.new) (λ bytes. end_bytes bytes found.now kind end)) }
     ensures told { IfOk result (λ told. told ≡ fork_told found.now kind end) }
     ensures none { result ≡ Err CopyFault.ReadFailed → writer.new ≡ writer.old }
     ensures memory { result ≡ Err CopyFault.Memory → writer.new ≡ writer.old }
+    ensures narrows { OfEach (S.Holds source.new) (S.Holds source.old) }
 {
     match end {
         PathEnd::Nothing => Ok(Err(refusal(NOT_FOUND))),
@@ -209,27 +214,36 @@ fn write_end_fork<S: BlockSource, W: Write>(
     }
 }
 
+/// What became of writing a fork, and what it was read from.
+#[derive(Drop)]
+pub struct ShownFork<S: PlacedBlocks> {
+    /// The exit status: 0 where the fork is whole, else 3; or -43 where no file has that path; or why it was not written.
+    pub told: Result<Result<u8, Reply>, CopyFault>,
+    pub source: SeenBlocks<S>,
+}
+
 /// Writes the bytes that `rescue` takes of a fork of the item that a path leads to, which is read as the rows print it, and answers the exit
-/// status: 0 where the fork is whole, else 3; or -43 where no file has that path, and nothing is written. All this where the image's bytes
-/// are known; a file's are not. Errors: as [`write_fork`](hfs_rescue_items::write_fork) has them.
-pub fn write_found_fork<S: BlockSource + Drop, W: Write>(
+/// status: 0 where the fork is whole, else 3; or -43 where no file has that path, and nothing is written. All this of each image that has
+/// the bytes which were read. Errors: as [`write_fork`](hfs_rescue_items::write_fork) has them.
+pub fn write_found_fork<S: PlacedBlocks + Drop, W: Write>(
     alloc: Global,
     writer: &mut W,
     image: RescuedImage<S>,
     words: &RescueWords<'_>,
     path: &str,
     kind: ForkKind,
-) -> Result<Result<u8, Reply>, CopyFault>
-    ensures written { OnOk result (OfKnownFound (S.image image.source) image.len words.now
+) -> ShownFork<S>
+    ensures written { OnOk result.told (OfEachFound (S.Holds result.source.blocks) image.len words.now
         (λ bytes found. Appends (W.contents writer.old) (W.contents writer.new)
         (end_bytes bytes found kind (path_end found path.now)))) }
-    ensures part { OnErr result (OfKnownFound (S.image image.source) image.len words.now
+    ensures part { OnErr result.told (OfEachFound (S.Holds result.source.blocks) image.len words.now
         (λ bytes found. AppendsFront (W.contents writer.old) (W.contents writer.new)
         (end_bytes bytes found kind (path_end found path.now)))) }
-    ensures told { IfOk result (λ told. OfKnownFound (S.image image.source) image.len words.now
+    ensures told { IfOk result.told (λ told. OfEachFound (S.Holds result.source.blocks) image.len words.now
         (λ bytes found. told ≡ fork_told found kind (path_end found path.now))) }
-    ensures none { result ≡ Err CopyFault.ReadFailed → writer.new ≡ writer.old }
-    ensures memory { result ≡ Err CopyFault.Memory → writer.new ≡ writer.old }
+    ensures none { result.told ≡ Err CopyFault.ReadFailed → writer.new ≡ writer.old }
+    ensures memory { result.told ≡ Err CopyFault.Memory → writer.new ≡ writer.old }
+    ensures narrows { OfEach (S.Holds result.source.blocks) (S.Holds image.source.blocks) }
 {
     let RescuedImage {
         mut source,
@@ -240,11 +254,18 @@ pub fn write_found_fork<S: BlockSource + Drop, W: Write>(
     } = image;
     let limit = words.limit_for(len);
     let Ok(salvage) = salvage_of(alloc, &finds, limit) else {
-        return Err(CopyFault::Memory);
+        return ShownFork {
+            told: Err(CopyFault::Memory),
+            source,
+        };
     };
     let found = found_in(&finds, &salvage);
     let Ok(end) = path_end(alloc, &found, path) else {
-        return Err(CopyFault::Memory);
+        return ShownFork {
+            told: Err(CopyFault::Memory),
+            source,
+        };
     };
-    write_end_fork(alloc, &mut source, &found, kind, end, writer)
+    let told = write_end_fork(alloc, &mut source, &found, kind, end, writer);
+    ShownFork { told, source }
 }

@@ -43,10 +43,29 @@ impl<'w, B: BagSource, W: Watch> Watched<'w, B, W> {
             all,
         }
     }
+
+    /// The source that was watched.
+    pub(crate) fn into_items(self) -> B
+        ensures { result ≡ self.entry.items }
+    {
+        let Watched {
+            items,
+            watch: _,
+            count: _,
+            all: _,
+        } = self;
+        items
+    }
 }
 
 impl<B: BagSource, W: Watch> BagSource for Watched<'_, B, W> {
+    ghost Holds = { λ watched. B.Holds watched.items };
+
     ghost state = { λ watched. B.state watched.items };
+
+    ghost items_left = { λ watched. B.items_left watched.items };
+
+    ghost bytes_left = { λ watched. B.bytes_left watched.items };
 
     ghost Fails = { B.Fails };
 

@@ -10,8 +10,6 @@ mod placed;
 mod range;
 mod reader;
 mod seeking;
-#[cfg(test)]
-mod tests;
 
 pub use crate::blocks::{BlocksOf, PlacedBlocks};
 pub use crate::file::TrustedFile;

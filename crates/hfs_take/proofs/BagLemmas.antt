@@ -1,25 +1,19 @@
--- Bags of images whose bytes may be known.
-use Rattle.std.proofs.Common.{◌≡◌, ℕ, true, List, [], ◌∷◌, ◌++◌, length, Option, Some, None, refl, sym, ap, subst, ◌∙◌}
-use Rattle.std.specs.Prelude.{codes, unwrap_or}
+-- Bags of images.
+use Rattle.std.proofs.Common.{◌≡◌, ℕ, List, [], ◌∷◌, ◌++◌, Option, Some, None, refl, sym, subst, ◌∙◌}
+use Rattle.std.specs.Prelude.{codes}
 use Rattle.std.specs.Borrow.{Bor}
 use Rattle.std.specs.Fmt.{decimal}
-use Rattle.std.proofs.lemmas.Bool.{eq-eqb}
 use Rattle.hfs_bag.specs.declared.facts.BagFacts.{BagFacts}
 use Rattle.hfs_bag.specs.Bags.{bytes_in, files_in, manifest, payload}
 use Rattle.hfs_bag.specs.Items.{BagItem}
-use Rattle.hfs_bag.specs.Tags.{bag_of, bytes_key, declaration_file, directory_line, info_text, manifest_file, oxum_text, source_digest_line, table_file, tag_files, volume_line}
+use Rattle.hfs_bag.specs.Tags.{bytes_key, declaration_file, directory_line, info_text, manifest_file, oxum_text, source_digest_line, table_file, tag_files, volume_line}
 use Rattle.hfs_bag.proofs.Growing.{part_first}
 use Rattle.hfs_shelves.specs.Entries.{IsBeginning, ShelfEntry, file}
 use Rattle.hfs_shelves.proofs.Beginnings.{begins_appended}
 use Rattle.hex.specs.Hex.{encode_lower}
 use Rattle.hfs_texts.specs.Lines.{line}
-use Rattle.hfs_image_items.specs.declared.items.CameItem.{CameItem}
-use Rattle.hfs_image_items.specs.declared.reading.Reading.{Reading}
-use Rattle.hfs_image_items.specs.Items.{bag_items, entries_in, is_known_so, table_text}
-use Rattle.hfs_image_items.specs.Sources.{source_of}
-use Rattle.hfs_inventory.specs.Told.{ToldRow, told_rows}
-use Rattle.hfs_needed.specs.Known.{OfKnown}
-use Rattle.hfs_needed.specs.OpenedValues.{OpenedValue, opened_value}
+use Rattle.hfs_image_items.specs.Items.{bag_items, entries_in, table_text}
+use Rattle.hfs_inventory.specs.Told.{told_rows}
 use Rattle.hfs_take.specs.declared.words.TakeWords.{TakeWords}
 use Rattle.hfs_take.specs.Bags.{OfBag, TellsOf, image_bag, text_in}
 
@@ -105,43 +99,20 @@ bag-same image told words f g a b =
     (a.directory_is ∙ sym b.directory_is) (a.bytes_are ∙ sym b.bytes_are) (a.digest_is ∙ sym b.digest_is) (bytes_in (payload items)) (files_in (payload items)) in
     λ i. bag-with items (table_text (told_rows (entries_in image))) ((a.report_is ∙ sym b.report_is) i) (info i)
 
--- ---- images whose bytes may be known
+-- ---- what was given of an image's bag
 
--- what was given where they are known was given of the image's bag
-pub of-known : (known : Option (List ℕ)) (len : ℕ) (line : Option (List ℕ)) (words : TakeWords) (facts : BagFacts) (left : List ToldRow) (came : CameItem) (reading : Reading)
-    (P : List ShelfEntry → Type 0) → OfKnown known len (λ image. TellsOf image line words facts)
-    → (is_known_so known len ≡ true
-    → P (bag_of (source_of (opened_value known len) left came reading).all (source_of (opened_value known len) left came reading).tables facts))
-    → OfBag (opened_value known len) line words P
-of-known None len line words facts left came reading P tells given = tt
-of-known (Some image) len line words facts left came reading P tells given =
-    λ same other told. subst P (bag-same image line words facts other (tells same) told) (given (eq-eqb (length image) len same))
+-- what holds of the bag that these facts make holds of each that tells the same
+pub of_facts : (image : List ℕ) (line : Option (List ℕ)) (words : TakeWords) (facts : BagFacts) (P : List ShelfEntry → Type 0) → TellsOf image line words facts
+    → P (image_bag image facts) → OfBag line words P image
+of_facts image line words facts P tells given = λ other told. subst P (bag-same image line words facts other tells told) given
 
--- nothing was given yet
-pub none-known : (known : Option (List ℕ)) (len : ℕ) (line : Option (List ℕ)) (words : TakeWords) (P : List ShelfEntry → Type 0)
-    → ((bag : List ShelfEntry) → P bag) → OfBag (opened_value known len) line words P
-none-known None len line words P all = tt
-none-known (Some image) len line words P all = λ same facts told. all (image_bag image facts)
-
--- a part of the payload was given, of an image whose bytes may be known
-pub payload-part : (known : Option (List ℕ)) (len : ℕ) (line : Option (List ℕ)) (words : TakeWords) (given now : List ShelfEntry)
-    → (is_known_so known len ≡ true → IsBeginning now (given ++ payload (bag_items (entries_in (unwrap_or known [])))))
-    → OfBag (opened_value known len) line words (λ bag. IsBeginning now (given ++ bag))
-payload-part None len line words given now part = tt
-payload-part (Some image) len line words given now part = λ same facts told.
+-- a part of the payload was given
+pub payload_part : (image : List ℕ) (line : Option (List ℕ)) (words : TakeWords) (given now : List ShelfEntry)
+    → IsBeginning now (given ++ payload (bag_items (entries_in image))) → OfBag line words (λ bag. IsBeginning now (given ++ bag)) image
+payload_part image line words given now part = λ facts told.
     let items = bag_items (entries_in image) in
-    part_first given now (payload items) (tag_files items (record { items = table_text (told_rows (entries_in image)); remains = None }) facts) (part (eq-eqb (length image) len same))
-
--- what holds of the items where they are known
-pub items-known : (known : Option (List ℕ)) (len : ℕ) (Fact : List BagItem → Type 0)
-    → (is_known_so known len ≡ true → Fact (bag_items (entries_in (unwrap_or known [])))) → OfKnown known len (λ image. Fact (bag_items (entries_in image)))
-items-known None len Fact holds = tt
-items-known (Some image) len Fact holds = λ same. holds (eq-eqb (length image) len same)
+    part_first given now (payload items) (tag_files items (record { items = table_text (told_rows (entries_in image)); remains = None }) facts) part
 
 -- nothing of a bag was given
-pub nothing-given : (opened : OpenedValue) (line : Option (List ℕ)) (words : TakeWords) (given : List ShelfEntry) → OfBag opened line words (λ bag. IsBeginning given (given ++ bag))
-nothing-given opened line words given = none-known opened.known opened.len line words (λ bag. IsBeginning given (given ++ bag)) (λ bag. begins_appended given bag)
-
--- what holds of an image and a line holds of the same ones
-pub carry : (F : OpenedValue → Option (List ℕ) → Type 0) (o o' : OpenedValue) → o ≡ o' → (l l' : Option (List ℕ)) → l ≡ l' → F o l → F o' l'
-carry F o o' same l l' is h = subst (λ (now : OpenedValue). F now l') same (subst (F o) is h)
+pub nothing_given : (image : List ℕ) (line : Option (List ℕ)) (words : TakeWords) (given : List ShelfEntry) → OfBag line words (λ bag. IsBeginning given (given ++ bag)) image
+nothing_given image line words given = λ facts told. begins_appended given (image_bag image facts)

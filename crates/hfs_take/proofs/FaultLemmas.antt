@@ -1,17 +1,15 @@
 -- Faults of what is taken apart name what its words name.
-use Rattle.std.proofs.Common.{◌≡◌, ℕ, true, List, [], Option, refl, sym, subst, inl, inr}
-use Rattle.std.specs.Prelude.{⊤, string_bytes, unwrap_or}
+use Rattle.std.proofs.Common.{◌≡◌, ℕ, List, refl, sym, subst, inl, inr}
+use Rattle.std.specs.Prelude.{⊤, string_bytes}
 use Rattle.hfs_bag.specs.declared.fault.BagFault.{BagFault}
 use Rattle.hfs_bag.specs.declared.fault.BagFault.TheVariants as bag
 use Rattle.hfs_bag.specs.declared.source.SourceFault.TheVariants as source
-use Rattle.hfs_bag.specs.Bags.{bytes_in, payload}
-use Rattle.hfs_bag.specs.Faults.{AreTooMany, IsBagFault}
-use Rattle.hfs_bag.specs.Items.{BagItem}
-use Rattle.hfs_bag.proofs.FaultLemmas.{larger}
-use Rattle.hfs_image_items.specs.Items.{bag_items, entries_in, is_known_so}
 use Rattle.hfs_check.specs.declared.mount_fault.MountFault.TheVariants as mount
 use Rattle.hfs_commands.specs.declared.fault.Fault.{Fault}
 use Rattle.hfs_commands.specs.declared.fault.Fault.TheVariants.{CannotRead, NoMemory, Refused}
+use Rattle.hfs_commands.specs.Faults.{KeepsRefusal}
+use Rattle.hfs_needed.specs.declared.opening.NeededFault.{NeededFault}
+use Rattle.hfs_needed.specs.declared.opening.NeededFault.TheVariants as needed
 use Rattle.hfs_shelves.specs.declared.fault.ShelfFault.{ShelfFault}
 use Rattle.hfs_shelves.specs.declared.fault.ShelfFault.TheVariants as shelf
 use Rattle.hfs_shelves.specs.ShelfPaths.{IsNewFolder}
@@ -19,14 +17,20 @@ use Rattle.hfs_shelves.specs.Told.{Tells, TellsNewFolder, TellsWithin}
 use Rattle.hfs_take.specs.declared.fault.TakeFault.{TakeFault}
 use Rattle.hfs_take.specs.declared.fault.TakeFault.TheVariants as take
 use Rattle.hfs_take.specs.declared.words.TakeWords.{TakeWords}
-use Rattle.hfs_take.proofs.BagLemmas.{items-known}
-use Rattle.hfs_take.specs.Faults.{IsFillFault, IsImageFault, IsTakeFault, IsUnwritten, KeepsShelfFault, fault_of_shelf}
+use Rattle.hfs_take.specs.Faults.{IsImageFault, IsTakeFault, IsUnwritten, KeepsShelfFault, fault_of_shelf}
 
 unread : (words : TakeWords) (found : Fault) → found ≡ CannotRead words.image → IsImageFault words found
 unread words found is = inl (inl is)
 
 unstored : (words : TakeWords) (found : Fault) → found ≡ NoMemory → IsImageFault words found
 unstored words found is = inl (inr (inl (inr is)))
+
+-- a volume that was not opened
+pub of_needed : (words : TakeWords) (why : NeededFault) (found : Fault) → (why ≡ needed.ReadFailed → found ≡ CannotRead words.image) → (why ≡ needed.Memory → found ≡ NoMemory)
+    → KeepsRefusal why found → IsImageFault words found
+of_needed words needed.ReadFailed found read memory refused = unread words found (read refl)
+of_needed words needed.Memory found read memory refused = unstored words found (memory refl)
+of_needed words (needed.Refused why) found read memory refused = inr (why, refused why refl)
 
 -- a fault that is known is one of those of these words
 known : (words : TakeWords) (found is : TakeFault) → found ≡ is → IsTakeFault words is → IsTakeFault words found
@@ -63,10 +67,3 @@ of_bag words (bag.Source source.ReadFailed) found new is told read memory shelve
 of_bag words (bag.Source source.Memory) found new is told read memory shelved large = known words found _ (memory refl) (unstored words _ refl)
 of_bag words (bag.Shelf why) found new is told read memory shelved large = of_shelf words why found (shelved why refl) (unfilled words.folder.now new why is (told why refl))
 of_bag words bag.TooLarge found new is told read memory shelved large = known words found _ (large refl) (inr (mount.TooLarge, refl))
-
--- what is too large where an image's bytes are known is the payload of its items
-pub fill-fault : (ShelfGave : ShelfFault → Type 0) (image : Option (List ℕ)) (len : ℕ) (fault : BagFault)
-    → IsBagFault (λ _. ⊤) ShelfGave (is_known_so image len ≡ true → AreTooMany (bytes_in (payload (bag_items (entries_in (unwrap_or image [])))))) fault
-    → IsFillFault ShelfGave image len fault
-fill-fault ShelfGave image len fault is =
-    larger (λ _. ⊤) ShelfGave fault (items-known image len (λ (items : List BagItem). AreTooMany (bytes_in (payload items)))) is

@@ -8,8 +8,10 @@ use Rattle.std.specs.declared.io.traits.Seek as Seek
 use Rattle.hfs_commands.specs.contracts.opened_file.OpenedFile as opened
 use Rattle.hfs_commands.specs.contracts.opened_file.StoredFile as stored
 use Rattle.hfs_containers.proofs.raw.RawFile.TheSendSync as raw
-use Rattle.hfs_containers.proofs.window.Window.TheSendSync as window
-use Rattle.hfs_containers.specs.contracts.window.Window as windows
+use Rattle.hfs_source.proofs.blocks.BlocksOf.TheSendSync as blocks
+use Rattle.hfs_source.proofs.range.RangeBytes.TheSendSync as range
+use Rattle.hfs_source.specs.contracts.blocks.BlocksOf as blocks_of
+use Rattle.hfs_source.specs.contracts.range.RangeBytes as ranges
 
 stored_send : (F : RattleType) (r : Read.Ghosts F.Denot) (s : Seek.Ghosts F.Denot) → IsSend F → IsSend (stored.the_row F r s)
 stored_send F r s sent = search (crosses, sendable) depth 20
@@ -21,5 +23,6 @@ opened_send F r s sent =
     let user_data = raw.the_send (stored.the_row F r s) plain in
     variants_send (opened.enum F r s) ((plain, tt), ((user_data, tt), tt))
 
-pub window_send : (F : RattleType) (r : Read.Ghosts F.Denot) (s : Seek.Ghosts F.Denot) → IsSend F → IsSend (windows.the_row (opened.the_row F r s))
-window_send F r s sent = window.the_send (opened.the_row F r s) (opened_send F r s sent)
+-- a part of it may, too
+pub part_send : (F : RattleType) (r : Read.Ghosts F.Denot) (s : Seek.Ghosts F.Denot) → IsSend F → IsSend (blocks_of.the_row (ranges.the_row (opened.the_row F r s)))
+part_send F r s sent = blocks.the_send (ranges.the_row (opened.the_row F r s)) (range.the_send (opened.the_row F r s) (opened_send F r s sent))

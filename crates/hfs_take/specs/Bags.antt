@@ -11,7 +11,6 @@ use Rattle.hfs_image_items.specs.Items.{bag_items, entries_in, table_text}
 use Rattle.hfs_inventory.specs.Told.{ToldRow, told_rows}
 use Rattle.hfs_names.specs.PlainTexts.{plain_text}
 use Rattle.hfs_needed.specs.Known.{OfKnown}
-use Rattle.hfs_needed.specs.OpenedValues.{OpenedValue}
 use Rattle.hfs_shelves.specs.Entries.{ShelfEntry}
 use Rattle.hfs_texts.specs.Reading.{info_text}
 use Rattle.hfs_take.specs.declared.words.TakeWords.{TakeWords}
@@ -50,17 +49,12 @@ pub record TellsOf (image : List ℕ) (line : Option (List ℕ)) (words : TakeWo
 abbrev pub image_bag : List ℕ → BagFacts → List ShelfEntry
 image_bag image facts = bag_of (bag_items (entries_in image)) (record { items = table_text (told_rows (entries_in image)); remains = None }) facts
 
--- where the image's bytes are known, this holds of its bag
-abbrev pub OfBag : OpenedValue → Option (List ℕ) → TakeWords → (List ShelfEntry → Type 0) → Type 0
-OfBag opened line words Fact =
-    OfKnown opened.known opened.len (λ image. (facts : BagFacts) → TellsOf image line words facts → Fact (image_bag image facts))
+-- this holds of an image's bag
+abbrev pub OfBag : Option (List ℕ) → TakeWords → (List ShelfEntry → Type 0) → List ℕ → Type 0
+OfBag line words Fact image = (facts : BagFacts) → TellsOf image line words facts → Fact (image_bag image facts)
 
 -- ---- parts of what it tells
 
 -- where the image's bytes are known, this is what is told of their digest
 abbrev pub IsDigestTold : Option (List ℕ) → ℕ → Bool → Option (List ℕ) → Type 0
 IsDigestTold known len is_digested told = OfKnown known len (λ image. told ≡ digest_told is_digested image)
-
--- where the image's bytes are known, this is its report
-abbrev pub IsReportText : Option (List ℕ) → ℕ → List ℕ → Type 0
-IsReportText known len text = OfKnown known len (λ image. text ≡ report_text image)

@@ -1,5 +1,6 @@
 -- Digests of images, piece by piece.
-use Rattle.std.specs.Prelude.{◌≡◌, ℕ, List, ◌++◌, take, drop, Option, IfSome}
+use Rattle.std.specs.Prelude.{◌≡◌, ⊤, ℕ, List, ◌++◌, take, drop, Option, None, Some, IfSome}
+use Rattle.hfs_sparse.specs.declared.seen_blocks.SeenBlocks.{SeenBlocks}
 use Rattle.sha2.specs.Sha256.{sha256}
 use Rattle.hfs_needed.specs.Known.{OfKnown}
 
@@ -11,6 +12,11 @@ AddsPiece known place count Held Holds = IfSome known (λ image. (m : List ℕ) 
 abbrev pub IsDigestOf : Option (List ℕ) → ℕ → List ℕ → Type 0
 IsDigestOf known len digest = OfKnown known len (λ image. digest ≡ sha256 image)
 
--- a source that is there beside the image tells the same bytes
-abbrev pub TellsSame : {S : Type 0} → (S → Option (List ℕ)) → Option S → Option (List ℕ) → Type 0
-TellsSame image beside known = IfSome beside (λ source. image source ≡ known)
+-- the image has the bytes which were read of a source that is there beside it
+abbrev pub HoldsBeside : {S : Type 0} → (S → List ℕ → Type 0) → Option (SeenBlocks S) → List ℕ → Type 0
+HoldsBeside Holds None image = ⊤
+HoldsBeside Holds (Some beside) image = Holds beside.blocks image
+
+-- the image has the bytes which were read of either source
+abbrev pub HoldsBoth : {S : Type 0} → (S → List ℕ → Type 0) → S → Option (SeenBlocks S) → List ℕ → Type 0
+HoldsBoth Holds source beside image = Holds source image × HoldsBeside Holds beside image

@@ -14,7 +14,7 @@ use Rattle.hfs_check.specs.declared.mount_fault.MountFault.{MountFault}
 use Rattle.hfs_commands.specs.Faults.{IsUnopened, fault_text, status_of}
 use Rattle.hfs_commands.specs.Paths.{path_text}
 use Rattle.hfs_image_items.specs.Items.{bag_items, entries_in}
-use Rattle.hfs_needed.specs.Known.{OfKnown}
+use Rattle.hfs_source.specs.Images.{OfEach}
 use Rattle.hfs_shelves.specs.declared.fault.ShelfFault.{ShelfFault}
 use Rattle.hfs_shelves.specs.declared.fault.ShelfFault.TheVariants as shelf
 use Rattle.hfs_shelves.specs.ShelfPaths.{IsNewFolder}
@@ -59,10 +59,10 @@ fault_of_shelf shelf.NoMemory = take.Image NoMemory
 abbrev pub KeepsShelfFault : BagFault → TakeFault → Type 0
 KeepsShelfFault filling found = (why : ShelfFault) → filling ≡ bag.Shelf why → found ≡ fault_of_shelf why
 
--- a fault of a shelf, want of memory, or a read that failed; or the payload of an image is too large, where its bytes are known
-abbrev pub IsFillFault : (ShelfFault → Type 0) → Option (List ℕ) → ℕ → BagFault → Type 0
-IsFillFault ShelfGave known len =
-    IsBagFault (λ _. ⊤) ShelfGave (OfKnown known len (λ image. AreTooMany (bytes_in (payload (bag_items (entries_in image))))))
+-- a fault of a shelf, want of memory, or a read that failed; or the payload of each of these images is too large
+abbrev pub IsFillFault : (ShelfFault → Type 0) → (List ℕ → Type 0) → BagFault → Type 0
+IsFillFault ShelfGave Holds =
+    IsBagFault (λ _. ⊤) ShelfGave (OfEach Holds (λ image. AreTooMany (bytes_in (payload (bag_items (entries_in image))))))
 
 -- the lines of a bag that was made
 unfoldable pub taken_text : BagSums → List ℕ

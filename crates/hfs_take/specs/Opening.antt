@@ -1,12 +1,18 @@
 -- What is known of what was opened.
 use Rattle.std.specs.Prelude.{◌≡◌, ℕ, Bool, List, Option, None, Some}
+use Rattle.hfs_commands.specs.OpenedFiles.{images_of}
 use Rattle.hfs_commands.specs.Parts.{asked_at}
+use Rattle.hfs_commands.specs.SeenFiles.{IsPartOf}
+use Rattle.hfs_commands.specs.declared.opened_file.OpenedFile.{OpenedFile}
 use Rattle.hfs_commands.specs.Volumes.{sum_told}
 use Rattle.hfs_containers.specs.Asking.{IsAnswerTo}
 use Rattle.hfs_containers.specs.Ranges.{bytes_in, volume_name_in}
 use Rattle.hfs_containers.specs.Reading.{IsTold}
 use Rattle.hfs_containers.specs.declared.asking.NumberedRange.{NumberedRange}
 use Rattle.hfs_containers.specs.declared.ranges.ByteRange.{ByteRange}
+use Rattle.hfs_source.specs.declared.blocks.BlocksOf.{BlocksOf}
+use Rattle.hfs_source.specs.declared.range.RangeBytes.{RangeBytes}
+use Rattle.hfs_sparse.specs.declared.seen_blocks.SeenBlocks.{SeenBlocks}
 use Rattle.hfs_take.specs.Facts.{volume_text}
 
 -- the line tells a range with its number, the name of its volume and whether its sum is right, which are known where the file's bytes are, and how many
@@ -37,3 +43,7 @@ IsLineOf volume range line = (place : Option NumberedRange) × IsAnswerTo volume
 -- the line tells the volume that is asked for, which has so many bytes
 abbrev pub TellsVolume : Option ℕ → ℕ → Option (List ℕ) → Type 0
 TellsVolume volume len line = (range : ByteRange) × (range.len ≡ len) × IsLineOf volume range line
+
+-- these blocks of a file are that range of it, or there are none, where no file that has the bytes which were read has all of the range
+abbrev pub AreBlocksAt : {F : Type 0} → ByteRange → SeenBlocks (BlocksOf (RangeBytes (OpenedFile F))) → Type 0
+AreBlocksAt range part = IsPartOf (images_of part.blocks.bytes.bytes) range part.blocks.bytes.start part.blocks.bytes.len

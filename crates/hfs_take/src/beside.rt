@@ -1,82 +1,92 @@
 //! The digest of an image, which is made beside the payload where the image was opened a second time.
-ghost use Rattle.std.specs.Prelude.{◌≡◌, ◌++◌, ⊤, IfErr, IfOk, OnErr, OnOk};
+ghost use Rattle.std.specs.Prelude.{◌≡◌, ◌++◌, ⊤, ℕ, List, Option, IfErr, IfOk, OnErr, OnOk, length};
 ghost use Rattle.hfs_bag.specs.Bags.{payload};
 ghost use Rattle.hfs_bag.specs.Faults.{IsPayloadFault};
 ghost use Rattle.hfs_bag.specs.Payloads.{IsPayloadOf};
-ghost use Rattle.hfs_bag.specs.Sources.{KeepsItems, WhereKnown};
+ghost use Rattle.hfs_bag.specs.Sources.{KeepsItems};
 ghost use Rattle.hfs_shelves.specs.Entries.{IsBeginning};
-ghost use Rattle.hfs_take.specs.Digests.{IsDigestOf, TellsSame};
-ghost use Rattle.hfs_take.specs.Planned.{CameOf, IsPlanOf};
+ghost use Rattle.hfs_source.specs.Images.{HasLength, OfEach};
+ghost use Rattle.hfs_sparse.specs.Seen.{EachKnown};
+ghost use Rattle.hfs_take.specs.Bags.{digest_told};
+ghost use Rattle.hfs_take.specs.Digests.{HoldsBeside, IsDigestOf};
+ghost use Rattle.hfs_take.specs.Planned.{IsPlanned};
 
-use crate::blocks::SourceBlocks;
+use crate::blocks::ImageBlocks;
 use crate::digest::image_digest;
 use hfs_bag::{BagFault, BagSource, GivenPayload, SourceFault, give_payload};
-use hfs_needed::OpenedImage;
+use hfs_needed::SeenImage;
 use hfs_shelves::Shelf;
-use hfs_sparse::BlockSource;
+use hfs_source::PlacedBlocks;
+use hfs_sparse::SeenBlocks;
 use std::alloc::Global;
 use std::thread::{Threads, join_mut};
 
-/// The digest of an image, or where it comes from.
-#[derive(Drop)]
-pub(crate) enum ImageDigest<S: BlockSource> {
-    /// What is told of it: it was made, or is not to be told.
-    Made(Option<[u8; 32]>),
-    /// It is made of this source while the payload is given.
-    Beside(S),
-}
-
-/// How the digest of an image is made, where it is to be told: beside the payload of a source of the same bytes, or of the image at once where
-/// there is none.
-pub(crate) fn plan_digest<S: BlockSource + Drop>(
-    alloc: Global,
-    image: &mut OpenedImage<S>,
-    beside: Option<S>,
-    len: u64,
+/// What the digest is to be made of beside the payload, where it is asked for, and whether it is to be made at once, of the image itself.
+#[tactic(auto, using(crate::proofs::DigestLemmas::told_as_asked))]
+pub(crate) fn plan_digest<S: PlacedBlocks + Drop>(
+    beside: Option<SeenBlocks<S>>,
     is_digested: bool,
-) -> Result<ImageDigest<S>, SourceFault>
-    requires { TellsSame S.image beside image.old.known }
-    ensures plan { IfOk result (IsPlanOf S.image image.old.known len is_digested) }
-    ensures image { image.new ≡ image.old }
+) -> (Option<SeenBlocks<S>>, bool)
+    ensures { (told : Option (List ℕ)) → (image : List ℕ) → told ≡ digest_told result.1 image
+        → IsPlanned result.0 is_digested told image }
 {
     if !is_digested {
-        return Ok(ImageDigest::Made(None));
+        return (None, false);
     }
     match beside {
-        Some(source) => Ok(ImageDigest::Beside(source)),
-        None => {
-            let digest = image_digest(alloc, image, len)?;
-            Ok(ImageDigest::Made(Some(digest)))
-        }
+        Some(source) => (Some(source), false),
+        None => (None, true),
     }
+}
+
+/// The digest of the `len` bytes of an image, where it is to be made of it at once.
+#[tactic(auto, using(crate::proofs::DigestLemmas::told_each))]
+pub(crate) fn digest_at_once<S: PlacedBlocks>(
+    alloc: Global,
+    image: &mut SeenImage<S>,
+    len: u64,
+    is_made: bool,
+) -> Result<Option<[u8; 32]>, SourceFault>
+    requires { OfEach (S.Holds image.old) (HasLength len) }
+    ensures told { IfOk result (λ told. OfEach (S.Holds image.new)
+        (λ bytes. told ≡ digest_told is_made bytes)) }
+    ensures narrows { OfEach (S.Holds image.new) (S.Holds image.old) }
+{
+    if !is_made {
+        return Ok(None);
+    }
+    let digest = image_digest(alloc, image, len)?;
+    Ok(Some(digest))
 }
 
 /// Gives the payload of a bag, and makes the digest of the `len` bytes of an image, in a thread of its own or, where none can be begun, behind the
 /// payload. Faults: the payload's, and then the digest's.
-fn give_beside<R: Threads, S: BlockSource + Drop + Send, T: Shelf, B: BagSource>(
+fn give_beside<R: Threads, D: ImageBlocks + Send, T: Shelf, B: BagSource>(
     threads: &R,
     alloc: Global,
     shelf: &mut T,
     items: &mut B,
-    image: S,
+    image: &mut D,
     len: u64,
 ) -> Result<(GivenPayload, [u8; 32]), BagFault>
-    ensures whole { OnOk result (WhereKnown (B.state items.old)
-        (T.given shelf.new ≡ T.given shelf.old ++ payload (B.state items.old).all)) }
-    ensures part { OnErr result (WhereKnown (B.state items.old)
-        (IsBeginning (T.given shelf.new) (T.given shelf.old ++ payload (B.state items.old).all))) }
-    ensures told { IfOk result (λ made. WhereKnown (B.state items.old)
-        (IsPayloadOf made.0 (B.state items.old).all)) }
-    ensures kept { OnOk result (KeepsItems (B.state items.old) (B.state items.new)) }
-    ensures digest { IfOk result (λ made. IsDigestOf (S.image image) len made.1) }
+    ensures whole { OnOk result (OfEach (B.Holds items.new)
+        (λ bytes. T.given shelf.new ≡ T.given shelf.old ++ payload (B.state items.old bytes).all)) }
+    ensures part { OnErr result (OfEach (B.Holds items.new)
+        (λ bytes. IsBeginning (T.given shelf.new) (T.given shelf.old ++ payload (B.state items.old bytes).all))) }
+    ensures told { IfOk result (λ made. OfEach (B.Holds items.new)
+        (λ bytes. IsPayloadOf made.0 (B.state items.old bytes).all)) }
+    ensures kept { OnOk result (OfEach (B.Holds items.new)
+        (λ bytes. KeepsItems (B.state items.old bytes) (B.state items.new bytes))) }
+    ensures digest { IfOk result (λ made. EachKnown (D.Holds image.new)
+        (λ known. IsDigestOf known len made.1)) }
     ensures fault { IfErr result (IsPayloadFault (λ _. ⊤) (T.Fails (T.place shelf.old))
-        (B.state items.old)) }
+        (B.Holds items.new) (B.state items.old)) }
     ensures place { T.place shelf.new ≡ T.place shelf.old }
+    ensures narrows { OfEach (B.Holds items.new) (B.Holds items.old) }
 {
-    let mut blocks = SourceBlocks::new(image);
     let (digest, given) = join_mut(
         threads,
-        &mut || image_digest(alloc, &mut blocks, len),
+        &mut || image_digest(alloc, image, len),
         &mut || give_payload(alloc, shelf, items),
     );
     let given = given?;
@@ -84,33 +94,41 @@ fn give_beside<R: Threads, S: BlockSource + Drop + Send, T: Shelf, B: BagSource>
     Ok((given, digest))
 }
 
-/// Gives the payload of a bag, and answers what is told of the image's digest, too. Faults: the payload's, and then those of the digest.
-pub(crate) fn give_first<R: Threads, S: BlockSource + Drop + Send, T: Shelf, B: BagSource>(
+/// Gives the payload of a bag, and answers what is told of the image's digest, too: what was made of it, or what is made of the source beside it.
+/// Faults: the payload's, and then those of the digest.
+#[tactic(auto, using(crate::proofs::DigestLemmas::planned_made))]
+pub(crate) fn give_first<R: Threads, S: PlacedBlocks + Send, T: Shelf, B: BagSource>(
     threads: &R,
     alloc: Global,
     shelf: &mut T,
     items: &mut B,
-    digest: ImageDigest<S>,
+    told: Option<[u8; 32]>,
+    beside: &mut Option<SeenBlocks<S>>,
     len: u64,
+    is_digested: bool,
 ) -> Result<(GivenPayload, Option<[u8; 32]>), BagFault>
-    ensures whole { OnOk result (WhereKnown (B.state items.old)
-        (T.given shelf.new ≡ T.given shelf.old ++ payload (B.state items.old).all)) }
-    ensures part { OnErr result (WhereKnown (B.state items.old)
-        (IsBeginning (T.given shelf.new) (T.given shelf.old ++ payload (B.state items.old).all))) }
-    ensures told { IfOk result (λ made. WhereKnown (B.state items.old)
-        (IsPayloadOf made.0 (B.state items.old).all)) }
-    ensures kept { OnOk result (KeepsItems (B.state items.old) (B.state items.new)) }
-    ensures digest { IfOk result (λ made. CameOf S.image len digest made.1) }
+    requires { OfEach (B.Holds items.old) (IsPlanned beside.old is_digested told) }
+    ensures whole { OnOk result (OfEach (B.Holds items.new)
+        (λ bytes. T.given shelf.new ≡ T.given shelf.old ++ payload (B.state items.old bytes).all)) }
+    ensures part { OnErr result (OfEach (B.Holds items.new)
+        (λ bytes. IsBeginning (T.given shelf.new) (T.given shelf.old ++ payload (B.state items.old bytes).all))) }
+    ensures told { IfOk result (λ made. OfEach (B.Holds items.new)
+        (λ bytes. IsPayloadOf made.0 (B.state items.old bytes).all)) }
+    ensures kept { OnOk result (OfEach (B.Holds items.new)
+        (λ bytes. KeepsItems (B.state items.old bytes) (B.state items.new bytes))) }
+    ensures digest { IfOk result (λ made. OfEach (B.Holds items.new)
+        (λ bytes. HoldsBeside S.Holds beside.new bytes → length bytes ≡ len → made.1 ≡ digest_told is_digested bytes)) }
     ensures fault { IfErr result (IsPayloadFault (λ _. ⊤) (T.Fails (T.place shelf.old))
-        (B.state items.old)) }
+        (B.Holds items.new) (B.state items.old)) }
     ensures place { T.place shelf.new ≡ T.place shelf.old }
+    ensures narrows { OfEach (B.Holds items.new) (B.Holds items.old) }
 {
-    match digest {
-        ImageDigest::Made(told) => {
+    match beside {
+        None => {
             let given = give_payload(alloc, shelf, items)?;
             Ok((given, told))
         }
-        ImageDigest::Beside(source) => {
+        Some(source) => {
             let made = give_beside(threads, alloc, shelf, items, source, len)?;
             Ok((made.0, Some(made.1)))
         }

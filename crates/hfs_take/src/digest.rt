@@ -1,6 +1,8 @@
 //! The digest of an image.
 ghost use Rattle.std.specs.Prelude.{◌≡◌, ◌≤◌, ◌<◌, ◌+◌, ◌*◌, IfOk, length};
 ghost use Rattle.sha2.specs.Hashers.{Holds256};
+ghost use Rattle.hfs_source.specs.Images.{OfEach};
+ghost use Rattle.hfs_sparse.specs.Seen.{EachKnown};
 ghost use Rattle.hfs_take.specs.Digests.{AddsPiece, IsDigestOf};
 
 use crate::blocks::ImageBlocks;
@@ -37,7 +39,10 @@ fn add_piece<B: ImageBlocks>(
     ensures added { IfOk result (λ count. AddsPiece (B.bytes image.old) (512 * first) count
         (Holds256 digest.old) (Holds256 digest.new)) }
     ensures room { length buffer.new ≡ 65536 }
-    ensures image { image.new ≡ image.old }
+    ensures image { B.bytes image.new ≡ B.bytes image.old }
+    ensures each { IfOk result (λ count. EachKnown (B.Holds image.new)
+        (λ known. AddsPiece known (512 * first) count (Holds256 digest.old) (Holds256 digest.new))) }
+    ensures narrows { OfEach (B.Holds image.new) (B.Holds image.old) }
 {
     let count = left.min(buffer.len() as u64);
     let piece = &mut buffer[..count as usize];
@@ -66,7 +71,10 @@ fn add_all<B: ImageBlocks>(
 ) -> Result<[u8; 32], SourceFault>
     requires room { length buffer.old ≡ 65536 }
     ensures digest { IfOk result (IsDigestOf (B.bytes image.old) len) }
-    ensures image { image.new ≡ image.old }
+    ensures image { B.bytes image.new ≡ B.bytes image.old }
+    ensures each { IfOk result (λ digest. EachKnown (B.Holds image.new)
+        (λ known. IsDigestOf known len digest)) }
+    ensures narrows { OfEach (B.Holds image.new) (B.Holds image.old) }
 {
     let mut digest = Sha256::new();
     let mut place = 0;
@@ -85,7 +93,10 @@ pub fn image_digest<B: ImageBlocks>(
     len: u64,
 ) -> Result<[u8; 32], SourceFault>
     ensures digest { IfOk result (IsDigestOf (B.bytes image.old) len) }
-    ensures image { image.new ≡ image.old }
+    ensures image { B.bytes image.new ≡ B.bytes image.old }
+    ensures each { IfOk result (λ digest. EachKnown (B.Holds image.new)
+        (λ known. IsDigestOf known len digest)) }
+    ensures narrows { OfEach (B.Holds image.new) (B.Holds image.old) }
 {
     let Ok(mut buffer) = buffer_of(alloc, PIECE) else {
         return Err(SourceFault::Memory);

@@ -1,19 +1,20 @@
 //! The bag of an image, given to any shelf.
-ghost use Rattle.std.specs.Prelude.{◌≡◌, ◌++◌, true, IfErr, IfOk, OnErr, OnOk, string_bytes};
+ghost use Rattle.std.specs.Prelude.{◌≡◌, ◌++◌, IfErr, IfOk, OnErr, OnOk, string_bytes};
 ghost use Rattle.std.specs.Option.{option_map};
 ghost use Rattle.hfs_bag.specs.Sums.{IsSumOf};
-ghost use Rattle.hfs_image_items.specs.Items.{bag_items, entries_in, image_in, is_known};
+ghost use Rattle.hfs_check.specs.Report.{report_of};
+ghost use Rattle.hfs_image_items.specs.Items.{bag_items, entries_in};
 ghost use Rattle.hfs_image_items.specs.Reading.{BeginsWith};
 ghost use Rattle.hfs_inventory.specs.Told.{told_rows};
-ghost use Rattle.hfs_needed.specs.Known.{IsReportOf, OfKnown};
 ghost use Rattle.hfs_shelves.specs.Entries.{IsBeginning};
-ghost use Rattle.hfs_sparse.specs.Sparse.{HoldsFrom};
-ghost use Rattle.hfs_take.specs.Bags.{IsReportText, OfBag, text_in};
-ghost use Rattle.hfs_take.specs.Digests.{TellsSame};
+ghost use Rattle.hfs_source.specs.Images.{HasAt, HasLength, OfEach};
+ghost use Rattle.hfs_take.specs.Bags.{OfBag, report_text, text_in};
+ghost use Rattle.hfs_take.specs.Digests.{HoldsBoth};
 ghost use Rattle.hfs_take.specs.Faults.{IsFillFault};
+ghost use Rattle.hfs_take.specs.Planned.{IsPlanned};
 ghost use Rattle.hfs_take.specs.Told.{IsToldOf};
 
-use crate::beside::{ImageDigest, give_first, plan_digest};
+use crate::beside::{digest_at_once, give_first, plan_digest};
 use crate::facts::{image_name, plain_name, report_text};
 use crate::image::TakenImage;
 use crate::words::TakeWords;
@@ -21,16 +22,17 @@ use hfs_bag::{BagFacts, BagFault, BagSums, SourceFault, give_tag_files};
 use hfs_check::Report;
 use hfs_commands::report_answer;
 use hfs_image_items::{ImageItems, Watch};
-use hfs_needed::OpenedImage;
+use hfs_needed::SeenImage;
 use hfs_shelves::Shelf;
-use hfs_sparse::BlockSource;
+use hfs_source::PlacedBlocks;
+use hfs_sparse::SeenBlocks;
 use std::alloc::Global;
 use std::thread::Threads;
 
 /// The first 1,536 bytes of an image.
-fn head_of<S: BlockSource + Drop>(image: &mut OpenedImage<S>) -> Result<[u8; 1536], SourceFault>
-    ensures head { IfOk result (HoldsFrom image.old.known 0) }
-    ensures image { image.new ≡ image.old }
+fn head_of<S: PlacedBlocks>(image: &mut SeenImage<S>) -> Result<[u8; 1536], SourceFault>
+    ensures head { IfOk result (λ head. OfEach (S.Holds image.new) (HasAt 0 head)) }
+    ensures narrows { OfEach (S.Holds image.new) (S.Holds image.old) }
 {
     let mut head = [0; 1536];
     match image.read_blocks(0, &mut head) {
@@ -40,15 +42,15 @@ fn head_of<S: BlockSource + Drop>(image: &mut OpenedImage<S>) -> Result<[u8; 153
 }
 
 /// The lines of `info` and of `check` of an image with this report.
-fn report_of<S: BlockSource + Drop>(
+fn report_of<S: PlacedBlocks>(
     alloc: Global,
-    image: &mut OpenedImage<S>,
-    len: u64,
+    image: &mut SeenImage<S>,
     report: &Report,
 ) -> Result<String, SourceFault>
-    requires { IsReportOf image.old.known len report.now }
-    ensures text { IfOk result (λ text. IsReportText image.old.known len (string_bytes text)) }
-    ensures image { image.new ≡ image.old }
+    requires { OfEach (S.Holds image.old) (λ bytes. report.now ≡ report_of bytes) }
+    ensures text { IfOk result (λ text. OfEach (S.Holds image.new)
+        (λ bytes. string_bytes text ≡ report_text bytes)) }
+    ensures narrows { OfEach (S.Holds image.new) (S.Holds image.old) }
 {
     let head = head_of(image)?;
     let Ok(answer) = report_answer(alloc, report) else {
@@ -65,34 +67,34 @@ fn item_count(report: &Report) -> u64 {
 
 /// What a bag tells of an image before its items are read.
 #[derive(Drop)]
-struct Told<S: BlockSource> {
+struct Told {
     /// The last part of its path.
     name: String,
     /// The lines of `info` and of `check`.
     report: String,
-    /// Its digest, or where it comes from.
-    digest: ImageDigest<S>,
+    /// Its digest, where that was made.
+    digest: Option<[u8; 32]>,
 }
 
-/// What a bag tells of an image with this report before its items are read.
-fn told_of<S: BlockSource + Drop>(
+/// What a bag tells of an image with this report before its items are read, with its digest where that is to be made at once.
+fn told_of<S: PlacedBlocks>(
     alloc: Global,
-    image: &mut OpenedImage<S>,
-    beside: Option<S>,
+    image: &mut SeenImage<S>,
     len: u64,
     report: &Report,
     words: &TakeWords<'_>,
-) -> Result<Told<S>, SourceFault>
-    requires report { IsReportOf image.old.known len report.now }
-    requires same { TellsSame S.image beside image.old.known }
-    ensures told { IfOk result (λ told. IsToldOf S.image image.old.known len words.now told) }
-    ensures image { image.new ≡ image.old }
+    is_made: bool,
+) -> Result<Told, SourceFault>
+    requires report { OfEach (S.Holds image.old) (λ bytes. report.now ≡ report_of bytes) }
+    requires len { OfEach (S.Holds image.old) (HasLength len) }
+    ensures told { IfOk result (λ told. OfEach (S.Holds image.new) (IsToldOf words.now is_made told)) }
+    ensures narrows { OfEach (S.Holds image.new) (S.Holds image.old) }
 {
     let Ok(name) = image_name(alloc, words.image) else {
         return Err(SourceFault::Memory);
     };
-    let lines = report_of(alloc, image, len, report)?;
-    let digest = plan_digest(alloc, image, beside, len, words.is_digested)?;
+    let lines = report_of(alloc, image, report)?;
+    let digest = digest_at_once(alloc, image, len, is_made)?;
     Ok(Told {
         name,
         report: lines,
@@ -101,29 +103,33 @@ fn told_of<S: BlockSource + Drop>(
 }
 
 /// Gives a shelf the bag of these items of an image, of which this is told.
-fn give_items<R: Threads, S: BlockSource + Drop + Send, T: Shelf, W: Watch>(
+fn give_items<R: Threads, S: PlacedBlocks + Drop + Send, T: Shelf, W: Watch>(
     threads: &R,
     alloc: Global,
     shelf: &mut T,
     items: &mut ImageItems<'_, S, W>,
-    told: Told<S>,
+    beside: &mut Option<SeenBlocks<S>>,
+    told: Told,
     line: Option<&str>,
     words: &TakeWords<'_>,
     len: u64,
+    is_made: bool,
 ) -> Result<BagSums, BagFault>
-    requires len { len ≡ items.old.image.len }
-    requires root { is_known items.old.image ≡ true
-        → BeginsWith items.old.root (told_rows (entries_in (image_in items.old.image))) }
-    requires told { IsToldOf S.image items.old.image.known len words.now told }
-    ensures whole { OnOk result (OfBag items.old.image (text_in line.entry) words.now
-        (λ bag. T.given shelf.new ≡ T.given shelf.old ++ bag)) }
-    ensures part { OnErr result (OfBag items.old.image (text_in line.entry) words.now
-        (λ bag. IsBeginning (T.given shelf.new) (T.given shelf.old ++ bag))) }
-    ensures sums { IfOk result (λ sums. OfKnown items.old.image.known items.old.image.len
+    requires len { OfEach (S.Holds items.old.image) (HasLength len) }
+    requires root { OfEach (S.Holds items.old.image)
+        (λ bytes. BeginsWith items.old.root (told_rows (entries_in bytes))) }
+    requires told { OfEach (S.Holds items.old.image) (IsToldOf words.now is_made told) }
+    requires planned { OfEach (S.Holds items.old.image)
+        (IsPlanned beside.old words.now.is_digested told.digest) }
+    ensures whole { OnOk result (OfEach (HoldsBoth S.Holds items.new.image beside.new)
+        (OfBag (text_in line.entry) words.now (λ bag. T.given shelf.new ≡ T.given shelf.old ++ bag))) }
+    ensures part { OnErr result (OfEach (HoldsBoth S.Holds items.new.image beside.new)
+        (OfBag (text_in line.entry) words.now (λ bag. IsBeginning (T.given shelf.new) (T.given shelf.old ++ bag)))) }
+    ensures sums { IfOk result (λ sums. OfEach (S.Holds items.new.image)
         (λ bytes. IsSumOf sums (bag_items (entries_in bytes)))) }
-    ensures fault { IfErr result (IsFillFault (T.Fails (T.place shelf.old))
-        items.old.image.known items.old.image.len) }
+    ensures fault { IfErr result (IsFillFault (T.Fails (T.place shelf.old)) (S.Holds items.new.image)) }
     ensures place { T.place shelf.new ≡ T.place shelf.old }
+    ensures narrows { OfEach (S.Holds items.new.image) (S.Holds items.old.image) }
 {
     let identifier = plain_name(alloc, items.root.name.bytes())?;
     let Told {
@@ -131,7 +137,17 @@ fn give_items<R: Threads, S: BlockSource + Drop + Send, T: Shelf, W: Watch>(
         report,
         digest,
     } = told;
-    let first = give_first(threads, alloc, shelf, items, digest, len)?;
+    let is_digested = words.is_digested;
+    let first = give_first(
+        threads,
+        alloc,
+        shelf,
+        items,
+        digest,
+        beside,
+        len,
+        is_digested,
+    )?;
     let facts = BagFacts {
         identifier: identifier.as_str(),
         program: words.program,
@@ -156,26 +172,37 @@ fn text_in(text: &Option<String>) -> Option<&str>
     }
 }
 
+/// What became of giving the bag of an image, and what it was read from.
+#[derive(Drop)]
+pub struct GivenBag<S: PlacedBlocks> {
+    /// How much the bag has, or why it was not given.
+    pub sums: Result<BagSums, BagFault>,
+    pub image: SeenImage<S>,
+    /// What its digest was made of, where that is another source.
+    pub beside: Option<SeenBlocks<S>>,
+}
+
 /// Gives a shelf the bag of an image: the items of its volume, and what these words tell of it. The digest is made in a thread of its own where
-/// the image has a source beside it. At a fault what was given is a beginning of the bag. All this where the image's bytes are known; a file's are
-/// not. Faults: reading the image, the shelf's, memory was refused; `TooLarge`.
-pub fn give_image<R: Threads, S: BlockSource + Drop + Send, T: Shelf, W: Watch>(
+/// the image was opened a second time. At a fault what was given is a beginning of the bag. All this of each image that has the bytes which were
+/// read, by either opening. Faults: reading the image, the shelf's, memory was refused; `TooLarge`.
+#[tactic(auto, using(crate::proofs::BagLemmas::nothing_given))]
+pub fn give_image<R: Threads, S: PlacedBlocks + Drop + Send, T: Shelf, W: Watch>(
     threads: &R,
     alloc: Global,
     shelf: &mut T,
     image: TakenImage<S>,
     words: &TakeWords<'_>,
     watch: &W,
-) -> Result<BagSums, BagFault>
-    ensures whole { OnOk result (OfBag image.opened (option_map string_bytes image.volume) words.now
-        (λ bag. T.given shelf.new ≡ T.given shelf.old ++ bag)) }
-    ensures part { OnErr result (OfBag image.opened (option_map string_bytes image.volume) words.now
-        (λ bag. IsBeginning (T.given shelf.new) (T.given shelf.old ++ bag))) }
-    ensures sums { IfOk result (λ sums. OfKnown image.opened.known image.opened.len
+) -> GivenBag<S>
+    ensures whole { OnOk result.sums (OfEach (HoldsBoth S.Holds result.image result.beside)
+        (OfBag (option_map string_bytes image.volume) words.now (λ bag. T.given shelf.new ≡ T.given shelf.old ++ bag))) }
+    ensures part { OnErr result.sums (OfEach (HoldsBoth S.Holds result.image result.beside)
+        (OfBag (option_map string_bytes image.volume) words.now (λ bag. IsBeginning (T.given shelf.new) (T.given shelf.old ++ bag)))) }
+    ensures sums { IfOk result.sums (λ sums. OfEach (S.Holds result.image)
         (λ bytes. IsSumOf sums (bag_items (entries_in bytes)))) }
-    ensures fault { IfErr result (IsFillFault (T.Fails (T.place shelf.old))
-        image.opened.known image.opened.len) }
+    ensures fault { IfErr result.sums (IsFillFault (T.Fails (T.place shelf.old)) (S.Holds result.image)) }
     ensures place { T.place shelf.new ≡ T.place shelf.old }
+    ensures narrows { OfEach (S.Holds result.image) (S.Holds image.opened) }
 {
     let TakenImage {
         mut opened,
@@ -184,8 +211,43 @@ pub fn give_image<R: Threads, S: BlockSource + Drop + Send, T: Shelf, W: Watch>(
         report,
         volume,
     } = image;
-    let told = told_of(alloc, &mut opened, beside, len, &report, words)?;
-    let mut items = ImageItems::new(alloc, opened, item_count(&report), watch)?;
+    let (mut beside, is_made) = plan_digest(beside, words.is_digested);
+    let told = match told_of(alloc, &mut opened, len, &report, words, is_made) {
+        Ok(told) => told,
+        Err(fault) => {
+            return GivenBag {
+                sums: Err(BagFault::Source(fault)),
+                image: opened,
+                beside,
+            };
+        }
+    };
+    let mut items = match ImageItems::new(alloc, opened, item_count(&report), watch) {
+        Ok(items) => items,
+        Err(back) => {
+            return GivenBag {
+                sums: Err(BagFault::Source(back.fault)),
+                image: back.image,
+                beside,
+            };
+        }
+    };
     let line = text_in(&volume);
-    give_items(threads, alloc, shelf, &mut items, told, line, words, len)
+    let sums = give_items(
+        threads,
+        alloc,
+        shelf,
+        &mut items,
+        &mut beside,
+        told,
+        line,
+        words,
+        len,
+        is_made,
+    );
+    GivenBag {
+        sums,
+        image: items.into_image(),
+        beside,
+    }
 }

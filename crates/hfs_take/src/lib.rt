@@ -16,10 +16,12 @@ pub use crate::blocks::{ImageBlocks, SourceBlocks};
 pub use crate::digest::image_digest;
 pub use crate::facts::{image_name, plain_name, report_text};
 pub use crate::fault::TakeFault;
-pub use crate::giving::give_image;
+pub use crate::giving::{GivenBag, give_image};
 pub use crate::image::TakenImage;
 pub use crate::opening::{FoundPart, find_part};
-pub use crate::taking::{PlacedBag, Taken, folder_path, take, take_opened, taken_text};
+pub use crate::taking::{
+    PlacedBag, Taken, UnplacedBag, folder_path, take, take_opened, taken_text,
+};
 pub use crate::words::TakeWords;
 pub use hfs_bag::BagSums;
 pub use hfs_image_items::Watch;

@@ -2,20 +2,24 @@
 ghost use Rattle.std.specs.Prelude.{◌≡◌, IfErr, IfOk, IfSome, None, string_bytes};
 ghost use Rattle.std.specs.Option.{option_map};
 ghost use Rattle.hfs_commands.specs.Faults.{IsUnopened, IsUnreadFile};
-ghost use Rattle.hfs_commands.specs.OpenedFiles.{AreOthersOf, known_bytes, known_in, stored_bytes};
-ghost use Rattle.hfs_take.specs.Digests.{TellsSame};
+ghost use Rattle.hfs_commands.specs.OpenedFiles.{AreOthersOf, known_bytes, stored_bytes};
+ghost use Rattle.hfs_commands.specs.SeenFiles.{parts_of};
+ghost use Rattle.hfs_needed.specs.Seen.{HasNoFault};
+ghost use Rattle.hfs_source.specs.Images.{OfEach};
 ghost use Rattle.hfs_take.specs.Faults.{IsImageFault};
-ghost use Rattle.hfs_take.specs.Opening.{IsLineOf, IsToldLine, IsToldPart, TellsVolume};
+ghost use Rattle.hfs_take.specs.Opening.{AreBlocksAt, IsLineOf, IsToldLine, IsToldPart, TellsVolume};
 
 use crate::facts::volume_text;
 use crate::image::TakenImage;
 use crate::words::TakeWords;
+use hfs_check::MountFault;
 use hfs_commands::{
-    Counted, Fault, FilePart, NumberedRange, OpenedFile, RawFile, StoredFile, Window, open_asked,
-    sum_told,
+    Counted, Fault, FilePart, NumberedRange, OpenedFile, PartBlocks, RawFile, StoredFile, Window,
+    open_asked, part_blocks, sum_told,
 };
-use hfs_containers::volume_name;
-use hfs_sparse::BlockSource;
+use hfs_containers::{ByteRange, volume_name};
+use hfs_needed::Unopened;
+use hfs_source::{BlocksOf, PlacedBlocks, RangeBytes};
 use std::alloc::Global;
 use std::fs::{File, Metadata, OpenFile};
 use std::io::{Read, Seek};
@@ -172,45 +176,55 @@ fn raw_beside<R: Files>(
     }
 }
 
-/// The same bytes once more, to be read beside what was found at this path. None where that is no file that can be opened once more: its bytes are held,
-/// as a pipe's, or another file has its path.
+/// The blocks of the same bytes once more, to be read beside what was found at this path. None where that is no file that can be opened once more: its bytes
+/// are held, as a pipe's, or another file has its path.
 fn open_beside<R: Files>(
     rt: &R,
     path: &str,
     was: io::Result<Metadata>,
     found: &Window<OpenedFile<R::File>>,
-) -> Option<Window<OpenedFile<R::File>>>
-    ensures known { TellsSame known_in result (known_in found.now) }
-    ensures range { IfSome result (λ bytes. bytes.range ≡ found.now.range) }
+) -> Option<PartBlocks<R::File>>
+    ensures known { IfSome result (λ blocks. known_bytes blocks.blocks.bytes.bytes
+        ≡ known_bytes found.now.source) }
+    ensures range { IfSome result (AreBlocksAt found.now.range) }
 {
     let Ok(was) = was else {
         return None;
     };
     match source_beside(rt, path, &was, &found.source) {
-        Some(source) => Some(Window {
-            source,
-            range: found.range,
-        }),
+        Some(source) => {
+            let range = found.range;
+            Some(part_blocks(Window { source, range }))
+        }
         None => None,
     }
 }
 
-/// What is to be taken apart, and whether the sum of a disk copy is right in which it lies.
+/// What is asked for of an image, to be read, and what is told of where it lies.
 #[derive(Drop)]
-pub(crate) struct OpenedTake<S: BlockSource> {
-    pub(crate) image: TakenImage<S>,
-    pub(crate) sum: Option<bool>,
+struct FoundBlocks<F: Read + Seek> {
+    source: PartBlocks<F>,
+    /// The same bytes once more, where their digest is to be made beside them.
+    beside: Option<PartBlocks<F>>,
+    /// Where they lie in their file.
+    range: ByteRange,
+    /// The range's line, where it lies inside.
+    line: Option<String>,
+    /// Whether the sum of a disk copy is right.
+    sum: Option<bool>,
 }
 
-/// Opens what is to be taken apart, once more where its digest is to be made beside it, and makes all checks. Faults, the first that holds: the image can't be
-/// read; `NoVolume`, `SeveralVolumes`; the image's own; memory was refused.
-pub(crate) fn open_image<'a, R: Files + AllocGlobal>(
+/// The blocks of what is asked for of an image, once more where its digest is to be made beside it: of exactly the range that the line tells. Faults: as
+/// [`open_asked`] has them.
+fn find_blocks<'a, R: Files + AllocGlobal>(
     rt: &R,
     words: &TakeWords<'a>,
-) -> Result<OpenedTake<Window<OpenedFile<R::File>>>, Fault<'a>>
-    ensures line { IfOk result (λ opened. TellsVolume words.now.volume opened.image.len
-        (option_map string_bytes opened.image.volume)) }
-    ensures fault { IfErr result (IsImageFault words.now) }
+) -> Result<FoundBlocks<R::File>, Fault<'a>>
+    ensures line { IfOk result (λ found. IsLineOf words.now.volume found.range
+        (option_map string_bytes found.line)) }
+    ensures part { IfOk result (λ found. AreBlocksAt found.range found.source) }
+    ensures beside { IfOk result (λ found. IfSome found.beside (AreBlocksAt found.range)) }
+    ensures fault { IfErr result (IsUnopened words.now.image words.now.volume) }
 {
     let was = fs::metadata(rt, words.image);
     let FoundPart { bytes, line, sum } = find_part(
@@ -224,9 +238,52 @@ pub(crate) fn open_image<'a, R: Files + AllocGlobal>(
     } else {
         None
     };
-    let len = bytes.len();
-    match TakenImage::open(rt.alloc(), bytes, beside, len, line) {
-        Ok(image) => Ok(OpenedTake { image, sum }),
-        Err(fault) => Err(Fault::of_needed(fault, words.image)),
+    let range = bytes.range;
+    Ok(FoundBlocks {
+        source: part_blocks(bytes),
+        beside,
+        range,
+        line,
+        sum,
+    })
+}
+
+/// What is to be taken apart, and whether the sum of a disk copy is right in which it lies.
+#[derive(Drop)]
+pub(crate) struct OpenedTake<S: PlacedBlocks> {
+    pub(crate) image: TakenImage<S>,
+    pub(crate) sum: Option<bool>,
+}
+
+/// The blocks of a part of a file, known by what is read of them.
+type PlacedPart<F> = BlocksOf<RangeBytes<OpenedFile<F>>>;
+
+/// Opens what is to be taken apart, once more where its digest is to be made beside it, and makes all checks. Faults, the first that holds: the image can't be
+/// read; `NoVolume`, `SeveralVolumes`; the image's own; memory was refused.
+pub(crate) fn open_image<'a, R: Files + AllocGlobal>(
+    rt: &R,
+    words: &TakeWords<'a>,
+) -> Result<OpenedTake<PlacedPart<R::File>>, Fault<'a>>
+    ensures line { IfOk result (λ opened. TellsVolume words.now.volume opened.image.len
+        (option_map string_bytes opened.image.volume)) }
+    ensures sound { IfOk result (λ opened. OfEach (parts_of opened.image.opened) HasNoFault) }
+    ensures fault { IfErr result (IsImageFault words.now) }
+{
+    let FoundBlocks {
+        source,
+        beside,
+        range,
+        line,
+        sum,
+    } = find_blocks(rt, words)?;
+    match TakenImage::open(rt.alloc(), source, beside, line) {
+        Ok(image) => {
+            if image.len != range.len {
+                // A range that doesn't lie in its file has no bytes, and was refused.
+                return Err(Fault::Refused(MountFault::Short));
+            }
+            Ok(OpenedTake { image, sum })
+        }
+        Err(Unopened { fault, source: _ }) => Err(Fault::of_needed(fault, words.image)),
     }
 }

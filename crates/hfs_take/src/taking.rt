@@ -3,23 +3,27 @@ ghost use Rattle.std.specs.Prelude.{◌≡◌, IfErr, IfOk, string_bytes};
 ghost use Rattle.std.specs.Option.{option_map};
 ghost use Rattle.hfs_bag.specs.Sums.{IsSumOf};
 ghost use Rattle.hfs_image_items.specs.Items.{bag_items, entries_in};
-ghost use Rattle.hfs_needed.specs.Known.{OfKnown};
+ghost use Rattle.hfs_source.specs.Images.{OfEach};
 ghost use Rattle.hfs_shelves.specs.MadeFolders.{given_by};
 ghost use Rattle.hfs_shelves.specs.Removals.{IsPlaced};
 ghost use Rattle.hfs_take.specs.Bags.{OfBag};
+ghost use Rattle.hfs_take.specs.Digests.{HoldsBoth};
 ghost use Rattle.hfs_take.specs.Faults.{IsTakeFault, taken_text};
 ghost use Rattle.hfs_take.specs.Folders.{IsFolderPath};
-ghost use Rattle.hfs_take.specs.Placed.{HasPlaced};
+ghost use Rattle.hfs_take.specs.Placed.{HasPlaced, IsAwayFor, IsBagAway, IsBagUnplaced, StaysOrNoMemory};
 
 use crate::fault::TakeFault;
-use crate::giving::give_image;
+use crate::giving::{GivenBag, give_image};
 use crate::image::TakenImage;
 use crate::opening::{OpenedTake, open_image};
 use crate::words::TakeWords;
 use hfs_bag::BagSums;
+use hfs_commands::Fault;
 use hfs_image_items::Watch;
+use hfs_needed::SeenImage;
 use hfs_shelves::{FileShelf, FileSystem, SystemFiles};
-use hfs_sparse::BlockSource;
+use hfs_source::PlacedBlocks;
+use hfs_sparse::SeenBlocks;
 use hfs_texts::push_line;
 use std::alloc::{AllocError, Global};
 use std::rt::Files;
@@ -34,78 +38,135 @@ pub struct Taken {
     pub sum: Option<bool>,
 }
 
-/// A bag that has its place, and the system on which it lies.
+/// A bag that has its place, the system on which it lies, and what it was taken from.
 #[derive(Drop)]
-pub struct PlacedBag<Y> {
+pub struct PlacedBag<Y, S: PlacedBlocks> {
     /// How much it has.
     pub sums: BagSums,
     pub system: Y,
+    pub image: SeenImage<S>,
+    /// What the image's digest was made of, where that is another source.
+    pub beside: Option<SeenBlocks<S>>,
 }
 
-/// Gives a whole bag its place.
+/// Why a bag has no place, and the system back.
+#[derive(Drop)]
+pub struct UnplacedBag<'a, Y> {
+    pub fault: TakeFault<'a>,
+    pub system: Y,
+}
+
+/// Gives a whole bag its place. At a fault it is taken away.
 fn place_bag<'a, Y: FileSystem + Drop>(
     shelf: FileShelf<Y>,
-    sums: BagSums,
     words: &TakeWords<'a>,
-) -> Result<PlacedBag<Y>, TakeFault<'a>>
-    ensures fault { IfErr result (IsTakeFault words.now) }
-    ensures sums { IfOk result (λ placed. placed.sums ≡ sums) }
-    ensures placed { IfOk result (λ placed. IsPlaced words.now.folder.now (string_bytes shelf.folder)
-        (given_by (string_bytes shelf.folder) shelf.modified (Y.did shelf.system)) (Y.did placed.system)) }
+) -> Result<Y, UnplacedBag<'a, Y>>
+    ensures placed { IfOk result (λ system. IsPlaced words.now.folder.now (string_bytes shelf.folder)
+        (given_by (string_bytes shelf.folder) shelf.modified (Y.did shelf.system)) (Y.did system)) }
+    ensures fault { IfErr result (λ back. IsTakeFault words.now back.fault) }
+    ensures away { IfErr result (λ back. IsAwayFor back.fault (string_bytes shelf.folder)
+        (Y.did shelf.system) (Y.did back.system)) }
 {
     match shelf.place(words.folder) {
-        Ok(system) => Ok(PlacedBag { sums, system }),
-        Err(back) => Err(TakeFault::of_shelf(back.fault)),
+        Ok(system) => Ok(system),
+        Err(back) => Err(UnplacedBag {
+            fault: TakeFault::of_shelf(back.fault),
+            system: back.system,
+        }),
+    }
+}
+
+/// Takes away what was written of a bag. The fault stays, but where memory is refused for that.
+fn take_away<'a, Y: FileSystem + Drop>(
+    shelf: FileShelf<Y>,
+    fault: TakeFault<'a>,
+) -> UnplacedBag<'a, Y>
+    ensures fault { StaysOrNoMemory fault.entry result.fault }
+    ensures away { IsAwayFor result.fault (string_bytes shelf.folder) (Y.did shelf.system)
+        (Y.did result.system) }
+{
+    match shelf.take_away() {
+        Ok(system) => UnplacedBag { fault, system },
+        Err(system) => UnplacedBag {
+            fault: TakeFault::Image(Fault::NoMemory),
+            system,
+        },
     }
 }
 
 /// Writes the bag of an image: to a folder beside its place, which gets its place when it is whole, and is taken away at a fault.
-fn write_bag<'a, Y: FileSystem + Drop, H: Threads, S: BlockSource + Drop + Send, W: Watch>(
+fn write_bag<'a, Y: FileSystem + Drop, H: Threads, S: PlacedBlocks + Drop + Send, W: Watch>(
     alloc: Global,
     system: Y,
     threads: &H,
     image: TakenImage<S>,
     words: &TakeWords<'a>,
     watch: &W,
-) -> Result<PlacedBag<Y>, TakeFault<'a>>
-    ensures fault { IfErr result (IsTakeFault words.now) }
-    ensures sums { IfOk result (λ placed. OfKnown image.opened.known image.opened.len
+) -> Result<PlacedBag<Y, S>, UnplacedBag<'a, Y>>
+    ensures fault { IfErr result (λ back. IsTakeFault words.now back.fault) }
+    ensures away { IfErr result (λ back. IsBagAway words.now.folder.now back.fault
+        (Y.did system) (Y.did back.system)) }
+    ensures sums { IfOk result (λ placed. OfEach (S.Holds placed.image)
         (λ bytes. IsSumOf placed.sums (bag_items (entries_in bytes)))) }
-    ensures placed { IfOk result (λ placed. OfBag image.opened (option_map string_bytes image.volume) words.now
-        (λ bag. HasPlaced words.now.folder.now bag (Y.did placed.system))) }
+    ensures placed { IfOk result (λ placed. OfEach (HoldsBoth S.Holds placed.image placed.beside)
+        (OfBag (option_map string_bytes image.volume) words.now (λ bag. HasPlaced words.now.folder.now bag (Y.did placed.system)))) }
+    ensures narrows { IfOk result (λ placed. OfEach (S.Holds placed.image) (S.Holds image.opened)) }
 {
     let mut shelf = match FileShelf::create(alloc, system, words.folder) {
         Ok(shelf) => shelf,
-        Err(back) => return Err(TakeFault::of_shelf(back.fault)),
+        Err(back) => {
+            return Err(UnplacedBag {
+                fault: TakeFault::of_shelf(back.fault),
+                system: back.system,
+            });
+        }
     };
-    match give_image(threads, alloc, &mut shelf, image, words, watch) {
-        Ok(sums) => place_bag(shelf, sums, words),
+    let GivenBag {
+        sums,
+        image,
+        beside,
+    } = give_image(threads, alloc, &mut shelf, image, words, watch);
+    match sums {
+        Ok(sums) => match place_bag(shelf, words) {
+            Ok(system) => Ok(PlacedBag {
+                sums,
+                system,
+                image,
+                beside,
+            }),
+            Err(back) => Err(back),
+        },
         Err(fault) => {
-            let _system = shelf.take_away();
-            Err(TakeFault::of_bag(fault, words.image))
+            let told = TakeFault::of_bag(fault, words.image);
+            Err(take_away(shelf, told))
         }
     }
 }
 
-/// Takes an image apart that was opened, over any system, where nothing has the folder's name. Where the image's bytes are known, exactly its bag
-/// has this place then, as the last that the system did. Faults: `IsThere`; as [`write_bag`] has them.
-pub fn take_opened<'a, Y: FileSystem + Drop, H: Threads, S: BlockSource + Drop + Send, W: Watch>(
+/// Takes an image apart that was opened, over any system, where nothing has the folder's name. Exactly the bag of each image that has the bytes which were
+/// read has this place then, as the last that the system did. At a fault nothing has the place that did not have it, and what was written is taken away, as
+/// far as the system and memory allow. Faults: `IsThere`; as [`write_bag`] has them.
+pub fn take_opened<'a, Y: FileSystem + Drop, H: Threads, S: PlacedBlocks + Drop + Send, W: Watch>(
     alloc: Global,
     system: Y,
     threads: &H,
     image: TakenImage<S>,
     words: &TakeWords<'a>,
     watch: &W,
-) -> Result<PlacedBag<Y>, TakeFault<'a>>
-    ensures fault { IfErr result (IsTakeFault words.now) }
-    ensures sums { IfOk result (λ placed. OfKnown image.opened.known image.opened.len
+) -> Result<PlacedBag<Y, S>, UnplacedBag<'a, Y>>
+    ensures fault { IfErr result (λ back. IsTakeFault words.now back.fault) }
+    ensures unplaced { IfErr result (λ back. IsBagUnplaced words.now.folder back.fault
+        (Y.did system) (Y.did back.system)) }
+    ensures sums { IfOk result (λ placed. OfEach (S.Holds placed.image)
         (λ bytes. IsSumOf placed.sums (bag_items (entries_in bytes)))) }
-    ensures placed { IfOk result (λ placed. OfBag image.opened (option_map string_bytes image.volume) words.now
-        (λ bag. HasPlaced words.now.folder.now bag (Y.did placed.system))) }
+    ensures placed { IfOk result (λ placed. OfEach (HoldsBoth S.Holds placed.image placed.beside)
+        (OfBag (option_map string_bytes image.volume) words.now (λ bag. HasPlaced words.now.folder.now bag (Y.did placed.system)))) }
+    ensures narrows { IfOk result (λ placed. OfEach (S.Holds placed.image) (S.Holds image.opened)) }
 {
     let mut system = system;
     if system.is_there(words.folder) {
-        return Err(TakeFault::IsThere(words.folder));
+        let fault = TakeFault::IsThere(words.folder);
+        return Err(UnplacedBag { fault, system });
     }
     write_bag(alloc, system, threads, image, words, watch)
 }
@@ -128,11 +189,13 @@ where
         Err(fault) => return Err(TakeFault::Image(fault)),
     };
     let system = SystemFiles::new(rt);
-    let placed = take_opened(rt.alloc(), system, threads, image, words, watch)?;
-    Ok(Taken {
-        sums: placed.sums,
-        sum,
-    })
+    match take_opened(rt.alloc(), system, threads, image, words, watch) {
+        Ok(placed) => Ok(Taken {
+            sums: placed.sums,
+            sum,
+        }),
+        Err(back) => Err(back.fault),
+    }
 }
 
 /// A folder's path without slashes at its end; a slash alone stays.

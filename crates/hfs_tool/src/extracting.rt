@@ -3,7 +3,7 @@
 use crate::saving::{save_as_new, tell};
 use crate::words::ExtractWords;
 use hfs_commands::{
-    Counted, Fault, ImageContents, ReadContents, Status, extracted_text, need_volume,
+    Counted, Fault, ImageContents, ReadContents, Status, extracted_text, need_volume, part_blocks,
 };
 use hfs_console::{print_lines, tell_sum};
 use hfs_take::{FoundPart, find_part};
@@ -12,20 +12,21 @@ use hfs_take::{FoundPart, find_part};
 pub fn extract_volume<'a>(rt: &HostRuntime, words: &ExtractWords<'a>) -> Result<u8, Fault<'a>> {
     let part = find_part(rt, words.file, Counted::Volumes, words.volume)?;
     let FoundPart {
-        bytes: mut source,
+        mut bytes,
         line: _line,
         sum,
     } = part;
-    let len = source.len();
+    let range = bytes.range;
     if words.volume.is_none() {
-        need_volume(&mut source, len, words.file)?;
+        need_volume(&mut bytes.source, range, words.file)?;
     }
+    // A range that doesn't lie in its file has no blocks, and can't be read.
     let mut contents = ImageContents {
         alloc: rt.alloc(),
-        source,
-        len,
+        source: part_blocks(bytes),
+        len: range.len,
     };
-    make_file(rt, words, &mut contents, len)?;
+    make_file(rt, words, &mut contents, range.len)?;
     tell_sum(rt, words.file, sum == Some(false));
     Ok(Status::Done.number())
 }

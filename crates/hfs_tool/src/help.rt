@@ -98,7 +98,11 @@ pub(crate) const PAGES: &str = "The page is one document of HTML by itself: it a
 elsewhere, and may be put on a web site as it is. The picture has a
 square for each allocation block, or for several where there are more
 than 4,096: of what the blocks are used for, it shows the first that
-its legend names. Of a refused image the page says why.
+its legend names.
+
+Of a refused disk the page says why, and has what rescue finds: each
+item, with what is said of its forks. Why stands on standard error, too,
+and the status is that of rescue.
 
 With --base URL the page lies beside the bag that take made, or knows
 where that is: --base disk for a bag in the folder disk.";

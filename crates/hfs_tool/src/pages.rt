@@ -1,18 +1,19 @@
 //! Pages of images.
 
+use crate::remaining::{Chosen, choose, show_page};
 use crate::words::PageWords;
 use hfs_bag::SourceFault;
 use hfs_check::MountFault;
 use hfs_commands::{
-    BlockSource, Fault, NeededFault, PartBlocks, PartImage, SeenImage, Status, Unopened, open_part,
-    part_blocks,
+    Fault, NeededFault, PartBlocks, PartImage, SeenImage, Status, Unopened, part_blocks,
 };
 use hfs_console::VERSION;
 use hfs_pages::{
     PageFault, PageImage, PageTexts, is_base, standard_texts, write_image_page, write_refused_page,
 };
+use hfs_salvage::{RefusedImage, found_texts, look};
 use hfs_source::PlacedBlocks;
-use hfs_take::{SourceBlocks, image_digest, image_name};
+use hfs_take::{image_digest, image_name};
 use std::alloc::Global;
 use std::io::{Read, Seek};
 
@@ -37,8 +38,10 @@ fn print_page_by<'a>(rt: &HostRuntime, words: &PageWords<'a>) -> Result<u8, Faul
     let Ok(name) = image_name(rt.alloc(), words.image) else {
         return Err(Fault::NoMemory);
     };
-    match open_part(rt, words.image, words.volume) {
-        Ok(part) => print_page_of(rt, words, name.as_str(), part_blocks(part)),
+    match choose(rt, words.image, words.volume) {
+        Ok(Chosen { part, is_one }) => {
+            print_page_of(rt, words, name.as_str(), part_blocks(part), is_one)
+        }
         Err(Fault::Refused(why)) => print_refused_image(rt, words, name.as_str(), None, why),
         Err(fault) => Err(fault),
     }
@@ -79,25 +82,24 @@ fn print_page_of<'a, F: Read + Seek + Drop>(
     words: &PageWords<'a>,
     name: &str,
     source: PartBlocks<F>,
+    is_one: bool,
 ) -> Result<u8, Fault<'a>> {
     if !words.is_digested {
-        return print_told_page(rt, words, name, None, source);
+        return print_told_page(rt, words, name, None, source, is_one);
     }
-    let len = source.blocks.len();
-    let mut blocks = SourceBlocks::new(source);
-    let digits = digits_of(rt.alloc(), &mut blocks, len, words.image)?;
-    let digest = Some(digits.as_str());
-    print_told_page(rt, words, name, digest, blocks.into_source())
+    let mut source = source;
+    let digits = digits_of(rt.alloc(), &mut source, words.image)?;
+    print_told_page(rt, words, name, Some(digits.as_str()), source, is_one)
 }
 
-/// The hexadecimal digits of the digest of an image of so many bytes.
-fn digits_of<'a, S: BlockSource + Drop>(
+/// The hexadecimal digits of the digest of an image.
+fn digits_of<'a, F: Read + Seek + Drop>(
     alloc: Global,
-    blocks: &mut SourceBlocks<S>,
-    len: u64,
+    source: &mut PartBlocks<F>,
     path: &'a str,
 ) -> Result<String, Fault<'a>> {
-    let digest = match image_digest(alloc, blocks, len) {
+    let len = source.blocks.len();
+    let digest = match image_digest(alloc, source, len) {
         Ok(digest) => digest,
         Err(SourceFault::ReadFailed) => return Err(Fault::CannotRead(path)),
         Err(SourceFault::Memory) => return Err(Fault::NoMemory),
@@ -108,8 +110,31 @@ fn digits_of<'a, S: BlockSource + Drop>(
     }
 }
 
-/// Prints the page of an image, with these texts beside its volume.
+/// Prints the page of an image, with these texts beside its volume; of what may be one of several ranges nothing is looked for where it is
+/// refused.
 fn print_told_page<'a, F: Read + Seek + Drop>(
+    rt: &HostRuntime,
+    words: &PageWords<'a>,
+    name: &str,
+    digest: Option<&str>,
+    source: PartBlocks<F>,
+    is_one: bool,
+) -> Result<u8, Fault<'a>> {
+    if !is_one {
+        return print_unsought_page(rt, words, name, digest, source);
+    }
+    match look(rt.alloc(), source) {
+        Ok(Ok(image)) => print_opened_page(rt, &texts_of(words, name, digest), &image),
+        Ok(Err(refused)) => {
+            let (image, volume) = (words.image, words.volume);
+            print_remains_page(rt, image, volume, &texts_of(words, name, digest), refused)
+        }
+        Err(fault) => Err(Fault::of_sparse(fault, words.image)),
+    }
+}
+
+/// Prints the page of an image that is opened, or of its fault alone where it is refused.
+fn print_unsought_page<'a, F: Read + Seek + Drop>(
     rt: &HostRuntime,
     words: &PageWords<'a>,
     name: &str,
@@ -133,6 +158,22 @@ fn print_unopened_page<'a>(
     match fault {
         NeededFault::Refused(why) => print_refused_page(rt, &texts_of(words, name, digest), why),
         NeededFault::ReadFailed | NeededFault::Memory => Err(Fault::of_needed(fault, words.image)),
+    }
+}
+
+/// Prints the page of what is found of an image that is refused, or of its fault alone where nothing is.
+fn print_remains_page<S: PlacedBlocks + Drop>(
+    rt: &HostRuntime,
+    image: &str,
+    volume: Option<u64>,
+    texts: &PageTexts<'_>,
+    refused: RefusedImage<S>,
+) -> Result<u8, Fault<'static>> {
+    let why = refused.why;
+    let told = found_texts(texts.version, texts.image);
+    match show_page(rt, image, volume, &told, refused)? {
+        Some(status) => Ok(status),
+        None => print_refused_page(rt, texts, why),
     }
 }
 

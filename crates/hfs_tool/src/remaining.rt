@@ -4,14 +4,14 @@ use crate::commands::print_code;
 use crate::words::{ForkPathWords, PathWords};
 use hfs_check::MountFault;
 use hfs_commands::{
-    Counted, Fault, FilePart, Format, OpenedFile, PartBlocks, PartImage, SeenImage, StoredFile,
-    Unopened, Window, open_asked, part_blocks,
+    Counted, Fault, FilePart, Format, OpenedFile, PartImage, SeenImage, StoredFile, Unopened,
+    Window, open_asked, part_blocks,
 };
 use hfs_console::tell_hint;
 use hfs_containers::{Asked, find_asked};
 use hfs_model::{Fork, Reply};
-use hfs_salvage::{RefusedImage, Remains, RescueWords, look, remains_of};
-use hfs_source::{BlocksOf, RangeBytes};
+use hfs_salvage::{RefusedImage, Remains, RemainsTexts, RescueWords, ShownFork, look, remains_of};
+use hfs_source::{BlocksOf, PlacedBlocks, RangeBytes};
 use hfs_space::ForkKind;
 use std::alloc::Global;
 use std::fs::File;
@@ -23,9 +23,9 @@ pub type Part = BlocksOf<RangeBytes<OpenedFile<File>>>;
 pub type Looked = Result<PartImage<File>, RefusedImage<Part>>;
 
 /// What is looked at of a file, and whether it is the only range that it may be.
-struct Chosen {
-    part: Window<OpenedFile<File>>,
-    is_one: bool,
+pub struct Chosen {
+    pub part: Window<OpenedFile<File>>,
+    pub is_one: bool,
 }
 
 /// Whether all bytes of what was opened are held, as a pipe's.
@@ -59,7 +59,11 @@ fn choose_range<'a>(
 }
 
 /// What is looked at of an image: the volume that is asked for, or that lies alone in it; where none does, what `rescue` would take.
-fn choose<'a>(rt: &HostRuntime, path: &'a str, volume: Option<u64>) -> Result<Chosen, Fault<'a>> {
+pub fn choose<'a>(
+    rt: &HostRuntime,
+    path: &'a str,
+    volume: Option<u64>,
+) -> Result<Chosen, Fault<'a>> {
     let FilePart { bytes, place } = open_asked(rt, path, Counted::Volumes, volume)?;
     if volume.is_some() || place.is_some() || is_held(&bytes.source) {
         return Ok(Chosen {
@@ -128,10 +132,7 @@ fn print_end(rt: &HostRuntime, told: Result<u8, Reply>) -> Result<u8, Fault<'sta
 }
 
 /// What remains of a refused image. Where nothing does, its refusal is the fault.
-fn find(
-    rt: &HostRuntime,
-    refused: RefusedImage<Part>,
-) -> Result<Remains<PartBlocks<File>>, Fault<'static>> {
+fn find(rt: &HostRuntime, refused: RefusedImage<Part>) -> Result<Remains<Part>, Fault<'static>> {
     let why = refused.why;
     match remains_of(rt.alloc(), refused) {
         Ok(Some(remains)) => Ok(remains),
@@ -153,6 +154,28 @@ pub fn show_items<'a>(
     let remains = find(rt, refused)?;
     let status = remains.write_items(rt.alloc(), &mut rt.stdout(), &words, format)?;
     tell_refused(rt, why, status)
+}
+
+/// Prints the page of what is found of a refused image, and behind it on standard error why it is refused; None where nothing is found,
+/// and nothing is printed.
+pub fn show_page<S: PlacedBlocks + Drop>(
+    rt: &HostRuntime,
+    image: &str,
+    volume: Option<u64>,
+    texts: &RemainsTexts<'_>,
+    refused: RefusedImage<S>,
+) -> Result<Option<u8>, Fault<'static>> {
+    let words = rescue_words(image, volume);
+    let why = refused.why;
+    match remains_of(rt.alloc(), refused) {
+        Ok(Some(remains)) => {
+            let status = remains.write_page(rt.alloc(), &mut rt.stdout(), &words, why, texts)?;
+            let status = tell_refused(rt, why, status)?;
+            Ok(Some(status))
+        }
+        Ok(None) => Ok(None),
+        Err(_) => Err(Fault::NoMemory),
+    }
 }
 
 /// Prints the rows of the folder of a refused image that a path leads to, or the code that refuses the path; and behind them on
@@ -190,7 +213,14 @@ pub fn show_fork<'a>(
     let why = refused.why;
     let remains = find(rt, refused)?;
     let kind = kind_of(file.fork);
-    match remains.write_fork(rt.alloc(), &mut rt.stdout(), &words, place.path, kind) {
+    let ShownFork { told, source: _ } = remains.write_fork(
+        rt.alloc(),
+        &mut rt.stdout(),
+        &words,
+        place.path,
+        kind,
+    );
+    match told {
         Ok(told) => {
             let status = print_end(rt, told)?;
             tell_refused(rt, why, status)

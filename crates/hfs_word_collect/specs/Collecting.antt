@@ -1,10 +1,9 @@
 -- The rows of an image that is collected.
-use Rattle.std.specs.Prelude.{◌≡◌, ℕ, List, Option}
-use Rattle.hfs_needed.specs.Known.{OfKnown}
+use Rattle.std.specs.Prelude.{◌≡◌, ℕ, List}
 use Rattle.hfs_rows.specs.Taken.{TakenRow}
 use Rattle.hfs_collection.specs.declared.image.ImageFacts.{ImageFacts}
 use Rattle.hfs_collection.specs.Images.{image_rows}
 
--- these are the rows of an image of so many bytes, where its bytes are known
-abbrev pub AreRowsOf : Option (List ℕ) → ℕ → ImageFacts → List TakenRow → Type 0
-AreRowsOf known len facts rows = OfKnown known len (λ file. rows ≡ image_rows facts file)
+-- these are the rows of an image, where it has the bytes which were read
+abbrev pub AreRowsOf : (List ℕ → Type 0) → List ℕ → ImageFacts → List TakenRow → Type 0
+AreRowsOf Holds image facts rows = Holds image → rows ≡ image_rows facts image

@@ -1,5 +1,6 @@
 pub mod Answers
 pub mod Collecting
+pub mod Files
 pub mod Lines
 pub mod Comparing
 pub mod Writing

@@ -12,7 +12,7 @@ ghost use Rattle.hfs_word_collect.specs.Comparing.{IsAsked, IsCompared, IsCompar
 use crate::fault::RunFault;
 use crate::files::FileByPath;
 use crate::watched::{ReadWatch, WatchedFile};
-use hfs_collection::ImageFile;
+use hfs_collection::Reopen;
 use hfs_contents::file_digest;
 use hfs_database::{Collection, Comparison, KnownImage, known_image};
 use hfs_source::PlacedBytes;
@@ -128,16 +128,13 @@ pub fn compare_image<D: Alter + Drop, S: PlacedBytes>(
     compare_file(alloc, collection, path, source)
 }
 
-/// Opens the image of this path, whose length is told to the watch. None where it can't be opened, or not be sought in.
+/// Opens the image of this path, whose length is told to the watch. None where it can't be opened; what can't be sought in, such as a pipe, is read
+/// whole and held.
 pub fn open_image<'a, R: Files + AllocGlobal, W: ReadWatch>(
     rt: &'a R,
     path: &'a str,
     watch: &'a W,
 ) -> Option<WatchedFile<'a, R::File, W>> {
-    let file = FileByPath { rt, path, watch };
-    let Ok(source) = file.open() else {
-        return None;
-    };
-    watch.opened(source.file.len());
-    Some(source)
+    let mut file = FileByPath::new(rt, path, watch);
+    file.reopen().ok()
 }

@@ -1,30 +1,57 @@
 //! Images by their paths.
-ghost use Rattle.std.specs.Prelude.{◌≡◌, None, IfOk};
-ghost use Rattle.hfs_commands.specs.OpenedFiles.{stored_bytes};
+ghost use Rattle.std.specs.Prelude.{IfOk, IfSome, IfNone};
+ghost use Rattle.hfs_word_collect.specs.Files.{IsHeldIn, IsLentOf, IsNotHeld, IsSameAs};
 
+use crate::collecting::ImageRows;
 use crate::watched::{ReadWatch, WatchedFile};
-use hfs_collection::ImageFile;
+use hfs_collection::{ImageFacts, NotedFile, Reopen};
 use hfs_commands::{Fault, StoredFile, Window, open_file};
+use hfs_source::PlacedBytes;
 use hfs_sparse::SparseFault;
 use std::io::{Read, Seek};
+use std::marker::Brand;
 use std::rt::Files;
 
-/// A file by its path, which is opened as often as it is asked for: what can't be sought in, such as a pipe, can't be read.
-#[derive(Clone, Copy)]
-pub struct FileByPath<'a, R, W> {
-    pub rt: &'a R,
-    pub path: &'a str,
+/// A file by its path, which is opened as often as it is asked for; what can't be sought in, such as a pipe, is read once and held.
+#[derive(Drop)]
+pub struct FileByPath<'a, R: Files, W> {
+    rt: &'a R,
+    path: &'a str,
     /// Who is told of what is read.
-    pub watch: &'a W,
+    watch: &'a W,
+    /// What is held.
+    held: Option<StoredFile<R::File>>,
 }
 
-impl<'a, R: Files + AllocGlobal, W: ReadWatch> FileByPath<'a, R, W> {
-    /// How many bytes the file has, which is told to the watch. Errors: it can't be opened or sought in, memory was refused.
-    pub(crate) fn len(&self) -> Result<u64, SparseFault> {
-        let len = self.open()?.file.len();
-        self.watch.opened(len);
-        Ok(len)
+impl<'a, R: Files, W> FileByPath<'a, R, W> {
+    /// The file of this path, which isn't opened yet.
+    pub fn new(rt: &'a R, path: &'a str, watch: &'a W) -> FileByPath<'a, R, W> {
+        FileByPath {
+            rt,
+            path,
+            watch,
+            held: None,
+        }
     }
+}
+
+/// The rows of the image in a file.
+pub type RowsOfFile<'a, R, W> = ImageRows<
+    'a,
+    WatchedFile<'a, <R as Files>::File, W>,
+    Brand,
+    NotedFile<WatchedFile<'a, <R as Files>::File, W>, Brand, FileByPath<'a, R, W>>,
+>;
+
+/// The rows of the image of the path that these facts have.
+pub fn rows_at<'a, R: Files + AllocGlobal, W: ReadWatch>(
+    rt: &'a R,
+    facts: &'a ImageFacts<'a>,
+    watch: &'a W,
+) -> RowsOfFile<'a, R, W> {
+    let path = facts.path;
+    let file = NotedFile::new(FileByPath::new(rt, path, watch));
+    ImageRows::new(rt.alloc(), file, facts)
 }
 
 /// Whether so many files can be opened at once as a database wants: itself, its log, and the folder that
@@ -34,31 +61,58 @@ pub fn can_open_database<R: Files>(rt: &R) -> bool {
     opened.0.is_ok() && opened.1.is_ok() && opened.2.is_ok()
 }
 
-/// A file that can be sought in. Error: it can't be.
-fn sought<F: Read + Seek + Drop>(source: StoredFile<F>) -> Result<StoredFile<F>, SparseFault>
-    ensures { IfOk result (λ source. stored_bytes source ≡ None) }
+/// The same bytes once more, where they are held. The only error is want of memory.
+fn again<F: Read + Seek>(file: &StoredFile<F>) -> Result<Option<StoredFile<F>>, SparseFault>
+    ensures same { IfOk result (λ found. IfSome found (IsSameAs file.now)) }
+    ensures none { IfOk result (λ found. IfNone found (IsNotHeld file.now)) }
 {
-    match source {
-        StoredFile::Seekable(file) => Ok(StoredFile::Seekable(file)),
-        StoredFile::Whole(_) => Err(SparseFault::ReadFailed),
+    match file.again() {
+        Ok(found) => Ok(found),
+        Err(_) => Err(SparseFault::Memory),
     }
 }
 
-impl<'a, R: Files + AllocGlobal, W: ReadWatch> ImageFile<WatchedFile<'a, R::File, W>>
-    for FileByPath<'a, R, W> {
-    ghost known = { λ _. None };
+impl<R: Files + AllocGlobal, W> FileByPath<'_, R, W> {
+    /// What is held, once more. The only error is want of memory.
+    fn lent(&self) -> Result<Option<StoredFile<R::File>>, SparseFault>
+        ensures lent { IfOk result (λ found. IfSome found (IsLentOf self.now.held)) }
+        ensures held { IfOk result (λ found. IfSome found (IsHeldIn self.now.held)) }
+        ensures none { IfOk result (λ found. IfNone found (IfSome self.now.held IsNotHeld)) }
+    {
+        match &self.held {
+            Some(file) => again(file),
+            None => Ok(None),
+        }
+    }
 
-    fn open(&self) -> Result<WatchedFile<'a, R::File, W>, SparseFault> {
+    /// The file: what is held of it, else it is opened, and what can't be sought in is held from then on. Errors: it can't be opened or read,
+    /// memory was refused.
+    fn stored(&mut self) -> Result<StoredFile<R::File>, SparseFault>
+        ensures lent { IfOk result (IsLentOf self.old.held) }
+        ensures held { IfOk result (IsHeldIn self.new.held) }
+    {
+        if let Some(file) = self.lent()? {
+            return Ok(file);
+        }
         match open_file(self.rt, self.path) {
-            Ok(Window { source, range }) => Ok(WatchedFile {
-                file: Window {
-                    source: sought(source)?,
-                    range,
-                },
-                watch: self.watch,
-            }),
+            Ok(Window { source, range: _ }) => {
+                self.held = again(&source)?;
+                Ok(source)
+            }
             Err(Fault::NoMemory) => Err(SparseFault::Memory),
             Err(_) => Err(SparseFault::ReadFailed),
         }
+    }
+}
+
+impl<'a, R: Files + AllocGlobal, W: ReadWatch> Reopen<WatchedFile<'a, R::File, W>>
+    for FileByPath<'a, R, W> {
+    fn reopen(&mut self) -> Result<WatchedFile<'a, R::File, W>, SparseFault> {
+        let file = self.stored()?;
+        self.watch.opened(file.len());
+        Ok(WatchedFile {
+            file,
+            watch: self.watch,
+        })
     }
 }

@@ -9,13 +9,13 @@ mod lines;
 mod watched;
 mod writing;
 
-pub use crate::collecting::{collect_file, collect_image, put_image};
+pub use crate::collecting::{ImageRows, collect_image};
 pub use crate::comparing::{compare_file, compare_image, compare_known, open_image};
 pub use crate::fault::RunFault;
-pub use crate::files::{FileByPath, can_open_database};
+pub use crate::files::{FileByPath, RowsOfFile, can_open_database, rows_at};
 pub use crate::lines::{comparison_line, image_line};
 pub use crate::watched::{ReadWatch, WatchedFile};
-pub use crate::writing::{write_image, write_image_at};
+pub use crate::writing::write_image;
 pub use hfs_collection::ImageCounts;
 pub use hfs_database::{
     Collection, Comparison, DatabaseFiles, FileCollection, Obstacle, is_no_file_name, next_path,

@@ -2,42 +2,38 @@
 ghost use Rattle.std.specs.Prelude.{◌≡◌, ◌++◌, IfNone, IfOk, IfSome, OnErr};
 ghost use Rattle.hfs_collection.specs.Counts.{image_counts};
 ghost use Rattle.hfs_collection.specs.Images.{image_rows};
-ghost use Rattle.hfs_needed.specs.Known.{OfKnown};
 ghost use Rattle.hfs_word_collect.specs.Writing.{WritesPart, WritesSome, WritesWhole};
 
+use crate::collecting::ImageRows;
 use crate::fault::RunFault;
-use crate::files::FileByPath;
-use crate::watched::ReadWatch;
-use hfs_collection::{ImageCounts, ImageFacts, ImageFile, give_image};
-use hfs_containers::ReadAt;
-use hfs_sparse::SparseFault;
+use hfs_collection::{ImageCounts, ImageFile, give_image};
+use hfs_contents::PickedImage;
+use hfs_source::PlacedBytes;
 use hfs_text_rows::TextTaker;
-use std::alloc::Global;
 use std::io::Write;
-use std::rt::Files;
 
-/// Writes the rows of an image of `len` bytes, and its end, and answers how much the image holds where all of them came. None where they
-/// don't, since the image can't be read. At a fault a beginning of this was written. Faults: `CannotWrite` of the writer, `NoMemory`.
-pub fn write_image<W: Write + Drop, S: ReadAt + Drop, F: ImageFile<S>>(
-    alloc: Global,
+/// Writes the rows of an image, and its end, and answers how much the image holds where all of them came. None where they
+/// don't, since the image can't be opened, or not be read as far as is wanted. At a fault a beginning of this was written. Faults: `CannotWrite` of the writer,
+/// `NoMemory`.
+#[tactic(auto, using(crate::proofs::WrittenImages::unread_by))]
+pub fn write_image<W: Write + Drop, S: PlacedBytes + Drop, K: PickedImage, F: ImageFile<S, K>>(
     taker: &mut TextTaker<W>,
-    file: &F,
-    len: u64,
-    facts: &ImageFacts<'_>,
+    rows: &mut ImageRows<'_, S, K, F>,
 ) -> Result<Option<ImageCounts>, RunFault>
-    ensures whole { IfOk result (λ counts. IfSome counts (λ _. OfKnown (F.known file.now) len (λ file.
+    ensures whole { IfOk result (λ counts. IfSome counts (λ _. F.Holds rows.new.file K.image →
         WritesWhole (W.contents taker.old.start.value) (W.contents taker.new.writer)
-        taker.old.form (taker.old.given.rows ++ image_rows facts.now file)))) }
-    ensures counted { IfOk result (λ counts. IfSome counts (λ told. OfKnown (F.known file.now) len
-        (λ file. told ≡ image_counts file))) }
-    ensures some { IfOk result (λ counts. IfNone counts (OfKnown (F.known file.now) len (λ file.
+        taker.old.form (taker.old.given.rows ++ image_rows rows.old.facts.now K.image))) }
+    ensures counted { IfOk result (λ counts. IfSome counts (λ told. F.Holds rows.new.file K.image
+        → told ≡ image_counts K.image)) }
+    ensures unread { IfOk result (λ counts. IfNone counts (F.IsUnread rows.new.file)) }
+    ensures some { IfOk result (λ counts. IfNone counts (F.Holds rows.new.file K.image →
         WritesSome (W.contents taker.old.start.value) (W.contents taker.new.writer)
-        taker.old.form (taker.old.given.rows ++ image_rows facts.now file)))) }
-    ensures part { OnErr result (OfKnown (F.known file.now) len (λ file.
+        taker.old.form (taker.old.given.rows ++ image_rows rows.old.facts.now K.image))) }
+    ensures part { OnErr result (F.Holds rows.new.file K.image →
         WritesPart (W.contents taker.old.start.value) (W.contents taker.new.writer)
-        taker.old.form (taker.old.given.rows ++ image_rows facts.now file))) }
+        taker.old.form (taker.old.given.rows ++ image_rows rows.old.facts.now K.image)) }
 {
-    match give_image(alloc, taker, file, len, facts) {
+    match give_image::<S, K, F, TextTaker<W>>(rows.alloc, taker, &mut rows.file, rows.facts) {
         Ok(counts) => {
             taker.end(true)?;
             Ok(Some(counts))
@@ -53,26 +49,4 @@ pub fn write_image<W: Write + Drop, S: ReadAt + Drop, F: ImageFile<S>>(
             }
         }
     }
-}
-
-/// Writes the rows of an image by its path, and its end, and answers how much the image holds where all of them came; None where they
-/// don't, and none come where it can't be opened.
-/// Faults: as of [`write_image`].
-pub fn write_image_at<W: Write + Drop, R: Files + AllocGlobal, H: ReadWatch>(
-    rt: &R,
-    taker: &mut TextTaker<W>,
-    facts: &ImageFacts<'_>,
-    watch: &H,
-) -> Result<Option<ImageCounts>, RunFault> {
-    let file = FileByPath {
-        rt,
-        path: facts.path,
-        watch,
-    };
-    let len = match file.len() {
-        Ok(len) => len,
-        Err(SparseFault::ReadFailed) => return Ok(None),
-        Err(SparseFault::Memory) => return Err(RunFault::NoMemory),
-    };
-    write_image(rt.alloc(), taker, &file, len, facts)
 }

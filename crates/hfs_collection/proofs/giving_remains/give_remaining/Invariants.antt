@@ -1,6 +1,7 @@
 -- what was given and the items that are still to come make the whole
 use Rattle.std.proofs.Common.{◌≡◌, ◌++◌}
-use Rattle.hfs_collection.specs.Held.{image_of}
+use Rattle.hfs_source.specs.Images.{OfEach}
+use Rattle.hfs_collection.specs.Refused.{image_of}
 use Rattle.hfs_collection.specs.Remains.{remains_rows_from}
 use Rattle.hfs_collection.proofs.Counting.{FilesLeft}
 use Rattle.hfs_collection.proofs.RemainsGoing.{RemainsLeft}
@@ -8,8 +9,10 @@ use Rattle.hfs_collection.proofs.giving_remains.give_remaining.Given as goal
 
 abbrev pub invariant-loop-i : goal.invariant-loop-i
 invariant-loop-i g l = record {
-  rows : RemainsLeft l.taken (image_of l.found) l.items (g.T.RowTaker.given l.fn.taker ++ remains_rows_from l.taken (image_of l.found) 0 l.items) l.i (g.T.RowTaker.given l.taker);
+  rows : OfEach (g.S.PlacedBlocks.Holds l.source)
+      (λ image. RemainsLeft l.taken (image_of l.found image) l.items (g.T.RowTaker.given l.fn.taker ++ remains_rows_from l.taken (image_of l.found image) 0 l.items) l.i (g.T.RowTaker.given l.taker));
   reference : g.T.RowTaker.reference l.taker ≡ g.T.RowTaker.reference l.fn.taker;
   place : g.T.RowTaker.place l.taker ≡ g.T.RowTaker.place l.fn.taker;
-  counted : FilesLeft (image_of l.found) l.items l.i l.counts;
+  narrows : OfEach (g.S.PlacedBlocks.Holds l.source) (g.S.PlacedBlocks.Holds l.fn.source);
+  counted : OfEach (g.S.PlacedBlocks.Holds l.source) (λ image. FilesLeft (image_of l.found image) l.items l.i l.counts);
 }

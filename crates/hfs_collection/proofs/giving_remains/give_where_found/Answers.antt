@@ -1,33 +1,42 @@
--- By what was held of the volume.
-use Rattle.std.proofs.Common.{◌≡◌, ◌++◌, refl, subst}
+-- By what was found of the volume.
+use Rattle.std.proofs.Common.{◌≡◌, ◌++◌, ℕ, List, None, append-nil, subst, sym}
 use Rattle.hfs_sparse.proofs.Written.{on-err as on_err}
-use Rattle.hfs_needed.specs.Known.{OfKnown}
+use Rattle.hfs_finds.specs.Finds.{IsFoundIn, found_directory}
 use Rattle.hfs_rows.specs.Taken.{IsBeginning}
-use Rattle.hfs_collection.specs.Held.{IsHeld}
-use Rattle.hfs_collection.proofs.VolumeGiving.{found_given, unfound_given}
+use Rattle.hfs_source.specs.Images.{OfEach}
+use Rattle.hfs_collection.specs.Refused.{IsFoundOf}
+use Rattle.hfs_collection.specs.Volumes.{rows_by_directory}
+use Rattle.hfs_collection.proofs.FoundGiving.{found_of}
+use Rattle.hfs_collection.proofs.VolumeGiving.{found_where, unfound_where}
 use Rattle.hfs_collection.proofs.giving_remains.give_where_found.Goals as goal
 
 pub returns-in_ok-counts-in-Some-clause-whole : goal.returns-in_ok-counts-in-Some-clause-whole
-returns-in_ok-counts-in-Some-clause-whole g c =
-    let known = g.S.ReadAt.known c.args.source.now in
-    let place = c.args.place.now in
-    let old = g.T.RowTaker.given c.args.taker.now in
-    let new = g.T.RowTaker.given c.give_held.new.taker in
-    found_given known place.range.len c.args.taken place c.args.why c.in-Some.held (λ rows. new ≡ old ++ rows) (subst (λ held. OfKnown known place.range.len (IsHeld held)) c.in-Some.is c.in_ok-held.ensures)
-    c.in_ok-counts-in-Some.ensures.whole
+returns-in_ok-counts-in-Some-clause-whole g c = λ image h.
+    let refused = c.args.image.now in
+    let start = g.T.RowTaker.given c.args.taker.now in
+    let new = g.T.RowTaker.given c.give_found.new.taker in
+    let old = c.in_ok-counts-in-Some.ensures.narrows image h in
+    let long = c.requires.long image old in
+    let is : IsFoundOf c.in-Some.finds c.limit_of-limit.result image =
+    found_of refused.found c.in-Some.finds refused.len c.limit_of-limit.result image c.in-Some.is long (c.requires.found_is image old long) c.limit_of-limit.ensures in
+    found_where image c.args.taken c.args.place.now (λ rows. new ≡ start ++ rows) refused.why c.in-Some.finds is.directory_is (c.in_ok-counts-in-Some.ensures.whole image h is)
 
 pub returns-in_err-counts-in-Some-clause-part : goal.returns-in_err-counts-in-Some-clause-part
 returns-in_err-counts-in-Some-clause-part g c =
-    let known = g.S.ReadAt.known c.args.source.now in
-    let place = c.args.place.now in
-    let old = g.T.RowTaker.given c.args.taker.now in
-    let new = g.T.RowTaker.given c.give_held.new.taker in
-    on_err _ _ (found_given known place.range.len c.args.taken place c.args.why c.in-Some.held (λ rows. IsBeginning new (old ++ rows)) (subst (λ held. OfKnown known place.range.len (IsHeld held)) c.in-Some.is c.in_ok-held.ensures)
-    c.in_err-counts-in-Some.ensures.part)
+    let refused = c.args.image.now in
+    let start = g.T.RowTaker.given c.args.taker.now in
+    let new = g.T.RowTaker.given c.give_found.new.taker in
+    let part : OfEach (g.S.PlacedBlocks.Holds c.give_found.new.source) (λ bytes. IsBeginning new (start ++ rows_by_directory c.args.taken c.args.place.now refused.why (found_directory bytes) bytes)) =
+    λ image h.
+    let old = c.in_err-counts-in-Some.ensures.narrows image h in
+    let long = c.requires.long image old in
+    let is : IsFoundOf c.in-Some.finds c.limit_of-limit.result image =
+    found_of refused.found c.in-Some.finds refused.len c.limit_of-limit.result image c.in-Some.is long (c.requires.found_is image old long) c.limit_of-limit.ensures in
+    found_where image c.args.taken c.args.place.now (λ rows. IsBeginning new (start ++ rows)) refused.why c.in-Some.finds is.directory_is (c.in_err-counts-in-Some.ensures.part image h is) in
+    on_err _ _ part
 
 pub returns-in-None-clause-whole : goal.returns-in-None-clause-whole
-returns-in-None-clause-whole g c =
-    let known = g.S.ReadAt.known c.args.source.now in
-    let place = c.args.place.now in
-    let old = g.T.RowTaker.given c.args.taker.now in
-    unfound_given known place.range.len c.args.taken place c.args.why old old (subst (λ held. OfKnown known place.range.len (IsHeld held)) c.in-None.is c.in_ok-held.ensures) refl
+returns-in-None-clause-whole g c = λ image h.
+    let start = g.T.RowTaker.given c.args.taker.now in
+    let none : found_directory image ≡ None = subst (IsFoundIn image) c.in-None.is (c.requires.found_is image h (c.requires.long image h)) in
+    unfound_where image c.args.taken c.args.place.now (λ rows. start ≡ start ++ rows) c.args.image.now.why none (sym (append-nil start))

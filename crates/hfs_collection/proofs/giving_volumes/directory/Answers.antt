@@ -1,14 +1,14 @@
 -- A volume that is too short is refused.
-use Rattle.std.proofs.Common.{◌<◌, rules}
-use Rattle.hfs_commands.proofs.Rows.{if_ok_then}
-use Rattle.hfs_collection.proofs.VolumeGiving.{short_directory, read_directory}
+use Rattle.std.proofs.Common.{◌≡◌, ◌<◌, length, rules}
+use Rattle.hfs_collection.proofs.VolumeGiving.{read_directory, short_directory}
 use Rattle.hfs_collection.proofs.giving_volumes.directory.Goals as goal
 
 pub returns-then-len-lt1536-clause-directory : goal.returns-then-len-lt1536-clause-directory
 returns-then-len-lt1536-clause-directory g c =
-    let short : c.args.len < 1536 = search rules in
-    short_directory (g.S.ReadAt.known c.args.source.now) c.args.len c.read.result short
+    let short : c.len.result < 1536 = search rules in
+    λ image h. short_directory image c.len.result c.read.result short (c.len.ensures image h)
 
-pub returns-clause-directory : goal.returns-clause-directory
-returns-clause-directory g c =
-    if_ok_then _ _ _ (λ mdb told. read_directory (g.S.ReadAt.known c.args.source.now) c.args.len mdb told) c.read_directory.ensures.directory
+pub returns-in-Ok-clause-directory : goal.returns-in-Ok-clause-directory
+returns-in-Ok-clause-directory g c =
+    let size : length c.read_blocks.new.into ≡ 512 = search rules in
+    λ image h. read_directory image c.read_blocks.new.into c.read-in-Ok.result size (c.in-Ok.ensures.read image h) c.read-in-Ok.ensures

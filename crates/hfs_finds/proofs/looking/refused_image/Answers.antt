@@ -1,9 +1,18 @@
 -- What is said of the images that hold now, which held before.
+use Rattle.hfs_finds.proofs.LookLemmas.{some_found}
 use Rattle.hfs_finds.proofs.looking.refused_image.Goals as goal
 
-pub returns-clause-refused : goal.returns-clause-refused
-returns-clause-refused g c = record {
-  refused = λ image h. c.requires image (c.in_ok-found.ensures.narrows image h);
-  long = λ image h. c.len-len.ensures image (c.in_ok-found.ensures.narrows image h);
-  found_is = c.in_ok-found.ensures.found;
+pub invariant_of-result : goal.invariant_of-result
+invariant_of-result g c = record {
+  refused = λ image h. c.requires image (c.in-Ok.ensures.narrows image h);
+  long = λ image h. c.len-len.ensures image (c.in-Ok.ensures.narrows image h);
+  found_is = some_found (g.S.PlacedBlocks.Holds c.finds_of.new.source.blocks) c.len-len.result c.in-Ok.found c.in-Ok.ensures.found;
+  few = c.in-Ok.ensures.few;
+}
+
+pub returns-in-Ok-clause-refused : goal.returns-in-Ok-clause-refused
+returns-in-Ok-clause-refused g c = record {
+  refused = λ image h. c.requires image (c.in-Ok.ensures.narrows image h);
+  long = λ image h. c.len-len.ensures image (c.in-Ok.ensures.narrows image h);
+  found_is = c.in-Ok.ensures.found;
 }

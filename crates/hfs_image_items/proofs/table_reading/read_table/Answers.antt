@@ -1,5 +1,5 @@
 -- The head is the first piece.
-use Rattle.std.proofs.Common.{Bool, List, ℕ, ◌++◌, true, sym, ap, subst, ◌∙◌}
+use Rattle.std.proofs.Common.{Bool, List, ℕ, ◌++◌, sym, ap, subst, ◌∙◌}
 use Rattle.hfs_table.specs.Lines.{bag_head}
 use Rattle.hfs_image_items.specs.Items.{rows_text}
 use Rattle.hfs_image_items.specs.Reading.{ReadsOn, table_rest}
@@ -9,5 +9,5 @@ use Rattle.hfs_image_items.proofs.table_reading.read_table.Goals as goal
 pub returns : goal.returns
 returns c =
     let rows = c.args.table.now.rows.left in
-    subst (λ (begun : Bool). ReadsOn true c.push_bag_head.new.text.items (table_rest begun rows) (rows_text rows)) (sym c.if-table.false)
+    subst (λ (begun : Bool). ReadsOn c.push_bag_head.new.text.items (table_rest begun rows) (rows_text rows)) (sym c.if-table.false)
     (head_read c.push_bag_head.new.text.items rows (c.in_ok-push_bag_head.ensures ∙ ap (λ (xs : List ℕ). xs ++ bag_head) c.clear.ensures.items))

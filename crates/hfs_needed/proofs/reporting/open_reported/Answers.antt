@@ -1,11 +1,12 @@
 -- By the image's length.
-use Rattle.std.proofs.Common.{rules}
+use Rattle.std.proofs.Common.{Some, rules}
 use Rattle.hfs_needed.specs.declared.reporting.ReportedVolume.{ReportedVolume}
 use Rattle.hfs_needed.proofs.Refused.{length-refused, err-so, opened-sound}
 use Rattle.hfs_needed.proofs.Reported.{length-large, length-short, length-right, ok-so, reports-right}
 use Rattle.hfs_check.proofs.LawsProved.{no_blocks_fault}
 use Rattle.hfs_needed.proofs.LawsProved.{gathered_is_enough}
 use Rattle.hfs_check.specs.declared.mount_fault.MountFault.TheVariants as fault
+use Rattle.hfs_needed.proofs.SeenStart.{errs-each, reported-each, reports-each}
 use Rattle.hfs_needed.proofs.reporting.open_reported.Goals as goal
 
 pub returns-then-len-gt2147483648-clause-refused :
@@ -34,3 +35,26 @@ returns-clause-sound g c =
     (λ (found : ReportedVolume) opened.
     opened-sound no_blocks_fault gathered_is_enough (g.S.BlockSource.image c.args.source.now) c.args.len
     (length-right c.args.len (search rules) (search rules)) found.volume opened) c.report_opened.ensures.opened
+
+pub returns-then-len-gt2147483648-clause-each_refused :
+    goal.returns-then-len-gt2147483648-clause-each_refused
+returns-then-len-gt2147483648-clause-each_refused g c = λ image h.
+    length-refused fault.TooLarge (Some image) c.args.len (length-large c.args.len (search rules))
+
+pub returns-then-len-lt1536-clause-each_refused : goal.returns-then-len-lt1536-clause-each_refused
+returns-then-len-lt1536-clause-each_refused g c = λ image h.
+    length-refused fault.Short (Some image) c.args.len (length-short c.args.len (search rules) (search rules))
+
+pub returns-clause-each_refused : goal.returns-clause-each_refused
+returns-clause-each_refused g c =
+    errs-each (g.S.BlockSource.Holds c.report_opened.new.source) c.args.len (length-right c.args.len (search rules) (search rules)) c.report_opened.result
+    c.report_opened.ensures.each_refused
+
+pub returns-clause-each_report : goal.returns-clause-each_report
+returns-clause-each_report g c =
+    reports-each (g.S.BlockSource.Holds c.report_opened.new.source) c.args.len (search rules) (search rules) c.report_opened.result c.report_opened.ensures.each_report
+
+pub returns-clause-each_sound : goal.returns-clause-each_sound
+returns-clause-each_sound g c =
+    reported-each no_blocks_fault gathered_is_enough (g.S.BlockSource.Holds c.report_opened.new.source) c.args.len (length-right c.args.len (search rules) (search rules))
+    (g.S.BlockSource.image c.args.source.now) c.report_opened.result c.report_opened.ensures.opened c.report_opened.ensures.seen

@@ -10,4 +10,4 @@ returns-clause-read g c =
     let into = c.fill_whole.new.piece.items in
     let blocks : c.div_ceil-blocks.result ≡ div_ceil c.args.len 512 = search rules in
     let fits : c.args.len ≤ length into = omega (arith, c.in_ok-fill_whole.ensures.len, blocks, (div_ceil_times c.args.len 512 (omega arith)).0) in
-    blocks_read (g.S.BlockSource.image c.args.source.now) into c.truncate.new.self.items (512 * c.args.first) c.args.len c.in_ok-fill_whole.ensures.read fits c.truncate.ensures.items
+    blocks_read (g.S.BlockSource.Holds c.fill_whole.new.source) into c.truncate.new.self.items (512 * c.args.first) c.args.len c.in_ok-fill_whole.ensures.read fits c.truncate.ensures.items

@@ -1,16 +1,16 @@
--- what was written and what is left to read make the fork
-use Rattle.std.proofs.Common.{◌≡◌, false, length}
-use Rattle.hfs_rescue_items.specs.Bytes.{image_in}
+-- what was written and what is left to read make the fork, of each image that has the bytes which were read
+use Rattle.std.proofs.Common.{◌≡◌, [], false, length}
+use Rattle.hfs_source.specs.Images.{OfEach}
 use Rattle.hfs_rescue_items.specs.Reading.{fork_rest}
 use Rattle.hfs_rescue_items.proofs.WritingLemmas.{GoesOnOf}
 use Rattle.hfs_rescue_items.proofs.fork_writing.write_fork.Given as goal
 
 abbrev pub invariant-loop-piece : goal.invariant-loop-piece
 invariant-loop-piece g l = record {
-  image : g.S.BlockSource.image l.source ≡ g.S.BlockSource.image l.fn.source;
-  on : GoesOnOf l.mdb l.fork.length l.fork.places.items (g.S.BlockSource.image l.fn.source) (g.W.Write.contents l.fn.writer) (g.W.Write.contents l.writer) l.reading;
+  narrows : OfEach (g.S.BlockSource.Holds l.source) (g.S.BlockSource.Holds l.fn.source);
+  on : GoesOnOf l.mdb l.fork.length l.fork.places.items (g.S.BlockSource.Holds l.source) (g.W.Write.contents l.fn.writer) (g.W.Write.contents l.writer) l.reading;
   still : l.is_begun ≡ false → l.writer ≡ l.fn.writer;
 }
 
 abbrev pub decreases-loop-piece : goal.decreases-loop-piece
-decreases-loop-piece g l = length (fork_rest (image_in (g.S.BlockSource.image l.fn.source)) l.reading)
+decreases-loop-piece g l = length (fork_rest [] l.reading)

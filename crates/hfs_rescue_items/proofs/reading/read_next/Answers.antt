@@ -1,19 +1,25 @@
 -- The head is the first piece of the table.
-use Rattle.std.proofs.Common.{List, ℕ, ◌++◌, sym, ap, subst, ◌∙◌}
-use Rattle.std.specs.Option.{is_some}
+use Rattle.std.proofs.Common.{List, ℕ, [], ◌++◌, sym, ap, subst, ◌∙◌}
 use Rattle.hfs_table.specs.Lines.{bag_head}
-use Rattle.hfs_rescue_items.specs.Bytes.{image_in}
 use Rattle.hfs_rescue_items.specs.Lines.{item_line}
 use Rattle.hfs_rescue_items.specs.declared.reading.Reading.{Reading}
-use Rattle.hfs_rescue_items.specs.Reading.{Reads, lines_rest, reading_rest}
-use Rattle.hfs_rescue_items.proofs.LineLemmas.{head_read}
+use Rattle.hfs_rescue_items.specs.Reading.{IsFewer, Reads, lines_rest, reading_rest}
+use Rattle.hfs_rescue_items.proofs.LineLemmas.{head_read, lines_fewer}
 use Rattle.hfs_rescue_items.proofs.reading.read_next.Goals as goal
 
 pub returns-in_ok-push_table_head-in-Table-clause-read : goal.returns-in_ok-push_table_head-in-Table-clause-read
 returns-in_ok-push_table_head-in-Table-clause-read g c =
     let found = c.args.found.now in
-    let known = g.S.BlockSource.image c.args.source.now in
     let rest = lines_rest (item_line found) c.in-Table.lines in
     let piece = c.push_table_head.new.piece.items in
-    subst (λ (r : Reading). Reads (is_some known) piece (reading_rest (image_in known) found r) rest) (sym c.in-Table.is)
-    (head_read (is_some known) piece rest (c.in_ok-push_table_head-in-Table.ensures.head ∙ ap (λ (xs : List ℕ). xs ++ bag_head) c.clear.ensures.items))
+    λ image h. subst (λ (r : Reading). Reads piece (reading_rest image found r) rest) (sym c.in-Table.is)
+    (head_read piece rest (c.in_ok-push_table_head-in-Table.ensures.head ∙ ap (λ (xs : List ℕ). xs ++ bag_head) c.clear.ensures.items))
+
+pub returns-in_ok-push_table_head-in-Table-clause-fewer : goal.returns-in_ok-push_table_head-in-Table-clause-fewer
+returns-in_ok-push_table_head-in-Table-clause-fewer g c =
+    let found = c.args.found.now in
+    let rest = lines_rest (item_line found) c.in-Table.lines in
+    let piece = c.push_table_head.new.piece.items in
+    subst (λ (r : Reading). IsFewer piece (reading_rest [] found r) rest) (sym c.in-Table.is)
+    (lines_fewer piece (bag_head ++ rest) rest
+    (head_read piece rest (c.in_ok-push_table_head-in-Table.ensures.head ∙ ap (λ (xs : List ℕ). xs ++ bag_head) c.clear.ensures.items)))

@@ -1,66 +1,71 @@
--- What is given and told of what was found is given and told of the image.
-use Rattle.std.proofs.Common.{◌≡◌, ℕ, List, Option, ◌++◌, Global, sym, subst, rules}
+-- What is given and told of what was found is given and told of each image that holds.
+use Rattle.std.proofs.Common.{◌≡◌, ℕ, List, ◌++◌, Global, Option, Some, subst}
 use Rattle.std.specs.Prelude.{string_bytes}
 use Rattle.std.specs.Option.{option_map}
-use Rattle.hfs_bag.proofs.Growing.{on_err}
-use Rattle.hfs_needed.specs.Known.{OfKnown}
+use Rattle.hfs_commands.proofs.Rows.{on_err_then, on_ok_then}
 use Rattle.hfs_shelves.specs.Entries.{IsBeginning, ShelfEntry}
+use Rattle.hfs_sparse.specs.Seen.{EachKnown}
+use Rattle.hfs_salvage.specs.Answers.{IsKnownAnswer}
 use Rattle.hfs_salvage.specs.Bags.{IsUnfilled, OfKnownBag}
-use Rattle.hfs_salvage.specs.Found.{IsFoundOf}
-use Rattle.hfs_salvage.specs.Words.{limit_of}
-use Rattle.hfs_salvage.proofs.BagLemmas.{answer_known, carry, found_known, nothing_given}
+use Rattle.hfs_salvage.proofs.BagLemmas.{answer_known, err_then, found_known, none_given, told_answer, told_err, told_fault, told_ok}
 use Rattle.hfs_salvage.proofs.filling.give_remains.Goals as goal
 
-pub returns-in_err-salvage-clause-part : goal.returns-in_err-salvage-clause-part
-returns-in_err-salvage-clause-part g c =
-    on_err _ (nothing_given (g.S.BlockSource.image c.args.image.source) c.args.image.len (option_map (string_bytes {Z = Global}) c.args.image.line) c.args.words.now
-    (g.T.Shelf.given c.args.shelf.now))
+-- nothing was given before the answer, and what is told before
+pub returns-in-Err-clause-part : goal.returns-in-Err-clause-part
+returns-in-Err-clause-part g c =
+    none_given c.not_given.result.answer _ (g.S.PlacedBlocks.Holds c.not_given.result.source.blocks) c.args.image.len (option_map (string_bytes {Z = Global}) c.args.image.line) c.args.words.now
+    (g.T.Shelf.given c.args.shelf.now) c.not_given.ensures.answer
 
-pub returns-in_err-answer-clause-part : goal.returns-in_err-answer-clause-part
-returns-in_err-answer-clause-part g c =
-    on_err _ (nothing_given (g.S.BlockSource.image c.args.image.source) c.args.image.len (option_map (string_bytes {Z = Global}) c.args.image.line) c.args.words.now
-    (g.T.Shelf.given c.args.shelf.now))
+pub returns-in-Err-of-clause-part : goal.returns-in-Err-of-clause-part
+returns-in-Err-of-clause-part g c =
+    none_given c.not_given-in-Err-of.result.answer _ (g.S.PlacedBlocks.Holds c.not_given-in-Err-of.result.source.blocks) c.args.image.len (option_map (string_bytes {Z = Global}) c.args.image.line) c.args.words.now
+    (g.T.Shelf.given c.args.shelf.now) c.not_given-in-Err-of.ensures.answer
 
-pub returns-in_err-told-clause-part : goal.returns-in_err-told-clause-part
-returns-in_err-told-clause-part g c =
-    on_err _ (nothing_given (g.S.BlockSource.image c.args.image.source) c.args.image.len (option_map (string_bytes {Z = Global}) c.args.image.line) c.args.words.now
-    (g.T.Shelf.given c.args.shelf.now))
+pub returns-in-Err-told_of-clause-part : goal.returns-in-Err-told_of-clause-part
+returns-in-Err-told_of-clause-part g c =
+    none_given c.not_given-in-Err-told_of.result.answer _ (g.S.PlacedBlocks.Holds c.not_given-in-Err-told_of.result.source.blocks) c.args.image.len (option_map (string_bytes {Z = Global}) c.args.image.line) c.args.words.now
+    (g.T.Shelf.given c.args.shelf.now) c.not_given-in-Err-told_of.ensures.answer
 
-pub give_found-requires-clause-found : goal.give_found-requires-clause-found
-give_found-requires-clause-found g c =
+pub give_found-came-requires-clause-found : goal.give_found-came-requires-clause-found
+give_found-came-requires-clause-found g c = λ bytes h.
     let image = c.args.image in
-    let words = c.args.words.now.words in
-    subst (λ (known : Option (List ℕ)). OfKnown known image.len (λ (bytes : List ℕ). IsFoundOf bytes (limit_of words bytes) c.found_in-found.result)) (sym c.in_ok-told.ensures.source)
-    (found_known (g.S.BlockSource.image image.source) image.len words c.limit_for-limit.result image.finds c.found_in-found.result c.limit_for-limit.ensures image.finds_are
-    (λ bytes found. c.found_in-found.ensures.found bytes c.limit_for-limit.result found c.in_ok-salvage.ensures))
+    found_known (Some bytes) image.len c.args.words.now.words c.limit_for-limit.result image.finds c.found_in-found.result c.limit_for-limit.ensures
+    (image.finds_are bytes (c.in-Ok-told_of.ensures.narrows bytes h)) (λ own found. c.found_in-found.ensures.found own c.limit_for-limit.result found c.in-Ok.ensures)
 
 pub returns-clause-whole : goal.returns-clause-whole
 returns-clause-whole g c =
     let before = g.T.Shelf.given c.args.shelf.now in
-    let now = g.T.Shelf.given c.give_found.new.shelf in
-    carry (λ (known : Option (List ℕ)) (line : Option (List ℕ)). OfKnownBag known c.args.image.len line c.args.words.now (λ (bag : List ShelfEntry). now ≡ before ++ bag))
-    _ _ c.in_ok-told.ensures.source _ _ c.text_in-line.ensures c.in_ok-give_found.ensures.whole
+    let now = g.T.Shelf.given c.give_found-came.new.shelf in
+    told_ok c.give_found-came.result.came c.in-Ok-of.answer c.answered.result c.answered.ensures _
+    (on_ok_then _ _ (EachKnown (g.S.PlacedBlocks.Holds c.give_found-came.result.source.blocks) (λ known. OfKnownBag known c.args.image.len (option_map (string_bytes {Z = Global}) c.args.image.line) c.args.words.now (λ (bag : List ShelfEntry). now ≡ before ++ bag))) (λ whole image h. subst (λ (line : Option (List ℕ)). OfKnownBag (Some image) c.args.image.len line c.args.words.now (λ (bag : List ShelfEntry). now ≡ before ++ bag))
+    c.text_in-line.ensures (whole image h)) c.give_found-came.ensures.whole)
 
-pub returns-in_err-give_found-clause-part : goal.returns-in_err-give_found-clause-part
-returns-in_err-give_found-clause-part g c =
+pub returns-clause-part : goal.returns-clause-part
+returns-clause-part g c =
     let before = g.T.Shelf.given c.args.shelf.now in
-    let now = g.T.Shelf.given c.give_found.new.shelf in
-    on_err _ (carry (λ (known : Option (List ℕ)) (line : Option (List ℕ)). OfKnownBag known c.args.image.len line c.args.words.now (λ (bag : List ShelfEntry). IsBeginning now (before ++ bag)))
-    _ _ c.in_ok-told.ensures.source _ _ c.text_in-line.ensures c.in_err-give_found.ensures.part)
+    let now = g.T.Shelf.given c.give_found-came.new.shelf in
+    told_err c.give_found-came.result.came c.in-Ok-of.answer c.answered.result c.answered.ensures _
+    (on_err_then _ _ (EachKnown (g.S.PlacedBlocks.Holds c.give_found-came.result.source.blocks) (λ known. OfKnownBag known c.args.image.len (option_map (string_bytes {Z = Global}) c.args.image.line) c.args.words.now (λ (bag : List ShelfEntry). IsBeginning now (before ++ bag)))) (λ part image h. subst (λ (line : Option (List ℕ)). OfKnownBag (Some image) c.args.image.len line c.args.words.now (λ (bag : List ShelfEntry). IsBeginning now (before ++ bag)))
+    c.text_in-line.ensures (part image h)) c.give_found-came.ensures.part)
 
-pub returns-in_err-give_found-clause-fault : goal.returns-in_err-give_found-clause-fault
-returns-in_err-give_found-clause-fault g c =
+pub returns-clause-fault : goal.returns-clause-fault
+returns-clause-fault g c =
     let Shelf = g.T.Shelf.Fails (g.T.Shelf.place c.args.shelf.now) in
-    let fault : IsUnfilled Shelf (g.S.BlockSource.image c.args.image.source) c.args.image.len (option_map (string_bytes {Z = Global}) c.args.image.line) c.args.words.now c.in_err-give_found.field-0.0 =
-    carry (λ (known : Option (List ℕ)) (line : Option (List ℕ)). IsUnfilled Shelf known c.args.image.len line c.args.words.now c.in_err-give_found.field-0.0)
-    _ _ c.in_ok-told.ensures.source _ _ c.text_in-line.ensures c.in_err-give_found.ensures.fault in
-    search rules
+    told_fault c.give_found-came.result.came c.in-Ok-of.answer c.answered.result c.answered.ensures _
+    (err_then c.give_found-came.result.came _ _ (λ why is. subst (λ (line : Option (List ℕ)). IsUnfilled Shelf (g.S.PlacedBlocks.Holds c.give_found-came.result.source.blocks) c.args.image.len line c.args.words.now why)
+    c.text_in-line.ensures is) c.give_found-came.ensures.fault)
 
 pub returns-clause-answer : goal.returns-clause-answer
 returns-clause-answer g c =
     let image = c.args.image in
-    let known = g.S.BlockSource.image image.source in
     let words = c.args.words.now.words in
-    let is = found_known known image.len words c.limit_for-limit.result image.finds c.found_in-found.result c.limit_for-limit.ensures image.finds_are
-    (λ bytes found. c.found_in-found.ensures.found bytes c.limit_for-limit.result found c.in_ok-salvage.ensures) in
-    answer_known known image.len words image.check.fault image.finds c.found_in-found.result c.in_ok-answer.answer is image.fault_is image.finds_are c.in_ok-answer.ensures
+    let held = λ (bytes : List ℕ) (h : g.S.PlacedBlocks.Holds c.give_found-came.result.source.blocks bytes). c.in-Ok-told_of.ensures.narrows bytes (c.give_found-came.ensures.narrows bytes h) in
+    told_answer c.give_found-came.result.came c.in-Ok-of.answer c.answered.result c.answered.ensures
+    (λ answer. EachKnown (g.S.PlacedBlocks.Holds c.give_found-came.result.source.blocks) (λ known. IsKnownAnswer known image.len words answer))
+    (λ bytes h.
+    let is = found_known (Some bytes) image.len words c.limit_for-limit.result image.finds c.found_in-found.result c.limit_for-limit.ensures (image.finds_are bytes (held bytes h))
+    (λ own found. c.found_in-found.ensures.found own c.limit_for-limit.result found c.in-Ok.ensures) in
+    answer_known (Some bytes) image.len words image.check.fault image.finds c.found_in-found.result c.in-Ok-of.answer is (image.fault_is bytes (held bytes h)) (image.finds_are bytes (held bytes h)) c.in-Ok-of.ensures)
+
+pub returns-clause-narrows : goal.returns-clause-narrows
+returns-clause-narrows g c = λ bytes h. c.in-Ok-told_of.ensures.narrows bytes (c.give_found-came.ensures.narrows bytes h)

@@ -1,14 +1,18 @@
 -- The bag that was given gets its place; a fault names what the words name, or a path in the folder that is written.
-use Rattle.std.proofs.Common.{Global, inr, subst, sym}
+use Rattle.std.proofs.Common.{◌≡◌, ◌++◌, List, Global, OnOk, Result, inr, subst, sym}
 use Rattle.std.specs.Option.{option_map}
-use Rattle.std.specs.Prelude.{string_bytes}
+use Rattle.std.specs.Prelude.{IfErr, string_bytes}
+use Rattle.hfs_bag.specs.declared.fault.BagFault.{BagFault}
+use Rattle.hfs_shelves.specs.Entries.{ShelfEntry}
+use Rattle.hfs_sparse.specs.Seen.{EachKnown}
+use Rattle.hfs_salvage.specs.declared.answer.RescueAnswer.{RescueAnswer}
 use Rattle.hfs_shelves.specs.MadeFolders.{given_by}
 use Rattle.hfs_shelves.specs.ShelfPaths.{IsNewFolder}
 use Rattle.hfs_shelves.specs.Told.{TellsWithin}
 use Rattle.hfs_take.proofs.FaultLemmas.{of_bag, of_shelf, uncreated}
-use Rattle.hfs_salvage.specs.Bags.{IsUnfilled}
+use Rattle.hfs_salvage.specs.Bags.{IsUnfilled, OfKnownBag}
 use Rattle.hfs_salvage.specs.Words.{as_take_words}
-use Rattle.hfs_salvage.proofs.PlacedLemmas.{bag-away, bag-placed, stays_told}
+use Rattle.hfs_salvage.proofs.PlacedLemmas.{bag-away, bag-placed, kept_source, stays_told}
 use Rattle.hfs_salvage.proofs.rescuing.write_bag.Goals as goal
 
 pub returns-in-Err-clause-fault : goal.returns-in-Err-clause-fault
@@ -16,39 +20,42 @@ returns-in-Err-clause-fault g c =
     let words = as_take_words c.args.words.now in
     of_shelf words c.in-Err.back.fault c.of_shelf.result c.of_shelf.ensures (uncreated words.folder.now c.in-Err.back.fault c.in-Err.ensures.told)
 
-pub returns-in-Err-give_remains-clause-fault : goal.returns-in-Err-give_remains-clause-fault
-returns-in-Err-give_remains-clause-fault g c =
+pub returns-in-Err-answer-clause-fault : goal.returns-in-Err-answer-clause-fault
+returns-in-Err-answer-clause-fault g c =
     let image = c.args.image in
     let line = option_map (string_bytes {Z = Global}) image.line in
     let new = string_bytes {Z = Global} c.in-Ok.shelf.folder in
+    let fault = subst (λ (r : Result RescueAnswer BagFault). IfErr r (IsUnfilled (TellsWithin new) (g.S.PlacedBlocks.Holds c.give_remains-answer.result.source.blocks) image.len line c.args.words.now)) c.in-Err-answer.is
+    c.give_remains-answer.ensures.fault in
     stays_told (as_take_words c.args.words.now) c.of_bag-told.result c.take_away.result.fault c.take_away.ensures.fault
-    (of_bag (as_take_words c.args.words.now) c.in-Err-give_remains.fault c.of_bag-told.result new c.in-Ok.ensures.beside
-    (λ why same. subst (IsUnfilled (TellsWithin new) (g.S.BlockSource.image image.source) image.len line c.args.words.now) same c.in-Err-give_remains.ensures.fault)
+    (of_bag (as_take_words c.args.words.now) c.in-Err-answer.fault c.of_bag-told.result new c.in-Ok.ensures.beside
+    (λ why same. subst (IsUnfilled (TellsWithin new) (g.S.PlacedBlocks.Holds c.give_remains-answer.result.source.blocks) image.len line c.args.words.now) same fault)
     c.of_bag-told.ensures.read c.of_bag-told.ensures.memory c.of_bag-told.ensures.shelf c.of_bag-told.ensures.large)
 
-pub returns-in-Err-give_remains-clause-away : goal.returns-in-Err-give_remains-clause-away
-returns-in-Err-give_remains-clause-away g c =
-    let filled = c.give_remains.new.shelf in
+pub returns-in-Err-answer-clause-away : goal.returns-in-Err-answer-clause-away
+returns-in-Err-answer-clause-away g c =
+    let filled = c.give_remains-answer.new.shelf in
     inr (
       string_bytes {Z = Global} filled.folder,
       g.Y.FileSystem.did filled.system,
-      subst (IsNewFolder c.args.words.now.folder.now) (sym c.give_remains.ensures.place) c.in-Ok.ensures.beside,
+      subst (IsNewFolder c.args.words.now.folder.now) (sym c.give_remains-answer.ensures.place) c.in-Ok.ensures.beside,
       c.take_away.ensures.away,
     )
 
-pub returns-in-Ok-give_remains-clause-placed : goal.returns-in-Ok-give_remains-clause-placed
-returns-in-Ok-give_remains-clause-placed g c =
+pub returns-in-Ok-answer-clause-placed : goal.returns-in-Ok-answer-clause-placed
+returns-in-Ok-answer-clause-placed g c =
     let image = c.args.image in
     let shelf = c.in-Ok.shelf in
-    let filled = c.give_remains.new.shelf in
-    bag-placed (g.S.BlockSource.image image.source) image.len (option_map (string_bytes {Z = Global}) image.line) c.args.words.now (string_bytes {Z = Global} shelf.folder)
+    let filled = c.give_remains-answer.new.shelf in
+    bag-placed (λ placed. g.S.PlacedBlocks.Holds placed.source.blocks) (g.S.PlacedBlocks.Holds c.give_remains-answer.result.source.blocks) image.len (option_map (string_bytes {Z = Global}) image.line) c.args.words.now (string_bytes {Z = Global} shelf.folder)
     (string_bytes {Z = Global} filled.folder) (given_by (string_bytes {Z = Global} shelf.folder) shelf.modified (g.Y.FileSystem.did shelf.system))
     (given_by (string_bytes {Z = Global} filled.folder) filled.modified (g.Y.FileSystem.did filled.system)) (λ placed. g.Y.FileSystem.did placed.system) c.place_bag.result
-    c.in-Ok.ensures.empty c.give_remains.ensures.place c.in-Ok.ensures.beside c.in-Ok-give_remains.ensures.whole c.place_bag.ensures.placed
+    c.in-Ok.ensures.empty c.give_remains-answer.ensures.place c.in-Ok.ensures.beside (subst (λ (r : Result RescueAnswer BagFault). OnOk r (EachKnown (g.S.PlacedBlocks.Holds c.give_remains-answer.result.source.blocks) (λ known. OfKnownBag known image.len (option_map (string_bytes {Z = Global}) image.line) c.args.words.now (λ (bag : List ShelfEntry). given_by (string_bytes {Z = Global} filled.folder) filled.modified (g.Y.FileSystem.did filled.system) ≡ given_by (string_bytes {Z = Global} shelf.folder) shelf.modified (g.Y.FileSystem.did shelf.system) ++ bag)))) c.in-Ok-answer.is c.give_remains-answer.ensures.whole) c.place_bag.ensures.placed
+    (kept_source (λ placed. placed.source) c.give_remains-answer.result.source (λ source image. g.S.PlacedBlocks.Holds source.blocks image) c.place_bag.result c.place_bag.ensures.source)
 
-pub returns-in-Ok-give_remains-clause-away : goal.returns-in-Ok-give_remains-clause-away
-returns-in-Ok-give_remains-clause-away g c =
+pub returns-in-Ok-answer-clause-away : goal.returns-in-Ok-answer-clause-away
+returns-in-Ok-answer-clause-away g c =
     let shelf = c.in-Ok.shelf in
-    let filled = c.give_remains.new.shelf in
+    let filled = c.give_remains-answer.new.shelf in
     bag-away c.args.words.now.folder.now (string_bytes {Z = Global} shelf.folder) (string_bytes {Z = Global} filled.folder) (λ back. back.fault) (λ back. g.Y.FileSystem.did back.system)
-    (g.Y.FileSystem.did c.args.system) (g.Y.FileSystem.did filled.system) c.place_bag.result c.give_remains.ensures.place c.in-Ok.ensures.beside c.place_bag.ensures.away
+    (g.Y.FileSystem.did c.args.system) (g.Y.FileSystem.did filled.system) c.place_bag.result c.give_remains-answer.ensures.place c.in-Ok.ensures.beside c.place_bag.ensures.away

@@ -1,17 +1,22 @@
 -- Piece by piece.
-use Rattle.std.proofs.Common.{◌*◌, ◌∙◌, ap, refl, arith, rules}
+use Rattle.std.proofs.Common.{◌*◌, ◌∙◌, Some, refl, arith, rules}
 use Rattle.sha2.specs.Hashers.{Holds256}
 use Rattle.hfs_take.proofs.DigestLemmas.{more-added}
 use Rattle.hfs_take.proofs.digest.add_all.Goals as goal
 
 pub loop-place-preserved : goal.loop-place-preserved
 loop-place-preserved g c =
-    let before = c.loop-place.invariant.at c.loop-place-test.true in
+    let before = c.loop-place.invariant in
+    let at = before.at c.loop-place-test.true in
+    let one = c.in_ok-place.ensures in
     record {
-      few = omega (arith, c.loop-place.invariant.few, c.in_ok-place.ensures.few);
-      at = λ below. omega (arith, before, c.in_ok-place.ensures.whole (omega (arith, below)), c.in_ok-first.ensures);
-      holds = more-added (g.B.ImageBlocks.bytes c.args.image.now) (g.B.ImageBlocks.bytes c.loop-place.image) (ap g.B.ImageBlocks.bytes c.loop-place.invariant.image) c.loop-place.place (512 * c.loop-place.first) c.in_ok-place.field-0 _ before refl
-          (Holds256 c.loop-place.digest) (Holds256 c.add_piece.new.digest) c.loop-place.invariant.holds c.in_ok-place.ensures.added;
+      few = omega (arith, before.few, one.few);
+      at = λ below. omega (arith, at, one.whole (omega (arith, below)), c.in_ok-first.ensures);
+      holds = more-added (g.B.ImageBlocks.bytes c.args.image.now) (g.B.ImageBlocks.bytes c.loop-place.image) before.image c.loop-place.place (512 * c.loop-place.first) c.in_ok-place.field-0 _ at refl
+          (Holds256 c.loop-place.digest) (Holds256 c.add_piece.new.digest) before.holds one.added;
+      each = λ image h. more-added (Some image) (Some image) refl c.loop-place.place (512 * c.loop-place.first) c.in_ok-place.field-0 _ at refl
+          (Holds256 c.loop-place.digest) (Holds256 c.add_piece.new.digest) (before.each image (one.narrows image h)) (one.each image h);
+      narrows = λ image h. before.narrows image (one.narrows image h);
       room = search rules;
-      image = c.in_ok-place.ensures.image ∙ c.loop-place.invariant.image;
+      image = one.image ∙ before.image;
     }

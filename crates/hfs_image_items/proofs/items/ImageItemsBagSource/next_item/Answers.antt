@@ -2,13 +2,17 @@
 use Rattle.std.proofs.Common.{List, ℕ, ap, subst, ◌∙◌}
 use Rattle.hfs_inventory.specs.Levels.{GivesRow}
 use Rattle.hfs_image_items.specs.Items.{folders_text, names_between}
-use Rattle.hfs_image_items.proofs.StateLemmas.{has_item}
+use Rattle.hfs_image_items.proofs.StateLemmas.{has_item, row_fewer}
 use Rattle.hfs_image_items.proofs.items.ImageItemsBagSource.next_item.Goals as goal
 
 pub returns-clause-taken : goal.returns-clause-taken
-returns-clause-taken g c =
+returns-clause-taken g c = λ image h.
     let before = c.args.self.now in
-    has_item before.image before.rows c.next.new.self before.came c.in-Ok-came_item.came before.reading c.head_of.result c.in-Some.info
+    has_item image before.rows c.next.new.self before.came c.in-Ok-came_item.came before.reading c.head_of.result c.in-Some.info
     (subst (GivesRow before.rows c.next.new.self) c.in-Some.is c.in-Ok.ensures)
     (c.in-Ok-came_item.ensures.above ∙ ap (λ (path : List (List ℕ)). folders_text (names_between path)) c.path.ensures)
-    c.in-Ok-came_item.ensures.name c.in-Ok-came_item.ensures.info (c.head_of.ensures before.image c.in-Ok-runs_of.ensures)
+    c.in-Ok-came_item.ensures.name c.in-Ok-came_item.ensures.info (c.head_of.ensures image (c.in-Ok-runs_of.ensures.there image h))
+
+pub returns-clause-fewer : goal.returns-clause-fewer
+returns-clause-fewer g c =
+    row_fewer c.args.self.now.rows c.next.new.self c.in-Some.info c.head_of.result (subst (GivesRow c.args.self.now.rows c.next.new.self) c.in-Some.is c.in-Ok.ensures)

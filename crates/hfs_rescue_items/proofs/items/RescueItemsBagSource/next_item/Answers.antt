@@ -9,5 +9,5 @@ returns-clause-taken g c =
     let planned = c.index-planned.result.now in
     let within : items.next < length items.plan.items = search rules in
     let is : planned ≡ slice_index_or items.plan.items items.next planned = search rules in
-    has_item (g.S.BlockSource.image items.source) items.found items.plan.items items.next items.came c.in_ok-came.came items.reading c.in_ok-came.head planned within is c.in_ok-came.ensures.above
+    λ image h. has_item image items.found items.plan.items items.next items.came c.in_ok-came.came items.reading c.in_ok-came.head planned within is c.in_ok-came.ensures.above
     c.in_ok-came.ensures.name c.in_ok-came.ensures.planned c.in_ok-came.ensures.head

@@ -1,0 +1,42 @@
+//! Images in memory, as the programs' files are opened.
+
+use hfs_collection::{ImageFacts, NotedFile, Reopen};
+use hfs_source::MemoryBytes;
+use hfs_sparse::SparseFault;
+use hfs_word_collect::ImageRows;
+use std::alloc::Global;
+use std::marker::Brand;
+
+/// An image in memory, which is opened as often as one likes.
+#[derive(Clone, Copy)]
+pub struct Stored<'a> {
+    bytes: &'a [u8],
+}
+
+impl<'a> Reopen<MemoryBytes<'a>> for Stored<'a> {
+    fn reopen(&mut self) -> Result<MemoryBytes<'a>, SparseFault> {
+        Ok(MemoryBytes { bytes: self.bytes })
+    }
+}
+
+/// The rows of an image in memory.
+pub type StoredRows<'a> = ImageRows<
+    'a,
+    MemoryBytes<'a>,
+    Brand,
+    NotedFile<MemoryBytes<'a>, Brand, Stored<'a>>,
+>;
+
+/// What is told of an image beside its bytes.
+pub fn facts_of(path: &str) -> ImageFacts<'_> {
+    ImageFacts {
+        path,
+        program: "a test",
+        takes_digests: true,
+    }
+}
+
+/// The rows of the image of these bytes.
+pub fn rows_of<'a>(alloc: Global, facts: &'a ImageFacts<'a>, bytes: &'a [u8]) -> StoredRows<'a> {
+    ImageRows::new(alloc, NotedFile::new(Stored { bytes }), facts)
+}

@@ -1,0 +1,72 @@
+//! The first bytes of an image, as if they were the image.
+ghost use Rattle.std.specs.Prelude.{◌≡◌, IfOk, Some, length};
+ghost use Rattle.hfs_source.specs.Images.{HasAt, OfEach};
+ghost use Rattle.hfs_contents.specs.Heads.{HasSmallHeader, IsHeadOf, with_zeros};
+
+use hfs_containers::ReadAt;
+use hfs_fields::u16_at;
+use hfs_source::{MemoryBytes, PlacedBytes};
+use hfs_sparse::SparseFault;
+use std::alloc::Global;
+use std::io;
+
+/// How many bytes are read: what tells where volumes lie stands before that.
+const HEAD: u64 = 131_072;
+
+/// The first bytes of an image of `len` bytes. Contracts see zeros behind them, which can't be read.
+#[derive(Drop)]
+pub(crate) struct HeadBytes<'a> {
+    pub(crate) bytes: &'a [u8],
+    pub(crate) len: u64,
+}
+
+impl ReadAt for HeadBytes<'_> {
+    ghost known = { λ head. Some (with_zeros head.len head.bytes.now) };
+
+    #[tactic(auto, using(crate::proofs::HeadLemmas::head_read))]
+    fn read_at(&mut self, place: u64, into: &mut [u8]) -> io::Result<()> {
+        let bytes = self.bytes;
+        MemoryBytes { bytes }.read_at(place, into)
+    }
+}
+
+/// So many first bytes of an image. Errors: the read failed, or the image has fewer, memory was refused.
+fn first_bytes<S: PlacedBytes>(
+    alloc: Global,
+    source: &mut S,
+    len: u64,
+) -> Result<Vec<u8>, SparseFault>
+    ensures size { IfOk result (λ bytes. length bytes.items ≡ len) }
+    ensures bytes { IfOk result (λ bytes. OfEach (S.Holds source.new) (HasAt 0 bytes.items)) }
+    ensures held { OfEach (S.Holds source.new) (S.Holds source.old) }
+{
+    let Ok(mut bytes) = vec![in alloc; 0u8; len as usize] else {
+        return Err(SparseFault::Memory);
+    };
+    match source.read_at(0, &mut bytes) {
+        Ok(()) => Ok(bytes),
+        Err(_) => Err(SparseFault::ReadFailed),
+    }
+}
+
+/// The first bytes of an image, by which volumes in it are found. Errors: the read failed, memory was refused.
+pub(crate) fn head_of<S: PlacedBytes>(alloc: Global, source: &mut S) -> Result<Vec<u8>, SparseFault>
+    ensures head { IfOk result (λ head. OfEach (S.Holds source.new) (IsHeadOf head.items)) }
+    ensures held { OfEach (S.Holds source.new) (S.Holds source.old) }
+{
+    let all = source.len();
+    let len = all.min(HEAD);
+    let head = first_bytes(alloc, source, len)?;
+    Ok(head)
+}
+
+/// How many bytes the second header of a MacBinary file has that begins so; 0 of one that is too short.
+#[tactic(auto, using(crate::proofs::HeadLemmas::short_header, crate::proofs::HeadLemmas::small_header))]
+pub(crate) fn second_header(head: &[u8]) -> u16
+    ensures { HasSmallHeader head.now }
+{
+    if head.len() < 128 {
+        return 0;
+    }
+    u16_at(&head[..128], 120)
+}

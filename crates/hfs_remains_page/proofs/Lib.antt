@@ -1,0 +1,10 @@
+mod GatherLemmas
+mod ListLemmas
+mod NestedLemmas
+mod TreeLemmas
+mod PieceLemmas
+mod PageLemmas
+mod CountLemmas
+mod ForestLemmas
+mod OnceLemmas
+mod HeldLemmas

@@ -1,0 +1,11 @@
+pub mod Walks
+pub mod Trees
+pub mod Verdicts
+pub mod Rows
+pub mod Gathers
+pub mod Pictures
+pub mod Facts
+pub mod Dress
+pub mod Pages
+pub mod Nested
+pub mod Once

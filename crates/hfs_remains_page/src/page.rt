@@ -1,0 +1,56 @@
+//! The page of what remains of an image that is refused.
+ghost use Rattle.std.specs.Prelude.{◌≡◌, OnErr, OnOk};
+ghost use Rattle.std.specs.Io.KnownBytes.{Appends};
+ghost use Rattle.hfs_texts.specs.Writing.{AppendsFront};
+ghost use Rattle.hfs_remains_page.specs.Pages.{remains_page};
+
+use crate::document::{back, front};
+use crate::pictures::TreeFiles;
+use crate::remains_texts::RemainsTexts;
+use crate::walks::tree_order;
+use crate::writing::write_rows;
+use hfs_page::{PageFault, put_piece};
+use hfs_rescue_items::Found;
+use std::alloc::Global;
+use std::io::Write;
+
+/// Writes the page of what was found of an image that is refused: its fault in words and what that means, what is known of the disk, a
+/// row for each item, with what is said of each fork, and a picture of the blocks that the trees and the forks have that were found,
+/// where `extents_file` and `catalog_file` have the blocks of the trees' files. Beside what was found, what stands after the items,
+/// and some 60 bytes an item, 65,536 bytes and a row are in memory. Faults: memory was refused, or the writer failed; then a part of the
+/// page may have gone out, from its beginning on.
+pub fn write_remains_page<W: Write>(
+    alloc: Global,
+    texts: &RemainsTexts<'_>,
+    refusal: &[u8],
+    meaning: &[u8],
+    found: &Found<'_>,
+    extents_file: &[Option<u16>],
+    catalog_file: &[Option<u16>],
+    writer: &mut W,
+) -> Result<(), PageFault>
+    requires extents { extents_file.now ≡ found.now.salvage.now.trees.extents_file.now }
+    requires catalog { catalog_file.now ≡ found.now.salvage.now.trees.catalog_file.now }
+    ensures written { OnOk result (Appends (W.contents writer.old) (W.contents writer.new)
+        (remains_page texts.now refusal.now meaning.now found.now)) }
+    ensures part { OnErr result (AppendsFront (W.contents writer.old) (W.contents writer.new)
+        (remains_page texts.now refusal.now meaning.now found.now)) }
+{
+    let Ok(front) = front(alloc, texts, refusal, meaning, found) else {
+        return Err(PageFault::Memory);
+    };
+    let files = TreeFiles {
+        extents: extents_file,
+        catalog: catalog_file,
+    };
+    let Ok(back) = back(alloc, texts, found, files) else {
+        return Err(PageFault::Memory);
+    };
+    let Ok(steps) = tree_order(alloc, found) else {
+        return Err(PageFault::Memory);
+    };
+    put_piece(writer, &front)?;
+    write_rows(alloc, writer, texts.page.image.base, found, &steps)?;
+    put_piece(writer, &back)?;
+    Ok(())
+}

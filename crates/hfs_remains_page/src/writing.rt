@@ -1,0 +1,92 @@
+//! Rows that are written in pieces.
+ghost use Rattle.std.specs.Prelude.{◌≡◌, ◌++◌, [], IfOk, OnErr, OnOk};
+ghost use Rattle.std.specs.Io.KnownBytes.{Appends};
+ghost use Rattle.hfs_page.specs.Items.{closings};
+ghost use Rattle.hfs_texts.specs.Writing.{AppendsFront};
+ghost use Rattle.hfs_remains_page.specs.Gathers.{Gathers};
+ghost use Rattle.hfs_remains_page.specs.Rows as spec;
+
+use crate::rows::{open_behind, push_row};
+use crate::steps::Step;
+use hfs_page::{PageFault, push_closings, put_piece};
+use hfs_rescue_items::Found;
+use std::alloc::Global;
+use std::io::Write;
+
+/// How many bytes of text are gathered before they are written.
+const PIECE: usize = 65_536;
+
+/// Writes a text, and begins the next one.
+fn put_text<W: Write>(writer: &mut W, text: &mut Vec<u8>) -> Result<(), PageFault>
+    ensures written { OnOk result (Appends (W.contents writer.old) (W.contents writer.new) text.old.items) }
+    ensures empty { OnOk result (text.new.items ≡ []) }
+    ensures part { OnErr result (AppendsFront (W.contents writer.old) (W.contents writer.new)
+        text.old.items) }
+{
+    put_piece(writer, text)?;
+    text.clear();
+    Ok(())
+}
+
+/// Gathers the row of a node behind a text, and writes that where it has become long.
+#[tactic(auto, using(crate::proofs::GatherLemmas::row_kept, crate::proofs::GatherLemmas::row_out, crate::proofs::GatherLemmas::nothing_out))]
+fn gather_row<W: Write>(
+    alloc: Global,
+    writer: &mut W,
+    text: &mut Vec<u8>,
+    base: Option<&[u8]>,
+    found: &Found<'_>,
+    opened: usize,
+    step: Step,
+) -> Result<(), PageFault>
+    ensures gathered { OnOk result (Gathers (spec.row_text base.entry found.now opened step)
+        text.old.items text.new.items (W.contents writer.old) (W.contents writer.new)) }
+    ensures part { OnErr result (AppendsFront (W.contents writer.old) (W.contents writer.new)
+        (text.old.items ++ spec.row_text base.entry found.now opened step)) }
+{
+    let Ok(()) = push_row(alloc, text, base, found, opened, step) else {
+        return Err(PageFault::Memory);
+    };
+    if text.len() < PIECE {
+        return Ok(());
+    }
+    put_text(writer, text)
+}
+
+/// Gathers the ends of the folders that stand open, and writes the text.
+#[tactic(auto, using(crate::proofs::GatherLemmas::nothing_out))]
+fn put_ends<W: Write>(writer: &mut W, text: &mut Vec<u8>, opened: usize) -> Result<(), PageFault>
+    ensures written { OnOk result (Appends (W.contents writer.old) (W.contents writer.new)
+        (text.old.items ++ closings opened)) }
+    ensures part { OnErr result (AppendsFront (W.contents writer.old) (W.contents writer.new)
+        (text.old.items ++ closings opened)) }
+{
+    let Ok(()) = push_closings(text, opened) else {
+        return Err(PageFault::Memory);
+    };
+    put_piece(writer, text)
+}
+
+/// Writes the rows of these nodes, one after the other, in pieces of 65,536 bytes and a row; files are links where the URL of a bag is
+/// known. At a fault a part of them has gone out, from the first on.
+pub(crate) fn write_rows<W: Write>(
+    alloc: Global,
+    writer: &mut W,
+    base: Option<&[u8]>,
+    found: &Found<'_>,
+    steps: &[Step],
+) -> Result<(), PageFault>
+    ensures written { OnOk result (Appends (W.contents writer.old) (W.contents writer.new)
+        (spec.rows_text base.entry found.now 0 steps.now)) }
+    ensures part { OnErr result (AppendsFront (W.contents writer.old) (W.contents writer.new)
+        (spec.rows_text base.entry found.now 0 steps.now)) }
+{
+    let mut text = Vec::new(alloc);
+    let mut opened = 0;
+    for i in 0..steps.len() {
+        let step = steps[i];
+        gather_row(alloc, writer, &mut text, base, found, opened, step)?;
+        opened = open_behind(found, opened, step);
+    }
+    put_ends(writer, &mut text, opened)
+}

@@ -1,5 +1,0 @@
--- Blocks that weren't read tell nothing of the image.
-use Rattle.hfs_salvage.proofs.looking.look_at.Goals as goal
-
-pub returns-in-Err-clause-none : goal.returns-in-Err-clause-none
-returns-in-Err-clause-none g c = c.fault_of.ensures (g.S.BlockSource.image c.args.source.now) c.args.len
