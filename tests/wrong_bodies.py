@@ -4,6 +4,7 @@
 tests/wrong_bodies.py CRATE|CRATE/NAME..    those of these crates, or these; with neither, and with no option, all
 tests/wrong_bodies.py --since COMMIT        those of the crates whose files differ from COMMIT
 tests/wrong_bodies.py --look ..             proves nothing, and says in a second which of them name a text that isn't there once
+tests/wrong_bodies.py --types ..            proves nothing, and says in some seconds a crate which of them don't compile
 tests/wrong_bodies.py --gate                what .ci/run tries: HEADLINE, every fiftieth by name from the commit's hash on, and then, as
                                             far as ten minutes of processor time go, those of which no result is kept, of the crates
                                             that changed last first
@@ -220,6 +221,32 @@ def in_batches(edits):
     return batches
 
 
+def that_fit(edits):
+    """The edits in lists whose texts lie in one copy of a crate: no edit changes a line that another one looks for."""
+    batches = []
+    for edit in edits:
+        for batch, texts in batches:
+            if batch[0].crate == edit.crate and laid_over(edit, texts):
+                batch.append(edit)
+                break
+        else:
+            batches.append(([edit], {}))
+            laid_over(edit, batches[-1][1])
+    return [batch for batch, _ in batches]
+
+
+def laid_over(edit, texts):
+    """Lays an edit into the texts of a copy, by file, and says whether each text that it looks for still stood there once."""
+    new = dict(texts)
+    for file, old, text in edit.changes:
+        there = new.get(file) or source(edit.crate, file)
+        if there.count(old) != 1 or texts and not file.startswith('src/'):
+            return False
+        new[file] = there.replace(old, text)
+    texts.update(new)
+    return True
+
+
 @functools.lru_cache(None)
 def libraries_of():
     """The libraries of this repository that each crate uses, as crates.txt has them."""
@@ -376,6 +403,40 @@ class Run:
         errors = [it for it in said.split('\n') if re.search(r'\berror\b|has no function', it)]
         return f'NOT TRIED: its check ended with status {status}: {(errors or said.split(chr(10)))[0][:200]}'
 
+    def type_errors(self, edits):
+        """What the compiler says of these edits of a crate, all laid into one copy and none proved: by edit, the first error of it."""
+        with tempfile.TemporaryDirectory(prefix='wrong-bodies-') as folder:
+            place, lines = copied(edits[0].crate, Path(folder)), {}
+            for edit in edits:
+                for file, old, _ in edit.changes:
+                    text = source(edit.crate, file)
+                    lines[file, text.count('\n', 0, max(text.find(old), 0)) + 1] = edit
+                edit.lay(place)
+            words = [str(Path(folder) / 'scripts' / 'check_one.sh'), edits[0].crate, '--only', '']
+            ran = subprocess.run(words, stdin=subprocess.DEVNULL, stdout=subprocess.PIPE, stderr=subprocess.STDOUT, text=True, errors='replace')
+        if ran.stdout.rstrip().split('\n')[-1].startswith('only='):
+            return {}
+        found = {}
+        for file, line, said in re.findall(r'^(\S+?):(\d+):\d+: error\S* (.*)$', ran.stdout, re.M):
+            near = [(abs(int(line) - at), str(edit), edit) for (it, at), edit in lines.items() if it == file]
+            if near:
+                found.setdefault(min(near)[2], f'{file}:{line}: {said}')
+        said = (re.findall(r'.*error.*', ran.stdout) or ran.stdout.rstrip().split('\n'))[0][:200]
+        return found or dict.fromkeys(edits, said)
+
+    def try_types(self, edits):
+        """Tells which edits don't compile. Those that an error names are asked of alone, and so is each where an error names none."""
+        found = self.type_errors(edits)
+        left = [it for it in edits if it not in found]
+        if len(edits) == 1 and found:
+            self.tell(edits[0], False, f'DOES NOT COMPILE: {found[edits[0]]}')
+        elif not found:
+            self.passed += edits
+        else:
+            for some in [*([it] for it in found), left]:
+                if some:
+                    self.try_types(some)
+
     def tell(self, edit, is_refused, said):
         with self.printing:
             (self.passed if is_refused else self.failed).append(edit)
@@ -438,7 +499,7 @@ def chosen(every, names, commit):
 def main():
     parser = argparse.ArgumentParser(description=__doc__, formatter_class=argparse.RawDescriptionHelpFormatter)
     parser.add_argument('names', nargs='*')
-    for option in ('--gate', '--look', '--anew'):
+    for option in ('--gate', '--look', '--types', '--anew'):
         parser.add_argument(option, action='store_true')
     parser.add_argument('--since')
     words = parser.parse_args()
@@ -463,6 +524,11 @@ def main():
         print(f'wrong_bodies: libraries are not built, run rt ci first: {" ".join(unbuilt)}')
         return 2
     run, lanes, began = Run(Kept(words.anew)), int(lanes_here()), time.time()
+    if words.types:
+        with ThreadPoolExecutor(lanes) as pool:
+            list(pool.map(run.try_types, that_fit(wanted)))
+        print(f'wrong bodies: {len(run.passed)} passed, {len(run.failed) + len(lost)} failed')
+        return int(bool(run.failed or lost))
     always, due = for_the_gate(wanted) if words.gate else (wanted, [])
     known = run.try_all(always, lanes)
     of_due = run.try_all(due, lanes, SPENT)
