@@ -308,7 +308,7 @@ writes "1\tinfo\t19\tm0\n1\tread\t19\tm0\tdata\t700\t0\n1\tread\t19\tm0\tdata\t7
 [ "$(sed -n 1p "$folder/printed" | cut -d' ' -f2-4,10-11)" = 'f 20 19 700 300' ] || fail 'what is told of m0'
 sed -n '2,$p' "$folder/printed" | cmp -s - <(printf '1\t2\t0\tbytes\n1\t3\t-39\tbytes\n1\t4\t-43\t-\n') || fail 'the answers on the disk'
 
-# Lines that don't read. The first of them is named.
+# Lines that are not valid. The first of them is named.
 wants_line() {
     writes "1\tlist\t2\n$1\n9\tlist\t2\n"
     wants 2 'script line 2\n' run "$wide" "$script" --out "$folder/none.img"

@@ -35,7 +35,7 @@ pub struct CollectWords<'a> {
 const DATABASE: Argument = Argument {
     name: "DATABASE",
     takes: Takes::Text,
-    help: "The file of SQLite; it is made where nothing is there",
+    help: "The SQLite file; it is made if there is none",
     excludes: &[],
 };
 
@@ -43,7 +43,7 @@ const DATABASE: Argument = Argument {
 const IMAGES: Argument = Argument {
     name: "IMAGE",
     takes: Takes::Texts { unless: "compare" },
-    help: "The images, by their paths; with --compare all of the database where none is given",
+    help: "The images, by their paths; with --compare, all in the database if none is given",
     excludes: &[],
 };
 
@@ -59,7 +59,7 @@ const NO_DIGEST: Argument = Argument {
 const COMPARE: Argument = Argument {
     name: "compare",
     takes: Takes::Flag,
-    help: "Only tells which images are missing, new, changed or the same; changes no row",
+    help: "Only reports which images are missing, new, changed or the same; changes no row",
     excludes: &["no-digest"],
 };
 
@@ -67,15 +67,15 @@ const COMPARE: Argument = Argument {
 const COLLECTIONS: &str = "For each image a line is printed: its path, how many volumes it has, how
 many of these are refused, how many files there are, and how many of
 them are damaged. An image that was collected before, under the same
-path, is read anew. Of a volume that is refused the database has what
+path, is read anew. For a volume that is refused, the database has what
 hfs_tool rescue finds of it, with a verdict on each fork.
 
 The tables are image, volume and item; docs/MANUAL.md has questions that
-they answer. What can't be sought in, such as a pipe, is read whole and
-held meanwhile.
+they answer. An image in which seeking is impossible, such as a pipe, is
+held in memory while it is collected.
 
-With --compare a line for each image: missing, new, changed, same, or
-'same length' where the database has no digest of it.
+With --compare there is a line for each image: missing, new, changed,
+same, or 'same length' if the database has no digest of it.
 
 Exit statuses:
   0  done
@@ -95,7 +95,7 @@ Examples:
 const COLLECT: Program = Program {
     word: Word {
         name: "hfs_collect",
-        about: "Collects images of Macintosh disks, their HFS volumes and all items in one database of SQLite, or compares them with it",
+        about: "Collects images of Macintosh disks, their HFS volumes and all items in one SQLite database, or compares them with it",
         after_help: Some(COLLECTIONS),
         arguments: &[DATABASE, IMAGES, NO_DIGEST, COMPARE],
     },

@@ -17,7 +17,7 @@ pub struct PageWords<'a> {
 const DATABASE: Argument = Argument {
     name: "DATABASE",
     takes: Takes::Text,
-    help: "The file of SQLite that has the collection",
+    help: "The SQLite file that has the collection",
     excludes: &[],
 };
 
@@ -30,21 +30,21 @@ const BASE: Argument = Argument {
 };
 
 /// What the help says behind the arguments.
-const PAGE_HELP: &str = "The page is one document of HTML by itself: it asks for nothing from
-elsewhere, and may be put on a web site as it is. It has a line for each
+const PAGE_HELP: &str = "The page is one self-contained HTML document: it loads nothing from
+elsewhere, and can be put on a web site as it is. It has a line for each
 volume: its image, its name, how many files there are and how many of
 them are damaged, its free space, when it was created and modified, and
-its verdict. Below them are the contents of forks that lie on most
+its verdict. Below them are the fork contents that are on the most
 volumes, 1,000 at most: one path of each, its bytes and its digest.
 
 With --base URL the page of images/disk.img is URL/images/disk.img.html,
-as hfs_tool page prints it. Where an image has several volumes, that of
-the N-th is URL/images/disk.img.N.html.";
+as hfs_tool page prints it. If an image has several volumes, that of the
+N-th is URL/images/disk.img.N.html.";
 
 /// The word `page`.
 const PAGE: Word = Word {
     name: "page",
-    about: "Prints a page for a browser: the volumes of a collection, and what lies on several of them",
+    about: "Prints a page for a browser: the volumes of a collection, and what is on several of them",
     after_help: Some(PAGE_HELP),
     arguments: &[DATABASE, BASE],
 };

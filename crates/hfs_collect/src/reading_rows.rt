@@ -33,7 +33,7 @@ const FORMAT: Argument = Argument {
         choices: &["csv", "jsonl"],
         default: "jsonl",
     },
-    help: "JSON, an object a line, or CSV of one table with a head",
+    help: "JSON, one object per line, or CSV of one table with a header",
     excludes: &[],
 };
 
@@ -55,13 +55,13 @@ const NO_DIGEST: Argument = Argument {
 const ROWS_HELP: &str = "The rows are those that the database would have, with keys that hold
 without one: image_path and image_sha256 of volumes and items, and
 volume_number of items. Without --table an image's lines come together,
-each with its table first, and behind them one of the table end: whole
-is 1, or 0 where reading the image failed on the way. So load what has
+each with its table first, and after them one of the table end: whole
+is 1, or 0 if reading the image failed on the way. So load only what has
 an end that is whole. What is NULL in the database is null, and in CSV
 an empty field; an empty text is \"\".
 
 An image that can't be read is reported on standard error, the next one
-comes, and the status is 4 at the end.";
+is read, and the status is 4 at the end.";
 
 /// The word `rows`.
 const ROWS: Word = Word {
@@ -88,7 +88,7 @@ fn several<'a>(argument: Arg<'a>) -> Arg<'a> {
 /// The table as an argument, which CSV wants.
 fn table_argument<'a>(alloc: Global) -> Result<Arg<'a>, AllocError> {
     Arg::new(alloc, TABLE)
-        .help("The rows of this table alone; CSV has those of one table")
+        .help("Only the rows of this table; needed for CSV")
         .long(TABLE)
         .value_name("TABLE")
         .value_parser(TABLES)

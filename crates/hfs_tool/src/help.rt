@@ -4,17 +4,17 @@
 pub(crate) const PROGRAM: &str = "hfs_tool 1.0.0";
 
 /// What the numbers of checks mean.
-pub(crate) const CHECKS: &str = "What is printed where the volume is not sound:
+pub(crate) const CHECKS: &str = "What is printed if the volume is not sound:
   refused bad master directory block M1 (-60)   M1 to M5: that block
   refused check C3 at N                         the first check to fail:
   C3   extents tree              C8   order, parents, threads
   C4   shape of the catalog      C9   valences (a folder's children)
   C5   records                   C10  counts
   C6   IDs                       C11  extents
-  C7   names (with characters that this program doesn't take: no fault
-       of the disk)
+  C7   names (with characters that this program doesn't accept: no
+       fault of the disk)
   C12  space
-docs/CHECKS.md says what each wants, and what N counts.";
+docs/CHECKS.md says what each requires, and what N counts.";
 
 /// What the word `volumes` tells beside its arguments.
 pub(crate) const VOLUMES: &str = "How a volume lies in the file:
@@ -22,33 +22,34 @@ pub(crate) const VOLUMES: &str = "How a volume lies in the file:
   macbinary  it is the data fork of a MacBinary file
   disk copy  it is the data of a Disk Copy 4.2 file, which may be the
              data fork of a MacBinary file; 'sum right' or 'sum wrong'
-             says whether the sum in its header is that of the data
+             says whether the checksum in its header fits the data
   partition  it is a partition of type Apple_HFS in a map with blocks
              of 512 or 2,048 bytes
+  raw 2352   it is bare, or a partition, in the user data of raw CD
+             sectors; 'other mode N' says that N sectors have none
 A disk copy or a partition without a volume is listed, too, with
-'no volume' at the line's end.
+'no volume' at the end of the line.
 
 The words info, check, ls, items, page, cat, extract, take and rescue
-read the N-th of them by --volume N, and by --volume 0 the file as it
-is. Without --volume they take a bare volume as it is, else the only
-volume inside, and rescue the only line, also one with 'no volume'; of
-several none. info, run and repair, and what comes out of a pipe, are
-taken as they are; run and repair know no --volume: extract makes a
-file of the volume for them.
+read the N-th of them with --volume N, and the file as it is with
+--volume 0. Without --volume they take a bare volume as it is, or else
+the only volume inside, and rescue the only line, even one with 'no
+volume'; if there are several, none. info, run and repair take the file
+as it is, and so does every word that reads a pipe. run and repair have
+no --volume: use extract to make a file of the volume for them.
 
 Not looked for: a map within a map or within a disk copy, Disk Copy 6
-and other compressed forms, images with sectors of 2,352 bytes, MFS,
-and HFS Plus without a wrapper.";
+and other compressed forms, MFS, and HFS Plus without a wrapper.";
 
 /// What the word `extract` tells beside its arguments.
 pub(crate) const EXTRACTS: &str =
-    "Without --volume that is a bare volume as it is, else the only one
-inside; nothing is written of a file that holds none, or several. By
---volume N it is the N-th that volumes lists, also one with 'no
-volume', and by --volume 0 the file as it is. Nothing is checked.
+    "Without --volume that is a bare volume as it is, or else the only one
+inside; if the file holds none, or several, nothing is written. With
+--volume N it is the N-th that volumes lists, even one with 'no volume',
+and with --volume 0 the file as it is. Nothing is checked.
 
-OUT is written as OUT.0.new beside it, and gets its name when it is
-whole: after a fault it isn't there. Nothing is written over.";
+OUT is written as OUT.0.new next to it, and gets its name when it is
+complete: after a fault it isn't there. No file is overwritten.";
 
 /// What the word `run` tells beside its arguments.
 pub(crate) const RUNS: &str = "Each line of the script is answered by a line: who called, the number
@@ -59,7 +60,7 @@ Faults, in the order in which they are looked for; each is printed
 alone:
   cannot read IMAGE, or image too large
   cannot read SCRIPT, or script too large
-  script line N      the first line that doesn't read, counted from 1;
+  script line N      the first line that isn't valid, counted from 1;
                      no call was made
   what check prints  the volume of the image is refused; no call was
                      made
@@ -85,27 +86,27 @@ and two hexadecimal digits. In JSON path, type and creator hold the
 characters themselves, numbers are numbers, yes and no are true and
 false, and an empty field is null.
 
-Of a refused disk there is a row for each item that rescue finds, and
-behind them, on standard error, why it is refused; the status is that
-of rescue. Items and file_id are empty there, and so is the path of
-what is old or lost.
+For a refused disk there is a row for each item that rescue finds, and
+after them, on standard error, why it is refused; the status is that of
+rescue. Items and file_id are empty there, and so is the path of what
+is old or lost.
 
 A spreadsheet runs a name that begins with = + - or @ as a formula:
 import the file with its columns as text.";
 
 /// What the word `page` tells beside its arguments.
-pub(crate) const PAGES: &str = "The page is one document of HTML by itself: it asks for nothing from
-elsewhere, and may be put on a web site as it is. The picture has a
-square for each allocation block, or for several where there are more
-than 4,096: of what the blocks are used for, it shows the first that
-its legend names.
+pub(crate) const PAGES: &str = "The page is one self-contained HTML document: it loads nothing from
+elsewhere, and can be put on a web site as it is. The picture has a
+square for each allocation block, or for several if there are more than
+4,096: of what the blocks are used for, it shows the first that its
+legend names.
 
-Of a refused disk the page says why, and has what rescue finds: each
-item, with what is said of its forks. Why stands on standard error, too,
-and the status is that of rescue.
+For a refused disk the page says why, and shows what rescue finds: each
+item, with what is known about its forks. Why goes to standard error,
+too, and the status is that of rescue.
 
-With --base URL the page lies beside the bag that take made, or knows
-where that is: --base disk for a bag in the folder disk.";
+--base URL says where the bag is that take made: --base disk if it is
+in the folder disk next to the page.";
 
 /// What a taken volume becomes.
 pub(crate) const TAKES: &str = "FOLDER becomes a bag:
@@ -118,35 +119,35 @@ pub(crate) const TAKES: &str = "FOLDER becomes a bag:
   volume.txt            the lines of info and of check
   bag-info.txt, bagit.txt, tagmanifest-sha256.txt
 
-In NAME a character that some file system doesn't take is = and two
+In NAME a character that some file system doesn't allow is = and two
 hexadecimal digits. A data fork has the file's date, in no zone, from
 1970 on. FOLDER is written as FOLDER.0.new and renamed when it is
-whole. Check a bag with sha256sum -c manifest-sha256.txt within it,
+complete. Check a bag with sha256sum -c manifest-sha256.txt inside it,
 before it is copied to a Macintosh, which joins the AppleDouble files
 to theirs.";
 
 /// What remains of a damaged volume.
 pub(crate) const RESCUES: &str =
-    "FOLDER becomes a bag as that of take, with what can still be found,
+    "FOLDER becomes a bag like that of take, with what can still be found,
 whatever is wrong with the volume:
-  data/=lost/N/NAME     what lay in folder N, of which nothing is left
-  data/=old/NAME        what a part of the catalog says that is no
-                        longer used: deleted, mostly, or moved since
+  data/=lost/N/NAME     what was in folder N, of which nothing is left
+  data/=old/NAME        what is in a part of the catalog that is no
+                        longer used: mostly deleted, or moved since
   rescue.tsv            a line for each item: path, number, ID, and
-                        what is said of the data and resource forks
+                        the verdicts on the data and resource forks
 
-whole speaks of a fork's blocks, and not of what they hold: HFS keeps
-no sums of its data. What else is said:
-  cut N        there are blocks for N bytes only
+whole is about a fork's blocks, not about what they hold: HFS keeps no
+checksums of its data. The other verdicts:
+  cut N        there are blocks for only N bytes
   missing N    N of the bytes are zeros, since their blocks are missing
-  shared       a block is another fork's as well, so one of both has
+  shared       a block is another fork's as well, so one of the two has
                bytes that are not its own
-  left         the fork is not written, for --limit
+  left         the fork is not written, because of --limit
 
 The lines: the image's fault as check prints it, the block of its
-directory (unsure where it is a guess), files, folders, the bytes of
-all, how many files are whole, and how many are damaged. The status is
-3 where one is damaged or the catalog is.";
+directory (unsure if it is a guess), files, folders, the bytes of all,
+how many files are whole, and how many are damaged. The status is 3 if
+one of them is damaged, or the catalog is.";
 
 /// What stands behind the help text.
 pub(crate) const AFTER_HELP: &str = "Exit statuses:
@@ -154,7 +155,7 @@ pub(crate) const AFTER_HELP: &str = "Exit statuses:
   1  the words are refused
   2  the image is refused, or the plan of a new volume, or a script
   3  ls or cat met a code other than 0: -37 bad name, -43 not found,
-     -120 no folder; rescue found something damaged
+     -120 not a folder; rescue found something damaged
   4  a file could not be read or written, or the file of extract or the
      folder of take or rescue is there already
   5  out of memory, no place for a viewer, or a line of a script not
@@ -179,11 +180,11 @@ Examples:
   hfs_tool repair disk.img mended.img
   hfs_tool run disk.img calls.txt --now 3000000000 --out disk.img
 
-After a fault its text is printed where the result would have been: test
+The text of a fault is printed where the result would have been: test
 the status.
 
-What new, repair and run --out write goes to FILE.0.new beside FILE,
-which is renamed over FILE when it is whole: after a fault FILE is as it
-was. FILE keeps its permissions, and its owner and group where the
-system allows it. It is not written where nobody may write it, or where
-it is a link to no file.";
+What new, repair and run --out write goes to FILE.0.new next to FILE,
+which is renamed over FILE when it is complete: after a fault FILE is as
+it was. FILE keeps its permissions, and its owner and group if the
+system allows it. It is not written if nobody may write to it, or if it
+is a link to no file.";

@@ -33,7 +33,7 @@ const FILE_PATH: Argument = Argument {
 const RESOURCE: Argument = Argument {
     name: "resource",
     takes: Takes::Flag,
-    help: "The resource fork in place of the data fork",
+    help: "The resource fork instead of the data fork",
     excludes: &[],
 };
 

@@ -19,13 +19,13 @@ const FILE: Argument = Argument {
 const OUT: Argument = Argument {
     name: "OUT",
     takes: Takes::Text,
-    help: "The file that is made; nothing of that name may be there",
+    help: "The file to make; nothing of that name may exist",
     excludes: &[],
 };
 
 const EXTRACT: Word = Word {
     name: "extract",
-    about: "Writes the bytes of a volume that lies in a file to a file of its own",
+    about: "Writes the bytes of a volume inside a file to a file of its own",
     after_help: Some(EXTRACTS),
     arguments: &[FILE, OUT, VOLUME],
 };

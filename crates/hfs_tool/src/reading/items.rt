@@ -16,13 +16,13 @@ const FORMAT: Argument = Argument {
         choices: &["tab", "csv", "json"],
         default: "tab",
     },
-    help: "Fields with tabs between, CSV with a head, or an object of JSON for each item",
+    help: "Fields separated by tabs, CSV with a header, or a JSON object for each item",
     excludes: &[],
 };
 
 const ITEMS: Word = Word {
     name: "items",
-    about: "Prints a line for each item of the volume: the root first, behind each folder what lies in it",
+    about: "Prints a line for each item of the volume: the root first, after each folder what is in it",
     after_help: Some(COLUMNS),
     arguments: &[IMAGE, FORMAT, VOLUME],
 };

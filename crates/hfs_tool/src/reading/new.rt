@@ -11,7 +11,7 @@ use std::alloc::{AllocError, Global};
 const FILE: Argument = Argument {
     name: "FILE",
     takes: Takes::Text,
-    help: "The file that is written, in place of what it has",
+    help: "The file to write; what it has is replaced",
     excludes: &[],
 };
 
@@ -38,7 +38,7 @@ const NO_BLOCKS: NoValue = NoValue("<BLOCKS>: a number of blocks, or 800K, or 14
 const NODES: Argument = Argument {
     name: "NODES",
     takes: Takes::MaybeNumber,
-    help: "Nodes of the catalog, 2 to 2048; left out: drNmAlBlks / 128",
+    help: "Nodes of the catalog, 2 to 2048; if left out, drNmAlBlks / 128",
     excludes: &[],
 };
 
@@ -46,13 +46,13 @@ const NODES: Argument = Argument {
 const EXTENTS: Argument = Argument {
     name: "EXTENTS",
     takes: Takes::MaybeNumber,
-    help: "Nodes of the extents file, 1 to 2048; left out: drNmAlBlks / 128",
+    help: "Nodes of the extents file, 1 to 2048; if left out, drNmAlBlks / 128",
     excludes: &[],
 };
 
 const NEW: Word = Word {
     name: "new",
-    about: "Writes a new, empty volume, in place of what the file has",
+    about: "Writes a new, empty volume, which replaces what the file has",
     after_help: None,
     arguments: &[FILE, NAME, BLOCKS, NODES, EXTENTS, NOW],
 };

@@ -19,7 +19,7 @@ const BASE: Argument = Argument {
 const DIGEST: Argument = Argument {
     name: "digest",
     takes: Takes::Flag,
-    help: "The page has the SHA-256 digest of the image, which is read whole for it",
+    help: "The page has the SHA-256 digest of the image, for which all of it is read",
     excludes: &[],
 };
 

@@ -40,7 +40,7 @@ pub const PATH: Argument = Argument {
 pub const FOLDER: Argument = Argument {
     name: "FOLDER",
     takes: Takes::Text,
-    help: "The folder that is made; nothing of that name may be there",
+    help: "The folder to make; nothing of that name may exist",
     excludes: &[],
 };
 
@@ -48,7 +48,7 @@ pub const FOLDER: Argument = Argument {
 pub const NO_DIGEST: Argument = Argument {
     name: "no-digest",
     takes: Takes::Flag,
-    help: "Leaves out the digest of the image, which is read whole for it",
+    help: "Leaves out the digest of the image, for which all of it is read",
     excludes: &[],
 };
 

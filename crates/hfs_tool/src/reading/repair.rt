@@ -10,13 +10,13 @@ use std::alloc::{AllocError, Global};
 const FILE: Argument = Argument {
     name: "FILE",
     takes: Takes::Text,
-    help: "The file that is written, in place of what it has; it may be the image",
+    help: "The file to write; what it has is replaced; it may be the image",
     excludes: &[],
 };
 
 const REPAIR: Word = Word {
     name: "repair",
-    about: "Writes a volume with its counts mended, where nothing else is wrong",
+    about: "Writes a volume with its counts mended, if nothing else is wrong",
     after_help: None,
     arguments: &[BARE_IMAGE, FILE],
 };

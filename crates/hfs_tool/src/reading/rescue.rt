@@ -21,7 +21,7 @@ const LIST: Argument = Argument {
 const LIMIT: Argument = Argument {
     name: "limit",
     takes: Takes::CountOption { value: "BYTES" },
-    help: "How many bytes of forks are taken at most, in place of four times those of the image",
+    help: "The most bytes of forks to take, instead of four times those of the image",
     excludes: &[],
 };
 

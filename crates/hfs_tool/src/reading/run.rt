@@ -11,7 +11,7 @@ use std::alloc::{AllocError, Global};
 const SCRIPT: Argument = Argument {
     name: "SCRIPT",
     takes: Takes::Text,
-    help: "The calls, one a line; docs/SCRIPTS.md has the language",
+    help: "The calls, one per line; docs/SCRIPTS.md describes the language",
     excludes: &[],
 };
 
@@ -19,7 +19,7 @@ const SCRIPT: Argument = Argument {
 const OUT: Argument = Argument {
     name: "out",
     takes: Takes::TextOption { value: "FILE" },
-    help: "The file that gets the changed image, in place of what it has; it may be the image",
+    help: "The file for the changed image; what it has is replaced; it may be the image",
     excludes: &[],
 };
 

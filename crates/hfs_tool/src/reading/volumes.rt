@@ -10,7 +10,7 @@ use std::alloc::{AllocError, Global};
 const FILE: Argument = Argument {
     name: "FILE",
     takes: Takes::Text,
-    help: "The file that volumes are looked for in; it may be a device",
+    help: "The file to look for volumes in; it may be a device",
     excludes: &[],
 };
 
