@@ -21,3 +21,4 @@ pub mod GatheredLaws
 pub mod SeenStart
 pub mod SeenFiles
 pub mod SeenRuns
+pub mod Failing

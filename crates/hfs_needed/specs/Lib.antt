@@ -12,3 +12,4 @@ pub mod TreeReads
 pub mod SeenFiles
 pub mod Paths
 pub mod ForkRuns
+pub mod Failing

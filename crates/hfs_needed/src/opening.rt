@@ -1,5 +1,5 @@
 //! Volumes of which only the needed blocks are read.
-ghost use Rattle.std.specs.Prelude.{◌≡◌, ◌≢◌, ◌≤◌, ◌/◌, IfOk, IfErr};
+ghost use Rattle.std.specs.Prelude.{◌≡◌, ◌≢◌, ◌≤◌, ◌/◌, true, IfOk, IfErr};
 ghost use Rattle.hfs_check.specs.declared.mount_fault.MountFault.{MountFault};
 ghost use Rattle.hfs_source.specs.Images.{OfEach};
 ghost use Rattle.hfs_sparse.specs.Seen.{EachKnown, IsSeen};
@@ -29,6 +29,25 @@ impl NeededFault {
         match fault {
             SparseFault::ReadFailed => NeededFault::ReadFailed,
             SparseFault::Memory => NeededFault::Memory,
+        }
+    }
+
+    /// This fault, where it is known whether a read failed: if none did, and the image isn't refused, memory was.
+    pub(crate) fn noted(self, failed: bool) -> NeededFault
+        ensures read { result ≡ NeededFault.ReadFailed → failed ≡ true }
+        ensures refused { (why : MountFault) → result ≡ NeededFault.Refused why
+            → self ≡ NeededFault.Refused why }
+    {
+        match self {
+            NeededFault::ReadFailed => {
+                if failed {
+                    NeededFault::ReadFailed
+                } else {
+                    NeededFault::Memory
+                }
+            }
+            NeededFault::Memory => NeededFault::Memory,
+            NeededFault::Refused(why) => NeededFault::Refused(why),
         }
     }
 }

@@ -1,5 +1,5 @@
 //! An image that is opened and checked once, of which what is answered holds for each image that has the bytes which were read.
-ghost use Rattle.std.specs.Prelude.{◌≡◌, ◌*◌, Err, IfErr, IfOk, None, OnErr, OnOk};
+ghost use Rattle.std.specs.Prelude.{◌≡◌, ◌*◌, Err, IfErr, IfOk, None, OnErr, OnOk, length};
 ghost use Rattle.hfs_texts.specs.Writing.{AppendsFront};
 ghost use Rattle.hfs_blocks.specs.Blocks.{AreRunsWithin};
 ghost use Rattle.hfs_model.specs.Children.{entries_of};
@@ -7,7 +7,8 @@ ghost use Rattle.hfs_model.specs.declared.call.Fork.TheVariants.{DataFork, ResFo
 ghost use Rattle.hfs_check.specs.VolumeOf.{volume_of};
 ghost use Rattle.hfs_inventory.specs.Told.{told_rows};
 ghost use Rattle.hfs_check.specs.Report.{report_of};
-ghost use Rattle.hfs_source.specs.Images.{HasAt, OfEach};
+ghost use Rattle.hfs_source.specs.Images.{FailsWhere, HasAt, HasLength, OfEach};
+ghost use Rattle.hfs_needed.specs.Failing.{SomeReadFails};
 ghost use Rattle.hfs_needed.specs.Listing.{brief_list};
 ghost use Rattle.hfs_needed.specs.Opened.{IsOpenedOf};
 ghost use Rattle.hfs_needed.specs.Paths.{path_told};
@@ -17,6 +18,7 @@ ghost use Rattle.hfs_needed.specs.SeenFiles.{HasForkOf, IsFileFound, IsForkFound
 use crate::fork_runs::{FileRuns, opened_runs};
 use crate::forks::{opened_fork, write_opened};
 use crate::listing::{catalog_records, list_in_brief};
+use crate::noted::{NotedBlocks, PickedFailures};
 use crate::opening::{NeededFault, NeededVolume, open_needed};
 use crate::paths::told_in;
 use crate::reporting::{ReportedVolume, open_reported};
@@ -30,7 +32,7 @@ use hfs_sparse::{BlockSource, CopyFault, SeenBlocks, SparseFault};
 use std::alloc::{AllocError, Global};
 use std::io;
 use std::io::Write;
-use std::marker::Model;
+use std::marker::{Brand, Model};
 
 /// A sound image whose needed blocks were read and checked once. What it answers is what each image answers that has the bytes which were
 /// read: over memory the image itself, over a file each that it may be.
@@ -68,21 +70,18 @@ impl<S: PlacedBlocks> SeenImage<S> {
     pub fn open(alloc: Global, source: SeenBlocks<S>) -> Result<SeenImage<S>, Unopened<S>>
         ensures sound { IfOk result (λ image. OfEach (S.Holds image) HasNoFault) }
         ensures narrows { IfOk result (λ image. OfEach (S.Holds image) (S.Holds source.blocks)) }
+        ensures later { IfOk result (λ image. FailsWhere (S.Fails image) (S.Fails source.blocks)) }
         ensures refused { IfErr result (λ back. OfEach (S.Holds back.source.blocks)
             (IsRefusedBy back.fault)) }
+        ensures failed { IfErr result (λ back. back.fault ≡ NeededFault.ReadFailed
+            → SomeReadFails (S.Holds source.blocks) (S.Fails source.blocks)) }
         ensures back { IfErr result (λ back. OfEach (S.Holds back.source.blocks)
             (S.Holds source.blocks)) }
+        ensures back_later { IfErr result (λ back. FailsWhere (S.Fails back.source.blocks)
+            (S.Fails source.blocks)) }
     {
-        let mut source = source;
         let len = source.blocks.len();
-        match open_needed(alloc, &mut source, len) {
-            Ok(volume) => Ok(SeenImage {
-                source,
-                len,
-                volume,
-            }),
-            Err(fault) => Err(Unopened { fault, source }),
-        }
+        open_noted::<Brand, S>(alloc, source, len)
     }
 
     /// As [`SeenImage::open`], and gives the image's report as well, which tells of a sound volume: all checks are made once.
@@ -94,24 +93,18 @@ impl<S: PlacedBlocks> SeenImage<S> {
         ensures report { IfOk result (λ told. OfEach (S.Holds told.0)
             (λ image. told.1 ≡ report_of image)) }
         ensures narrows { IfOk result (λ told. OfEach (S.Holds told.0) (S.Holds source.blocks)) }
+        ensures later { IfOk result (λ told. FailsWhere (S.Fails told.0) (S.Fails source.blocks)) }
         ensures refused { IfErr result (λ back. OfEach (S.Holds back.source.blocks)
             (IsRefusedBy back.fault)) }
+        ensures failed { IfErr result (λ back. back.fault ≡ NeededFault.ReadFailed
+            → SomeReadFails (S.Holds source.blocks) (S.Fails source.blocks)) }
         ensures back { IfErr result (λ back. OfEach (S.Holds back.source.blocks)
             (S.Holds source.blocks)) }
+        ensures back_later { IfErr result (λ back. FailsWhere (S.Fails back.source.blocks)
+            (S.Fails source.blocks)) }
     {
-        let mut source = source;
         let len = source.blocks.len();
-        match open_reported(alloc, &mut source, len) {
-            Ok(ReportedVolume { volume, report }) => {
-                let image = SeenImage {
-                    source,
-                    len,
-                    volume,
-                };
-                Ok((image, report))
-            }
-            Err(why) => Err(Unopened { fault: why, source }),
-        }
+        report_noted::<Brand, S>(alloc, source, len)
     }
 
     /// What was read of the image, and what its checks found out: all that is told of it but for the bytes of forks.
@@ -246,7 +239,84 @@ impl<S: PlacedBlocks> SeenImage<S> {
     pub fn read_blocks(&mut self, first: u32, into: &mut [u8]) -> io::Result<()>
         ensures read { OnOk result (OfEach (S.Holds self.new) (HasAt (512 * first) into.new)) }
         ensures narrows { OfEach (S.Holds self.new) (S.Holds self.old) }
+        ensures fails { OnErr result (S.Fails self.old (512 * first) (length into.old)) }
+        ensures later { FailsWhere (S.Fails self.new) (S.Fails self.old) }
     {
-        self.source.read_blocks(first, into)
+        self.source.blocks.read_blocks(first, into)
+    }
+}
+
+/// Opens an image of `len` bytes as [`SeenImage::open`] does, where the reads that may fail are picked.
+fn open_noted<K: PickedFailures, S: PlacedBlocks>(
+    alloc: Global,
+    source: SeenBlocks<S>,
+    len: u64,
+) -> Result<SeenImage<S>, Unopened<S>>
+    requires fails { FailsWhere (S.Fails source.blocks) K.fails }
+    requires long { OfEach (S.Holds source.blocks) (HasLength len) }
+    requires len { len ≡ K.len }
+    ensures sound { IfOk result (λ image. OfEach (S.Holds image) HasNoFault) }
+    ensures narrows { IfOk result (λ image. OfEach (S.Holds image) (S.Holds source.blocks)) }
+    ensures later { IfOk result (λ image. FailsWhere (S.Fails image) K.fails) }
+    ensures refused { IfErr result (λ back. OfEach (S.Holds back.source.blocks)
+        (IsRefusedBy back.fault)) }
+    ensures failed { IfErr result (λ back. back.fault ≡ NeededFault.ReadFailed
+        → SomeReadFails (S.Holds source.blocks) K.fails) }
+    ensures back { IfErr result (λ back. OfEach (S.Holds back.source.blocks) (S.Holds source.blocks)) }
+    ensures back_later { IfErr result (λ back. FailsWhere (S.Fails back.source.blocks) K.fails) }
+{
+    let mut noted = NotedBlocks::<S, K>::new(source, len);
+    let opened = open_needed(alloc, &mut noted, len);
+    let (source, failed) = noted.into_source();
+    match opened {
+        Ok(volume) => Ok(SeenImage {
+            source,
+            len,
+            volume,
+        }),
+        Err(why) => {
+            let fault = why.noted(failed);
+            Err(Unopened { fault, source })
+        }
+    }
+}
+
+/// Opens an image of `len` bytes as [`SeenImage::open_reported`] does, where the reads that may fail are picked.
+fn report_noted<K: PickedFailures, S: PlacedBlocks>(
+    alloc: Global,
+    source: SeenBlocks<S>,
+    len: u64,
+) -> Result<(SeenImage<S>, Report), Unopened<S>>
+    requires fails { FailsWhere (S.Fails source.blocks) K.fails }
+    requires long { OfEach (S.Holds source.blocks) (HasLength len) }
+    requires len { len ≡ K.len }
+    ensures sound { IfOk result (λ told. OfEach (S.Holds told.0) HasNoFault) }
+    ensures report { IfOk result (λ told. OfEach (S.Holds told.0)
+        (λ image. told.1 ≡ report_of image)) }
+    ensures narrows { IfOk result (λ told. OfEach (S.Holds told.0) (S.Holds source.blocks)) }
+    ensures later { IfOk result (λ told. FailsWhere (S.Fails told.0) K.fails) }
+    ensures refused { IfErr result (λ back. OfEach (S.Holds back.source.blocks)
+        (IsRefusedBy back.fault)) }
+    ensures failed { IfErr result (λ back. back.fault ≡ NeededFault.ReadFailed
+        → SomeReadFails (S.Holds source.blocks) K.fails) }
+    ensures back { IfErr result (λ back. OfEach (S.Holds back.source.blocks) (S.Holds source.blocks)) }
+    ensures back_later { IfErr result (λ back. FailsWhere (S.Fails back.source.blocks) K.fails) }
+{
+    let mut noted = NotedBlocks::<S, K>::new(source, len);
+    let opened = open_reported(alloc, &mut noted, len);
+    let (source, failed) = noted.into_source();
+    match opened {
+        Ok(ReportedVolume { volume, report }) => {
+            let image = SeenImage {
+                source,
+                len,
+                volume,
+            };
+            Ok((image, report))
+        }
+        Err(why) => {
+            let fault = why.noted(failed);
+            Err(Unopened { fault, source })
+        }
     }
 }
