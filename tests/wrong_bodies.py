@@ -172,6 +172,9 @@ def functions_in(crate, file):
             if not heads:
                 continue
             trait, argument, kind = heads[-1].groups()
+            # An argument that is a parameter of the impl itself isn't in the name.
+            if argument and re.search(rf'[<,]\s*{argument}\b', text[heads[-1].start():heads[-1].start(1)]):
+                argument = None
             path = f'{kind}{trait or ""}{argument or ""}::{name}'
             module = module if trait else home_of(crate, kind, module)
         closed = re.compile(rf'^{indent}}}', re.M).search(text, at.end())

@@ -23,6 +23,7 @@ mod saving;
 mod seen_files;
 mod volume_files;
 mod volumes;
+mod watched_image;
 
 pub use answers::write_answers;
 pub use beside::Leftover;
@@ -31,16 +32,14 @@ pub use checking::{CheckAnswer, needed_check_answer, refused_text, report_answer
 pub use contents::{Contents, ReadContents, UnwrittenFault};
 pub use extracting::{ImageContents, extracted_text, need_volume, write_range};
 pub use fault::{Fault, Status};
-pub use files::{WatchedImage, load_script, open_watched};
+pub use files::load_script;
 pub use hfs_containers::{ByteRange, Counted, Layout, NumberedRange, RawFile, ReadAt, Window};
 pub use hfs_needed::{NeededFault, NeededFile, SeenImage, Unopened};
 pub use hfs_refusals::{Hint, Refusal};
-pub use hfs_runs::{Answers, Gate, Ran, ScriptFault, run_script, run_script_at};
-pub use hfs_sparse::{BlockSource, ByteSource, CopyFault, SparseFault};
+pub use hfs_runs::{Answers, Gate, Ran, ScriptFault, run_script_at};
+pub use hfs_sparse::{BlockSource, CopyFault, SparseFault};
 pub use hfs_table::Format;
-pub use hfs_texts::{
-    IMAGE_LIMIT, InfoFault, LoadFault, load, load_within, put, reply_text, run_info,
-};
+pub use hfs_texts::{InfoFault, LoadFault, put, run_info};
 pub use items::write_items;
 pub use listing::{children_text, code_text, seen_list_text};
 pub use macbinary::put_macbinary;
@@ -53,3 +52,4 @@ pub use saving::{Saved, save_file, save_new, save_read};
 pub use seen_files::{PartBlocks, PartImage, open_seen, part_blocks};
 pub use volume_files::{FilePart, open_asked, open_file, open_part, part_of};
 pub use volumes::{sum_told, volume_lines};
+pub use watched_image::{WatchedImage, open_watched};

@@ -1,5 +1,5 @@
 //! A file that volumes lie in, by its path.
-ghost use Rattle.std.specs.Prelude.{◌≡◌, IfErr, IfOk, IfSome, None};
+ghost use Rattle.std.specs.Prelude.{◌≡◌, IfErr, IfOk, IfSome, None, Some};
 ghost use Rattle.std.specs.Option.{is_some};
 ghost use Rattle.hfs_containers.specs.Asking.{IsAnswerTo, asked_in};
 ghost use Rattle.hfs_containers.specs.Reading.{IsToldOf};
@@ -41,12 +41,15 @@ fn whole_file<F: Read + Seek>(source: StoredFile<F>) -> Window<StoredFile<F>>
 }
 
 /// All bytes of what can't be sought in. Faults: as [`open_file`] has them.
-fn loaded<'a, F: Read + Seek + Drop>(
+#[tactic(auto, using(crate::proofs::WholeReads::whole_held))]
+pub(crate) fn loaded<'a, F: Read + Seek + Drop>(
     alloc: Global,
     mut file: F,
     path: &'a str,
 ) -> Result<Window<StoredFile<F>>, Fault<'a>>
-    ensures { IfErr result (IsUnreadFile path.entry) }
+    ensures whole { IfOk result (λ held. IfSome (F.remaining file)
+        (λ all. stored_bytes held.source ≡ Some all)) }
+    ensures fault { IfErr result (IsUnreadFile path.entry) }
 {
     let bytes = load_opened(alloc, &mut file, path)?;
     match Arc::new(alloc, bytes) {
@@ -56,7 +59,7 @@ fn loaded<'a, F: Read + Seek + Drop>(
 }
 
 /// All bytes of a file, to be read where they are needed if it can be sought in. Faults: as [`open_file`] has them.
-fn opened<'a, F: Read + Seek + Drop>(
+pub(crate) fn opened<'a, F: Read + Seek + Drop>(
     alloc: Global,
     file: F,
     path: &'a str,

@@ -3,5 +3,4 @@ pub mod Shorter
 mod Entries
 mod Counting
 mod SumLemmas
-mod Windows
 mod RawLemmas

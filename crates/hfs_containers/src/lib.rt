@@ -1,5 +1,4 @@
-//! Where volumes lie in a file: the file itself, MacBinary, Disk Copy 4.2, partition maps; and a range of a file, read as if
-//! it were the file.
+//! Where volumes lie in a file: the file itself, MacBinary, Disk Copy 4.2, partition maps, the user data of raw CD sectors.
 #![tactic(auto)]
 
 mod asking;
@@ -8,7 +7,6 @@ mod finding;
 mod macbinary;
 mod partition_map;
 mod pieces;
-mod placed;
 mod ranges;
 mod raw;
 mod source;
@@ -18,7 +16,6 @@ mod window;
 
 pub use crate::asking::{Asked, Counted, NumberedRange, find_asked};
 pub use crate::finding::{find_in_layout, find_ranges, find_raw_ranges, nth_range};
-pub use crate::placed::PlacedFile;
 pub use crate::ranges::{ByteRange, Container, FoundRange, Layout};
 pub use crate::raw::{RawFile, find_layout, others_in};
 pub use crate::source::ReadAt;

@@ -1,4 +1,3 @@
 pub mod Writes
 pub mod WriteLogs
-pub mod Watches
-pub mod WatchLogs
+pub mod Looks

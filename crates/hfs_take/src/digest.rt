@@ -36,10 +36,7 @@ fn add_piece<B: ImageBlocks>(
     ensures some { IfOk result (λ count. 1 ≤ count) }
     ensures few { IfOk result (λ count. count ≤ left) }
     ensures whole { IfOk result (λ count. count < left → count ≡ 65536) }
-    ensures added { IfOk result (λ count. AddsPiece (B.bytes image.old) (512 * first) count
-        (Holds256 digest.old) (Holds256 digest.new)) }
     ensures room { length buffer.new ≡ 65536 }
-    ensures image { B.bytes image.new ≡ B.bytes image.old }
     ensures each { IfOk result (λ count. EachKnown (B.Holds image.new)
         (λ known. AddsPiece known (512 * first) count (Holds256 digest.old) (Holds256 digest.new))) }
     ensures narrows { OfEach (B.Holds image.new) (B.Holds image.old) }
@@ -70,8 +67,6 @@ fn add_all<B: ImageBlocks>(
     buffer: &mut [u8],
 ) -> Result<[u8; 32], SourceFault>
     requires room { length buffer.old ≡ 65536 }
-    ensures digest { IfOk result (IsDigestOf (B.bytes image.old) len) }
-    ensures image { B.bytes image.new ≡ B.bytes image.old }
     ensures each { IfOk result (λ digest. EachKnown (B.Holds image.new)
         (λ known. IsDigestOf known len digest)) }
     ensures narrows { OfEach (B.Holds image.new) (B.Holds image.old) }
@@ -92,8 +87,6 @@ pub fn image_digest<B: ImageBlocks>(
     image: &mut B,
     len: u64,
 ) -> Result<[u8; 32], SourceFault>
-    ensures digest { IfOk result (IsDigestOf (B.bytes image.old) len) }
-    ensures image { B.bytes image.new ≡ B.bytes image.old }
     ensures each { IfOk result (λ digest. EachKnown (B.Holds image.new)
         (λ known. IsDigestOf known len digest)) }
     ensures narrows { OfEach (B.Holds image.new) (B.Holds image.old) }

@@ -12,7 +12,7 @@ mod opening;
 mod taking;
 mod words;
 
-pub use crate::blocks::{ImageBlocks, SourceBlocks};
+pub use crate::blocks::ImageBlocks;
 pub use crate::digest::image_digest;
 pub use crate::facts::{image_name, plain_name, report_text};
 pub use crate::fault::TakeFault;

@@ -8,7 +8,6 @@ use hfs_commands::{
     run_script_at, script_lines, write_answers,
 };
 use hfs_console::print_lines;
-use hfs_files::WatchedFile;
 use std::fs::File;
 use std::io::IsTerminal;
 use std::sync::Wait;
@@ -21,9 +20,10 @@ pub fn run_script_of<'a, T: Threads + Wait + Sync>(
     threads: &T,
     run: &RunWords<'a>,
 ) -> Result<u8, Fault<'a>> {
-    match open_watched(rt, run.image)? {
-        WatchedImage::InFile(source) => run_in_file(rt, threads, run, source),
-        WatchedImage::Whole(image) => run_whole(rt, threads, run, image),
+    let image = open_watched(rt, run.image)?;
+    match image.into_held() {
+        Ok(image) => run_whole(rt, threads, run, image),
+        Err(source) => run_by_need(rt, threads, run, source),
     }
 }
 
@@ -68,12 +68,12 @@ fn print_ran<'a>(rt: &HostRuntime, out: Option<&'a str>, ran: &Ran) -> Result<u8
     print_answers(rt, ran.text.as_str(), ran.whole, &leftover)
 }
 
-/// Runs a script on an image in a file, of which only what the script needs is read. A refused image is a fault once the script was read.
-fn run_in_file<'a, T: Threads + Wait + Sync>(
+/// Runs a script on an image of which only what the script needs is read. A refused image is a fault once the script was read.
+fn run_by_need<'a, T: Threads + Wait + Sync>(
     rt: &HostRuntime,
     threads: &T,
     run: &RunWords<'a>,
-    source: WatchedFile<File>,
+    source: WatchedImage<File>,
 ) -> Result<u8, Fault<'a>> {
     let len = source.len();
     let opened = RunImage::open(rt.alloc(), source, len, run.image)?;
@@ -94,7 +94,7 @@ fn run_in_file<'a, T: Threads + Wait + Sync>(
 fn print_ran_image<'a>(
     rt: &HostRuntime,
     run: &RunWords<'a>,
-    ran: RanImage<WatchedFile<File>>,
+    ran: RanImage<WatchedImage<File>>,
 ) -> Result<u8, Fault<'a>> {
     let RanImage {
         image,

@@ -1,5 +1,5 @@
 -- Piece by piece.
-use Rattle.std.proofs.Common.{◌*◌, ◌∙◌, Some, refl, arith, rules}
+use Rattle.std.proofs.Common.{◌*◌, Some, refl, arith, rules}
 use Rattle.sha2.specs.Hashers.{Holds256}
 use Rattle.hfs_take.proofs.DigestLemmas.{more-added}
 use Rattle.hfs_take.proofs.digest.add_all.Goals as goal
@@ -12,11 +12,8 @@ loop-place-preserved g c =
     record {
       few = omega (arith, before.few, one.few);
       at = λ below. omega (arith, at, one.whole (omega (arith, below)), c.in_ok-first.ensures);
-      holds = more-added (g.B.ImageBlocks.bytes c.args.image.now) (g.B.ImageBlocks.bytes c.loop-place.image) before.image c.loop-place.place (512 * c.loop-place.first) c.in_ok-place.field-0 _ at refl
-          (Holds256 c.loop-place.digest) (Holds256 c.add_piece.new.digest) before.holds one.added;
       each = λ image h. more-added (Some image) (Some image) refl c.loop-place.place (512 * c.loop-place.first) c.in_ok-place.field-0 _ at refl
           (Holds256 c.loop-place.digest) (Holds256 c.add_piece.new.digest) (before.each image (one.narrows image h)) (one.each image h);
       narrows = λ image h. before.narrows image (one.narrows image h);
       room = search rules;
-      image = one.image ∙ before.image;
     }

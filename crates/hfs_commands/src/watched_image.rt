@@ -1,0 +1,139 @@
+//! An image that was opened to be changed.
+ghost use Rattle.std.specs.Prelude.{◌≡◌, IfErr, IfOk, None, Some};
+ghost use Rattle.hfs_source.specs.Images.{HasLength, OfEach};
+ghost use Rattle.hfs_commands.specs.Faults.{IsUnwatched};
+ghost use Rattle.hfs_commands.specs.WatchedImages.{watched_bytes, watched_images};
+
+use crate::fault::Fault;
+use crate::files::regular_len;
+use crate::opened_file::{OpenedFile, StoredFile, content_of};
+use crate::volume_files::{loaded, opened};
+use hfs_containers::Window;
+use hfs_files::{TrustedLooks, Watched, look_again};
+use hfs_source::PlacedBytes;
+use hfs_sparse::{BlockSource, ByteSource};
+use std::fs::{File, OpenFile};
+use std::io;
+use std::io::{ErrorKind, Read, Seek};
+use std::rt::Files;
+use std::sync::Arc;
+
+/// An image that was opened to be changed: what was opened, with its first look where it isn't held.
+#[derive(Drop)]
+pub struct WatchedImage<F: Read + Seek> {
+    file: StoredFile<F>,
+    looks: Option<TrustedLooks<F, StoredFile<F>>>,
+}
+
+impl<F: Read + Seek + Drop> WatchedImage<F> {
+    /// How many bytes it has.
+    pub fn len(&self) -> u64
+        ensures { OfEach (watched_images self.now) (HasLength result) }
+    {
+        self.file.len()
+    }
+
+    /// Its bytes, where all are held and nobody else holds them; or the image back.
+    pub fn into_held(self) -> Result<Vec<u8>, WatchedImage<F>>
+        ensures held { IfOk result (λ bytes. watched_bytes self ≡ Some bytes.items) }
+        ensures back { IfErr result (λ image. image ≡ self) }
+    {
+        let WatchedImage { file, looks } = self;
+        match file {
+            StoredFile::Whole(all) => match Arc::try_unwrap(all) {
+                Ok(bytes) => Ok(bytes),
+                Err(all) => Err(WatchedImage {
+                    file: StoredFile::Whole(all),
+                    looks,
+                }),
+            },
+            StoredFile::Seekable(bytes) => Err(WatchedImage {
+                file: StoredFile::Seekable(bytes),
+                looks,
+            }),
+        }
+    }
+}
+
+impl<F: Read + Seek + OpenFile> BlockSource for WatchedImage<F> {
+    ghost use Rattle.std.specs.Prelude.{◌≡◌, Some, unwrap_or};
+    ghost use Rattle.std.proofs.Common.{ap, sym};
+    ghost use Rattle.std.proofs.lemmas.Option.{none-some};
+    ghost use Rattle.std.specs.Arc.{arc_value};
+    ghost use Rattle.hfs_commands.specs.OpenedFiles.{stored_bytes, stored_images};
+    ghost use Rattle.hfs_commands.specs.declared.opened_file.StoredFile.TheVariants as stored;
+    ghost use Rattle.hfs_commands.specs.WatchedImages.{watched_bytes, watched_images};
+
+    ghost image = { λ image. watched_bytes image };
+
+    ghost Holds = { λ image. watched_images image };
+
+    fn read_blocks(&mut self, first: u32, into: &mut [u8]) -> io::Result<()> {
+        match &mut self.file {
+            StoredFile::Seekable(bytes) => bytes.read_at(u64::from(first) * 512, into),
+            StoredFile::Whole(all) => {
+                let bytes = all.as_slice();
+                ByteSource { bytes }.read_blocks(first, into)
+            }
+        }
+    }
+
+    ghost known_holds = { λ image bytes e.
+        elim image.file as (λ file. stored_bytes file ≡ Some bytes → stored_images file bytes) [
+          | stored.Seekable file ↦ λ none. absurd (none-some bytes none)
+          | stored.Whole all ↦ λ same. sym (ap (λ known. unwrap_or known (arc_value all).items) same)
+        ] e };
+}
+
+impl<F: Read + Seek + OpenFile> Watched for WatchedImage<F> {
+    ghost use Rattle.hfs_commands.specs.WatchedImages.{IsWatchedSettled};
+
+    ghost settled = { λ image. IsWatchedSettled image };
+
+    fn look_again(&mut self) -> io::Result<()> {
+        match &mut self.looks {
+            Some(looks) => look_again(looks, &self.file),
+            None => match &self.file {
+                StoredFile::Whole(_) => Ok(()),
+                StoredFile::Seekable(_) => Err(io::Error::from(ErrorKind::InvalidData)),
+            },
+        }
+    }
+}
+
+/// What was opened to be changed, with its first look. Faults: `NotWritten` of raw sectors; a read failed.
+fn watched<'a, F: Read + Seek + Drop>(
+    stored: Window<StoredFile<F>>,
+    looks: Option<TrustedLooks<F, StoredFile<F>>>,
+    path: &'a str,
+) -> Result<WatchedImage<F>, Fault<'a>>
+    ensures { IfErr result (IsUnwatched path.entry) }
+{
+    let content = content_of(stored, path)?;
+    match content.source {
+        OpenedFile::Plain(file) => Ok(WatchedImage { file, looks }),
+        OpenedFile::Raw(_) => Err(Fault::NotWritten),
+    }
+}
+
+/// Opens an image by its path, to write it anew with changes: a regular file is looked at, and left to be read where it is needed, and of anything else
+/// all bytes are held. Faults: as [`open_file`](crate::open_file) has them; `NotWritten` where it is of raw CD sectors.
+pub fn open_watched<'a, R: Files + AllocGlobal>(
+    rt: &R,
+    path: &'a str,
+) -> Result<WatchedImage<R::File>, Fault<'a>>
+    ensures { IfErr result (IsUnwatched path.entry) }
+{
+    let Ok(file) = File::open(rt, path) else {
+        return Err(Fault::CannotRead(path));
+    };
+    if regular_len(&file).is_none() {
+        let held = loaded(rt.alloc(), file, path)?;
+        return watched(held, None, path);
+    }
+    let Ok(looks) = TrustedLooks::open(&file) else {
+        return Err(Fault::CannotRead(path));
+    };
+    let stored = opened(rt.alloc(), file, path)?;
+    watched(stored, Some(looks), path)
+}
