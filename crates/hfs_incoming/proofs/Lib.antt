@@ -1,0 +1,4 @@
+mod Letters
+mod Given
+mod HostNamesRead
+mod MacBinaryRead

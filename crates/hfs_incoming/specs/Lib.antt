@@ -1,0 +1,4 @@
+pub mod Names
+pub mod Forks
+pub mod MacBinary
+pub mod Laws
