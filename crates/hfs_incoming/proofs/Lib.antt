@@ -2,3 +2,5 @@ mod Letters
 mod Given
 mod HostNamesRead
 mod MacBinaryRead
+mod Entries
+mod AppleDoubleRead

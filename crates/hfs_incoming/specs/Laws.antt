@@ -1,13 +1,17 @@
 -- What is written comes back.
-use Rattle.std.specs.Prelude.{◌≡◌, ◌≢◌, ℕ, List, [], Some, IsTrue, chars}
+use Rattle.std.specs.Prelude.{◌≡◌, ◌≢◌, ℕ, List, [], ◌++◌, Some, None, IsTrue, chars}
 use Rattle.hfs_fields.specs.Names.{is_item_name}
 use Rattle.hfs_names.specs.Laws.{is_bytes}
+use Rattle.hfs_encodings.specs.declared.apple_double.AppleDoubleHead.{AppleDoubleHead}
+use Rattle.hfs_encodings.specs.AppleDouble.{apple_double_head_bytes}
 use Rattle.hfs_encodings.specs.declared.macbinary.MacBinaryHead.{MacBinaryHead}
 use Rattle.hfs_encodings.specs.MacBinary.{macbinary_bytes, resource_place}
 use Rattle.hfs_incoming.specs.declared.names.GivenName.TheVariants.{Item}
+use Rattle.hfs_incoming.specs.declared.apple_double.AppleDoubleFile.{AppleDoubleFile}
 use Rattle.hfs_incoming.specs.declared.macbinary.MacBinaryFile.{MacBinaryFile}
 use Rattle.hfs_incoming.specs.Names.{given_name, host_letters, renamed}
 use Rattle.hfs_incoming.specs.Forks.{fork_in}
+use Rattle.hfs_incoming.specs.AppleDouble.{apple_double_in}
 use Rattle.hfs_incoming.specs.MacBinary.{macbinary_in}
 
 -- the laws of host names that are read back
@@ -36,3 +40,12 @@ pub record IsReadBack (head : MacBinaryHead) (data_fork resource_fork : List ℕ
   pub told : macbinary_in (macbinary_bytes head data_fork resource_fork) ≡ Some (macbinary_file_of head)
   pub data_is : fork_in (macbinary_file_of head).data_fork (macbinary_bytes head data_fork resource_fork) ≡ data_fork
   pub resource_is : fork_in (macbinary_file_of head).resource_fork (macbinary_bytes head data_fork resource_fork) ≡ resource_fork
+
+-- what is told of a file with this head
+abbrev pub apple_double_file_of : AppleDoubleHead → AppleDoubleFile
+apple_double_file_of head = record { finder = head.finder; dates = None; resource_fork = record { start = 82; len = head.resource_length } }
+
+-- Finder bytes and resource fork come back from the file that is written of them
+pub record IsAppleDoubleReadBack (head : AppleDoubleHead) (fork : List ℕ) : Type 0 where
+  pub told : apple_double_in (apple_double_head_bytes head ++ fork) ≡ Some (apple_double_file_of head)
+  pub fork_is : fork_in (apple_double_file_of head).resource_fork (apple_double_head_bytes head ++ fork) ≡ fork

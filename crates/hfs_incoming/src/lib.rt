@@ -2,12 +2,14 @@
 //! forks lie.
 #![tactic(auto)]
 
+mod apple_double;
 mod forks;
 mod laws;
 mod macbinary;
 mod names;
 
+pub use crate::apple_double::{AppleDoubleFile, FileDates, read_apple_double};
 pub use crate::forks::ForkPlace;
-pub use crate::laws::{host_item_name_laws, macbinary_read_back};
+pub use crate::laws::{apple_double_read_back, host_item_name_laws, macbinary_read_back};
 pub use crate::macbinary::{MacBinaryFile, read_macbinary};
 pub use crate::names::{GivenName, given_name, host_item_name};

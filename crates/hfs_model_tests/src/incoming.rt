@@ -1,5 +1,8 @@
 //! Names and files that come from a host.
-use hfs_incoming::{GivenName, MacBinaryFile, host_item_name, read_macbinary};
+use hfs_incoming::{
+    AppleDoubleFile, FileDates, GivenName, MacBinaryFile, host_item_name, read_apple_double,
+    read_macbinary,
+};
 use hfs_source::MemoryBytes;
 
 /// Whether a host name gives this name, which is an item name or stands in the place of one.
@@ -96,4 +99,53 @@ fn macbinary_is_taken_apart(rt: HostRuntime) {
     let mut wrong = FRONT;
     wrong[2] = b'g';
     assert!(rt; !tells_f(&wrong, 2_304), "another check");
+}
+
+/// An AppleDouble file of three parts: dates, three bytes of resource fork, and more than 32 bytes for the Finder.
+const DOUBLE: [u8; 121] = [
+    0, 5, 22, 7, 0, 2, 0, 0, 77, 97, 99, 32, 79, 83, 32, 88, 32, 32, 32, 32, 32, 32, 32, 32, 0, 3,
+    0, 0, 0, 8, 0, 0, 0, 62, 0, 0, 0, 16, 0, 0, 0, 2, 0, 0, 0, 78, 0, 0, 0, 3, 0, 0, 0, 9, 0, 0, 0,
+    81, 0, 0, 0, 40, 0, 0, 0, 0, 128, 0, 0, 0, 127, 255, 255, 255, 255, 255, 255, 255, 82, 69, 83,
+    84, 69, 88, 84, 116, 116, 120, 116, 1, 2, 3, 4, 5, 6, 7, 8, 9, 10, 11, 12, 13, 14, 15, 16, 17,
+    18, 19, 20, 21, 22, 23, 24, 25, 26, 27, 28, 29, 30, 31, 32,
+];
+
+/// Whether its dates are these: the first moment of 2000, one that isn't set, and the last that there is.
+fn are_dates(dates: Option<FileDates>) -> bool {
+    match dates {
+        Some(dates) => {
+            dates.created == 0xb492_f400 && dates.modified == 0 && dates.backup == 0xffff_ffff
+        }
+        None => false,
+    }
+}
+
+/// Whether all that is told is what stands in that file.
+fn is_double(file: AppleDoubleFile) -> bool {
+    file.finder
+        == *b"TEXTttxt\x01\x02\x03\x04\x05\x06\x07\x08\x09\x0a\x0b\x0c\x0d\x0e\x0f\x10\x11\x12\x13\x14\x15\x16\x17\x18"
+        && (file.resource_fork.start, file.resource_fork.len) == (78, 3)
+        && are_dates(file.dates)
+}
+
+/// Whether the first bytes of that file are AppleDouble, with what stands in it.
+fn tells_double(len: usize) -> bool {
+    let file = DOUBLE;
+    let len = len.min(121);
+    let mut source = MemoryBytes {
+        bytes: &file[..len],
+    };
+    match read_apple_double(&mut source) {
+        Ok(Some(found)) => is_double(found),
+        _ => false,
+    }
+}
+
+#[test]
+fn apple_double_is_read(rt: HostRuntime) {
+    assert!(rt; tells_double(121), "what the parts tell");
+    assert!(rt;
+        !tells_double(120) && !tells_double(61) && !tells_double(25),
+        "cut"
+    );
 }
