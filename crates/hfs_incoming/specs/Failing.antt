@@ -1,4 +1,4 @@
--- Reads that fail, and files whose length is known.
+-- Reads that fail.
 use Rattle.std.specs.Prelude.{ℕ, ◌+◌, List}
 use Rattle.hfs_source.specs.Images.{OfEach, ReachesTo}
 

@@ -13,15 +13,17 @@ pub fn host_item_name_laws()
 
 /// The law of MacBinary: header and forks come back from the file that is written of them, where it has a name.
 pub fn macbinary_read_back(head: MacBinaryHead)
-    ensures { (data_fork resource_fork : List ℕ) → 1 ≤ length head.name → length data_fork ≡ head.data_length
-        → length resource_fork ≡ head.resource_length → IsReadBack head data_fork resource_fork }
+    ensures { (data_fork resource_fork : List ℕ) → 1 ≤ length head.name
+        → length data_fork ≡ head.data_length → length resource_fork ≡ head.resource_length
+        → IsReadBack head data_fork resource_fork }
 {
     let _bytes = head.bytes();
 }
 
 /// The law of AppleDouble: Finder bytes and resource fork come back from the file that is written of them.
 pub fn apple_double_read_back(head: AppleDoubleHead)
-    ensures { (fork : List ℕ) → length fork ≡ head.resource_length → IsAppleDoubleReadBack head fork }
+    ensures { (fork : List ℕ) → length fork ≡ head.resource_length
+        → IsAppleDoubleReadBack head fork }
 {
     let _bytes = head.bytes();
 }

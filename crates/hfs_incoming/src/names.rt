@@ -167,7 +167,8 @@ fn digits_in(text: &str) -> Option<(u8, &str)>
 /// The letter that begins with a character, and what stands behind it.
 #[tactic(auto, using(crate::proofs::Letters::plain_first, crate::proofs::Letters::no_digits, crate::proofs::Letters::escape_first))]
 fn letter_at(first: char, behind: &str) -> (u8, &str)
-    ensures { seen_letters (first ∷ chars behind.now) ≡ result.0 ∷ seen_letters (chars result.1.now) }
+    ensures { seen_letters (first ∷ chars behind.now)
+        ≡ result.0 ∷ seen_letters (chars result.1.now) }
 {
     if first != '=' {
         return (seen_character(first), behind);
