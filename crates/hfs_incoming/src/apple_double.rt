@@ -1,13 +1,14 @@
 //! AppleDouble files, version 2, with their parts in any order. Source: AppleSingle/AppleDouble Formats for Foreign Files (Apple, 1990).
-ghost use Rattle.std.specs.Prelude.{◌≡◌, ◌+◌, ◌*◌, ◌-◌, ◌≤◌, ◌++◌, IfOk, IfSome, IsTrue, OnErr, OnOk, Some, length, replicate};
+ghost use Rattle.std.specs.Prelude.{◌≡◌, ◌+◌, ◌*◌, ◌-◌, ◌≤◌, ◌++◌, IfOk, IfSome, IsTrue, OnErr, Some, length, replicate};
 ghost use Rattle.std.specs.Option.{option_or};
 ghost use Rattle.hfs_fields.specs.Numbers.{number_at};
-ghost use Rattle.hfs_source.specs.Images.{FailsWhere, HasAt, HasLength, OfEach};
+ghost use Rattle.hfs_source.specs.Images.{FailsWhere, HasLength, OfEach};
 ghost use Rattle.hfs_incoming.specs.AppleDouble.{PartLies, PartsLie, apple_double_in, dates_in, dates_of, entry_place, finder_in, fork_of, is_apple_double_head, lies_within, no_parts, parts_in, parts_with, with_entries, with_entry};
 ghost use Rattle.hfs_incoming.specs.Dates.{mac_date};
 ghost use Rattle.hfs_incoming.specs.Failing.{SomeFail};
 
 use crate::forks::ForkPlace;
+use crate::pieces::read_piece;
 use hfs_fields::{FieldRow, u16_at, u32_at};
 use hfs_source::PlacedBytes;
 use std::io;
@@ -127,24 +128,6 @@ fn is_apple_double_head(len: u64, head: &[u8; 26]) -> bool
     u32_at(head, 0) == 0x0005_1607
         && u32_at(head, 4) == 0x0002_0000
         && 26 + 12 * u64::from(u16_at(head, 24)) <= len
-}
-
-/// Reads bytes that a file of so many bytes has.
-fn read_piece<S: PlacedBytes>(
-    source: &mut S,
-    len: u64,
-    place: u64,
-    into: &mut [u8],
-) -> io::Result<()>
-    requires within { place + length into.old ≤ len }
-    requires long { OfEach (S.Holds source.old) (HasLength len) }
-    ensures read { OnOk result (OfEach (S.Holds source.new) (HasAt place into.new)) }
-    ensures held { OfEach (S.Holds source.new) (S.Holds source.old) }
-    ensures fails { OnErr result (SomeFail (S.Holds source.new) (S.Fails source.old)) }
-    ensures later { FailsWhere (S.Fails source.new) (S.Fails source.old) }
-{
-    source.read_at(place, into)?;
-    Ok(())
 }
 
 /// The parts that so many entries tell of, each of which lies in the file; or none, where one doesn't.

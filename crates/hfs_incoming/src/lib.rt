@@ -7,6 +7,7 @@ mod forks;
 mod laws;
 mod macbinary;
 mod names;
+mod pieces;
 
 pub use crate::apple_double::{AppleDoubleFile, FileDates, read_apple_double};
 pub use crate::forks::ForkPlace;

@@ -2,10 +2,12 @@
 ghost use Rattle.std.specs.Prelude.{◌≡◌, ◌+◌, ◌^◌, ◌<◌, ◌≤◌, IfOk, IsTrue, OnErr, slice_index};
 ghost use Rattle.hfs_encodings.specs.MacBinary.{finder_info_in};
 ghost use Rattle.hfs_source.specs.Images.{FailsWhere, OfEach};
+ghost use Rattle.hfs_incoming.specs.Failing.{SomeFail};
 ghost use Rattle.hfs_incoming.specs.MacBinary.{data_place, filled_length, is_macbinary_head, is_version, macbinary_end, macbinary_in, macbinary_of, macbinary_with, resource_place};
 
 use crate::forks::ForkPlace;
 use crate::names::{GivenName, given_name};
+use crate::pieces::read_piece;
 use hfs_encodings::{crc16, padding};
 use hfs_fields::{FieldRow, FileFlags, u16_at, u32_at};
 use hfs_source::PlacedBytes;
@@ -146,7 +148,7 @@ pub fn read_macbinary<S: PlacedBytes>(source: &mut S) -> io::Result<Option<MacBi
     ensures found { IfOk result (λ found. OfEach (S.Holds source.new)
         (λ file. found ≡ macbinary_in file)) }
     ensures held { OfEach (S.Holds source.new) (S.Holds source.old) }
-    ensures fails { OnErr result (S.Fails source.old 0 128) }
+    ensures fails { OnErr result (SomeFail (S.Holds source.new) (S.Fails source.old)) }
     ensures later { FailsWhere (S.Fails source.new) (S.Fails source.old) }
 {
     let len = source.len();
@@ -154,6 +156,6 @@ pub fn read_macbinary<S: PlacedBytes>(source: &mut S) -> io::Result<Option<MacBi
         return Ok(None);
     }
     let mut head = [0; 128];
-    source.read_at(0, &mut head)?;
+    read_piece(source, len, 0, &mut head)?;
     Ok(macbinary_with(len, &head))
 }
