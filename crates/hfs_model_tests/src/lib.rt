@@ -1,4 +1,4 @@
-//! Tests of names, records and nodes, of shared bytes, of the text of scripts, and of what the plain
+//! Tests of names, records and nodes, of what comes from a host, of shared bytes, of the text of scripts, and of what the plain
 //! program alone can be asked for. Each code of each call, and worked lists of calls, stand as text in
 //! `tests/volumes/lists`.
 #![tactic(auto)]
@@ -7,6 +7,8 @@
 mod fixture;
 #[cfg(test)]
 mod forks;
+#[cfg(test)]
+mod incoming;
 #[cfg(test)]
 mod names;
 #[cfg(test)]

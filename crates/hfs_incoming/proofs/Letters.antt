@@ -1,0 +1,88 @@
+-- The letters of a host name, one by one.
+use Rattle.std.proofs.Common.{◌≡◌, ◌≢◌, ◌∙◌, sym, ap, refl, ℕ, ◌+◌, ◌<◌, ◌≤◌, Bool, true, false, ◌&&◌, List, [], ◌∷◌, map, Option, Some, None, arith}
+use Rattle.std.specs.Prelude.{◌==◌, if◌then◌else◌}
+use Rattle.std.specs.List.{position}
+use Rattle.std.proofs.lemmas.Bool.{lt-ltb, le-ltb, ne_eqb, and_from, and_left, and_right}
+use Rattle.hfs_names.specs.MacRoman.{high_characters}
+use Rattle.hfs_incoming.specs.Names.{high_byte, roman_byte, are_digits, digits_byte, host_letters, digits_in, seen_letter, seen_letters}
+
+-- ---- the letter of one character
+
+pub ascii_seen : (code : ℕ) → code < 128 → code ≡ seen_letter (roman_byte code)
+unfolding seen_letter roman_byte
+ascii_seen code h =
+    let own : roman_byte code ≡ code = ap (λ t. if t then code else high_byte (position (λ c. c == code) high_characters)) (lt-ltb code 128 h) in
+    sym (ap seen_letter own ∙ ap (λ t. if t then code else 0) (lt-ltb code 128 h))
+
+high-seen : (place : Option ℕ) → 0 ≡ seen_letter (high_byte place)
+unfolding seen_letter
+high-seen None = refl
+high-seen (Some place) = sym (ap (λ t. if t then 0x80 + place else 0) (le-ltb (0x80 + place) 128 (omega arith)))
+
+pub other_seen : (code : ℕ) → 128 ≤ code → 0 ≡ seen_letter (roman_byte code)
+unfolding roman_byte
+other_seen code h =
+    let place : Option ℕ = position (λ c. c == code) high_characters in
+    high-seen place ∙ ap seen_letter (sym (ap (λ t. if t then code else high_byte place) (le-ltb code 128 h)))
+
+-- ---- the first letter
+
+chosen : {A : Type 0} (t : Bool) (x y : A) → t ≡ true → (if t then x else y) ≡ x
+chosen true x y e = refl
+chosen false x y e = cc
+
+other : {A : Type 0} (t : Bool) (x y : A) → t ≡ false → (if t then x else y) ≡ y
+other true x y e = cc
+other false x y e = refl
+
+pub plain : (a : ℕ) (rest : List ℕ) → (a == 61) ≡ false → host_letters (a ∷ rest) ≡ roman_byte a ∷ host_letters rest
+unfolding host_letters
+plain a [] e = refl
+plain a (b ∷ []) e = refl
+plain a (b ∷ c ∷ rest) e = other ((a == 61) && are_digits b c) (digits_byte b c ∷ host_letters rest) (roman_byte a ∷ host_letters (b ∷ c ∷ rest)) (and_left (a == 61) (are_digits b c) e)
+
+no-pair : (t : Bool) (n : ℕ) (rest : List ℕ) → if◌then◌else◌ {A = Option (ℕ × List ℕ)} t (Some (n, rest)) None ≡ None → t ≡ false
+no-pair true n rest e = cc
+no-pair false n rest e = refl
+
+bare : (a : ℕ) (rest : List ℕ) → digits_in rest ≡ None → host_letters (a ∷ rest) ≡ roman_byte a ∷ host_letters rest
+unfolding host_letters digits_in
+bare a [] e = refl
+bare a (b ∷ []) e = refl
+bare a (b ∷ c ∷ rest) e =
+    other ((a == 61) && are_digits b c) (digits_byte b c ∷ host_letters rest) (roman_byte a ∷ host_letters (b ∷ c ∷ rest))
+    (and_right (a == 61) (are_digits b c) (no-pair (are_digits b c) (digits_byte b c) rest e))
+
+inside : (p q : ℕ × List ℕ) → Some p ≡ Some q → p ≡ q
+inside p q e = cc
+
+record Pair (t : Bool) (m n : ℕ) (rest more : List ℕ) : Type 0 where
+  pub are : t ≡ true
+  pub number : m ≡ n
+  pub behind : rest ≡ more
+
+pair : (t : Bool) (m n : ℕ) (rest more : List ℕ) → if◌then◌else◌ {A = Option (ℕ × List ℕ)} t (Some (m, rest)) None ≡ Some (n, more) → Pair t m n rest more
+pair true m n rest more e =
+    let same : (m, rest) ≡ (n, more) = inside (m, rest) (n, more) e in
+    record { are = refl; number = ap (λ (p : ℕ × List ℕ). p.0) same; behind = ap (λ (p : ℕ × List ℕ). p.1) same }
+pair false m n rest more e = cc
+
+escape : (a n : ℕ) (rest more : List ℕ) → (a == 61) ≡ true → digits_in rest ≡ Some (n, more) → host_letters (a ∷ rest) ≡ n ∷ host_letters more
+unfolding host_letters digits_in
+escape a n [] more first e = cc
+escape a n (b ∷ []) more first e = cc
+escape a n (b ∷ c ∷ rest) more first e =
+    let two = pair (are_digits b c) (digits_byte b c) n rest more e in
+    chosen ((a == 61) && are_digits b c) (digits_byte b c ∷ host_letters rest) (roman_byte a ∷ host_letters (b ∷ c ∷ rest)) (and_from _ _ first two.are)
+    ∙ (λ i. two.number i ∷ host_letters (two.behind i))
+
+-- as they are read
+pub plain_first : (a letter : ℕ) (rest : List ℕ) → a ≢ 61 → letter ≡ seen_letter (roman_byte a) → seen_letters (a ∷ rest) ≡ letter ∷ seen_letters rest
+plain_first a letter rest differs is = ap (map seen_letter) (plain a rest (ne_eqb a 61 differs)) ∙ ap (λ (x : ℕ). x ∷ seen_letters rest) (sym is)
+
+pub no_digits : (a letter : ℕ) (rest : List ℕ) → digits_in rest ≡ None → letter ≡ seen_letter (roman_byte a) → seen_letters (a ∷ rest) ≡ letter ∷ seen_letters rest
+no_digits a letter rest none is = ap (map seen_letter) (bare a rest none) ∙ ap (λ (x : ℕ). x ∷ seen_letters rest) (sym is)
+
+pub escape_first : (a n letter : ℕ) (rest more : List ℕ) → a ≡ 61 → digits_in rest ≡ Some (n, more) → letter ≡ seen_letter n → seen_letters (a ∷ rest) ≡ letter ∷ seen_letters more
+escape_first a n letter rest more first found is =
+    ap (map seen_letter) (escape a n rest more (ap (λ (x : ℕ). x == 61) first) found) ∙ ap (λ (x : ℕ). x ∷ seen_letters more) (sym is)

@@ -1,0 +1,6 @@
+mod Letters
+mod Given
+mod HostNamesRead
+mod MacBinaryRead
+mod Entries
+mod AppleDoubleRead

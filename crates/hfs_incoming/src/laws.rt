@@ -1,0 +1,29 @@
+//! What is written comes back.
+ghost use Rattle.std.specs.Prelude.{◌≡◌, ◌≤◌, ℕ, List, length};
+ghost use Rattle.hfs_names.specs.HostNames.{host_name};
+ghost use Rattle.hfs_incoming.specs.Laws.{AreHostNamesRead, IsAppleDoubleReadBack, IsReadBack};
+
+use hfs_encodings::{AppleDoubleHead, MacBinaryHead};
+
+/// The laws of host names that are read back: each name of any bytes but the empty one comes back from its host name, so each item
+/// name does; and what an item is called in the place of letters that are no item name is one.
+pub fn host_item_name_laws()
+    ensures { AreHostNamesRead host_name }
+{}
+
+/// The law of MacBinary: header and forks come back from the file that is written of them, where it has a name.
+pub fn macbinary_read_back(head: MacBinaryHead)
+    ensures { (data_fork resource_fork : List ℕ) → 1 ≤ length head.name
+        → length data_fork ≡ head.data_length → length resource_fork ≡ head.resource_length
+        → IsReadBack head data_fork resource_fork }
+{
+    let _bytes = head.bytes();
+}
+
+/// The law of AppleDouble: Finder bytes and resource fork come back from the file that is written of them.
+pub fn apple_double_read_back(head: AppleDoubleHead)
+    ensures { (fork : List ℕ) → length fork ≡ head.resource_length
+        → IsAppleDoubleReadBack head fork }
+{
+    let _bytes = head.bytes();
+}

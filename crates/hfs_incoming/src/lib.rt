@@ -1,0 +1,16 @@
+//! Files of a host that are to come onto a disk, taken apart: the name of each, what the Finder keeps of it, its dates, and where its
+//! forks lie.
+#![tactic(auto)]
+
+mod apple_double;
+mod forks;
+mod laws;
+mod macbinary;
+mod names;
+mod pieces;
+
+pub use crate::apple_double::{AppleDoubleFile, FileDates, read_apple_double};
+pub use crate::forks::ForkPlace;
+pub use crate::laws::{apple_double_read_back, host_item_name_laws, macbinary_read_back};
+pub use crate::macbinary::{MacBinaryFile, read_macbinary};
+pub use crate::names::{GivenName, given_name, host_item_name};
