@@ -10,7 +10,7 @@ use Rattle.hfs_model.specs.Replies.{is_accepted}
 use Rattle.hfs_model.specs.Choices.{and_then, is_locked, lock_code, child_to_change, file_to_change, unless_locked_file}
 use Rattle.hfs_model.specs.Changes.{change}
 use Rattle.hfs_model.proofs.Facts.{true_false}
-use Rattle.hfs_fork_calls.specs.ForkCalls.{to_set_eof, to_write_fork, unless_past_end}
+use Rattle.hfs_model.specs.ForkCalls.{to_set_eof, to_write_fork, unless_past_end}
 
 -- a code that is neither 0 nor -34
 pub is_told : ℤ → Bool
