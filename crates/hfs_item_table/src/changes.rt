@@ -209,7 +209,9 @@ impl Table {
             | Call::GetIndexed { .. }
             | Call::List { .. }
             | Call::ReadFork { .. }
-            | Call::ResolveFileId { .. } => unreachable!(),
+            | Call::ResolveFileId { .. }
+            | Call::SetEof { .. }
+            | Call::WriteFork { .. } => unreachable!(),
         }
     }
 

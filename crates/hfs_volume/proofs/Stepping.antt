@@ -98,7 +98,7 @@ module _ (own value after : ImageValue) (mdb : Mdb) (extents catalog : List Run)
   -- a change was laid over them
   module _ (change : Change) (laid : after.current ≡ laid_over (changes change.patch) own.current) (c : Call) (is : IsEditOn c value.current (Ok change)) where
     here : IsChangeOf c (block_count own.current) (block_at own.current) change
-    here = (subst (λ (v : ImageValue). IsEditOn c v.current (Ok change)) (sym view_is) is).comes
+    here = (subst (λ (v : ImageValue). IsEditOn c v.current (Ok change)) (sym view_is) is).is.comes
 
     -- no block of a fork was written
     stepped_here : IsStepped c (block_count own.current) (block_at own.current) (over (changes change.patch) (block_at own.current))

@@ -107,7 +107,9 @@ impl Volume {
             | Call::SetFLock { .. }
             | Call::RstFLock { .. }
             | Call::CreateFileId { .. }
-            | Call::DeleteFileId { .. } => unreachable!(),
+            | Call::DeleteFileId { .. }
+            | Call::SetEof { .. }
+            | Call::WriteFork { .. } => unreachable!(),
         }
     }
 

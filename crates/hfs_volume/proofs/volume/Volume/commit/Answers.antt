@@ -21,7 +21,7 @@ pub invariant_of-self-2 : goal.invariant_of-self-2
 invariant_of-self-2 c =
     subst (λ (m : Mdb). IsMounted c.commit.new.self m c.self.inside.extents.items c.self.inside.catalog.items) (sym c.with_counts-self-inside.ensures)
     (committed_mounted c.self.inside.image c.args.self.now c.commit.new.self c.self.inside.mdb c.self.inside.extents.items c.self.inside.catalog.items c.self.view_is c.self.invariant
-    c.args.change c.in_ok-commit.ensures.current c.requires.of c.requires.is agrees_on c.in_ok-commit.ensures.base)
+    c.args.change c.in_ok-commit.ensures.current c.requires.of (record { is = c.requires.is; room = c.requires.room }) agrees_on c.in_ok-commit.ensures.base)
 
 pub returns-clause-volume : goal.returns-clause-volume
 returns-clause-volume c = λ call is.
