@@ -12,12 +12,54 @@ use hfs_call_patches::{Change, ItemSettings};
 use hfs_model::Call;
 use std::alloc::{AllocError, Global};
 
+/// Whether the call writes a fork.
+fn is_writing(call: &Call) -> bool
+    ensures { result ≡ is_writing call.now }
+{
+    match call {
+        Call::SetEof { .. } | Call::WriteFork { .. } => true,
+        Call::GetDirInfo { .. }
+        | Call::GetCatInfo { .. }
+        | Call::GetIndexed { .. }
+        | Call::List { .. }
+        | Call::ReadFork { .. }
+        | Call::Create { .. }
+        | Call::DirCreate { .. }
+        | Call::Delete { .. }
+        | Call::Rename { .. }
+        | Call::CatMove { .. }
+        | Call::SetFInfo { .. }
+        | Call::SetCatInfo { .. }
+        | Call::SetFLock { .. }
+        | Call::RstFLock { .. }
+        | Call::CreateFileId { .. }
+        | Call::DeleteFileId { .. }
+        | Call::ResolveFileId { .. } => false,
+    }
+}
+
 impl<B: Blocks> Editing<'_, B> {
     /// What a call that changes the volume makes of it, or what refuses it. The only error is want of memory.
     pub fn edit(&self, alloc: Global, call: &Call) -> Result<Result<Change, Refusal>, AllocError>
         requires { is_reading call.now ≡ false }
         ensures made { Makes result (IsEditOf call.now) B.total B.blocks self.now }
         ensures room { Makes result (HasForkRoom call.now) B.total B.blocks self.now }
+    {
+        if is_writing(call) {
+            return self.write(alloc, call);
+        }
+        self.change_item(alloc, call)
+    }
+
+    /// What a call that changes items of the catalog makes of the volume.
+    fn change_item(
+        &self,
+        alloc: Global,
+        call: &Call,
+    ) -> Result<Result<Change, Refusal>, AllocError>
+        requires changes { is_reading call.now ≡ false }
+        requires other { is_writing call.now ≡ false }
+        ensures { Makes result (IsEditOf call.now) B.total B.blocks self.now }
     {
         match call {
             Call::Create { dir, name, now } => self.create(alloc, *dir, name.as_slice(), *now),
@@ -48,13 +90,14 @@ impl<B: Blocks> Editing<'_, B> {
                 self.set_lock(alloc, *dir, name.as_slice(), false, *now)
             }
             Call::SetFInfo { .. } | Call::SetCatInfo { .. } => self.set_info(alloc, call),
-            Call::SetEof { .. } | Call::WriteFork { .. } => self.write(alloc, call),
             Call::GetDirInfo { .. }
             | Call::GetCatInfo { .. }
             | Call::GetIndexed { .. }
             | Call::List { .. }
             | Call::ReadFork { .. }
-            | Call::ResolveFileId { .. } => unreachable!(),
+            | Call::ResolveFileId { .. }
+            | Call::SetEof { .. }
+            | Call::WriteFork { .. } => unreachable!(),
         }
     }
 

@@ -7,6 +7,7 @@ ghost use Rattle.hfs_check.specs.VolumeOf.{volume_in};
 ghost use Rattle.hfs_fork_edits.specs.Calls.{AreFoundIn, IsForkVolumeIn};
 ghost use Rattle.hfs_fork_edits.specs.Found.{FindsFile};
 ghost use Rattle.hfs_call_edits.specs.Edits.{HasForkRoom, IsEditOf};
+ghost use Rattle.hfs_call_edits.specs.ForkWants as wants;
 ghost use Rattle.hfs_call_patches.specs.CallChanges.{Makes};
 
 use crate::editing::{Editing, Refusal};
@@ -17,7 +18,9 @@ use hfs_model::Fork;
 use std::alloc::{AllocError, Global};
 
 /// A call's change, or what refuses it.
-fn edit_of(edit: Result<Change, ForkRefusal>) -> Result<Change, Refusal> {
+fn edit_of(edit: Result<Change, ForkRefusal>) -> Result<Change, Refusal>
+    ensures { result ≡ wants.edit_of edit }
+{
     match edit {
         Ok(change) => Ok(change),
         Err(ForkRefusal::Code(code)) => Err(Refusal::Code(code)),

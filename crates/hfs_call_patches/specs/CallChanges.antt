@@ -1,10 +1,11 @@
 -- The change that a call makes of a volume's blocks.
-use Rattle.std.specs.Prelude.{◌≡◌, ℕ, false, List, [], Option, Some, None, Result, IfOk}
+use Rattle.std.specs.Prelude.{◌≡◌, ℕ, ⊤, false, List, [], Option, Some, None, Result, IfOk}
 use Rattle.std.specs.List.{flat_map}
 use Rattle.hfs_fields.specs.Counts.{with_counts}
 use Rattle.hfs_blocks.specs.Blocks.{run_of}
 use Rattle.hfs_blocks.specs.Layers.{Numbered, changes, over, AreWithin}
 use Rattle.hfs_fork_bytes.specs.Clearing.{patched}
+use Rattle.hfs_fork_bytes.specs.Zeros.{AreAmong}
 use Rattle.hfs_model.specs.declared.call.Call.{Call}
 use Rattle.hfs_model.specs.Replies.{success}
 use Rattle.hfs_model.specs.Step.{step, is_writing}
@@ -19,6 +20,11 @@ abbrev pub written_blocks : Option ForkBlocks → List ℕ
 written_blocks None = []
 written_blocks (Some fork) = flat_map run_of fork.runs.items
 
+-- the zeros of a fork, where one is written, are among so many blocks
+abbrev pub AreZerosAmong : Option ForkBlocks → ℕ → Type 0
+AreZerosAmong None total = ⊤
+AreZerosAmong (Some fork) total = AreAmong fork.zeros total
+
 -- a patch over these blocks, with the zeros of a fork between, where one is written
 abbrev pub laid_with : Option ForkBlocks → Numbered → Blocks → Blocks
 laid_with None patch old = over (changes patch) old
@@ -31,6 +37,7 @@ changed old change = laid_with change.written change.patch old
 -- laid over the volume, it makes the call's step, with its reply; only a call that writes a fork writes a block of one
 pub record IsChangeOf (c : Call) (total : ℕ) (old : Blocks) (change : Change) : Type 0 where
   pub within : AreWithin (changes change.patch) total
+  pub zeros : AreZerosAmong change.written total
   pub stepped : IsSteppedBut (written_blocks change.written) c total old (changed old change)
   pub unwritten : is_writing c ≡ false → change.written ≡ None
   pub directory : mdb_in (changed old change) ≡ with_counts change.counts (mdb_in old)

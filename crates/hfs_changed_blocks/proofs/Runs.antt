@@ -15,7 +15,7 @@ use Rattle.hfs_fork_bytes.specs.Parts.{zeros}
 use Rattle.hfs_fork_bytes.specs.Zeros.{is_of_run}
 use Rattle.hfs_changed_blocks.specs.Flags.{zeros_if}
 use Rattle.hfs_changed_blocks.specs.Again.{AreAgain, GainsRun, is_in}
-use Rattle.hfs_changed_blocks.specs.Laying.{AreAmong}
+use Rattle.hfs_fork_bytes.specs.Zeros.{AreAmong}
 
 -- ---- numbers of a run
 

@@ -1,6 +1,5 @@
 -- A change that is laid over the changed blocks of an image.
-use Rattle.std.specs.Prelude.{◌≡◌, ℕ, ◌+◌, ◌≤◌, Bool, List}
-use Rattle.std.specs.List.{All}
+use Rattle.std.specs.Prelude.{◌≡◌, ℕ, Bool, List}
 use Rattle.std.specs.Option.{option_or}
 use Rattle.hfs_blocks.specs.declared.run.Run.{Run}
 use Rattle.hfs_blocks.specs.Layers.{Numbered, changes, over}
@@ -22,7 +21,3 @@ IsShownStill below old old_flags new new_flags = (k : ℕ) → shown new new_fla
 -- the blocks of a patch, and those of another where it has none
 abbrev pub IsPatchOver : Numbered → Numbered → Numbered → Type 0
 IsPatchOver again patch all = (k : ℕ) → changes all k ≡ option_or (changes patch k) (changes again k)
-
--- the blocks of the runs are among so many
-abbrev pub AreAmong : List Run → ℕ → Type 0
-AreAmong runs total = All (λ run. run.first + run.count ≤ total) runs

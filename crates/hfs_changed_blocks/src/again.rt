@@ -2,7 +2,7 @@
 
 ghost use Rattle.std.specs.Prelude.{◌≡◌, ◌+◌, ◌≤◌, IfOk, OnOk};
 ghost use Rattle.hfs_changed_blocks.specs.Again.{AreAgain, GainsRun, is_in};
-ghost use Rattle.hfs_changed_blocks.specs.Laying.{AreAmong};
+ghost use Rattle.hfs_fork_bytes.specs.Zeros.{AreAmong};
 
 use hfs_blocks::{Patch, Run};
 use std::alloc::{AllocError, Global};

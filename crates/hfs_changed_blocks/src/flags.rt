@@ -2,7 +2,7 @@
 
 ghost use Rattle.std.specs.Prelude.{◌≤◌, length};
 ghost use Rattle.hfs_changed_blocks.specs.Flags.{HasFlagged, HasFlaggedRuns};
-ghost use Rattle.hfs_changed_blocks.specs.Laying.{AreAmong};
+ghost use Rattle.hfs_fork_bytes.specs.Zeros.{AreAmong};
 
 use hfs_blocks::Run;
 

@@ -3,7 +3,8 @@
 ghost use Rattle.std.specs.Prelude.{◌≡◌, length, IfOk, OnOk, OnErr};
 ghost use Rattle.hfs_blocks.specs.Layers.{changes, over, AreWithin, HasJoined, IsLaid, KeepsWithin, ShowsSame};
 ghost use Rattle.hfs_changed_blocks.specs.Flags.{flagged};
-ghost use Rattle.hfs_changed_blocks.specs.Laying.{AreAmong, IsLaidWith, IsPatchOver, IsShownStill};
+ghost use Rattle.hfs_fork_bytes.specs.Zeros.{AreAmong};
+ghost use Rattle.hfs_changed_blocks.specs.Laying.{IsLaidWith, IsPatchOver, IsShownStill};
 
 use crate::again::zeros_again;
 use crate::flagged::Flagged;

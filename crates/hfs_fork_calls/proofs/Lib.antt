@@ -1,4 +1,4 @@
 mod Tested
-mod Refusals
+pub mod Refusals
 mod Afterwards
 pub mod LawsProved

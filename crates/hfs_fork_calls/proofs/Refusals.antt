@@ -78,6 +78,10 @@ unfolding is_told
 not_accepted (pos n) told is = true_false false told refl
 not_accepted (negsuc n) told is = true_false false is refl
 
+-- such a code refuses the call
+pub not_done : (code : ℤ) → is_told code ≡ true → int_eq code (pos 0) ≡ false
+not_done code told = elim (int_eq code (pos 0)) as (λ (b : Bool). int_eq code (pos 0) ≡ b → b ≡ false) [ true ↦ λ e. absurd (not_accepted code told e) | false ↦ λ e. refl ] refl
+
 -- what is accepted was chosen
 pub accepted : (v : Volume) (r : Result Entry ℤ) (make : Entry → Items → Items) (now : ℕ) → IsTold r → is_accepted (change v r make now).1 ≡ true → (e : Entry) × (r ≡ Ok e)
 accepted v (Ok e) make now told is = (e, refl)
