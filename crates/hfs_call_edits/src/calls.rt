@@ -52,11 +52,7 @@ impl<B: Blocks> Editing<'_, B> {
     }
 
     /// What a call that changes items of the catalog makes of the volume.
-    fn change_item(
-        &self,
-        alloc: Global,
-        call: &Call,
-    ) -> Result<Result<Change, Refusal>, AllocError>
+    fn change_item(&self, alloc: Global, call: &Call) -> Result<Result<Change, Refusal>, AllocError>
         requires changes { is_reading call.now ≡ false }
         requires other { is_writing call.now ≡ false }
         ensures { Makes result (IsEditOf call.now) B.total B.blocks self.now }

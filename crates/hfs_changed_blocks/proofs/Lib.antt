@@ -1,1 +1,4 @@
-mod Runs
+pub mod Walks
+pub mod Runs
+pub mod AllBlocks
+pub mod Joined

@@ -38,3 +38,7 @@ pub record HasFlagged (first end : ℕ) (old new : List Bool) : Type 0 where
 pub record HasFlaggedRuns (runs : List Run) (old new : List Bool) : Type 0 where
   pub len : length new ≡ length old
   pub are : (n : ℕ) → is_flagged new n ≡ (list_any (is_of_run n) runs || is_flagged old n)
+
+-- the same flags are set
+abbrev pub AreSameFlags : List Bool → List Bool → Type 0
+AreSameFlags old new = (n : ℕ) → is_flagged new n ≡ is_flagged old n

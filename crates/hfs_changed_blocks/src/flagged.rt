@@ -7,7 +7,7 @@ ghost use Rattle.hfs_changed_blocks.specs.Flags.{is_flagged, flagged, AreWhole-f
 use hfs_blocks::Blocks;
 
 /// Whether the flag of block `n` is set. Blocks without a flag are as those whose flag isn't.
-fn is_flagged(flags: &[bool], n: u32) -> bool
+pub(crate) fn is_flagged(flags: &[bool], n: u32) -> bool
     ensures { result ≡ is_flagged flags.now n }
 {
     match flags.get(n as usize) {
@@ -18,7 +18,7 @@ fn is_flagged(flags: &[bool], n: u32) -> bool
 
 /// Blocks of zeros where a flag is set, and elsewhere the blocks of an image.
 #[derive(Drop)]
-pub struct Flagged<'a, B: Blocks> {
+pub(crate) struct Flagged<'a, B: Blocks> {
     /// The blocks of the image.
     pub below: &'a B,
     /// A flag for each block, or for none.

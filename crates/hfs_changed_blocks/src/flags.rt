@@ -1,10 +1,11 @@
 //! Flags that are set.
 
-ghost use Rattle.std.specs.Prelude.{◌≤◌, length};
-ghost use Rattle.hfs_changed_blocks.specs.Flags.{HasFlagged, HasFlaggedRuns};
+ghost use Rattle.std.specs.Prelude.{◌≤◌, length, OnOk};
+ghost use Rattle.hfs_changed_blocks.specs.Flags.{HasFlagged, HasFlaggedRuns, AreSameFlags};
 ghost use Rattle.hfs_fork_bytes.specs.Zeros.{AreAmong};
 
 use hfs_blocks::Run;
+use std::alloc::AllocError;
 
 /// Sets the flags from `first` up to `end`.
 fn set_flags(flags: &mut [bool], first: usize, end: usize)
@@ -27,4 +28,15 @@ pub(crate) fn flag_runs(flags: &mut [bool], runs: &[Run])
         let first = run.first as usize;
         set_flags(flags, first, first + run.count as usize);
     }
+}
+
+/// At least so many flags: those that come are not set. At an error there may be some more.
+pub(crate) fn more_flags(flags: &mut Vec<bool>, count: u32) -> Result<(), AllocError>
+    ensures enough { OnOk result (count ≤ length flags.new.items) }
+    ensures same { AreSameFlags flags.old.items flags.new.items }
+{
+    for _n in flags.len()..count as usize {
+        flags.push(false)?;
+    }
+    Ok(())
 }

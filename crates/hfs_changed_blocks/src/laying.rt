@@ -4,20 +4,13 @@ ghost use Rattle.std.specs.Prelude.{◌≡◌, length, IfOk, OnOk, OnErr};
 ghost use Rattle.hfs_blocks.specs.Layers.{changes, over, AreWithin, HasJoined, IsLaid, KeepsWithin, ShowsSame};
 ghost use Rattle.hfs_changed_blocks.specs.Flags.{flagged};
 ghost use Rattle.hfs_fork_bytes.specs.Zeros.{AreAmong};
-ghost use Rattle.hfs_changed_blocks.specs.Laying.{IsLaidWith, IsPatchOver, IsShownStill};
+ghost use Rattle.hfs_changed_blocks.specs.Laying.{IsLaidWith, IsPatchOver, IsShownStill, HasBlocks, IsFlaggedAmong};
 
 use crate::again::zeros_again;
 use crate::flagged::Flagged;
 use crate::flags::flag_runs;
 use hfs_blocks::{Blocks, Patch, Run};
 use std::alloc::{AllocError, Global};
-
-/// A flag for each of so many blocks, none set.
-pub fn flags_for(alloc: Global, count: u32) -> Result<Vec<bool>, AllocError>
-    ensures { IfOk result (λ flags. length flags.items ≡ count) }
-{
-    vec![in alloc; false; count as usize]
-}
 
 /// A patch over those blocks.
 fn patch_over<B: Blocks>(below: &B, again: Patch, patch: &Patch) -> Result<Patch, AllocError>
@@ -52,7 +45,7 @@ fn lay_over<B: Blocks>(
 
 /// Lays a patch, with the blocks of these runs as zeros below it, over what is kept of an image: blocks by their numbers, and blocks of
 /// zeros by their flags. At an error what is shown is as it was.
-pub fn lay_change<B: Blocks>(
+pub(crate) fn lay_change<B: Blocks>(
     alloc: Global,
     below: &B,
     kept: &mut Patch,
@@ -62,13 +55,15 @@ pub fn lay_change<B: Blocks>(
 ) -> Result<(), AllocError>
     requires patch { AreWithin (changes patch.now) (B.total below.now) }
     requires runs { AreAmong runs.now (B.total below.now) }
-    requires flags { length flags.old ≡ B.total below.now }
+    requires flags { AreAmong runs.now (length flags.old) }
     ensures laid { OnOk result (IsLaidWith (B.blocks below.now) patch.now runs.now
+        kept.old flags.old kept.new flags.new) }
+    ensures joined { OnOk result (HasBlocks patch.now runs.now
         kept.old flags.old kept.new flags.new) }
     ensures unchanged { OnErr result (IsShownStill (B.blocks below.now)
         kept.old flags.old kept.new flags.new) }
     ensures within { KeepsWithin kept.old kept.new (B.total below.now) }
-    ensures len { length flags.new ≡ length flags.old }
+    ensures flagged { IsFlaggedAmong runs.now flags.old flags.new }
 {
     let again = zeros_again(alloc, kept, runs)?;
     let all = patch_over(below, again, patch)?;

@@ -2,9 +2,11 @@
 #![tactic(auto)]
 
 mod again;
+mod changed;
 mod flagged;
 mod flags;
 mod laying;
+mod log;
 
-pub use flagged::Flagged;
-pub use laying::{flags_for, lay_change};
+pub use changed::{ChangedBlocks, ChangedOver};
+pub use log::{WrittenLog, WrittenRuns};
