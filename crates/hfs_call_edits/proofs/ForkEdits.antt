@@ -1,5 +1,5 @@
 -- From the edits of a fork to those of a call.
-use Rattle.std.proofs.Common.{◌≡◌, ℕ, ◌+◌, ℤ, Bool, true, false, List, length, refl, sym, ◌∙◌, ap, subst, Option, Some, None, Ok, Err, Result, true≢false}
+use Rattle.std.proofs.Common.{◌≡◌, ℕ, ◌+◌, ℤ, Bool, true, false, List, [], length, refl, sym, ◌∙◌, ap, subst, Option, Some, None, Ok, Err, Result, true≢false}
 use Rattle.std.specs.Prelude.{max, IsTrue, IfOk}
 use Rattle.hfs_model.specs.declared.call.Call.{Call}
 use Rattle.hfs_model.specs.declared.call.Call.TheVariants as call
@@ -8,7 +8,7 @@ use Rattle.hfs_model.specs.declared.journal.Want.{Want}
 use Rattle.hfs_model.specs.declared.journal.Want.TheVariants as want
 use Rattle.hfs_model.specs.Changes.{Outcome, refused}
 use Rattle.hfs_model.specs.Choices.{to_set_f_info}
-use Rattle.hfs_model.specs.ForkCalls.{file_to_write}
+use Rattle.hfs_model.specs.ForkCalls.{file_to_write, set_eof, write_fork}
 use Rattle.hfs_model.specs.Replies.{is_accepted, success}
 use Rattle.hfs_model.specs.Step.{step, is_writing}
 use Rattle.hfs_model.specs.Volume.{Volume, Entry}
@@ -18,7 +18,7 @@ use Rattle.hfs_check.specs.VolumeOf.{volume_in}
 use Rattle.hfs_call_patches.specs.CallChanges.{IsChangeOf, Makes}
 use Rattle.hfs_call_patches.specs.declared.change.Change.{Change}
 use Rattle.hfs_fork_changes.specs.Files.{fork_of}
-use Rattle.hfs_fork_edits.specs.Calls.{IsForkEdit, IsForkChangeOf}
+use Rattle.hfs_fork_edits.specs.Calls.{IsForkEdit, IsForkChangeOf, IsSetEofEdit, IsWriteForkEdit}
 use Rattle.hfs_fork_edits.specs.Found.{IsFoundFile, FindsFile}
 use Rattle.hfs_fork_edits.specs.Wanting.{MeetsWant, IsWanting}
 use Rattle.hfs_fork_edits.specs.declared.choosing.FoundFile.{FoundFile}
@@ -89,6 +89,12 @@ module _ (c : Call) (fork : Fork) (len : FileRecord → ℕ) (offset : ℕ) (par
     reply = ap (λ (o : Outcome). o.1) is ∙ has.reply;
   }
 
+  wanted_of : (w : Want) → IsForkEdit made found fork (λ f. len f.file) offset part total old (Err (fork_refusal.Want w)) → IsForkWanting c old w
+  wanted_of w edit = record {
+    accepted = ap (λ (o : Outcome). is_accepted o.1) is ∙ edit.3;
+    meets = meets (Some w) (record { key = edit.0.key; file = edit.0.file; choice = (found_is edit.0 edit.1).choice; meets = edit.2.meets; told = edit.2.told });
+  }
+
   pub fork_edit : (r : Result Change ForkRefusal) → IsForkEdit made found fork (λ f. len f.file) offset part total old r → IsEditOf c total old (edit_of r)
   fork_edit (Ok change) edit = record { enough = none; comes = change_of change edit.0 edit.3 }
   fork_edit (Err (fork_refusal.Code code)) edit = record { enough = none; comes = is ∙ edit.0 }
@@ -102,8 +108,46 @@ module _ (c : Call) (fork : Fork) (len : FileRecord → ℕ) (offset : ℕ) (par
   fork_room (Err (fork_refusal.Code code)) edit = λ w. ap (λ (o : Outcome). is_accepted o.1) is ∙ edit.1
   fork_room (Err (fork_refusal.Want w)) edit = tt
 
-  wanted_of : (w : Want) → IsForkEdit made found fork (λ f. len f.file) offset part total old (Err (fork_refusal.Want w)) → IsForkWanting c old w
-  wanted_of w edit = record {
-    accepted = ap (λ (o : Outcome). is_accepted o.1) is ∙ edit.3;
-    meets = meets (Some w) (record { key = edit.0.key; file = edit.0.file; choice = (found_is edit.0 edit.1).choice; meets = edit.2.meets; told = edit.2.told });
-  }
+-- ---- SetEof
+
+module _ (dir : ℕ) (name : List ℕ) (fork : Fork) (len now total : ℕ) (old : Blocks) (found : Result FoundFile ℤ) (finds : FindsFile old (file_to_write (volume_in old) dir name) found) (r : Result Change ForkRefusal)
+    (edit : IsSetEofEdit found fork len now total old r) where
+  abbrev set_eof_call : Call
+  set_eof_call = call.SetEof dir name fork len now
+
+  abbrev set_eof_made : Outcome
+  set_eof_made = set_eof (mdb_in old).allocation_block_size (volume_in old) dir name fork len now
+
+  set_eof_step : step (volume_in old) set_eof_call ≡ set_eof_made
+  set_eof_step = ap (λ (n : ℕ). set_eof n (volume_in old) dir name fork len now) (block_size_is old)
+
+  pub set_eof_edit : IsEditOf set_eof_call total old (edit_of r)
+  set_eof_edit =
+      fork_edit set_eof_call fork (λ file. len) 0 [] dir name total old set_eof_made set_eof_step refl (none_wanted set_eof_call old (λ depth. refl)) (λ want meets. meets) found finds r (edit dir name finds)
+
+  pub set_eof_room : HasForkRoom set_eof_call total old (edit_of r)
+  set_eof_room =
+      fork_room set_eof_call fork (λ file. len) 0 [] dir name total old set_eof_made set_eof_step refl (none_wanted set_eof_call old (λ depth. refl)) (λ want meets. meets) found finds r (edit dir name finds)
+
+-- ---- WriteFork
+
+module _ (dir : ℕ) (name : List ℕ) (fork : Fork) (offset : ℕ) (bytes : List ℕ) (now total : ℕ) (old : Blocks) (found : Result FoundFile ℤ) (finds : FindsFile old (file_to_write (volume_in old) dir name) found)
+    (r : Result Change ForkRefusal) (edit : IsWriteForkEdit found fork offset bytes now total old r) where
+  abbrev write_fork_call : Call
+  write_fork_call = call.WriteFork dir name fork offset bytes now
+
+  abbrev write_fork_made : Outcome
+  write_fork_made = write_fork (mdb_in old).allocation_block_size (volume_in old) dir name fork offset bytes now
+
+  write_fork_step : step (volume_in old) write_fork_call ≡ write_fork_made
+  write_fork_step = ap (λ (n : ℕ). write_fork n (volume_in old) dir name fork offset bytes now) (block_size_is old)
+
+  pub write_fork_edit : IsEditOf write_fork_call total old (edit_of r)
+  write_fork_edit =
+      fork_edit write_fork_call fork (length_with fork offset bytes) offset bytes dir name total old write_fork_made write_fork_step refl (none_wanted write_fork_call old (λ depth. refl)) (λ want meets. meets) found finds r
+      (edit dir name finds)
+
+  pub write_fork_room : HasForkRoom write_fork_call total old (edit_of r)
+  write_fork_room =
+      fork_room write_fork_call fork (length_with fork offset bytes) offset bytes dir name total old write_fork_made write_fork_step refl (none_wanted write_fork_call old (λ depth. refl)) (λ want meets. meets) found finds r
+      (edit dir name finds)

@@ -47,7 +47,7 @@ impl<B: Blocks> Editing<'_, B> {
 
     /// The volume as those who write forks take it.
     fn fork_volume(&self) -> ForkVolume<'_, B>
-        ensures { IsForkVolumeIn B.total B.blocks result.blocks.now
+        ensures volume { IsForkVolumeIn B.total B.blocks result.blocks.now
             result.mdb.now result.extents.now result.catalog.now }
         ensures blocks { result.blocks.now ≡ self.now }
     {

@@ -18,6 +18,7 @@ use Rattle.hfs_fork_bytes.specs.Zeros.{is_of_run, zero_blocks, AreAmong}
 use Rattle.hfs_fork_bytes.specs.Clearing.{patched}
 use Rattle.hfs_changed_blocks.specs.Flags.{is_flagged, flagged, zeros_if, AreSameFlags, AreWhole-flagged}
 use Rattle.hfs_changed_blocks.specs.Laying.{shown, is_changed}
+use Rattle.hfs_changed_blocks.proofs.Runs.{in_total}
 use Rattle.hfs_changed_blocks.specs.Changed.{is_zeros, blocks_below, all_blocks, laid_changes}
 
 -- ---- numbers
@@ -275,3 +276,16 @@ below-within kept flags total m within n b found = by (changes kept n) refl (sym
     by : (o : Option (List ℕ)) → changes kept n ≡ o → option_or o (zeros_if (is_flagged flags n && nat_lt n m)) ≡ Some b → (n < total) × (length b ≡ 512)
     by None e f = flag (is_flagged flags n) refl f
     by (Some x) e f = within n b (changes-all kept flags n ∙ ap (λ (c : Option (List ℕ)). option_or c (flagged flags n)) (e ∙ f))
+
+-- ---- where a patch and runs of zeros are
+
+pub laid-within : (patch : Numbered) (runs : List Run) (total : ℕ) → AreWithin (changes patch) total → AreAmong runs total → AreWithin (laid_changes patch runs) total
+laid-within patch runs total within among n b found = by (changes patch n) refl found
+  where
+    zero : (t : Bool) → list_any (is_of_run n) runs ≡ t → zeros_if t ≡ Some b → (n < total) × (length b ≡ 512)
+    zero true e z = let zero_byte : ℕ = 0 in (in_total total n runs e among, ap (λ (l : List ℕ). length l) (sym (same_Some (zeros 512) b z)) ∙ length-replicate 512 zero_byte)
+    zero false e z = absurd (none-some b z)
+
+    by : (o : Option (List ℕ)) → changes patch n ≡ o → option_or o (zero_blocks runs n) ≡ Some b → (n < total) × (length b ≡ 512)
+    by None e f = zero (list_any (is_of_run n) runs) refl f
+    by (Some x) e f = within n b (e ∙ f)

@@ -110,7 +110,7 @@ copied_some (Some b) = refl
 
 -- ---- where these blocks are
 
-in_total : (total n : ℕ) (runs : List Run) → list_any (is_of_run n) runs ≡ true → AreAmong runs total → n < total
+pub in_total : (total n : ℕ) (runs : List Run) → list_any (is_of_run n) runs ≡ true → AreAmong runs total → n < total
 in_total total n [] is among = absurd (true≢false (sym is))
 in_total total n (run ∷ runs) is among = elim (is_of_run n run) as (λ (b : Bool). is_of_run n run ≡ b → (b || list_any (is_of_run n) runs) ≡ true → n < total) [
   | true ↦ λ here _.
