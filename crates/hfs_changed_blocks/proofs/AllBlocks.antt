@@ -76,6 +76,12 @@ past [] k le = refl
 past (f ∷ fs) zero le = absurd (omega (arith, le))
 past (f ∷ fs) (suc k) le = past fs k (omega (arith, le))
 
+pub unset_pushed : (flags : List Bool) (k : ℕ) → is_flagged (flags ++ false ∷ []) k ≡ is_flagged flags k
+unset_pushed [] zero = refl
+unset_pushed [] (suc k) = refl
+unset_pushed (f ∷ fs) zero = refl
+unset_pushed (f ∷ fs) (suc k) = unset_pushed fs k
+
 -- ---- the blocks below one
 
 or-none : {A : Type 0} (o : Option A) → option_or o None ≡ o
@@ -101,45 +107,48 @@ module _ (kept : Numbered) (flags : List Bool) where
   here n None true = ap (λ (t : Bool). option_or (zeros_if t) (Some (zeros 512))) (le-ltb n n (omega arith)) ∙ sym (ap zeros_if (lt-ltb n (n + 1) (omega arith)))
   here n None false = refl
 
+  -- the blocks below, and the one of this number where it is one of zeros
+  abbrev next_blocks : ℕ → Bool → Numbered
+  next_blocks n t = cond t (blocks_below kept flags n ++ (n, zeros 512) ∷ []) (blocks_below kept flags n)
+
+  beside : (n k : ℕ) (t : Bool) → (k ≡ n → ⊥) → changes (next_blocks n t) k ≡ changes (blocks_below kept flags n) k
+  beside n k true other =
+      changes-push (blocks_below kept flags n) (n, zeros 512) k
+      ∙ ap (λ (b : Bool). option_or (changes (blocks_below kept flags n) k) (cond b (Some (zeros 512)) None)) (ne_eqb k n other)
+      ∙ or-none (changes (blocks_below kept flags n) k)
+  beside n k false other = refl
+
+  whole : (n k : ℕ) (t : Bool) → k ≡ n → changes (next_blocks n t) k ≡ option_or (changes (blocks_below kept flags n) k) (cond t (Some (zeros 512)) None)
+  whole n k true same =
+      changes-push (blocks_below kept flags n) (n, zeros 512) k
+      ∙ ap (λ (b : Bool). option_or (changes (blocks_below kept flags n) k) (cond b (Some (zeros 512)) None)) (eq-eqb k n same)
+  whole n k false same = sym (or-none (changes (blocks_below kept flags n) k))
+
+  at : (n k : ℕ) (t : Bool) → is_zeros kept flags n ≡ t → k ≡ n → changes (blocks_below kept flags n) k ≡ shown_below n k → changes (next_blocks n t) k ≡ shown_below (n + 1) k
+  at n k t e same before =
+      whole n k t same
+      ∙ ap (λ (o : Option (List ℕ)). option_or o (cond t (Some (zeros 512)) None)) before
+      ∙ ap (λ (b : Bool). option_or (shown_below n k) (cond b (Some (zeros 512)) None)) (sym e ∙ ap (is_zeros kept flags) (sym same))
+      ∙ ap (λ (m : ℕ). option_or (option_or (changes kept k) (zeros_if (is_flagged flags k && nat_lt k m))) (cond (is_zeros kept flags k) (Some (zeros 512)) None)) (sym same)
+      ∙ here k (changes kept k) (is_flagged flags k)
+      ∙ ap (λ (m : ℕ). option_or (changes kept k) (zeros_if (is_flagged flags k && nat_lt k (m + 1)))) same
+
+  next_below : (n k : ℕ) (t : Bool) → is_zeros kept flags n ≡ t → changes (blocks_below kept flags n) k ≡ shown_below n k → changes (next_blocks n t) k ≡ shown_below (n + 1) k
+  next_below n k t e before = ⊎_elim
+      (λ (same : k ≡ n). at n k t e same before)
+      (λ (other : k ≡ n → ⊥). beside n k t other ∙ before ∙ ap (λ (b : Bool). option_or (changes kept k) (zeros_if (is_flagged flags k && b))) (sym (not_next n k other)))
+      (cases_eq k n)
+
+  none_below : (k : ℕ) (f : Bool) → (f && nat_lt k 0) ≡ false
+  none_below k true = le-ltb k 0 (omega arith)
+  none_below k false = refl
+
   pub changes-below : (n k : ℕ) → changes (blocks_below kept flags n) k ≡ shown_below n k
   unfolding blocks_below
-  changes-below zero k = sym (ap (λ (t : Bool). option_or (changes kept k) (zeros_if t)) (none (is_flagged flags k)) ∙ or-none (changes kept k))
-    where
-      none : (f : Bool) → (f && nat_lt k 0) ≡ false
-      none true = le-ltb k 0 (omega arith)
-      none false = refl
-  changes-below (suc n) k = by (is_zeros kept flags n) refl
-    where
-      before : changes (blocks_below kept flags n) k ≡ shown_below n k
-      before = changes-below n k
-
-      by : (t : Bool) → is_zeros kept flags n ≡ t → changes (cond t (blocks_below kept flags n ++ (n, zeros 512) ∷ []) (blocks_below kept flags n)) k ≡ shown_below (n + 1) k
-      by t e = ⊎_elim
-          (λ (same : k ≡ n). at t e same)
-          (λ (other : k ≡ n → ⊥). beside t other ∙ before ∙ ap (λ (b : Bool). option_or (changes kept k) (zeros_if (is_flagged flags k && b))) (sym (not_next n k other)))
-          (cases_eq k n)
-        where
-          beside : (t : Bool) → (k ≡ n → ⊥) → changes (cond t (blocks_below kept flags n ++ (n, zeros 512) ∷ []) (blocks_below kept flags n)) k ≡ changes (blocks_below kept flags n) k
-          beside true other =
-              changes-push (blocks_below kept flags n) (n, zeros 512) k
-              ∙ ap (λ (b : Bool). option_or (changes (blocks_below kept flags n) k) (cond b (Some (zeros 512)) None)) (ne_eqb k n other)
-              ∙ or-none (changes (blocks_below kept flags n) k)
-          beside false other = refl
-
-          whole : (t : Bool) → is_zeros kept flags n ≡ t → k ≡ n → changes (cond t (blocks_below kept flags n ++ (n, zeros 512) ∷ []) (blocks_below kept flags n)) k ≡ option_or (changes (blocks_below kept flags n) k) (cond t (Some (zeros 512)) None)
-          whole true e same =
-              changes-push (blocks_below kept flags n) (n, zeros 512) k
-              ∙ ap (λ (b : Bool). option_or (changes (blocks_below kept flags n) k) (cond b (Some (zeros 512)) None)) (eq-eqb k n same)
-          whole false e same = sym (or-none (changes (blocks_below kept flags n) k))
-
-          at : (t : Bool) → is_zeros kept flags n ≡ t → k ≡ n → changes (cond t (blocks_below kept flags n ++ (n, zeros 512) ∷ []) (blocks_below kept flags n)) k ≡ shown_below (n + 1) k
-          at t e same =
-              whole t e same
-              ∙ ap (λ (o : Option (List ℕ)). option_or o (cond t (Some (zeros 512)) None)) before
-              ∙ ap (λ (b : Bool). option_or (shown_below n k) (cond b (Some (zeros 512)) None)) (sym e ∙ ap (is_zeros kept flags) (sym same))
-              ∙ ap (λ (m : ℕ). option_or (option_or (changes kept k) (zeros_if (is_flagged flags k && nat_lt k m))) (cond (is_zeros kept flags k) (Some (zeros 512)) None)) (sym same)
-              ∙ here k (changes kept k) (is_flagged flags k)
-              ∙ ap (λ (m : ℕ). shown_below (m + 1) k) same
+  changes-below zero k = sym (ap (λ (t : Bool). option_or (changes kept k) (zeros_if t)) (none_below k (is_flagged flags k)) ∙ or-none (changes kept k))
+  changes-below (suc n) k =
+      next_below n k (is_zeros kept flags n) refl (changes-below n k)
+      ∙ ap (λ (m : ℕ). option_or (changes kept k) (zeros_if (is_flagged flags k && nat_lt k m))) (let e : n + 1 ≡ suc n = omega arith in e)
 
   -- no block below has the next number, unless it is kept
   pub absent-below : (n : ℕ) → is_some (changes kept n) ≡ false → is_some (changes (blocks_below kept flags n) n) ≡ false
@@ -161,28 +170,30 @@ module _ (kept : Numbered) (flags : List Bool) where
       by true true e = sym e
       by false true e = sym e
 
+  next_once : (n : ℕ) (t : Bool) → is_zeros kept flags n ≡ t → IsDistinct nat_eq (numbers (blocks_below kept flags n)) → IsDistinct nat_eq (numbers (next_blocks n t))
+  next_once n true e h =
+      subst (λ (l : List ℕ). IsDistinct nat_eq l) (sym (numbers-push (blocks_below kept flags n) (n, zeros 512)))
+      (IsDistinct-push nat_eq_equiv (numbers (blocks_below kept flags n)) n h (has-numbers (blocks_below kept flags n) n ∙ absent-below n (is_absent n e)))
+  next_once n false e h = h
+
   pub once-below : IsDistinct nat_eq (numbers kept) → (n : ℕ) → IsDistinct nat_eq (numbers (blocks_below kept flags n))
   unfolding blocks_below
   once-below once zero = once
-  once-below once (suc n) = by (is_zeros kept flags n) refl (once-below once n)
-    where
-      by : (t : Bool) → is_zeros kept flags n ≡ t → IsDistinct nat_eq (numbers (blocks_below kept flags n)) → IsDistinct nat_eq (numbers (cond t (blocks_below kept flags n ++ (n, zeros 512) ∷ []) (blocks_below kept flags n)))
-      by true e h =
-          subst (λ (l : List ℕ). IsDistinct nat_eq l) (sym (numbers-push (blocks_below kept flags n) (n, zeros 512)))
-          (IsDistinct-push nat_eq_equiv (numbers (blocks_below kept flags n)) n h (has-numbers (blocks_below kept flags n) n ∙ absent-below n (is_absent n e)))
-      by false e h = h
+  once-below once (suc n) = next_once n (is_zeros kept flags n) refl (once-below once n)
 
   -- how many there are
-  pub count_next : (n : ℕ) → is_zeros kept flags n ≡ true → length (numbers (blocks_below kept flags (n + 1))) ≡ length (numbers (blocks_below kept flags n)) + 1
+  after_next : (n : ℕ) → blocks_below kept flags (n + 1) ≡ next_blocks n (is_zeros kept flags n)
   unfolding blocks_below
+  after_next n = ap (λ (m : ℕ). blocks_below kept flags m) (let e : n + 1 ≡ suc n = omega arith in e)
+
+  pub count_next : (n : ℕ) → is_zeros kept flags n ≡ true → length (numbers (blocks_below kept flags (n + 1))) ≡ length (numbers (blocks_below kept flags n)) + 1
   count_next n e =
-      ap (λ (t : Bool). length (numbers (cond t (blocks_below kept flags n ++ (n, zeros 512) ∷ []) (blocks_below kept flags n)))) e
+      ap (λ (l : Numbered). length (numbers l)) (after_next n ∙ ap (next_blocks n) e)
       ∙ ap (λ (l : List ℕ). length l) (numbers-push (blocks_below kept flags n) (n, zeros 512))
       ∙ length-append (numbers (blocks_below kept flags n)) (n ∷ [])
 
   pub count_same : (n : ℕ) → is_zeros kept flags n ≡ false → length (numbers (blocks_below kept flags (n + 1))) ≡ length (numbers (blocks_below kept flags n))
-  unfolding blocks_below
-  count_same n e = ap (λ (t : Bool). length (numbers (cond t (blocks_below kept flags n ++ (n, zeros 512) ∷ []) (blocks_below kept flags n)))) e
+  count_same n e = ap (λ (l : Numbered). length (numbers l)) (after_next n ∙ ap (next_blocks n) e)
 
   -- ---- all of them
 
@@ -289,3 +300,22 @@ laid-within patch runs total within among n b found = by (changes patch n) refl 
     by : (o : Option (List ℕ)) → changes patch n ≡ o → option_or o (zero_blocks runs n) ≡ Some b → (n < total) × (length b ≡ 512)
     by None e f = zero (list_any (is_of_run n) runs) refl f
     by (Some x) e f = within n b (e ∙ f)
+
+-- ---- what is shown of a block
+
+pub below-zero : (kept : Numbered) (flags : List Bool) → blocks_below kept flags 0 ≡ kept
+unfolding blocks_below
+below-zero kept flags = refl
+
+pub all-none : all_blocks [] [] ≡ []
+all-none = below-zero [] []
+
+module _ (kept : Numbered) (flags : List Bool) (n : ℕ) where
+  pub kept-shown : (b : List ℕ) → Some b ≡ changes kept n → Some b ≡ changes (all_blocks kept flags) n
+  kept-shown b e = ap (λ (o : Option (List ℕ)). option_or o (flagged flags n)) e ∙ sym (changes-all kept flags n)
+
+  pub zeros-shown : None ≡ changes kept n → is_flagged flags n ≡ true → Some (zeros 512) ≡ changes (all_blocks kept flags) n
+  zeros-shown none is = sym (ap zeros_if is) ∙ ap (λ (o : Option (List ℕ)). option_or o (flagged flags n)) none ∙ sym (changes-all kept flags n)
+
+  pub none-shown : None ≡ changes kept n → is_flagged flags n ≡ false → None ≡ changes (all_blocks kept flags) n
+  none-shown none is = sym (ap zeros_if is) ∙ ap (λ (o : Option (List ℕ)). option_or o (flagged flags n)) none ∙ sym (changes-all kept flags n)

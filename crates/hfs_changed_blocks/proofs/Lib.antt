@@ -2,3 +2,4 @@ pub mod Walks
 pub mod Runs
 pub mod AllBlocks
 pub mod Joined
+pub mod Laid

@@ -7,6 +7,10 @@ use Rattle.hfs_fork_bytes.specs.Parts.{zeros}
 use Rattle.hfs_fork_bytes.specs.Zeros.{zero_blocks}
 use Rattle.hfs_changed_blocks.specs.Flags.{is_flagged}
 
+-- a block of zeros
+abbrev pub blank_block : List ℕ
+blank_block = zeros 512
+
 -- the block is one of zeros that isn't kept
 abbrev pub is_zeros : Numbered → List Bool → ℕ → Bool
 is_zeros kept flags n = is_flagged flags n && not (is_some (changes kept n))

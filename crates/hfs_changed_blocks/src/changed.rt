@@ -7,8 +7,9 @@ ghost use Rattle.hfs_blocks.specs.Layers.{changes, numbers, over, AreWhole, AreW
 ghost use Rattle.hfs_fork_bytes.specs.Zeros.{AreAmong};
 ghost use Rattle.hfs_changed_blocks.specs.Changed.{laid_changes, HasBlocksOf};
 
+use crate::counting::count_all;
 use crate::flagged::is_flagged;
-use crate::flags::more_flags;
+use crate::flags::{flags_wanted, more_flags};
 use crate::laying::lay_change;
 use hfs_blocks::{Blocks, Patch, Run};
 use std::alloc::{AllocError, Global};
@@ -22,20 +23,19 @@ pub struct ChangedBlocks {
     /// A flag for each block of the image that is zeros, unless it is kept; none where no block is zeros.
     flags: Vec<bool>,
     /// What a block of zeros is.
-    zeros: [u8; 512],
+    blank: [u8; 512],
 }
 
 impl Model for ChangedBlocks {
     ghost use Rattle.std.specs.Prelude.{◌≡◌};
     ghost use Rattle.hfs_blocks.specs.Layers.{Numbered};
-    ghost use Rattle.hfs_fork_bytes.specs.Parts.{zeros};
-    ghost use Rattle.hfs_changed_blocks.specs.Changed.{all_blocks};
+    ghost use Rattle.hfs_changed_blocks.specs.Changed.{all_blocks, blank_block};
 
     ghost Value = { Numbered };
 
     ghost view = { λ c. all_blocks c.kept c.flags.items };
 
-    ghost invariant = { λ c. c.zeros ≡ zeros 512 };
+    ghost invariant = { λ c. c.blank ≡ blank_block };
 }
 
 impl ChangedBlocks {
@@ -46,7 +46,7 @@ impl ChangedBlocks {
         ChangedBlocks {
             kept: Patch::new(alloc),
             flags: Vec::new(alloc),
-            zeros: [0; 512],
+            blank: [0; 512],
         }
     }
 
@@ -56,13 +56,7 @@ impl ChangedBlocks {
         ensures len { result ≡ length (numbers self.now) }
         ensures different { IsDistinct nat_eq (numbers self.now) }
     {
-        let mut count = self.kept.len();
-        for n in 0..self.flags.len() {
-            if self.flags[n] && self.kept.get(n as u32).is_none() {
-                count += 1;
-            }
-        }
-        count
+        count_all(&self.kept, &self.flags)
     }
 
     /// Block `n`, if it is changed. Takes no memory.
@@ -74,7 +68,7 @@ impl ChangedBlocks {
             Some(block) => Some(block),
             None => {
                 if is_flagged(&self.flags, n) {
-                    Some(&self.zeros)
+                    Some(&self.blank)
                 } else {
                     None
                 }
@@ -114,9 +108,7 @@ impl ChangedBlocks {
             (ShowsSame (B.blocks below.now) (changes self.old) (changes self.new)) }
         ensures within { KeepsWithin self.old self.new (B.total below.now) }
     {
-        if !zeros.is_empty() {
-            more_flags(&mut self.flags, below.count())?;
-        }
+        more_flags(&mut self.flags, flags_wanted(zeros, below.count()))?;
         lay_change(alloc, below, &mut self.kept, &mut self.flags, patch, zeros)
     }
 }

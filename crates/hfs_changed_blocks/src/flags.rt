@@ -40,3 +40,13 @@ pub(crate) fn more_flags(flags: &mut Vec<bool>, count: u32) -> Result<(), AllocE
     }
     Ok(())
 }
+
+/// How many flags these runs want in an image of so many blocks: none where there are no runs.
+pub(crate) fn flags_wanted(runs: &[Run], count: u32) -> u32
+    ensures { AreAmong runs.now count → AreAmong runs.now result }
+{
+    if runs.is_empty() {
+        return 0;
+    }
+    count
+}

@@ -3,6 +3,7 @@
 
 mod again;
 mod changed;
+mod counting;
 mod flagged;
 mod flags;
 mod laying;
