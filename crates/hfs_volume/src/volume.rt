@@ -328,11 +328,7 @@ impl Volume {
     }
 
     /// Makes of the image what some call makes of it, and answers the call.
-    fn make(
-        &mut self,
-        alloc: Global,
-        edit: Result<Change, Refusal>,
-    ) -> Result<Reply, AllocError>
+    fn make(&mut self, alloc: Global, edit: Result<Change, Refusal>) -> Result<Reply, AllocError>
         requires { IsEditIn self.old.current edit }
         ensures outcome { IfOk result (IsEditReply edit self.old.current self.new.current) }
         ensures refused { IfOk result (λ reply. reply.code ≢ pos 0 → self.new ≡ self.old) }
@@ -364,12 +360,8 @@ impl Volume {
             written,
             value,
         } = change;
-        self.image.commit(
-            alloc,
-            &patch,
-            zero_runs(&written),
-            written_runs(&written),
-        )?;
+        self.image
+            .commit(alloc, &patch, zero_runs(&written), written_runs(&written))?;
         self.mdb = with_counts(&counts, &self.mdb);
         Ok(success(value))
     }
