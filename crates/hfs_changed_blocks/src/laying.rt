@@ -63,6 +63,7 @@ pub(crate) fn lay_change<B: Blocks>(
     ensures unchanged { OnErr result (IsShownStill (B.blocks below.now)
         kept.old flags.old kept.new flags.new) }
     ensures within { KeepsWithin kept.old kept.new (B.total below.now) }
+    ensures len { length flags.new ≡ length flags.old }
     ensures flagged { IsFlaggedAmong runs.now flags.old flags.new }
 {
     let again = zeros_again(alloc, kept, runs)?;
