@@ -6,7 +6,7 @@ use Rattle.hfs_call_edits.specs.Edits.{HasForkRoom, IsEditOf}
 use Rattle.hfs_model.specs.declared.call.Call.TheVariants as call
 use Rattle.hfs_fork_edits.specs.Calls.{IsSetEofEdit}
 use Rattle.hfs_call_edits.proofs.ForkEdits.{set_eof_edit, set_eof_room}
-use Rattle.hfs_call_edits.proofs.forks.Editing.set_eof.Goals as goal
+use Rattle.hfs_call_edits.proofs.editing.Editing.set_eof.Goals as goal
 
 pub returns-clause-made : goal.returns-clause-made
 returns-clause-made g c =
