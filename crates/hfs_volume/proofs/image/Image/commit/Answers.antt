@@ -51,5 +51,5 @@ returns-in_err-lay-clause-unchanged c = on_err c.from_residual.result
     (λ k. subst (λ (b : List ℕ). over (changes c.lay.new.self) (block_at b) k ≡ over (changes c.self.inside.changed) (block_at b) k) c.blocks-base.ensures (c.in_err-lay.ensures.kept k)))
 
 pub returns-clause-changed : goal.returns-clause-changed
-returns-clause-changed c = subst (λ v. HasKept v (laid_changes c.args.patch.now c.args.zeros.now) (image_of c.self.inside.base c.lay.new.self c.then.result.blocks)) c.self.view_is
+returns-clause-changed c = subst (λ v. HasKept v (laid_changes c.args.patch.now c.args.zeros.now) (image_of c.self.inside.base c.lay.new.self c.then-self-inside.result.blocks)) c.self.view_is
     (kept c.self.inside.changed c.lay.new.self (laid_changes c.args.patch.now c.args.zeros.now) c.in_ok-lay.ensures.joined)

@@ -4,7 +4,7 @@ use Rattle.hfs_blocks.specs.Blocks.{block_at, block_count}
 use Rattle.hfs_call_edits.specs.Edits.{HasForkRoom, IsEditOf}
 use Rattle.hfs_volume.specs.Image.{ImageValue}
 use Rattle.hfs_call_patches.proofs.Made.{if_ok}
-use Rattle.hfs_volume.proofs.Written.{written_by}
+use Rattle.hfs_volume.proofs.BlocksWritten.{written_by}
 use Rattle.hfs_volume.proofs.volume.Volume.change.Goals as goal
 
 pub new-requires : goal.new-requires

@@ -10,8 +10,10 @@ use Rattle.hfs_changed_blocks.specs.Changed.{laid_changes}
 use Rattle.hfs_volume.specs.Image.{ImageValue}
 use Rattle.hfs_volume.specs.Laid.{laid_over}
 use Rattle.hfs_volume.specs.Mounted.{IsMounted}
+use Rattle.hfs_volume.specs.Steps.{zero_runs}
+use Rattle.hfs_call_patches.specs.CallChanges.{written_blocks}
 use Rattle.hfs_volume.proofs.Stepping.{still_mounted, committed_volume, committed_mounted, zeros_among, blocks_written}
-use Rattle.hfs_check.proofs.LawsProved.{agreements_join}
+use Rattle.hfs_check.proofs.Stays.{agreements_join}
 use Rattle.hfs_volume.proofs.volume.Volume.commit.Goals as goal
 
 pub commit-requires-clause-patch : goal.commit-requires-clause-patch
@@ -20,7 +22,7 @@ commit-requires-clause-patch c = subst (λ (v : ImageValue). AreWithin (changes 
 pub commit-requires-clause-zeros : goal.commit-requires-clause-zeros
 commit-requires-clause-zeros c =
     subst (λ (rs : List Run). AreAmong rs (block_count c.self.inside.image.current)) (sym c.zero_runs.ensures)
-    (subst (λ (v : ImageValue). AreAmong _ (block_count v.current)) (sym c.self.view_is) (zeros_among c.args.change.written (block_count c.args.self.now.current) c.requires.is.comes.zeros))
+    (subst (λ (v : ImageValue). AreAmong (zero_runs c.args.change.written) (block_count v.current)) (sym c.self.view_is) (zeros_among c.args.change.written (block_count c.args.self.now.current) c.requires.is.comes.zeros))
 
 pub invariant_of-self : goal.invariant_of-self
 invariant_of-self c =
@@ -43,4 +45,4 @@ returns-clause-volume c = λ call is.
 pub returns-clause-written : goal.returns-clause-written
 returns-clause-written c =
     c.in_ok-commit.ensures.written ∙ ap (λ (bs : List ℕ). c.self.inside.image.written ++ bs) (ap (λ (rs : List Run). flat_map run_of rs) c.written_runs.ensures ∙ blocks_written c.args.change.written)
-    ∙ ap (λ (v : ImageValue). v.written ++ _) c.self.view_is
+    ∙ ap (λ (v : ImageValue). v.written ++ written_blocks c.args.change.written) c.self.view_is
