@@ -1,16 +1,15 @@
 -- Forks that were cut, lengthened or written.
-use Rattle.std.proofs.Common.{◌≡◌, ℕ, ◌+◌, ◌-◌, ◌<◌, ◌≤◌, ◌^◌, inl, inr, Bool, true, false, cond, List, [], ◌∷◌, ◌++◌, length, take, drop, replicate, refl, sym, ap, ◌∙◌, subst, arith, append-nil, length-append, length-drop, length-take}
+use Rattle.std.proofs.Common.{◌≡◌, ℕ, ◌+◌, ◌-◌, ◌<◌, ◌≤◌, ◌^◌, inl, inr, Bool, true, false, cond, List, [], ◌∷◌, ◌++◌, length, take, drop, replicate, refl, sym, ap, ◌∙◌, subst, arith, append-nil, length-append}
 use Rattle.std.specs.Prelude.{max, min}
 use Rattle.std.specs.List.{splice}
 use Rattle.std.proofs.lemmas.Bool.{cases_lt, true≢false}
-use Rattle.std.proofs.lemmas.List.{append_assoc, drop-drop, drop_all, take_all, take-append-le, drop-append-le, take-append-drop, length-replicate}
+use Rattle.std.proofs.lemmas.List.{append_assoc, drop-drop, drop_all, take_all, take-append-le, take-append-drop, length-replicate}
 use Rattle.hfs_fork_calls.specs.Forks.{resized, laid_over, written}
-use Rattle.hfs_fork_pieces.specs.declared.piece.Source.{Source}
 use Rattle.hfs_fork_pieces.specs.declared.piece.Source.TheVariants.{Base, Zeros, Given}
 use Rattle.hfs_fork_pieces.specs.declared.piece.Piece.{Piece}
 use Rattle.hfs_fork_pieces.specs.declared.fork.ForkPieces.{ForkPieces}
-use Rattle.hfs_fork_pieces.specs.Pieces.{source_bytes, skipped, end_of, bytes_from, HasBytes, IsPiece, AreRow, ArePieces, fork_length, fork_shown}
-use Rattle.hfs_fork_pieces.specs.Edits.{EndsBehind, HaveEnded, MaySkip, MaySkipTo, front_of, back_of, come_of, Makes, Keeps, IsTouched}
+use Rattle.hfs_fork_pieces.specs.Pieces.{source_bytes, end_of, bytes_from, AreRow, ArePieces, fork_length, fork_shown}
+use Rattle.hfs_fork_pieces.specs.Edits.{HaveEnded, front_of, back_of, come_of, Makes, Keeps, IsTouched}
 use Rattle.hfs_fork_pieces.proofs.PieceLemmas.{bytes-append, end-append, row-append, row-take, row-drop, length-row, front-bytes, front-end, front-row, back-bytes, back-row, take-parted, drop-parted}
 
 -- ---- bytes

@@ -1,12 +1,12 @@
 -- Pieces in a row: their bytes, where they end, and those before a place and from it on.
-use Rattle.std.proofs.Common.{◌≡◌, ℕ, ◌+◌, ◌-◌, ◌<◌, ◌≤◌, suc, zero, Bool, true, false, cond, ltb, List, [], ◌∷◌, ◌++◌, length, take, drop, replicate, refl, sym, ap, ◌∙◌, subst, arith, append-nil, length-append, length-drop, length-take}
+use Rattle.std.proofs.Common.{◌≡◌, ℕ, ◌+◌, ◌-◌, ◌≤◌, suc, zero, Bool, true, false, cond, ltb, List, [], ◌∷◌, ◌++◌, length, take, drop, replicate, refl, sym, ap, ◌∙◌, subst, arith, append-nil, length-append, length-drop, length-take}
 use Rattle.std.proofs.lemmas.Bool.{ltb-false}
 use Rattle.std.proofs.lemmas.List.{append_assoc, take-take, take-replicate, drop-replicate, drop-take, drop-drop, drop_all, take_all, take-append-le, drop-append-le, take-append-drop, length-replicate}
 use Rattle.std.proofs.Math.Seq.{take-append-add, drop-append-add}
 use Rattle.hfs_fork_pieces.specs.declared.piece.Source.{Source}
 use Rattle.hfs_fork_pieces.specs.declared.piece.Source.TheVariants.{Base, Zeros, Given}
 use Rattle.hfs_fork_pieces.specs.declared.piece.Piece.{Piece}
-use Rattle.hfs_fork_pieces.specs.Pieces.{source_bytes, skipped, end_of, bytes_from, HasBytes, IsPiece, AreRow}
+use Rattle.hfs_fork_pieces.specs.Pieces.{source_bytes, skipped, end_of, bytes_from, HasBytes, AreRow}
 use Rattle.hfs_fork_pieces.specs.Edits.{EndsBehind, front_of, back_of}
 
 -- ---- sources

@@ -1,17 +1,17 @@
 -- Pieces by their places in a fork, and what is read at a place.
-use Rattle.std.proofs.Common.{◌≡◌, ℕ, ◌+◌, ◌-◌, ◌<◌, ◌≤◌, ◌^◌, inl, inr, suc, zero, true, false, leb, sym, subst, List, [], ◌∷◌, ◌++◌, length, take, drop, get_or, refl, ap, ◌∙◌, arith}
+use Rattle.std.proofs.Common.{◌≡◌, ℕ, ◌+◌, ◌-◌, ◌<◌, ◌≤◌, inl, inr, suc, zero, true, false, leb, sym, subst, List, [], ◌∷◌, ◌++◌, length, take, drop, get_or, refl, ap, ◌∙◌, arith}
 use Rattle.std.specs.List.Sorted.{IsNonDecreasingBy, IsPartitionedBy, IsPartitionPoint}
 use Rattle.std.proofs.lemmas.Bool.{leb-true, leb-false, cases_lt}
 use Rattle.std.proofs.lemmas.List.Sorted.{IsPartitionedBy-leb}
-use Rattle.std.proofs.lemmas.List.{get_or-take, length-take, drop-append-le, take-append-le, take_all}
+use Rattle.std.proofs.lemmas.List.{get_or-take, length-take, drop-append-le, take-append-le}
 use Rattle.hfs_fork_pieces.specs.declared.piece.Source.{Source}
 use Rattle.hfs_fork_pieces.specs.declared.piece.Source.TheVariants.{Base, Zeros, Given}
 use Rattle.hfs_fork_pieces.specs.declared.piece.Piece.{Piece}
 use Rattle.hfs_fork_pieces.specs.Pieces.{source_bytes, skipped, end_of, bytes_from, HasBytes, IsPiece, AreRow}
 use Rattle.hfs_fork_pieces.specs.Edits.{EndsBehind, HaveEnded, MaySkip, MaySkipTo}
-use Rattle.hfs_fork_pieces.specs.Stretches.{MayRead, IsReadWhere, IsInBase, IsPart}
+use Rattle.hfs_fork_pieces.specs.Stretches.{MayRead, IsReadWhere, IsInBase}
 use Rattle.hfs_fork_pieces.specs.declared.reading.Stretch.{Stretch}
-use Rattle.hfs_fork_pieces.proofs.PieceLemmas.{source_take, source_drop, source_length, has_skipped, row-take, row-drop, row-rises, end-append, drop-parted}
+use Rattle.hfs_fork_pieces.proofs.PieceLemmas.{source_take, source_drop, source_length, has_skipped, row-take, row-drop, row-rises, drop-parted}
 
 begins-before : (l s : ℕ) (ps : List Piece) → AreRow l s ps → (j : ℕ) (d : Piece) → j < length ps → s ≤ (get_or ps j d).end
 begins-before l s [] h j d lt = absurd (omega (arith, lt))

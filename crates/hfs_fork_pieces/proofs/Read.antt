@@ -1,14 +1,14 @@
 -- What is read of a fork at a place.
-use Rattle.std.proofs.Common.{◌≡◌, ℕ, ◌+◌, ◌-◌, ◌<◌, ◌≤◌, inl, inr, ◌⊎◌, suc, Bool, true, false, List, ◌∷◌, length, take, drop, get_or, sym, ap, ◌∙◌, subst, arith}
+use Rattle.std.proofs.Common.{◌≡◌, ℕ, ◌+◌, ◌-◌, ◌<◌, ◌≤◌, inl, inr, suc, true, List, ◌∷◌, length, take, drop, get_or, sym, ap, ◌∙◌, subst, arith}
 use Rattle.std.specs.Prelude.{min}
 use Rattle.std.proofs.lemmas.Bool.{cases_lt}
 use Rattle.std.proofs.lemmas.List.{take_all}
 use Rattle.hfs_fork_pieces.specs.declared.piece.Piece.{Piece}
 use Rattle.hfs_fork_pieces.specs.declared.fork.ForkPieces.{ForkPieces}
 use Rattle.hfs_fork_pieces.specs.declared.reading.Stretch.{Stretch}
-use Rattle.hfs_fork_pieces.specs.Pieces.{source_bytes, skipped, end_of, bytes_from, IsPiece, ArePieces, fork_length, fork_shown}
+use Rattle.hfs_fork_pieces.specs.Pieces.{source_bytes, skipped, end_of, IsPiece, ArePieces, fork_length}
 use Rattle.hfs_fork_pieces.specs.Edits.{EndsBehind, HaveEnded}
-use Rattle.hfs_fork_pieces.specs.Stretches.{stretch_length, stretch_bytes, MayRead, IsReadWhere, IsInBase, IsPart, IsStretch}
+use Rattle.hfs_fork_pieces.specs.Stretches.{stretch_length, MayRead, IsReadWhere, IsPart, IsStretch}
 use Rattle.hfs_fork_pieces.proofs.Placed.{drop-first, may-read, read-in-base, piece-at, ends-within, stretch-shows}
 use Rattle.hfs_fork_pieces.proofs.Edited.{shown-touched, length-touched}
 

@@ -1,6 +1,5 @@
 -- What edits make of pieces.
-use Rattle.std.specs.Prelude.{⊤, ◌≡◌, ℕ, ◌+◌, ◌-◌, ◌≤◌, ◌<◌, ◌^◌, max, Bool, true, false, nat_lt, if◌then◌else◌, List, [], ◌∷◌, ◌++◌, length, take, drop}
-use Rattle.hfs_fork_calls.specs.Forks.{resized, written}
+use Rattle.std.specs.Prelude.{⊤, ◌≡◌, ℕ, ◌+◌, ◌-◌, ◌≤◌, ◌<◌, ◌^◌, true, false, nat_lt, if◌then◌else◌, List, [], ◌∷◌, ◌++◌, length, take, drop}
 use Rattle.hfs_fork_pieces.specs.declared.piece.Source.{Source}
 use Rattle.hfs_fork_pieces.specs.declared.piece.Source.TheVariants.{Base, Zeros, Given}
 use Rattle.hfs_fork_pieces.specs.declared.piece.Piece.{Piece}

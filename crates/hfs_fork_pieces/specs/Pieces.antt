@@ -1,5 +1,5 @@
 -- A file's fork by pieces: the bytes that these show over the bytes of the base's fork.
-use Rattle.std.specs.Prelude.{⊤, ◌≡◌, ℕ, ◌+◌, ◌-◌, ◌≤◌, ◌<◌, ◌^◌, Bool, false, if◌then◌else◌, List, [], ◌∷◌, ◌++◌, length, take, drop, replicate}
+use Rattle.std.specs.Prelude.{⊤, ◌≡◌, ℕ, ◌+◌, ◌-◌, ◌≤◌, ◌<◌, ◌^◌, false, if◌then◌else◌, List, [], ◌∷◌, ◌++◌, length, take, drop, replicate}
 use Rattle.hfs_fork_pieces.specs.declared.piece.Source.{Source}
 use Rattle.hfs_fork_pieces.specs.declared.piece.Source.TheVariants.{Base, Zeros, Given}
 use Rattle.hfs_fork_pieces.specs.declared.piece.Piece.{Piece}

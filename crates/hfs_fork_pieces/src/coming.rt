@@ -1,6 +1,5 @@
 //! The pieces that come where a fork is written or cut.
-ghost use Rattle.std.specs.Prelude.{◌≡◌, ◌+◌, ◌<◌, ◌^◌, ◌++◌, length, take, drop, IfOk};
-ghost use Rattle.std.specs.List.Sorted.{IsNonDecreasingBy};
+ghost use Rattle.std.specs.Prelude.{◌≡◌, ◌+◌, ◌<◌, ◌++◌, take, drop, IfOk};
 ghost use Rattle.hfs_fork_pieces.specs.declared.piece.Piece.{Piece};
 ghost use Rattle.hfs_fork_pieces.specs.Pieces.{end_of};
 ghost use Rattle.hfs_fork_pieces.specs.Edits.{HaveEnded, MaySkipTo, front_of, back_of, come_of};

@@ -1,5 +1,5 @@
 //! Reading a fork by its pieces.
-ghost use Rattle.std.specs.Prelude.{◌+◌, ◌<◌, ◌≤◌, ◌^◌, ◌≡◌};
+ghost use Rattle.std.specs.Prelude.{◌+◌, ◌<◌};
 ghost use Rattle.hfs_fork_pieces.specs.Pieces.{ArePieces, fork_length};
 ghost use Rattle.hfs_fork_pieces.specs.Stretches.{IsPart, IsStretch, MayRead};
 

@@ -1,5 +1,5 @@
 -- The piece of that number is the first of those from it on.
-use Rattle.std.proofs.Common.{◌≡◌, ◌-◌, ℕ, List, length, take, sym, subst, arith}
+use Rattle.std.proofs.Common.{◌-◌, ℕ, List, take, sym, subst, arith}
 use Rattle.hfs_fork_pieces.specs.declared.piece.Piece.{Piece}
 use Rattle.hfs_fork_pieces.specs.Pieces.{end_of}
 use Rattle.hfs_fork_pieces.specs.Edits.{MaySkip, MaySkipTo}

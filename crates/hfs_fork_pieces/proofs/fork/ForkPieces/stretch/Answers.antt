@@ -1,5 +1,5 @@
 -- The piece in which the place is.
-use Rattle.std.proofs.Common.{◌≡◌, ℕ, ◌≤◌, ◌<◌, List, length, get_or, sym, subst, arith}
+use Rattle.std.proofs.Common.{ℕ, ◌≤◌, ◌<◌, List, length, get_or, sym, subst}
 use Rattle.hfs_fork_pieces.specs.declared.piece.Piece.{Piece}
 use Rattle.hfs_fork_pieces.proofs.Placed.{rises-from_row}
 use Rattle.hfs_fork_pieces.proofs.Read.{may-read-there, is-stretch}

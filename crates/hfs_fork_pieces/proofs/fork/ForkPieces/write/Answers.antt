@@ -1,5 +1,5 @@
 -- The bytes come between what stays of the pieces in which they begin and end.
-use Rattle.std.proofs.Common.{◌≡◌, ℕ, ◌+◌, ◌≤◌, ◌<◌, ◌∙◌, List, length, take, drop, get_or, sym, ap, subst, arith}
+use Rattle.std.proofs.Common.{ℕ, ◌+◌, ◌≤◌, ◌<◌, List, length, get_or, sym, ap, subst, arith}
 use Rattle.hfs_fields.proofs.OutcomeLemmas.{on_ok}
 use Rattle.hfs_fork_pieces.specs.declared.piece.Piece.{Piece}
 use Rattle.hfs_fork_pieces.specs.Pieces.{AreRow}

@@ -1,7 +1,6 @@
 -- The vector's own pieces come.
-use Rattle.std.proofs.Common.{◌≡◌, ◌∙◌, List, length, sym, ap, arith}
+use Rattle.std.proofs.Common.{◌∙◌, List, sym, ap, arith}
 use Rattle.std.specs.List.{splice}
-use Rattle.std.specs.Vec.Iter.{into_iter_len}
 use Rattle.std.proofs.lemmas.List.{map-id}
 use Rattle.std.proofs.lemmas.Iterator.{items_from_drains}
 use Rattle.std.proofs.lemmas.Iterator.Adapters.{YieldsList-from_vec}
