@@ -40,7 +40,9 @@ use Rattle.hfs_item_table.specs.declared.row.Row.{Row}
 use Rattle.hfs_item_table.specs.declared.row.RowFork.{RowFork}
 use Rattle.hfs_item_table.specs.declared.row.RowKind.TheVariants.{File as FileRow}
 use Rattle.hfs_item_table.specs.Places.{place, place_cmp}
-use Rattle.hfs_item_table.specs.Tables.{bytes_of, item_of, IsForkIn, IsKindOf}
+use Rattle.hfs_fork_pieces.specs.Pieces.{bytes_from}
+use Rattle.hfs_fork_pieces.specs.Edits.{IsUntouched}
+use Rattle.hfs_item_table.specs.Tables.{base_bytes, bytes_of, item_of, IsForkIn, IsKindOf}
 use Rattle.hfs_view.specs.Opened.{IsRight, Enters, AreRows, AreRowsOf}
 use Rattle.hfs_model.proofs.Facts.{same_some}
 use Rattle.hfs_item_table.proofs.ShownLemmas.{option_map_cond}
@@ -59,25 +61,28 @@ module _ (base image : List ℕ) (f : FileRecord) where
       (record { file = f.id; fork = fork_byte (fork_record k f).0; len = (fork_record k f).1.length; first = (fork_record k f).1.extents })) [ DataFork ↦ h.0 | ResFork ↦ h.1.0 ]
 
   pub fork_in : (fork : Fork) (row : RowFork) → AreForksIn (block_at image) f → row.extents ≡ file_extents (block_at image) fork f
-      → row.size ≡ (fork_record fork f).1.length → IsForkIn mdb row
+      → IsUntouched (fork_record fork f).1.length row.pieces → IsForkIn mdb row
   unfolding file_extents
-  fork_in fork row h are size =
+  fork_in fork row h are untouched =
       let whole = sound fork h in
       record {
+        pieces = untouched.pieces;
         within = subst (AreExtentsWithin mdb.allocation_blocks) (sym are) whole.within;
-        room = subst (λ (n : ℕ). n ≤ block_total row.extents * mdb.allocation_block_size) (sym size)
+        room = subst (λ (n : ℕ). n ≤ block_total row.extents * mdb.allocation_block_size) (sym untouched.base_len)
             (subst (λ (es : List _). (fork_record fork f).1.length ≤ block_total es * mdb.allocation_block_size) (sym are) whole.room);
       }
 
   fork_shown : (fork : Fork) (row : RowFork) → ForksStay base image f → row.extents ≡ file_extents (block_at image) fork f
-      → row.size ≡ (fork_record fork f).1.length → bytes_of base mdb row ≡ bytes_in (block_at image) f.id (fork_record fork f).0 (fork_record fork f).1
+      → IsUntouched (fork_record fork f).1.length row.pieces → bytes_of base mdb row ≡ bytes_in (block_at image) f.id (fork_record fork f).0 (fork_record fork f).1
   unfolding bytes_of bytes_in file_extents
-  fork_shown fork row stay are size = (λ i. fork_bytes (block_at base) mdb (are i) (size i)) ∙ stay fork
+  fork_shown fork row stay are untouched =
+      ap (λ (t : Bool). cond t (bytes_from (base_bytes base mdb row) 0 row.pieces.pieces) (base_bytes base mdb row)) untouched.untouched
+      ∙ (λ i. fork_bytes (block_at base) mdb (are i) (untouched.base_len i)) ∙ stay fork
 
   pub file_shown : (key : CatKey) (has_thread : Bool) (finder kept : List ℕ) (locked : Bool) (d r : RowFork) → ForksStay base image f
       → finder ≡ f.finder_info ++ f.extended_finder_info → kept ≡ file_kept f → locked ≡ is_bit_set 0 f.flags.0
-      → d.extents ≡ file_extents (block_at image) DataFork f → d.size ≡ f.«data».length
-      → r.extents ≡ file_extents (block_at image) ResFork f → r.size ≡ f.resource.length
+      → d.extents ≡ file_extents (block_at image) DataFork f → IsUntouched f.«data».length d.pieces
+      → r.extents ≡ file_extents (block_at image) ResFork f → IsUntouched f.resource.length r.pieces
       → item_of base mdb (record {
         parent = key.parent;
         name = key.name;

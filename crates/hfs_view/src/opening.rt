@@ -4,6 +4,7 @@ ghost use Rattle.hfs_blocks.specs.Blocks.{block_at};
 ghost use Rattle.hfs_check.specs.Parts.{catalog_in};
 ghost use Rattle.hfs_volume.specs.Mounted.{fork_record, AreForksIn};
 ghost use Rattle.hfs_volume.specs.Sharing.{ForksStay};
+ghost use Rattle.hfs_fork_pieces.specs.Edits.{IsUntouched};
 ghost use Rattle.hfs_view.specs.Opened.{AreAllRows, AreRight, AreThreadsOf, Enters, HasChildrenOf, HasExtents, HasForksIn, HasSameEntries, HasSameRows, IsRightIn, ShowsFile, ShowsFolder, TakesRecord, image_catalog, table_over};
 
 use crate::kept::{file_kept, folder_kept};
@@ -11,6 +12,7 @@ use crate::locks::{is_hardware_locked, is_software_locked};
 use crate::threads::ThreadIds;
 use hfs_catalog::{CatalogRecord, is_file, is_folder};
 use hfs_fields::{CatKey, DirRecord, FileRecord, Mdb};
+use hfs_fork_pieces::ForkPieces;
 use hfs_item_table::{Extents, Place, Row, RowFile, RowFork, RowKind, Table};
 use hfs_model::Fork;
 use hfs_volume::{Base, Volume};
@@ -62,7 +64,7 @@ fn fork_row(
     fork: Fork,
 ) -> Result<RowFork, AllocError>
     ensures extents { IfOk result (HasExtents volume.now.current fork file.now) }
-    ensures size { IfOk result (λ f. f.size ≡ (fork_record fork file.now).1.length) }
+    ensures pieces { IfOk result (λ f. IsUntouched (fork_record fork file.now).1.length f.pieces) }
 {
     let extents = volume.file_extents(alloc, file, fork)?;
     let size = match fork {
@@ -71,7 +73,7 @@ fn fork_row(
     };
     Ok(RowFork {
         extents: Extents::new(extents),
-        size,
+        pieces: ForkPieces::untouched(alloc, size),
     })
 }
 
