@@ -12,6 +12,8 @@ mod names;
 #[cfg(test)]
 mod node_bytes;
 #[cfg(test)]
+mod pieces;
+#[cfg(test)]
 mod records;
 #[cfg(test)]
 mod scripts;
