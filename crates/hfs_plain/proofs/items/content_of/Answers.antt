@@ -9,4 +9,4 @@ pub returns : goal.returns
 returns c =
     let all = bytes_in c.args.table.now c.args.fork.now in
     let long = size_is c.args.table.now c.requires.table c.args.fork.now c.requires.fork in
-    c.new.ensures ∙ c.in_ok-bytes.ensures ∙ take_all c.len.result all (omega (arith, long, c.len.ensures))
+    c.new.ensures ∙ c.in_ok-bytes.ensures ∙ take_all c.len-len.result all (omega (arith, long, c.len-len.ensures))
