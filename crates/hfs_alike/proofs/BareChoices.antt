@@ -1,22 +1,32 @@
 -- What calls choose, which no byte of a fork decides.
-use Rattle.std.proofs.Common.{◌≡◌, ℕ, zero, suc, Bool, true, false, cond, List, length, map, Option, Some, None, is_some, Result, Ok, Err, refl, ap, ◌∙◌}
+use Rattle.std.proofs.Common.{◌≡◌, ℕ, zero, suc, ◌+◌, Bool, true, false, cond, List, length, map, Option, Some, None, is_some, Result, Ok, Err, refl, ap, ◌∙◌}
 use Rattle.std.specs.Prelude.{ℤ, not, ◌&&◌, ◌||◌, ◌==◌, nat_lt, if◌then◌else◌, find}
 use Rattle.std.specs.Option.{option_map, option_map_or, ok_or}
 use Rattle.std.proofs.lemmas.List.{length-map}
 use Rattle.hfs_fields.specs.Names.{is_item_name}
-use Rattle.hfs_model.specs.declared.codes.TheConstants.{FOLDER_FULL, BAD_NAME, NOT_FOUND, FILE_LOCKED, BUSY, DUPLICATE, NOT_A_FOLDER, BAD_MOVE, FILE_ID_NOT_FOUND, FILE_ID_EXISTS, NOT_A_FILE}
+use Rattle.hfs_model.specs.declared.codes.TheConstants.{FOLDER_FULL, BAD_NAME, NOT_FOUND, FILE_LOCKED, BUSY, DUPLICATE, NOT_A_FOLDER, BAD_MOVE, END_OF_FILE, PARAMETER, FILE_ID_NOT_FOUND, FILE_ID_EXISTS, NOT_A_FILE}
 use Rattle.hfs_model.specs.Children.{is_folder, is_folder_kind, child_named, valence, entries_of, entry_at}
 use Rattle.hfs_model.specs.Choices.{and_then, is_locked, lock_code, is_busy, is_full, is_held, is_other_named, is_taken, lies_in, is_bad_move, child_to_change, file_to_change, unless_locked_file, to_create, to_delete, to_rename, to_move, to_set_f_info, to_set_cat_info}
+use Rattle.hfs_model.specs.Forks.{fork_bytes}
+use Rattle.hfs_model.specs.ForkCalls.{file_to_write, to_set_eof, unless_past_end, to_write_fork}
+use Rattle.hfs_model.specs.declared.call.Fork.{Fork}
+use Rattle.hfs_model.specs.declared.call.Fork.TheVariants.{DataFork, ResFork}
+use Rattle.hfs_model.specs.declared.item.Kind.{Kind}
 use Rattle.hfs_model.specs.FileIds.{unless_has_thread, if_has_thread, file_of_id, to_create_file_id, to_delete_file_id, place_reply}
 use Rattle.hfs_model.specs.Replies.{is_locked_file, has_thread}
 use Rattle.hfs_model.specs.Volume.{Entry, Volume}
-use Rattle.hfs_alike.specs.Alike.{bare, bare_volume}
-use Rattle.hfs_alike.proofs.BareEntries.{folder-bare, locked-bare, thread-bare, find-bare, or-bare, some-bare, entry_at-bare, child_named-bare, is_folder-bare, valence-bare, entries-bare}
+use Rattle.hfs_alike.specs.Alike.{bare_kind, bare, bare_volume}
+use Rattle.hfs_alike.proofs.BareEntries.{folder-bare, locked-bare, thread-bare, data-bare, resource-bare, find-bare, or-bare, some-bare, entry_at-bare, child_named-bare, is_folder-bare, valence-bare, entries-bare}
 
 -- the chosen entry with zeros in its forks
 abbrev pub bare_choice : (ℕ → Bool) → Result Entry ℤ → Result Entry ℤ
 bare_choice keep (Ok e) = Ok (bare keep e)
 bare_choice keep (Err code) = Err code
+
+-- a fork stays as long
+pub fork-bare : (fork : Fork) (kept : Bool) (k : Kind) → length (fork_bytes fork (bare_kind kept k)) ≡ length (fork_bytes fork k)
+fork-bare DataFork kept k = data-bare kept k
+fork-bare ResFork kept k = resource-bare kept k
 
 module _ (keep : ℕ → Bool) where
   -- ---- choices one behind the other
@@ -218,3 +228,27 @@ module _ (keep : ℕ → Bool) where
     unfolding to_delete_file_id
     to_delete_file_id-bare id = err-or (is_locked v) (lock_code v) (file_of_id (entries_of (bare_volume keep v)) id) (file_of_id es id)
         (ap (λ (l : List Entry). file_of_id l id) are ∙ file_of_id-bare es id)
+
+    file_to_write-bare : (dir : ℕ) (name : List ℕ) → file_to_write (bare_volume keep v) dir name ≡ bare_choice keep (file_to_write v dir name)
+    file_to_write-bare dir name =
+        ap (λ (r : Result Entry ℤ). and_then r unless_locked_file) (file_to_change-bare dir name)
+        ∙ then-bare (file_to_change v dir name) unless_locked_file unless_locked_file unless_locked-bare
+
+    pub to_set_eof-bare : (dir : ℕ) (name : List ℕ) (length : ℕ) → to_set_eof (bare_volume keep v) dir name length ≡ bare_choice keep (to_set_eof v dir name length)
+    unfolding to_set_eof
+    to_set_eof-bare dir name length =
+        err-or (nat_lt 2147483647 length) PARAMETER (file_to_write (bare_volume keep v) dir name) (file_to_write v dir name) (file_to_write-bare dir name)
+
+    past_end-bare : (fork : Fork) (offset : ℕ) (e : Entry) → unless_past_end fork offset (bare keep e) ≡ bare_choice keep (unless_past_end fork offset e)
+    past_end-bare fork offset e =
+        ap (λ (n : ℕ). cond (nat_lt n offset) (Err END_OF_FILE) (Ok (bare keep e))) (fork-bare fork (keep e.0) e.1.kind)
+        ∙ err-or (nat_lt (length (fork_bytes fork e.1.kind)) offset) END_OF_FILE (Ok (bare keep e)) (Ok e) refl
+
+    pub to_write_fork-bare : (dir : ℕ) (name : List ℕ) (fork : Fork) (offset : ℕ) (bytes : List ℕ)
+        → to_write_fork (bare_volume keep v) dir name fork offset bytes ≡ bare_choice keep (to_write_fork v dir name fork offset bytes)
+    unfolding to_write_fork
+    to_write_fork-bare dir name fork offset bytes =
+        err-or (nat_lt 65536 (length bytes) || nat_lt 2147483647 (offset + length bytes)) PARAMETER
+        (and_then (file_to_write (bare_volume keep v) dir name) (unless_past_end fork offset)) (and_then (file_to_write v dir name) (unless_past_end fork offset))
+        (ap (λ (r : Result Entry ℤ). and_then r (unless_past_end fork offset)) (file_to_write-bare dir name)
+        ∙ then-bare (file_to_write v dir name) (unless_past_end fork offset) (unless_past_end fork offset) (past_end-bare fork offset))

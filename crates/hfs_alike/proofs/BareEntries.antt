@@ -1,6 +1,6 @@
 -- Entries with zeros in their forks: what is found among them is what is found among the entries themselves.
 use Rattle.std.proofs.Common.{◌≡◌, ℕ, ◌+◌, Bool, true, false, cond, List, [], ◌∷◌, length, map, Option, Some, None, is_some, refl, sym, ap, subst, ◌∙◌}
-use Rattle.std.specs.Prelude.{T, find, fold, ◌&&◌}
+use Rattle.std.specs.Prelude.{T, find, fold, replicate, ◌&&◌}
 use Rattle.std.specs.declared.cmp.Ordering.{Ordering}
 use Rattle.std.specs.declared.cmp.Ordering.TheVariants.{Less, Equal, Greater}
 use Rattle.std.specs.Cmp.{nat_cmp_total}
@@ -19,8 +19,6 @@ use Rattle.hfs_model.specs.Children.{is_folder_kind, has_id, entry_at, is_folder
 use Rattle.hfs_model.specs.Replies.{data_of, resource_of, has_thread, is_locked_file, item_kind_of}
 use Rattle.hfs_model.specs.Volume.{Entry, Items}
 use Rattle.hfs_alike.specs.Alike.{bare_kind, bare_item, bare, bare_items}
-
--- ---- what a kind tells
 
 -- ---- what a kind tells
 
@@ -121,6 +119,18 @@ module _ (keep : ℕ → Bool) where
   map-bare f g same [] = refl
   map-bare f g same (e ∷ es) = λ i. same e i ∷ map-bare f g same es i
 
+  -- zeros once are zeros twice
+  pub twice-kind : (kept : Bool) (k : Kind) → bare_kind kept (bare_kind kept k) ≡ bare_kind kept k
+  twice-kind true k = refl
+  twice-kind false (Folder kept) = refl
+  twice-kind false (File file) =
+      let d = length-replicate {A = ℕ} (length file.«data») 0 in
+      let r = length-replicate {A = ℕ} (length file.resource) 0 in
+      λ i. File (record file { «data» = replicate (d i) 0; resource = replicate (r i) 0 })
+
+  twice : (e : Entry) → bare keep (bare keep e) ≡ bare keep e
+  twice e = ap (λ (k : Kind). (e.0, record e.1 { kind = k })) (twice-kind (keep e.0) e.1.kind)
+
   -- ---- the map of items
 
   below-bare : (x : ℕ) (es : List Entry) → entries.below_all nat_cmp x (map (bare keep) es) ≡ entries.below_all nat_cmp x es
@@ -134,6 +144,11 @@ module _ (keep : ℕ → Bool) where
   pub entries-bare : (items : Items) → fin.entries (bare_items keep items) ≡ map (bare keep) (fin.entries items)
   entries-bare items =
       fin.entries-from_sorted nat_cmp (map (bare keep) (fin.entries items)) (subst T (sym (sorted-bare (fin.entries items))) (fin.entries_sorted items))
+
+  pub items-twice : (items : Items) → bare_items keep (bare_items keep items) ≡ bare_items keep items
+  items-twice items =
+      ap (λ (es : List Entry). fin.from_sorted (map (bare keep) es)) (entries-bare items)
+      ∙ ap (λ (es : List Entry). fin.from_sorted es) (map-bare (bare keep) (bare keep) twice (fin.entries items))
 
   -- at a key
   lookup-bare : (q : ℕ) (es : List Entry) → entries.find nat_cmp q (map (bare keep) es) ≡ option_map (bare_item (keep q)) (entries.find nat_cmp q es)

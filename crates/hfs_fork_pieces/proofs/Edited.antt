@@ -4,7 +4,7 @@ use Rattle.std.specs.Prelude.{max, min}
 use Rattle.std.specs.List.{splice}
 use Rattle.std.proofs.lemmas.Bool.{cases_lt, true≢false}
 use Rattle.std.proofs.lemmas.List.{append_assoc, drop-drop, drop_all, take_all, take-append-le, take-append-drop, length-replicate}
-use Rattle.hfs_fork_calls.specs.Forks.{resized, laid_over, written}
+use Rattle.hfs_model.specs.Forks.{resized, laid_over, written}
 use Rattle.hfs_fork_pieces.specs.declared.piece.Source.TheVariants.{Base, Zeros, Given}
 use Rattle.hfs_fork_pieces.specs.declared.piece.Piece.{Piece}
 use Rattle.hfs_fork_pieces.specs.declared.fork.ForkPieces.{ForkPieces}

@@ -1,6 +1,6 @@
 //! A file's fork by pieces.
 ghost use Rattle.std.specs.Prelude.{◌≡◌, ◌+◌, ◌<◌, ◌≤◌, ◌^◌, true, take, length, OnOk, OnErr};
-ghost use Rattle.hfs_fork_calls.specs.Forks.{resized, written};
+ghost use Rattle.hfs_model.specs.Forks.{resized, written};
 ghost use Rattle.hfs_fork_pieces.specs.Pieces.{ArePieces, fork_length};
 ghost use Rattle.hfs_fork_pieces.specs.Edits.{IsUntouched, IsTouched, Keeps, Makes};
 

@@ -18,7 +18,7 @@ use Rattle.hfs_model.specs.Changes.{change}
 use Rattle.hfs_model.specs.Lawful.{Has}
 use Rattle.hfs_model.proofs.Facts.{same_some, none_is_some}
 use Rattle.hfs_space.specs.Extents.{block_total}
-use Rattle.hfs_fork_calls.specs.Forks.{physical_length, with_physical_length, fork_bytes, kind_with_fork, item_with_fork}
+use Rattle.hfs_model.specs.Forks.{physical_length, with_physical_length, fork_bytes, kind_with_fork, item_with_fork}
 use Rattle.hfs_fork_pieces.specs.declared.fork.ForkPieces.{ForkPieces}
 use Rattle.hfs_fork_pieces.specs.Pieces.{ArePieces, fork_length, fork_shown}
 use Rattle.hfs_fork_pieces.specs.Edits.{Keeps, Makes}

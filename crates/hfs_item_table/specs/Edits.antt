@@ -6,7 +6,7 @@ use Rattle.std.specs.BTreeMap as tree
 use Rattle.std.specs.FinMap as finite
 use Rattle.hfs_fields.specs.declared.mdb.Mdb.{Mdb}
 use Rattle.hfs_model.specs.declared.item.Kind.{Kind}
-use Rattle.hfs_fork_calls.specs.ForkCalls.{set_eof, write_fork}
+use Rattle.hfs_model.specs.ForkCalls.{set_eof, write_fork}
 use Rattle.hfs_model.specs.declared.call.Fork.{Fork}
 use Rattle.hfs_model.specs.Changes.{cat_move, create, rename, set_cat_info}
 use Rattle.hfs_model.specs.Children.{is_folder, child_named, valence}

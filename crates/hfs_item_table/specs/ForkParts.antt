@@ -1,7 +1,7 @@
 -- Parts of a fork's bytes.
 use Rattle.std.specs.Prelude.{◌≡◌, ℕ, ◌+◌, ◌≤◌, ◌<◌, ◌^◌, List, ◌++◌, length}
 use Rattle.hfs_model.specs.declared.call.Fork.{Fork}
-use Rattle.hfs_fork_calls.specs.Forks.{fork_bytes}
+use Rattle.hfs_model.specs.Forks.{fork_bytes}
 use Rattle.hfs_space.specs.Forks.{read_from}
 use Rattle.hfs_item_table.specs.declared.table.Table.{Table}
 use Rattle.hfs_item_table.specs.declared.table.Found.{Found}

@@ -4,7 +4,7 @@ use Rattle.std.specs.Ordering.{nat_cmp}
 use Rattle.std.specs.BTreeMap as tree
 use Rattle.hfs_model.specs.declared.call.Fork.{Fork}
 use Rattle.hfs_model.specs.declared.call.Fork.TheVariants.{DataFork, ResFork}
-use Rattle.hfs_fork_calls.specs.Forks.{resized, written, physical_length, with_physical_length}
+use Rattle.hfs_model.specs.Forks.{resized, written, physical_length, with_physical_length}
 use Rattle.hfs_fork_pieces.specs.declared.fork.ForkPieces.{ForkPieces}
 use Rattle.hfs_fork_pieces.specs.Pieces.{ArePieces, fork_length}
 use Rattle.hfs_fork_pieces.specs.Edits.{Keeps, Makes}

@@ -261,7 +261,9 @@ impl Table {
             | Call::GetIndexed { .. }
             | Call::List { .. }
             | Call::ReadFork { .. }
-            | Call::ResolveFileId { .. } => unreachable!(),
+            | Call::ResolveFileId { .. }
+            | Call::SetEof { .. }
+            | Call::WriteFork { .. } => unreachable!(),
         }
     }
 
@@ -289,6 +291,21 @@ impl Table {
                 new_dir,
                 now,
             } => self.cat_move(*dir, name.as_slice(), *new_dir, *now),
+            Call::SetEof {
+                dir,
+                name,
+                fork,
+                length,
+                now,
+            } => self.set_eof(alloc, *dir, name.as_slice(), *fork, *length, *now),
+            Call::WriteFork {
+                dir,
+                name,
+                fork,
+                offset,
+                bytes,
+                now,
+            } => self.write_fork(alloc, *dir, name.as_slice(), *fork, *offset, bytes, *now),
             Call::SetFInfo { .. }
             | Call::SetCatInfo { .. }
             | Call::SetFLock { .. }

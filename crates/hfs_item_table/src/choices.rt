@@ -4,8 +4,8 @@ ghost use Rattle.hfs_fields.specs.Names.{is_item_name};
 ghost use Rattle.hfs_model.specs.Choices.{is_locked, lock_code, child_to_change, file_to_change, to_set_f_info, to_set_cat_info, to_create, to_delete, to_rename, to_move, is_busy, is_full, is_held, is_taken, lies_in};
 ghost use Rattle.hfs_model.specs.Children.{is_folder};
 ghost use Rattle.hfs_model.specs.FileIds.{file_of_id, to_create_file_id, to_delete_file_id};
-ghost use Rattle.hfs_fork_calls.specs.ForkCalls.{to_set_eof, to_write_fork};
-ghost use Rattle.hfs_fork_calls.specs.Forks.{fork_bytes};
+ghost use Rattle.hfs_model.specs.ForkCalls.{to_set_eof, to_write_fork};
+ghost use Rattle.hfs_model.specs.Forks.{fork_bytes};
 ghost use Rattle.hfs_item_table.specs.ForkParts.{MayWrite};
 ghost use Rattle.hfs_item_table.specs.Edits.{Chooses, chosen_of, IsFound, MayAdd};
 ghost use Rattle.hfs_item_table.specs.Tables.{kind_of, volume_of, IsTable, table_entries, row_entry, IsKindIn, moves_into_itself};
@@ -97,7 +97,7 @@ impl Table {
     }
 
     /// The file whose fork gets another length.
-    #[tactic(auto, unfolding(hfs_fork_calls::specs::ForkCalls::to_set_eof, hfs_model::specs::Choices::to_set_f_info))]
+    #[tactic(auto, unfolding(hfs_model::specs::ForkCalls::to_set_eof, hfs_model::specs::Choices::to_set_f_info))]
     pub(crate) fn to_set_eof(&self, dir: u32, name: &[u8], length: u32) -> Result<Found<'_>, i16>
         requires { IsTable self.now }
         ensures choice { Chooses self.now (λ v. to_set_eof v dir name.now length) result }
@@ -125,7 +125,7 @@ impl Table {
     }
 
     /// The file over a fork of which so many bytes are written from an offset on.
-    #[tactic(auto, unfolding(hfs_fork_calls::specs::ForkCalls::to_write_fork, hfs_model::specs::Choices::to_set_f_info))]
+    #[tactic(auto, unfolding(hfs_model::specs::ForkCalls::to_write_fork, hfs_model::specs::Choices::to_set_f_info))]
     pub(crate) fn to_write_fork(
         &self,
         dir: u32,

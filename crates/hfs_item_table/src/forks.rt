@@ -4,7 +4,7 @@ ghost use Rattle.std.specs.Ordering.{nat_cmp};
 ghost use Rattle.std.specs.BTreeMap as tree;
 ghost use Rattle.byteorder.specs.Endian.{big_bytes};
 ghost use Rattle.hfs_model.specs.declared.call.Fork.TheVariants.{DataFork, ResFork};
-ghost use Rattle.hfs_fork_calls.specs.Forks.{laid_over, physical_length, with_physical_length};
+ghost use Rattle.hfs_model.specs.Forks.{laid_over, physical_length, with_physical_length};
 ghost use Rattle.hfs_fork_pieces.specs.Pieces.{ArePieces};
 ghost use Rattle.hfs_fork_pieces.specs.Edits.{Keeps, Makes};
 ghost use Rattle.hfs_item_table.specs.declared.row.Row.{Row};
@@ -27,7 +27,7 @@ pub enum ForkEdit<'a> {
 }
 
 /// Writes the four lowest bytes of a number over a file's kept bytes, the highest of them first.
-#[tactic(auto, using(hfs_fork_calls::proofs::ForkLemmas::four_of_eight))]
+#[tactic(auto, using(hfs_model::proofs::ForkLemmas::four_of_eight))]
 fn put_number(kept: &mut [u8; 102], at: usize, number: u64)
     requires { at ≤ 98 }
     ensures { kept.new ≡ laid_over at (big_bytes 4 number) kept.old }
@@ -38,7 +38,7 @@ fn put_number(kept: &mut [u8; 102], at: usize, number: u64)
 }
 
 /// Sets the physical length of a fork among a file's kept bytes.
-#[tactic(auto, unfolding(hfs_fork_calls::specs::Forks::with_physical_length))]
+#[tactic(auto, unfolding(hfs_model::specs::Forks::with_physical_length))]
 fn set_physical_length(kept: &mut [u8; 102], fork: Fork, bytes: u64)
     ensures { kept.new ≡ with_physical_length fork bytes kept.old }
 {

@@ -1,5 +1,5 @@
 //! Forks that are written: codes, bytes, lengths and dates by hand. Blocks have 512 bytes where nothing else is said.
-use crate::fixture::{root_item, volume};
+use crate::fixture::{Ask, call_of, root_item, volume};
 use hfs_model::{File, Fork, Kind, Value};
 use hfs_store::PlainVolume;
 use std::alloc::{AllocError, Global};
@@ -77,6 +77,28 @@ fn with_a(alloc: Global) -> Result<PlainVolume, Fail> {
     let mut plain = volume(alloc)?;
     plain.create(2, b"a", 1)?;
     Ok(plain)
+}
+
+/// The code of a call at moment 7, of which a copy is made.
+fn code(alloc: Global, plain: &mut PlainVolume, ask: &Ask) -> Result<i16, Fail> {
+    let call = call_of(alloc, ask, 7)?.copied()?;
+    let reply = plain.call(&call)?;
+    Ok(reply.code)
+}
+
+/// The same calls, as calls of the model.
+#[test]
+fn calls_write_forks(rt: HostRuntime) -> Result<(), Fail> {
+    let mut plain = with_a(rt.alloc())?;
+    let first = code(rt.alloc(), &mut plain, &Ask::Write(2, b"a", 0, b"hello"))?;
+    assert!(rt; first == 0 && is_data(&plain, b"hello")?);
+    let second = code(rt.alloc(), &mut plain, &Ask::SetEof(2, b"a", 3))?;
+    assert!(rt; second == 0 && is_data(&plain, b"hel")?);
+    assert!(rt; lengths(&plain) == Some((3, 0, 7)) && plain.changed() == 7);
+    assert!(rt; physical_lengths(&plain) == Some((512, 0)));
+    let third = code(rt.alloc(), &mut plain, &Ask::Write(2, b"a", 4, b"x"))?;
+    assert!(rt; third == -39 && is_data(&plain, b"hel")?);
+    Ok(())
 }
 
 /// Five bytes are written and read, and change length, physical length and both moments.

@@ -17,7 +17,7 @@ use Rattle.hfs_check.specs.Agree.{Agrees, bitmap_blocks, node_blocks, changing_b
 use Rattle.hfs_check.specs.Parts.{Blocks, mdb_in, extents_blocks, extents_nodes, catalog_extents, catalog_blocks, catalog_nodes}
 use Rattle.hfs_check.specs.Sound.{AreBlocksSound, IsSound, IsImageLength}
 use Rattle.hfs_sparse.specs.Sparse.{sparse, IsOf}
-use Rattle.hfs_volume.specs.Image.{ImageValue, image_of, patched, copy_of}
+use Rattle.hfs_volume.specs.Image.{ImageValue, patched, copy_of}
 use Rattle.hfs_volume.specs.Laid.{laid, laid_from}
 use Rattle.hfs_volume.proofs.Laid.{AreBlocks-over, block_at-laid}
 use Rattle.hfs_volume.proofs.CopyLemmas.{length-copy}
@@ -153,10 +153,10 @@ module _ (read : Numbered) (len count : ℕ) (mdb : Mdb) (trees : VolumeTrees) (
 
   -- what a run made of the copy
   module _ (lines : List ScriptLine) (volume : ImageValue) (text : List ℕ) (all shown : Bool) (ran : AreLinesRun copy lines volume text all shown)
-      (changed kept : Numbered) (is-volume : volume ≡ image_of volume.base changed) (whole : AreWhole (changes changed))
+      (changed kept : Numbered) (is-current : volume.current ≡ patched changed volume.base) (whole : AreWhole (changes changed))
       (are : AreChangedIn (working_blocks count (sparse read)) changed kept) where
     current-is : volume.current ≡ patched changed copy
-    current-is = ap (λ (v : ImageValue). v.current) is-volume ∙ ap (patched changed) ran.base_is
+    current-is = is-current ∙ ap (patched changed) ran.base_is
 
     agrees-over : Agrees copy (patched changed copy)
     agrees-over = subst (λ (bytes : List ℕ). Agrees copy bytes) current-is ran.agrees

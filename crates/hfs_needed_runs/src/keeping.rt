@@ -6,10 +6,11 @@ ghost use Rattle.hfs_blocks.specs.Layers.{changes, AreWhole};
 ghost use Rattle.hfs_needed_runs.specs.Keeping.{AreChangedIn, AreNumbered, GainsChanged};
 
 use hfs_blocks::{Patch, Run};
+use hfs_changed_blocks::ChangedBlocks;
 use std::alloc::{AllocError, Global};
 
 /// Puts in block `n`, where it was changed.
-fn keep_block(kept: &mut Patch, changed: &Patch, n: u32) -> Result<(), AllocError>
+fn keep_block(kept: &mut Patch, changed: &ChangedBlocks, n: u32) -> Result<(), AllocError>
     ensures kept { OnOk result (GainsChanged (n ∷ []) changed.now kept.old kept.new) }
     ensures whole { AreWhole (changes changed.now) }
 {
@@ -20,7 +21,7 @@ fn keep_block(kept: &mut Patch, changed: &Patch, n: u32) -> Result<(), AllocErro
 }
 
 /// Puts in those of `count` blocks from number `first` on that were changed.
-fn keep_range(kept: &mut Patch, changed: &Patch, first: u32, count: u32) -> Result<(), AllocError>
+fn keep_range(kept: &mut Patch, changed: &ChangedBlocks, first: u32, count: u32) -> Result<(), AllocError>
     requires { first + count ≤ 4294967296 }
     ensures { OnOk result
         (GainsChanged (range_with_len first count) changed.now kept.old kept.new) }
@@ -34,7 +35,7 @@ fn keep_range(kept: &mut Patch, changed: &Patch, first: u32, count: u32) -> Resu
 /// Those of the changed blocks of a volume that are its master directory block or lie in these runs. Calls change none but working blocks,
 /// so where these are the runs of the others nothing is lost. A patch may have other blocks, as they were in the copy, and the image has
 /// other bytes there. The only error is want of memory.
-pub fn kept_in(alloc: Global, changed: &Patch, runs: &[Run]) -> Result<Patch, AllocError>
+pub fn kept_in(alloc: Global, changed: &ChangedBlocks, runs: &[Run]) -> Result<Patch, AllocError>
     requires { AreNumbered runs.now }
     ensures kept { IfOk result (AreChangedIn (2 ∷ flat_map run_of runs.now) changed.now) }
     ensures whole { AreWhole (changes changed.now) }

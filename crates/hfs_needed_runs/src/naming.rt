@@ -27,6 +27,8 @@ pub(crate) fn named_by(call: &Call) -> Option<(u32, &[u8])>
         Call::SetFLock { dir, name, .. } => Some((*dir, name.as_slice())),
         Call::RstFLock { dir, name, .. } => Some((*dir, name.as_slice())),
         Call::CreateFileId { dir, name, .. } => Some((*dir, name.as_slice())),
+        Call::SetEof { dir, name, .. } => Some((*dir, name.as_slice())),
+        Call::WriteFork { dir, name, .. } => Some((*dir, name.as_slice())),
     }
 }
 
@@ -42,6 +44,7 @@ fn reads_fork(call: &Call) -> bool
         Call::SetFInfo { .. } | Call::SetCatInfo { .. } | Call::SetFLock { .. } => false,
         Call::RstFLock { .. } | Call::CreateFileId { .. } => false,
         Call::DeleteFileId { .. } | Call::ResolveFileId { .. } => false,
+        Call::SetEof { .. } | Call::WriteFork { .. } => false,
     }
 }
 

@@ -5,7 +5,6 @@ use Rattle.hfs_model.specs.declared.call.Call.{Call}
 use Rattle.hfs_model.specs.declared.reply.Reply.{Reply}
 use Rattle.hfs_model.specs.declared.journal.Entry.{Entry}
 use Rattle.hfs_model.specs.Volume.{Volume}
-use Rattle.hfs_model.specs.Changes.{Outcome}
 use Rattle.hfs_model.specs.Runs.{after}
 use Rattle.hfs_check.specs.Agree.{Agrees}
 use Rattle.hfs_check.specs.VolumeOf.{volume_of}
@@ -48,7 +47,8 @@ is_call book base s t p q c r x base_is a told_is =
           image = s.current;
           agrees = subst (λ (b : List ℕ). Agrees b s.current) (sym a.base ∙ base_is) a.headline.agrees;
           volume_is = v_is;
-          reply_is = ap (λ (o : Outcome). o.1) a.outcome;
+          left = volume_of t.current;
+          outcome = a.outcome;
         };
         told_is = subst (λ (es : List Entry). IsToldOf book opening es x) a.journal told_is;
       },

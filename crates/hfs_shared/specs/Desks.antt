@@ -13,7 +13,7 @@ use Rattle.hfs_model.specs.Step.{is_reading}
 use Rattle.hfs_model.specs.Runs.{after}
 use Rattle.hfs_check.specs.Agree.{Agrees}
 use Rattle.hfs_check.specs.VolumeOf.{volume_of}
-use Rattle.hfs_volume.specs.Serving.{outcome_in}
+use Rattle.hfs_volume.specs.Serving.{IsOutcomeIn}
 use Rattle.hfs_published.specs.Journals.{IsLegal, made_by}
 
 -- the image as it was mounted, the image as it is, the journal, and how many workers there are
@@ -64,6 +64,8 @@ want_in (value.One info) = None
 want_in (value.Many infos) = None
 want_in (value.Bytes bytes) = None
 want_in (value.Full free depth) = Some (want.Nodes free depth)
+want_in (value.Room free wanted) = Some (want.Room free wanted)
+want_in (value.ExtentNodes free depth) = Some (want.ExtentNodes free depth)
 want_in (value.Place dir name) = None
 
 -- what a reply says of want
@@ -81,7 +83,7 @@ pub record IsApplied (s : DeskState) (p : PassState) (c : Call) (r : Reply) (t :
   pub journal : t.journal ≡ s.journal ++ entry_of p c r ∷ []
   pub pass : q ≡ pass_state p.worker (p.number + 1)
   pub wanted_is : p.number ≡ wanted s.workers s.journal p.worker
-  pub outcome : (volume_of t.current, r) ≡ outcome_in s.current c
+  pub outcome : IsOutcomeIn s.current c (volume_of t.current, r)
   pub refused : r.code ≢ pos 0 → t.current ≡ s.current
   pub reading : IsTrue (is_reading c) → t.current ≡ s.current
   pub headline : IsHeadline s.base s.current s.journal

@@ -144,6 +144,14 @@ fn want_in(value: &Value) -> Option<Want>
             free: *free,
             depth: *depth,
         }),
+        Value::Room { free, wanted } => Some(Want::Room {
+            free: *free,
+            wanted: *wanted,
+        }),
+        Value::ExtentNodes { free, depth } => Some(Want::ExtentNodes {
+            free: *free,
+            depth: *depth,
+        }),
         Value::Nothing
         | Value::Id(_)
         | Value::One(_)

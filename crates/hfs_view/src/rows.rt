@@ -112,7 +112,9 @@ impl Rows {
             | Call::SetFLock { .. }
             | Call::RstFLock { .. }
             | Call::CreateFileId { .. }
-            | Call::DeleteFileId { .. } => unreachable!(),
+            | Call::DeleteFileId { .. }
+            | Call::SetEof { .. }
+            | Call::WriteFork { .. } => unreachable!(),
         }
     }
 }

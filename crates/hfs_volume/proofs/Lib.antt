@@ -20,3 +20,4 @@ pub mod Outcomes
 pub mod RunSteps
 pub mod LayoutLemmas
 pub mod SharingLaws
+pub mod BlocksWritten

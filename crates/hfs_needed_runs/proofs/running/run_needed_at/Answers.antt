@@ -15,7 +15,7 @@ returns-clause-ran g c =
     c.args.script c.in_ok-volume.field-0.volume (text_of_pieces c.in_ok-volume.field-0.answers) c.in_ok-volume.field-0.whole c.in_ok-volume.field-0.shown
     (subst (λ (base : List ℕ). AreLinesRun base c.args.script c.in_ok-volume.field-0.volume (text_of_pieces c.in_ok-volume.field-0.answers) c.in_ok-volume.field-0.whole
     c.in_ok-volume.field-0.shown) c.in-Ok.ensures.current c.in_ok-volume.ensures.ok)
-    c.changes.result.now c.in_ok-patch.patch c.changes.ensures c.in_ok-patch.ensures.whole
+    c.changes.result.now c.in_ok-patch.patch c.changes.ensures.current c.in_ok-patch.ensures.whole
     (subst (λ (ns : List ℕ). AreChangedIn ns c.changes.result.now c.in_ok-patch.patch)
     (ap (λ (runs : List Run). 2 ∷ flat_map run_of runs) c.deref.ensures.value ∙ c.in_ok-places.ensures.numbers) c.in_ok-patch.ensures.kept)
 
@@ -25,7 +25,7 @@ returns-clause-within g c =
     c.args.script c.in_ok-volume.field-0.volume (text_of_pieces c.in_ok-volume.field-0.answers) c.in_ok-volume.field-0.whole c.in_ok-volume.field-0.shown
     (subst (λ (base : List ℕ). AreLinesRun base c.args.script c.in_ok-volume.field-0.volume (text_of_pieces c.in_ok-volume.field-0.answers) c.in_ok-volume.field-0.whole
     c.in_ok-volume.field-0.shown) c.in-Ok.ensures.current c.in_ok-volume.ensures.ok)
-    c.changes.result.now c.in_ok-patch.patch c.changes.ensures c.in_ok-patch.ensures.whole
+    c.changes.result.now c.in_ok-patch.patch c.changes.ensures.current c.in_ok-patch.ensures.whole
     (subst (λ (ns : List ℕ). AreChangedIn ns c.changes.result.now c.in_ok-patch.patch)
     (ap (λ (runs : List Run). 2 ∷ flat_map run_of runs) c.deref.ensures.value ∙ c.in_ok-places.ensures.numbers) c.in_ok-patch.ensures.kept)
 
@@ -35,6 +35,6 @@ returns-clause-carried g c =
     c.args.script c.in_ok-volume.field-0.volume (text_of_pieces c.in_ok-volume.field-0.answers) c.in_ok-volume.field-0.whole c.in_ok-volume.field-0.shown
     (subst (λ (base : List ℕ). AreLinesRun base c.args.script c.in_ok-volume.field-0.volume (text_of_pieces c.in_ok-volume.field-0.answers) c.in_ok-volume.field-0.whole
     c.in_ok-volume.field-0.shown) c.in-Ok.ensures.current c.in_ok-volume.ensures.ok)
-    c.changes.result.now c.in_ok-patch.patch c.changes.ensures c.in_ok-patch.ensures.whole
+    c.changes.result.now c.in_ok-patch.patch c.changes.ensures.current c.in_ok-patch.ensures.whole
     (subst (λ (ns : List ℕ). AreChangedIn ns c.changes.result.now c.in_ok-patch.patch)
     (ap (λ (runs : List Run). 2 ∷ flat_map run_of runs) c.deref.ensures.value ∙ c.in_ok-places.ensures.numbers) c.in_ok-patch.ensures.kept)

@@ -1,6 +1,6 @@
 -- A fork has as many bytes as its length says.
 use Rattle.std.proofs.Common.{◌∙◌, length, sym, subst}
-use Rattle.hfs_fork_calls.specs.Forks.{fork_bytes}
+use Rattle.hfs_model.specs.Forks.{fork_bytes}
 use Rattle.hfs_item_table.specs.Tables.{items_of, kind_of, IsKindOf}
 use Rattle.hfs_item_table.proofs.LookedUp.{size_is}
 use Rattle.hfs_item_table.proofs.table.Table.fork_len.Goals as goal

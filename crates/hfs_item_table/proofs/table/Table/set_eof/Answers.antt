@@ -1,6 +1,6 @@
 -- The row of the chosen file shows its first bytes, with zeros after them.
-use Rattle.hfs_fork_calls.specs.Forks.{resized}
-use Rattle.hfs_fork_calls.specs.ForkCalls.{set_eof}
+use Rattle.hfs_model.specs.Forks.{resized}
+use Rattle.hfs_model.specs.ForkCalls.{set_eof}
 use Rattle.hfs_item_table.specs.Tables.{item_of}
 use Rattle.hfs_item_table.proofs.Left.{refused}
 use Rattle.hfs_item_table.proofs.ForkLemmas.{edited, kept, on_err}

@@ -1,8 +1,8 @@
 -- The row of the chosen file shows the bytes in their place.
 use Rattle.std.proofs.Common.{◌≡◌, ℕ, List, sym, subst, ap, ◌∙◌, Result, ℤ}
 use Rattle.hfs_model.specs.Volume.{Entry}
-use Rattle.hfs_fork_calls.specs.Forks.{written}
-use Rattle.hfs_fork_calls.specs.ForkCalls.{write_fork, to_write_fork}
+use Rattle.hfs_model.specs.Forks.{written}
+use Rattle.hfs_model.specs.ForkCalls.{write_fork, to_write_fork}
 use Rattle.hfs_item_table.specs.Edits.{chosen_of}
 use Rattle.hfs_item_table.specs.ForkParts.{MayWrite}
 use Rattle.hfs_item_table.specs.Tables.{item_of, volume_of}

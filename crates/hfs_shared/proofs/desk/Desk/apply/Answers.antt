@@ -4,7 +4,7 @@ use Rattle.std.proofs.lemmas.List.{length-set}
 use Rattle.hfs_model.specs.declared.journal.Entry.{Entry}
 use Rattle.hfs_check.specs.Agree.{Agrees}
 use Rattle.hfs_check.specs.VolumeOf.{volume_of}
-use Rattle.hfs_volume.specs.Serving.{outcome_in}
+use Rattle.hfs_volume.specs.Serving.{IsOutcomeIn}
 use Rattle.hfs_published.specs.Journals.{made_by}
 use Rattle.hfs_shared.specs.Desks.{DeskState, IsHeadline, IsCounted, wanted, entry_of, pass_state}
 use Rattle.hfs_shared.proofs.Headline.{headline_more, counted_more, wanted_known}
@@ -65,7 +65,7 @@ returns-clause-ok c =
       journal = items_is c ∙ ap (λ (s : DeskState). s.journal ++ e ∷ []) same;
       pass = c.raise.ensures;
       wanted_is = sym c.number-number.ensures.value ∙ is_wanted c ∙ ap (λ (s : DeskState). wanted s.workers s.journal p.worker) same;
-      outcome = subst (λ (s : DeskState). (volume_of c.call.new.self.current, c.in-Ok-call.reply) ≡ outcome_in s.current c.args.call.now) same c.in-Ok-call.ensures.outcome;
+      outcome = subst (λ (s : DeskState). IsOutcomeIn s.current c.args.call.now (volume_of c.call.new.self.current, c.in-Ok-call.reply)) same c.in-Ok-call.ensures.outcome;
       reading = λ reads. ap (λ v. v.current) (c.call.ensures.reading reads) ∙ ap (λ (s : DeskState). s.current) same;
       refused = λ other. ap (λ v. v.current) (c.in-Ok-call.ensures.refused other) ∙ ap (λ (s : DeskState). s.current) same;
       headline = subst (λ (s : DeskState). IsHeadline s.base s.current s.journal) same c.self.invariant.0;

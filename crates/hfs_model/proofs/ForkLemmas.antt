@@ -14,7 +14,7 @@ use Rattle.hfs_model.specs.Children.{is_folder_kind}
 use Rattle.hfs_model.specs.Replies.{success}
 use Rattle.hfs_model.specs.Reading.{fork_part, part_of}
 use Rattle.hfs_model.proofs.Facts.{true_false}
-use Rattle.hfs_fork_calls.specs.Forks.{resized, laid_over, written, fork_bytes, kind_with_fork}
+use Rattle.hfs_model.specs.Forks.{resized, laid_over, written, fork_bytes, kind_with_fork}
 
 -- ---- bytes
 

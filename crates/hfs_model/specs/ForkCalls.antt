@@ -7,7 +7,7 @@ use Rattle.hfs_model.specs.declared.call.Fork.{Fork}
 use Rattle.hfs_model.specs.Volume.{Volume, Entry}
 use Rattle.hfs_model.specs.Choices.{and_then, file_to_change, unless_locked_file}
 use Rattle.hfs_model.specs.Changes.{Outcome, change}
-use Rattle.hfs_fork_calls.specs.Forks.{resized, written, fork_bytes, item_with_fork}
+use Rattle.hfs_model.specs.Forks.{resized, written, fork_bytes, item_with_fork}
 
 -- ---- the choices
 

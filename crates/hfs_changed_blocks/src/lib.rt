@@ -1,0 +1,13 @@
+//! The changed blocks of an image: blocks by their numbers, and below them blocks of zeros, which take a flag each and no bytes.
+#![tactic(auto)]
+
+mod again;
+mod changed;
+mod counting;
+mod flagged;
+mod flags;
+mod laying;
+mod log;
+
+pub use changed::{ChangedBlocks, ChangedOver};
+pub use log::{WrittenLog, WrittenRuns};
