@@ -105,9 +105,8 @@ pub fn print_needed_check<'a, F: Read + Seek + Drop>(
     path: &'a str,
     blocks: PartBlocks<F>,
 ) -> Result<u8, Fault<'a>> {
-    let mut blocks = blocks;
-    match needed_check_answer(rt.alloc(), &mut blocks) {
-        Ok(told) => print_checked(rt, &told),
+    match needed_check_answer(rt.alloc(), blocks) {
+        Ok((told, _)) => print_checked(rt, &told),
         Err(fault) => Err(Fault::of_sparse(fault, path)),
     }
 }
