@@ -3,6 +3,7 @@
  *
  * libhfs_times FILE        measures on that volume, files of which are deleted and made again
  * libhfs_times make FILE   lays a new volume of 60,000 items in that file first, which has its size already
+ * libhfs_times write FILE  lays a new volume, and writes 65,536 bytes 120 times behind the end of a file's data fork, beside copies of them in memory
  */
 #include <stdio.h>
 #include <stdlib.h>
@@ -11,7 +12,7 @@
 
 #include "hfs.h"
 
-enum { ROUNDS = 60000, STEP = 7919, CHANGED = 1000, MOST = 70000 };
+enum { ROUNDS = 60000, STEP = 7919, CHANGED = 1000, MOST = 70000, WRITES = 120, PART = 65536 };
 
 struct item {
     unsigned long parent, id;
@@ -120,9 +121,38 @@ static int make(const char *file)
     return hfs_umount(volume);
 }
 
+/* Copies so many parts in memory. It stands by itself, so that what it takes can be counted. */
+__attribute__((noinline)) static void copy_parts(char *to, const char *from, int count)
+{
+    for (int k = 0; k < count; k++) memcpy(to + (size_t)k * PART, from, PART);
+}
+
+/* Writes so many parts behind the end of a fork. */
+__attribute__((noinline)) static int write_parts(hfsfile *file, const char *part, int count)
+{
+    for (int k = 0; k < count; k++) if (hfs_write(file, part, PART) != PART) return 1;
+    return 0;
+}
+
+static int write_fork(const char *path)
+{
+    static char part[PART], copies[(size_t)WRITES * PART];
+    double begin;
+    hfsfile *file;
+    memset(part, 'a', PART);
+    memset(copies, 'b', sizeof copies);
+    if (hfs_format(path, 0, 0, "Fork", 0, NULL) || !(volume = hfs_mount(path, 0, HFS_MODE_RDWR))) return 1;
+    if (!(file = hfs_create(volume, ":a", "TEXT", "ttxt"))) return 1;
+    begin = now(); copy_parts(copies, part, WRITES); report("65,536 bytes, copied", begin, WRITES);
+    begin = now(); if (write_parts(file, part, WRITES)) return 1; report("65,536 bytes, written by hfs_write", begin, WRITES);
+    begin = now(); if (hfs_close(file) || hfs_umount(volume)) return 1; report("closed and flushed", begin, 1);
+    return copies[sizeof copies - 1] != 'a';
+}
+
 int main(int argc, char **argv)
 {
     double begin;
+    if (argc > 2 && !strcmp(argv[1], "write")) return write_fork(argv[2]);
     if (argc > 2) return make(argv[2]);
     if (argc < 2 || !(volume = hfs_mount(argv[1], 0, HFS_MODE_RDWR))) {
         fprintf(stderr, "not mounted: %s\n", hfs_error ? hfs_error : "");

@@ -35,7 +35,8 @@ _hfs_tool() {
         take) options='--volume --no-digest --help' ;;
         rescue) options='--list --limit --volume --no-digest --help' ;;
         new) options='--now --help' ;;
-        run) options='--now --out --help' ;;
+        run) options='--now --out --volume --help' ;;
+        repair) options='--volume --help' ;;
         help) mapfile -t COMPREPLY < <(compgen -W "$words" -- "$word") && return ;;
     esac
     case $before in

@@ -9,7 +9,7 @@ tests/call_lists.py [--kept FOLDER] [FILE..]      runs all files, or these; what
 A line begins with a word, and an empty line says nothing:
 
     # TEXT                       what is tried
-    volume BLOCKS NODES          begins a list, on a new volume D with so many blocks and catalog nodes, and two extents nodes
+    volume BLOCKS NODES [MORE]   begins a list, on a new volume D with so many blocks and catalog nodes, and two extents nodes, or so many
     volume NAME                  the same, on the volume of tests/volumes/small
     lay BLOCK PLACE DIGITS       lays bytes into the image, from that place of the block on
     longer                       lays the bytes 0 to 99 behind the image
@@ -68,7 +68,7 @@ class CallList:
     def __init__(self, bench: Bench, words: list[str]):
         self.bench, self.now = bench, 0
         self.waiting: list[Expected] = []
-        self.lay(bench.new_volume(*map(int, words)) if len(words) == 2 else small_volume(words[0]))
+        self.lay(bench.new_volume(*map(int, words)) if len(words) > 1 else small_volume(words[0]))
 
     def lay(self, content: bytes) -> None:
         """Takes another image as the one on which further calls are made."""

@@ -35,6 +35,7 @@ CODES = {
     'move': f'0 {LOCKED} -37 -120 -43 -122 -48 -34', 'setfinfo': f'0 {LOCKED} -37 -120 -43 -45',
     'setinfo': f'0 {LOCKED} -37 -120 -43 -45', 'lock': f'0 {LOCKED} -37 -120 -43', 'unlock': f'0 {LOCKED} -37 -120 -43',
     'newid': f'0 {LOCKED} -37 -120 -43 -1302 -1301 -34', 'dropid': f'0 {LOCKED} -1302 -1300', 'resolve': '0 -1302 -1300',
+    'seteof': f'0 -50 {LOCKED} -37 -120 -43 -45 -34', 'write': f'0 -50 {LOCKED} -37 -120 -43 -45 -39 -34',
 }
 LISTED = {(word, code) for word, row in CODES.items() for code in row.split()}
 # How many lists are drawn for each number of nodes, and how many calls a list has. With fewer not each code is answered.

@@ -379,6 +379,33 @@ def patched_pieces(bench):
         ensure(not [it for it in os.listdir(bench.folder) if it.startswith('patched')], f'run, {count} reads: a file is left')
 
 
+def written_pieces(bench):
+    """A fork of 2,149 blocks that comes to blocks 33 to 2,181, on both sides of the first piece's end: zeros in place of what was there, but for
+    65,536 bytes. All other blocks of forks and all free ones stay, and what is behind the last block; and where a read fails, nothing is written."""
+    path, out = bench.folder / 'free', bench.folder / 'lengthened'
+    bench.want('new', (0, b'', b''), ['new', path, 'D', 8_000, 20, 8])
+    old = bytearray(path.read_bytes() + bytes(range(100)))
+    old[33 * BLOCK:7_998 * BLOCK] = (bytes(range(1, 256)) * 16_000)[:7_965 * BLOCK]
+    path.write_bytes(old)
+    lines = [b'create\t2\ta', b'seteof\t2\ta\tdata\t1100000', b'write\t2\ta\tdata\t1000000\t' + b'5a' * 65_536]
+    script = bench.lay('lengthening', b''.join(b'1\t%s\n' % line for line in lines))
+    answers = b'1\t1\t0\tid 16\n1\t2\t0\t-\n1\t3\t0\t-\n'
+    ran = bench.want('run', (0, answers, b''), ['run', path, script, '--now', 7, '--out', out], image=path)
+    wanted = bytearray(old)
+    wanted[33 * BLOCK:2_182 * BLOCK] = bytes(1_000_000) + b'Z' * 65_536 + bytes(2_149 * BLOCK - 1_065_536)
+    new = out.read_bytes()
+    # block 2, the bitmap's first block, and of the catalog, behind the 8 nodes of the extents tree, its header node and its leaf
+    changed = [at // BLOCK for at in range(0, len(old), BLOCK) if wanted[at:at + BLOCK] != new[at:at + BLOCK]]
+    ensure(len(new) == len(old) and changed == [2, 3, 13, 14], f'beside the fork the blocks {changed} are changed')
+    bench.want('run out of a pipe', (0, answers, b''), ['run', '/dev/stdin', script, '--now', 7, '--out', out], bytes(old))
+    ensure(out.read_bytes() == new, 'out of a pipe another image is written')
+    out.unlink()
+    for count in range(len(ran.reads)):
+        told = f'cannot read {path}\n'.encode()
+        bench.want(f'run, {count} reads', (4, told, b''), ['run', path, script, '--now', 7, '--out', out], image=path, READS=count)
+        ensure(not [it for it in os.listdir(bench.folder) if it.startswith('lengthened')], f'run, {count} reads: a file is left')
+
+
 def main():
     if not shutil.which('cc'):
         print('no C compiler: devices that fail are left out')
@@ -387,9 +414,11 @@ def main():
     with tempfile.TemporaryDirectory() as folder:
         bench = Bench(Path(folder))
         try:
-            for part in (head_by_bytes, forks_by_bytes, images_out_of_pipes, scripts_out_of_devices, needed_blocks, needed_rescues, failing_reads, failing_repairs):
+            for part in (head_by_bytes, forks_by_bytes, images_out_of_pipes, scripts_out_of_devices, needed_blocks, needed_rescues, failing_reads,
+                         failing_repairs):
                 part(bench, image)
             patched_pieces(bench)
+            written_pieces(bench)
         except Differs as differs:
             sys.exit(f'devices: {differs}')
     print(f'{bench.runs} runs on devices that fail, or are slow, or are watched: as written')

@@ -1,7 +1,8 @@
 #!/usr/bin/env python3
 """Fills catalogs of 2 to 60 nodes with files and with folders until no node is left, and empties them again: at the end each has
 its free nodes again. Follows 300 files into a catalog and out of it again, five at a time. And makes a folder with as many children
-as a folder may have, which takes no more, in a catalog with eleven map nodes. By hfs_tool as each compiler builds it, beside
+as a folder may have, which takes no more, in a catalog with eleven map nodes. And fills and empties one of two map nodes, as `new` makes
+it. By hfs_tool as each compiler builds it, beside
 hfs_plain; the image is saved and mounted again when it is full, and when it is empty. What it prints last is how many calls there
 were, or what differs.
 
@@ -36,11 +37,13 @@ MOST, CROWD = 65_535, 16
 # bitmap and one of the extents tree; its nodes, and its map nodes.
 CATALOG, WIDE_NODES, MAP_NODES = 20, 45_055, range(2, 13)
 ZEROS = '0' * 64
+# The nodes of a new catalog with two map nodes, files that have room in it, and the first node whose bit stands in the second.
+MAPPED_NODES, MAPPED_FILES, SECOND_MAP = 6_101, 15_600, 2_048 + 3_936
 # How many nodes a catalog has at least that has three levels when it is full: more leaves than an index node has room for.
 HIGH = 30
 # The files that are followed, and how many come or go before all is looked at.
 FOLLOWED, TOGETHER = 300, 5
-# The first node whose bit stands in the third map node: the header node has 2,048 bits, a map node 3,952.
+# The first node of the wide volume whose bit stands in the third map node: the header node has 2,048 bits, a map node 3,952 there.
 THIRD_MAP = 2_048 + 2 * 3_952
 
 
@@ -113,6 +116,23 @@ def follow(bench: Bench) -> None:
         ensure_new(disk, 200)
     bench.counts.lists += 1
     print(f'{FOLLOWED} files followed into a catalog and out of it again, twice', flush=True)
+
+
+def fill_mapped(bench: Bench) -> None:
+    """Puts files into a new catalog with map nodes until nodes of the last map node are taken, and empties it again."""
+    disk = Disk(bench, bench.new_volume(20_000, MAPPED_NODES, 1))
+    ensure(disk.image.catalog.count == MAPPED_NODES, 'the catalog has other nodes')
+    ensure_new(disk, MAPPED_NODES - 2)
+    names = [name_of(DRAWN(turn)) for turn in range(MAPPED_FILES)]
+    answers = disk.make([Call.of('create', 2, name) for name in names], 1, beside_plain=False)
+    ensure([it.told for it in answers] == [f'0\tid {16 + it}' for it in range(MAPPED_FILES)], 'a file gets no ID, or another')
+    ensure(max(disk.image.catalog.level_nodes) >= SECOND_MAP, 'no node of the second map node is taken')
+    ensure_items(disk.state, [item_line(2, 1, 'D'), *(item_line(16 + turn, 2, name) for turn, name in enumerate(names))])
+    answers = disk.make([Call.of('delete', 2, name) for name in names], 2, beside_plain=False)
+    ensure(all(it.told == '0\t-' for it in answers), 'a file is not deleted')
+    ensure_new(disk, MAPPED_NODES - 2)
+    bench.counts.lists += 1
+    print(f'a new catalog of {MAPPED_NODES} nodes, two of them map nodes, filled with {MAPPED_FILES} files, and emptied', flush=True)
 
 
 def put(image: bytearray, block: int, at: int, digits: str) -> None:
@@ -203,6 +223,7 @@ def main() -> None:
     with opened_bench(found_programs(), given.kept) as bench:
         fill_all(bench, given.most, given.whole)
         follow(bench)
+        fill_mapped(bench)
         crowd_folder(bench)
         finished('full catalogs', bench, started)
 

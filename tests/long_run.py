@@ -1,5 +1,5 @@
 #!/usr/bin/env python3
-"""Runs scripts of eight workers with 1,000 drawn calls each, and of four viewers, by hfs_tool as each compiler builds it. Each worker
+"""Runs scripts of eight workers with 1,000 drawn calls each, which write forks, too, and of four viewers, by hfs_tool as each compiler builds it. Each worker
 works in a folder of its own, which viewers look into. Which worker comes first is not fixed, but the IDs of what they create tell in
 which order they did; so all calls are put into an order that gives these IDs, in which hfs_plain must answer each as it was answered,
 and make the volume that was saved. Each viewer must be answered as after some of the calls, and after no fewer than before. What it
@@ -28,7 +28,7 @@ FOLDERS, FILES = 'ABCDEFGH', 'rstuvwxyz'
 NAMES = 'abcdefghijklmnopqrstuvwxyz'
 WORDS = {
     'create': 5, 'mkdir': 2, 'delete': 3, 'rename': 2, 'move': 2, 'newid': 2, 'dropid': 1, 'resolve': 1, 'lock': 1, 'unlock': 1,
-    'setfinfo': 1, 'setinfo': 1, 'dirinfo': 1, 'info': 1, 'indexed': 1, 'list': 1, 'read': 1,
+    'setfinfo': 1, 'setinfo': 1, 'dirinfo': 1, 'info': 1, 'indexed': 1, 'list': 1, 'read': 2, 'seteof': 2, 'write': 3,
 }
 VIEWS = {'list': 3, 'dirinfo': 1, 'info': 2, 'indexed': 1}
 
@@ -79,7 +79,8 @@ def drawn_call(draw: random.Random, place: Place) -> Call:
     if word == 'indexed':
         return Call.of(word, folder, draw.randrange(4))
     more = {'rename': [draw.choice(NAMES)], 'move': [draw.choice(place.folders)], 'setfinfo': ['07' * 16],
-            'setinfo': [1, 2, 3, '0a' * 32], 'read': ['data', 0, draw.randrange(2)]}
+            'setinfo': [1, 2, 3, '0a' * 32], 'read': ['data', 0, draw.choice((0, 1, 700))], 'seteof': ['data', draw.choice((0, 1, 513, 1100))],
+            'write': ['data', draw.choice((0, 0, 1, 500)), f'{draw.randrange(256):02x}' * draw.choice((0, 1, 30, 700))]}
     return Call.of(word, folder, name, *more.get(word, []))
 
 
@@ -223,7 +224,7 @@ def run_round(disk: Disk, program: Program, lines: Lines, now: int) -> tuple[Ima
     saved = Image((bench.folder / 'saved').read_bytes())
     found = bench.state_of(bench.folder / 'saved')
     ensure(found == state, difference_of('the saved volume', found.text, 'hfs_plain', state.text))
-    ensure_kept(disk.image, saved)
+    ensure_kept(disk.image, saved, True)
     disk.ensure_report(bench.report_of(bench.folder / 'saved'), saved, state)
     between = sum(ensure_views(lines.calls[viewer], answers[viewer], sights) for viewer in VIEWERS)
     bench.counts.images += 1
@@ -234,7 +235,7 @@ def run_round(disk: Disk, program: Program, lines: Lines, now: int) -> tuple[Ima
 
 def run_rounds(bench: Bench, given) -> None:
     """Runs the scripts, each on the volume that the one before it left."""
-    disk = Disk(bench, bench.new_volume(4096, 2048))
+    disk = Disk(bench, bench.new_volume(4096, 2048, 100))
     answers = disk.make(setting_up(), 1)
     ensure(all(answer.is_done for answer in answers), 'a folder or a file does not come')
     between = 0

@@ -6,6 +6,7 @@ that which are taken.
 tests/new_volumes.py      runs $HFS_TOOL, or the program as it is built in crates/hfs_tool/out
 """
 import resource
+import signal
 import subprocess
 import sys
 import tempfile
@@ -15,13 +16,17 @@ from driver.programs import built
 
 TOOL = str(built('hfs_tool'))
 BLOCK = 512
+# A map node behind the header node, and none behind it: links, kind, height and number of records, no node in use, and the offsets.
+LAST_MAP = '00000000' '00000000' '02' '00' '0001' '0000' + '00' * 494 + '01fa' '000e'
 # Names, blocks, nodes of the catalog and of the extents tree, and the first fault, or none.
 PLANS = [
     ('n' * 28, 64, 6, 2, 'bad name'), ('n' * 27, 64, 6, 2, ''), ('', 64, 6, 2, 'bad name'), ('a:b', 64, 6, 2, 'bad name'), ('a`b', 64, 6, 2, 'bad name'),
     ('a\x1fb', 64, 6, 2, 'bad name'), ('D', 7, 2, 1, 'bad size'), ('D', 8, 2, 1, 'no room'), ('D', 9, 2, 1, ''), ('D', 4_194_305, 2, 1, 'bad size'),
     ('D', 64, 1, 2, 'bad node count'), ('D', 64, 2, 2, ''), ('D', 64, 6, 0, 'bad node count'), ('D', 64, 6, 1, ''), ('D', 9_000, 2_048, 1, ''),
-    ('D', 9_000, 2_049, 1, 'bad node count'), ('D', 9_000, 2, 2_048, ''), ('D', 9_000, 2, 2_049, 'bad node count'), ('D', 131_072, 2_046, 2_046, ''),
-    ('D', 131_072, 2_047, 1, 'bad node count'), ('D', 131_072, 2, 4_294_967_295, 'bad node count'), ('D', 64, 56, 2, ''), ('D', 64, 57, 2, 'no room'),
+    ('D', 9_000, 2_049, 1, ''), ('D', 9_000, 2, 2_048, ''), ('D', 9_000, 2, 2_049, ''), ('D', 131_072, 2_046, 2_046, ''), ('D', 131_072, 2_047, 1, ''),
+    ('D', 131_072, 2, 4_294_967_295, 'no room'), ('D', 131_072, 4_294_967_295, 1, 'no room'), ('D', 131_072, 4_294_967_295, 4_294_967_295, 'no room'),
+    ('D', 64, 56, 2, ''), ('D', 64, 57, 2, 'no room'), ('D', 9_000, 8_991, 1, ''), ('D', 9_000, 8_992, 1, 'no room'), ('D', 9_000, 2, 8_990, ''),
+    ('D', 9_000, 2, 8_991, 'no room'), ('D', 64, 1, 4_294_967_295, 'bad node count'),
     ('', 7, 2, 1, 'bad name'), ('D', 7, 2, 0, 'bad size'),
 ]
 
@@ -108,6 +113,22 @@ def pieces(path):
         (('D', 65_536, 3, 1), 33_554_432,
          [(2, 18, '7ff90000040000001000' + '000b'), (65_534, 34, '7ff6'), (2, 130, '0000040000000001'), (2, 146, '0000080000010002'), (3, 0, 'e000'),
           (11, 32, '020000070000000200000001'), (13, 32, '020000250000000400000002'), (14, 8, 'ff010002')]),
+        # the most nodes without a map node, and with one: the header node's link, the numbers, the map; of map nodes their links and kind, and the offsets
+        (('D', 20_000, 5_984, 2_048), 10_240_000,
+         [(8, 0, '000000000000000001000003'), (8, 32, '0200' '0007' '00000800' '000007ff'), (8, 248, '8000'), (9, 0, '00' * BLOCK),
+          (2_056, 0, '000000010000000001000003'), (2_056, 14, '0001' + '00000002' * 4), (2_056, 32, '0200' '0025' '00001760' '0000175d'),
+          (2_056, 248, 'e000'), (2_057, 0, LAST_MAP), (2_058, 8, 'ff010002'), (2_059, 0, '00' * BLOCK)]),
+        # one node more in each, so one map node and two
+        (('D', 20_000, 5_985, 2_049), 10_240_000,
+         [(8, 0, '000000010000000001000003'), (8, 32, '0200' '0007' '00000801' '000007ff'), (8, 248, 'c000'), (9, 0, LAST_MAP), (10, 0, '00' * BLOCK),
+          (2_057, 0, '000000010000000001000003'), (2_057, 14, '0001' '00000003' '00000002' '00000003' '00000003'),
+          (2_057, 32, '0200' '0025' '00001761' '0000175d'), (2_057, 248, 'f000'), (2_058, 0, '00000002' + LAST_MAP[8:]),
+          (2_059, 0, '00000000' '00000001' + LAST_MAP[16:]), (2_060, 8, 'ff010002'), (2_060, 506, '0092005c000e'), (2_061, 0, '00' * BLOCK)]),
+        # trees as large as hformat of hfsutils 3.2.6 makes them on 2 gigabytes, which has 8 map nodes in each and the leaf in node 9
+        (('D', 70_000, 32_704, 32_704), 35_840_000,
+         [(12, 0, '000000010000000001000003'), (12, 32, '0200000700007fc000007fb7'), (12, 248, 'ff8000'), (13, 0, '00000002' + LAST_MAP[8:]),
+          (18, 0, '000000070000000502000001'), (20, 0, '000000000000000702000001'), (32_716, 0, '000000010000000001000003'),
+          (32_716, 14, '00010000000900000002' '0000000900000009'), (32_716, 32, '0200002500007fc000007fb6'), (32_716, 248, 'ffc000'), (32_725, 8, 'ff010002')]),
     ]
     for plan, size, bytes_there in rows:
         ensure(made(path, *plan) == (0, ''), f'a new volume of {plan}')
@@ -119,13 +140,22 @@ def pieces(path):
     return len(rows)
 
 
-def largest(path):
-    """The largest plan is taken: with less memory than its image has bytes, that is what it ends for."""
-    path.unlink(missing_ok=True)
-    words = [TOOL, 'new', path, 'D', '4194304', '2', '1']
-    ran = subprocess.run(words, stdin=subprocess.DEVNULL, capture_output=True, timeout=600,
-                         preexec_fn=lambda: resource.setrlimit(resource.RLIMIT_AS, (1 << 30, 1 << 30)))
-    ensure((ran.returncode, ran.stdout) == (5, b'out of memory\n') and not path.exists(), f'the largest volume in little memory: {ran}')
+def narrow(most_memory, most_bytes):
+    """Less memory, and files of no more bytes, for a program that is to begin; a write that would make a longer file fails."""
+    resource.setrlimit(resource.RLIMIT_AS, (most_memory, most_memory))
+    resource.setrlimit(resource.RLIMIT_FSIZE, (most_bytes, most_bytes))
+    signal.signal(signal.SIGXFSZ, signal.SIG_IGN)
+
+
+def in_little_memory(path):
+    """A volume is made in less memory than it has bytes. The largest plan is taken, too: what it ends for is the length of its file."""
+    for blocks, nodes, most_bytes, ends in ((262_144, 20_000, 1 << 30, (0, '')), (4_194_304, 4_000_000, 1 << 20, (4, f'cannot write {path}\n'))):
+        path.unlink(missing_ok=True)
+        words = [TOOL, 'new', path, 'D', str(blocks), str(nodes), '1']
+        ran = subprocess.run(words, stdin=subprocess.DEVNULL, capture_output=True, timeout=600, restore_signals=False,
+                             preexec_fn=lambda most_bytes=most_bytes: narrow(100 << 20, most_bytes))
+        ensure((ran.returncode, ran.stdout.decode()) == ends, f'a volume of {blocks} blocks in little memory: {ran}')
+        ensure(path.exists() == (not ends[0]), f'a file of {blocks} blocks')
 
 
 def plans(path):
@@ -142,7 +172,7 @@ def main():
         path = Path(folder) / 'new.img'
         try:
             count = whole_volumes(path) + pieces(path)
-            largest(path)
+            in_little_memory(path)
             refused = plans(path)
         except Differs as differs:
             print(f'new volumes: {differs}')

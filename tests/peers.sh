@@ -289,6 +289,15 @@ compare_folder "$folder/ours.img" : 2
 humount
 check_sound "$folder/ours.img"
 
+# The same where both trees have map nodes: one the extents file, two the catalog.
+"$tool" new "$folder/mapped.img" Mapped 20000 5985 2049 || fail "new ends with $?"
+check_sound "$folder/mapped.img"
+hmount "$folder/mapped.img" > /dev/null || fail 'hfsutils mounts no volume with map nodes'
+fill
+compare_folder "$folder/mapped.img" : 2
+humount
+check_sound "$folder/mapped.img"
+
 # Dates, types and locks that our calls set, on volumes of others and on our own.
 for name in hfsutils-800k hfsutils-1440k-names; do
     cp "$volumes/$name.img" "$folder/given.img"

@@ -3,7 +3,7 @@
 library that stands before malloc (tests/refused_memory.sh makes it, and calls this). The calls of
 volumes/refused.txt are run by an image's path, and out of a pipe with a viewer beside them, who
 reads what they read; then a script with two workers and a viewer, whose answers are known by hand;
-new volumes, reports, lists, forks, repairs and volumes that are extracted, both ways.
+new volumes, reports, lists, forks, repairs, volumes that are changed where they lie and that are extracted, both ways.
 
 Where the program tells want of memory, nothing else was printed, nothing was written, and no file
 lies beside; else it prints and writes what it does without a refusal; or a caller's lines from one
@@ -245,11 +245,33 @@ def repair(trial, _line):
         trial.refuse_each(['repair', source, trial.file], (2, b'refused check C8 at 1\n', b'', b'old\n'), given, b'old\n')
 
 
+def in_map(content):
+    """A disk with a map of one partition, which holds this."""
+    return (bytes(512) + b'PM\0\0' + struct.pack('>III', 1, 2, len(content) // 512) + bytes(32) + b'Apple_HFS').ljust(1024, b'\0') + content
+
+
+def inside(trial, _line):
+    """A volume in a map that is repaired where it lies, and one on which a script is run, both ways; and no volume of that number."""
+    content = (VOLUMES / 'hfsutils-800k.img').read_bytes()
+    count = int.from_bytes(content[1108:1112], 'big')
+    wrong = in_map(content[:1108] + (count + 1).to_bytes(4, 'big') + content[1112:]) + b'behind'
+    image = trial.lay('wrong', wrong)
+    fixed = (0, f'fixed drFilCnt {count + 1} {count}\nsound\n'.encode(), b'', in_map(content) + b'behind')
+    for given, source in ((None, image), (wrong, '/dev/stdin')):
+        trial.refuse_each(['repair', source, trial.file, '--volume', 1], fixed, given, b'old\n')
+        trial.refuse_each(['repair', source, trial.file, '--volume', 2], (2, b'no volume 2\n', b'', b'old\n'), given, b'old\n')
+    content = small('folder')
+    files = [in_map(file) for file in files_behind(trial, trial.lay('alone', content), SCRIPT.splitlines(True)[:2])]
+    image, wanted = trial.lay('image', in_map(content)), ANSWERS.encode()
+    for given, source in ((None, image), (in_map(content), '/dev/stdin')):
+        words = ['run', source, trial.lay('script', SCRIPT.encode()), '--now', NOW, '--out', trial.file, '--volume', 1]
+        trial.refuse_each(words, (0, wanted, b'', files[2]), given, b'old\n', part_of(wanted, files))
+
+
 def extract(trial, _line):
     """The only volume in a map, a bare one out of a pipe, and a name that is taken."""
     content = small('one-file')
-    disk = (bytes(512) + b'PM\0\0' + struct.pack('>III', 1, 2, len(content) // 512) + bytes(32) + b'Apple_HFS').ljust(1024, b'\0') + content
-    image = trial.lay('image', disk)
+    image = trial.lay('image', in_map(content))
     wanted = (0, f'extracted\nbytes {len(content)}\n'.encode(), b'', content)
     trial.refuse_each(['extract', image, trial.file], wanted)
     trial.refuse_each(['extract', '/dev/stdin', trial.file], wanted, content)
@@ -268,7 +290,7 @@ def attempt(job):
 
 def main(tool, library):
     lines = [it for it in (VOLUMES / 'refused.txt').read_text().splitlines() if not it.startswith('#')]
-    jobs = [(tool, library, run_calls, line) for line in lines] + [(tool, library, part, '') for part in (run_script, read_forks, tell, repair, extract)]
+    jobs = [(tool, library, run_calls, line) for line in lines] + [(tool, library, part, '') for part in (run_script, read_forks, tell, repair, inside, extract)]
     counts = Counts()
     # the descriptor is taken before the pool takes any
     os.dup2(os.open(os.devnull, os.O_RDWR), TOLD)

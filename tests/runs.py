@@ -1,7 +1,7 @@
 #!/usr/bin/env python3
 """Wants of `run` that it answers, and writes, the same of an image by its path, of which it reads what it needs, and out of a pipe, which it loads whole.
 Of each real volume and of volumes laid here, among them one with forks in 60,000 extents: scripts of one worker, whose answers rest on no other, that read
-forks of each file in pieces, at its place and behind renames, moves and deletions, and make what they deleted anew; scripts of a viewer; and, many times
+forks of each file in pieces, at its place and behind renames, moves and deletions, make what they deleted anew, and write forks; scripts of a viewer; and, many times
 over, a viewer beside a worker that deletes the file, who is answered the whole fork or -43. Of an image in a sparse file, that it stays sparse.
 
 python3 runs.py TOOL VOLUMES        VOLUMES has real volumes, as *.img
@@ -102,6 +102,22 @@ def scripts_on(items, chosen):
         parts += [line(1, 'move', item[4], b'x%d' % number, target[4]), line(1, 'rename', target[4], b'x%d' % number, target[5]),
                   *both(1, item, target[4], target[5])]
     yield 'files that change places', b''.join(parts)
+    # forks that are written, also behind their ends and under another name, and blocks that go from one file to another
+    parts = []
+    for number, item in enumerate(some):
+        place, length = (item[4], item[5]), item[2]
+        new = (item[4], b'new %d' % number)
+        parts += [line(1, 'unlock', *place), line(1, 'write', *place, 'data', max(length - 7, 0), '61' * 600), line(1, 'seteof', *place, 'res', item[3] + 1500),
+                  line(1, 'rename', *place, new[1]), line(1, 'write', *new, 'res', item[3], '62' * 9), line(1, 'write', *new, 'data', length + 9999, ''),
+                  line(1, 'seteof', *new, 'data', length // 2), line(1, 'seteof', *new, 'data', length + 100), *both(1, item, *new)]
+    yield 'forks that are written', b''.join(parts)
+    parts = []
+    for number, item in enumerate(some):
+        place = (item[4], item[5])
+        parts += [line(1, 'unlock', *place), line(1, 'seteof', *place, 'data', 0), line(1, 'seteof', *place, 'res', 0), line(1, 'create', 2, b'n%d' % number),
+                  line(1, 'seteof', 2, b'n%d' % number, 'data', 4000), line(1, 'write', 2, b'n%d' % number, 'data', 2000, '63' * 700),
+                  *reads(1, 2, b'n%d' % number, 4000, 'data')]
+    yield 'blocks of other files', b''.join(parts)
     yield 'changes alone', b''.join(line(1, 'create', 2, b'made %d' % k) for k in range(30)) + b''.join(line(1, 'delete', 2, b'made %d' % k) for k in range(9))
 
 

@@ -1,9 +1,9 @@
 #!/usr/bin/env bash
 # Tries what the words that write a file leave of it: write protection, owner, group and mode,
-# second links, links, disks that are full and runs that are killed in the middle of the write; what
-# is told of files that such runs left; and how paths are printed. Each is tried by who runs this;
-# where that is root, by a plain user as well. Prints 'files are left as their owner left them', or
-# what differs and ends with status 1.
+# second links, links, disks that are full, files that can't grow and runs that are killed in the
+# middle of the write; what is told of files that such runs left; and how paths are printed. Each is
+# tried by who runs this; where that is root, by a plain user as well. Prints 'files are left as
+# their owner left them', or what differs and ends with status 1.
 . "$(dirname "$0")/common.sh"
 built=$(program hfs_tool)
 
@@ -68,7 +68,7 @@ word() {
     case $1 in
         new) words=(new "$2" D 64 6 2) printed='' ;;
         repair) words=(repair "$folder/wrong.img" "$2") printed='fixed drFilCnt 1 0\nsound\n' ;;
-        run) words=(run "$folder/small.img" "$folder/script" --out "$2") printed='1\t1\t0\tid 16\n' ;;
+        run) words=(run "$folder/small.img" "$folder/script" --out "$2") printed='1\t1\t0\tid 16\n1\t2\t0\t-\n1\t3\t0\t-\n' ;;
     esac
 }
 
@@ -92,7 +92,7 @@ cp "$folder/small.img" "$folder/new.img"
 cp "$folder/small.img" "$folder/repair.img"
 cp "$folder/small.img" "$folder/wrong.img"
 printf '\000\000\000\001' | dd of="$folder/wrong.img" bs=1 seek=$((2 * 512 + 84)) conv=notrunc 2> "$folder/words"
-printf '1\tcreate\t2\ta\n' > "$folder/script"
+printf '1\tcreate\t2\ta\n1\twrite\t2\ta\tdata\t0\t6162\n1\tseteof\t2\ta\tres\t900\n' > "$folder/script"
 "$tool" run "$folder/small.img" "$folder/script" --out "$folder/run.img" > "$folder/printed"
 [ "$("$tool" ls "$folder/run.img" | cut -f 5)" = a ] || fail 'what run writes'
 
@@ -277,12 +277,12 @@ paths() {
     done
 }
 
-# The three words with a volume of 4 MB, for writes that take a while.
+# The three words with a volume of 4 MB, for writes that take a while. The script writes both forks of a file, some 2 MB of them.
 large_word() {
     case $1 in
         new) words=(new "$here/file.img" D 8192 40 4) printed='' ;;
         repair) words=(repair "$folder/large.wrong.img" "$here/file.img") printed='fixed drFilCnt 1 0\nsound\n' ;;
-        run) words=(run "$folder/large.small.img" "$folder/script" --out "$here/file.img") printed='1\t1\t0\tid 16\n' ;;
+        run) words=(run "$folder/large.small.img" "$folder/large.script" --out "$here/file.img") printed=$(cat "$folder/large.answers") ;;
     esac
 }
 
@@ -294,6 +294,23 @@ full_disks() {
         large_word "$name"
         wants 4 "cannot write $here/file.img\n" '' "${words[@]}"
         is_kept "$name on a full disk"
+    done
+}
+
+# Writes that meet the largest size that a file may have, ninth by ninth of what they write.
+cut_off() {
+    local name part got
+    for name in new repair run; do
+        lay 640
+        large_word "$name"
+        for part in {1..8}; do
+            got=0
+            "${as[@]}" bash -c 'trap "" XFSZ; ulimit -f "$1"; shift; "$@" 2>&1' sh $((4096 * part / 9)) "$tool" "${words[@]}" > "$folder/printed" || got=$?
+            [ "$got" = 4 ] || fail "$name, cut off behind $part ninths, ends with $got"
+            printf "cannot write $here/file.img\n" | cmp -s - "$folder/printed" || fail "$name, cut off behind $part ninths, prints $(cat "$folder/printed")"
+            is_kept "$name, cut off behind $part ninths"
+            answers=$((answers + 1))
+        done
     done
 }
 
@@ -409,7 +426,30 @@ head -c 3900000 /dev/zero | tr '\000' '\245' | dd of="$folder/large.repair.img" 
 cp "$folder/large.repair.img" "$folder/large.small.img"
 cp "$folder/large.repair.img" "$folder/large.wrong.img"
 printf '\000\000\000\001' | dd of="$folder/large.wrong.img" bs=1 seek=$((2 * 512 + 84)) conv=notrunc 2> "$folder/words"
-"$tool" run "$folder/large.small.img" "$folder/script" --out "$folder/large.run.img" > "$folder/printed"
+# Zeros, of which some come to the middle of the data fork, and bytes to both forks in turn.
+python3 - "$folder" << 'END'
+import sys
+lines, forks = ['create\t2\ta', 'seteof\t2\ta\tdata\t300000'], {'data': bytes(300_000), 'res': b''}
+for number in range(24):
+    fork, part = ('data', 'res')[number % 2], bytes([number + 1]) * 65_536
+    lines.append(f'write\t2\ta\t{fork}\t{len(forks[fork])}\t{part.hex()}')
+    forks[fork] += part
+    if number == 8:
+        lines.append(f'seteof\t2\ta\tdata\t{len(forks["data"]) + 200_001}')
+        forks['data'] += bytes(200_001)
+with open(sys.argv[1] + '/large.script', 'w') as file:
+    file.writelines(f'1\t{line}\n' for line in lines)
+with open(sys.argv[1] + '/large.answers', 'w') as file:
+    file.write(''.join(f'1\\t{number}\\t0\\t{"-" if number > 1 else "id 16"}\\n' for number in range(1, len(lines) + 1)))
+for fork in forks:
+    with open(f'{sys.argv[1]}/large.{fork}', 'wb') as file:
+        file.write(forks[fork])
+END
+"$tool" run "$folder/large.small.img" "$folder/large.script" --out "$folder/large.run.img" > "$folder/printed"
+printf "$(cat "$folder/large.answers")" | cmp - "$folder/printed" || fail 'the answers to a script that writes forks'
+"$tool" cat "$folder/large.run.img" 2 a | cmp - "$folder/large.data" || fail 'the data fork that run writes'
+"$tool" cat "$folder/large.run.img" 2 a --resource | cmp - "$folder/large.res" || fail 'the resource fork that run writes'
+[ "$("$tool" check "$folder/large.run.img" | head -n 1)" = sound ] || fail 'the volume that run writes'
 
 # All of these by one user, in a folder of theirs.
 by() {
@@ -427,6 +467,7 @@ by() {
     leftovers
     paths
     changed_while_read
+    cut_off
     killed
     rm -rf "$here"
     disk=$folder/disk

@@ -168,6 +168,7 @@ class Volume:
         self.fill = NODE
         self.catalog_layout = whole
         self.catalog_room = 0
+        self.extents_room = 0
 
     def take(self, count):
         first = self.next_block
@@ -226,9 +227,9 @@ class Volume:
         self.overflow.sort(key=lambda r: (r[1], r[0], r[2]))
         records = [(extents_key(*r[:3]), extents_key(*r[:3]), extent_bytes(r[3])) for r in self.overflow]
         extents = Tree(records, 7, 0, self.shuffle)
-        room = -(-extents.used // self.block)
+        room = -(-extents.used // self.block) + self.extents_room
         at = self.take(room)
-        self.tree_file(extents, [(at, room)])
+        self.tree_file(extents, [(at, room)], room)
         folders = [i for i in self.items if i[3]]
         files = [i for i in self.items if not i[3]]
         mdb = struct.pack('>HIIHHHHHIIHIH', 0x4244, NOW, NOW, 0x100, sum(i[0] == ROOT for i in files) % 65536, 3, 0, self.blocks, size,
@@ -406,9 +407,16 @@ def cut_files(volume, count):
         volume.file(ROOT, 'D%07d' % k, FIRST_FREE + k, 4 * volume.block * NODE, one_block_each)
 
 
+def cut_two_files(volume, count):
+    """Two files in so many extents together, and nodes of the extents tree for more."""
+    for k, name in enumerate(('a', 'b')):
+        volume.file(ROOT, name, FIRST_FREE + k, count // 2 * volume.block * NODE, one_block_each)
+    volume.extents_room = 200
+
+
 KINDS = {make.__name__: make for make in [
     plain, shuffled_numbers, falling_numbers, far_numbers, one_folder, long_names, plain_folders, deep, deep_falling, tall, taller, sparse,
-    cut_catalog, cut_catalog_shuffled, cut_catalog_empty, plain_file, cut_file, cut_file_empty, plain_files, cut_files]}
+    cut_catalog, cut_catalog_shuffled, cut_catalog_empty, plain_file, cut_file, cut_file_empty, plain_files, cut_files, cut_two_files]}
 
 
 def main():

@@ -1,8 +1,8 @@
 #!/usr/bin/env python3
 """Viewers beside a worker that makes worked lists of changes: on new volumes and on one with a file in four extents, names in their order,
-folders in one another, items that come, go, move, are set and locked, full catalogs, and 450 changes of 300 files. For each list, and
-for each of its beginnings, a viewer asks every call that it may make, for the IDs and the names of the list, many times over. Each answer
-must be the volume's own behind some of the changes, and behind no fewer than the answer before; and the last ones must be those behind all
+folders in one another, items that come, go, move, are set and locked, full catalogs, forks that are written, and 450 changes of 300 files.
+For each list, and for each of its beginnings, a viewer asks every call that it may make, for the IDs and the names of the list, many times
+over. Each answer must be the volume's own behind some of the changes, and behind no fewer than the answer before; and the last ones must be those behind all
 of them. Where a viewer ended before the worker it is run again, and asks longer each time.
 
 tests/viewers.py      runs $HFS_TOOL, or the program as it is built in crates/hfs_tool/out
@@ -43,9 +43,15 @@ LISTS = [
     (4, 8, 'create 2 a/create 2 b/create 2 c/create 2 d/rename 2 a A/rename 2 A z/create 2 e/newid 2 b'),
     # a folder for which nodes are wanting, and a file for which they suffice
     (6, 2, 'mkdir 2 d/create 2 f'),
+    # forks that get bytes and zeros around those that are asked for, lose them, and are gone; want of blocks
+    (40, 14, f'create 2 f/write 2 f data 0 {"61" * 1600}/seteof 2 f data 2100/write 2 f data 1531 626364/write 2 f res 0 {"65" * 1531}/'
+             f'seteof 2 f data 1535/write 2 f data 1535 {"66" * 400}/seteof 2 f data 8193/rename 2 f g/write 2 g res 1531 67/create 2 f/'
+             f'write 2 f data 0 {"68" * 2000}/write 2 f data 1600 /delete 2 g'),
 ]
 # A file with a fork, which is locked, renamed and deleted.
 ONE_FILE = (4, 'lock 2 f/unlock 2 f/rename 2 f g/delete 2 g')
+# The same, when it is written over the end of a block, cut, made longer, and renamed.
+WRITTEN_FILE = (6, 'write 2 f data 1534 61626364/seteof 2 f data 1600/seteof 2 f data 2031/write 2 f data 2031 65/write 2 f res 0 66/rename 2 f g')
 
 
 def ensure(holds: bool, what: str) -> None:
@@ -124,7 +130,8 @@ def trials(tool: Program):
             ensure(len(calls) == count, f'{len(calls)} calls in place of {count}')
             yield new_volume(tool, folder, 64, nodes), calls, asking(), range(count + 1)
         one_file = gzip.decompress((ROOT / 'tests' / 'volumes' / 'small' / 'one-file.img.gz').read_bytes())
-        yield one_file, calls_of(ONE_FILE[1]), asking(), range(ONE_FILE[0] + 1)
+        for count, text in (ONE_FILE, WRITTEN_FILE):
+            yield one_file, calls_of(text), asking(), range(count + 1)
         asked = [Call.of('indexed', 2, 150), Call.of('indexed', 2, 151), Call.of('dirinfo', 2), Call.of('info', 2, 'f299'), Call.of('info', 2, 'f300')]
         yield new_volume(tool, folder, 1600, 1000), many(), asked, range(50, 451, 50)
 

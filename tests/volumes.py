@@ -435,7 +435,7 @@ def faults(folder, p6):
     wants('no file', told(['volumes', missing]), (4, f'cannot read {missing}\n'.encode()))
     wants('a volume of no file', told(['check', missing, '--volume', '1']), (4, f'cannot read {missing}\n'.encode()))
     wants('no bytes', told(['volumes', '/dev/null']), (2, b'no HFS volume\n'))
-    for words in (['repair', folder.file('p6', p6), 'out', '--volume', '1'], ['run', folder.file('p6', p6), 'script', '--volume', '1'], ['volumes'],
+    for words in (['repair', folder.file('p6', p6), 'out', '--volume', 'x'], ['run', folder.file('p6', p6), 'script', '--volume', '-1'], ['volumes'],
                   ['ls', folder.file('p6', p6), '--volume', '-1'], ['ls', folder.file('p6', p6), '--volume', 'x'],
                   *([word, folder.file('p6', p6), *behind, '--volume', n] for n in ('4294967296', '18446744073709551615', '18446744073709551616')
                     for word, behind in (('ls', []), ('info', []), ('extract', ['out']), ('take', ['bag']), ('rescue', ['--list'])))):

@@ -3,6 +3,8 @@ from dataclasses import dataclass
 from typing import Optional
 
 DISK_FULL = -34
+# The calls that write a fork.
+WRITING = ('seteof', 'write')
 # More nodes than any tree has.
 TOO_MANY = 1 << 32
 
@@ -47,6 +49,11 @@ class Call:
     def is_reading(self) -> bool:
         return self.word in ('dirinfo', 'info', 'indexed', 'list', 'read', 'resolve')
 
+    @property
+    def is_writing(self) -> bool:
+        """Whether it writes a fork. Such a call needs no node of the catalog."""
+        return self.word in WRITING
+
     def need(self, depth: int) -> int:
         """The free nodes that the call needs in a catalog of this depth: its reserve (docs/CALLS.md)."""
         if self.word == 'mkdir':
@@ -81,9 +88,14 @@ class Answer:
         return self.code == '0'
 
     @property
+    def is_wanting(self) -> bool:
+        """Whether it tells of want of nodes, or of blocks."""
+        return self.code == str(DISK_FULL)
+
+    @property
     def wanting(self) -> Optional[Room]:
-        """The room that the answer tells, where it tells of want of nodes."""
-        if self.code != str(DISK_FULL):
+        """The room that the answer tells, where it tells of want of the catalog's nodes."""
+        if not self.is_wanting:
             return None
         word, free, depth = self.value.split(' ')
         if word != 'full':

@@ -207,6 +207,8 @@ class Disk:
         last_change, last_giving = last_done(calls, answers), last_done(calls, answers, GIVES_NODES)
         known = Known(self.image.catalog.room, True)
         for at, (call, answer) in enumerate(zip(calls, answers)):
+            if call.is_writing:
+                continue
             wanting = answer.wanting
             if at > last_change:
                 known = Known(end, True)
@@ -223,7 +225,7 @@ class Disk:
 
     def run_plain(self, image: Path, calls: Sequence[Call], answers: list[Answer], now: int) -> State:
         """The volume that hfs_plain makes of the image by the calls that met no want of nodes, each of which it answers alike."""
-        pairs = [(call, answer) for call, answer in zip(calls, answers) if not answer.wanting]
+        pairs = [(call, answer) for call, answer in zip(calls, answers) if not answer.is_wanting]
         script = self.bench.lay('plain_script', script_of(call for call, _ in pairs))
         plain, state = self.bench.plain(image, script, now)
         ensure(len(plain) == len(pairs), f'hfs_plain answers {len(plain)} of {len(pairs)} calls')
@@ -235,8 +237,9 @@ class Disk:
     def take(self, calls: Sequence[Call], answers: list[Answer], image: Image, state: Optional[State]) -> None:
         """Takes the saved image, when it is as it must be: it holds this volume, is sound, and keeps what calls keep."""
         saved = self.bench.folder / 'saved'
-        changed = ensure_kept(self.image, image)
-        is_changing = any(answer.is_done and not call.is_reading for call, answer in zip(calls, answers))
+        done = [call for call, answer in zip(calls, answers) if answer.is_done]
+        changed = ensure_kept(self.image, image, any(call.is_writing for call in done))
+        is_changing = any(not call.is_reading for call in done)
         ensure(is_changing or not changed, f'calls that change nothing change {len(changed)} blocks')
         found = self.bench.state_of(saved)
         ensure(state in (None, found), state and difference_of('the saved volume', found.text, 'hfs_plain', state.text))

@@ -14,7 +14,7 @@ LETTERS = 'abcdefghijkl'
 # How often each word is drawn.
 WORDS = {
     'create': 4, 'mkdir': 3, 'delete': 3, 'move': 7, 'rename': 4, 'lock': 1, 'unlock': 1, 'newid': 3, 'dropid': 1, 'resolve': 1,
-    'setfinfo': 1, 'setinfo': 1, 'dirinfo': 1, 'info': 1, 'indexed': 1, 'list': 1, 'read': 1,
+    'setfinfo': 1, 'setinfo': 1, 'dirinfo': 1, 'info': 1, 'indexed': 1, 'list': 1, 'read': 1, 'seteof': 1, 'write': 2,
 }
 ROOT_ID, NO_ID = 2, 99_999
 
@@ -93,6 +93,11 @@ class Drawing:
             return [self.moment(), self.moment(), self.moment(), self.digits(64)]
         if word == 'read':
             return [draw.choice(('data', 'res')), draw.choice((0, 0, 1, 511, 1000, 70_000)), draw.choice((0, 1, 600, 65_536, 65_537))]
+        if word == 'seteof':
+            return [draw.choice(('data', 'res')), draw.choice((0, 1, 512, 700, 1600, 1 << 31, draw.randrange(1 << 15)))]
+        if word == 'write':
+            offset = draw.choice((0, 0, 0, 1, 500, 700, (1 << 31) - 1))
+            return [draw.choice(('data', 'res')), offset, f'{draw.randrange(256):02x}' * draw.choice((0, 1, 13, 520, 20_000))]
         return []
 
     def call(self) -> Call:

@@ -1,5 +1,6 @@
-"""What calls leave as it was: all but some fields of the master directory block, the bits of blocks that were given back, and
-the nodes of both trees that came, left or were written. Index keys of the catalog that are exact stay so."""
+"""What calls leave as it was: all but some fields of the master directory block, the bits of blocks that came or were given back, the
+nodes of both trees that came, left or were written, and blocks of forks where calls wrote some. Index keys of the catalog that are exact
+stay so."""
 from driver.image import BLOCK, Image, Tree, changed_blocks
 from driver.programs import Difference
 
@@ -33,14 +34,15 @@ def map_frame(tree: Tree) -> list[bytes]:
 
 
 def bitmap_after(old: Image, new: Image) -> bytes:
-    """The bitmap of the old image without the blocks of the files that are gone. Where it hasn't changed, no file is looked for: `check`
-    then tells more unowned blocks, if one is gone that had some."""
+    """The bitmap of the old image without the blocks of its files, and with those of the new one's. Where it hasn't changed, no file is looked
+    for: `check` then tells more unowned blocks, if one is gone that had some."""
     if new.bitmap == old.bitmap:
         return old.bitmap
     bits = bytearray(old.bitmap)
-    for number in old.file_blocks.keys() - new.file_blocks.keys():
-        for block in old.file_blocks[number]:
-            bits[block // 8] &= ~(0x80 >> block % 8)
+    for block in (it for blocks in old.file_blocks.values() for it in blocks):
+        bits[block // 8] &= ~(0x80 >> block % 8)
+    for block in (it for blocks in new.file_blocks.values() for it in blocks):
+        bits[block // 8] |= 0x80 >> block % 8
     return bytes(bits)
 
 
@@ -58,8 +60,9 @@ def ensure_nodes_kept(what: str, old: Tree, new: Tree, changed: set[int]) -> Non
     ensure(all(new.node(it).content == bytes(BLOCK) for it in left), f'a node that left {what} has bytes')
 
 
-def ensure_kept(old: Image, new: Image) -> list[int]:
-    """A difference where anything that calls leave is otherwise. The numbers of the blocks that are changed."""
+def ensure_kept(old: Image, new: Image, wrote: bool = False) -> list[int]:
+    """A difference where anything that calls leave is otherwise. Where some wrote forks, which blocks of these they wrote is not looked at.
+    The numbers of the blocks that are changed."""
     changed = changed_blocks(old.content, new.content)
     if not changed:
         return changed
@@ -71,6 +74,8 @@ def ensure_kept(old: Image, new: Image) -> list[int]:
         numbers = {block: number for number, block in enumerate(tree.blocks[:tree.count])}
         ensure_nodes_kept(what, tree, tree_after, {numbers[it] for it in others & numbers.keys()})
         others -= numbers.keys()
+    area = range(old.allocation_start, old.allocation_start + old.block_count * old.factor) if wrote else ()
+    others = {it for it in others if it not in area}
     ensure(not others, f'the blocks {sorted(others)[:9]} are changed')
     ensure(new.catalog.is_exact or not old.catalog.is_exact, 'an index key of the catalog is not the first one of its node any more')
     return changed

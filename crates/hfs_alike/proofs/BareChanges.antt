@@ -1,20 +1,26 @@
 -- What calls change, which no byte of a fork decides.
-use Rattle.std.proofs.Common.{◌≡◌, ℕ, ◌+◌, Bool, true, false, List, ◌++◌, drop, Option, Some, None, Result, Ok, Err, refl, sym, ap, ◌∙◌}
-use Rattle.std.specs.Prelude.{ℤ}
+use Rattle.std.proofs.Common.{◌≡◌, ℕ, ◌+◌, Bool, true, false, List, ◌++◌, drop, length, replicate, Result, Ok, Err, refl, sym, ap, subst, ◌∙◌}
+use Rattle.std.specs.Prelude.{ℤ, max}
 use Rattle.std.specs.FinMap as fin
-use Rattle.std.specs.Option.{option_map, option_map_or}
+use Rattle.std.proofs.lemmas.List.{length-replicate}
+use Rattle.hfs_model.specs.declared.call.Fork.{Fork}
+use Rattle.hfs_model.specs.declared.call.Fork.TheVariants.{DataFork, ResFork}
 use Rattle.hfs_model.specs.declared.item.Kind.{Kind}
 use Rattle.hfs_model.specs.declared.item.Kind.TheVariants.{Folder, File}
 use Rattle.hfs_model.specs.declared.reply.Value.TheVariants as value
-use Rattle.hfs_model.specs.Changes.{Outcome, touched, moved, with_lock, new_folder, new_file, new_item, changed_to, change, add, create, delete, rename, cat_move, set_f_info, set_cat_info, set_lock}
-use Rattle.hfs_model.specs.Children.{entry_at}
-use Rattle.hfs_model.specs.Choices.{to_create, to_delete, to_rename, to_move, to_set_f_info, to_set_cat_info, file_to_change}
+use Rattle.hfs_model.specs.Changes.{Outcome, touched, moved, new_folder, new_file, changed_to, change, create, delete, rename, cat_move, set_f_info, set_cat_info, set_lock}
+use Rattle.hfs_model.specs.Choices.{to_rename, to_move, to_set_f_info}
 use Rattle.hfs_model.specs.FileIds.{with_thread, set_thread, to_create_file_id, to_delete_file_id, change_to_id, create_file_id, delete_file_id}
+use Rattle.hfs_model.specs.Forks.{physical_length, resized, written, with_physical_length, fork_bytes, kind_with_fork}
+use Rattle.hfs_model.specs.ForkCalls.{to_set_eof, to_write_fork, set_eof, write_fork}
 use Rattle.hfs_model.specs.Replies.{success}
 use Rattle.hfs_model.specs.Volume.{Entry, Items, Volume}
-use Rattle.hfs_alike.specs.Alike.{bare_kind, bare_item, bare, bare_items, bare_volume}
-use Rattle.hfs_alike.proofs.BareEntries.{entry_at-bare, entries-bare, insert-bare, remove-bare}
-use Rattle.hfs_alike.proofs.BareChoices.{bare_choice, to_create-bare, to_delete-bare, to_rename-bare, to_move-bare, to_set_f_info-bare, to_set_cat_info-bare, file_to_change-bare, to_create_file_id-bare, to_delete_file_id-bare}
+use Rattle.hfs_model.proofs.ForkLemmas.{length-resized, length-written}
+use Rattle.hfs_model.proofs.KeepsForks.{edited, edits}
+use Rattle.hfs_alike.specs.Alike.{zeros_for, bare_kind, bare_item, bare, bare_items, bare_volume}
+use Rattle.hfs_alike.proofs.BareEntries.{by_keep, tells-bare, insert-bare, items-twice}
+use Rattle.hfs_alike.proofs.MappedCalls.{touched-mapped, change-mapped, create-mapped, delete-mapped, set_cat_info-mapped, set_lock-mapped}
+use Rattle.hfs_alike.proofs.BareChoices.{bare_choice, to_rename-bare, to_move-bare, to_set_f_info-bare, to_create_file_id-bare, to_delete_file_id-bare, to_set_eof-bare, to_write_fork-bare}
 
 -- an outcome with zeros in its volume's forks
 abbrev pub bare_outcome : (ℕ → Bool) → Outcome → Outcome
@@ -28,24 +34,34 @@ pub folder-plain : (kept : Bool) → bare_kind kept new_folder ≡ new_folder
 folder-plain true = refl
 folder-plain false = refl
 
+-- how long the made bytes are is decided by how long the old ones are
+record ByLength (make : List ℕ → List ℕ) : Type 0 where
+  same : (a b : List ℕ) → length a ≡ length b → length (make a) ≡ length (make b)
+
+resized-by : (n : ℕ) → ByLength (resized n)
+resized-by n = record { same = λ a b e. length-resized n a ∙ sym (length-resized n b) }
+
+written-by : (offset : ℕ) (bytes : List ℕ) → ByLength (written offset bytes)
+written-by offset bytes = record { same = λ a b e. length-written offset bytes a ∙ ap (λ (n : ℕ). max n (offset + length bytes)) e ∙ sym (length-written offset bytes b) }
+
+fork_kind-bare : (size : ℕ) (fork : Fork) (make : List ℕ → List ℕ) → ByLength make → (kept : Bool) (k : Kind)
+    → bare_kind kept (kind_with_fork size fork (make (fork_bytes fork (bare_kind kept k))) (bare_kind kept k)) ≡ bare_kind kept (kind_with_fork size fork (make (fork_bytes fork k)) k)
+fork_kind-bare size fork make by true k = refl
+fork_kind-bare size fork make by false (Folder kept) = refl
+fork_kind-bare size DataFork make by false (File file) =
+    let made = by.same (zeros_for file.«data») file.«data» (length-replicate {A = ℕ} (length file.«data») 0) in
+    let other = length-replicate {A = ℕ} (length file.resource) 0 in
+    λ i. File (record file { kept = with_physical_length DataFork (physical_length size (made i)) file.kept; «data» = replicate (made i) 0; resource = replicate (other i) 0 })
+fork_kind-bare size ResFork make by false (File file) =
+    let made = by.same (zeros_for file.resource) file.resource (length-replicate {A = ℕ} (length file.resource) 0) in
+    let other = length-replicate {A = ℕ} (length file.«data») 0 in
+    λ i. File (record file { kept = with_physical_length ResFork (physical_length size (made i)) file.kept; «data» = replicate (other i) 0; resource = replicate (made i) 0 })
+
 module _ (keep : ℕ → Bool) where
   -- ---- changes of the items
 
   touched-bare : (m : Items) (dir now : ℕ) → touched (bare_items keep m) dir now ≡ bare_items keep (touched m dir now)
-  touched-bare m dir now =
-      ap (λ (o : Option Entry). option_map_or (λ (e : Entry). fin.insert (bare_items keep m) e.0 (record e.1 { modified = now })) o (bare_items keep m))
-      (ap (λ (l : List Entry). entry_at l dir) (entries-bare keep m) ∙ entry_at-bare keep (fin.entries m) dir)
-      ∙ by (entry_at (fin.entries m) dir)
-    where
-      by : (o : Option Entry) → option_map_or (λ (e : Entry). fin.insert (bare_items keep m) e.0 (record e.1 { modified = now })) (option_map (bare keep) o) (bare_items keep m)
-          ≡ bare_items keep (option_map_or (λ (e : Entry). fin.insert m e.0 (record e.1 { modified = now })) o m)
-      by None = refl
-      by (Some e) = insert-bare keep m e.0 (record e.1 { modified = now })
-
-  lock-bare : (kept locked : Bool) (k : Kind) → with_lock locked (bare_kind kept k) ≡ bare_kind kept (with_lock locked k)
-  lock-bare true locked k = refl
-  lock-bare false locked (Folder kept) = refl
-  lock-bare false locked (File file) = refl
+  touched-bare = touched-mapped (by_keep keep) (tells-bare keep)
 
   with_thread-bare : (kept there : Bool) (k : Kind) → with_thread there (bare_kind kept k) ≡ bare_kind kept (with_thread there k)
   with_thread-bare true there k = refl
@@ -62,11 +78,7 @@ module _ (keep : ℕ → Bool) where
   module _ (v : Volume) (now : ℕ) where
     change-bare : (s r : Result Entry ℤ) (make : Entry → Items → Items) → s ≡ bare_choice keep r
         → ((e : Entry) → make (bare keep e) (bare_items keep v.items) ≡ bare_items keep (make e v.items)) → change (bare_volume keep v) s make now ≡ bare_outcome keep (change v r make now)
-    change-bare s r make chosen same = ap (λ (t : Result Entry ℤ). change (bare_volume keep v) t make now) chosen ∙ by r
-      where
-        by : (r : Result Entry ℤ) → change (bare_volume keep v) (bare_choice keep r) make now ≡ bare_outcome keep (change v r make now)
-        by (Ok e) = ap (λ (items : Items). (changed_to (bare_volume keep v) items now, success value.Nothing)) (same e)
-        by (Err code) = refl
+    change-bare s r make chosen same = change-mapped (by_keep keep) (tells-bare keep) v now s r make chosen (λ e is. same e)
 
     id-bare : (s r : Result Entry ℤ) (make : Entry → Items → Items) → s ≡ bare_choice keep r
         → ((e : Entry) → make (bare keep e) (bare_items keep v.items) ≡ bare_items keep (make e v.items))
@@ -77,30 +89,14 @@ module _ (keep : ℕ → Bool) where
         by (Ok e) = ap (λ (items : Items). (changed_to (bare_volume keep v) items now, success (value.Id e.0))) (same e)
         by (Err code) = refl
 
-    add-bare : (s r : Result ℕ ℤ) (make : ℕ → Items → Items) → s ≡ r → ((id : ℕ) → make id (bare_items keep v.items) ≡ bare_items keep (make id v.items))
-        → add (bare_volume keep v) s make now ≡ bare_outcome keep (add v r make now)
-    add-bare s r make chosen same = ap (λ (t : Result ℕ ℤ). add (bare_volume keep v) t make now) chosen ∙ by r
-      where
-        by : (r : Result ℕ ℤ) → add (bare_volume keep v) r make now ≡ bare_outcome keep (add v r make now)
-        by (Ok id) = ap (λ (items : Items). (record (changed_to (bare_volume keep v) items now) { next_id = v.next_id + 1 }, success (value.Id id))) (same id)
-        by (Err code) = refl
-
     -- ---- the calls
 
     pub create-bare : (kind : Kind) → ((kept : Bool) → bare_kind kept kind ≡ kind) → (dir : ℕ) (name : List ℕ)
         → create kind (bare_volume keep v) dir name now ≡ bare_outcome keep (create kind v dir name now)
-    unfolding create
-    create-bare kind plain dir name =
-        let x = new_item kind dir name now in
-        add-bare (to_create (bare_volume keep v) dir name) (to_create v dir name) (λ id m. touched (fin.insert m id x) dir now) (to_create-bare keep v dir name)
-        (λ id. ap (λ (k : Kind). touched (fin.insert (bare_items keep v.items) id (new_item k dir name now)) dir now) (sym (plain (keep id)))
-        ∙ ap (λ (m : Items). touched m dir now) (insert-bare keep v.items id x) ∙ touched-bare (fin.insert v.items id x) dir now)
+    create-bare kind plain dir name = create-mapped (by_keep keep) (tells-bare keep) v now kind (plain (keep v.next_id)) dir name
 
     pub delete-bare : (dir : ℕ) (name : List ℕ) → delete (bare_volume keep v) dir name now ≡ bare_outcome keep (delete v dir name now)
-    unfolding delete
-    delete-bare dir name =
-        change-bare (to_delete (bare_volume keep v) dir name) (to_delete v dir name) (λ e m. touched (fin.remove m e.0) dir now) (to_delete-bare keep v dir name)
-        (λ e. ap (λ (m : Items). touched m dir now) (remove-bare keep v.items e.0) ∙ touched-bare (fin.remove v.items e.0) dir now)
+    delete-bare = delete-mapped (by_keep keep) (tells-bare keep) v now
 
     pub rename-bare : (dir : ℕ) (name new_name : List ℕ) → rename (bare_volume keep v) dir name new_name now ≡ bare_outcome keep (rename v dir name new_name now)
     unfolding rename
@@ -126,19 +122,10 @@ module _ (keep : ℕ → Bool) where
 
     pub set_cat_info-bare : (dir : ℕ) (name : List ℕ) (created modified backup : ℕ) (info : List ℕ)
         → set_cat_info (bare_volume keep v) dir name created modified backup info now ≡ bare_outcome keep (set_cat_info v dir name created modified backup info now)
-    unfolding set_cat_info
-    set_cat_info-bare dir name created modified backup info =
-        change-bare (to_set_cat_info (bare_volume keep v) dir name) (to_set_cat_info v dir name)
-        (λ e m. fin.insert m e.0 (record e.1 { created = created; modified = modified; backup = backup; finder = info })) (to_set_cat_info-bare keep v dir name)
-        (λ e. insert-bare keep v.items e.0 (record e.1 { created = created; modified = modified; backup = backup; finder = info }))
+    set_cat_info-bare = set_cat_info-mapped (by_keep keep) (tells-bare keep) v now
 
     pub set_lock-bare : (locked : Bool) (dir : ℕ) (name : List ℕ) → set_lock locked (bare_volume keep v) dir name now ≡ bare_outcome keep (set_lock locked v dir name now)
-    unfolding set_lock
-    set_lock-bare locked dir name =
-        change-bare (file_to_change (bare_volume keep v) dir name) (file_to_change v dir name)
-        (λ e m. fin.insert m e.0 (record e.1 { kind = with_lock locked e.1.kind })) (file_to_change-bare keep v dir name)
-        (λ e. ap (λ (k : Kind). fin.insert (bare_items keep v.items) e.0 (record (bare_item (keep e.0) e.1) { kind = k })) (lock-bare (keep e.0) locked e.1.kind)
-        ∙ insert-bare keep v.items e.0 (record e.1 { kind = with_lock locked e.1.kind }))
+    set_lock-bare = set_lock-mapped (by_keep keep) (tells-bare keep) v now
 
     pub create_file_id-bare : (dir : ℕ) (name : List ℕ) → create_file_id (bare_volume keep v) dir name now ≡ bare_outcome keep (create_file_id v dir name now)
     unfolding create_file_id
@@ -151,3 +138,42 @@ module _ (keep : ℕ → Bool) where
     delete_file_id-bare id =
         change-bare (to_delete_file_id (bare_volume keep v) id) (to_delete_file_id v id) (set_thread false) (to_delete_file_id-bare keep v id)
         (λ e. entry_thread-bare false e v.items)
+
+    -- ---- the calls that write forks, whose own bytes are no zeros: both volumes are bared behind them
+
+    -- the same but for the bytes of forks, and the same reply
+    pub record EndsBare (there here : Outcome) : Type 0 where
+      pub volume : bare_volume keep there.0 ≡ bare_volume keep here.0
+      pub reply : there.1 ≡ here.1
+
+    ends-bare : (s r : Result Entry ℤ) (make : Entry → Items → Items) → s ≡ bare_choice keep r
+        → ((e : Entry) → bare_items keep (make (bare keep e) (bare_items keep v.items)) ≡ bare_items keep (make e v.items))
+        → EndsBare (change (bare_volume keep v) s make now) (change v r make now)
+    ends-bare s r make chosen same = subst (λ (t : Result Entry ℤ). EndsBare (change (bare_volume keep v) t make now) (change v r make now)) (sym chosen) (by r)
+      where
+        by : (r : Result Entry ℤ) → EndsBare (change (bare_volume keep v) (bare_choice keep r) make now) (change v r make now)
+        by (Ok e) = record { volume = ap (λ (items : Items). changed_to v items now) (same e); reply = refl }
+        by (Err code) = record { volume = ap (λ (items : Items). record v { items = items }) (items-twice keep v.items); reply = refl }
+
+    -- an entry whose fork was made anew
+    fork_put-bare : (size : ℕ) (fork : Fork) (make : List ℕ → List ℕ) → ByLength make → (e : Entry)
+        → bare_items keep (edits size fork make now (bare keep e) (bare_items keep v.items)) ≡ bare_items keep (edits size fork make now e v.items)
+    fork_put-bare size fork make by e =
+        let x = edited size fork make now (bare_item (keep e.0) e.1) in
+        sym (insert-bare keep (bare_items keep v.items) e.0 x)
+        ∙ ap (λ (items : Items). fin.insert items e.0 (bare_item (keep e.0) x)) (items-twice keep v.items)
+        ∙ ap (λ (k : Kind). fin.insert (bare_items keep v.items) e.0 (record e.1 { modified = now; kind = k })) (fork_kind-bare size fork make by (keep e.0) e.1.kind)
+        ∙ insert-bare keep v.items e.0 (edited size fork make now e.1)
+
+    pub set_eof-bare : (size dir : ℕ) (name : List ℕ) (fork : Fork) (length : ℕ) → EndsBare (set_eof size (bare_volume keep v) dir name fork length now) (set_eof size v dir name fork length now)
+    unfolding set_eof
+    set_eof-bare size dir name fork length =
+        ends-bare (to_set_eof (bare_volume keep v) dir name length) (to_set_eof v dir name length) (edits size fork (resized length) now) (to_set_eof-bare keep v dir name length)
+        (fork_put-bare size fork (resized length) (resized-by length))
+
+    pub write_fork-bare : (size dir : ℕ) (name : List ℕ) (fork : Fork) (offset : ℕ) (bytes : List ℕ)
+        → EndsBare (write_fork size (bare_volume keep v) dir name fork offset bytes now) (write_fork size v dir name fork offset bytes now)
+    unfolding write_fork
+    write_fork-bare size dir name fork offset bytes =
+        ends-bare (to_write_fork (bare_volume keep v) dir name fork offset bytes) (to_write_fork v dir name fork offset bytes) (edits size fork (written offset bytes) now)
+        (to_write_fork-bare keep v dir name fork offset bytes) (fork_put-bare size fork (written offset bytes) (written-by offset bytes))

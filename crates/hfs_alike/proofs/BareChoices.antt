@@ -1,43 +1,49 @@
 -- What calls choose, which no byte of a fork decides.
-use Rattle.std.proofs.Common.{◌≡◌, ℕ, zero, suc, Bool, true, false, cond, List, length, map, Option, Some, None, is_some, Result, Ok, Err, refl, ap, ◌∙◌}
-use Rattle.std.specs.Prelude.{ℤ, not, ◌&&◌, ◌||◌, ◌==◌, nat_lt, if◌then◌else◌, find}
+use Rattle.std.proofs.Common.{◌≡◌, ℕ, zero, suc, ◌+◌, Bool, true, false, cond, List, length, map, Option, is_some, Result, Ok, Err, refl, ap, ◌∙◌}
+use Rattle.std.specs.Prelude.{ℤ, not, ◌&&◌, ◌||◌, ◌==◌, nat_lt, find}
 use Rattle.std.specs.Option.{option_map, option_map_or, ok_or}
 use Rattle.std.proofs.lemmas.List.{length-map}
 use Rattle.hfs_fields.specs.Names.{is_item_name}
-use Rattle.hfs_model.specs.declared.codes.TheConstants.{FOLDER_FULL, BAD_NAME, NOT_FOUND, FILE_LOCKED, BUSY, DUPLICATE, NOT_A_FOLDER, BAD_MOVE, FILE_ID_NOT_FOUND, FILE_ID_EXISTS, NOT_A_FILE}
-use Rattle.hfs_model.specs.Children.{is_folder, is_folder_kind, child_named, valence, entries_of, entry_at}
+use Rattle.hfs_model.specs.declared.codes.TheConstants.{FOLDER_FULL, BAD_NAME, DUPLICATE, NOT_A_FOLDER, BAD_MOVE, END_OF_FILE, PARAMETER, FILE_ID_NOT_FOUND, FILE_ID_EXISTS, NOT_A_FILE}
+use Rattle.hfs_model.specs.Children.{is_folder, is_folder_kind, valence, entries_of, entry_at}
 use Rattle.hfs_model.specs.Choices.{and_then, is_locked, lock_code, is_busy, is_full, is_held, is_other_named, is_taken, lies_in, is_bad_move, child_to_change, file_to_change, unless_locked_file, to_create, to_delete, to_rename, to_move, to_set_f_info, to_set_cat_info}
+use Rattle.hfs_model.specs.Forks.{fork_bytes}
+use Rattle.hfs_model.specs.ForkCalls.{file_to_write, to_set_eof, unless_past_end, to_write_fork}
+use Rattle.hfs_model.specs.declared.call.Fork.{Fork}
+use Rattle.hfs_model.specs.declared.call.Fork.TheVariants.{DataFork, ResFork}
+use Rattle.hfs_model.specs.declared.item.Kind.{Kind}
 use Rattle.hfs_model.specs.FileIds.{unless_has_thread, if_has_thread, file_of_id, to_create_file_id, to_delete_file_id, place_reply}
-use Rattle.hfs_model.specs.Replies.{is_locked_file, has_thread}
+use Rattle.hfs_model.specs.Replies.{has_thread}
 use Rattle.hfs_model.specs.Volume.{Entry, Volume}
-use Rattle.hfs_alike.specs.Alike.{bare, bare_volume}
-use Rattle.hfs_alike.proofs.BareEntries.{folder-bare, locked-bare, thread-bare, find-bare, or-bare, some-bare, entry_at-bare, child_named-bare, is_folder-bare, valence-bare, entries-bare}
+use Rattle.hfs_alike.specs.Alike.{bare_kind, bare, bare_volume}
+use Rattle.hfs_alike.proofs.MappedChoices.{mapped_choice, err-or-mapped, ok-mapped, then-mapped, unless_locked-mapped, folder-is-mapped, valence-is-mapped, held-is-mapped, full-is-mapped, busy-is-mapped, child_to_change-mapped, behind-child-mapped, file_to_change-mapped, to_create-mapped, to_delete-mapped, to_set_cat_info-mapped, file_to_write-mapped, to_set_eof-mapped}
+use Rattle.hfs_alike.proofs.BareEntries.{by_keep, tells-bare, folder-bare, thread-bare, data-bare, resource-bare, find-bare, or-bare, some-bare, entry_at-bare, entries-bare}
 
 -- the chosen entry with zeros in its forks
 abbrev pub bare_choice : (ℕ → Bool) → Result Entry ℤ → Result Entry ℤ
-bare_choice keep (Ok e) = Ok (bare keep e)
-bare_choice keep (Err code) = Err code
+bare_choice keep r = mapped_choice (by_keep keep) r
+
+-- a fork stays as long
+pub fork-bare : (fork : Fork) (kept : Bool) (k : Kind) → length (fork_bytes fork (bare_kind kept k)) ≡ length (fork_bytes fork k)
+fork-bare DataFork kept k = data-bare kept k
+fork-bare ResFork kept k = resource-bare kept k
 
 module _ (keep : ℕ → Bool) where
   -- ---- choices one behind the other
 
   err-or : (b : Bool) (code : ℤ) (r s : Result Entry ℤ) → r ≡ bare_choice keep s → cond b (Err code) r ≡ bare_choice keep (cond b (Err code) s)
-  err-or true code r s same = refl
-  err-or false code r s same = same
+  err-or = err-or-mapped (by_keep keep) (tells-bare keep)
 
   ok-bare : (o : Option Entry) (code : ℤ) → ok_or (option_map (bare keep) o) code ≡ bare_choice keep (ok_or o code)
-  ok-bare None code = refl
-  ok-bare (Some e) code = refl
+  ok-bare = ok-mapped (by_keep keep) (tells-bare keep)
 
   then-bare : (r : Result Entry ℤ) (f g : Entry → Result Entry ℤ) → ((e : Entry) → f (bare keep e) ≡ bare_choice keep (g e)) → and_then (bare_choice keep r) f ≡ bare_choice keep (and_then r g)
-  then-bare (Ok e) f g same = same e
-  then-bare (Err code) f g same = refl
+  then-bare = then-mapped (by_keep keep) (tells-bare keep)
 
   -- ---- tests of one entry
 
   unless_locked-bare : (e : Entry) → unless_locked_file (bare keep e) ≡ bare_choice keep (unless_locked_file e)
-  unless_locked-bare e =
-      ap (λ (b : Bool). cond b (Err FILE_LOCKED) (Ok (bare keep e))) (locked-bare (keep e.0) e.1.kind) ∙ err-or (is_locked_file e.1.kind) FILE_LOCKED (Ok (bare keep e)) (Ok e) refl
+  unless_locked-bare = unless_locked-mapped (by_keep keep) (tells-bare keep)
 
   unless_folder-bare : (code : ℤ) (e : Entry) (r s : Result Entry ℤ) → r ≡ bare_choice keep s
       → cond (is_folder_kind (bare keep e).1.kind) (Err code) r ≡ bare_choice keep (cond (is_folder_kind e.1.kind) (Err code) s)
@@ -88,16 +94,13 @@ module _ (keep : ℕ → Bool) where
     are = entries-bare keep v.items
 
     folder-is : (dir : ℕ) → is_folder (entries_of (bare_volume keep v)) dir ≡ is_folder es dir
-    folder-is dir = ap (λ (l : List Entry). is_folder l dir) are ∙ is_folder-bare keep es dir
+    folder-is = folder-is-mapped (by_keep keep) (tells-bare keep) v
 
     valence-is : (dir : ℕ) → valence (entries_of (bare_volume keep v)) dir ≡ valence es dir
-    valence-is dir = ap (λ (l : List Entry). valence l dir) are ∙ valence-bare keep es dir
+    valence-is = valence-is-mapped (by_keep keep) (tells-bare keep) v
 
     held-is : (dir : ℕ) (name : List ℕ) → is_held (entries_of (bare_volume keep v)) dir name ≡ is_held es dir name
-    unfolding is_held
-    held-is dir name =
-        ap (λ (l : List Entry). is_some (child_named l dir name)) are ∙ ap (λ (o : Option Entry). is_some o) (child_named-bare keep es dir name)
-        ∙ some-bare keep (child_named es dir name)
+    held-is = held-is-mapped (by_keep keep) (tells-bare keep) v
 
     taken-is : (dir : ℕ) (name : List ℕ) (id : ℕ) → is_taken (entries_of (bare_volume keep v)) dir name id ≡ is_taken es dir name id
     unfolding is_taken
@@ -106,12 +109,10 @@ module _ (keep : ℕ → Bool) where
         ∙ ap (λ (o : Option Entry). is_some o) (find-bare keep (is_other_named dir name id) (λ e. refl) es) ∙ some-bare keep (find (is_other_named dir name id) es)
 
     full-is : (dir : ℕ) → is_full (entries_of (bare_volume keep v)) dir ≡ is_full es dir
-    unfolding is_full
-    full-is dir = ap (λ (n : ℕ). not (nat_lt n 65535)) (valence-is dir)
+    full-is = full-is-mapped (by_keep keep) (tells-bare keep) v
 
     busy-is : (e : Entry) → is_busy (entries_of (bare_volume keep v)) (bare keep e) ≡ is_busy es e
-    unfolding is_busy
-    busy-is e = λ i. folder-bare (keep e.0) e.1.kind i && nat_lt 0 (valence-is e.0 i)
+    busy-is = busy-is-mapped (by_keep keep) (tells-bare keep) v
 
     bad-is : (e : Entry) (dir : ℕ) → is_bad_move (entries_of (bare_volume keep v)) (bare keep e) dir ≡ is_bad_move es e dir
     unfolding is_bad_move
@@ -122,50 +123,21 @@ module _ (keep : ℕ → Bool) where
     -- ---- the choices
 
     pub child_to_change-bare : (dir : ℕ) (name : List ℕ) → child_to_change (bare_volume keep v) dir name ≡ bare_choice keep (child_to_change v dir name)
-    unfolding child_to_change
-    child_to_change-bare dir name =
-        let found = ok_or (child_named (entries_of (bare_volume keep v)) dir name) NOT_FOUND in
-        let here = ok_or (child_named es dir name) NOT_FOUND in
-        let same : found ≡ bare_choice keep here =
-        ap (λ (l : List Entry). ok_or (child_named l dir name) NOT_FOUND) are ∙ ap (λ (o : Option Entry). ok_or o NOT_FOUND) (child_named-bare keep es dir name)
-        ∙ ok-bare (child_named es dir name) NOT_FOUND in
-        let behind : cond (not (is_folder (entries_of (bare_volume keep v)) dir)) (Err NOT_A_FOLDER) found
-        ≡ bare_choice keep (cond (not (is_folder es dir)) (Err NOT_A_FOLDER) here) =
-        ap (λ (b : Bool). cond (not b) (Err NOT_A_FOLDER) found) (folder-is dir) ∙ err-or (not (is_folder es dir)) NOT_A_FOLDER found here same in
-        err-or (is_locked v) (lock_code v) (cond (not (is_item_name name)) (Err BAD_NAME) (cond (not (is_folder (entries_of (bare_volume keep v)) dir)) (Err NOT_A_FOLDER) found))
-        (cond (not (is_item_name name)) (Err BAD_NAME) (cond (not (is_folder es dir)) (Err NOT_A_FOLDER) here))
-        (err-or (not (is_item_name name)) BAD_NAME (cond (not (is_folder (entries_of (bare_volume keep v)) dir)) (Err NOT_A_FOLDER) found)
-        (cond (not (is_folder es dir)) (Err NOT_A_FOLDER) here) behind)
+    child_to_change-bare = child_to_change-mapped (by_keep keep) (tells-bare keep) v
 
     -- a choice behind that one
     behind-child : (dir : ℕ) (name : List ℕ) (f g : Entry → Result Entry ℤ) → ((e : Entry) → f (bare keep e) ≡ bare_choice keep (g e))
         → and_then (child_to_change (bare_volume keep v) dir name) f ≡ bare_choice keep (and_then (child_to_change v dir name) g)
-    behind-child dir name f g same =
-        ap (λ (r : Result Entry ℤ). and_then r f) (child_to_change-bare dir name) ∙ then-bare (child_to_change v dir name) f g same
+    behind-child = behind-child-mapped (by_keep keep) (tells-bare keep) v
 
     pub file_to_change-bare : (dir : ℕ) (name : List ℕ) → file_to_change (bare_volume keep v) dir name ≡ bare_choice keep (file_to_change v dir name)
-    unfolding file_to_change
-    file_to_change-bare dir name =
-        behind-child dir name (λ e. if is_folder_kind e.1.kind then Err NOT_FOUND else Ok e) (λ e. if is_folder_kind e.1.kind then Err NOT_FOUND else Ok e)
-        (λ e. unless_folder-bare NOT_FOUND e (Ok (bare keep e)) (Ok e) refl)
+    file_to_change-bare = file_to_change-mapped (by_keep keep) (tells-bare keep) v
 
     pub to_create-bare : (dir : ℕ) (name : List ℕ) → to_create (bare_volume keep v) dir name ≡ to_create v dir name
-    unfolding to_create
-    to_create-bare dir name = λ i.
-        if is_locked v then Err (lock_code v)
-        else if not (is_item_name name) then Err BAD_NAME
-        else if not (folder-is dir i) then Err NOT_A_FOLDER
-        else if held-is dir name i then Err DUPLICATE
-        else if full-is dir i || (v.next_id == 4294967295) then Err FOLDER_FULL
-        else Ok v.next_id
+    to_create-bare = to_create-mapped (by_keep keep) (tells-bare keep) v
 
     pub to_delete-bare : (dir : ℕ) (name : List ℕ) → to_delete (bare_volume keep v) dir name ≡ bare_choice keep (to_delete v dir name)
-    unfolding to_delete
-    to_delete-bare dir name =
-        behind-child dir name (λ e. if is_busy (entries_of (bare_volume keep v)) e then Err BUSY else unless_locked_file e)
-        (λ e. if is_busy es e then Err BUSY else unless_locked_file e)
-        (λ e. ap (λ (b : Bool). cond b (Err BUSY) (unless_locked_file (bare keep e))) (busy-is e)
-        ∙ err-or (is_busy es e) BUSY (unless_locked_file (bare keep e)) (unless_locked_file e) (unless_locked-bare e))
+    to_delete-bare = to_delete-mapped (by_keep keep) (tells-bare keep) v
 
     pub to_rename-bare : (dir : ℕ) (name new_name : List ℕ) → to_rename (bare_volume keep v) dir name new_name ≡ bare_choice keep (to_rename v dir name new_name)
     unfolding to_rename
@@ -207,8 +179,7 @@ module _ (keep : ℕ → Bool) where
         ∙ then-bare (file_to_change v dir name) unless_locked_file unless_locked_file unless_locked-bare
 
     pub to_set_cat_info-bare : (dir : ℕ) (name : List ℕ) → to_set_cat_info (bare_volume keep v) dir name ≡ bare_choice keep (to_set_cat_info v dir name)
-    unfolding to_set_cat_info
-    to_set_cat_info-bare dir name = behind-child dir name unless_locked_file unless_locked_file unless_locked-bare
+    to_set_cat_info-bare = to_set_cat_info-mapped (by_keep keep) (tells-bare keep) v
 
     pub to_create_file_id-bare : (dir : ℕ) (name : List ℕ) → to_create_file_id (bare_volume keep v) dir name ≡ bare_choice keep (to_create_file_id v dir name)
     unfolding to_create_file_id
@@ -218,3 +189,23 @@ module _ (keep : ℕ → Bool) where
     unfolding to_delete_file_id
     to_delete_file_id-bare id = err-or (is_locked v) (lock_code v) (file_of_id (entries_of (bare_volume keep v)) id) (file_of_id es id)
         (ap (λ (l : List Entry). file_of_id l id) are ∙ file_of_id-bare es id)
+
+    file_to_write-bare : (dir : ℕ) (name : List ℕ) → file_to_write (bare_volume keep v) dir name ≡ bare_choice keep (file_to_write v dir name)
+    file_to_write-bare = file_to_write-mapped (by_keep keep) (tells-bare keep) v
+
+    pub to_set_eof-bare : (dir : ℕ) (name : List ℕ) (length : ℕ) → to_set_eof (bare_volume keep v) dir name length ≡ bare_choice keep (to_set_eof v dir name length)
+    to_set_eof-bare = to_set_eof-mapped (by_keep keep) (tells-bare keep) v
+
+    past_end-bare : (fork : Fork) (offset : ℕ) (e : Entry) → unless_past_end fork offset (bare keep e) ≡ bare_choice keep (unless_past_end fork offset e)
+    past_end-bare fork offset e =
+        ap (λ (n : ℕ). cond (nat_lt n offset) (Err END_OF_FILE) (Ok (bare keep e))) (fork-bare fork (keep e.0) e.1.kind)
+        ∙ err-or (nat_lt (length (fork_bytes fork e.1.kind)) offset) END_OF_FILE (Ok (bare keep e)) (Ok e) refl
+
+    pub to_write_fork-bare : (dir : ℕ) (name : List ℕ) (fork : Fork) (offset : ℕ) (bytes : List ℕ)
+        → to_write_fork (bare_volume keep v) dir name fork offset bytes ≡ bare_choice keep (to_write_fork v dir name fork offset bytes)
+    unfolding to_write_fork
+    to_write_fork-bare dir name fork offset bytes =
+        err-or (nat_lt 65536 (length bytes) || nat_lt 2147483647 (offset + length bytes)) PARAMETER
+        (and_then (file_to_write (bare_volume keep v) dir name) (unless_past_end fork offset)) (and_then (file_to_write v dir name) (unless_past_end fork offset))
+        (ap (λ (r : Result Entry ℤ). and_then r (unless_past_end fork offset)) (file_to_write-bare dir name)
+        ∙ then-bare (file_to_write v dir name) (unless_past_end fork offset) (unless_past_end fork offset) (past_end-bare fork offset))

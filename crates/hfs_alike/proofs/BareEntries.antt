@@ -1,26 +1,22 @@
 -- Entries with zeros in their forks: what is found among them is what is found among the entries themselves.
-use Rattle.std.proofs.Common.{◌≡◌, ℕ, ◌+◌, Bool, true, false, cond, List, [], ◌∷◌, length, map, Option, Some, None, is_some, refl, sym, ap, subst, ◌∙◌}
-use Rattle.std.specs.Prelude.{T, find, fold, ◌&&◌}
-use Rattle.std.specs.declared.cmp.Ordering.{Ordering}
-use Rattle.std.specs.declared.cmp.Ordering.TheVariants.{Less, Equal, Greater}
+use Rattle.std.proofs.Common.{◌≡◌, ℕ, Bool, true, false, cond, List, [], ◌∷◌, length, map, Option, is_some, refl, sym, ap, ◌∙◌}
+use Rattle.std.specs.Prelude.{find, fold, replicate}
 use Rattle.std.specs.Cmp.{nat_cmp_total}
 use Rattle.std.specs.FinMap as fin
 use Rattle.std.specs.FinMap.{nat_cmp-IsAntisymmetric}
-use Rattle.std.specs.FinMap.Entries as entries
 use Rattle.std.specs.Option.{option_map, option_map_or}
-use Rattle.std.specs.Ordering.{nat_cmp, is_eq, is_lt, is_gt, eq_by_cmp}
+use Rattle.std.specs.Ordering.{nat_cmp, is_gt}
 use Rattle.std.proofs.lemmas.List.{length-replicate}
-use Rattle.std.proofs.lemmas.List.Sums.{sum_by-cons}
 use Rattle.hfs_fields.specs.Order.{name_cmp}
 use Rattle.hfs_model.specs.declared.item.Item.{Item}
 use Rattle.hfs_model.specs.declared.item.Kind.{Kind}
 use Rattle.hfs_model.specs.declared.item.Kind.TheVariants.{Folder, File}
-use Rattle.hfs_model.specs.Children.{is_folder_kind, has_id, entry_at, is_folder, is_child, is_child_named, child_named, valence, place, place_child, children}
+use Rattle.hfs_model.specs.Changes.{with_lock}
+use Rattle.hfs_model.specs.Children.{is_folder_kind, entry_at, is_folder, is_child, child_named, valence, place, place_child, children}
 use Rattle.hfs_model.specs.Replies.{data_of, resource_of, has_thread, is_locked_file, item_kind_of}
 use Rattle.hfs_model.specs.Volume.{Entry, Items}
 use Rattle.hfs_alike.specs.Alike.{bare_kind, bare_item, bare, bare_items}
-
--- ---- what a kind tells
+use Rattle.hfs_alike.proofs.MappedEntries.{TellsSame, find-mapped, or-mapped, some-mapped, entry_at-mapped, child_named-mapped, is_folder-mapped, valence-mapped, entries-mapped, get-mapped, insert-mapped}
 
 -- ---- what a kind tells
 
@@ -54,42 +50,45 @@ resource-bare true k = refl
 resource-bare false (Folder kept) = refl
 resource-bare false (File file) = length-replicate {A = ℕ} (length file.resource) 0
 
+-- with zeros, unless it is kept
+abbrev pub by_keep : (ℕ → Bool) → ℕ → Kind → Kind
+by_keep keep q k = bare_kind (keep q) k
+
+lock-bare : (kept locked : Bool) (k : Kind) → with_lock locked (bare_kind kept k) ≡ bare_kind kept (with_lock locked k)
+lock-bare true locked k = refl
+lock-bare false locked (Folder kept) = refl
+lock-bare false locked (File file) = refl
+
+pub tells-bare : (keep : ℕ → Bool) → TellsSame (by_keep keep)
+tells-bare keep = record {
+  folder = λ q k. folder-bare (keep q) k;
+  locked = λ q k. locked-bare (keep q) k;
+  lock = λ locked q k. lock-bare (keep q) locked k;
+}
+
 module _ (keep : ℕ → Bool) where
   -- ---- what is found
 
   pub find-bare : (p : Entry → Bool) → ((e : Entry) → p (bare keep e) ≡ p e) → (es : List Entry) → find p (map (bare keep) es) ≡ option_map (bare keep) (find p es)
-  find-bare p same [] = refl
-  find-bare p same (e ∷ es) =
-      ap (λ (b : Bool). cond b (Some (bare keep e)) (find p (map (bare keep) es))) (same e)
-      ∙ elim (p e) as (λ (b : Bool). cond b (Some (bare keep e)) (find p (map (bare keep) es)) ≡ option_map (bare keep) (cond b (Some e) (find p es))) [
-        | true ↦ refl
-        | false ↦ find-bare p same es
-      ]
+  find-bare = find-mapped (by_keep keep)
 
   pub or-bare : {B : Type 0} (f g : Entry → B) → ((e : Entry) → f (bare keep e) ≡ g e) → (o : Option Entry) (d : B) → option_map_or f (option_map (bare keep) o) d ≡ option_map_or g o d
-  or-bare f g same None d = refl
-  or-bare f g same (Some e) d = same e
+  or-bare {B} f g same o d = or-mapped (by_keep keep) f g same o d
 
   pub some-bare : (o : Option Entry) → is_some (option_map (bare keep) o) ≡ is_some o
-  some-bare None = refl
-  some-bare (Some e) = refl
+  some-bare = some-mapped (by_keep keep)
 
   pub entry_at-bare : (es : List Entry) (id : ℕ) → entry_at (map (bare keep) es) id ≡ option_map (bare keep) (entry_at es id)
-  entry_at-bare es id = find-bare (has_id id) (λ e. refl) es
+  entry_at-bare = entry_at-mapped (by_keep keep)
 
   pub child_named-bare : (es : List Entry) (dir : ℕ) (name : List ℕ) → child_named (map (bare keep) es) dir name ≡ option_map (bare keep) (child_named es dir name)
-  child_named-bare es dir name = find-bare (is_child_named dir name) (λ e. refl) es
+  child_named-bare = child_named-mapped (by_keep keep)
 
   pub is_folder-bare : (es : List Entry) (id : ℕ) → is_folder (map (bare keep) es) id ≡ is_folder es id
-  is_folder-bare es id =
-      ap (λ (o : Option Entry). option_map_or (λ (e : Entry). is_folder_kind e.1.kind) o false) (entry_at-bare es id)
-      ∙ or-bare (λ (e : Entry). is_folder_kind e.1.kind) (λ (e : Entry). is_folder_kind e.1.kind) (λ e. folder-bare (keep e.0) e.1.kind) (entry_at es id) false
+  is_folder-bare = is_folder-mapped (by_keep keep) (tells-bare keep)
 
   pub valence-bare : (es : List Entry) (dir : ℕ) → valence (map (bare keep) es) dir ≡ valence es dir
-  valence-bare [] dir = refl
-  valence-bare (e ∷ es) dir =
-      sum_by-cons (λ (x : Entry). cond (is_child dir x) 1 0) (bare keep e) (map (bare keep) es) ∙ ap (λ (n : ℕ). cond (is_child dir e) 1 0 + n) (valence-bare es dir)
-      ∙ sym (sum_by-cons (λ (x : Entry). cond (is_child dir x) 1 0) e es)
+  valence-bare = valence-mapped (by_keep keep)
 
   -- ---- children in name order
 
@@ -121,67 +120,33 @@ module _ (keep : ℕ → Bool) where
   map-bare f g same [] = refl
   map-bare f g same (e ∷ es) = λ i. same e i ∷ map-bare f g same es i
 
+  -- zeros once are zeros twice
+  pub twice-kind : (kept : Bool) (k : Kind) → bare_kind kept (bare_kind kept k) ≡ bare_kind kept k
+  twice-kind true k = refl
+  twice-kind false (Folder kept) = refl
+  twice-kind false (File file) =
+      let d = length-replicate {A = ℕ} (length file.«data») 0 in
+      let r = length-replicate {A = ℕ} (length file.resource) 0 in
+      λ i. File (record file { «data» = replicate (d i) 0; resource = replicate (r i) 0 })
+
+  twice : (e : Entry) → bare keep (bare keep e) ≡ bare keep e
+  twice e = ap (λ (k : Kind). (e.0, record e.1 { kind = k })) (twice-kind (keep e.0) e.1.kind)
+
   -- ---- the map of items
 
-  below-bare : (x : ℕ) (es : List Entry) → entries.below_all nat_cmp x (map (bare keep) es) ≡ entries.below_all nat_cmp x es
-  below-bare x [] = refl
-  below-bare x (e ∷ es) = ap (λ (b : Bool). is_lt (nat_cmp x e.0) && b) (below-bare x es)
-
-  sorted-bare : (es : List Entry) → entries.is_sorted nat_cmp (map (bare keep) es) ≡ entries.is_sorted nat_cmp es
-  sorted-bare [] = refl
-  sorted-bare (e ∷ es) = λ i. below-bare e.0 es i && sorted-bare es i
-
   pub entries-bare : (items : Items) → fin.entries (bare_items keep items) ≡ map (bare keep) (fin.entries items)
-  entries-bare items =
-      fin.entries-from_sorted nat_cmp (map (bare keep) (fin.entries items)) (subst T (sym (sorted-bare (fin.entries items))) (fin.entries_sorted items))
+  entries-bare = entries-mapped (by_keep keep)
 
-  -- at a key
-  lookup-bare : (q : ℕ) (es : List Entry) → entries.find nat_cmp q (map (bare keep) es) ≡ option_map (bare_item (keep q)) (entries.find nat_cmp q es)
-  lookup-bare q [] = refl
-  lookup-bare q (e ∷ es) =
-      elim (nat_cmp q e.0)
-      as (λ (r : Ordering). nat_cmp q e.0 ≡ r → cond (is_eq r) (Some (bare_item (keep e.0) e.1)) (entries.find nat_cmp q (map (bare keep) es))
-      ≡ option_map (bare_item (keep q)) (cond (is_eq r) (Some e.1) (entries.find nat_cmp q es))) [
-        | Less ↦ λ t. lookup-bare q es
-        | Equal ↦ λ t. ap (λ (k : ℕ). Some (bare_item (keep k) e.1)) (sym (nat_cmp-IsAntisymmetric q e.0 t))
-        | Greater ↦ λ t. lookup-bare q es
-      ] refl
+  pub items-twice : (items : Items) → bare_items keep (bare_items keep items) ≡ bare_items keep items
+  items-twice items =
+      ap (λ (es : List Entry). fin.from_sorted (map (bare keep) es)) (entries-bare items)
+      ∙ ap (λ (es : List Entry). fin.from_sorted es) (map-bare (bare keep) (bare keep) twice (fin.entries items))
 
   get-bare : (m : Items) (q : ℕ) → fin.get (bare_items keep m) q ≡ option_map (bare_item (keep q)) (fin.get m q)
-  get-bare m q =
-      fin.get-entries (bare_items keep m) q ∙ ap (entries.find nat_cmp q) (entries-bare m) ∙ lookup-bare q (fin.entries m)
-      ∙ ap (option_map (bare_item (keep q))) (sym (fin.get-entries m q))
-
-  same-key : (q k : ℕ) (x : Item) (o : Option Item) → option_map (bare_item (keep q)) (cond (eq_by_cmp nat_cmp q k) (Some x) o)
-      ≡ cond (eq_by_cmp nat_cmp q k) (Some (bare_item (keep k) x)) (option_map (bare_item (keep q)) o)
-  same-key q k x o =
-      elim (nat_cmp q k)
-      as (λ (r : Ordering). nat_cmp q k ≡ r → option_map (bare_item (keep q)) (cond (is_eq r) (Some x) o)
-      ≡ cond (is_eq r) (Some (bare_item (keep k) x)) (option_map (bare_item (keep q)) o)) [
-        | Less ↦ λ t. refl
-        | Equal ↦ λ t. ap (λ (n : ℕ). Some (bare_item (keep n) x)) (nat_cmp-IsAntisymmetric q k t)
-        | Greater ↦ λ t. refl
-      ] refl
-
-  removed : (q : ℕ) (b : Bool) (o : Option Item) → option_map (bare_item (keep q)) (cond b None o) ≡ cond b None (option_map (bare_item (keep q)) o)
-  removed q true o = refl
-  removed q false o = refl
+  get-bare = get-mapped (by_keep keep)
 
   pub insert-bare : (m : Items) (k : ℕ) (x : Item) → fin.insert (bare_items keep m) k (bare_item (keep k) x) ≡ bare_items keep (fin.insert m k x)
-  insert-bare m k x =
-      fin.same_map nat_cmp_total nat_cmp-IsAntisymmetric (fin.insert (bare_items keep m) k (bare_item (keep k) x)) (bare_items keep (fin.insert m k x)) (λ q.
-      fin.get-insert nat_cmp_total (bare_items keep m) k (bare_item (keep k) x) q
-      ∙ ap (λ (o : Option Item). cond (eq_by_cmp nat_cmp q k) (Some (bare_item (keep k) x)) o) (get-bare m q)
-      ∙ sym (same-key q k x (fin.get m q))
-      ∙ ap (option_map (bare_item (keep q))) (sym (fin.get-insert nat_cmp_total m k x q)) ∙ sym (get-bare (fin.insert m k x) q))
-
-  pub remove-bare : (m : Items) (k : ℕ) → fin.remove (bare_items keep m) k ≡ bare_items keep (fin.remove m k)
-  remove-bare m k =
-      fin.same_map nat_cmp_total nat_cmp-IsAntisymmetric (fin.remove (bare_items keep m) k) (bare_items keep (fin.remove m k)) (λ q.
-      fin.get-remove nat_cmp_total (bare_items keep m) k q
-      ∙ ap (λ (o : Option Item). cond (eq_by_cmp nat_cmp q k) None o) (get-bare m q)
-      ∙ sym (removed q (eq_by_cmp nat_cmp q k) (fin.get m q))
-      ∙ ap (option_map (bare_item (keep q))) (sym (fin.get-remove nat_cmp_total m k q)) ∙ sym (get-bare (fin.remove m k) q))
+  insert-bare = insert-mapped (by_keep keep)
 
   -- of a list of entries
   pub from_entries-bare : (es : List Entry) → bare_items keep (fin.from_entries es) ≡ fin.from_entries (map (bare keep) es)

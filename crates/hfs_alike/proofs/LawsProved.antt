@@ -11,29 +11,33 @@ use Rattle.hfs_model.specs.Changes.{Outcome, new_folder, new_file}
 use Rattle.hfs_model.specs.Children.{child_named, entries_of}
 use Rattle.hfs_model.specs.FileIds.{resolve_file_id, place_reply, file_of_id}
 use Rattle.hfs_model.specs.declared.journal.Want.{Want}
-use Rattle.hfs_model.specs.Need.{need, full, meets_want_of_nodes, step_within}
+use Rattle.hfs_model.specs.Need.{need, full, meets_want_of_nodes, step_within, wanting, step_wanting}
+use Rattle.hfs_model.specs.Replies.{is_accepted}
 use Rattle.hfs_model.specs.Reading.{get_dir_info, get_cat_info, get_indexed, list, read_fork}
 use Rattle.hfs_model.specs.Runs.{after_entry}
 use Rattle.hfs_model.specs.Step.{step}
-use Rattle.hfs_model.specs.Volume.{Entry, Volume}
-use Rattle.hfs_alike.specs.Alike.{bare, bare_volume, AreAlike, reads_fork, EndAlike, IsKeptAt, AlikeVolumesAnswerAlike, AlikeWithin, AlikeAfter, KeptForksReadAlike}
-use Rattle.hfs_alike.proofs.BareEntries.{child_named-bare}
+use Rattle.hfs_model.specs.Volume.{Entry, Items, Volume}
+use Rattle.hfs_alike.specs.Alike.{bare, bare_volume, AreAlike, reads_fork, EndAlike, IsKeptAt, AlikeVolumesAnswerAlike, AlikeWanting, AlikeWithin, AlikeAfter, KeptForksReadAlike}
+use Rattle.hfs_alike.proofs.BareEntries.{child_named-bare, items-twice}
 use Rattle.hfs_alike.proofs.BareReplies.{get_dir_info-bare, get_cat_info-bare, get_indexed-bare, list-bare, read_fork-code, read_fork-kept}
 use Rattle.hfs_alike.proofs.BareChoices.{are, file_of_id-bare, place-reply-bare}
-use Rattle.hfs_alike.proofs.BareChanges.{bare_outcome, file-plain, folder-plain, create-bare, delete-bare, rename-bare, cat_move-bare, set_f_info-bare, set_cat_info-bare, set_lock-bare, create_file_id-bare, delete_file_id-bare}
+use Rattle.hfs_alike.proofs.BareChanges.{bare_outcome, file-plain, folder-plain, create-bare, delete-bare, rename-bare, cat_move-bare, set_f_info-bare, set_cat_info-bare, set_lock-bare, create_file_id-bare, delete_file_id-bare, set_eof-bare, write_fork-bare}
 
 module _ (keep : ℕ → Bool) where
-  -- what a call makes of the volume with zeros in its forks
+  -- what a call makes of the volume with zeros in its forks, and of the volume: the same but for the bytes of forks
   record StepsBare (c : Call) (v : Volume) : Type 0 where
     code : (step (bare_volume keep v) c).1.code ≡ (step v c).1.code
     reply : reads_fork c ≡ false → (step (bare_volume keep v) c).1 ≡ (step v c).1
-    volume : (step (bare_volume keep v) c).0 ≡ bare_volume keep (step v c).0
+    volume : bare_volume keep (step (bare_volume keep v) c).0 ≡ bare_volume keep (step v c).0
+
+  twice : (v : Volume) → bare_volume keep (bare_volume keep v) ≡ bare_volume keep v
+  twice v = ap (λ (items : Items). record v { items = items }) (items-twice keep v.items)
 
   by-outcome : (c : Call) (v : Volume) → step (bare_volume keep v) c ≡ bare_outcome keep (step v c) → StepsBare c v
   by-outcome c v same = record {
     code = ap (λ (o : Outcome). o.1.code) same;
     reply = λ e. ap (λ (o : Outcome). o.1) same;
-    volume = ap (λ (o : Outcome). o.0) same;
+    volume = ap (λ (o : Outcome). bare_volume keep o.0) same ∙ twice (step v c).0;
   }
 
   -- of the volume's entries
@@ -49,7 +53,7 @@ module _ (keep : ℕ → Bool) where
   by-reply c v there here same = record {
     code = ap (λ (r : Reply). r.code) same;
     reply = λ e. same;
-    volume = there ∙ ap (bare_volume keep) (sym here);
+    volume = ap (bare_volume keep) there ∙ twice v ∙ ap (bare_volume keep) (sym here);
   }
 
   steps-bare : (v : Volume) (c : Call) → StepsBare c v
@@ -63,7 +67,7 @@ module _ (keep : ℕ → Bool) where
   steps-bare v (call.ReadFork dir name fork offset count) = record {
     code = ap (λ (es : List Entry). (read_fork es dir name fork offset count).code) (are keep v) ∙ read_fork-code keep (entries_of v) dir name fork offset count;
     reply = λ e. absurd (true≢false e);
-    volume = refl;
+    volume = twice v;
   }
   steps-bare v (call.Create dir name now) = by-outcome (call.Create dir name now) v (create-bare keep v now new_file file-plain dir name)
   steps-bare v (call.DirCreate dir name now) = by-outcome (call.DirCreate dir name now) v (create-bare keep v now new_folder folder-plain dir name)
@@ -79,6 +83,12 @@ module _ (keep : ℕ → Bool) where
   steps-bare v (call.DeleteFileId id now) = by-outcome (call.DeleteFileId id now) v (delete_file_id-bare keep v now id)
   steps-bare v (call.ResolveFileId id) =
       by-reply (call.ResolveFileId id) v refl refl (of-entries v (λ es. resolve_file_id es id) (resolve-bare (entries_of v) id))
+  steps-bare v (call.SetEof dir name fork length now) =
+      let ends = set_eof-bare keep v now v.block_size dir name fork length in
+      record { code = ap (λ (r : Reply). r.code) ends.reply; reply = λ e. ends.reply; volume = ends.volume }
+  steps-bare v (call.WriteFork dir name fork offset bytes now) =
+      let ends = write_fork-bare keep v now v.block_size dir name fork offset bytes in
+      record { code = ap (λ (r : Reply). r.code) ends.reply; reply = λ e. ends.reply; volume = ends.volume }
 
 -- ---- the laws
 
@@ -89,7 +99,7 @@ alike_volumes_answer_alike keep v w c alike =
     record {
       code = sym second.code ∙ ap (λ (u : Volume). (step u c).1.code) (sym alike) ∙ first.code;
       reply = λ e. sym (second.reply e) ∙ ap (λ (u : Volume). (step u c).1) (sym alike) ∙ first.reply e;
-      volumes = sym first.volume ∙ ap (λ (u : Volume). (step u c).0) alike ∙ second.volume;
+      volumes = sym first.volume ∙ ap (λ (u : Volume). bare_volume keep (step u c).0) alike ∙ second.volume;
     }
 
 pub alike_within : AlikeWithin
@@ -106,13 +116,28 @@ alike_within keep free depth v w c alike =
     by true = record { code = refl; reply = λ e. refl; volumes = alike }
     by false = here
 
+pub alike_wanting : AlikeWanting
+alike_wanting keep None v w c alike = alike_volumes_answer_alike keep v w c alike
+alike_wanting keep (Some want) v w c alike =
+    subst (λ (b : Bool). EndAlike keep c (step_wanting (Some want) v c) (cond b (w, wanting want) (step w c))) (sym same) (by (is_accepted (step v c).1))
+  where
+    here : EndAlike keep c (step v c) (step w c)
+    here = alike_volumes_answer_alike keep v w c alike
+
+    same : is_accepted (step w c).1 ≡ is_accepted (step v c).1
+    same = ap (λ (code : ℤ). int_eq code (pos 0)) here.code
+
+    by : (b : Bool) → EndAlike keep c (cond b (v, wanting want) (step v c)) (cond b (w, wanting want) (step w c))
+    by true = record { code = refl; reply = λ e. refl; volumes = alike }
+    by false = here
+
 pub alike_after : AlikeAfter
 alike_after keep v w [] alike = alike
 alike_after keep v w (e ∷ es) alike = alike_after keep (after_entry v e) (after_entry w e) es (by e.want)
   where
     by : (o : Option Want) → AreAlike keep (option_map_or (λ _. v) o (step v e.call).0) (option_map_or (λ _. w) o (step w e.call).0)
     by None = (alike_volumes_answer_alike keep v w e.call alike).volumes
-    by (Some wanting) = alike
+    by (Some want) = alike
 
 -- the entries of alike volumes are the same but for the bytes of forks
 same-entries : (keep : ℕ → Bool) (v w : Volume) → AreAlike keep v w → map (bare keep) (entries_of w) ≡ map (bare keep) (entries_of v)

@@ -1,3 +1,6 @@
+pub mod MappedEntries
+pub mod MappedChoices
+pub mod MappedCalls
 pub mod BareEntries
 pub mod BareReplies
 pub mod BareChoices

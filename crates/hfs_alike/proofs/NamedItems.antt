@@ -1,5 +1,5 @@
 -- Items that calls name: which of them come to a place, and what is read of them.
-use Rattle.std.proofs.Common.{◌≡◌, ◌⊎◌, inl, inr, ⊎_elim, ℕ, ◌+◌, ◌≤◌, Bool, true, false, cond, List, [], ◌∷◌, ◌++◌, drop, Option, Some, None, Result, Ok, Err, ℤ, IsTrue, refl, sym, ap, subst, ◌∙◌, arith}
+use Rattle.std.proofs.Common.{◌≡◌, ◌⊎◌, inl, inr, ⊎_elim, ℕ, ◌≤◌, Bool, true, false, cond, List, [], ◌∷◌, ◌++◌, drop, Option, Some, None, Result, Ok, Err, ℤ, IsTrue, refl, sym, ap, subst, ◌∙◌, arith}
 use Rattle.std.specs.Prelude.{◌&&◌, ◌||◌, ◌==◌, not, nat_lt}
 use Rattle.std.specs.FinMap as map
 use Rattle.std.specs.Cmp.{nat_cmp_total, unsigned_ties}
@@ -10,30 +10,33 @@ use Rattle.hfs_fields.specs.Order.{same_name}
 use Rattle.hfs_scans.specs.Members.{In}
 use Rattle.hfs_model.specs.declared.call.Call.{Call}
 use Rattle.hfs_model.specs.declared.call.Call.TheVariants as call
-use Rattle.hfs_model.specs.declared.codes.TheConstants.{BAD_NAME, FILE_ID_NOT_FOUND, FILE_ID_EXISTS, NOT_A_FILE, BUSY, NOT_A_FOLDER, BAD_MOVE, DUPLICATE, FOLDER_FULL}
+use Rattle.hfs_model.specs.declared.codes.TheConstants.{BAD_NAME, FILE_ID_NOT_FOUND, FILE_ID_EXISTS, NOT_A_FILE, NOT_A_FOLDER, BAD_MOVE, DUPLICATE, FOLDER_FULL}
 use Rattle.hfs_model.specs.declared.item.Item.{Item}
 use Rattle.hfs_model.specs.declared.item.Kind.{Kind}
 use Rattle.hfs_model.specs.declared.journal.Entry.{Entry as JournalEntry}
 use Rattle.hfs_model.specs.declared.reply.Reply.{Reply}
 use Rattle.hfs_model.specs.Volume.{Volume, Items, Entry}
-use Rattle.hfs_model.specs.Children.{child_named, is_child_named, entries_of, entry_at, is_folder, is_folder_kind}
+use Rattle.hfs_model.specs.Children.{is_child_named, entries_of, entry_at, is_folder, is_folder_kind}
 use Rattle.hfs_model.specs.Lawful.{Has}
 use Rattle.hfs_model.specs.declared.journal.Want.{Want}
-use Rattle.hfs_model.specs.Need.{step_within, need, full}
-use Rattle.hfs_model.specs.Reading.{read_fork}
+use Rattle.hfs_model.specs.Need.{step_within, need, full, wanting, step_wanting}
+use Rattle.hfs_model.specs.Forks.{resized, written}
+use Rattle.hfs_model.specs.ForkCalls.{to_set_eof, to_write_fork, set_eof, write_fork}
+use Rattle.hfs_model.specs.declared.call.Fork.{Fork}
 use Rattle.hfs_model.specs.Replies.{is_accepted, has_thread}
 use Rattle.hfs_model.specs.Runs.{after, after_entry}
 use Rattle.hfs_model.specs.Step.{step}
-use Rattle.hfs_model.specs.Choices.{to_create, to_delete, to_rename, to_move, to_set_f_info, to_set_cat_info, file_to_change, is_locked, lock_code, is_held, is_full, is_taken}
+use Rattle.hfs_model.specs.Choices.{to_create, to_delete, to_rename, to_move, to_set_f_info, to_set_cat_info, file_to_change, is_locked, lock_code, is_held, is_full}
 use Rattle.hfs_model.specs.Changes.{Outcome, create, delete, rename, cat_move, set_f_info, set_cat_info, set_lock, with_lock, change, add, touched, moved, new_item, new_file, new_folder}
-use Rattle.hfs_model.specs.FileIds.{create_file_id, delete_file_id, to_create_file_id, to_delete_file_id, set_thread, change_to_id, file_of_id, unless_has_thread, if_has_thread}
+use Rattle.hfs_model.specs.FileIds.{create_file_id, delete_file_id, to_create_file_id, to_delete_file_id, set_thread, file_of_id, unless_has_thread, if_has_thread}
 use Rattle.hfs_model.proofs.Facts.{not_refused, has_entry, found_has, two_tests, none_is_some}
 use Rattle.hfs_model.proofs.Keeps.{found_in}
 use Rattle.hfs_model.proofs.KeepsCalls.{IsChild, child_chosen, file_chosen, set_f_info_chosen, set_cat_info_chosen, chained, same_entry, unlocked_is, err_is_ok}
 use Rattle.hfs_model.proofs.KeepsFileIds.{same_change}
+use Rattle.hfs_model.proofs.KeepsForks.{edited, set_eof_chosen, write_fork_chosen}
 use Rattle.hfs_alike.specs.Alike.{AreAlike, IsKeptAt, reads_fork}
-use Rattle.hfs_alike.specs.Named.{named_by, StandsAt, KeepsNamed, AreOf, NamedStayKept, AskedAnswerAlike}
-use Rattle.hfs_alike.proofs.LawsProved.{alike_within, alike_after, kept_forks_read_alike}
+use Rattle.hfs_alike.specs.Named.{named_by, KeepsNamed, NamedStayKept, AskedAnswerAlike, AskedWantAlike}
+use Rattle.hfs_alike.proofs.LawsProved.{alike_volumes_answer_alike, alike_after, kept_forks_read_alike}
 
 -- ---- where items stood before
 
@@ -237,6 +240,17 @@ module _ (keep : ℕ → Bool) where
     sets-lock locked dir name now =
         edits (file_to_change v dir name) (λ i. record i { kind = with_lock locked i.kind }) now (λ i. refl) (λ i. refl) (λ e is. (file_chosen v dir name e is).has)
 
+    sets-eof : (size dir : ℕ) (name : List ℕ) (fork : Fork) (length now : ℕ) → Follows v (set_eof size v dir name fork length now).0
+    unfolding set_eof
+    sets-eof size dir name fork length now =
+        edits (to_set_eof v dir name length) (edited size fork (resized length) now) now (λ i. refl) (λ i. refl) (λ e is. (set_eof_chosen v dir name length e is).has)
+
+    writes-fork : (size dir : ℕ) (name : List ℕ) (fork : Fork) (offset : ℕ) (bytes : List ℕ) (now : ℕ) → Follows v (write_fork size v dir name fork offset bytes now).0
+    unfolding write_fork
+    writes-fork size dir name fork offset bytes now =
+        edits (to_write_fork v dir name fork offset bytes) (edited size fork (written offset bytes) now) now (λ i. refl) (λ i. refl)
+        (λ e is. (write_fork_chosen v dir name fork offset bytes e is).has)
+
     steps : (c : Call) → In c calls → Follows v (step v c).0
     steps (call.GetDirInfo dir) asked = follows-same v
     steps (call.GetCatInfo dir name) asked = follows-same v
@@ -255,6 +269,8 @@ module _ (keep : ℕ → Bool) where
     steps (call.CreateFileId dir name now) asked = creates-id dir name now
     steps (call.DeleteFileId id now) asked = deletes-id id now
     steps (call.ResolveFileId id) asked = follows-same v
+    steps (call.SetEof dir name fork length now) asked = sets-eof v.block_size dir name fork length now
+    steps (call.WriteFork dir name fork offset bytes now) asked = writes-fork v.block_size dir name fork offset bytes now
 
     -- so what these calls name has one of these IDs behind one of them, too
     stays : (w : Volume) → Follows v w → KeepsNamed keep calls w
@@ -272,7 +288,7 @@ module _ (keep : ℕ → Bool) where
       where
         by : (o : Option Want) → KeepsNamed keep calls (option_map_or (λ _. v) o (step v e.call).0)
         by None = stays (step v e.call).0 (steps e.call asked)
-        by (Some wanting) = h
+        by (Some want) = h
 
 -- ---- the laws
 
@@ -288,47 +304,57 @@ kept-at keep calls v h c dir name asked is e found =
     let tests = two_tests _ _ here.1 in
     h.named c dir name asked is e.0 e.1 here.0 (eqb-true e.1.parent dir tests.0, tests.1)
 
-module _ (free depth : ℕ) (keep : ℕ → Bool) (calls : List Call) (v w : Volume) (alike : AreAlike keep v w) (h : KeepsNamed keep calls v) where
-  read-alike : (dir : ℕ) (name : List ℕ) (fork : _) (offset count : ℕ) → In (call.ReadFork dir name fork offset count) calls
-      → (step_within free depth w (call.ReadFork dir name fork offset count)).1 ≡ (step_within free depth v (call.ReadFork dir name fork offset count)).1
-  read-alike dir name fork offset count asked =
-      let same = kept_forks_read_alike keep v w dir name fork offset count alike (kept-at keep calls v h (call.ReadFork dir name fork offset count) dir name asked refl) in
-      taken w (read_fork (entries_of w) dir name fork offset count)
-      ∙ ap (λ (r : Reply). cond (is_accepted r && nat_lt free 0) (full free depth) r) same
-      ∙ sym (taken v (read_fork (entries_of v) dir name fork offset count))
-    where
-      taken : (u : Volume) (r : Reply)
-          → (cond {A = Outcome} (is_accepted r && nat_lt free 0) (u, full free depth) (u, r)).1 ≡ cond (is_accepted r && nat_lt free 0) (full free depth) r
-      taken u r = by (is_accepted r && nat_lt free 0)
-        where
-          by : (b : Bool) → (cond {A = Outcome} b (u, full free depth) (u, r)).1 ≡ cond b (full free depth) r
-          by true = refl
-          by false = refl
+-- the reply of one of two outcomes
+one-of : (b : Bool) (x y : Outcome) → (cond b x y).1 ≡ cond b x.1 y.1
+one-of true x y = refl
+one-of false x y = refl
 
-  others-alike : (c : Call) → reads_fork c ≡ false → (step_within free depth w c).1 ≡ (step_within free depth v c).1
-  others-alike c other = (alike_within keep free depth v w c alike).reply other
+module _ (keep : ℕ → Bool) (calls : List Call) (v w : Volume) (alike : AreAlike keep v w) (h : KeepsNamed keep calls v) where
+  others-alike : (c : Call) → reads_fork c ≡ false → (step w c).1 ≡ (step v c).1
+  others-alike c other = (alike_volumes_answer_alike keep v w c alike).reply other
 
-  answers-alike : (c : Call) → In c calls → (step_within free depth w c).1 ≡ (step_within free depth v c).1
-  answers-alike (call.GetDirInfo dir) asked = others-alike (call.GetDirInfo dir) refl
-  answers-alike (call.GetCatInfo dir name) asked = others-alike (call.GetCatInfo dir name) refl
-  answers-alike (call.GetIndexed dir index) asked = others-alike (call.GetIndexed dir index) refl
-  answers-alike (call.List dir) asked = others-alike (call.List dir) refl
-  answers-alike (call.ReadFork dir name fork offset count) asked = read-alike dir name fork offset count asked
-  answers-alike (call.Create dir name now) asked = others-alike (call.Create dir name now) refl
-  answers-alike (call.DirCreate dir name now) asked = others-alike (call.DirCreate dir name now) refl
-  answers-alike (call.Delete dir name now) asked = others-alike (call.Delete dir name now) refl
-  answers-alike (call.Rename dir name new_name now) asked = others-alike (call.Rename dir name new_name now) refl
-  answers-alike (call.CatMove dir name new_dir now) asked = others-alike (call.CatMove dir name new_dir now) refl
-  answers-alike (call.SetFInfo dir name info now) asked = others-alike (call.SetFInfo dir name info now) refl
-  answers-alike (call.SetCatInfo dir name created modified backup info now) asked =
+  step-alike : (c : Call) → In c calls → (step w c).1 ≡ (step v c).1
+  step-alike (call.GetDirInfo dir) asked = others-alike (call.GetDirInfo dir) refl
+  step-alike (call.GetCatInfo dir name) asked = others-alike (call.GetCatInfo dir name) refl
+  step-alike (call.GetIndexed dir index) asked = others-alike (call.GetIndexed dir index) refl
+  step-alike (call.List dir) asked = others-alike (call.List dir) refl
+  step-alike (call.ReadFork dir name fork offset count) asked =
+      kept_forks_read_alike keep v w dir name fork offset count alike (kept-at keep calls v h (call.ReadFork dir name fork offset count) dir name asked refl)
+  step-alike (call.Create dir name now) asked = others-alike (call.Create dir name now) refl
+  step-alike (call.DirCreate dir name now) asked = others-alike (call.DirCreate dir name now) refl
+  step-alike (call.Delete dir name now) asked = others-alike (call.Delete dir name now) refl
+  step-alike (call.Rename dir name new_name now) asked = others-alike (call.Rename dir name new_name now) refl
+  step-alike (call.CatMove dir name new_dir now) asked = others-alike (call.CatMove dir name new_dir now) refl
+  step-alike (call.SetFInfo dir name info now) asked = others-alike (call.SetFInfo dir name info now) refl
+  step-alike (call.SetCatInfo dir name created modified backup info now) asked =
       others-alike (call.SetCatInfo dir name created modified backup info now) refl
-  answers-alike (call.SetFLock dir name now) asked = others-alike (call.SetFLock dir name now) refl
-  answers-alike (call.RstFLock dir name now) asked = others-alike (call.RstFLock dir name now) refl
-  answers-alike (call.CreateFileId dir name now) asked = others-alike (call.CreateFileId dir name now) refl
-  answers-alike (call.DeleteFileId id now) asked = others-alike (call.DeleteFileId id now) refl
-  answers-alike (call.ResolveFileId id) asked = others-alike (call.ResolveFileId id) refl
+  step-alike (call.SetFLock dir name now) asked = others-alike (call.SetFLock dir name now) refl
+  step-alike (call.RstFLock dir name now) asked = others-alike (call.RstFLock dir name now) refl
+  step-alike (call.CreateFileId dir name now) asked = others-alike (call.CreateFileId dir name now) refl
+  step-alike (call.DeleteFileId id now) asked = others-alike (call.DeleteFileId id now) refl
+  step-alike (call.ResolveFileId id) asked = others-alike (call.ResolveFileId id) refl
+  step-alike (call.SetEof dir name fork length now) asked = others-alike (call.SetEof dir name fork length now) refl
+  step-alike (call.WriteFork dir name fork offset bytes now) asked = others-alike (call.WriteFork dir name fork offset bytes now) refl
+
+  within-alike : (free depth : ℕ) (c : Call) → In c calls → (step_within free depth w c).1 ≡ (step_within free depth v c).1
+  within-alike free depth c asked =
+      one-of (is_accepted (step w c).1 && nat_lt free (need c depth)) (w, full free depth) (step w c)
+      ∙ ap (λ (r : Reply). cond (is_accepted r && nat_lt free (need c depth)) (full free depth) r) (step-alike c asked)
+      ∙ sym (one-of (is_accepted (step v c).1 && nat_lt free (need c depth)) (v, full free depth) (step v c))
+
+  want-alike : (o : Option Want) (c : Call) → In c calls → (step_wanting o w c).1 ≡ (step_wanting o v c).1
+  want-alike None c asked = step-alike c asked
+  want-alike (Some want) c asked =
+      one-of (is_accepted (step w c).1) (w, wanting want) (step w c)
+      ∙ ap (λ (r : Reply). cond (is_accepted r) (wanting want) r) (step-alike c asked)
+      ∙ sym (one-of (is_accepted (step v c).1) (v, wanting want) (step v c))
 
 pub asked_answer_alike : AskedAnswerAlike
 asked_answer_alike keep calls v w journal free depth c alike h asked_before asked =
-    answers-alike free depth keep calls (after v journal) (after w journal) (alike_after keep v w journal alike)
-    (named_stay_kept keep calls v journal h asked_before) c asked
+    within-alike keep calls (after v journal) (after w journal) (alike_after keep v w journal alike)
+    (named_stay_kept keep calls v journal h asked_before) free depth c asked
+
+pub asked_want_alike : AskedWantAlike
+asked_want_alike keep calls v w journal o c alike h asked_before asked =
+    want-alike keep calls (after v journal) (after w journal) (alike_after keep v w journal alike)
+    (named_stay_kept keep calls v journal h asked_before) o c asked

@@ -1,5 +1,5 @@
 -- Volumes that are the same but for the bytes of forks. Each law is what a function of src/laws.rt ensures.
-use Rattle.std.specs.Prelude.{◌≡◌, ℕ, Bool, true, false, List, length, map, replicate, Some}
+use Rattle.std.specs.Prelude.{◌≡◌, ℕ, Bool, true, false, List, length, map, replicate, Option, Some}
 use Rattle.std.specs.FinMap as fin
 use Rattle.hfs_model.specs.declared.call.Call.{Call}
 use Rattle.hfs_model.specs.declared.call.Call.TheVariants as call
@@ -8,9 +8,10 @@ use Rattle.hfs_model.specs.declared.item.Item.{Item}
 use Rattle.hfs_model.specs.declared.item.Kind.{Kind}
 use Rattle.hfs_model.specs.declared.item.Kind.TheVariants as kind
 use Rattle.hfs_model.specs.declared.journal.Entry.{Entry as JournalEntry}
+use Rattle.hfs_model.specs.declared.journal.Want.{Want}
 use Rattle.hfs_model.specs.Changes.{Outcome}
 use Rattle.hfs_model.specs.Children.{child_named, entries_of}
-use Rattle.hfs_model.specs.Need.{step_within}
+use Rattle.hfs_model.specs.Need.{step_within, step_wanting}
 use Rattle.hfs_model.specs.Reading.{read_fork}
 use Rattle.hfs_model.specs.Runs.{after}
 use Rattle.hfs_model.specs.Step.{step}
@@ -67,6 +68,8 @@ reads_fork (call.RstFLock dir name now) = false
 reads_fork (call.CreateFileId dir name now) = false
 reads_fork (call.DeleteFileId id now) = false
 reads_fork (call.ResolveFileId id) = false
+reads_fork (call.SetEof dir name fork length now) = false
+reads_fork (call.WriteFork dir name fork offset bytes now) = false
 
 -- two outcomes of a call are the same but for the bytes of forks
 pub record EndAlike (keep : ℕ → Bool) (c : Call) (a b : Outcome) : Type 0 where
@@ -87,6 +90,11 @@ AlikeVolumesAnswerAlike = (keep : ℕ → Bool) (v w : Volume) (c : Call) → Ar
 abbrev pub AlikeWithin : Type 0
 AlikeWithin =
     (keep : ℕ → Bool) (free depth : ℕ) (v w : Volume) (c : Call) → AreAlike keep v w → EndAlike keep c (step_within free depth v c) (step_within free depth w c)
+
+-- where the same is wanting, if anything is
+abbrev pub AlikeWanting : Type 0
+AlikeWanting =
+    (keep : ℕ → Bool) (wanting : Option Want) (v w : Volume) (c : Call) → AreAlike keep v w → EndAlike keep c (step_wanting wanting v c) (step_wanting wanting w c)
 
 -- and behind the entries of a journal
 abbrev pub AlikeAfter : Type 0

@@ -8,7 +8,8 @@ use Rattle.hfs_model.specs.declared.call.Call.TheVariants as call
 use Rattle.hfs_model.specs.declared.item.Item.{Item}
 use Rattle.hfs_model.specs.declared.journal.Entry.{Entry as JournalEntry}
 use Rattle.hfs_model.specs.Lawful.{Has}
-use Rattle.hfs_model.specs.Need.{step_within}
+use Rattle.hfs_model.specs.declared.journal.Want.{Want}
+use Rattle.hfs_model.specs.Need.{step_within, step_wanting}
 use Rattle.hfs_model.specs.Runs.{after}
 use Rattle.hfs_model.specs.Volume.{Volume}
 use Rattle.hfs_alike.specs.Alike.{AreAlike}
@@ -32,6 +33,8 @@ named_by (call.RstFLock dir name now) = Some (dir, name)
 named_by (call.CreateFileId dir name now) = Some (dir, name)
 named_by (call.DeleteFileId id now) = None
 named_by (call.ResolveFileId id) = None
+named_by (call.SetEof dir name fork length now) = Some (dir, name)
+named_by (call.WriteFork dir name fork offset bytes now) = Some (dir, name)
 
 -- the item stands in that folder under that name
 abbrev pub StandsAt : ℕ → List ℕ → Item → Type 0
@@ -62,3 +65,10 @@ AskedAnswerAlike =
     (keep : ℕ → Bool) (calls : List Call) (v w : Volume) (journal : List JournalEntry) (free depth : ℕ) (c : Call)
     → AreAlike keep v w → KeepsNamed keep calls v → AreOf calls journal → In c calls
     → (step_within free depth (after w journal) c).1 ≡ (step_within free depth (after v journal) c).1
+
+-- so it is where the same is wanting of both, if anything is
+abbrev pub AskedWantAlike : Type 0
+AskedWantAlike =
+    (keep : ℕ → Bool) (calls : List Call) (v w : Volume) (journal : List JournalEntry) (wanting : Option Want) (c : Call)
+    → AreAlike keep v w → KeepsNamed keep calls v → AreOf calls journal → In c calls
+    → (step_wanting wanting (after w journal) c).1 ≡ (step_wanting wanting (after v journal) c).1

@@ -1,5 +1,5 @@
 //! What calls make of volumes that are the same but for the bytes of forks, each as the contract of a function that does nothing.
-ghost use Rattle.hfs_alike.specs.Alike.{AlikeAfter, AlikeVolumesAnswerAlike, AlikeWithin, KeptForksReadAlike};
+ghost use Rattle.hfs_alike.specs.Alike.{AlikeAfter, AlikeVolumesAnswerAlike, AlikeWanting, AlikeWithin, KeptForksReadAlike};
 
 /// Of two volumes that are the same but for the bytes of forks, each call has the same code and the same reply, but for the bytes
 /// that it reads of a fork, and leaves two that are the same so.
@@ -10,6 +10,11 @@ pub fn alike_volumes_answer_alike()
 /// The same where the catalog has as many free nodes and as many levels for both.
 pub fn alike_within()
     ensures { AlikeWithin }
+{}
+
+/// The same where the same nodes or blocks are wanting of both.
+pub fn alike_wanting()
+    ensures { AlikeWanting }
 {}
 
 /// Behind the entries of a journal they are the same so.

@@ -1,5 +1,5 @@
 //! What calls make of the items that they name, each as the contract of a function that does nothing.
-ghost use Rattle.hfs_alike.specs.Named.{AskedAnswerAlike, NamedStayKept};
+ghost use Rattle.hfs_alike.specs.Named.{AskedAnswerAlike, AskedWantAlike, NamedStayKept};
 
 /// Where each item that some calls name by its folder and name has one of some IDs, it is so behind these calls, too: no other item comes to
 /// such a place.
@@ -11,4 +11,9 @@ pub fn named_stay_kept()
 /// reply behind these calls.
 pub fn asked_answer_alike()
     ensures { AskedAnswerAlike }
+{}
+
+/// So it has where the same nodes or blocks are wanting of both.
+pub fn asked_want_alike()
+    ensures { AskedWantAlike }
 {}

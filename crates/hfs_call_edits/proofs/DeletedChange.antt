@@ -44,7 +44,8 @@ module _ {B : Type 0} (blocks : B → Blocks) (totals : B → ℕ) (value own : 
       record {
         within = subst (λ (b : B). AreWithin (changes patch) (totals b)) view_is within;
         stepped = law (call.Delete dir name now) (without_folder dir now (mdb_in old)) (totals value) old (over (changes patch) old) sound made;
-        unwritten = refl;
+        zeros = tt;
+        unwritten = λ other. refl;
         directory = made.edits.mdb ∙ ap (λ (m : Mdb). with_counts m (mdb_in old)) (sym (is ∙ ap (without_folder dir now) at));
         reply = delete_accepted (volume_in old) dir now name _ ch.choice.is;
       }
@@ -57,7 +58,8 @@ module _ {B : Type 0} (blocks : B → Blocks) (totals : B → ℕ) (value own : 
       record {
         within = subst (λ (b : B). AreWithin (changes patch) (totals b)) view_is within;
         stepped = made.stepped;
-        unwritten = refl;
+        zeros = tt;
+        unwritten = λ other. refl;
         directory = made.directory;
         reply = delete_accepted (volume_in (blocks value)) dir now name _ ch.choice.is;
       }

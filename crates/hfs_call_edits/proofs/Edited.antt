@@ -111,7 +111,8 @@ module _ {B : Type 0} (blocks : B → Blocks) (totals : B → ℕ) (value own : 
         comes = record {
           within = subst (λ (b : B). AreWithin (changes patch) (totals b)) view_is within;
           stepped = law c (at_time now (mdb_in (blocks value))) (totals value) (blocks value) new sound made_here;
-          unwritten = refl;
+          zeros = tt;
+          unwritten = λ other. refl;
           directory = made_here.edits.mdb;
           reply = reply;
         };

@@ -48,7 +48,8 @@ change_to blocks totals value own view_is law c enough patch now id made is soun
       comes = record {
         within = subst (λ b. AreWithin (changes patch) (totals b)) view_is within;
         stepped = law c (at_time now (mdb_in (blocks value))) (totals value) (blocks value) new sound made_here;
-        unwritten = refl;
+        zeros = tt;
+        unwritten = λ other. refl;
         directory = made_here.edits.mdb;
         reply = reply;
       };

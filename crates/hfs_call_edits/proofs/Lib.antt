@@ -1,6 +1,7 @@
 pub mod Choices
 pub mod Chosen
 pub mod Edited
+pub mod ForkEdits
 pub mod Taken
 pub mod RenameChoice
 pub mod Wanting

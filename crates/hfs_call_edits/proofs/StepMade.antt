@@ -28,7 +28,8 @@ module _ {B : Type 0} (blocks : B → Blocks) (totals : B → ℕ) (now own : B)
         comes = record {
           within = subst (λ (b : B). AreWithin (changes patch) (totals b)) view_is within;
           stepped = law c (counts (blocks now)) (totals now) (blocks now) new sound made_here;
-          unwritten = refl;
+          zeros = tt;
+          unwritten = λ other. refl;
           directory = made_here.edits.mdb;
           reply = reply;
         };

@@ -6,6 +6,7 @@ use Rattle.hfs_btree.specs.Header.{depth_of, free_nodes}
 use Rattle.hfs_space.proofs.FileLengthLemmas.{length-tree_nodes}
 use Rattle.hfs_model.specs.declared.call.Call.{Call}
 use Rattle.hfs_model.specs.declared.reply.Value.{Value}
+use Rattle.hfs_model.specs.declared.journal.Want.TheVariants as want
 use Rattle.hfs_model.specs.Changes.{refused}
 use Rattle.hfs_model.specs.Need.{need}
 use Rattle.hfs_model.specs.Replies.{success, is_accepted}
@@ -57,16 +58,16 @@ module _ (c : Call) (old : Blocks) (f : ℕ → ℕ) (needs : (depth : ℕ) → 
   pub enough_nodes : None ≡ lacking f (catalog_nodes old) → wants_nodes c old ≡ false
   enough_nodes none = wants ∙ not_both (is_accepted (step (volume_in old) c).1) short (by short none)
     where
-      by : (b : Bool) → None ≡ cond b (Some (refusal.Full free depth)) None → b ≡ false
-      by true e = absurd (none_some (refusal.Full free depth) e)
+      by : (b : Bool) → None ≡ cond b (Some (refusal.Want (want.Nodes free depth))) None → b ≡ false
+      by true e = absurd (none_some (refusal.Want (want.Nodes free depth)) e)
       by false e = refl
 
   -- where some are lacking, the call meets want of them if it would be accepted
   pub full_edit : (total : ℕ) (r : Refusal) (value : Value) → Some r ≡ lacking f (catalog_nodes old) → (step (volume_in old) c).1 ≡ success value → IsEditOf c total old (Err r)
   full_edit total r value some reply = by short refl some
     where
-      by : (b : Bool) → short ≡ b → Some r ≡ cond b (Some (refusal.Full free depth)) None → IsEditOf c total old (Err r)
-      by true lacks e = subst (λ (q : Refusal). IsEditOf c total old (Err q)) (sym (same_refusal r (refusal.Full free depth) e)) (record {
+      by : (b : Bool) → short ≡ b → Some r ≡ cond b (Some (refusal.Want (want.Nodes free depth))) None → IsEditOf c total old (Err r)
+      by true lacks e = subst (λ (q : Refusal). IsEditOf c total old (Err q)) (sym (same_refusal r (refusal.Want (want.Nodes free depth)) e)) (record {
         wanting = wants ∙ (λ i. is_accepted (reply i) && lacks i);
         free_is = refl;
         depth_is = refl;

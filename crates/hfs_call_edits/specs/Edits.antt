@@ -1,5 +1,5 @@
 -- What calls that change a volume choose in its blocks, and what they make of them.
-use Rattle.std.specs.Prelude.{◌≡◌, ℕ, ℤ, Bool, true, false, IsTrue, List, Result, Ok, Err, Option, None}
+use Rattle.std.specs.Prelude.{◌≡◌, ℕ, ◌≤◌, ℤ, Bool, true, false, IsTrue, ⊤, List, Result, Ok, Err, Option, Some, None}
 use Rattle.std.specs.Result.{MatchResult}
 use Rattle.hfs_fields.specs.declared.key.CatKey.{CatKey}
 use Rattle.hfs_fields.specs.declared.mdb.Mdb.{Mdb}
@@ -9,10 +9,13 @@ use Rattle.hfs_fields.specs.Names.{is_item_name}
 use Rattle.hfs_blocks.specs.declared.run.Run.{Run}
 use Rattle.hfs_btree.specs.Header.{depth_of, free_nodes}
 use Rattle.hfs_model.specs.declared.call.Call.{Call}
+use Rattle.hfs_model.specs.declared.journal.Want.{Want}
+use Rattle.hfs_model.specs.declared.journal.Want.TheVariants as want
+use Rattle.hfs_model.specs.Replies.{is_accepted}
 use Rattle.hfs_model.specs.Volume.{Entry, Volume}
 use Rattle.hfs_model.specs.Changes.{refused}
 use Rattle.hfs_model.specs.Need.{meets_want_of_nodes}
-use Rattle.hfs_model.specs.Step.{step}
+use Rattle.hfs_model.specs.Step.{step, is_writing}
 use Rattle.hfs_catalog.specs.declared.item.ItemRecord.{ItemRecord}
 use Rattle.hfs_catalog.specs.declared.item.ItemRecord.TheVariants.{Folder, File}
 use Rattle.hfs_catalog.specs.declared.item.CatalogItem.{CatalogItem}
@@ -24,7 +27,9 @@ use Rattle.hfs_call_patches.specs.Settings.{IsFileUnder, IsFolderUnder, IsFileCh
 use Rattle.hfs_call_patches.specs.declared.change.Change.{Change}
 use Rattle.hfs_call_edits.specs.declared.editing.Refusal.{Refusal}
 use Rattle.hfs_call_edits.specs.declared.editing.Refusal.TheVariants as refusal
-use Rattle.hfs_call_patches.specs.CallChanges.{IsChangeOf}
+use Rattle.hfs_call_patches.specs.CallChanges.{IsChangeOf, changed, written_blocks}
+use Rattle.hfs_call_edits.specs.ForkWants.{MeetsForkWant}
+use Rattle.hfs_call_edits.specs.ForkWrites.{WritesFork}
 use Rattle.std.specs.Option.{MatchOption}
 use Rattle.hfs_blocks.specs.Layers.{Numbered}
 use Rattle.hfs_model.specs.Children.{entries_of}
@@ -36,9 +41,10 @@ use Rattle.hfs_call_patches.specs.Deleting.{IsParent}
 use Rattle.hfs_call_patches.specs.FileIds.{IsThreadless}
 use Rattle.hfs_blocks.specs.Blocks.{nodes_in}
 
--- the volume is sound; this is its master directory block, and in these runs lie the nodes of its trees
+-- the volume is sound, with at most 2,147,483,648 bytes; this is its master directory block, and in these runs lie the nodes of its trees
 pub record IsEditing (total : ℕ) (blocks : Blocks) (mdb : Mdb) (extents catalog : List Run) : Type 0 where
   pub sound : AreBlocksSound total blocks
+  pub few : total ≤ 4194304
   pub directory : mdb ≡ mdb_in blocks
   pub extents_file : IsExtentsFile extents total blocks
   pub catalog_file : IsCatalogFile catalog total blocks
@@ -124,13 +130,37 @@ pub record IsFull (c : Call) (old : Blocks) (free depth : ℕ) : Type 0 where
   pub free_is : free ≡ free_nodes (catalog_nodes old)
   pub depth_is : depth ≡ depth_of (catalog_nodes old)
 
+-- the call would be done otherwise, and this is wanting of its fork
+pub record IsForkWanting (c : Call) (old : Blocks) (wanting : Want) : Type 0 where
+  pub accepted : IsTrue (is_accepted (step (volume_in old) c).1)
+  pub meets : MeetsForkWant c old (Some wanting)
+
+-- this is wanting of a call
+abbrev pub IsWantOf : Call → Blocks → Want → Type 0
+IsWantOf c old (want.Nodes free depth) = IsFull c old free depth
+IsWantOf c old (want.Room free wanted) = IsForkWanting c old (want.Room free wanted)
+IsWantOf c old (want.ExtentNodes free depth) = IsForkWanting c old (want.ExtentNodes free depth)
+
 -- the change that a call makes of a volume, or what refuses it
 abbrev pub IsEditOf : Call → ℕ → Blocks → Result Change Refusal → Type 0
 IsEditOf c total old (Ok change) = HasNodes c old (IsChangeOf c total old change)
 IsEditOf c total old (Err (refusal.Code code)) = HasNodes c old (step (volume_in old) c ≡ refused (volume_in old) code)
-IsEditOf c total old (Err (refusal.Full free depth)) = IsFull c old free depth
+IsEditOf c total old (Err (refusal.Want wanting)) = IsWantOf c old wanting
+
+-- where the call is done, nothing was wanting; of a call that writes a fork a code is none that stands for done
+abbrev pub HasForkRoom : Call → ℕ → Blocks → Result Change Refusal → Type 0
+HasForkRoom c total old (Ok change) = MeetsForkWant c old None
+HasForkRoom c total old (Err (refusal.Code code)) = is_writing c ≡ true → is_accepted (step (volume_in old) c).1 ≡ false
+HasForkRoom c total old (Err (refusal.Want wanting)) = ⊤
+
+-- where the call is done, the change writes its blocks of the call's fork
+abbrev pub HasForkWritten : Call → ℕ → Blocks → Result Change Refusal → Type 0
+HasForkWritten c total old (Ok change) = WritesFork c (written_blocks change.written) old (changed old change)
+HasForkWritten c total old (Err why) = ⊤
 
 -- what some call makes of it
 pub record IsEdit (total : ℕ) (old : Blocks) (edit : Result Change Refusal) : Type 0 where
   pub of : Call
   pub is : IsEditOf of total old edit
+  pub room : HasForkRoom of total old edit
+  pub forks : HasForkWritten of total old edit

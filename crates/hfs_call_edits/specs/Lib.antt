@@ -3,6 +3,8 @@ pub mod Placed
 pub mod ChoosingFileIds
 pub mod Room
 pub mod NewPlaces
+pub mod ForkWants
+pub mod ForkWrites
 pub mod Edits
 pub mod Serving
 pub mod ChoosingRenaming

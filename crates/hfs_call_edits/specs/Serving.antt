@@ -22,3 +22,5 @@ sets_info (call.RstFLock dir name now) = false
 sets_info (call.CreateFileId dir name now) = false
 sets_info (call.DeleteFileId id now) = false
 sets_info (call.ResolveFileId id) = false
+sets_info (call.SetEof dir name fork length now) = false
+sets_info (call.WriteFork dir name fork offset bytes now) = false

@@ -1,8 +1,8 @@
 //! What each call makes of a volume's blocks.
 
 ghost use Rattle.std.specs.Prelude.{◌≡◌, false, IsTrue};
-ghost use Rattle.hfs_model.specs.Step.{is_reading};
-ghost use Rattle.hfs_call_edits.specs.Edits.{IsEditOf};
+ghost use Rattle.hfs_model.specs.Step.{is_reading, is_writing};
+ghost use Rattle.hfs_call_edits.specs.Edits.{HasForkRoom, HasForkWritten, IsEditOf};
 ghost use Rattle.hfs_call_edits.specs.Serving.{sets_info};
 ghost use Rattle.hfs_call_patches.specs.CallChanges.{Makes};
 
@@ -12,10 +12,50 @@ use hfs_call_patches::{Change, ItemSettings};
 use hfs_model::Call;
 use std::alloc::{AllocError, Global};
 
+/// Whether the call writes a fork.
+fn is_writing(call: &Call) -> bool
+    ensures { result ≡ is_writing call.now }
+{
+    match call {
+        Call::SetEof { .. } | Call::WriteFork { .. } => true,
+        Call::GetDirInfo { .. }
+        | Call::GetCatInfo { .. }
+        | Call::GetIndexed { .. }
+        | Call::List { .. }
+        | Call::ReadFork { .. }
+        | Call::Create { .. }
+        | Call::DirCreate { .. }
+        | Call::Delete { .. }
+        | Call::Rename { .. }
+        | Call::CatMove { .. }
+        | Call::SetFInfo { .. }
+        | Call::SetCatInfo { .. }
+        | Call::SetFLock { .. }
+        | Call::RstFLock { .. }
+        | Call::CreateFileId { .. }
+        | Call::DeleteFileId { .. }
+        | Call::ResolveFileId { .. } => false,
+    }
+}
+
 impl<B: Blocks> Editing<'_, B> {
     /// What a call that changes the volume makes of it, or what refuses it. The only error is want of memory.
     pub fn edit(&self, alloc: Global, call: &Call) -> Result<Result<Change, Refusal>, AllocError>
         requires { is_reading call.now ≡ false }
+        ensures made { Makes result (IsEditOf call.now) B.total B.blocks self.now }
+        ensures room { Makes result (HasForkRoom call.now) B.total B.blocks self.now }
+        ensures forks { Makes result (HasForkWritten call.now) B.total B.blocks self.now }
+    {
+        if is_writing(call) {
+            return self.write(alloc, call);
+        }
+        self.change_item(alloc, call)
+    }
+
+    /// What a call that changes items of the catalog makes of the volume.
+    fn change_item(&self, alloc: Global, call: &Call) -> Result<Result<Change, Refusal>, AllocError>
+        requires changes { is_reading call.now ≡ false }
+        requires other { is_writing call.now ≡ false }
         ensures { Makes result (IsEditOf call.now) B.total B.blocks self.now }
     {
         match call {
@@ -52,7 +92,9 @@ impl<B: Blocks> Editing<'_, B> {
             | Call::GetIndexed { .. }
             | Call::List { .. }
             | Call::ReadFork { .. }
-            | Call::ResolveFileId { .. } => unreachable!(),
+            | Call::ResolveFileId { .. }
+            | Call::SetEof { .. }
+            | Call::WriteFork { .. } => unreachable!(),
         }
     }
 
@@ -99,7 +141,60 @@ impl<B: Blocks> Editing<'_, B> {
             | Call::Rename { .. }
             | Call::CatMove { .. }
             | Call::CreateFileId { .. }
-            | Call::DeleteFileId { .. } => unreachable!(),
+            | Call::DeleteFileId { .. }
+            | Call::SetEof { .. }
+            | Call::WriteFork { .. } => unreachable!(),
+        }
+    }
+
+    /// What a call that writes a fork makes of the volume.
+    fn write(&self, alloc: Global, call: &Call) -> Result<Result<Change, Refusal>, AllocError>
+        requires { IsTrue (is_writing call.now) }
+        ensures made { Makes result (IsEditOf call.now) B.total B.blocks self.now }
+        ensures room { Makes result (HasForkRoom call.now) B.total B.blocks self.now }
+        ensures forks { Makes result (HasForkWritten call.now) B.total B.blocks self.now }
+    {
+        match call {
+            Call::SetEof {
+                dir,
+                name,
+                fork,
+                length,
+                now,
+            } => self.set_eof(alloc, *dir, name.as_slice(), *fork, *length, *now),
+            Call::WriteFork {
+                dir,
+                name,
+                fork,
+                offset,
+                bytes,
+                now,
+            } => self.write_fork(
+                alloc,
+                *dir,
+                name.as_slice(),
+                *fork,
+                *offset,
+                bytes.as_slice(),
+                *now,
+            ),
+            Call::GetDirInfo { .. }
+            | Call::GetCatInfo { .. }
+            | Call::GetIndexed { .. }
+            | Call::List { .. }
+            | Call::ReadFork { .. }
+            | Call::Create { .. }
+            | Call::DirCreate { .. }
+            | Call::Delete { .. }
+            | Call::Rename { .. }
+            | Call::CatMove { .. }
+            | Call::SetFInfo { .. }
+            | Call::SetCatInfo { .. }
+            | Call::SetFLock { .. }
+            | Call::RstFLock { .. }
+            | Call::CreateFileId { .. }
+            | Call::DeleteFileId { .. }
+            | Call::ResolveFileId { .. } => unreachable!(),
         }
     }
 }

@@ -14,7 +14,7 @@ use hfs_blocks::{Blocks, Patch, Run};
 use hfs_btree::RunNodes;
 use hfs_call_patches::Change;
 use hfs_fields::Mdb;
-use hfs_model::Value;
+use hfs_model::{Value, Want};
 use std::marker::Model;
 
 /// Why a call changes nothing.
@@ -22,8 +22,8 @@ use std::marker::Model;
 pub enum Refusal {
     /// A code other than 0.
     Code(i16),
-    /// The catalog has fewer free nodes than the call needs: their number, and the depth of its tree in levels.
-    Full { free: u32, depth: u32 },
+    /// Too few nodes or blocks for a call that would be done otherwise.
+    Want(Want),
 }
 
 /// A sound volume's blocks with what mounting found out of them. Contracts see the blocks.

@@ -11,6 +11,7 @@ mod creating;
 mod deleting;
 mod editing;
 mod file_ids;
+mod forks;
 mod moving;
 mod new_places;
 mod placed;

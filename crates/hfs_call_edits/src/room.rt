@@ -5,6 +5,7 @@ ghost use Rattle.hfs_btree.specs.Header.{header_in};
 ghost use Rattle.hfs_catalog.specs.Tree.{IsCatalogTree};
 ghost use Rattle.hfs_catalog_edits.specs.Rooms.{IsInFile, HasRoom, HasRoomForTwo};
 ghost use Rattle.hfs_check.specs.Parts.{catalog_nodes};
+ghost use Rattle.hfs_model.specs.declared.journal.Want.TheVariants as want;
 ghost use Rattle.hfs_model.specs.Need.{one_record, two_records};
 ghost use Rattle.hfs_call_edits.specs.declared.editing.Refusal.TheVariants as refusal;
 ghost use Rattle.hfs_call_edits.specs.Room.{lacking};
@@ -13,6 +14,7 @@ use crate::editing::{Editing, Refusal};
 use hfs_blocks::Blocks;
 use hfs_btree::{Nodes, read_header};
 use hfs_fields::Mdb;
+use hfs_model::Want;
 
 /// The free nodes that one more record needs in a tree of so many levels.
 fn one_record(depth: u16) -> u64
@@ -36,12 +38,12 @@ fn two_records(depth: u16) -> u64
 
 /// The refusal of a call that needs more nodes than are free in a tree of so many levels.
 fn full(free: u32, depth: u16) -> Refusal
-    ensures { result ≡ refusal.Full free depth }
+    ensures { result ≡ refusal.Want (want.Nodes free depth) }
 {
-    Refusal::Full {
+    Refusal::Want(Want::Nodes {
         free,
         depth: u32::from(depth),
-    }
+    })
 }
 
 /// What refuses a call that needs room for one more record, if the tree has fewer free nodes than that may take.

@@ -124,7 +124,8 @@ module _ (total dir : ℕ) (old : Blocks) (runs : List Run) (mdb : Mdb) (place :
         record {
           within = within;
           stepped = law (call.Create dir place.name now) (with_file dir now (mdb_in old)) total old new ready.sound made;
-          unwritten = refl;
+          zeros = tt;
+          unwritten = λ other. refl;
           directory = made.edits.mdb ∙ ap (λ (m : Mdb). with_counts m (mdb_in old)) (sym is);
           reply = file_answered (volume_in old) dir now place.name _ ready.chosen.is ∙ ap (λ (m : Mdb). success (answer.Id m.next_id)) (sym ready.directory);
         }
@@ -150,7 +151,8 @@ module _ (total dir : ℕ) (old : Blocks) (runs : List Run) (mdb : Mdb) (place :
         record {
           within = within;
           stepped = law (call.DirCreate dir place.name now) (with_folder dir now (mdb_in old)) total old new ready.sound made;
-          unwritten = refl;
+          zeros = tt;
+          unwritten = λ other. refl;
           directory = made.edits.mdb ∙ ap (λ (m : Mdb). with_counts m (mdb_in old)) (sym is);
           reply = folder_answered (volume_in old) dir now place.name _ ready.chosen.is ∙ ap (λ (m : Mdb). success (answer.Id m.next_id)) (sym ready.directory);
         }

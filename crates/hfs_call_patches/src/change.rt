@@ -2,14 +2,24 @@
 
 use hfs_blocks::{Patch, Run};
 use hfs_fields::Mdb;
+use hfs_fork_bytes::ZeroRuns;
 use hfs_model::Value;
 
-/// What a call makes of a volume: the blocks that change, the volume's counts afterwards, the runs of those blocks that are blocks of
-/// a fork, where the call writes one, and the value of the reply.
+/// What a call that writes a fork writes of it.
+#[derive(Drop)]
+pub struct ForkBlocks {
+    /// The runs of the fork's blocks that may have changed.
+    pub runs: Vec<Run>,
+    /// The blocks of them that are zeros, below the call's patch.
+    pub zeros: ZeroRuns,
+}
+
+/// What a call makes of a volume: the blocks that change, the volume's counts afterwards, what is written of a fork, where the call
+/// writes one, and the value of the reply.
 #[derive(Drop)]
 pub struct Change {
     pub patch: Patch,
     pub counts: Mdb,
-    pub written: Option<Vec<Run>>,
+    pub written: Option<ForkBlocks>,
     pub value: Value,
 }

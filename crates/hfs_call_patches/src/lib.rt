@@ -19,7 +19,7 @@ mod renaming;
 mod settings;
 mod valences;
 
-pub use change::Change;
+pub use change::{Change, ForkBlocks};
 pub use counts::{put_counts, with_counts};
 pub use creating::{add_new_file, add_new_folder};
 pub use deleting_file::patch_delete_file;

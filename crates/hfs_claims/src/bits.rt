@@ -1,7 +1,15 @@
-//! Setting bits of a block of the bitmap.
+//! The bits of a block of the bitmap.
 
 ghost use Rattle.std.specs.Prelude.{◌≡◌, ℕ, ◌+◌, ◌<◌, ◌≤◌, true};
 ghost use Rattle.hfs_space.specs.Bitmap.{is_marked, KeepsBitsBut, KeepsBitsOutside};
+
+/// Whether bit `i` is set. Bit 0 is the most significant bit of the first byte.
+pub(crate) fn is_set(bytes: &[u8; 512], i: usize) -> bool
+    requires { i < 4096 }
+    ensures { result ≡ is_marked bytes.now i }
+{
+    (bytes[i / 8] >> (7 - i % 8)) & 1 == 1
+}
 
 /// Sets bit `i`. Bit 0 is the most significant bit of the first byte.
 fn set_bit(bytes: &mut [u8; 512], i: usize)

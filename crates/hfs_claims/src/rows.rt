@@ -1,24 +1,46 @@
 //! The free blocks directly after a fork's last one.
 
-ghost use Rattle.std.specs.Prelude.{◌≡◌};
+ghost use Rattle.std.specs.Prelude.{◌≡◌, ◌≢◌, ◌+◌, ◌/◌, ◌%◌, ◌<◌};
 ghost use Rattle.hfs_space.specs.Bitmap.{is_used};
 ghost use Rattle.hfs_claims.specs.Choice as spec;
 
+use crate::bits::is_set;
 use hfs_blocks::Blocks;
 use hfs_fields::Extent;
 use hfs_space::Bitmap;
 
-/// How many blocks are free in a row from `first` on, at most as many as are wanted. Only so many bits are read.
+/// How many bits a block of the bitmap has.
+const BITS: u16 = 4096;
+
+/// Sees that these are the bytes in which an allocation block's bit stands. They are read where it is the row's first block, or its
+/// bit the first of a block.
+fn turn_to<B: Blocks>(bitmap: &Bitmap<'_, B>, first: u16, block: u16, bytes: &mut [u8; 512])
+    requires within { block < bitmap.now.count }
+    requires before { block ≢ first → block % 4096 ≢ 0
+        → bytes.old ≡ B.blocks bitmap.now.blocks.now (bitmap.now.start + block / 4096) }
+    ensures { bytes.new ≡ B.blocks bitmap.now.blocks.now (bitmap.now.start + block / 4096) }
+{
+    if block == first || block % BITS == 0 {
+        bitmap
+            .blocks
+            .block(u32::from(bitmap.start) + u32::from(block / BITS), bytes);
+    }
+}
+
+/// How many blocks are free in a row from `first` on, at most as many as are wanted. Only so many bits are looked at, and the
+/// blocks that have these are read once.
 fn free_row<B: Blocks>(bitmap: &Bitmap<'_, B>, first: u16, wanted: u32) -> u16
     ensures { spec.IsFreeRow (is_used (B.blocks bitmap.now.blocks.now) bitmap.now.start)
         bitmap.now.count first wanted result }
 {
+    let mut bytes = [0; 512];
     for block in first..bitmap.count {
         let count = block - first;
         if u32::from(count) == wanted {
             return count;
         }
-        if bitmap.is_used(block) {
+        turn_to(bitmap, first, block, &mut bytes);
+        if is_set(&bytes, usize::from(block % BITS)) {
             return count;
         }
     }

@@ -1,4 +1,5 @@
 pub mod Values
+pub mod Faults
 pub mod Items
 pub mod Remains
 pub mod Volumes

@@ -1,4 +1,5 @@
 //! Why the rows of an image were not all given.
+ghost use Rattle.std.specs.Prelude.{◌≡◌};
 
 use hfs_rows::TakerFault;
 use hfs_sparse::SparseFault;
@@ -16,12 +17,20 @@ pub enum CollectFault {
 }
 
 impl From<AllocError> for CollectFault {
+    ghost use Rattle.hfs_collection.specs.declared.fault.CollectFault.TheVariants.{NoMemory};
+
+    ghost from_gives = { λ _ fault. fault ≡ NoMemory };
+
     fn from(_: AllocError) -> CollectFault {
         CollectFault::NoMemory
     }
 }
 
 impl From<SparseFault> for CollectFault {
+    ghost use Rattle.hfs_collection.specs.Faults.{reading_fault};
+
+    ghost from_gives = { λ why fault. fault ≡ reading_fault why };
+
     fn from(fault: SparseFault) -> CollectFault {
         match fault {
             SparseFault::ReadFailed => CollectFault::ReadFailed,
@@ -31,6 +40,10 @@ impl From<SparseFault> for CollectFault {
 }
 
 impl From<TakerFault> for CollectFault {
+    ghost use Rattle.hfs_collection.specs.Faults.{giving_fault};
+
+    ghost from_gives = { λ why fault. fault ≡ giving_fault why };
+
     fn from(fault: TakerFault) -> CollectFault {
         match fault {
             TakerFault::CannotWrite => CollectFault::CannotWrite,

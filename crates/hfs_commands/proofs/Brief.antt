@@ -39,6 +39,8 @@ listed-brief (value.Id id) reply = refl
 listed-brief (value.One info) reply = refl
 listed-brief (value.Bytes bytes) reply = refl
 listed-brief (value.Full free depth) reply = refl
+listed-brief (value.Room free wanted) reply = refl
+listed-brief (value.ExtentNodes free depth) reply = refl
 listed-brief (value.Place dir name) reply = refl
 
 pub list_lines-brief : (reply : Reply) → list_lines (without_ids reply) ≡ list_lines reply
@@ -53,6 +55,8 @@ value-status (value.Id id) = refl
 value-status (value.One info) = refl
 value-status (value.Bytes bytes) = refl
 value-status (value.Full free depth) = refl
+value-status (value.Room free wanted) = refl
+value-status (value.ExtentNodes free depth) = refl
 value-status (value.Place dir name) = refl
 
 pub list_status-brief : (reply : Reply) → list_status (without_ids reply) ≡ list_status reply

@@ -8,7 +8,7 @@ use Rattle.std.proofs.lemmas.List.{take_more, take_more_set, take-append-drop, a
 use Rattle.std.proofs.lemmas.Grind.{flat_map-append}
 use Rattle.hfs_texts.specs.Lines.{hex_byte, hex_digit, hex_text}
 use Rattle.hfs_texts.specs.Writing.{AppendsFront}
-use Rattle.hfs_commands.proofs.Rows.{front_first, front_next}
+use Rattle.hfs_patched.proofs.Fronts.{front_first, front_next}
 
 -- ---- digits that are laid two by two
 

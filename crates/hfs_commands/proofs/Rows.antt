@@ -1,28 +1,10 @@
 -- Bytes that are written one behind the other, also where writing ends in them.
-use Rattle.std.proofs.Common.{◌≡◌, ◌∙◌, refl, sym, subst, arith, ℕ, ◌+◌, List, ◌++◌, length, take, min, replicate, Option, Result, Ok, Err, OnOk, OnErr, IfOk}
+use Rattle.std.proofs.Common.{◌≡◌, subst, ℕ, List, ◌++◌, length, replicate, Option, Result, Ok, Err, OnOk, OnErr, IfOk}
 use Rattle.std.specs.Io.KnownBytes.{Appends}
 use Rattle.std.proofs.KnownBytes.{Appends-trans}
-use Rattle.std.proofs.lemmas.List.{take-append-le, take_min}
-use Rattle.std.proofs.Math.Seq.{take-add}
-use Rattle.std.proofs.lemmas.List.{drop_at, take_at}
 use Rattle.hfs_encodings.specs.MacBinary.{filled, padding}
+use Rattle.hfs_patched.proofs.Fronts.{front_first, front_next}
 use Rattle.hfs_texts.specs.Writing.{AppendsFront}
-
--- a beginning of the first part is one of the whole
-front-left : (n : ℕ) (xs ys : List ℕ) → take n xs ≡ take (min n (length xs)) (xs ++ ys)
-front-left n xs ys = sym (take_min n xs) ∙ sym (take-append-le (min n (length xs)) xs ys (omega arith))
-
-pub front_first : (a b : Option (List ℕ)) (xs ys : List ℕ) → AppendsFront a b xs → AppendsFront a b (xs ++ ys)
-front_first a b xs ys (n, front) = (min n (length xs), subst (Appends a b) (front-left n xs ys) front)
-
--- the first part, and a beginning of the second
-front-right : (n : ℕ) (xs ys : List ℕ) → xs ++ take n ys ≡ take (length xs + n) (xs ++ ys)
-front-right n xs ys =
-    (λ i. sym (take_at xs ys (length xs) refl) i ++ take n (sym (drop_at xs ys (length xs) refl) i)) ∙ sym (take-add (length xs) n (xs ++ ys))
-
-pub front_next : (a b c : Option (List ℕ)) (xs ys : List ℕ) → Appends a b xs → AppendsFront b c ys → AppendsFront a c (xs ++ ys)
-front_next a b c xs ys first (n, front) =
-    (length xs + n, subst (Appends a c) (front-right n xs ys) (Appends-trans a b c xs (take n ys) first front))
 
 pub whole_next : (a b c : Option (List ℕ)) (xs ys : List ℕ) → Appends a b xs → Appends b c ys → Appends a c (xs ++ ys)
 whole_next a b c xs ys first second = Appends-trans a b c xs ys first second

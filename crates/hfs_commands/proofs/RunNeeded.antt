@@ -9,8 +9,8 @@ use Rattle.hfs_needed_runs.specs.NamedForks.{HasNamedForks}
 use Rattle.hfs_needed_runs.specs.Naming.{read_forks}
 use Rattle.hfs_needed_runs.specs.OnImage.{IsLinesCopy}
 use Rattle.hfs_needed_runs.proofs.ForksOfLines.{named_forks_are_the_images}
-use Rattle.hfs_needed_runs.proofs.OnImage.{workers_read_the_image}
-use Rattle.hfs_needed_runs.specs.NeededRuns.{AreLinesRunOver, AreLinesRunOverAs}
+use Rattle.hfs_needed_runs.proofs.OnImage.{saved_is_made, workers_read_the_image}
+use Rattle.hfs_needed_runs.specs.NeededRuns.{IsRunOver, IsRunOverAs}
 use Rattle.hfs_runs.specs.declared.fault.ScriptFault.{ScriptFault}
 use Rattle.hfs_runs.specs.declared.fault.ScriptFault.TheVariants as run
 use Rattle.hfs_runs.specs.Pieces.{text_of_pieces}
@@ -21,7 +21,6 @@ use Rattle.hfs_volume.specs.Image.{copy_of}
 use Rattle.hfs_volume.proofs.CopyLemmas.{length-copy}
 use Rattle.hfs_working.specs.declared.opening.WorkingVolume.{WorkingVolume}
 use Rattle.hfs_working.specs.Opened.{IsWorkingOf}
-use Rattle.hfs_working.specs.Working.{CarriesOver}
 use Rattle.hfs_working.proofs.ReadWork.{opened-sound, opened-copy}
 use Rattle.hfs_commands.specs.declared.fault.Fault.{Fault}
 use Rattle.hfs_commands.specs.declared.fault.Fault.TheVariants as fault
@@ -66,27 +65,27 @@ module _ (Held Holds : List ℕ → Type 0) (len : ℕ) (old new : WorkingVolume
     lines-copy lines forks image long of = named_forks_are_the_images lines len new image mountable-new right forks long of
 
     pub needed-run : (lines : List ScriptLine) (patch : Numbered) (text : List ℕ) (all shown : Bool) (ran : NeededRan) → patch ≡ ran.patch → text ≡ text_of_pieces ran.answers
-        → all ≡ ran.whole → shown ≡ ran.shown → AreLinesRunOverAs (copy_of new.read len) lines ran
+        → all ≡ ran.whole → shown ≡ ran.shown → IsRunOverAs new.read len lines ran
         → (read_forks lines ≡ true → HasNamedForks (sparse new.read) lines new.read) → IsSeen Holds new.read
-        → ((image : List ℕ) → length image ≡ len → IsOf image new.read → CarriesOver ran.patch (copy_of new.read len) image)
         → IsNeededRunOf Holds len lines patch text all shown
-    needed-run lines patch text all shown ran same-patch same-text same-all same-shown over forks seen carried = record {
+    needed-run lines patch text all shown ran same-patch same-text same-all same-shown over forks seen = record {
       read = new.read;
       ran = here;
       forks = forks;
       seen = seen;
       same = lines-copy lines forks;
       answered = λ image long of.
-          workers_read_the_image (copy_of new.read len) image lines here.volume text all shown (lines-copy lines forks image long of) here.ran;
+          workers_read_the_image (copy_of new.read len) image lines here.over.volume text all shown (lines-copy lines forks image long of) here.over.ran;
       copy = λ image long of. opened-copy (Some image) len right new (working-of image of) long;
-      carried = λ image long of. subst (λ (p : Numbered). CarriesOver p (copy_of new.read len) image) (sym same-patch) (carried image long of);
+      made = λ image long of used.
+          saved_is_made (copy_of new.read len) image lines patch text all shown here.over here.keep (here.forks image long of used (forks used));
     }
       where
-        here : AreLinesRunOver (copy_of new.read len) lines patch text all shown
-        here = subst (λ (b : Bool). AreLinesRunOver (copy_of new.read len) lines patch text all b) (sym same-shown)
-            (subst (λ (b : Bool). AreLinesRunOver (copy_of new.read len) lines patch text b ran.shown) (sym same-all)
-            (subst (λ (t : List ℕ). AreLinesRunOver (copy_of new.read len) lines patch t ran.whole ran.shown) (sym same-text)
-            (subst (λ (p : Numbered). AreLinesRunOver (copy_of new.read len) lines p (text_of_pieces ran.answers) ran.whole ran.shown) (sym same-patch) over)))
+        here : IsRunOver new.read len lines patch text all shown
+        here = subst (λ (b : Bool). IsRunOver new.read len lines patch text all b) (sym same-shown)
+            (subst (λ (b : Bool). IsRunOver new.read len lines patch text b ran.shown) (sym same-all)
+            (subst (λ (t : List ℕ). IsRunOver new.read len lines patch t ran.whole ran.shown) (sym same-text)
+            (subst (λ (p : Numbered). IsRunOver new.read len lines p (text_of_pieces ran.answers) ran.whole ran.shown) (sym same-patch) over)))
 
 -- what was read of each image, and forks since, is of each that holds when it was looked at again
 pub seen-then : {first fetched looked : List ℕ → Type 0} {old new : Numbered} → IsSeen first old → SeesMore first fetched old new → OfEach looked fetched → IsSeen looked new

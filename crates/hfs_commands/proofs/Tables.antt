@@ -10,7 +10,8 @@ use Rattle.hfs_inventory.specs.Levels.{Going}
 use Rattle.hfs_source.specs.Images.{OfEach}
 use Rattle.hfs_commands.specs.Entries.{entries_in}
 use Rattle.hfs_commands.specs.Items.{MovesRow, WritesItems, WritesItemsFront, items_text, rows_text, table_text}
-use Rattle.hfs_commands.proofs.Rows.{front_first, front_next, whole_next}
+use Rattle.hfs_patched.proofs.Fronts.{front_first, front_next}
+use Rattle.hfs_commands.proofs.Rows.{whole_next}
 
 -- these bytes went out; the text that is gathered and the lines of the rows that are to come make the rest
 pub record IsBegun (format : Format) (start now : Option (List ℕ)) (text : List ℕ) (left : List ToldRow) (whole : List ℕ) : Type 0 where

@@ -34,6 +34,8 @@ tells_folder (value.One info) = is_folder_kind info.kind
 tells_folder (value.Many infos) = false
 tells_folder (value.Bytes bytes) = false
 tells_folder (value.Full free depth) = false
+tells_folder (value.Room free wanted) = false
+tells_folder (value.ExtentNodes free depth) = false
 tells_folder (value.Place dir name) = false
 
 -- -43 of a folder, which has no forks

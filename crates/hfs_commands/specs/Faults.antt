@@ -36,6 +36,7 @@ status_of (fault.Refused why) = status.ImageRefused
 status_of (fault.NoVolume n) = status.ImageRefused
 status_of fault.NoVolumes = status.ImageRefused
 status_of fault.NotWritten = status.ImageRefused
+status_of fault.SumWrong = status.ImageRefused
 status_of (fault.SeveralVolumes n) = status.ImageRefused
 status_of fault.BadName = status.ImageRefused
 status_of fault.BadSize = status.ImageRefused
@@ -58,6 +59,7 @@ fault_text (fault.Refused why) = refusal_text why
 fault_text (fault.NoVolume n) = codes "no volume " ++ decimal n
 fault_text fault.NoVolumes = codes "no HFS volume"
 fault_text fault.NotWritten = codes "not written here"
+fault_text fault.SumWrong = codes "sum wrong"
 fault_text (fault.SeveralVolumes n) = decimal n ++ codes " volumes lie inside; name one by --volume"
 fault_text fault.BadName = codes "bad name"
 fault_text fault.BadSize = codes "bad size"
@@ -101,6 +103,10 @@ IsUnopened path volume why = (why ≡ fault.CannotRead path) ⊎ (IsTooMuch why 
 -- an image that is to be changed was not opened: it can't be read, it is too much, or it isn't written
 abbrev pub IsUnwatched : Bor (List ℕ) → Fault → Type 0
 IsUnwatched path why = (why ≡ fault.CannotRead path) ⊎ (IsTooMuch why ⊎ (why ≡ fault.NotWritten))
+
+-- a volume in a file that is to be changed was not opened: there is none with this number, it can't be read, it isn't written, or its sum is wrong
+abbrev pub IsUnopenedVolume : Bor (List ℕ) → ℕ → Fault → Type 0
+IsUnopenedVolume path number why = IsUnopened path (Some number) why ⊎ ((why ≡ fault.NotWritten) ⊎ (why ≡ fault.SumWrong))
 
 -- a script has too many bytes, or more than there is memory for
 abbrev pub IsTooMuchScript : Fault → Type 0

@@ -4,7 +4,7 @@ use Rattle.std.specs.List.{flat_map}
 use Rattle.std.specs.Fmt.{decimal, signed_decimal}
 use Rattle.hfs_model.specs.declared.reply.Reply.{Reply}
 use Rattle.hfs_model.specs.declared.reply.Value.{Value}
-use Rattle.hfs_model.specs.declared.reply.Value.TheVariants.{Nothing, Id, One, Many, Bytes, Full, Place}
+use Rattle.hfs_model.specs.declared.reply.Value.TheVariants.{Nothing, Id, One, Many, Bytes, Full, Room, ExtentNodes, Place}
 use Rattle.hfs_model.specs.declared.reply.Info.{Info}
 use Rattle.hfs_model.specs.declared.reply.ItemKind.{ItemKind}
 use Rattle.hfs_model.specs.declared.reply.ItemKind.TheVariants.{Folder, File}
@@ -45,6 +45,8 @@ listed_lines (Id id) reply = code_line reply
 listed_lines (One info) reply = code_line reply
 listed_lines (Bytes bytes) reply = code_line reply
 listed_lines (Full free depth) reply = code_line reply
+listed_lines (Room free wanted) reply = code_line reply
+listed_lines (ExtentNodes free depth) reply = code_line reply
 listed_lines (Place dir name) reply = code_line reply
 
 abbrev pub listed_status : Value → Status
@@ -54,6 +56,8 @@ listed_status (Id id) = status.CallRefused
 listed_status (One info) = status.CallRefused
 listed_status (Bytes bytes) = status.CallRefused
 listed_status (Full free depth) = status.CallRefused
+listed_status (Room free wanted) = status.CallRefused
+listed_status (ExtentNodes free depth) = status.CallRefused
 listed_status (Place dir name) = status.CallRefused
 
 -- the lines that are printed of a reply to List

@@ -8,7 +8,7 @@ use Rattle.hfs_model.specs.declared.reply.ItemKind.{ItemKind}
 use Rattle.hfs_model.specs.declared.reply.ItemKind.TheVariants.{Folder, File}
 use Rattle.hfs_model.specs.declared.reply.Reply.{Reply}
 use Rattle.hfs_model.specs.declared.reply.Value.{Value}
-use Rattle.hfs_model.specs.declared.reply.Value.TheVariants.{Nothing, Id, One, Many, Bytes, Full, Place}
+use Rattle.hfs_model.specs.declared.reply.Value.TheVariants.{Nothing, Id, One, Many, Bytes, Full, Room, ExtentNodes, Place}
 
 -- the header of a file that is told of so
 abbrev pub macbinary_head : Info → MacBinaryHead
@@ -34,6 +34,8 @@ file_of_value (Id id) code = Err code
 file_of_value (Many items) code = Err code
 file_of_value (Bytes bytes) code = Err code
 file_of_value (Full free depth) code = Err code
+file_of_value (Room free wanted) code = Err code
+file_of_value (ExtentNodes free depth) code = Err code
 file_of_value (Place dir name) code = Err code
 
 -- the file that a reply to GetCatInfo tells of, or the code that refuses it

@@ -1,11 +1,12 @@
 //! What is told of an image.
-ghost use Rattle.std.specs.Prelude.{◌≡◌, ◌++◌, IfOk, OnOk, string_bytes};
+ghost use Rattle.std.specs.Prelude.{◌≡◌, ◌++◌, IfErr, IfOk, OnOk, string_bytes};
 ghost use Rattle.hfs_commands.specs.Checks.{HasCheckLines, IsCheckFault, IsCheckStatus, alternate_text, check_lines, check_status, refused_line, sound_lines};
+ghost use Rattle.hfs_needed.specs.Failing.{SomeReadFails};
 ghost use Rattle.hfs_source.specs.Images.{OfEach};
 
 use crate::fault::Status;
 use hfs_check::{Alternate, MountFault, Report};
-use hfs_needed::needed_report;
+use hfs_needed::seen_report;
 use hfs_refusals::Refusal;
 use hfs_source::PlacedBlocks;
 use hfs_sparse::{SeenBlocks, SparseFault};
@@ -90,22 +91,23 @@ pub fn report_answer(alloc: Global, report: &Report) -> Result<CheckAnswer, Allo
     })
 }
 
-/// Checks an image: what the report of each image tells that has the bytes which were read. Only the blocks are read that its checks need.
-/// Errors: `ReadFailed` where a read of one of these blocks failed, or the image ends before one does; `Memory` where it was refused. A fault
-/// of the image is no error: it is told of.
-pub fn needed_check_answer<S: PlacedBlocks>(
+/// Checks an image, and gives its source back: what the report of each image tells that has the bytes which were read. Only the
+/// blocks are read that its checks need. Errors: `ReadFailed` where a read of one of these blocks failed; `Memory` where it was
+/// refused. A fault of the image is no error: it is told of.
+pub fn needed_check_answer<S: PlacedBlocks + Drop>(
     alloc: Global,
-    source: &mut SeenBlocks<S>,
-) -> Result<CheckAnswer, SparseFault>
-    ensures fault { IfOk result (λ t. OfEach (S.Holds source.new.blocks) (IsCheckFault t.fault)) }
-    ensures status { IfOk result (λ t. OfEach (S.Holds source.new.blocks) (IsCheckStatus t.status)) }
-    ensures lines { IfOk result (λ t. OfEach (S.Holds source.new.blocks) (HasCheckLines t.lines)) }
-    ensures narrows { OfEach (S.Holds source.new.blocks) (S.Holds source.old.blocks) }
+    source: SeenBlocks<S>,
+) -> Result<(CheckAnswer, SeenBlocks<S>), SparseFault>
+    ensures fault { IfOk result (λ t. OfEach (S.Holds t.1.blocks) (IsCheckFault t.0.fault)) }
+    ensures status { IfOk result (λ t. OfEach (S.Holds t.1.blocks) (IsCheckStatus t.0.status)) }
+    ensures lines { IfOk result (λ t. OfEach (S.Holds t.1.blocks) (HasCheckLines t.0.lines)) }
+    ensures narrows { IfOk result (λ t. OfEach (S.Holds t.1.blocks) (S.Holds source.blocks)) }
+    ensures failed { IfErr result (λ fault. fault ≡ SparseFault.ReadFailed
+        → SomeReadFails (S.Holds source.blocks) (S.Fails source.blocks)) }
 {
-    let len = source.blocks.len();
-    let report = needed_report(alloc, source, len)?;
+    let (source, report) = seen_report(alloc, source)?;
     match report_answer(alloc, &report) {
-        Ok(told) => Ok(told),
+        Ok(told) => Ok((told, source)),
         Err(_) => Err(SparseFault::Memory),
     }
 }

@@ -1,12 +1,13 @@
 //! What a file is to hold.
 ghost use Rattle.std.specs.Prelude.{◌≡◌, ℕ, List, [], Some, IfOk, OnErr, OnOk};
 ghost use Rattle.std.specs.Io.KnownBytes.{Appends};
+ghost use Rattle.hfs_format.specs.Image.{image_bytes};
 ghost use Rattle.hfs_source.specs.Images.{OfEach};
 ghost use Rattle.hfs_texts.specs.Writing.{AppendsFront};
 
 use hfs_files::{NewFileWriter, PlacedWriter};
+use hfs_format::PlannedImage;
 use hfs_patched::PatchedFault;
-use hfs_texts::put;
 use hfs_volume::Volume;
 use std::io;
 use std::io::{ErrorKind, Write};
@@ -25,12 +26,12 @@ pub trait Contents {
             (bytes self.now)) };
 }
 
-/// The bytes of a new volume.
-impl Contents for Vec<u8> {
-    ghost bytes = { λ vector. vector.items };
+/// The image of a new volume, whose blocks are made as they are written.
+impl Contents for PlannedImage {
+    ghost bytes = { λ image. image_bytes image };
 
     fn write_to<W: Write>(&self, writer: &mut W) -> io::Result<()> {
-        put(writer, self.as_slice())
+        self.write(writer)
     }
 }
 

@@ -83,6 +83,8 @@ pub enum Fault<'a> {
     NoVolumes,
     /// The image is the user data of raw CD sectors, which isn't written.
     NotWritten,
+    /// The sum that a disk copy's header tells isn't that of its data, so that it isn't changed.
+    SumWrong,
     /// So many volumes lie inside a file, and none of them is named.
     SeveralVolumes(u64),
     /// A new volume can't have this name.
@@ -122,6 +124,7 @@ impl Fault<'_> {
             Fault::WordsNotText => Status::WordsRefused,
             Fault::Refused(_) | Fault::NoVolume(_) | Fault::NoVolumes => Status::ImageRefused,
             Fault::SeveralVolumes(_) | Fault::NotWritten => Status::ImageRefused,
+            Fault::SumWrong => Status::ImageRefused,
             Fault::BadName | Fault::BadSize | Fault::BadNodeCount | Fault::NoRoom => {
                 Status::ImageRefused
             }
@@ -271,6 +274,7 @@ impl fmt::Display for Fault<'_> {
             Fault::NoVolume(n) => write!(f, "no volume {n}"),
             Fault::NoVolumes => write!(f, "no HFS volume"),
             Fault::NotWritten => write!(f, "not written here"),
+            Fault::SumWrong => write!(f, "sum wrong"),
             Fault::SeveralVolumes(n) => {
                 write!(f, "{n} volumes lie inside; name one by --volume")
             }

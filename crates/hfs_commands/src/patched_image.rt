@@ -4,7 +4,7 @@ ghost use Rattle.hfs_blocks.specs.Layers.{changes, AreWithin};
 ghost use Rattle.hfs_commands.specs.Images.{IsPatchedOf};
 
 use crate::contents::{ReadContents, UnwrittenFault};
-use hfs_blocks::Patch;
+use hfs_changed_blocks::ChangedBlocks;
 use hfs_files::Watched;
 use hfs_patched::write_patched;
 use hfs_sparse::BlockSource;
@@ -20,7 +20,7 @@ pub struct PatchedImage<S> {
     /// How many bytes it has, at most 2,147,483,648.
     pub len: u64,
     /// The changed blocks.
-    pub patch: Patch,
+    pub patch: ChangedBlocks,
     ghost small: { len ≤ 2147483648 },
     ghost within: { AreWithin (changes patch) (len / 512) },
 }

@@ -7,6 +7,7 @@ ghost use Rattle.hfs_commands.specs.Repairs.{place_text, fix_text, fixed_line, f
 use crate::checking::refused_text;
 use crate::fault::Status;
 use crate::patched_image::PatchedImage;
+use hfs_changed_blocks::ChangedBlocks;
 use hfs_check::MountFault;
 use hfs_mending::{Mended, mend_needed};
 use hfs_sparse::{BlockSource, SparseFault};
@@ -141,7 +142,7 @@ pub fn repair_answer<S: BlockSource + Drop>(
                 alloc,
                 source,
                 len,
-                patch,
+                patch: ChangedBlocks::of_patch(alloc, patch),
             };
             Ok(RepairAnswer {
                 image: Ok(image),

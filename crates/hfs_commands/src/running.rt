@@ -29,7 +29,7 @@ use std::thread::Threads;
 /// An image on which a script is to be run, of which the blocks were read that calls read and write.
 #[derive(Drop)]
 pub struct RunImage<S: BlockSource> {
-    /// Where the forks are read from that a script may read.
+    /// Where the forks are read from that a script may read or write.
     source: S,
     /// How many bytes the image has.
     len: u64,
@@ -160,7 +160,7 @@ impl<S: BlockSource + Watched + Drop> RunImage<S> {
         }
     }
 
-    /// Reads the forks that a script may read, and runs the script, with a gate that is called around each call of a worker. Faults: `CannotRead`
+    /// Reads the forks that a script may read or write, and runs the script, with a gate that is called around each call of a worker. Faults: `CannotRead`
     /// of this path where a read fails, or where the image has changed since it was opened; `NoPlace`; `NoMemory`.
     pub fn run_at<'a, R: Threads + Wait + Sync, G: Gate + Sync>(
         self,

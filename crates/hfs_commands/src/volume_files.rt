@@ -11,7 +11,9 @@ ghost use Rattle.hfs_source.specs.Images.{HasLength, OfEach};
 use crate::fault::Fault;
 use crate::files::{load_opened, regular_len};
 use crate::opened_file::{OpenedFile, StoredFile, content_of};
-use hfs_containers::{Asked, ByteRange, Counted, NumberedRange, Window, find_asked};
+use hfs_containers::{
+    Asked, ByteRange, Counted, Layout, NumberedRange, ReadAt, Window, find_asked,
+};
 use hfs_source::PlacedBytes;
 use std::alloc::Global;
 use std::fs::{File, OpenFile};
@@ -135,9 +137,35 @@ fn stored_part<F: Read + Seek>(file: Window<StoredFile<F>>) -> FilePart<F>
     })
 }
 
+/// Where what is asked for lies in a file of `len` bytes, or of user data, by the number of a range or without one, as
+/// [`find_asked`] says; `None` is the file as it is. Faults: as [`part_of`] has them.
+#[tactic(auto, using(crate::proofs::PartLemmas::several_unnamed, crate::proofs::PartLemmas::missing_unnamed))]
+pub(crate) fn place_asked<'a, S: ReadAt>(
+    alloc: Global,
+    source: &mut S,
+    len: u64,
+    layout: Layout,
+    path: &'a str,
+    counted: Counted,
+    volume: Option<u64>,
+) -> Result<Option<NumberedRange>, Fault<'a>>
+    ensures asked { IfOk result (λ place. IsToldOf (S.known source.old) len
+        (asked_in layout counted volume) (asked_at place)) }
+    ensures answer { IfOk result (λ place. IsAnswerTo volume (asked_at place)) }
+    ensures known { S.known source.new ≡ S.known source.old }
+    ensures fault { IfErr result (IsUnopened path.entry volume) }
+{
+    match find_asked(alloc, source, len, layout, counted, volume) {
+        Ok(Asked::WholeFile) => Ok(None),
+        Ok(Asked::Inside(place)) => Ok(Some(place)),
+        Ok(Asked::Several(n)) => Err(Fault::SeveralVolumes(n)),
+        Ok(Asked::Missing(n)) => Err(Fault::NoVolume(n)),
+        Err(fault) => Err(Fault::of_sparse(fault, path)),
+    }
+}
+
 /// What is asked for of a file that was opened, by the number of a range in it or without one, as [`find_asked`] says. Faults: `NoVolume` where there
 /// is no such range; `SeveralVolumes` where no number is given and several count; a read failed, memory was refused.
-#[tactic(auto, using(crate::proofs::PartLemmas::several_unnamed, crate::proofs::PartLemmas::missing_unnamed))]
 pub fn part_of<'a, F: Read + Seek + Drop>(
     alloc: Global,
     file: Window<OpenedFile<F>>,
@@ -155,18 +183,16 @@ pub fn part_of<'a, F: Read + Seek + Drop>(
 {
     let Window { mut source, range } = file;
     let layout = source.layout();
-    match find_asked(alloc, &mut source, range.len, layout, counted, volume) {
-        Ok(Asked::WholeFile) => Ok(whole_part(Window { source, range })),
-        Ok(Asked::Inside(place)) => Ok(FilePart {
+    let place = place_asked(alloc, &mut source, range.len, layout, path, counted, volume)?;
+    match place {
+        None => Ok(whole_part(Window { source, range })),
+        Some(place) => Ok(FilePart {
             bytes: Window {
                 source,
                 range: place.found.range,
             },
             place: Some(place),
         }),
-        Ok(Asked::Several(n)) => Err(Fault::SeveralVolumes(n)),
-        Ok(Asked::Missing(n)) => Err(Fault::NoVolume(n)),
-        Err(fault) => Err(Fault::of_sparse(fault, path)),
     }
 }
 

@@ -121,7 +121,10 @@ fn push_volume_line(
 
 /// Whether the sum that a disk copy's header tells is that of its data, which is read. None of another range. Errors: the read failed, or the file ends
 /// before the range.
-pub fn sum_told<S: ReadAt>(source: &mut S, found: &FoundRange) -> Result<Option<bool>, SparseFault>
+pub(crate) fn sum_told<S: ReadAt>(
+    source: &mut S,
+    found: &FoundRange,
+) -> Result<Option<bool>, SparseFault>
     ensures told { IfOk result (IsTold (S.known source.old)
         (λ file. sum_told found.now.container (bytes_in found.now.range file))) }
     ensures known { S.known source.new ≡ S.known source.old }

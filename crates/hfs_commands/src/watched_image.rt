@@ -1,13 +1,14 @@
 //! An image that was opened to be changed.
 ghost use Rattle.std.specs.Prelude.{◌≡◌, IfErr, IfOk, None, Some};
 ghost use Rattle.hfs_source.specs.Images.{HasLength, OfEach};
-ghost use Rattle.hfs_commands.specs.Faults.{IsUnwatched};
+ghost use Rattle.hfs_commands.specs.Faults.{IsUnreadFile, IsUnwatched};
 ghost use Rattle.hfs_commands.specs.WatchedImages.{watched_bytes, watched_images};
 
 use crate::fault::Fault;
 use crate::files::regular_len;
 use crate::opened_file::{OpenedFile, StoredFile, content_of};
 use crate::volume_files::{loaded, opened};
+use crate::watched_range::WatchedBytes;
 use hfs_containers::Window;
 use hfs_files::{TrustedLooks, Watched, look_again};
 use hfs_source::PlacedBytes;
@@ -21,8 +22,8 @@ use std::sync::Arc;
 /// An image that was opened to be changed: what was opened, with its first look where it isn't held.
 #[derive(Drop)]
 pub struct WatchedImage<F: Read + Seek> {
-    file: StoredFile<F>,
-    looks: Option<TrustedLooks<F, StoredFile<F>>>,
+    pub(crate) file: StoredFile<F>,
+    pub(crate) looks: Option<TrustedLooks<F, StoredFile<F>>>,
 }
 
 impl<F: Read + Seek + Drop> WatchedImage<F> {
@@ -101,6 +102,32 @@ impl<F: Read + Seek + OpenFile> Watched for WatchedImage<F> {
     }
 }
 
+impl<F: Read + Seek> PlacedBytes for WatchedImage<F> {
+    ghost use Rattle.hfs_commands.specs.OpenedFiles.{stored_failures, stored_images};
+
+    ghost Holds = { λ image. stored_images image.file };
+
+    ghost Fails = { λ image. stored_failures image.file };
+
+    fn len(&self) -> u64 {
+        PlacedBytes::len(&self.file)
+    }
+
+    fn read_at(&mut self, place: u64, into: &mut [u8]) -> io::Result<()> {
+        PlacedBytes::read_at(&mut self.file, place, into)
+    }
+}
+
+impl<F: Read + Seek + OpenFile> WatchedBytes for WatchedImage<F> {
+    ghost use Rattle.hfs_commands.specs.WatchedImages.{IsWatchedSettled};
+
+    ghost settled = { λ image. IsWatchedSettled image };
+
+    fn look_again(&mut self) -> io::Result<()> {
+        Watched::look_again(self)
+    }
+}
+
 /// What was opened to be changed, with its first look. Faults: `NotWritten` of raw sectors; a read failed.
 fn watched<'a, F: Read + Seek + Drop>(
     stored: Window<StoredFile<F>>,
@@ -116,24 +143,47 @@ fn watched<'a, F: Read + Seek + Drop>(
     }
 }
 
-/// Opens an image by its path, to write it anew with changes: a regular file is looked at, and left to be read where it is needed, and of anything else
-/// all bytes are held. Faults: as [`open_file`](crate::open_file) has them; `NotWritten` where it is of raw CD sectors.
+/// A file that was opened to be changed, with its first look where it isn't held.
+#[derive(Drop)]
+pub(crate) struct LookedFile<F: Read + Seek> {
+    pub(crate) bytes: Window<StoredFile<F>>,
+    pub(crate) looks: Option<TrustedLooks<F, StoredFile<F>>>,
+}
+
+/// Opens a file by its path, to write it anew with changes. A regular file is looked at, and left to be read where it is needed;
+/// of anything else all bytes are held. Faults: as [`open_file`](crate::open_file) has them.
+pub(crate) fn open_looked<'a, R: Files + AllocGlobal>(
+    rt: &R,
+    path: &'a str,
+) -> Result<LookedFile<R::File>, Fault<'a>>
+    ensures { IfErr result (IsUnreadFile path.entry) }
+{
+    let Ok(file) = File::open(rt, path) else {
+        return Err(Fault::CannotRead(path));
+    };
+    if regular_len(&file).is_none() {
+        let bytes = loaded(rt.alloc(), file, path)?;
+        return Ok(LookedFile { bytes, looks: None });
+    }
+    let Ok(looks) = TrustedLooks::open(&file) else {
+        return Err(Fault::CannotRead(path));
+    };
+    let bytes = opened(rt.alloc(), file, path)?;
+    Ok(LookedFile {
+        bytes,
+        looks: Some(looks),
+    })
+}
+
+/// Opens an image by its path, to write it anew with changes: a regular file is looked at, and left to be read where it is
+/// needed, and of anything else all bytes are held. Faults: as [`open_file`](crate::open_file) has them; `NotWritten` where it is
+/// of raw CD sectors.
 pub fn open_watched<'a, R: Files + AllocGlobal>(
     rt: &R,
     path: &'a str,
 ) -> Result<WatchedImage<R::File>, Fault<'a>>
     ensures { IfErr result (IsUnwatched path.entry) }
 {
-    let Ok(file) = File::open(rt, path) else {
-        return Err(Fault::CannotRead(path));
-    };
-    if regular_len(&file).is_none() {
-        let held = loaded(rt.alloc(), file, path)?;
-        return watched(held, None, path);
-    }
-    let Ok(looks) = TrustedLooks::open(&file) else {
-        return Err(Fault::CannotRead(path));
-    };
-    let stored = opened(rt.alloc(), file, path)?;
-    watched(stored, Some(looks), path)
+    let LookedFile { bytes, looks } = open_looked(rt, path)?;
+    watched(bytes, looks, path)
 }

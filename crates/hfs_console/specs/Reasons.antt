@@ -7,13 +7,14 @@ use Rattle.hfs_commands.specs.declared.fault.Fault.TheVariants as fault
 unfoldable pub more_text : Fault → Option (List ℕ)
 more_text fault.BadName = Some (codes "NAME has 1 to 27 printable characters, without colon and grave accent")
 more_text fault.BadSize = Some (codes "BLOCKS are blocks of 512 bytes, from 8 to 4194304")
-more_text fault.BadNodeCount = Some (codes "NODES are from 2 to 2048, EXTENTS from 1 to 2048")
+more_text fault.BadNodeCount = Some (codes "NODES are at least 2, EXTENTS at least 1")
 more_text fault.WordsNotText = None
 more_text (fault.Refused why) = None
 more_text (fault.NoVolume n) = None
 more_text fault.NoVolumes = Some (codes "hfs_tool rescue looks for what remains of a volume whose first blocks are lost")
 more_text (fault.SeveralVolumes count) = None
 more_text fault.NotWritten = None
+more_text fault.SumWrong = None
 more_text fault.NoRoom = None
 more_text (fault.ScriptLine line) = None
 more_text fault.ScriptTooLarge = None

@@ -19,7 +19,7 @@ fn more_of(fault: &Fault<'_>) -> Option<&'static str>
             "NAME has 1 to 27 printable characters, without colon and grave accent",
         ),
         Fault::BadSize => Some("BLOCKS are blocks of 512 bytes, from 8 to 4194304"),
-        Fault::BadNodeCount => Some("NODES are from 2 to 2048, EXTENTS from 1 to 2048"),
+        Fault::BadNodeCount => Some("NODES are at least 2, EXTENTS at least 1"),
         Fault::NoVolumes => {
             Some("hfs_tool rescue looks for what remains of a volume whose first blocks are lost")
         }
@@ -28,6 +28,7 @@ fn more_of(fault: &Fault<'_>) -> Option<&'static str>
         | Fault::NoVolume(_)
         | Fault::SeveralVolumes(_)
         | Fault::NotWritten
+        | Fault::SumWrong
         | Fault::NoRoom
         | Fault::ScriptLine(_)
         | Fault::ScriptTooLarge

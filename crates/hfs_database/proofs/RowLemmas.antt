@@ -1,16 +1,16 @@
 -- Rows that are put one behind the other, in one transaction.
-use Rattle.std.proofs.Common.{◌≡◌, refl, sym, subst, true, false, Bool, List, [], ◌∷◌, ◌++◌, map, true≢false}
+use Rattle.std.proofs.Common.{◌≡◌, ◌∙◌, refl, sym, subst, true, false, Bool, List, [], ◌∷◌, ◌++◌, map, arith, true≢false}
 use Rattle.std.proofs.Math.Logic.{∥∥₁_map}
 use Rattle.sqlite.specs.Held.{Held, state}
-use Rattle.sqlite.specs.State.{Survives}
+use Rattle.sqlite.specs.State.{HasCleanDisk, Survives}
 use Rattle.sqlite.specs.Store.{Ghosts}
 use Rattle.sqlite.proofs.StateLemmas.{survives_then, survives_weaker}
-use Rattle.hfs_rows.specs.Taken.{TakenRow, row_of}
+use Rattle.hfs_rows.specs.Taken.{TakenRow}
 use Rattle.hfs_database.specs.declared.fault.PutFault.{PutFault}
 use Rattle.hfs_database.specs.declared.fault.PutFault.TheVariants.{Database, Source}
 use Rattle.hfs_database.specs.declared.statements.LastRows.{LastRows}
 use Rattle.hfs_database.specs.Rows.{PutsRow}
-use Rattle.hfs_database.specs.Transactions.{HasPutSince, HoldsAll, IsBegun, IsCommitted, KeepsAtSource, KeepsFile, LeavesAllOrNone, LeavesFile, PutsAll, PutsAllInOne, PutsRows, no_rows}
+use Rattle.hfs_database.specs.Transactions.{EndsAtSource, HasPutSince, HoldsAll, IsAsBefore, IsBegun, IsCommitted, IsSettled, IsUndone, KeepsAtSource, KeepsFile, LeavesAllOrNone, LeavesAsBefore, LeavesFile, PutsAll, PutsAllInOne, PutsRows, no_rows}
 use Rattle.hfs_database.specs.Values.{sql_value}
 use Rattle.hfs_database.proofs.Keeping.{keeps_then}
 
@@ -74,3 +74,31 @@ pub kept_by_undo : {S F : Type 0} (g : Ghosts S) (start first given new : Held S
 kept_by_undo g start first given new (Source why) begun kept undone =
     ∥∥₁_map kept (λ keeps. keeps_then g start given new (keeps_then g start first given begun keeps) undone)
 kept_by_undo g start first given new (Database why) begun kept undone = tt
+
+pub ended_by_undo : {S F : Type 0} (new : Held S) (fault : PutFault F) → new.in_transaction ≡ false → EndsAtSource new fault
+ended_by_undo new (Source why) ended = ended
+ended_by_undo new (Database why) ended = tt
+
+-- ---- what a fault leaves
+
+module _ {S : Type 0} (g : Ghosts S) (start first given new : Held S) where
+  as_before : IsSettled g start → KeepsFile g start given → IsUndone g given new → IsAsBefore g start new
+  as_before settled keeps undone =
+      let earlier : HasCleanDisk (state g new) → HasCleanDisk (state g given) = λ clean. omega (arith, undone.clean, clean) in
+      record {
+        mode = λ clean. undone.outside clean ∙ sym settled.outside;
+        was_open = λ clean is_open. (keeps.committed (earlier clean)).was_open (undone.was_open clean is_open);
+        shows = λ clean is_open.
+            let mid = undone.was_open clean is_open in
+            let kept = keeps.committed (earlier clean) in
+            let same = kept.committed mid in
+            ((undone.shows clean is_open).0 ∙ same ∙ sym (settled.shows (kept.was_open mid)), (undone.shows clean is_open).1 ∙ same);
+      }
+
+  -- it was undone
+  pub back_by_undo : IsSettled g start → KeepsFile g start first → LeavesFile g first given → IsUndone g given new → LeavesAsBefore g start new
+  back_by_undo settled begun kept undone = ∥∥₁_map kept (λ keeps. as_before settled (keeps_then g start first given begun keeps) undone)
+
+-- it was not begun
+pub back_at_once : {S : Type 0} (g : Ghosts S) (start new : Held S) → IsAsBefore g start new → LeavesAsBefore g start new
+back_at_once g start new back = ∣ back ∣₁

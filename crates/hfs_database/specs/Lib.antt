@@ -1,6 +1,7 @@
 pub mod Values
 pub mod Texts
 pub mod Doing
+pub mod Faults
 pub mod Rows
 pub mod Comparing
 pub mod Asking

@@ -1,9 +1,10 @@
 -- What is done in one transaction.
-use Rattle.std.specs.Prelude.{◌≡◌, ⊤, pos, true, false, List, [], ◌∷◌, map}
+use Rattle.std.specs.Prelude.{◌≡◌, ◌≤◌, ⊤, IsTrue, pos, true, false, List, [], ◌∷◌, map}
 use Rattle.sqlite.specs.Held.{Held, state}
-use Rattle.sqlite.specs.State.{HasCleanDisk, Shows, Survives}
+use Rattle.sqlite.specs.State.{HasCleanDisk, KeepsCommit, Shows, Survives}
 use Rattle.sqlite.specs.Store.{Ghosts}
 use Rattle.sqlite.specs.Tree.{Trees}
+use Rattle.sqlite.specs.View.{doubt}
 use Rattle.hfs_rows.specs.Taken.{TakenRow}
 use Rattle.hfs_database.specs.declared.fault.PutFault.{PutFault}
 use Rattle.hfs_database.specs.declared.fault.PutFault.TheVariants.{Database, Source}
@@ -15,9 +16,10 @@ use Rattle.hfs_database.specs.Values.{sql_value}
 abbrev pub begun : {S : Type 0} → Held S → Held S
 begun held = record held { in_transaction = true }
 
--- between both nothing was committed: whatever happens, a crash leaves nothing but what it left before
+-- between both nothing was committed: whatever happens, a crash leaves nothing but what it left before, and what was committed last is the same
 pub record KeepsFile {S : Type 0} (g : Ghosts S) (old new : Held S) : Type 0 where
   pub survives : Survives (state g old) (state g new) (λ _. ⊥)
+  pub committed : HasCleanDisk (state g new) → KeepsCommit (state g old) (state g new)
 
 -- a transaction began with the database as it was
 abbrev pub IsBegun : {S : Type 0} → Ghosts S → Held S → Held S → Type 0
@@ -26,6 +28,30 @@ IsBegun g start new = HasCleanDisk (state g new) → Shows (state g start) (stat
 -- what the transaction did is there, and the transaction at its end
 abbrev pub IsCommitted : {S : Type 0} → Ghosts S → Held S → Held S → Type 0
 IsCommitted g given new = HasCleanDisk (state g new) → Shows (state g given) (state g new) (state g given).now (state g given).now false
+
+-- no transaction is under way, and all that the database shows was committed
+pub record IsSettled {S : Type 0} (g : Ghosts S) (held : Held S) : Type 0 where
+  pub outside : held.in_transaction ≡ false
+  pub shows : IsTrue (state g held).is_open → (state g held).now ≡ (state g held).committed
+
+-- as long as the disk is clean, no transaction is under way any more, and the database shows what was committed last
+pub record IsUndone {S : Type 0} (g : Ghosts S) (given new : Held S) : Type 0 where
+  pub clean : doubt (state g given).is_clean ≤ doubt (state g new).is_clean
+  pub outside : HasCleanDisk (state g new) → new.in_transaction ≡ false
+  pub was_open : HasCleanDisk (state g new) → IsTrue (state g new).is_open → IsTrue (state g given).is_open
+  pub shows : HasCleanDisk (state g new) → IsTrue (state g new).is_open
+      → ((state g new).now ≡ (state g given).committed) × ((state g new).committed ≡ (state g given).committed)
+
+-- as long as the disk is clean, a transaction is under way if one was before, and the database shows what it showed: nothing was put
+pub record IsAsBefore {S : Type 0} (g : Ghosts S) (start new : Held S) : Type 0 where
+  pub mode : HasCleanDisk (state g new) → new.in_transaction ≡ start.in_transaction
+  pub was_open : HasCleanDisk (state g new) → IsTrue (state g new).is_open → IsTrue (state g start).is_open
+  pub shows : HasCleanDisk (state g new) → IsTrue (state g new).is_open
+      → ((state g new).now ≡ (state g start).now) × ((state g new).committed ≡ (state g start).committed)
+
+-- the database is left as it was
+abbrev pub LeavesAsBefore : {S : Type 0} → Ghosts S → Held S → Held S → Type 0
+LeavesAsBefore g start new = ∥ IsAsBefore g start new ∥₁
 
 -- ---- rows that are put in one
 
@@ -78,6 +104,11 @@ LeavesFile g start new = ∥ KeepsFile g start new ∥₁
 abbrev pub KeepsAtSource : {S F : Type 0} → Ghosts S → Held S → Held S → PutFault F → Type 0
 KeepsAtSource g start new (Source fault) = LeavesFile g start new
 KeepsAtSource g start new (Database fault) = ⊤
+
+-- if a source did not give all its rows, no transaction is under way
+abbrev pub EndsAtSource : {S F : Type 0} → Held S → PutFault F → Type 0
+EndsAtSource new (Source fault) = new.in_transaction ≡ false
+EndsAtSource new (Database fault) = ⊤
 
 -- where a source did not give all its rows, this is its fault
 abbrev pub IsSourceFault : {F : Type 0} → (F → Type 0) → PutFault F → Type 0

@@ -1,11 +1,12 @@
 //! What a collection is asked of images.
-ghost use Rattle.std.specs.Prelude.{◌≡◌, string_bytes, IfOk};
+ghost use Rattle.std.specs.Prelude.{◌≡◌, [], ◌∷◌, string_bytes, IfErr, IfOk};
 ghost use Rattle.sqlite.specs.declared.types.Value.TheVariants.{Text};
 ghost use Rattle.sqlite.specs.Held.{state};
 ghost use Rattle.sqlite.specs.Values.{bound, bound_value};
 ghost use Rattle.sqlite_value.specs.Order.{column};
 ghost use Rattle.sqlite_value.specs.Value.{owned};
-ghost use Rattle.hfs_database.specs.Asking.{IsAnswered, IsKnown, IsNext, TellsImage, text_or_null};
+ghost use Rattle.hfs_database.specs.Asking.{IsAnswered, IsKnown, IsNext, TellsImage, known_image_text, next_path_text, text_or_null};
+ghost use Rattle.hfs_database.specs.Faults.{FailsToAnswer, FailsToTell, IsUnreadIn};
 
 use crate::collection::Collection;
 use crate::comparing::KnownImage;
@@ -14,12 +15,15 @@ use sqlite::types::ValueRef;
 use sqlite::{Alter, Connection, Error, Row};
 
 /// The first row of the answer to a question, where it has one. Faults: `CannotWrite` where the database can't be read, `NoMemory`.
+#[tactic(auto, using(crate::proofs::FaultLemmas::fails_to_answer))]
 fn first_row<S: Alter>(
     conn: &mut Connection<S>,
     text: &str,
     parameters: &[ValueRef<'_>],
 ) -> Result<Option<Row>, DatabaseFault>
-    ensures { IfOk result (IsAnswered (state S.Store conn.old) (state S.Store conn.new)
+    ensures answered { IfOk result (IsAnswered (state S.Store conn.old) (state S.Store conn.new)
+        text.now (bound parameters.now)) }
+    ensures fault { IfErr result (FailsToAnswer (state S.Store conn.old) (state S.Store conn.new)
         text.now (bound parameters.now)) }
 {
     match conn.query_row(text, parameters) {
@@ -30,8 +34,10 @@ fn first_row<S: Alter>(
 }
 
 /// The digest that a row has behind the number of bytes, where it has one.
+#[tactic(auto, using(crate::proofs::FaultLemmas::unread_at))]
 fn digest_in(row: &Row) -> Result<Option<String>, DatabaseFault>
-    ensures { IfOk result (λ digest. column row.now 1 ≡ text_or_null digest) }
+    ensures fault { IfErr result (IsUnreadIn row.now) }
+    ensures digest { IfOk result (λ digest. column row.now 1 ≡ text_or_null digest) }
 {
     match row.get(1) {
         Ok(digest) => Ok(digest),
@@ -40,8 +46,10 @@ fn digest_in(row: &Row) -> Result<Option<String>, DatabaseFault>
 }
 
 /// What a row tells of an image.
+#[tactic(auto, using(crate::proofs::FaultLemmas::unread_at))]
 fn image_of(row: &Row) -> Result<KnownImage, DatabaseFault>
-    ensures { IfOk result (TellsImage row.now) }
+    ensures fault { IfErr result (IsUnreadIn row.now) }
+    ensures image { IfOk result (TellsImage row.now) }
 {
     let digest = digest_in(row)?;
     match row.get(0) {
@@ -51,8 +59,10 @@ fn image_of(row: &Row) -> Result<KnownImage, DatabaseFault>
 }
 
 /// The path that a row begins with.
+#[tactic(auto, using(crate::proofs::FaultLemmas::unread_at))]
 fn path_in(row: &Row) -> Result<String, DatabaseFault>
-    ensures { IfOk result (λ path. column row.now 0 ≡ Text (string_bytes path)) }
+    ensures fault { IfErr result (IsUnreadIn row.now) }
+    ensures path { IfOk result (λ path. column row.now 0 ≡ Text (string_bytes path)) }
 {
     match row.get(0) {
         Ok(path) => Ok(path),
@@ -71,13 +81,15 @@ fn parameter(text: &Option<String>) -> ValueRef<'_>
 }
 
 /// What the collection tells of the image of this path, if it has it. Faults: `CannotWrite` where its row can't be read, `NoMemory`.
-#[tactic(auto, unfolding(crate::specs::Asking::known_image_text))]
+#[tactic(auto, using(crate::proofs::FaultLemmas::told_unanswered, crate::proofs::FaultLemmas::told_unread), unfolding(crate::specs::Asking::known_image_text))]
 pub fn known_image<S: Alter>(
     collection: &mut Collection<S>,
     path: &str,
 ) -> Result<Option<KnownImage>, DatabaseFault>
-    ensures { IfOk result (IsKnown (state S.Store collection.old.conn)
+    ensures known { IfOk result (IsKnown (state S.Store collection.old.conn)
         (state S.Store collection.new.conn) path.now) }
+    ensures fault { IfErr result (FailsToTell (state S.Store collection.old.conn)
+        (state S.Store collection.new.conn) known_image_text (Text path.now ∷ [])) }
 {
     let parameters = [ValueRef::Text(path.as_bytes())];
     let text = "SELECT bytes, sha256 FROM image WHERE path = ?1";
@@ -89,13 +101,15 @@ pub fn known_image<S: Alter>(
 
 /// The first path of the collection that comes behind this one in the order of their bytes, or the first of all. None where
 /// there is none. Faults: as of [`known_image`].
-#[tactic(auto, unfolding(crate::specs::Asking::next_path_text))]
+#[tactic(auto, using(crate::proofs::FaultLemmas::told_unanswered, crate::proofs::FaultLemmas::told_unread), unfolding(crate::specs::Asking::next_path_text))]
 pub fn next_path<S: Alter>(
     collection: &mut Collection<S>,
     last: &Option<String>,
 ) -> Result<Option<String>, DatabaseFault>
-    ensures { IfOk result (IsNext (state S.Store collection.old.conn)
+    ensures next { IfOk result (IsNext (state S.Store collection.old.conn)
         (state S.Store collection.new.conn) last.now) }
+    ensures fault { IfErr result (FailsToTell (state S.Store collection.old.conn)
+        (state S.Store collection.new.conn) next_path_text (text_or_null last.now ∷ [])) }
 {
     let parameters = [parameter(last)];
     let text = "SELECT path FROM image WHERE ?1 IS NULL OR path > ?1 ORDER BY path LIMIT 1";

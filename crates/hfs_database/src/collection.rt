@@ -1,7 +1,7 @@
 //! A collection that is open.
-ghost use Rattle.std.specs.Prelude.{[], IfErr, IfOk, OnOk};
+ghost use Rattle.std.specs.Prelude.{[], IfErr, IfOk, OnErr, OnOk};
 ghost use Rattle.hfs_database.specs.Tables.{HasTables, IsRefusedFor};
-ghost use Rattle.hfs_database.specs.Transactions.{IsSourceFault, KeepsAtSource, LeavesAllOrNone, PutsAllInOne};
+ghost use Rattle.hfs_database.specs.Transactions.{EndsAtSource, IsSourceFault, KeepsAtSource, LeavesAllOrNone, LeavesAsBefore, PutsAllInOne};
 
 use crate::fault::{DatabaseFault, Obstacle, PutFault, opening_fault, writing_fault};
 use crate::files::DatabaseFiles;
@@ -56,13 +56,16 @@ impl<S: Alter + Drop> Collection<S> {
     }
 
     /// Puts all rows of a source into the collection, in one transaction: an image's row comes in the place of the one that has its
-    /// path, whose volumes go with their items. At a fault of the source nothing has changed; at one of the database all is
-    /// there, or nothing has changed. Faults: the source's, and `CannotWrite` or `NoMemory` of the database.
+    /// path, whose volumes go with their items. At a fault of the source nothing has changed, and no transaction is under way. At
+    /// one of the database the open database shows what it showed; in the file are all rows, or nothing has changed. Faults: the
+    /// source's, and `CannotWrite` or `NoMemory` of the database.
     pub fn put<R: RowSource>(&mut self, source: &mut R) -> Result<R::Told, PutFault<R::Fault>>
         ensures put { OnOk result (PutsAllInOne S.Store (R.Gives source.old source.new []) self.old.conn self.new.conn) }
         ensures told { IfOk result (R.Tells source.old source.new) }
         ensures fault { IfErr result (IsSourceFault (R.Fails source.old source.new)) }
         ensures unread { IfErr result (KeepsAtSource S.Store self.old.conn self.new.conn) }
+        ensures ended { IfErr result (EndsAtSource self.new.conn) }
+        ensures back { OnErr result (LeavesAsBefore S.Store self.old.conn self.new.conn) }
         ensures all_or_none { LeavesAllOrNone S.Store (R.Gives source.old source.new []) self.old.conn self.new.conn }
     {
         put_all(self.alloc, &mut self.conn, source)

@@ -1,5 +1,7 @@
 //! Why a database did not do what was asked.
+ghost use Rattle.std.specs.Prelude.{◌≡◌};
 ghost use Rattle.hfs_database.specs.declared.fault.DatabaseFault.TheVariants.{CannotOpen};
+ghost use Rattle.hfs_database.specs.Faults as spec;
 ghost use Rattle.hfs_database.specs.Tables.{TellsNoTables};
 
 use hfs_rows::TakerFault;
@@ -44,7 +46,9 @@ pub enum PutFault<F> {
 }
 
 /// Whether memory was refused.
-fn is_memory(error: &Error) -> bool {
+fn is_memory(error: &Error) -> bool
+    ensures { result ≡ spec.is_memory error.now }
+{
     match error {
         Error::SqliteFailure(ErrorCode::OutOfMemory) => true,
         _ => false,
@@ -95,7 +99,8 @@ pub(crate) fn opening_fault(error: &Error) -> DatabaseFault
 
 /// What an error means where a database is written.
 pub(crate) fn writing_fault(error: &Error) -> DatabaseFault
-    ensures { TellsNoTables result }
+    ensures tables { TellsNoTables result }
+    ensures fault { result ≡ spec.writing_fault error.now }
 {
     if is_memory(error) {
         DatabaseFault::NoMemory
@@ -105,7 +110,9 @@ pub(crate) fn writing_fault(error: &Error) -> DatabaseFault
 }
 
 /// What an error means where a row is taken.
-pub(crate) fn taking_fault(error: &Error) -> TakerFault {
+pub(crate) fn taking_fault(error: &Error) -> TakerFault
+    ensures { result ≡ spec.taking_fault error.now }
+{
     if is_memory(error) {
         TakerFault::NoMemory
     } else {

@@ -1,6 +1,7 @@
 //! What a page of a collection lists: rows of texts.
-ghost use Rattle.std.specs.Prelude.{◌≡◌, IfOk};
+ghost use Rattle.std.specs.Prelude.{◌≡◌, [], IfErr, IfOk};
 ghost use Rattle.sqlite.specs.Held.{state};
+ghost use Rattle.hfs_database.specs.Faults.{FailsToShow};
 ghost use Rattle.hfs_database.specs.Listing.{IsListed, IsShown, listing_text};
 
 use crate::collection::Collection;
@@ -34,9 +35,12 @@ fn listing_text(listing: Listing) -> &'static str
 }
 
 /// All rows that a database answers to a question. Faults: `CannotWrite` where it can't be read, `NoMemory`.
+#[tactic(auto, using(crate::proofs::FaultLemmas::fails_to_show))]
 fn shown<S: Alter>(conn: &mut Connection<S>, text: &str) -> Result<Vec<Row>, DatabaseFault>
-    ensures { IfOk result (λ rows. IsShown (state S.Store conn.old) (state S.Store conn.new)
+    ensures shown { IfOk result (λ rows. IsShown (state S.Store conn.old) (state S.Store conn.new)
         text.now rows.items) }
+    ensures fault { IfErr result (FailsToShow (state S.Store conn.old) (state S.Store conn.new)
+        text.now []) }
 {
     match conn.query_all(text, &[]) {
         Ok(rows) => Ok(rows),
@@ -49,8 +53,10 @@ pub fn listed<S: Alter>(
     collection: &mut Collection<S>,
     listing: Listing,
 ) -> Result<Vec<Row>, DatabaseFault>
-    ensures { IfOk result (λ rows. IsListed (state S.Store collection.old.conn)
+    ensures listed { IfOk result (λ rows. IsListed (state S.Store collection.old.conn)
         (state S.Store collection.new.conn) listing rows.items) }
+    ensures fault { IfErr result (FailsToShow (state S.Store collection.old.conn)
+        (state S.Store collection.new.conn) (listing_text listing) []) }
 {
     shown(&mut collection.conn, listing_text(listing))
 }

@@ -1,8 +1,8 @@
 //! The rows of a source in one transaction.
-ghost use Rattle.std.specs.Prelude.{◌≡◌, [], IfErr, IfOk, OnErr, OnOk};
+ghost use Rattle.std.specs.Prelude.{◌≡◌, false, [], IfErr, IfOk, OnErr, OnOk};
 ghost use Rattle.sqlite.specs.Held.{state};
 ghost use Rattle.sqlite.specs.State.{Survives};
-ghost use Rattle.hfs_database.specs.Transactions.{IsBegun, IsCommitted, IsSourceFault, KeepsAtSource, KeepsFile, LeavesAllOrNone, PutsAllInOne};
+ghost use Rattle.hfs_database.specs.Transactions.{EndsAtSource, IsAsBefore, IsBegun, IsCommitted, IsSettled, IsSourceFault, IsUndone, KeepsAtSource, KeepsFile, LeavesAllOrNone, LeavesAsBefore, PutsAllInOne};
 
 use crate::fault::{DatabaseFault, PutFault, writing_fault};
 use crate::taker::put_rows;
@@ -11,10 +11,12 @@ use sqlite::{Alter, Connection};
 use std::alloc::Global;
 
 /// Begins a transaction. Faults: `CannotWrite`, also where one is under way; `NoMemory`.
-#[tactic(auto, using(crate::proofs::Keeping::keeps_itself, crate::proofs::Ending::keeps_begin, crate::proofs::Ending::begins))]
+#[tactic(auto, using(crate::proofs::Keeping::keeps_itself, crate::proofs::Keeping::as_itself, crate::proofs::Ending::keeps_begin, crate::proofs::Ending::begins, crate::proofs::Ending::settles, crate::proofs::Ending::back_by_begin))]
 fn begin<S: Alter>(conn: &mut Connection<S>) -> Result<(), DatabaseFault>
     ensures begun { OnOk result (IsBegun S.Store conn.old conn.new) }
     ensures keeps { KeepsFile S.Store conn.old conn.new }
+    ensures settled { OnOk result (IsSettled S.Store conn.old) }
+    ensures back { OnErr result (IsAsBefore S.Store conn.old conn.new) }
 {
     if !conn.is_autocommit() {
         return Err(DatabaseFault::CannotWrite);
@@ -26,11 +28,12 @@ fn begin<S: Alter>(conn: &mut Connection<S>) -> Result<(), DatabaseFault>
 }
 
 /// Commits the transaction. Faults: `CannotWrite`, also where none is under way; `NoMemory`.
-#[tactic(auto, using(crate::proofs::Ending::leaves_itself, crate::proofs::Ending::leaves_commit, crate::proofs::Ending::commits))]
+#[tactic(auto, using(crate::proofs::Ending::leaves_itself, crate::proofs::Ending::leaves_commit, crate::proofs::Ending::commits, crate::proofs::Ending::undone_already, crate::proofs::Ending::undone_by_commit))]
 fn commit<S: Alter>(conn: &mut Connection<S>) -> Result<(), DatabaseFault>
     ensures committed { OnOk result (IsCommitted S.Store conn.old conn.new) }
     ensures leaves { Survives (state S.Store conn.old) (state S.Store conn.new)
         (λ db. db ≡ (state S.Store conn.old).now.trees) }
+    ensures undone { OnErr result (IsUndone S.Store conn.old conn.new) }
 {
     if conn.is_autocommit() {
         return Err(DatabaseFault::CannotWrite);
@@ -41,23 +44,28 @@ fn commit<S: Alter>(conn: &mut Connection<S>) -> Result<(), DatabaseFault>
     }
 }
 
-/// Forgets what was given since the transaction began, where a fault has not done so already. Faults: `CannotWrite`, `NoMemory`.
-#[tactic(auto, using(crate::proofs::Keeping::keeps_itself, crate::proofs::Ending::keeps_undo))]
+/// Forgets what was given since the transaction began, if a fault has not done so already: afterwards none is under way. Faults:
+/// `CannotWrite`, also if one still is; `NoMemory`.
+#[tactic(auto, using(crate::proofs::Keeping::keeps_itself, crate::proofs::Ending::keeps_undo, crate::proofs::Ending::undoes, crate::proofs::Ending::undone_already))]
 fn undo<S: Alter>(conn: &mut Connection<S>) -> Result<(), DatabaseFault>
     ensures keeps { KeepsFile S.Store conn.old conn.new }
+    ensures ended { OnOk result (conn.new.in_transaction ≡ false) }
+    ensures undone { IsUndone S.Store conn.old conn.new }
 {
     if conn.is_autocommit() {
         return Ok(());
     }
     match conn.execute("ROLLBACK", &[]) {
-        Ok(_) => Ok(()),
+        Ok(_) if conn.is_autocommit() => Ok(()),
+        Ok(_) => Err(DatabaseFault::CannotWrite),
         Err(error) => Err(writing_fault(&error)),
     }
 }
 
-/// Puts all rows of a source in one transaction. At a fault of the source nothing has changed; at one of the database all is there, or nothing has
-/// changed. Faults: as of `put_rows`, and where the database can't be written.
-#[tactic(auto, using(crate::proofs::RowLemmas::put_in_one, crate::proofs::RowLemmas::left_by_commit, crate::proofs::RowLemmas::left_by_undo, crate::proofs::RowLemmas::kept_by_undo, crate::proofs::RowLemmas::left_alone))]
+/// Puts all rows of a source in one transaction. At a fault of the source nothing has changed, and no transaction is under way. At one of the
+/// database the open database shows what it showed; in the file are all rows, or nothing has changed. Faults: as of `put_rows`, and where the
+/// database can't be written.
+#[tactic(auto, using(crate::proofs::RowLemmas::put_in_one, crate::proofs::RowLemmas::left_by_commit, crate::proofs::RowLemmas::left_by_undo, crate::proofs::RowLemmas::kept_by_undo, crate::proofs::RowLemmas::ended_by_undo, crate::proofs::RowLemmas::left_alone, crate::proofs::RowLemmas::back_at_once, crate::proofs::RowLemmas::back_by_undo))]
 pub(crate) fn put_all<S: Alter, R: RowSource>(
     alloc: Global,
     conn: &mut Connection<S>,
@@ -67,6 +75,8 @@ pub(crate) fn put_all<S: Alter, R: RowSource>(
     ensures told { IfOk result (R.Tells source.old source.new) }
     ensures fault { IfErr result (IsSourceFault (R.Fails source.old source.new)) }
     ensures unread { IfErr result (KeepsAtSource S.Store conn.old conn.new) }
+    ensures ended { IfErr result (EndsAtSource conn.new) }
+    ensures back { OnErr result (LeavesAsBefore S.Store conn.old conn.new) }
     ensures all_or_none { LeavesAllOrNone S.Store (R.Gives source.old source.new []) conn.old conn.new }
 {
     match begin(conn) {

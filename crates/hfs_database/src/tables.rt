@@ -137,6 +137,7 @@ pub(crate) fn find_tables<S: Alter>(conn: &mut Connection<S>) -> Result<Found, D
 }
 
 /// Runs the text of a table or an index.
+#[tactic(auto, using(crate::proofs::Keeping::keeps_made))]
 fn make<S: Alter>(tx: &mut Transaction<'_, S>, text: &str) -> Result<(), DatabaseFault>
     ensures done { OnOk result (HasRun (state S.Store tx.old.conn.now) (state S.Store tx.new.conn.now) text.now []) }
     ensures same_reference { tx.new.conn.ghost_name ≡ tx.old.conn.ghost_name }

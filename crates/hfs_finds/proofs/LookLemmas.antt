@@ -1,6 +1,6 @@
 -- What is found of all bytes of an image is found of the image.
-use Rattle.std.proofs.Common.{◌≡◌, ◌∙◌, ℕ, List, length, Option, None, Some, sym, ap, subst, arith}
-use Rattle.std.specs.Prelude.{IfErr, IfOk, IfSome, Result, Ok, Err}
+use Rattle.std.proofs.Common.{◌≡◌, ◌∙◌, ℕ, List, length, Option, None, Some, sym, ap, subst, arith, inl, inr}
+use Rattle.std.specs.Prelude.{◌⊎◌, IfErr, IfOk, IfSome, Result, Ok, Err}
 use Rattle.std.proofs.lemmas.List.{take_all}
 use Rattle.hfs_check.specs.declared.mount_fault.MountFault.{MountFault}
 use Rattle.hfs_check.specs.declared.reported.Report.{Report}
@@ -8,7 +8,9 @@ use Rattle.hfs_check.specs.Faults.{fault_of}
 use Rattle.hfs_check.specs.Report.{refused_report, report_of, report_with}
 use Rattle.hfs_needed.specs.Seen.{HasNoFault, IsOpenedBy}
 use Rattle.hfs_needed.specs.declared.opening.NeededVolume.{NeededVolume}
-use Rattle.hfs_source.specs.Images.{HasAt, HasLength, OfEach}
+use Rattle.hfs_needed.specs.Failing.{SomeFailsWithin, SomeReadFails}
+use Rattle.hfs_needed.proofs.Failing.{fails_before, within_fails}
+use Rattle.hfs_source.specs.Images.{FailsWhere, HasAt, HasLength, OfEach}
 use Rattle.hfs_finds.specs.declared.finds.Finds.{Finds}
 use Rattle.hfs_finds.specs.Finds.{IsFoundIn}
 use Rattle.hfs_finds.specs.Looks.{AreFindsOfEach, IsLookedAt, IsRefusedAs}
@@ -70,3 +72,18 @@ pub err_narrows : {A E : Type 0} (r : Result A E) (Middle Last : List ℕ → Ty
     → OfEach Middle Last → IfErr r (λ e. OfEach (Holds e) Last)
 err_narrows (Ok a) Middle Last Holds h on = tt
 err_narrows (Err e) Middle Last Holds h on = λ image x. on image (h image x)
+
+-- ---- reads that failed
+
+-- a read failed at first, or later, of as many bytes
+pub either_failed : (First : Type 0) (Holds : List ℕ → Type 0) (New Old : ℕ → ℕ → Type 0) (len : ℕ) → OfEach Holds (HasLength len)
+    → FailsWhere New Old → (First → SomeReadFails Holds Old) → First ⊎ SomeFailsWithin len New → SomeReadFails Holds Old
+either_failed First Holds New Old len long later first (inl told) = first told
+either_failed First Holds New Old len long later first (inr within) = within_fails Holds Old len long (fails_before New Old len later within)
+
+-- a fault that tells of a read that failed later tells of one that might fail before
+pub err_failed : {A E : Type 0} (r : Result A E) (Told : E → Type 0) (Holds : List ℕ → Type 0) (New Old : ℕ → ℕ → Type 0) (len : ℕ)
+    → OfEach Holds (HasLength len) → FailsWhere New Old → IfErr r (λ e. Told e → SomeFailsWithin len New)
+    → IfErr r (λ e. Told e → SomeReadFails Holds Old)
+err_failed (Ok a) Told Holds New Old len long later h = tt
+err_failed (Err e) Told Holds New Old len long later h = λ told. within_fails Holds Old len long (fails_before New Old len later (h told))

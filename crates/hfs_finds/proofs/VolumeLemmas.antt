@@ -1,12 +1,12 @@
 -- What is found of a sound image is what its volume holds.
-use Rattle.std.proofs.Common.{◌≡◌, ℕ, ◌<◌, ◌≤◌, Bool, true, false, cond, not, ◌&&◌, if◌then◌else◌, List, [], ◌∷◌, ◌++◌, map, filter, length, Option, None, Some, refl, sym, ap, subst, ◌∙◌, arith}
+use Rattle.std.proofs.Common.{◌≡◌, ℕ, ◌<◌, ◌≤◌, Bool, true, false, cond, not, ◌&&◌, if◌then◌else◌, List, [], ◌∷◌, ◌++◌, map, None, Some, refl, sym, ap, subst, ◌∙◌, arith}
 use Rattle.std.specs.Option.{is_none, option_map}
 use Rattle.std.proofs.lemmas.Bool.{and_from}
 use Rattle.hfs_blocks.specs.Blocks.{block_at, block_count}
-use Rattle.hfs_catalog.specs.Records.{Catalog, Record, items_of as items_in}
+use Rattle.hfs_catalog.specs.Records.{Catalog, items_of as items_in}
 use Rattle.hfs_catalog_checks.specs.Faults.{record_fault}
 use Rattle.hfs_catalog_checks.proofs.LawsProved.{no_record_fault}
-use Rattle.hfs_check.specs.Parts.{Blocks, catalog_in, mdb_in, overflow_in, catalog_extents as whole_catalog_extents, catalog_nodes as whole_catalog_nodes}
+use Rattle.hfs_check.specs.Parts.{Blocks, catalog_in, mdb_in, catalog_extents as whole_catalog_extents, catalog_nodes as whole_catalog_nodes}
 use Rattle.hfs_check.specs.Sound.{AreBlocksSound, IsSound}
 use Rattle.hfs_check.proofs.LawsProved.{no_image_fault}
 use Rattle.hfs_fields.specs.declared.mdb.Mdb.{Mdb}
@@ -16,9 +16,7 @@ use Rattle.hfs_needed.specs.Opened.{IsOpenedOf}
 use Rattle.hfs_needed.specs.Seen.{HasNoFault, IsOpenedBy}
 use Rattle.hfs_needed.specs.declared.opening.NeededVolume.{NeededVolume}
 use Rattle.hfs_needed.proofs.LawsProved.{gathered_is_enough}
-use Rattle.hfs_places.specs.declared.things.Thing.{Thing}
 use Rattle.hfs_places.specs.Things.{things_of}
-use Rattle.hfs_remains.specs.Laws.{things_in}
 use Rattle.hfs_remains.specs.Records.{namings_of, thing_of}
 use Rattle.hfs_remains.proofs.LawsProved.{sound_things_are_items}
 use Rattle.hfs_rescue.specs.CatalogRecords.{found, is_catalog_right, is_catalog_tree_right}
@@ -31,7 +29,7 @@ use Rattle.hfs_rescue.specs.declared.catalog.FoundRecord.{FoundRecord}
 use Rattle.hfs_rescue.proofs.DirectoryLemmas.{extents-begin}
 use Rattle.hfs_rescue.proofs.SoundLemmas.{catalog-nodes, catalog-right, extents-are}
 use Rattle.hfs_rescue.proofs.LawsProved.{sound_catalog_is_found, sound_directory_is_found, sound_items_are_found, sound_overflow_is_found}
-use Rattle.hfs_space.specs.Extents.{Overflow, block_total}
+use Rattle.hfs_space.specs.Extents.{block_total}
 use Rattle.hfs_sparse.specs.Sparse.{sparse}
 use Rattle.hfs_finds.specs.declared.finds.Finds.{Finds}
 use Rattle.hfs_finds.specs.Finds.{AreFinds, IsFoundIn, is_right_by, is_unsure_by, things_by}

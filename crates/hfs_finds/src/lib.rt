@@ -1,6 +1,7 @@
 //! What is found of a damaged image: by its directory its items with their places, and the bytes of their forks.
 #![tactic(auto)]
 
+mod again;
 mod finding;
 mod finds;
 mod forks;

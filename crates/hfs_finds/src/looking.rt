@@ -1,10 +1,12 @@
 //! A look at an image: it is sound and opened, or it is refused, and what there is of it is found.
-ghost use Rattle.std.specs.Prelude.{◌≡◌, ◌≤◌, IfErr, IfOk, IfSome};
+ghost use Rattle.std.specs.Prelude.{◌≡◌, ◌≤◌, ◌⊎◌, IfErr, IfOk, IfSome};
 ghost use Rattle.hfs_finds.specs.Looks.{AreFindsOfEach, HasFault, IsRefusedAs};
 ghost use Rattle.hfs_check.specs.Report.{report_of};
+ghost use Rattle.hfs_needed.specs.Failing.{SomeFailsWithin, SomeReadFails};
 ghost use Rattle.hfs_needed.specs.Seen.{HasNoFault, IsRefusedBy};
-ghost use Rattle.hfs_source.specs.Images.{OfEach};
+ghost use Rattle.hfs_source.specs.Images.{FailsWhere, HasLength, OfEach};
 
+use crate::again::{SeenFinds, find_seen};
 use crate::finding::find_in;
 use crate::finds::Finds;
 use crate::needed::{NeededFinds, needed_finds};
@@ -67,49 +69,61 @@ pub struct Unlooked<S: PlacedBlocks> {
     pub source: SeenBlocks<S>,
 }
 
-/// What is found of an image that is refused for this fault.
+/// What is found of an image of `len` bytes that is refused for this fault.
 fn refused_image<S: PlacedBlocks + Drop>(
     alloc: Global,
     source: SeenBlocks<S>,
+    len: u64,
     why: MountFault,
 ) -> Result<RefusedImage<S>, Unlooked<S>>
-    requires { OfEach (S.Holds source.blocks) (HasFault why) }
+    requires fault { OfEach (S.Holds source.blocks) (HasFault why) }
+    requires long { OfEach (S.Holds source.blocks) (HasLength len) }
     ensures refused { IfOk result (λ image. IsRefusedAs (S.Holds image.source.blocks) image.len
         image.why image.found) }
     ensures narrows { IfOk result (λ image. OfEach (S.Holds image.source.blocks)
         (S.Holds source.blocks)) }
+    ensures later { IfOk result (λ image. FailsWhere (S.Fails image.source.blocks)
+        (S.Fails source.blocks)) }
+    ensures failed { IfErr result (λ back. back.fault ≡ SparseFault.ReadFailed
+        → SomeFailsWithin len (S.Fails source.blocks)) }
     ensures back { IfErr result (λ back. OfEach (S.Holds back.source.blocks)
         (S.Holds source.blocks)) }
+    ensures back_later { IfErr result (λ back. FailsWhere (S.Fails back.source.blocks)
+        (S.Fails source.blocks)) }
 {
-    let mut source = source;
-    let len = source.blocks.len();
-    match finds_of(alloc, &mut source, len) {
-        Ok(found) => Ok(RefusedImage {
-            source,
-            len,
-            why,
-            found,
-        }),
-        Err(fault) => Err(Unlooked { fault, source }),
-    }
+    let SeenFinds { source, found } = find_seen(alloc, source, len)?;
+    Ok(RefusedImage {
+        source,
+        len,
+        why,
+        found,
+    })
 }
 
-/// What there is of an image that was not opened, where it is refused.
+/// What there is of an image of `len` bytes that was not opened, where it is refused.
 fn unopened_image<S: PlacedBlocks + Drop>(
     alloc: Global,
     back: Unopened<S>,
+    len: u64,
 ) -> Result<RefusedImage<S>, Unlooked<S>>
-    requires { OfEach (S.Holds back.source.blocks) (IsRefusedBy back.fault) }
+    requires refused { OfEach (S.Holds back.source.blocks) (IsRefusedBy back.fault) }
+    requires long { OfEach (S.Holds back.source.blocks) (HasLength len) }
     ensures refused { IfOk result (λ image. IsRefusedAs (S.Holds image.source.blocks) image.len
         image.why image.found) }
     ensures narrows { IfOk result (λ image. OfEach (S.Holds image.source.blocks)
         (S.Holds back.source.blocks)) }
+    ensures later { IfOk result (λ image. FailsWhere (S.Fails image.source.blocks)
+        (S.Fails back.source.blocks)) }
+    ensures failed { IfErr result (λ unlooked. unlooked.fault ≡ SparseFault.ReadFailed
+        → (back.fault ≡ NeededFault.ReadFailed) ⊎ SomeFailsWithin len (S.Fails back.source.blocks)) }
     ensures back { IfErr result (λ unlooked. OfEach (S.Holds unlooked.source.blocks)
         (S.Holds back.source.blocks)) }
+    ensures back_later { IfErr result (λ unlooked. FailsWhere (S.Fails unlooked.source.blocks)
+        (S.Fails back.source.blocks)) }
 {
     let Unopened { fault, source } = back;
     match fault {
-        NeededFault::Refused(why) => refused_image(alloc, source, why),
+        NeededFault::Refused(why) => refused_image(alloc, source, len, why),
         NeededFault::ReadFailed => Err(Unlooked {
             fault: SparseFault::ReadFailed,
             source,
@@ -134,10 +148,13 @@ pub fn look<S: PlacedBlocks + Drop>(
         (S.Holds source.blocks))) }
     ensures back { IfOk result (λ looked. IfErr looked (λ image.
         OfEach (S.Holds image.source.blocks) (S.Holds source.blocks))) }
+    ensures failed { IfErr result (λ fault. fault ≡ SparseFault.ReadFailed
+        → SomeReadFails (S.Holds source.blocks) (S.Fails source.blocks)) }
 {
+    let len = source.blocks.len();
     match SeenImage::open(alloc, source) {
         Ok(image) => Ok(Ok(image)),
-        Err(back) => match unopened_image(alloc, back) {
+        Err(back) => match unopened_image(alloc, back, len) {
             Ok(image) => Ok(Err(image)),
             Err(unlooked) => Err(unlooked.fault),
         },
@@ -157,14 +174,19 @@ pub fn look_reported<S: PlacedBlocks + Drop>(
         IsRefusedAs (S.Holds image.source.blocks) image.len image.why image.found)) }
     ensures held { IfOk result (λ looked. IfOk looked (λ told. OfEach (S.Holds told.0)
         (S.Holds source.blocks))) }
+    ensures later { IfOk result (λ looked. IfOk looked (λ told. FailsWhere (S.Fails told.0)
+        (S.Fails source.blocks))) }
     ensures narrows { IfOk result (λ looked. IfErr looked (λ image.
         OfEach (S.Holds image.source.blocks) (S.Holds source.blocks))) }
+    ensures failed { IfErr result (λ back. back.fault ≡ SparseFault.ReadFailed
+        → SomeReadFails (S.Holds source.blocks) (S.Fails source.blocks)) }
     ensures back { IfErr result (λ back. OfEach (S.Holds back.source.blocks)
         (S.Holds source.blocks)) }
 {
+    let len = source.blocks.len();
     match SeenImage::open_reported(alloc, source) {
         Ok(told) => Ok(Ok(told)),
-        Err(back) => match unopened_image(alloc, back) {
+        Err(back) => match unopened_image(alloc, back, len) {
             Ok(image) => Ok(Err(image)),
             Err(unlooked) => Err(unlooked),
         },

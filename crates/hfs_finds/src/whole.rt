@@ -2,11 +2,13 @@
 ghost use Rattle.std.specs.Prelude.{◌≡◌, ◌≤◌, IfErr, IfOk, IfSome};
 ghost use Rattle.hfs_check.specs.Report.{report_of};
 ghost use Rattle.hfs_finds.specs.Looks.{IsLookedAt, IsRefusedAs};
+ghost use Rattle.hfs_needed.specs.Failing.{SomeFailsWithin, SomeReadFails};
 ghost use Rattle.hfs_needed.specs.Seen.{HasNoFault};
 ghost use Rattle.hfs_source.specs.Images.{HasLength, OfEach};
 
+use crate::again::{SeenFinds, find_seen};
 use crate::finds::Finds;
-use crate::looking::{Unlooked, finds_of, look_reported};
+use crate::looking::{Unlooked, look_reported};
 use crate::refused::RefusedImage;
 use crate::volume::finds_of_volume;
 use hfs_check::{Report, refused_report};
@@ -28,53 +30,57 @@ pub struct LookedImage<S: PlacedBlocks> {
     pub found: Option<Finds>,
 }
 
-/// What is found of a sound image by the usual way, whose blocks are read once more.
+/// What is found of a sound image of `len` bytes by the usual way, whose blocks are read once more.
 fn find_again<S: PlacedBlocks + Drop>(
     alloc: Global,
     source: SeenBlocks<S>,
+    len: u64,
     report: Report,
 ) -> Result<LookedImage<S>, Unlooked<S>>
-    requires { OfEach (S.Holds source.blocks) (λ bytes. report ≡ report_of bytes) }
+    requires report { OfEach (S.Holds source.blocks) (λ bytes. report ≡ report_of bytes) }
+    requires long { OfEach (S.Holds source.blocks) (HasLength len) }
     ensures looked { IfOk result (λ image. IsLookedAt (S.Holds image.source.blocks) image.len
         image.report image.found) }
     ensures few { IfOk result (λ image. IfSome image.found (λ _. image.len ≤ 2147483648)) }
     ensures narrows { IfOk result (λ image. OfEach (S.Holds image.source.blocks)
         (S.Holds source.blocks)) }
+    ensures failed { IfErr result (λ back. back.fault ≡ SparseFault.ReadFailed
+        → SomeFailsWithin len (S.Fails source.blocks)) }
     ensures back { IfErr result (λ back. OfEach (S.Holds back.source.blocks)
         (S.Holds source.blocks)) }
 {
-    let mut source = source;
-    let len = source.blocks.len();
-    match finds_of(alloc, &mut source, len) {
-        Ok(found) => Ok(LookedImage {
-            source,
-            len,
-            report,
-            found,
-        }),
-        Err(fault) => Err(Unlooked { fault, source }),
-    }
+    let SeenFinds { source, found } = find_seen(alloc, source, len)?;
+    Ok(LookedImage {
+        source,
+        len,
+        report,
+        found,
+    })
 }
 
-/// What is found of a sound image: by what opening read of it, or, where its directory may be found elsewhere, by the usual way.
+/// What is found of a sound image of `len` bytes: by what opening read of it, or, where its directory may be found elsewhere, by
+/// the usual way.
 fn find_sound<S: PlacedBlocks + Drop>(
     alloc: Global,
     image: SeenImage<S>,
+    len: u64,
     report: Report,
 ) -> Result<LookedImage<S>, Unlooked<S>>
     requires sound { OfEach (S.Holds image) HasNoFault }
     requires report { OfEach (S.Holds image) (λ bytes. report ≡ report_of bytes) }
+    requires long { OfEach (S.Holds image) (HasLength len) }
     ensures looked { IfOk result (λ found. IsLookedAt (S.Holds found.source.blocks) found.len
         found.report found.found) }
     ensures few { IfOk result (λ found. IfSome found.found (λ _. found.len ≤ 2147483648)) }
     ensures narrows { IfOk result (λ found. OfEach (S.Holds found.source.blocks) (S.Holds image)) }
+    ensures failed { IfErr result (λ back. back.fault ≡ SparseFault.ReadFailed
+        → SomeFailsWithin len (S.Fails image)) }
     ensures back { IfErr result (λ back. OfEach (S.Holds back.source.blocks) (S.Holds image)) }
 {
     let made = finds_of_volume(alloc, image.volume());
     let source = image.into_source();
-    let len = source.blocks.len();
     if len > 2_147_483_648 {
-        return find_again(alloc, source, report);
+        return find_again(alloc, source, len, report);
     }
     match made {
         Ok(Some(finds)) => Ok(LookedImage {
@@ -83,7 +89,7 @@ fn find_sound<S: PlacedBlocks + Drop>(
             report,
             found: Some(finds),
         }),
-        Ok(None) => find_again(alloc, source, report),
+        Ok(None) => find_again(alloc, source, len, report),
         Err(_) => Err(Unlooked {
             fault: SparseFault::Memory,
             source,
@@ -124,12 +130,15 @@ pub fn look_and_find<S: PlacedBlocks + Drop>(
     ensures few { IfOk result (λ image. IfSome image.found (λ _. image.len ≤ 2147483648)) }
     ensures narrows { IfOk result (λ image. OfEach (S.Holds image.source.blocks)
         (S.Holds source.blocks)) }
+    ensures failed { IfErr result (λ back. back.fault ≡ SparseFault.ReadFailed
+        → SomeReadFails (S.Holds source.blocks) (S.Fails source.blocks)) }
     ensures back { IfErr result (λ back. OfEach (S.Holds back.source.blocks)
         (S.Holds source.blocks)) }
 {
+    let len = source.blocks.len();
     let looked = look_reported(alloc, source)?;
     match looked {
-        Ok((image, report)) => find_sound(alloc, image, report),
+        Ok((image, report)) => find_sound(alloc, image, len, report),
         Err(image) => Ok(refused_looked(image)),
     }
 }

@@ -1,8 +1,8 @@
 -- A block that is put into a patch, and the runs that it lies in.
-use Rattle.std.proofs.Common.{◌≡◌, ◌≢◌, ℕ, ◌+◌, ◌<◌, ◌≤◌, Bool, true, false, cond, List, [], ◌∷◌, ◌++◌, length, take, drop, Some, nat_eq, refl, sym, ap, ◌∙◌, subst, arith}
+use Rattle.std.proofs.Common.{◌≡◌, ◌≢◌, inl, inr, ℕ, ◌+◌, ◌<◌, ◌≤◌, Bool, true, false, cond, List, [], ◌∷◌, ◌++◌, length, take, drop, Some, nat_eq, refl, sym, ap, ◌∙◌, subst, arith}
 use Rattle.std.specs.List.{flat_map}
-use Rattle.std.proofs.lemmas.Bool.{eq-eqb, ne_eqb}
-use Rattle.std.proofs.lemmas.List.{length-append}
+use Rattle.std.proofs.lemmas.Bool.{cases_lt, eq-eqb, ne_eqb}
+use Rattle.std.proofs.lemmas.List.{length-append, append-nil, drop_all}
 use Rattle.std.proofs.lemmas.List.FromFn.{length-range_with_len}
 use Rattle.std.proofs.lemmas.List.Elements.{All-weaker}
 use Rattle.std.proofs.lemmas.List.Sums.{sum_by-cons}
@@ -60,6 +60,23 @@ pub place-small : (runs : List Run) (total i : ℕ) → AreRunsWithin runs total
 place-small runs total i h lt = let long = runs-length runs in let few = h.few in omega (arith, long, few, lt)
 
 -- ---- a part of a block, as it is written through a slice of it
+
+-- a part that is a whole block stands alone
+whole-part : (from : ℕ) (part bytes : List ℕ) → from ≡ 0 → length part ≡ 512 → length bytes ≡ 512 → with_part from part bytes ≡ part
+whole-part from part bytes start all long =
+    ap (λ k. with_part k part bytes) start
+    ∙ ap (λ (l : List ℕ). part ++ l) (drop_all (0 + length part) bytes (omega (arith, all, long)))
+    ∙ append-nil part
+
+-- so it is the same over any block
+pub unless_whole : (from : ℕ) (part read shown : List ℕ) → (length part < 512 → read ≡ shown) → length read ≡ 512 → length shown ≡ 512 → from + length part ≤ 512 → with_part from part read ≡ with_part from part shown
+unless_whole from part read shown same long shown_long fits = elim (cases_lt (length part) 512) [
+  | inl less ↦ ap (with_part from part) (same less)
+  | inr all ↦
+      let start : from ≡ 0 = omega (arith, all, fits) in
+      let full : length part ≡ 512 = omega (arith, all, fits) in
+      whole-part from part read start full long ∙ sym (whole-part from part shown start full shown_long)
+]
 
 pub written-part : (from k : ℕ) (block read slice part : List ℕ) → block ≡ read → slice ≡ part → k ≡ length part → take from block ++ (slice ++ drop k (drop from block)) ≡ with_part from part read
 written-part from k block read slice part same after is =

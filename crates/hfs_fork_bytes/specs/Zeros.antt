@@ -32,6 +32,14 @@ pub record AreOnce (runs : List Run) : Type 0 where
 abbrev pub AreApart : List Run → Type 0
 AreApart runs = (i j : ℕ) (d : Run) → i < j → j < length runs → (slice_index_or runs i d).first + (slice_index_or runs i d).count ≤ (slice_index_or runs j d).first
 
+-- the blocks of the runs are among so many
+abbrev pub AreAmong : List Run → ℕ → Type 0
+AreAmong runs total = All (λ run. run.first + run.count ≤ total) runs
+
+-- where blocks of the first runs are among so many, those of the others are
+abbrev pub StayAmong : List Run → List Run → Type 0
+StayAmong xs ys = (total : ℕ) → AreAmong xs total → AreAmong ys total
+
 -- both have the same blocks
 abbrev pub HaveSameBlocks : List Run → List Run → Type 0
 HaveSameBlocks xs ys = (n : ℕ) → zero_blocks ys n ≡ zero_blocks xs n

@@ -9,6 +9,7 @@ ghost use Rattle.hfs_space.specs.Forks.{HasArea};
 ghost use Rattle.hfs_space.specs.Owners.{owners};
 ghost use Rattle.hfs_fork_bytes.specs.Parts.{with_part, zeros};
 ghost use Rattle.hfs_fork_bytes.specs.Clearing.{HaveZeros, KeepOthers, zeroed, patched};
+ghost use Rattle.hfs_fork_bytes.specs.Zeros.{AreAmong};
 
 use crate::forks::clear_part;
 use crate::zero_runs::{ZeroRuns, runs_from};
@@ -47,6 +48,7 @@ fn whole_blocks<B: Blocks>(
     ensures beside { IfOk result (λ runs. KeepOthers mdb.now extents.now
         (512 * first) (512 * (last - first))
         (B.blocks blocks.now) (zeroed runs (B.blocks blocks.now))) }
+    ensures among { IfOk result (λ runs. AreAmong runs (B.total blocks.now)) }
 {
     let runs = tree_runs(alloc, blocks, mdb, extents, 512 * last)?;
     let whole = runs_from(alloc, &runs, first)?;
@@ -115,6 +117,7 @@ pub fn clear_fork<B: Blocks>(
         (B.blocks blocks.now) (patched cleared.patch cleared.zeros (B.blocks blocks.now))) }
     ensures within { IfOk result (λ cleared.
         AreWithin (changes cleared.patch) (B.total blocks.now)) }
+    ensures among { IfOk result (λ cleared. AreAmong cleared.zeros (B.total blocks.now)) }
 {
     let end = offset + count;
     let last = end / 512;

@@ -4,7 +4,7 @@ ghost use Rattle.std.specs.Prelude.{◌≡◌, ◌<◌, ◌≤◌, IfOk, length,
 ghost use Rattle.std.specs.List.{All, flat_map, list_any};
 ghost use Rattle.hfs_blocks.specs.Blocks.{run_of, AreRunsWithin};
 ghost use Rattle.hfs_blocks.specs.Layers.{over, length-over};
-ghost use Rattle.hfs_fork_bytes.specs.Zeros.{is_of_run, zero_blocks, AreOnce, AreApart, HaveSameBlocks, HaveBegun, AreWhole-zero_blocks};
+ghost use Rattle.hfs_fork_bytes.specs.Zeros.{is_of_run, zero_blocks, AreOnce, AreApart, StayAmong, HaveSameBlocks, HaveBegun, AreWhole-zero_blocks};
 
 use hfs_blocks::{Blocks, Run};
 use std::alloc::{AllocError, Global};
@@ -36,6 +36,7 @@ fn sort_runs(runs: &mut Vec<Run>)
     requires { AreOnce runs.old.items }
     ensures apart { AreApart runs.new.items }
     ensures same { HaveSameBlocks runs.old.items runs.new.items }
+    ensures among { StayAmong runs.old.items runs.new.items }
 {
     runs.sort_unstable_by_key(|run| run.first);
 }
@@ -62,11 +63,19 @@ impl ZeroRuns {
     /// The blocks of these runs as zeros. Takes no memory.
     pub fn of(runs: Vec<Run>) -> ZeroRuns
         requires { AreOnce runs.items }
-        ensures { HaveSameBlocks runs.items result }
+        ensures same { HaveSameBlocks runs.items result }
+        ensures among { StayAmong runs.items result }
     {
         let mut runs = runs;
         sort_runs(&mut runs);
         ZeroRuns { runs }
+    }
+
+    /// The runs, in the order of their blocks.
+    pub fn runs(&self) -> &[Run]
+        ensures { result.now ≡ self.now }
+    {
+        &self.runs
     }
 
     /// Whether block `n` is one of the zeros. A binary search. Takes no memory.
@@ -124,6 +133,7 @@ pub fn runs_from(alloc: Global, runs: &[Run], from: u32) -> Result<Vec<Run>, All
     ensures blocks { IfOk result (λ rest. flat_map run_of rest.items
         ≡ drop from (flat_map run_of runs.now)) }
     ensures some { IfOk result (λ rest. All (λ run. 0 < run.count) rest.items) }
+    ensures among { IfOk result (λ rest. StayAmong runs.now rest.items) }
 {
     let mut rest = Vec::new(alloc);
     for i in 0..runs.len() {

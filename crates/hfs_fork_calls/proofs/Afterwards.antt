@@ -16,10 +16,10 @@ use Rattle.hfs_model.specs.Children.{entries_of, child_named, is_child_named, is
 use Rattle.hfs_model.specs.Changes.{changed_to}
 use Rattle.hfs_model.proofs.Counts.{first, second, find_none, none_some}
 use Rattle.hfs_model.proofs.Facts.{none_is_some, same_some, true_false, found_has}
-use Rattle.hfs_fork_calls.specs.Forks.{fork_bytes, item_with_fork}
+use Rattle.hfs_model.specs.Forks.{fork_bytes, item_with_fork}
 use Rattle.hfs_fork_calls.specs.Laws.{fork_named, HasChangedFork}
 use Rattle.hfs_fork_calls.proofs.Tested.{IsFileNamed}
-use Rattle.hfs_fork_calls.proofs.ForkLemmas.{own-fork, other-fork, same-sort}
+use Rattle.hfs_model.proofs.ForkLemmas.{own-fork, other-fork, same-sort}
 
 -- ---- a scan of entries, of which one was put in the place of the one that it found
 

@@ -1,36 +1,25 @@
 -- The laws of this crate.
-use Rattle.std.proofs.Common.{◌≡◌, ℕ, true, false, cond, not, ltb, List, length, refl, sym, ◌∙◌, ap, subst, Option, Result, Ok, ℤ}
+use Rattle.std.proofs.Common.{◌≡◌, ℕ, true, false, cond, not, ltb, List, length, sym, ◌∙◌, ap, subst, Option, Result, Ok, ℤ}
 use Rattle.std.specs.Option.{option_map_or}
-use Rattle.std.specs.FinMap as map
 use Rattle.hfs_fields.specs.Names.{is_item_name}
 use Rattle.hfs_model.specs.declared.codes.TheConstants.{BAD_NAME, NOT_FOUND, PARAMETER, NOT_A_FOLDER}
-use Rattle.hfs_model.specs.declared.item.Item.{Item}
 use Rattle.hfs_model.specs.declared.call.Fork.{Fork}
-use Rattle.hfs_model.specs.Volume.{Volume, Items, Entry}
+use Rattle.hfs_model.specs.Volume.{Volume, Entry}
 use Rattle.hfs_model.specs.Children.{entries_of, is_folder}
 use Rattle.hfs_model.specs.Replies.{refusal}
 use Rattle.hfs_model.specs.Reading.{read_fork, fork_part}
 use Rattle.hfs_model.specs.Changes.{change, changed_to}
 use Rattle.hfs_model.proofs.Facts.{found_has}
-use Rattle.hfs_model.proofs.KeepsCalls.{edit_keeps, Edits}
+use Rattle.hfs_model.proofs.KeepsCalls.{edit_keeps}
+use Rattle.hfs_model.proofs.KeepsForks.{edited, edits, is_edit}
 use Rattle.hfs_model.specs.Children.{is_child_named}
-use Rattle.hfs_fork_calls.specs.Forks.{resized, written, fork_bytes, item_with_fork}
-use Rattle.hfs_fork_calls.specs.ForkCalls.{to_set_eof, to_write_fork, set_eof, write_fork}
+use Rattle.hfs_model.specs.Forks.{resized, written, fork_bytes}
+use Rattle.hfs_model.specs.ForkCalls.{to_set_eof, to_write_fork, set_eof, write_fork}
 use Rattle.hfs_fork_calls.specs.Laws.{IsLawfulChange, SetEofIsLawful, WriteForkIsLawful, fork_named, HasChangedFork, SetEofResizes, SetEofToItsLength, WriteForkIsSetEofAndBytes, WrittenIsRead}
-use Rattle.hfs_fork_calls.proofs.ForkLemmas.{resized-same, written-part, same-sort, file-part}
+use Rattle.hfs_model.proofs.ForkLemmas.{resized-same, written-part, file-part}
 use Rattle.hfs_fork_calls.proofs.Refusals.{IsTold, set_eof_told, write_fork_told, accepted, leaves, never_full, same_size}
 use Rattle.hfs_fork_calls.proofs.Tested.{IsFileNamed, set_eof_tested, write_fork_tested}
 use Rattle.hfs_fork_calls.proofs.Afterwards.{new, there, folder_still, was, changed}
-
--- a fork of an item, made anew of its bytes
-abbrev edited : ℕ → Fork → (List ℕ → List ℕ) → ℕ → Item → Item
-edited size fork make now i = item_with_fork size fork (make (fork_bytes fork i.kind)) now i
-
-abbrev edits : ℕ → Fork → (List ℕ → List ℕ) → ℕ → Entry → Items → Items
-edits size fork make now e m = map.insert m e.0 (edited size fork make now e.1)
-
-is_edit : (size : ℕ) (fork : Fork) (make : List ℕ → List ℕ) (now : ℕ) → Edits (edited size fork make now)
-is_edit size fork make now = (λ i. refl, λ i. refl, λ i. same-sort size fork (make (fork_bytes fork i.kind)) i.kind)
 
 -- ---- both calls
 

@@ -1,5 +1,4 @@
 mod Tested
-mod Refusals
+pub mod Refusals
 mod Afterwards
-pub mod ForkLemmas
 pub mod LawsProved

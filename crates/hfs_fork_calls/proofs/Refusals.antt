@@ -10,7 +10,7 @@ use Rattle.hfs_model.specs.Replies.{is_accepted}
 use Rattle.hfs_model.specs.Choices.{and_then, is_locked, lock_code, child_to_change, file_to_change, unless_locked_file}
 use Rattle.hfs_model.specs.Changes.{change}
 use Rattle.hfs_model.proofs.Facts.{true_false}
-use Rattle.hfs_fork_calls.specs.ForkCalls.{to_set_eof, to_write_fork, unless_past_end}
+use Rattle.hfs_model.specs.ForkCalls.{to_set_eof, to_write_fork, unless_past_end}
 
 -- a code that is neither 0 nor -34
 pub is_told : ℤ → Bool
@@ -77,6 +77,10 @@ not_accepted : (code : ℤ) → is_told code ≡ true → int_eq code (pos 0) �
 unfolding is_told
 not_accepted (pos n) told is = true_false false told refl
 not_accepted (negsuc n) told is = true_false false is refl
+
+-- such a code refuses the call
+pub not_done : (code : ℤ) → is_told code ≡ true → int_eq code (pos 0) ≡ false
+not_done code told = elim (int_eq code (pos 0)) as (λ (b : Bool). int_eq code (pos 0) ≡ b → b ≡ false) [ true ↦ λ e. absurd (not_accepted code told e) | false ↦ λ e. refl ] refl
 
 -- what is accepted was chosen
 pub accepted : (v : Volume) (r : Result Entry ℤ) (make : Entry → Items → Items) (now : ℕ) → IsTold r → is_accepted (change v r make now).1 ≡ true → (e : Entry) × (r ≡ Ok e)

@@ -9,7 +9,7 @@ use Rattle.hfs_model.specs.Children.{entries_of, child_named, is_folder, is_fold
 use Rattle.hfs_model.specs.Choices.{child_to_change, file_to_change, unless_locked_file, and_then, is_locked, lock_code}
 use Rattle.hfs_model.proofs.Facts.{not_refused, not_not, neither}
 use Rattle.hfs_model.proofs.KeepsCalls.{same_entry, err_is_ok, chained, unlocked_is}
-use Rattle.hfs_fork_calls.specs.ForkCalls.{to_set_eof, to_write_fork}
+use Rattle.hfs_model.specs.ForkCalls.{to_set_eof, to_write_fork}
 
 -- the item is the folder's one of that name
 pub record IsNamed (v : Volume) (dir : ℕ) (name : List ℕ) (e : Entry) : Type 0 where

@@ -10,8 +10,8 @@ use Rattle.hfs_model.specs.Lawful.{IsLawful}
 use Rattle.hfs_model.specs.Replies.{is_accepted, success}
 use Rattle.hfs_model.specs.Reading.{read_fork}
 use Rattle.hfs_model.specs.Changes.{Outcome}
-use Rattle.hfs_fork_calls.specs.Forks.{resized, laid_over, fork_bytes}
-use Rattle.hfs_fork_calls.specs.ForkCalls.{set_eof, write_fork}
+use Rattle.hfs_model.specs.Forks.{resized, laid_over, fork_bytes}
+use Rattle.hfs_model.specs.ForkCalls.{set_eof, write_fork}
 
 -- ---- both calls
 

@@ -1,3 +1,1 @@
-pub mod Forks
-pub mod ForkCalls
 pub mod Laws

@@ -1,6 +1,6 @@
 //! How many bytes an allocation block has.
 ghost use Rattle.std.specs.Prelude.{◌≡◌, ◌<◌, ◌≤◌, if◌then◌else◌, Some, None};
-ghost use Rattle.hfs_fork_calls.specs.Forks.{is_block_size, blocks, physical_length};
+ghost use Rattle.hfs_model.specs.Forks.{is_block_size, blocks, physical_length};
 
 use std::marker::Model;
 

@@ -4,8 +4,8 @@ use Rattle.std.specs.Prelude.{max}
 use Rattle.std.proofs.lemmas.Bool.{cases_lt, cases_Bool, ltb-true, lt-ltb}
 use Rattle.std.proofs.lemmas.List.{length-append, length-take, length-take-le, length-replicate, take-append-le, take-replicate, take_all, take-take, append_assoc, append-nil, drop-take, drop_all}
 use Rattle.std.proofs.Math.Nat.{mul-le-mul_right, suc-mul}
-use Rattle.hfs_fork_calls.specs.Forks.{resized, laid_over, written}
-use Rattle.hfs_fork_calls.proofs.ForkLemmas.{length-resized, resized-same}
+use Rattle.hfs_model.specs.Forks.{resized, laid_over, written}
+use Rattle.hfs_model.proofs.ForkLemmas.{length-resized, resized-same}
 use Rattle.hfs_fork_bytes.specs.Parts.{with_part, zeros}
 use Rattle.hfs_fork_bytes.proofs.PartLemmas.{length-with_part, with_part-before, with_part-inside, with_part-after}
 use Rattle.hfs_fork_bytes.proofs.ForkLemmas.{with_part-nothing}

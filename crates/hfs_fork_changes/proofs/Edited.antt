@@ -32,9 +32,9 @@ use Rattle.hfs_check.proofs.LawTypes.{CatalogIsSound}
 use Rattle.hfs_changes.specs.SettingLaws.{IsChoice}
 use Rattle.hfs_fork_bytes.specs.Parts.{with_part, zeros}
 use Rattle.hfs_fork_bytes.proofs.ForkLemmas.{with_part-nothing}
-use Rattle.hfs_fork_calls.specs.Forks.{blocks, resized, written, fork_bytes}
-use Rattle.hfs_fork_calls.specs.ForkCalls.{file_to_write, unless_past_end, to_set_eof, to_write_fork}
-use Rattle.hfs_fork_calls.proofs.ForkLemmas.{length-resized, length-written}
+use Rattle.hfs_model.specs.Forks.{blocks, resized, written, fork_bytes}
+use Rattle.hfs_model.specs.ForkCalls.{file_to_write, unless_past_end, to_set_eof, to_write_fork}
+use Rattle.hfs_model.proofs.ForkLemmas.{length-resized, length-written}
 use Rattle.hfs_fork_changes.specs.Files.{fork_of, file_with}
 use Rattle.hfs_fork_changes.specs.Edits.{extents_of, blocks_of, bytes_of, ChangesFork, SetsVolume}
 use Rattle.hfs_fork_changes.specs.Laws.{ForkEditsAreSetEof, ForkEditsAreWriteFork}

@@ -9,7 +9,7 @@ use Rattle.hfs_model.specs.declared.item.Kind.TheVariants as kind
 use Rattle.hfs_model.specs.declared.call.Fork.{Fork}
 use Rattle.hfs_model.specs.declared.call.Fork.TheVariants.{DataFork, ResFork}
 use Rattle.hfs_catalog.specs.Items.{file_of, file_kept}
-use Rattle.hfs_fork_calls.specs.Forks.{physical_length, with_physical_length, item_with_fork}
+use Rattle.hfs_model.specs.Forks.{physical_length, with_physical_length, item_with_fork}
 use Rattle.hfs_fork_changes.specs.Files.{file_with}
 
 -- both forks' bytes, of which one fork's are these

@@ -18,7 +18,7 @@ use Rattle.hfs_space.proofs.CountingLemmas.{count_below-suc}
 use Rattle.hfs_space.proofs.Decided.{each_from_all}
 use Rattle.hfs_space.proofs.OwnedOnce.{each-range}
 use Rattle.hfs_changes.proofs.Space.{cons, one, no, owned_each}
-use Rattle.hfs_fork_calls.specs.Forks.{blocks}
+use Rattle.hfs_model.specs.Forks.{blocks}
 
 pub length-blocks : (es : List Extent) → length (extent_blocks es) ≡ block_total es
 length-blocks [] = refl

@@ -46,9 +46,9 @@ use Rattle.hfs_changes.proofs.Linked.{sound_once}
 use Rattle.hfs_changes.proofs.Space.{owned_each, each_owned, owned_distinct, distinct_owned}
 use Rattle.hfs_catalog_edits.specs.Swaps.{Swaps}
 use Rattle.hfs_catalog_edits.proofs.SwapLemmas.{swapped_find}
-use Rattle.hfs_fork_calls.specs.Forks.{resized, written, fork_bytes, item_with_fork}
-use Rattle.hfs_fork_calls.specs.ForkCalls.{to_set_eof, to_write_fork, set_eof, write_fork}
-use Rattle.hfs_fork_calls.proofs.ForkLemmas.{same-sort}
+use Rattle.hfs_model.specs.Forks.{resized, written, fork_bytes, item_with_fork}
+use Rattle.hfs_model.specs.ForkCalls.{to_set_eof, to_write_fork, set_eof, write_fork}
+use Rattle.hfs_model.proofs.ForkLemmas.{same-sort}
 use Rattle.hfs_fork_changes.specs.Edits.{bytes_of, ChangesFork}
 use Rattle.hfs_fork_changes.specs.Laws.{HasBecome, ForkEditsAreSetEof, ForkEditsAreWriteFork}
 use Rattle.hfs_fork_changes.proofs.Files.{with_content, changed_item}

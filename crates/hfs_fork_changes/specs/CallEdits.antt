@@ -13,8 +13,8 @@ use Rattle.hfs_check.specs.Parts.{Blocks, mdb_in}
 use Rattle.hfs_check.specs.Sound.{AreBlocksSound}
 use Rattle.hfs_check.specs.VolumeOf.{volume_in}
 use Rattle.hfs_changes.specs.SettingLaws.{IsChoice}
-use Rattle.hfs_fork_calls.specs.Forks.{blocks}
-use Rattle.hfs_fork_calls.specs.ForkCalls.{to_set_eof, to_write_fork, set_eof, write_fork}
+use Rattle.hfs_model.specs.Forks.{blocks}
+use Rattle.hfs_model.specs.ForkCalls.{to_set_eof, to_write_fork, set_eof, write_fork}
 use Rattle.hfs_fork_changes.specs.Files.{fork_of, file_with}
 use Rattle.hfs_fork_changes.specs.Edits.{extents_of, blocks_of, SetsRecord}
 use Rattle.hfs_fork_changes.specs.Laws.{HasBecome}

@@ -24,7 +24,7 @@ use Rattle.hfs_model.specs.declared.call.Fork.{Fork}
 use Rattle.hfs_check.specs.Parts.{Blocks, mdb_in, extents_nodes, overflow_in, catalog_nodes, catalog_in}
 use Rattle.hfs_check.specs.VolumeOf.{bytes_in}
 use Rattle.hfs_check.specs.Agree.{IsBesideAll}
-use Rattle.hfs_fork_calls.specs.Forks.{blocks}
+use Rattle.hfs_model.specs.Forks.{blocks}
 use Rattle.hfs_fork_changes.specs.Files.{kind_of, fork_of, file_with}
 
 -- ---- a file's fork in a volume

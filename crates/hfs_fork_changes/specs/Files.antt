@@ -7,7 +7,7 @@ use Rattle.hfs_space.specs.declared.fork_kind.ForkKind.{ForkKind}
 use Rattle.hfs_space.specs.declared.fork_kind.ForkKind.TheVariants.{Data, Resource}
 use Rattle.hfs_model.specs.declared.call.Fork.{Fork}
 use Rattle.hfs_model.specs.declared.call.Fork.TheVariants.{DataFork, ResFork}
-use Rattle.hfs_fork_calls.specs.Forks.{physical_length}
+use Rattle.hfs_model.specs.Forks.{physical_length}
 
 abbrev pub kind_of : Fork → ForkKind
 kind_of DataFork = Data

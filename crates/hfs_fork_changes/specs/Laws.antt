@@ -9,8 +9,8 @@ use Rattle.hfs_check.specs.Sound.{AreBlocksSound}
 use Rattle.hfs_check.specs.VolumeOf.{volume_in}
 use Rattle.hfs_check.specs.Agree.{KeepsBut}
 use Rattle.hfs_changes.specs.SettingLaws.{IsChoice}
-use Rattle.hfs_fork_calls.specs.Forks.{resized, written}
-use Rattle.hfs_fork_calls.specs.ForkCalls.{to_set_eof, to_write_fork, set_eof, write_fork}
+use Rattle.hfs_model.specs.Forks.{resized, written}
+use Rattle.hfs_model.specs.ForkCalls.{to_set_eof, to_write_fork, set_eof, write_fork}
 use Rattle.hfs_fork_changes.specs.Edits.{bytes_of, ChangesFork}
 
 -- the volume is sound, keeps what calls keep but for these blocks, which the call wrote, and is this one

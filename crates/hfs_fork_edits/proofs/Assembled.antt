@@ -35,7 +35,7 @@ use Rattle.hfs_check.specs.Parts.{Blocks, mdb_in, extents_nodes, overflow_in, ca
 use Rattle.hfs_check.specs.Sound.{AreBlocksSound}
 use Rattle.hfs_check.proofs.LawsProved.{catalog_is_sound}
 use Rattle.hfs_changes.proofs.CatalogEdits.{below_area}
-use Rattle.hfs_fork_calls.specs.Forks.{blocks}
+use Rattle.hfs_model.specs.Forks.{blocks}
 use Rattle.hfs_fork_bytes.specs.Parts.{with_part, zeros}
 use Rattle.hfs_fork_bytes.specs.Written.{KeepsBeside}
 use Rattle.hfs_fork_extents.specs.Cuts.{cut}

@@ -20,8 +20,8 @@ use Rattle.hfs_changes.proofs.Made.{file_item, file-not_dir}
 use Rattle.hfs_queries.specs.Told.{pick}
 use Rattle.hfs_queries.proofs.FolderLemmas.{found_with}
 use Rattle.hfs_queries.proofs.Queries.{AreLong, files_are_long}
-use Rattle.hfs_fork_calls.specs.Forks.{fork_bytes}
-use Rattle.hfs_fork_calls.specs.ForkCalls.{file_to_write, unless_past_end, to_set_eof, to_write_fork}
+use Rattle.hfs_model.specs.Forks.{fork_bytes}
+use Rattle.hfs_model.specs.ForkCalls.{file_to_write, unless_past_end, to_set_eof, to_write_fork}
 use Rattle.hfs_fork_changes.specs.Files.{fork_of}
 use Rattle.hfs_fork_edits.specs.declared.choosing.FoundFile.{FoundFile}
 use Rattle.hfs_fork_edits.specs.Found.{IsFoundFile, FindsFile, AreWholeSound, if_short, unless_past, if_writable, ChoosesSetEof, ChoosesWriteFork, IsWritable}

@@ -42,7 +42,7 @@ use Rattle.hfs_check.specs.Sound.{AreBlocksSound}
 use Rattle.hfs_check.proofs.LawsProved.{catalog_is_sound, trees_are_sound}
 use Rattle.hfs_changes.proofs.LawsProved.{choice_stands}
 use Rattle.hfs_changes.proofs.Space.{each_owned}
-use Rattle.hfs_fork_calls.specs.Forks.{is_block_size, blocks, physical_length}
+use Rattle.hfs_model.specs.Forks.{is_block_size, blocks, physical_length}
 use Rattle.hfs_fork_extents.specs.Cuts.{cut, surplus}
 use Rattle.hfs_fork_extents.specs.Growing.{grown, records_coming, HasGrown, HasRoomFor, IsWantOfNodes}
 use Rattle.hfs_fork_extents.specs.declared.growing.NodesWanted.{NodesWanted}

@@ -18,7 +18,7 @@ use Rattle.hfs_model.specs.declared.call.Fork.{Fork}
 use Rattle.hfs_model.specs.declared.journal.Want.{Want}
 use Rattle.hfs_model.specs.Volume.{Entry}
 use Rattle.hfs_check.specs.Parts.{Blocks, mdb_in, extents_nodes}
-use Rattle.hfs_fork_calls.specs.Forks.{blocks, physical_length}
+use Rattle.hfs_model.specs.Forks.{blocks, physical_length}
 use Rattle.hfs_fork_extents.specs.Growing.{grown, records_coming}
 use Rattle.hfs_fork_wants.specs.Wants.{blocks_wanted}
 use Rattle.hfs_fork_changes.specs.Files.{fork_of}

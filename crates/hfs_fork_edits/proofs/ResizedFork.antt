@@ -1,5 +1,5 @@
 -- What a change is that has the runs of zeros, the patch and the counts of a fork's edits.
-use Rattle.std.proofs.Common.{◌≡◌, ℕ, List, length, sym, ◌∙◌, ap, subst, Some, None, Vec, Global}
+use Rattle.std.proofs.Common.{◌≡◌, ℕ, List, length, sym, ◌∙◌, ap, subst, Option, Some, None, Vec, Global}
 use Rattle.std.specs.List.{flat_map}
 use Rattle.hfs_fields.specs.declared.extent.Extent.{Extent}
 use Rattle.hfs_fields.specs.declared.mdb.Mdb.{Mdb}
@@ -13,19 +13,21 @@ use Rattle.hfs_model.specs.declared.call.Fork.{Fork}
 use Rattle.hfs_model.specs.declared.reply.Value.TheVariants as value
 use Rattle.hfs_check.specs.Parts.{Blocks, mdb_in}
 use Rattle.hfs_fork_bytes.specs.Clearing.{zeroed, patched as cleared}
-use Rattle.hfs_fork_calls.specs.Forks.{blocks}
+use Rattle.hfs_fork_bytes.specs.Zeros.{AreAmong}
+use Rattle.hfs_model.specs.Forks.{blocks}
 use Rattle.hfs_fork_changes.specs.Files.{fork_of}
 use Rattle.hfs_fork_changes.specs.Edits.{blocks_of}
 use Rattle.hfs_fork_changes.specs.Laid.{AreZeros, AreWritten}
 use Rattle.hfs_fork_changes.specs.CallEdits.{SetsFork}
-use Rattle.hfs_call_patches.specs.CallChanges.{written_blocks}
+use Rattle.hfs_call_patches.specs.CallChanges.{written_blocks, laid_with, changed, AreZerosAmong}
+use Rattle.hfs_call_patches.specs.declared.change.Change.{Change}
+use Rattle.hfs_call_patches.specs.declared.change.ForkBlocks.{ForkBlocks}
 use Rattle.hfs_call_patches.specs.Patches.{patched}
-use Rattle.hfs_fork_edits.specs.Calls.{changed, HasResized}
+use Rattle.hfs_fork_edits.specs.Calls.{HasResized}
 use Rattle.hfs_fork_edits.specs.Gaining.{IsLaidFor, HasSettled}
 use Rattle.hfs_fork_edits.specs.Laying.{LaysBoth}
 use Rattle.hfs_fork_edits.specs.Wanting.{MeetsWant}
 use Rattle.hfs_fork_edits.specs.declared.choosing.FoundFile.{FoundFile}
-use Rattle.hfs_fork_edits.specs.declared.volume.ForkChange.{ForkChange}
 use Rattle.hfs_fork_edits.specs.declared.volume.Settled.{Settled}
 
 -- what lies below the patch are the runs of zeros over the volume
@@ -50,18 +52,19 @@ laid_for fork was len mdb old directory extents all same from count offset part 
 
 module _ (f : FoundFile) (fork : Fork) (len offset : ℕ) (part : List ℕ) (now : ℕ) (all : List Extent) (total : ℕ) (old : Blocks) (below : Blocks) (laid : Numbered) (made : Settled) (s : HasSettled f fork len now all total old below laid made)
     (zeros : List Run) (below_zeros : below ≡ zeroed zeros old) (from count : ℕ) (written : Vec Run Global) (l : IsLaidFor fork f.file len all from count offset part (flat_map run_of written.items) old (patched below laid))
-    (c : ForkChange) (zeros_is : c.zeros ≡ zeros) (patch_is : c.change.patch ≡ made.patch) (counts_is : c.change.counts ≡ made.counts) (written_is : c.change.written ≡ Some written) (value_is : c.change.value ≡ value.Nothing) where
+    (c : Change) (patch_is : c.patch ≡ made.patch) (counts_is : c.counts ≡ made.counts) (written_is : c.written ≡ Some (record { runs = written; zeros = zeros })) (among : AreAmong zeros total) (value_is : c.value ≡ value.Nothing) where
   new_is : changed old c ≡ patched below made.patch
-  new_is = (λ i. over (changes (patch_is i)) (zeroed (zeros_is i) old)) ∙ ap (λ (b : Blocks). over (changes made.patch) b) (sym below_zeros)
+  new_is = (λ i. laid_with (written_is i) (patch_is i) old) ∙ ap (λ (b : Blocks). over (changes made.patch) b) (sym below_zeros)
 
   pub resized : MeetsWant fork f.file len old None → HasResized f fork len offset part now total old c
   resized enough = record {
     enough = enough;
     within = subst (λ (p : Numbered). AreWithin (changes p) total) (sym patch_is) s.within;
+    zeros = subst (λ (w : Option ForkBlocks). AreZerosAmong w total) (sym written_is) among;
     directory = ap mdb_in new_is ∙ s.directory ∙ ap (λ (m : Mdb). with_counts m (mdb_in old)) (sym counts_is);
     nothing = value_is;
     sets = λ chosen is.
-        subst (λ (b : Blocks). SetsFork fork is.choice.of len now offset part (written_blocks c.change.written) old b) (sym new_is)
+        subst (λ (b : Blocks). SetsFork fork is.choice.of len now offset part (written_blocks c.written) old b) (sym new_is)
         (subst (λ (ns : List ℕ). SetsFork fork is.choice.of len now offset part ns old (patched below made.patch)) (sym (ap written_blocks written_is))
         (s.sets from count offset part (flat_map run_of written.items) l chosen is));
   }

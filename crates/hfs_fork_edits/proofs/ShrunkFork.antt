@@ -18,7 +18,7 @@ use Rattle.hfs_model.specs.declared.call.Fork.{Fork}
 use Rattle.hfs_model.specs.Volume.{Entry}
 use Rattle.hfs_check.specs.Parts.{Blocks, mdb_in}
 use Rattle.hfs_fork_bytes.proofs.ForkLemmas.{with_part-nothing}
-use Rattle.hfs_fork_calls.specs.Forks.{blocks}
+use Rattle.hfs_model.specs.Forks.{blocks}
 use Rattle.hfs_fork_wants.specs.Wants.{blocks_wanted}
 use Rattle.hfs_fork_extents.specs.Cuts.{cut, surplus}
 use Rattle.hfs_fork_extents.proofs.CutLemmas.{blocks-cut, blocks-surplus}

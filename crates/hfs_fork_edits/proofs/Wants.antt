@@ -16,7 +16,7 @@ use Rattle.hfs_fork_extents.specs.Growing.{records_coming, IsWantOfNodes}
 use Rattle.hfs_fork_extents.specs.declared.growing.NodesWanted.{NodesWanted}
 use Rattle.hfs_fork_wants.specs.Wants.{blocks_wanted, want_of, IsForkWant}
 use Rattle.hfs_extents_edits.proofs.Adds.{empty-content}
-use Rattle.hfs_fork_calls.specs.Forks.{blocks}
+use Rattle.hfs_model.specs.Forks.{blocks}
 use Rattle.hfs_btree.specs.Tree.{Store}
 use Rattle.hfs_space.specs.Extents.{Overflow}
 use Rattle.hfs_space.specs.TreeKeys.{overflow_of}

@@ -1,5 +1,5 @@
 -- What SetEof and WriteFork make of a volume, of a file that was looked for already.
-use Rattle.std.specs.Prelude.{◌≡◌, ℕ, ◌+◌, ◌≤◌, max, ℤ, IsTrue, List, [], length, None, Result, Ok, Err, IfOk}
+use Rattle.std.specs.Prelude.{◌≡◌, ℕ, ◌+◌, ◌≤◌, max, ℤ, false, IsTrue, List, [], length, None, Result, Ok, Err, IfOk}
 use Rattle.hfs_fields.specs.declared.file_record.FileRecord.{FileRecord}
 use Rattle.hfs_fields.specs.declared.mdb.Mdb.{Mdb}
 use Rattle.hfs_fields.specs.Counts.{with_counts}
@@ -20,18 +20,17 @@ use Rattle.hfs_space.specs.ForkLaws.{block_numbers}
 use Rattle.hfs_check.specs.Parts.{Blocks, mdb_in, catalog_in}
 use Rattle.hfs_check.specs.Sound.{AreBlocksSound}
 use Rattle.hfs_check.specs.VolumeOf.{volume_in}
-use Rattle.hfs_fork_calls.specs.ForkCalls.{file_to_write, set_eof, write_fork}
-use Rattle.hfs_fork_bytes.specs.Clearing.{patched}
+use Rattle.hfs_model.specs.ForkCalls.{file_to_write, set_eof, write_fork}
 use Rattle.hfs_fork_changes.specs.Files.{fork_of}
 use Rattle.hfs_fork_changes.specs.Edits.{extents_of}
 use Rattle.hfs_fork_changes.specs.Laws.{HasBecome}
 use Rattle.hfs_fork_changes.specs.CallEdits.{SetsFork, HasLaid}
-use Rattle.hfs_call_patches.specs.CallChanges.{written_blocks}
+use Rattle.hfs_call_patches.specs.CallChanges.{written_blocks, changed, AreZerosAmong}
+use Rattle.hfs_call_patches.specs.declared.change.Change.{Change}
 use Rattle.hfs_call_patches.specs.TreeFiles.{IsCatalogFile, IsExtentsFile}
 use Rattle.hfs_fork_edits.specs.Found.{IsFoundFile, FindsFile}
 use Rattle.hfs_fork_edits.specs.Wanting.{MeetsWant, IsWanting}
 use Rattle.hfs_fork_edits.specs.declared.choosing.FoundFile.{FoundFile}
-use Rattle.hfs_fork_edits.specs.declared.volume.ForkChange.{ForkChange}
 use Rattle.hfs_fork_edits.specs.declared.volume.ForkRefusal.{ForkRefusal}
 use Rattle.hfs_fork_edits.specs.declared.volume.ForkRefusal.TheVariants as refusal
 
@@ -51,22 +50,19 @@ IsForkVolumeIn total blocks b mdb extents catalog = IsForkVolume (total b) (bloc
 
 -- ---- the change
 
--- the blocks with the runs of zeros laid over them, and the patch over these
-abbrev pub changed : Blocks → ForkChange → Blocks
-changed old c = patched c.change.patch c.zeros old
-
 -- The change makes the volume of the call's outcome, sound, and has changed nothing beside the blocks that it wrote but what every call
 -- may. The file's record is `file` then. The blocks that it wrote are the fork's, and no byte of a block that came is one of before: each of
 -- the fork's bytes is a given one, a zero, or stays.
-pub record IsForkChangeOf (made : Outcome) (fork : Fork) (f : FoundFile) (len offset : ℕ) (part : List ℕ) (total : ℕ) (old : Blocks) (c : ForkChange) : Type 0 where
-  pub within : AreWithin (changes c.change.patch) total
-  pub become : HasBecome (written_blocks c.change.written) made.0 total old (changed old c)
-  pub directory : mdb_in (changed old c) ≡ with_counts c.change.counts (mdb_in old)
-  pub reply : made.1 ≡ success c.change.value
+pub record IsForkChangeOf (made : Outcome) (fork : Fork) (f : FoundFile) (len offset : ℕ) (part : List ℕ) (total : ℕ) (old : Blocks) (c : Change) : Type 0 where
+  pub within : AreWithin (changes c.patch) total
+  pub zeros : AreZerosAmong c.written total
+  pub become : HasBecome (written_blocks c.written) made.0 total old (changed old c)
+  pub directory : mdb_in (changed old c) ≡ with_counts c.counts (mdb_in old)
+  pub reply : made.1 ≡ success c.value
   pub file : FileRecord
   pub value : IsFileRecordValue file
   pub stands : catalog_in (changed old c) ≡ with_replaced cat_cmp f.key (file_record_bytes file) (catalog_in old)
-  pub own : Each (λ n. In n (block_numbers (mdb_in old) (extents_of (changed old c) fork file))) (written_blocks c.change.written)
+  pub own : Each (λ n. In n (block_numbers (mdb_in old) (extents_of (changed old c) fork file))) (written_blocks c.written)
   pub laid : HasLaid fork f.file file len offset part old (changed old c)
 
 -- the file with this key and this record is one of the volume's, and stands at this place
@@ -86,40 +82,42 @@ pub record HasPlaces (fork : Fork) (was : FileRecord) (len from offset given : �
   pub within : offset + given ≤ len
 
 -- nothing is wanting, and the change makes the edits of the law, wherever a call chooses the file
-pub record HasResized (f : FoundFile) (fork : Fork) (len offset : ℕ) (part : List ℕ) (now total : ℕ) (old : Blocks) (c : ForkChange) : Type 0 where
+pub record HasResized (f : FoundFile) (fork : Fork) (len offset : ℕ) (part : List ℕ) (now total : ℕ) (old : Blocks) (c : Change) : Type 0 where
   pub enough : MeetsWant fork f.file len old None
-  pub within : AreWithin (changes c.change.patch) total
-  pub directory : mdb_in (changed old c) ≡ with_counts c.change.counts (mdb_in old)
-  pub nothing : c.change.value ≡ value.Nothing
-  pub sets : (chosen : Result Entry ℤ) (is : IsFoundFile old chosen f) → SetsFork fork is.choice.of len now offset part (written_blocks c.change.written) old (changed old c)
+  pub within : AreWithin (changes c.patch) total
+  pub zeros : AreZerosAmong c.written total
+  pub directory : mdb_in (changed old c) ≡ with_counts c.counts (mdb_in old)
+  pub nothing : c.value ≡ value.Nothing
+  pub sets : (chosen : Result Entry ℤ) (is : IsFoundFile old chosen f) → SetsFork fork is.choice.of len now offset part (written_blocks c.written) old (changed old c)
 
 -- the same of what is made of these blocks
-abbrev pub IsShrunk : FoundFile → Fork → ℕ → ℕ → List ℕ → ℕ → ℕ → Blocks → ForkChange → Type 0
+abbrev pub IsShrunk : FoundFile → Fork → ℕ → ℕ → List ℕ → ℕ → ℕ → Blocks → Change → Type 0
 IsShrunk f fork len offset part now total old c = HasResized f fork len offset part now total old c
 
 -- or what is wanting
-abbrev pub IsResized : FoundFile → Fork → ℕ → ℕ → List ℕ → ℕ → ℕ → Blocks → Result ForkChange Want → Type 0
+abbrev pub IsResized : FoundFile → Fork → ℕ → ℕ → List ℕ → ℕ → ℕ → Blocks → Result Change Want → Type 0
 IsResized f fork len offset part now total old (Ok c) = HasResized f fork len offset part now total old c
 IsResized f fork len offset part now total old (Err want) = IsWanting fork f.file len old want
 
 -- ---- what a call comes to
 
--- the change of a file that was found, with nothing wanting; or the want, of a call that would be done otherwise; or its code
-abbrev pub IsForkEdit : Outcome → Result FoundFile ℤ → Fork → (FoundFile → ℕ) → ℕ → List ℕ → ℕ → Blocks → Result ForkChange ForkRefusal → Type 0
+-- the change of a file that was found, with nothing wanting; or the want, of a call that would be done otherwise; or a code that
+-- refuses it
+abbrev pub IsForkEdit : Outcome → Result FoundFile ℤ → Fork → (FoundFile → ℕ) → ℕ → List ℕ → ℕ → Blocks → Result Change ForkRefusal → Type 0
 IsForkEdit made found fork len offset part total old (Ok c) =
     (f : FoundFile) × (found ≡ Ok f) × MeetsWant fork f.file (len f) old None × IsForkChangeOf made fork f (len f) offset part total old c
 IsForkEdit made found fork len offset part total old (Err (refusal.Want want)) =
     (f : FoundFile) × (found ≡ Ok f) × IsWanting fork f.file (len f) old want × IsTrue (is_accepted made.1)
-IsForkEdit made found fork len offset part total old (Err (refusal.Code code)) = made ≡ refused (volume_in old) code
+IsForkEdit made found fork len offset part total old (Err (refusal.Code code)) = (made ≡ refused (volume_in old) code) × (is_accepted made.1 ≡ false)
 
 -- SetEof, in whichever folder and under whichever name the file was found, or refused
-abbrev pub IsSetEofEdit : Result FoundFile ℤ → Fork → ℕ → ℕ → ℕ → Blocks → Result ForkChange ForkRefusal → Type 0
+abbrev pub IsSetEofEdit : Result FoundFile ℤ → Fork → ℕ → ℕ → ℕ → Blocks → Result Change ForkRefusal → Type 0
 IsSetEofEdit found fork length now total old result =
     (dir : ℕ) (name : List ℕ) → FindsFile old (file_to_write (volume_in old) dir name) found
     → IsForkEdit (set_eof (mdb_in old).allocation_block_size (volume_in old) dir name fork length now) found fork (λ f. length) 0 [] total old result
 
 -- WriteFork
-abbrev pub IsWriteForkEdit : Result FoundFile ℤ → Fork → ℕ → List ℕ → ℕ → ℕ → Blocks → Result ForkChange ForkRefusal → Type 0
+abbrev pub IsWriteForkEdit : Result FoundFile ℤ → Fork → ℕ → List ℕ → ℕ → ℕ → Blocks → Result Change ForkRefusal → Type 0
 IsWriteForkEdit found fork offset bytes now total old result =
     (dir : ℕ) (name : List ℕ) → FindsFile old (file_to_write (volume_in old) dir name) found
     → IsForkEdit (write_fork (mdb_in old).allocation_block_size (volume_in old) dir name fork offset bytes now) found fork (λ f. max (fork_of fork f.file).length (offset + length bytes)) offset bytes total old result

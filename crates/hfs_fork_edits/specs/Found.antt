@@ -10,7 +10,7 @@ use Rattle.hfs_model.specs.Volume.{Entry}
 use Rattle.hfs_check.specs.Parts.{Blocks, catalog_nodes}
 use Rattle.hfs_check.specs.Sound.{AreBlocksSound}
 use Rattle.hfs_check.specs.VolumeOf.{volume_in}
-use Rattle.hfs_fork_calls.specs.ForkCalls.{file_to_write, to_set_eof, to_write_fork}
+use Rattle.hfs_model.specs.ForkCalls.{file_to_write, to_set_eof, to_write_fork}
 use Rattle.hfs_fork_changes.specs.Files.{fork_of}
 use Rattle.hfs_call_patches.specs.Settings.{IsFileChoice}
 use Rattle.hfs_fork_edits.specs.declared.choosing.FoundFile.{FoundFile}

@@ -14,7 +14,7 @@ use Rattle.hfs_model.specs.declared.journal.Want.TheVariants as want
 use Rattle.hfs_model.specs.Volume.{Entry}
 use Rattle.hfs_check.specs.Parts.{Blocks, mdb_in, extents_nodes}
 use Rattle.hfs_call_patches.specs.Patches.{patched}
-use Rattle.hfs_fork_calls.specs.Forks.{blocks}
+use Rattle.hfs_model.specs.Forks.{blocks}
 use Rattle.hfs_fork_extents.specs.Growing.{grown, records_coming, IsWantOfNodes}
 use Rattle.hfs_fork_extents.specs.declared.growing.NodesWanted.{NodesWanted}
 use Rattle.hfs_fork_changes.specs.Files.{fork_of}

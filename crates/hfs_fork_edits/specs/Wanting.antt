@@ -8,7 +8,7 @@ use Rattle.hfs_claims.specs.Choice.{AreChosen}
 use Rattle.hfs_model.specs.declared.call.Fork.{Fork}
 use Rattle.hfs_model.specs.declared.journal.Want.{Want}
 use Rattle.hfs_check.specs.Parts.{Blocks, mdb_in, extents_nodes, overflow_in}
-use Rattle.hfs_fork_calls.specs.Forks.{blocks}
+use Rattle.hfs_model.specs.Forks.{blocks}
 use Rattle.hfs_fork_extents.specs.Growing.{records_coming}
 use Rattle.hfs_fork_wants.specs.Wants.{blocks_wanted, want_of, IsForkWant}
 use Rattle.hfs_fork_wants.specs.declared.room.Supply.{Supply}

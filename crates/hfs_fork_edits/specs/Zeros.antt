@@ -1,6 +1,6 @@
 -- Where the zeros end that a fork wants.
 use Rattle.std.specs.Prelude.{ℕ, max, nat_lt, if◌then◌else◌}
-use Rattle.hfs_fork_calls.specs.Forks.{physical_length}
+use Rattle.hfs_model.specs.Forks.{physical_length}
 
 -- behind its last block, where blocks come; else at its end, or where they would begin
 abbrev pub zeros_end : ℕ → ℕ → ℕ → ℕ → ℕ

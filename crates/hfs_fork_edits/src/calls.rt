@@ -5,8 +5,9 @@ ghost use Rattle.hfs_fork_edits.specs.Calls.{IsForkVolumeIn, AreFoundIn, Gives, 
 use crate::choosing::{FoundFile, to_set_eof, to_write_fork};
 use crate::records::fork_of;
 use crate::resizing::resize;
-use crate::volume::{ForkChange, ForkRefusal, ForkVolume, Resizing};
+use crate::volume::{ForkRefusal, ForkVolume, Resizing};
 use hfs_blocks::Blocks;
+use hfs_call_patches::Change;
 use hfs_model::Fork;
 use std::alloc::{AllocError, Global};
 
@@ -27,7 +28,7 @@ pub fn set_eof<B: Blocks>(
     fork: Fork,
     length: u32,
     now: u32,
-) -> Result<Result<ForkChange, ForkRefusal>, AllocError>
+) -> Result<Result<Change, ForkRefusal>, AllocError>
     requires volume { IsForkVolumeIn B.total B.blocks volume.now.blocks.now
         volume.now.mdb.now volume.now.extents.now volume.now.catalog.now }
     requires found { AreFoundIn (B.blocks volume.now.blocks.now) found }
@@ -63,7 +64,7 @@ pub fn write_fork<B: Blocks>(
     offset: u32,
     bytes: &[u8],
     now: u32,
-) -> Result<Result<ForkChange, ForkRefusal>, AllocError>
+) -> Result<Result<Change, ForkRefusal>, AllocError>
     requires volume { IsForkVolumeIn B.total B.blocks volume.now.blocks.now
         volume.now.mdb.now volume.now.extents.now volume.now.catalog.now }
     requires found { AreFoundIn (B.blocks volume.now.blocks.now) found }

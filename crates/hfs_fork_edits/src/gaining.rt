@@ -8,7 +8,7 @@ ghost use Rattle.hfs_space.specs.ForkLaws.{block_numbers};
 ghost use Rattle.hfs_claims.specs.Choice.{AreFreeOnce};
 ghost use Rattle.hfs_model.specs.declared.journal.Want.TheVariants as want;
 ghost use Rattle.hfs_call_patches.specs.Patches.{patched};
-ghost use Rattle.hfs_fork_calls.specs.Forks.{blocks};
+ghost use Rattle.hfs_model.specs.Forks.{blocks};
 ghost use Rattle.hfs_fork_extents.specs.Growing.{grown};
 ghost use Rattle.hfs_fork_changes.specs.Edits.{blocks_of, extents_of};
 ghost use Rattle.hfs_fork_edits.specs.Calls.{IsForkVolumeIn, IsFoundIn};

@@ -1,7 +1,7 @@
 //! A fork that keeps its blocks, and gets those that it wants more.
 
 ghost use Rattle.std.specs.Prelude.{◌≡◌, ◌+◌, ◌<◌, ◌≤◌, ◌^◌, length};
-ghost use Rattle.hfs_fork_calls.specs.Forks.{physical_length, blocks};
+ghost use Rattle.hfs_model.specs.Forks.{physical_length, blocks};
 ghost use Rattle.hfs_fork_changes.specs.Edits.{extents_of};
 ghost use Rattle.hfs_fork_edits.specs.Calls.{IsForkVolumeIn, IsFoundIn, Gives, IsResized, HasPlaces};
 ghost use Rattle.hfs_fork_edits.specs.Zeros as zeros;
@@ -10,8 +10,9 @@ ghost use Rattle.hfs_space.specs.Extents.{block_total};
 use crate::gaining::gain;
 use crate::laying::{Laid, lay_fork};
 use crate::room::find_growing;
-use crate::volume::{ForkChange, ForkVolume, Resizing, fork_change};
+use crate::volume::{ForkVolume, Resizing, fork_change};
 use hfs_blocks::Blocks;
+use hfs_call_patches::Change;
 use hfs_fields::Extent;
 use hfs_fork_calls::BlockSize;
 use hfs_model::Want;
@@ -38,7 +39,7 @@ pub(crate) fn grow<B: Blocks>(
     block_size: BlockSize,
     was: Vec<Extent>,
     wanted: u32,
-) -> Result<Result<ForkChange, Want>, AllocError>
+) -> Result<Result<Change, Want>, AllocError>
     requires volume { IsForkVolumeIn B.total B.blocks volume.now.blocks.now
         volume.now.mdb.now volume.now.extents.now volume.now.catalog.now }
     requires found { IsFoundIn (B.blocks volume.now.blocks.now) resizing.now.found.now }

@@ -11,6 +11,7 @@ ghost use Rattle.hfs_space.specs.Owners.{owners};
 ghost use Rattle.hfs_fork_changes.specs.Laid.{AreWritten};
 ghost use Rattle.hfs_fork_edits.specs.Laying.{LaysOver, LaysBoth};
 ghost use Rattle.hfs_fork_bytes.specs.Clearing.{patched};
+ghost use Rattle.hfs_fork_bytes.specs.Zeros.{AreAmong};
 
 use crate::written::written_runs;
 use hfs_blocks::{Blocks, Patch, Run};
@@ -48,6 +49,7 @@ fn lay<B: Blocks>(
     ensures lays { IfOk result (LaysOver (B.blocks blocks.now) mdb.now extents.now
         from (end - from) offset bytes.now) }
     ensures within { IfOk result (λ laid. AreWithin (changes laid.patch) (B.total blocks.now)) }
+    ensures among { IfOk result (λ laid. AreAmong laid.zeros (B.total blocks.now)) }
 {
     let Cleared { zeros, mut patch } = clear_fork(alloc, blocks, mdb, extents, from, end - from)?;
     write_fork(
@@ -85,6 +87,7 @@ pub(crate) fn lay_fork<B: Blocks>(
     ensures written { IfOk result (λ laid. AreWritten (block_numbers mdb.now extents.now)
         from (end - from) offset (length bytes.now) (flat_map run_of laid.written.items)) }
     ensures within { IfOk result (λ laid. AreWithin (changes laid.patch) (B.total blocks.now)) }
+    ensures among { IfOk result (λ laid. AreAmong laid.zeros (B.total blocks.now)) }
 {
     let Cleared { zeros, patch } = lay(alloc, blocks, mdb, extents, from, end, offset, bytes)?;
     let count = bytes.len() as u32;

@@ -22,4 +22,4 @@ mod written;
 
 pub use calls::{set_eof, write_fork};
 pub use choosing::{FoundFile, to_set_eof, to_write_fork};
-pub use volume::{ForkChange, ForkRefusal, ForkVolume};
+pub use volume::{ForkRefusal, ForkVolume};

@@ -4,7 +4,7 @@ ghost use Rattle.std.specs.Prelude.{◌≡◌, ◌+◌, ◌<◌, ◌≤◌, ◌^
 ghost use Rattle.hfs_blocks.specs.Layers.{changes, AreWithin};
 ghost use Rattle.hfs_space.specs.ForkLaws.{block_numbers};
 ghost use Rattle.hfs_call_patches.specs.Patches.{patched};
-ghost use Rattle.hfs_fork_calls.specs.Forks.{blocks};
+ghost use Rattle.hfs_model.specs.Forks.{blocks};
 ghost use Rattle.hfs_fork_extents.specs.Cuts.{cut, surplus};
 ghost use Rattle.hfs_fork_changes.specs.Edits.{blocks_of, extents_of};
 ghost use Rattle.hfs_fork_edits.specs.Calls.{IsForkVolumeIn, IsFoundIn};

@@ -1,7 +1,7 @@
 //! A file's record and the volume's counts, where a fork of the file changes.
 
 ghost use Rattle.std.specs.Prelude.{◌≡◌, ◌<◌, ◌≤◌, ◌^◌};
-ghost use Rattle.hfs_fork_calls.specs.Forks.{physical_length};
+ghost use Rattle.hfs_model.specs.Forks.{physical_length};
 ghost use Rattle.hfs_fork_changes.specs.Files as files;
 ghost use Rattle.hfs_fork_edits.specs.Counts.{counts_with};
 

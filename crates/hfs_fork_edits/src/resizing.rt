@@ -8,8 +8,9 @@ use crate::growing::grow;
 use crate::records::volume_blocks;
 use crate::room::block_count;
 use crate::shrinking::shrink;
-use crate::volume::{ForkChange, ForkVolume, Resizing};
+use crate::volume::{ForkVolume, Resizing};
 use hfs_blocks::Blocks;
+use hfs_call_patches::Change;
 use hfs_fork_calls::BlockSize;
 use hfs_model::Want;
 use std::alloc::{AllocError, Global};
@@ -19,7 +20,7 @@ pub(crate) fn resize<B: Blocks>(
     alloc: Global,
     volume: &ForkVolume<'_, B>,
     resizing: &Resizing<'_>,
-) -> Result<Result<ForkChange, Want>, AllocError>
+) -> Result<Result<Change, Want>, AllocError>
     requires volume { IsForkVolumeIn B.total B.blocks volume.now.blocks.now
         volume.now.mdb.now volume.now.extents.now volume.now.catalog.now }
     requires found { IsFoundIn (B.blocks volume.now.blocks.now) resizing.now.found.now }

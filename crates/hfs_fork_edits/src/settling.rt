@@ -7,7 +7,7 @@ ghost use Rattle.hfs_blocks.specs.Layers.{changes, AreWithin};
 ghost use Rattle.hfs_btree.specs.Sound.{IsDistinct};
 ghost use Rattle.hfs_btree_edits.specs.Entries.{IsPlaceOf};
 ghost use Rattle.hfs_catalog.specs.Tree.{IsCatalogTree, cat_keys};
-ghost use Rattle.hfs_fork_calls.specs.Forks.{physical_length};
+ghost use Rattle.hfs_model.specs.Forks.{physical_length};
 ghost use Rattle.hfs_fork_changes.specs.Files.{file_with};
 ghost use Rattle.hfs_call_patches.specs.Patches.{patched_nodes};
 ghost use Rattle.hfs_fork_edits.specs.Counts.{counts_with};

@@ -1,15 +1,16 @@
 //! A fork that keeps its first blocks, and loses the others.
 
 ghost use Rattle.std.specs.Prelude.{◌≡◌, ◌+◌, ◌<◌, ◌≤◌, ◌^◌, length};
-ghost use Rattle.hfs_fork_calls.specs.Forks.{blocks};
+ghost use Rattle.hfs_model.specs.Forks.{blocks};
 ghost use Rattle.hfs_fork_changes.specs.Edits.{extents_of};
 ghost use Rattle.hfs_fork_edits.specs.Calls.{IsForkVolumeIn, IsFoundIn, Gives, IsShrunk, HasPlaces};
 ghost use Rattle.hfs_space.specs.Extents.{block_total};
 
 use crate::laying::{Laid, lay_fork};
 use crate::losing::lose;
-use crate::volume::{ForkChange, ForkVolume, Resizing, fork_change};
+use crate::volume::{ForkVolume, Resizing, fork_change};
 use hfs_blocks::Blocks;
+use hfs_call_patches::Change;
 use hfs_fields::Extent;
 use hfs_fork_calls::BlockSize;
 use hfs_fork_extents::{cut_all, surplus};
@@ -24,7 +25,7 @@ pub(crate) fn shrink<B: Blocks>(
     block_size: BlockSize,
     was: Vec<Extent>,
     count: u16,
-) -> Result<ForkChange, AllocError>
+) -> Result<Change, AllocError>
     requires volume { IsForkVolumeIn B.total B.blocks volume.now.blocks.now
         volume.now.mdb.now volume.now.extents.now volume.now.catalog.now }
     requires found { IsFoundIn (B.blocks volume.now.blocks.now) resizing.now.found.now }

@@ -5,7 +5,7 @@ ghost use Rattle.hfs_model.specs.declared.reply.Value.TheVariants as value;
 
 use crate::choosing::FoundFile;
 use hfs_blocks::{Blocks, Patch, Run};
-use hfs_call_patches::Change;
+use hfs_call_patches::{Change, ForkBlocks};
 use hfs_fields::Mdb;
 use hfs_fork_bytes::ZeroRuns;
 use hfs_model::{Fork, Value, Want};
@@ -34,13 +34,6 @@ pub(crate) struct Resizing<'a> {
     pub moment: u32,
 }
 
-/// What SetEof or WriteFork makes of a volume: runs of zeros over its blocks, and a change whose patch lies over these.
-#[derive(Drop)]
-pub struct ForkChange {
-    pub zeros: ZeroRuns,
-    pub change: Change,
-}
-
 /// Why SetEof or WriteFork changes nothing.
 #[derive(Clone, Copy)]
 pub enum ForkRefusal {
@@ -57,21 +50,17 @@ pub(crate) struct Settled {
     pub counts: Mdb,
 }
 
-/// The change, with the runs of the blocks that were written.
-pub(crate) fn fork_change(zeros: ZeroRuns, written: Vec<Run>, settled: Settled) -> ForkChange
-    ensures zeros { result.zeros ≡ zeros }
-    ensures patch { result.change.patch ≡ settled.patch }
-    ensures counts { result.change.counts ≡ settled.counts }
-    ensures written { result.change.written ≡ Some written }
-    ensures value { result.change.value ≡ value.Nothing }
+/// The change, with the runs of the blocks that were written, and those of zeros.
+pub(crate) fn fork_change(zeros: ZeroRuns, runs: Vec<Run>, settled: Settled) -> Change
+    ensures patch { result.patch ≡ settled.patch }
+    ensures counts { result.counts ≡ settled.counts }
+    ensures written { result.written ≡ Some (record { runs = runs; zeros = zeros }) }
+    ensures value { result.value ≡ value.Nothing }
 {
-    ForkChange {
-        zeros,
-        change: Change {
-            patch: settled.patch,
-            counts: settled.counts,
-            written: Some(written),
-            value: Value::Nothing,
-        },
+    Change {
+        patch: settled.patch,
+        counts: settled.counts,
+        written: Some(ForkBlocks { runs, zeros }),
+        value: Value::Nothing,
     }
 }

@@ -1,7 +1,7 @@
 -- The laws of this crate.
 use Rattle.std.proofs.Common.{◌≡◌, ℕ, ◌<◌, ◌≤◌, Bool, true, false, cond, ltb, refl, subst, arith, Some, None}
 use Rattle.std.specs.Prelude.{IfSome, Option}
-use Rattle.hfs_fork_calls.specs.Forks.{blocks}
+use Rattle.hfs_model.specs.Forks.{blocks}
 use Rattle.std.proofs.lemmas.Bool.{ltb-true, ltb-false}
 use Rattle.std.specs.Int.{div_ceil}
 use Rattle.hfs_extents_edits.specs.Need.{extents_need}

@@ -7,8 +7,8 @@ use Rattle.hfs_model.specs.declared.journal.Want.TheVariants as want
 use Rattle.hfs_model.specs.Volume.{Volume}
 use Rattle.hfs_model.specs.Replies.{is_accepted}
 use Rattle.hfs_extents_edits.specs.Need.{extents_need}
-use Rattle.hfs_fork_calls.specs.Forks.{blocks}
-use Rattle.hfs_fork_calls.specs.ForkCalls.{set_eof, write_fork}
+use Rattle.hfs_model.specs.Forks.{blocks}
+use Rattle.hfs_model.specs.ForkCalls.{set_eof, write_fork}
 use Rattle.hfs_fork_calls.specs.Laws.{fork_named}
 use Rattle.hfs_fork_wants.specs.declared.room.Supply.{Supply}
 use Rattle.hfs_fork_wants.specs.declared.room.Growth.{Growth}

@@ -1,5 +1,7 @@
 pub mod Laid
 pub mod FirstBits
+pub mod Rounding
+pub mod MapNodes
 pub mod Blocks
 pub mod NodesRead
 pub mod BitsRead
@@ -12,4 +14,5 @@ pub mod NewCatalog
 pub mod NewSpace
 pub mod PlanFacts
 pub mod NewImage
+pub mod Ranges
 mod BitRowLemmas

@@ -1,9 +1,9 @@
 -- The blocks of a new volume: each has 512 bytes, and is found at its place in the image.
 use Rattle.std.proofs.Common.{◌≡◌, ℕ, zero, suc, ◌+◌, ◌-◌, ◌*◌, ◌/◌, ◌^◌, ◌<◌, ◌≤◌, List, [], ◌++◌, length, take, drop, refl, sym, ap, ◌∙◌, arith}
-use Rattle.std.specs.Prelude.{◌==◌}
+use Rattle.std.specs.Prelude.{◌==◌, nat_lt}
 use Rattle.std.specs.List.{flat_map, range_with_len}
 use Rattle.std.proofs.lemmas.List.{length-append, length-replicate, drop-drop, drop_at, take_at}
-use Rattle.std.proofs.lemmas.Bool.{cond_both}
+use Rattle.std.proofs.lemmas.Bool.{cond_both, ltb-false}
 use Rattle.hfs_fields.specs.declared.key.CatKey.{CatKey}
 use Rattle.hfs_fields.specs.KeyForms.{cat_leaf_bytes, length-cat_leaf_bytes}
 use Rattle.hfs_fields.specs.Records.{new_dir, new_thread}
@@ -16,9 +16,10 @@ use Rattle.hfs_format.specs.declared.layout.Layout.{Layout}
 use Rattle.hfs_btree.specs.declared.header.Header.{Header}
 use Rattle.hfs_format.specs.Plan.{used_blocks}
 use Rattle.hfs_format.proofs.BitRowLemmas.{length-bit_row}
-use Rattle.hfs_format.specs.NewTrees.{empty_tree, one_leaf_tree, header_record, header_node, root_directory, root_record, root_thread, root_leaf}
-use Rattle.hfs_format.specs.Image.{is_mdb_block, is_bitmap_block, extents_start, catalog_start, new_block, volume_image}
-use Rattle.hfs_format.proofs.NewVolume.{IsNewVolume, length-new_mdb_block}
+use Rattle.hfs_format.specs.NewTrees.{map_node_count, header_record, header_node, map_node, IsNewTree, tree_block, root_directory, root_record, root_thread, root_leaf}
+use Rattle.hfs_format.specs.Image.{is_mdb_block, extents_start, catalog_start, extents_tree, catalog_tree, new_block, volume_image}
+use Rattle.hfs_format.proofs.MapNodes.{few-map_nodes, is_new_tree-empty, is_new_tree-one_leaf, next_map_node-most}
+use Rattle.hfs_format.proofs.NewVolume.{IsNewVolume, files-within, length-new_mdb_block}
 use Rattle.hfs_format.proofs.NodesRead.{IsNodeValue, length-node_bytes}
 
 -- ---- the nodes fit
@@ -30,9 +31,17 @@ length-header_record tree = refl
 pub header_node-value : (tree : Header) → IsNodeValue (header_node tree)
 unfolding header_node size_of
 header_node-value tree = record {
-  forward = omega arith;
+  forward = omega (arith, next_map_node-most tree 0);
   backward = omega arith;
   fits = omega (arith, length-header_record tree, length-bit_row (tree.nodes - tree.free_nodes) 0 256, length-replicate {A = ℕ} 128 0);
+}
+
+pub map_node-value : (tree : Header) (j : ℕ) → j < 65536 → IsNodeValue (map_node tree j)
+unfolding map_node size_of
+map_node-value tree j few = record {
+  forward = omega (arith, next_map_node-most tree j);
+  backward = omega arith;
+  fits = omega (arith, length-bit_row (tree.nodes - tree.free_nodes) (256 + 492 * (j - 1)) 492);
 }
 
 -- the root's record and its thread as they are written
@@ -84,14 +93,32 @@ root_leaf-value volume ok = record {
 abbrev Has512 : List ℕ → Type 0
 Has512 bytes = length bytes ≡ 512
 
+length-tree_block : (tree : Header) → IsNewTree tree → (j : ℕ) → Has512 (tree_block tree j)
+unfolding tree_block
+length-tree_block tree ok j =
+    let few = few-map_nodes tree.nodes ok.few in
+    cond_both (nat_lt (map_node_count tree.nodes) j) _ _ Has512 (λ e. length-replicate {A = ℕ} 512 0) (λ above.
+    let le = ltb-false (map_node_count tree.nodes) j above in
+    cond_both (nat_lt 0 j) _ _ Has512 (λ e. length-node_bytes _ (map_node-value tree j (omega arith))) (λ e.
+    length-node_bytes _ (header_node-value tree)))
+
+pub extents_tree-new : (volume : Layout) → IsNewVolume volume → IsNewTree (extents_tree volume)
+extents_tree-new volume ok =
+    let within = files-within volume ok in is_new_tree-empty 7 volume.extents.nodes ok.some_extents (omega (arith, ok.blocks))
+
+pub catalog_tree-new : (volume : Layout) → IsNewVolume volume → IsNewTree (catalog_tree volume)
+catalog_tree-new volume ok =
+    let within = files-within volume ok in is_new_tree-one_leaf 37 volume.catalog.nodes 2 ok.some_catalog (omega (arith, ok.blocks))
+
 pub length-new_block : (volume : Layout) → IsNewVolume volume → (k : ℕ) → length (new_block volume k) ≡ 512
 unfolding new_block
 length-new_block volume ok k =
     cond_both (is_mdb_block volume k) _ _ Has512 (λ e. length-new_mdb_block volume ok) (λ e.
-    cond_both (is_bitmap_block volume k) _ _ Has512 (λ e. length-bit_row (used_blocks volume) (512 * (k - 3)) 512) (λ e.
-    cond_both (k == extents_start volume) _ _ Has512 (λ e. length-node_bytes _ (header_node-value (empty_tree 7 volume.extents.nodes))) (λ e.
-    cond_both (k == catalog_start volume) _ _ Has512 (λ e. length-node_bytes _ (header_node-value (one_leaf_tree 37 volume.catalog.nodes 2))) (λ e.
-    cond_both (k == catalog_start volume + 1) _ _ Has512 (λ e. length-node_bytes _ (root_leaf-value volume ok)) (λ e. length-replicate {A = ℕ} 512 0)))))
+    cond_both (nat_lt k 3) _ _ Has512 (λ e. length-replicate {A = ℕ} 512 0) (λ e.
+    cond_both (nat_lt k (extents_start volume)) _ _ Has512 (λ e. length-bit_row (used_blocks volume) (512 * (k - 3)) 512) (λ e.
+    cond_both (nat_lt k (catalog_start volume)) _ _ Has512 (λ e. length-tree_block (extents_tree volume) (extents_tree-new volume ok) (k - extents_start volume)) (λ e.
+    cond_both (k - catalog_start volume == (catalog_tree volume).root) _ _ Has512 (λ e. length-node_bytes _ (root_leaf-value volume ok)) (λ e.
+    length-tree_block (catalog_tree volume) (catalog_tree-new volume ok) (k - catalog_start volume))))))
 
 -- ---- blocks one behind the other
 
@@ -113,7 +140,7 @@ blocks-stand f whole a (suc n) (suc k) lt =
           ∙ ap (λ j. f j ++ later.0) same,
     )
 
-length-blocks : (f : ℕ → List ℕ) → ((k : ℕ) → length (f k) ≡ 512) → (a n : ℕ) → length (flat_map f (range_with_len a n)) ≡ 512 * n
+pub length-blocks : (f : ℕ → List ℕ) → ((k : ℕ) → length (f k) ≡ 512) → (a n : ℕ) → length (flat_map f (range_with_len a n)) ≡ 512 * n
 length-blocks f whole a zero = refl
 length-blocks f whole a (suc n) =
     omega (arith, length-append (f a) (flat_map f (range_with_len (a + 1) n)), whole a, length-blocks f whole (a + 1) n)

@@ -1,11 +1,11 @@
 -- The two files of a new volume: their nodes, and what the trees in them hold.
 use Rattle.std.proofs.Common.{◌≡◌, ℕ, ◌+◌, ◌-◌, ◌*◌, ◌/◌, ◌<◌, ◌≤◌, true, false, List, [], ◌∷◌, ◌++◌, Ok, length, map, get_or, refl, sym, ap, subst, ◌∙◌, arith}
 use Rattle.std.specs.List.{range_with_len}
-use Rattle.std.proofs.Math.Nat.{mul-le-mul_right, add-mul}
+use Rattle.std.specs.Prelude.{nat_lt}
 use Rattle.std.proofs.lemmas.List.{append-nil}
 use Rattle.std.proofs.lemmas.List.{take_all}
 use Rattle.std.proofs.lemmas.List.FromFn.{get_or-map-range_with_len, length-map-range_with_len}
-use Rattle.std.proofs.lemmas.Bool.{or_from, and_right, and_from, ne_eqb, eq-eqb, le-ltb, lt-ltb, le-leb, cond-true, cond-false}
+use Rattle.std.proofs.lemmas.Bool.{or_from, ne_eqb, eq-eqb, le-ltb, lt-ltb, cond-true, cond-false}
 use Rattle.hfs_fields.specs.KeyForms.{IsCatKeyValue, cat_leaf_bytes}
 use Rattle.hfs_fields.proofs.KeyFormLemmas.{is_cat_leaf-leaf, cat_key_of-leaf, cat_body_of-leaf}
 use Rattle.hfs_fields.specs.Keys.{is_cat_leaf, is_cat_body_len}
@@ -29,11 +29,13 @@ use Rattle.hfs_format.specs.declared.layout.Layout.{Layout}
 use Rattle.hfs_format.specs.Plan.{used_blocks}
 use Rattle.hfs_format.specs.BitRow.{bit_row}
 use Rattle.hfs_format.specs.NewMdb.{one_run, new_mdb, new_mdb_block}
-use Rattle.hfs_format.specs.NewTrees.{empty_tree, one_leaf_tree, header_node, root_directory, root_record, root_thread, root_leaf, node_bytes}
-use Rattle.hfs_format.specs.Image.{is_mdb_block, is_bitmap_block, catalog_start, new_block, volume_image}
-use Rattle.hfs_format.proofs.NewVolume.{IsNewVolume}
+use Rattle.hfs_btree.specs.declared.header.Header.{Header}
+use Rattle.hfs_format.specs.NewTrees.{map_node_count, empty_tree, one_leaf_tree, header_node, map_node, tree_block, root_directory, root_record, root_thread, root_leaf, node_bytes}
+use Rattle.hfs_format.specs.Image.{is_mdb_block, catalog_start, extents_tree, catalog_tree, catalog_block, new_block, volume_image}
+use Rattle.hfs_format.proofs.MapNodes.{room-map_nodes, room-no_leaf, few-map_nodes}
+use Rattle.hfs_format.proofs.NewVolume.{IsNewVolume, files-within}
 use Rattle.hfs_format.proofs.NodesRead.{IsNodeValue, node_of-node_bytes}
-use Rattle.hfs_format.proofs.NewBlocks.{header_node-value, root_directory-value, root_thread-value, root_leaf-value, block_at-volume_image}
+use Rattle.hfs_format.proofs.NewBlocks.{header_node-value, map_node-value, root_directory-value, root_thread-value, root_leaf-value, block_at-volume_image}
 use Rattle.hfs_format.proofs.SmallTrees.{HoldsNoLeaf, no_leaf-content, no_leaf-shaped, no_leaf-ordered, HoldsOneLeaf, one_leaf-content, one_leaf-shaped, one_leaf-ordered}
 
 -- the blocks of the new volume's image, by their numbers
@@ -49,18 +51,8 @@ new_catalog_nodes volume = file_blocks (image_block volume) (new_mdb volume) (ne
 
 -- ---- where the files lie
 
--- both files lie before the alternate master directory block
-pub files-within : (volume : Layout) → IsNewVolume volume → volume.start + volume.extents.nodes + volume.catalog.nodes + 2 ≤ volume.blocks
-files-within volume ok =
-    let room = mul-le-mul_right volume.factor ok.room in
-    let split = add-mul volume.extents.blocks volume.catalog.blocks volume.factor in
-    omega (arith, room, split, ok.extents, ok.catalog, ok.area)
-
 not-mdb : (volume : Layout) (k : ℕ) → 3 ≤ k → k + 3 ≤ volume.blocks → is_mdb_block volume k ≡ false
 not-mdb volume k low high = or_from _ _ (ne_eqb k 2 (λ e. omega arith)) (ne_eqb (k + 2) volume.blocks (λ e. omega arith))
-
-not-bitmap : (volume : Layout) (k : ℕ) → volume.start ≤ k → is_bitmap_block volume k ≡ false
-not-bitmap volume k low = and_right _ _ (le-ltb k volume.start low)
 
 pub new_block-mdb : (volume : Layout) → new_block volume 2 ≡ new_mdb_block volume
 unfolding new_block
@@ -71,37 +63,51 @@ unfolding new_block
 new_block-bitmap volume ok k low high =
     let within = files-within volume ok in
     cond-false (is_mdb_block volume k) _ _ (not-mdb volume k low (omega (arith, ok.some_extents)))
-    ∙ cond-true (is_bitmap_block volume k) _ _ (and_from _ _ (le-leb 3 k low) (lt-ltb k volume.start high))
+    ∙ cond-false (nat_lt k 3) _ _ (le-ltb k 3 low)
+    ∙ cond-true (nat_lt k volume.start) _ _ (lt-ltb k volume.start high)
 
-new_block-extents : (volume : Layout) → IsNewVolume volume → (k : ℕ) → k ≡ volume.start → new_block volume k ≡ node_bytes (header_node (empty_tree 7 volume.extents.nodes))
+-- node j of the extents file, and of the catalog file
+new_block-extents : (volume : Layout) → IsNewVolume volume → (k j : ℕ) → k ≡ volume.start + j → j < volume.extents.nodes
+    → new_block volume k ≡ tree_block (extents_tree volume) j
 unfolding new_block
-new_block-extents volume ok k e =
+new_block-extents volume ok k j e lt =
     let within = files-within volume ok in
-    cond-false (is_mdb_block volume k) _ _ (not-mdb volume k (omega (arith, ok.behind_bitmap)) (omega (arith, ok.some_extents)))
-    ∙ cond-false (is_bitmap_block volume k) _ _ (not-bitmap volume k (omega arith))
-    ∙ cond-true _ _ _ (eq-eqb k volume.start e)
-
-new_block-catalog : (volume : Layout) → IsNewVolume volume → (k : ℕ) → k ≡ volume.start + volume.extents.nodes
-    → new_block volume k ≡ node_bytes (header_node (one_leaf_tree 37 volume.catalog.nodes 2))
-unfolding new_block
-new_block-catalog volume ok k e =
-    let within = files-within volume ok in
-    let some = ok.some_extents in
+    let place : k - volume.start ≡ j = omega arith in
     cond-false (is_mdb_block volume k) _ _ (not-mdb volume k (omega (arith, ok.behind_bitmap)) (omega (arith, ok.some_catalog)))
-    ∙ cond-false (is_bitmap_block volume k) _ _ (not-bitmap volume k (omega arith))
-    ∙ cond-false _ _ _ (ne_eqb k volume.start (λ same. omega arith))
-    ∙ cond-true _ _ _ (eq-eqb k (catalog_start volume) e)
+    ∙ cond-false (nat_lt k 3) _ _ (le-ltb k 3 (omega (arith, ok.behind_bitmap)))
+    ∙ cond-false (nat_lt k volume.start) _ _ (le-ltb k volume.start (omega arith))
+    ∙ cond-true (nat_lt k (catalog_start volume)) _ _ (lt-ltb k (catalog_start volume) (omega arith))
+    ∙ ap (tree_block (extents_tree volume)) place
 
-new_block-leaf : (volume : Layout) → IsNewVolume volume → (k : ℕ) → k ≡ volume.start + volume.extents.nodes + 1 → new_block volume k ≡ node_bytes (root_leaf volume)
+new_block-catalog : (volume : Layout) → IsNewVolume volume → (k j : ℕ) → k ≡ volume.start + volume.extents.nodes + j → j < volume.catalog.nodes
+    → new_block volume k ≡ catalog_block volume j
 unfolding new_block
-new_block-leaf volume ok k e =
+new_block-catalog volume ok k j e lt =
     let within = files-within volume ok in
-    let some = ok.some_extents in
-    cond-false (is_mdb_block volume k) _ _ (not-mdb volume k (omega (arith, ok.behind_bitmap)) (omega (arith, ok.some_catalog)))
-    ∙ cond-false (is_bitmap_block volume k) _ _ (not-bitmap volume k (omega arith))
-    ∙ cond-false _ _ _ (ne_eqb k volume.start (λ same. omega arith))
-    ∙ cond-false _ _ _ (ne_eqb k (catalog_start volume) (λ same. omega arith))
-    ∙ cond-true _ _ _ (eq-eqb k (catalog_start volume + 1) e)
+    let place : k - catalog_start volume ≡ j = omega arith in
+    cond-false (is_mdb_block volume k) _ _ (not-mdb volume k (omega (arith, ok.behind_bitmap)) (omega arith))
+    ∙ cond-false (nat_lt k 3) _ _ (le-ltb k 3 (omega (arith, ok.behind_bitmap)))
+    ∙ cond-false (nat_lt k volume.start) _ _ (le-ltb k volume.start (omega arith))
+    ∙ cond-false (nat_lt k (catalog_start volume)) _ _ (le-ltb k (catalog_start volume) (omega arith))
+    ∙ ap (catalog_block volume) place
+
+-- ---- the nodes of a new tree
+
+tree_block-header : (tree : Header) → tree_block tree 0 ≡ node_bytes (header_node tree)
+unfolding tree_block
+tree_block-header tree = cond-false _ _ _ (le-ltb (map_node_count tree.nodes) 0 (omega arith))
+
+tree_block-map : (tree : Header) (j : ℕ) → 1 ≤ j → j ≤ map_node_count tree.nodes → tree_block tree j ≡ node_bytes (map_node tree j)
+unfolding tree_block
+tree_block-map tree j some few = cond-false _ _ _ (le-ltb (map_node_count tree.nodes) j few) ∙ cond-true _ _ _ (lt-ltb 0 j some)
+
+catalog_block-leaf : (volume : Layout) (j : ℕ) → j ≡ 1 + map_node_count volume.catalog.nodes → catalog_block volume j ≡ node_bytes (root_leaf volume)
+unfolding one_leaf_tree
+catalog_block-leaf volume j e = cond-true _ _ _ (eq-eqb j (catalog_tree volume).root e)
+
+catalog_block-before : (volume : Layout) (j : ℕ) → j ≤ map_node_count volume.catalog.nodes → catalog_block volume j ≡ tree_block (catalog_tree volume) j
+unfolding one_leaf_tree
+catalog_block-before volume j few = cond-false _ _ _ (ne_eqb j (catalog_tree volume).root (λ e. omega arith))
 
 -- ---- a file of one run
 
@@ -140,16 +146,25 @@ node_in-one_run volume ok first count k node lt within value is =
 -- ---- the extents file
 
 pub extents-holds : (volume : Layout) → IsNewVolume volume → HoldsNoLeaf ext_keys volume.extents.nodes (new_extents_nodes volume)
-unfolding new_mdb
+unfolding new_mdb empty_tree
 extents-holds volume ok =
     let within = files-within volume ok in
-    let at : volume.start + 0 * volume.factor + 0 ≡ volume.start = omega arith in
+    let all = ok.extents in
+    let tree : Header = extents_tree volume in
+    let is : (j : ℕ) → j < volume.extents.nodes → new_block volume (volume.start + 0 * volume.factor + j) ≡ tree_block tree j =
+    λ j lt. new_block-extents volume ok _ j (omega arith) lt in
+    let room = room-no_leaf volume.extents.nodes ok.some_extents in
+    let few = few-map_nodes volume.extents.nodes (omega (arith, ok.blocks)) in
     record {
       some = ok.some_extents;
-      few = ok.few_extents;
+      few = omega (arith, ok.blocks);
       key_len = omega arith;
-      header = node_in-one_run volume ok 0 volume.extents.blocks 0 (header_node (empty_tree 7 volume.extents.nodes))
-          (omega (arith, ok.some_extents, ok.extents)) (omega (arith, ok.some_catalog)) (header_node-value (empty_tree 7 volume.extents.nodes)) (new_block-extents volume ok _ at);
+      map = record {
+        header = node_in-one_run volume ok 0 volume.extents.blocks 0 (header_node tree) (omega (arith, ok.some_extents)) (omega (arith, ok.some_catalog))
+            (header_node-value tree) (is 0 ok.some_extents ∙ tree_block-header tree);
+        maps = λ j some last. node_in-one_run volume ok 0 volume.extents.blocks j (map_node tree j) (omega arith) (omega arith)
+            (map_node-value tree j (omega arith)) (is j (omega arith) ∙ tree_block-map tree j some last);
+      };
     }
 
 -- ---- the catalog file
@@ -205,23 +220,33 @@ root_thread-leaf volume ok =
     ∙ ap is_cat_body_len (length-thread_record_bytes (new_thread Folder 1 volume.name) (root_thread-value volume.name (omega (arith, ok.name))))
 
 pub catalog-holds : (volume : Layout) → IsNewVolume volume → HoldsOneLeaf cat_keys volume.catalog.nodes (root_records volume) (new_catalog_nodes volume)
-unfolding new_mdb root_leaf
+unfolding new_mdb root_leaf one_leaf_tree
 catalog-holds volume ok =
     let within = files-within volume ok in
-    let at : volume.start + volume.extents.blocks * volume.factor + 0 ≡ volume.start + volume.extents.nodes = omega (arith, ok.extents) in
-    let behind : volume.start + volume.extents.blocks * volume.factor + 1 ≡ volume.start + volume.extents.nodes + 1 = omega (arith, ok.extents) in
+    let all = ok.catalog in
+    let before = ok.extents in
+    let tree : Header = catalog_tree volume in
+    let leaf : ℕ = 1 + map_node_count volume.catalog.nodes in
+    let is : (j : ℕ) → j < volume.catalog.nodes → new_block volume (volume.start + volume.extents.blocks * volume.factor + j) ≡ catalog_block volume j =
+    λ j lt. new_block-catalog volume ok _ j (omega arith) lt in
+    let room = room-map_nodes volume.catalog.nodes ok.some_catalog in
+    let few = few-map_nodes volume.catalog.nodes (omega (arith, ok.blocks)) in
     record {
       two = ok.some_catalog;
-      few = ok.few_catalog;
+      few = omega (arith, ok.blocks);
       key_len = omega arith;
       some = omega arith;
       short = omega arith;
       whole = (root_record-leaf volume ok, (root_thread-leaf volume ok, tt));
       rises = subst (Rises cat_keys.compare) (sym (root_pairs volume ok)) (new_catalog-rises volume);
-      header = node_in-one_run volume ok volume.extents.blocks volume.catalog.blocks 0 (header_node (one_leaf_tree 37 volume.catalog.nodes 2))
-          (omega (arith, ok.some_catalog, ok.catalog)) (omega (arith, ok.some_catalog)) (header_node-value (one_leaf_tree 37 volume.catalog.nodes 2)) (new_block-catalog volume ok _ at);
-      leaf = node_in-one_run volume ok volume.extents.blocks volume.catalog.blocks 1 (root_leaf volume)
-          (omega (arith, ok.some_catalog, ok.catalog)) (omega (arith, ok.some_catalog)) (root_leaf-value volume ok) (new_block-leaf volume ok _ behind);
+      map = record {
+        header = node_in-one_run volume ok volume.extents.blocks volume.catalog.blocks 0 (header_node tree) (omega arith) (omega arith)
+            (header_node-value tree) (is 0 (omega arith) ∙ catalog_block-before volume 0 (omega arith) ∙ tree_block-header tree);
+        maps = λ j some last. node_in-one_run volume ok volume.extents.blocks volume.catalog.blocks j (map_node tree j) (omega arith) (omega arith)
+            (map_node-value tree j (omega arith)) (is j (omega arith) ∙ catalog_block-before volume j last ∙ tree_block-map tree j some last);
+      };
+      leaf = node_in-one_run volume ok volume.extents.blocks volume.catalog.blocks leaf (root_leaf volume) (omega arith) (omega arith)
+          (root_leaf-value volume ok) (is leaf (omega arith) ∙ catalog_block-leaf volume leaf refl);
     }
 
 -- ---- what the files hold

@@ -26,10 +26,10 @@ use Rattle.hfs_check.specs.Parts.{mdb_in, extents_nodes, overflow_in, catalog_ex
 use Rattle.hfs_check.specs.Sound.{IsMdbSound, IsForkKey, EachKey, IsExtentsSound, IsCatalogFileSound, AreCatalogNamesSound, AreCatalogPlacesSound, AreBlocksSound, IsSound}
 use Rattle.hfs_check.specs.VolumeOf.{contents_in, volume_in, volume_of}
 use Rattle.hfs_format.specs.FormatLaws.{root_item, volume_of_root, NewImagesAreSound, NewImagesHoldNewVolumes}
-use Rattle.hfs_format.proofs.NewVolume.{IsNewVolume, mdb_of-new}
+use Rattle.hfs_format.proofs.NewVolume.{IsNewVolume, files-within, mdb_of-new}
 use Rattle.hfs_format.proofs.NewBlocks.{block_at-volume_image, block_count-volume_image, length-volume_image}
 use Rattle.hfs_format.proofs.SmallTrees.{no_leaf-turn, one_leaf-turn}
-use Rattle.hfs_format.proofs.NewFiles.{image_block, tree_nodes-one_run, new_extents_nodes, new_catalog_nodes, files-within, new_block-mdb, root_key, root_pair, root_records, new_catalog, extents-holds, catalog-holds, overflow_of-new, extents-shaped, extents-ordered, catalog_of-new, catalog-shaped, catalog-ordered}
+use Rattle.hfs_format.proofs.NewFiles.{image_block, tree_nodes-one_run, new_extents_nodes, new_catalog_nodes, new_block-mdb, root_key, root_pair, root_records, new_catalog, extents-holds, catalog-holds, overflow_of-new, extents-shaped, extents-ordered, catalog_of-new, catalog-shaped, catalog-ordered}
 use Rattle.hfs_format.proofs.NewCatalog.{root-folder, root-read, root-id, items_of-new, new-records, new-ids, new-names, new-places, new-valences, new_counts-sound}
 use Rattle.hfs_format.proofs.NewSpace.{extents-file, catalog-file, new_mdb-sound, new_forks-sound, catalog_extents-new, new_owned, owned_blocks-new, new_space-sound}
 use Rattle.hfs_format.proofs.PlanFacts.{is_new_volume-planned}

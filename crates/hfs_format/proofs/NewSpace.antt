@@ -8,7 +8,7 @@ use Rattle.std.proofs.lemmas.Bool.{cond-false, lt-ltb}
 use Rattle.hfs_fields.specs.declared.extent.Extent.{Extent}
 use Rattle.hfs_scans.proofs.ElementLemmas.{each-append}
 use Rattle.hfs_scans.specs.Each.{Each}
-use Rattle.hfs_btree.specs.Sound.{IsOther, IsDistinct}
+use Rattle.hfs_btree.specs.Sound.{IsOther}
 use Rattle.hfs_space.proofs.OwnedOnce.{each-range, distinct-range}
 use Rattle.hfs_space.specs.Bitmap.{is_used}
 use Rattle.hfs_space.specs.Extents.{block_total, IsExtentWithin, extent_blocks, fork_extents}
@@ -19,9 +19,9 @@ use Rattle.hfs_format.specs.Plan.{used_blocks}
 use Rattle.hfs_format.specs.BitRow.{bit_row}
 use Rattle.hfs_format.proofs.BitsRead.{is_used-bit_rows, clear_count-bit_rows}
 use Rattle.hfs_format.specs.NewMdb.{one_run, new_mdb}
-use Rattle.hfs_format.proofs.NewVolume.{IsNewVolume}
+use Rattle.hfs_format.proofs.NewVolume.{IsNewVolume, files-within}
 use Rattle.hfs_format.proofs.NewBlocks.{block_at-volume_image}
-use Rattle.hfs_format.proofs.NewFiles.{image_block, root_pair, root_thread_pair, new_catalog, new_block-bitmap, files-within}
+use Rattle.hfs_format.proofs.NewFiles.{image_block, root_pair, root_thread_pair, new_catalog, new_block-bitmap}
 use Rattle.hfs_format.proofs.NewCatalog.{root-no_file, thread-no_file}
 use Rattle.hfs_check.specs.Sound.{IsMdbSound}
 use Rattle.hfs_btree.proofs.DistinctLemmas.{distinct-append}

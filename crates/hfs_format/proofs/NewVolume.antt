@@ -1,6 +1,7 @@
 -- What holds of the numbers of a new volume, and its master directory block read back.
 use Rattle.std.proofs.Common.{◌≡◌, ℕ, zero, suc, ◌+◌, ◌-◌, ◌*◌, ◌^◌, ◌<◌, ◌≤◌, List, length, take, get_or, replicate, refl, arith}
 use Rattle.std.specs.Prelude.{IsTrue}
+use Rattle.std.proofs.Math.Nat.{mul-le-mul_right, add-mul}
 use Rattle.std.proofs.lemmas.List.{length-append, length-replicate}
 use Rattle.hfs_fields.specs.Mdb.{mdb_of}
 use Rattle.hfs_fields.specs.MdbForm.{IsMdbHeadValue, IsMdbTailValue, IsMdbValue, mdb_bytes}
@@ -9,7 +10,7 @@ use Rattle.hfs_fields.specs.Names.{is_item_name}
 use Rattle.hfs_fields.specs.RecordForms.{IsExtentValue, AreExtentValues}
 use Rattle.hfs_fields.specs.declared.extent.Extent.{Extent}
 use Rattle.hfs_format.specs.declared.layout.Layout.{Layout}
-use Rattle.hfs_format.specs.Plan.{used_blocks}
+use Rattle.hfs_format.specs.Plan.{used_blocks, IsLayout}
 use Rattle.hfs_format.specs.NewMdb.{one_run, volume_name_bytes, new_mdb, new_mdb_block}
 
 -- what the numbers of a plan without fault keep
@@ -29,11 +30,28 @@ pub record IsNewVolume (volume : Layout) : Type 0 where
   pub area : volume.start + volume.allocation_blocks * volume.factor + 2 ≤ volume.blocks
   pub room : used_blocks volume ≤ volume.allocation_blocks
   pub extents : volume.extents.nodes ≡ volume.extents.blocks * volume.factor
-  pub few_extents : volume.extents.nodes ≤ 2048
   pub some_extents : 1 ≤ volume.extents.nodes
   pub catalog : volume.catalog.nodes ≡ volume.catalog.blocks * volume.factor
-  pub few_catalog : volume.catalog.nodes ≤ 2048
   pub some_catalog : 2 ≤ volume.catalog.nodes
+
+-- both files lie before the alternate master directory block
+pub files-within : (volume : Layout) → IsNewVolume volume → volume.start + volume.extents.nodes + volume.catalog.nodes + 2 ≤ volume.blocks
+files-within volume ok =
+    let room = mul-le-mul_right volume.factor ok.room in
+    let split = add-mul volume.extents.blocks volume.catalog.blocks volume.factor in
+    omega (arith, room, split, ok.extents, ok.catalog, ok.area)
+
+pub is_layout-new : (volume : Layout) → IsNewVolume volume → IsLayout volume
+is_layout-new volume ok = record {
+  name = ok.name;
+  blocks = ok.blocks;
+  start = ok.start;
+  factor = ok.factor;
+  room = ok.room;
+  some_extents = ok.some_extents;
+  some_catalog = ok.some_catalog;
+  nodes = files-within volume ok;
+}
 
 -- ---- the master directory block
 
@@ -70,7 +88,7 @@ head-value volume ok = record {
 
 tail-value : (volume : Layout) → IsNewVolume volume → IsMdbTailValue (new_mdb volume)
 unfolding new_mdb
-tail-value volume ok = record {
+tail-value volume ok = let within = files-within volume ok in record {
   backup = omega arith;
   backup_sequence = omega arith;
   write_count = omega arith;

@@ -1,5 +1,5 @@
 -- A plan without fault has the numbers of a new volume.
-use Rattle.std.proofs.Common.{◌≡◌, ℕ, ◌+◌, ◌-◌, ◌*◌, ◌/◌, ◌^◌, ◌<◌, ◌≤◌, inl, inr, Bool, true, false, cond, not, Option, Some, None, length, refl, arith}
+use Rattle.std.proofs.Common.{◌≡◌, ℕ, ◌+◌, ◌-◌, ◌*◌, ◌/◌, ◌^◌, ◌<◌, ◌≤◌, inl, inr, Bool, true, false, cond, not, Option, Some, None, length, refl, sym, subst, arith}
 use Rattle.std.specs.Prelude.{nat_le}
 use Rattle.std.proofs.Math.Nat.{mul-le-mul_left, mul_comm, div-le_self}
 use Rattle.std.proofs.lemmas.Bool.{and_parts, leb-true, cases_lt}
@@ -7,8 +7,10 @@ use Rattle.hfs_fields.specs.Names.{is_item_name}
 use Rattle.hfs_format.specs.declared.plan.FormatPlan.{FormatPlan}
 use Rattle.hfs_format.specs.declared.fault.FormatFault.{FormatFault}
 use Rattle.hfs_format.specs.declared.fault.FormatFault.TheVariants.{BadName, BadSize, BadNodes, NoRoom}
-use Rattle.hfs_format.specs.Plan.{block_factor, bitmap_blocks, allocation_start, allocation_blocks, file_blocks, layout_of, is_volume_name, is_volume_size, is_node_count, are_node_counts, has_room, format_fault}
-use Rattle.hfs_format.proofs.NewVolume.{IsNewVolume}
+use Rattle.hfs_format.specs.Plan.{block_factor, bitmap_blocks, allocation_start, allocation_blocks, file_blocks, layout_of, is_volume_name, is_volume_size, are_node_counts, has_room, format_fault}
+use Rattle.hfs_format.specs.declared.layout.Layout.{Layout}
+use Rattle.hfs_format.specs.Plan.{IsLayout, IsLaidOut}
+use Rattle.hfs_format.proofs.NewVolume.{IsNewVolume, is_layout-new}
 
 -- ---- the tests of a plan
 
@@ -79,11 +81,6 @@ enough : (factor nodes : ℕ) → 1 ≤ factor → nodes ≤ file_blocks factor 
 unfolding file_blocks
 enough factor nodes some = let turned = mul_comm factor ((nodes + (factor - 1)) / factor) in omega arith
 
-node_count : (least factor nodes : ℕ) → is_node_count least factor nodes ≡ true → (least ≤ nodes) × (file_blocks factor nodes * factor ≤ 2048)
-node_count least factor nodes h =
-    let both = and_parts (nat_le least nodes) (nat_le (file_blocks factor nodes * factor) 2048) h in
-    (leb-true _ _ both.0, leb-true _ _ both.1)
-
 -- ---- the layout of a plan
 
 pub is_new_volume-planned : (plan : FormatPlan) → plan.now < 2 ^ 32 → format_fault plan ≡ None → IsNewVolume (layout_of plan)
@@ -96,9 +93,9 @@ is_new_volume-planned plan moment none =
     let most : plan.blocks ≤ 4194304 = leb-true _ _ size.1 in
     let numbers = sizes plan.blocks least most in
     let factor : ℕ = block_factor plan.blocks in
-    let nodes = and_parts (is_node_count 2 factor plan.catalog_nodes) (is_node_count 1 factor plan.extents_nodes) all.nodes in
-    let catalog = node_count 2 factor plan.catalog_nodes nodes.0 in
-    let extents = node_count 1 factor plan.extents_nodes nodes.1 in
+    let nodes = and_parts (nat_le 2 plan.catalog_nodes) (nat_le 1 plan.extents_nodes) all.nodes in
+    let catalog : 2 ≤ plan.catalog_nodes = leb-true _ _ nodes.0 in
+    let extents : 1 ≤ plan.extents_nodes = leb-true _ _ nodes.1 in
     let more_catalog = enough factor plan.catalog_nodes numbers.some_factor in
     let more_extents = enough factor plan.extents_nodes numbers.some_factor in
     record {
@@ -115,9 +112,10 @@ is_new_volume-planned plan moment none =
       area = numbers.area;
       room = leb-true _ _ all.room;
       extents = refl;
-      few_extents = extents.1;
-      some_extents = omega (arith, extents.0, more_extents);
+      some_extents = omega (arith, more_extents);
       catalog = refl;
-      few_catalog = catalog.1;
-      some_catalog = omega (arith, catalog.0, more_catalog);
+      some_catalog = omega (arith, more_catalog);
     }
+
+pub is_layout_laid : (plan : FormatPlan) (volume : Layout) → plan.now < 2 ^ 32 → IsLaidOut plan volume → IsLayout volume
+is_layout_laid plan volume moment laid = subst IsLayout (sym laid.1) (is_layout-new (layout_of plan) (is_new_volume-planned plan moment laid.0))

@@ -1,6 +1,6 @@
 -- The numbers of a new volume, and why a plan is refused. Blocks are logical blocks of 512 bytes where they are not
 -- said to be allocation blocks.
-use Rattle.std.specs.Prelude.{ℕ, ◌+◌, ◌-◌, ◌*◌, ◌/◌, ◌≤◌, Bool, not, ◌&&◌, nat_le, if◌then◌else◌, List, length, Option, Some, None, ◌≡◌, ◌⊎◌, IsTrue}
+use Rattle.std.specs.Prelude.{ℕ, ◌+◌, ◌-◌, ◌*◌, ◌/◌, ◌^◌, ◌<◌, ◌≤◌, Bool, not, ◌&&◌, nat_le, if◌then◌else◌, List, length, Option, Some, None, ◌≡◌, ◌⊎◌, IsTrue}
 use Rattle.std.specs.Option.{SomeIff}
 use Rattle.hfs_fields.specs.Names.{is_item_name}
 use Rattle.hfs_format.specs.declared.plan.FormatPlan.{FormatPlan}
@@ -31,7 +31,7 @@ allocation_blocks blocks = (blocks - 2 - allocation_start blocks) / block_factor
 unfoldable pub file_blocks : ℕ → ℕ → ℕ
 file_blocks factor nodes = (nodes + (factor - 1)) / factor
 
--- a tree's file of at least so many nodes
+-- a tree's file of at least so many nodes, as many as fit its allocation blocks
 abbrev pub tree_file : ℕ → ℕ → TreeFile
 tree_file factor nodes = record { blocks = file_blocks factor nodes; nodes = file_blocks factor nodes * factor }
 
@@ -62,12 +62,9 @@ is_volume_name name = is_item_name name && nat_le (length name) 27
 abbrev pub is_volume_size : ℕ → Bool
 is_volume_size blocks = nat_le 8 blocks && nat_le blocks 4194304
 
--- at least so many nodes are asked for, and in whole allocation blocks they are at most 2,048
-abbrev pub is_node_count : ℕ → ℕ → ℕ → Bool
-is_node_count least factor nodes = nat_le least nodes && nat_le (file_blocks factor nodes * factor) 2048
-
+-- a catalog has a header node and a leaf at least, an extents file a header node
 abbrev pub are_node_counts : FormatPlan → Bool
-are_node_counts plan = is_node_count 2 (block_factor plan.blocks) plan.catalog_nodes && is_node_count 1 (block_factor plan.blocks) plan.extents_nodes
+are_node_counts plan = nat_le 2 plan.catalog_nodes && nat_le 1 plan.extents_nodes
 
 abbrev pub has_room : Layout → Bool
 has_room volume = nat_le (used_blocks volume) volume.allocation_blocks
@@ -89,10 +86,9 @@ pub record IsLayout (volume : Layout) : Type 0 where
   pub start : volume.start ≤ 19
   pub factor : volume.factor ≤ 65
   pub room : used_blocks volume ≤ volume.allocation_blocks
-  pub extents : volume.extents.nodes ≤ 2048
   pub some_extents : 1 ≤ volume.extents.nodes
-  pub catalog : volume.catalog.nodes ≤ 2048
   pub some_catalog : 2 ≤ volume.catalog.nodes
+  pub nodes : volume.start + volume.extents.nodes + volume.catalog.nodes + 2 ≤ volume.blocks
 
 -- this is the plan's first fault, or it has none and memory was refused
 abbrev pub IsFormatFault : FormatPlan → FormatFault → Type 0
@@ -102,10 +98,16 @@ IsFormatFault plan fault = ((fault ≡ Memory) × (format_fault plan ≡ None)) 
 abbrev pub IsLaidOut : FormatPlan → Layout → Type 0
 IsLaidOut plan volume = (format_fault plan ≡ None) × (volume ≡ layout_of plan)
 
+-- the parts of some planned volume lie so
+abbrev pub IsPlanned : Layout → Type 0
+IsPlanned volume = ∥ ((plan : FormatPlan) × (plan.now < 2 ^ 32) × IsLaidOut plan volume) ∥₁
+
 -- this is the plan's first fault
 abbrev pub HasFault : FormatPlan → FormatFault → Type 0
 HasFault plan fault = format_fault plan ≡ Some fault
 
--- what is found is the file of so many nodes, or nothing where they are too few or too many
-abbrev pub FindsFile : ℕ → ℕ → ℕ → Option TreeFile → Type 0
-FindsFile least factor nodes found = SomeIff found (IsTrue (is_node_count least factor nodes)) (tree_file factor nodes)
+-- what is found are the files of so many nodes, or nothing where they have no room in so many allocation blocks
+abbrev pub FindsFiles : ℕ → ℕ → ℕ → ℕ → Option (TreeFile × TreeFile) → Type 0
+FindsFiles factor room extents catalog found =
+    SomeIff found (IsTrue (nat_le (file_blocks factor extents + file_blocks factor catalog) room))
+    (tree_file factor extents, tree_file factor catalog)

@@ -10,8 +10,7 @@ pub enum FormatFault {
     /// The volume would have fewer than 8 or more than 4,194,304 logical blocks.
     #[error("bad size")]
     BadSize,
-    /// The catalog has fewer than 2 nodes, the extents file none, or one of them more than 2,048 in whole
-    /// allocation blocks.
+    /// The catalog has fewer than 2 nodes, or the extents file none.
     #[error("bad node count")]
     BadNodes,
     /// The two files need more allocation blocks than the volume has.

@@ -14,7 +14,7 @@ use crate::layout::Layout;
 use crate::mdb_block::mdb_block;
 use crate::plan::FormatPlan;
 use crate::root_leaf::root_leaf_block;
-use crate::tree_header::{empty_tree, header_block, one_leaf_tree};
+use crate::tree_header::{empty_tree, one_leaf_tree, tree_block};
 use hfs_fields::FieldRow;
 use std::alloc::{AllocError, Global};
 
@@ -29,9 +29,22 @@ fn bitmap_block(volume: &Layout, k: u32) -> [u8; 512]
     row.into_block()
 }
 
+/// Node `j` of the catalog file.
+fn catalog_block(volume: &Layout, j: u32) -> [u8; 512]
+    requires { IsLayout volume.now }
+    ensures { result ≡ spec.catalog_block volume.now j }
+{
+    let tree = one_leaf_tree(37, volume.catalog.nodes, 2);
+    if j == tree.root {
+        root_leaf_block(volume)
+    } else {
+        tree_block(&tree, j)
+    }
+}
+
 /// Logical block `k` of the volume, counted from 0.
 #[tactic(auto, unfolding(crate::specs::Image::new_block))]
-fn new_block(volume: &Layout, k: u32) -> [u8; 512]
+pub(crate) fn new_block(volume: &Layout, k: u32) -> [u8; 512]
     requires layout { IsLayout volume.now }
     requires within { k < volume.now.blocks }
     ensures { result ≡ spec.new_block volume.now k }
@@ -40,16 +53,14 @@ fn new_block(volume: &Layout, k: u32) -> [u8; 512]
     let catalog_start = extents_start + volume.extents.nodes;
     if k == 2 || k + 2 == volume.blocks {
         mdb_block(volume)
-    } else if 3 <= k && k < extents_start {
-        bitmap_block(volume, k - 3)
-    } else if k == extents_start {
-        header_block(&empty_tree(7, volume.extents.nodes))
-    } else if k == catalog_start {
-        header_block(&one_leaf_tree(37, volume.catalog.nodes, 2))
-    } else if k == catalog_start + 1 {
-        root_leaf_block(volume)
-    } else {
+    } else if k < 3 {
         [0; 512]
+    } else if k < extents_start {
+        bitmap_block(volume, k - 3)
+    } else if k < catalog_start {
+        tree_block(&empty_tree(7, volume.extents.nodes), k - extents_start)
+    } else {
+        catalog_block(volume, k - catalog_start)
     }
 }
 
@@ -69,15 +80,16 @@ fn volume_image(alloc: Global, volume: &Layout) -> Result<Vec<u8>, AllocError>
 
 /// The image of a new volume, `512 * plan.blocks` bytes: two empty boot blocks, the master directory block, the bitmap,
 /// the extents file with an empty tree, the catalog file with the root folder and its thread, and the alternate master
-/// directory block in the last block but one. Each byte that these don't name is 0. All dates are `plan.now`. The image
-/// passes every check of a volume, and holds the root folder alone.
+/// directory block in the last block but one. A tree of more than 2,048 nodes has its map nodes behind its header node. Each
+/// byte that these don't name is 0. All dates are `plan.now`. The image passes every check of a volume, and holds the root
+/// folder alone.
 ///
 /// Errors: the first of `BadName`, `BadSize`, `BadNodes` and `NoRoom` that the plan has, as `FormatFault` says, before
 /// any memory is asked for; `Memory` only where memory was refused.
 ///
 /// Source: the format of each part is that of Inside Macintosh: Files, chapter 2, "Data Organization on Volumes"; where
 /// the parts lie is this project's own choice.
-#[tactic(auto, unfolding(crate::specs::Plan::layout_of))]
+#[tactic(auto, unfolding(crate::specs::Plan::layout_of), using(crate::proofs::PlanFacts::is_layout_laid))]
 pub fn format(alloc: Global, plan: FormatPlan) -> Result<Vec<u8>, FormatFault>
     ensures image { IfOk result (spec.IsNewImage plan) }
     ensures len { IfOk result (λ image. vec_len image ≡ 512 * plan.blocks) }

@@ -1,8 +1,8 @@
 //! Where the parts of a new volume lie.
-ghost use Rattle.std.specs.Prelude.{◌≡◌, ℕ, ◌*◌, ◌/◌, ◌<◌, ◌≤◌, ◌+◌, None, Some, IsTrue, MatchResult, IfOk, IfSome, length};
+ghost use Rattle.std.specs.Prelude.{◌≡◌, ℕ, ◌*◌, ◌/◌, ◌<◌, ◌≤◌, ◌+◌, ◌^◌, None, Some, IsTrue, MatchResult, IfSome, length};
 ghost use Rattle.std.specs.Option.{SomeIff};
 ghost use Rattle.hfs_format.specs.Plan as spec;
-ghost use Rattle.hfs_format.specs.Plan.{HasFault, IsLaidOut, IsLayout};
+ghost use Rattle.hfs_format.specs.Plan.{HasFault, IsLaidOut};
 
 use crate::fault::FormatFault;
 use crate::plan::FormatPlan;
@@ -65,27 +65,48 @@ fn allocation_start(blocks: u32, factor: u32) -> u16
     (3 + (blocks / factor + 4095) / 4096) as u16
 }
 
-/// How many allocation blocks so many nodes take, and how many nodes they hold. None exactly where they are fewer
-/// than `least`, or their allocation blocks hold more than 2,048.
-#[tactic(auto, unfolding(crate::specs::Plan::file_blocks))]
-fn tree_file(least: u32, factor: u32, nodes: u32) -> Option<TreeFile>
+/// How many allocation blocks so many nodes take.
+#[tactic(auto, unfolding(crate::specs::Plan::file_blocks), using(crate::proofs::Rounding::few_blocks))]
+fn file_blocks(factor: u32, nodes: u32) -> u64
+    requires some { 1 ≤ factor }
+    ensures blocks { result ≡ spec.file_blocks factor nodes }
+    ensures few { result < 2 ^ 33 }
+{
+    (u64::from(nodes) + u64::from(factor - 1)) / u64::from(factor)
+}
+
+/// The file of so many allocation blocks.
+fn tree_file(factor: u32, blocks: u16) -> TreeFile
+    requires { factor ≤ 65 }
+    ensures { result ≡ record { blocks = blocks; nodes = blocks * factor } }
+{
+    TreeFile {
+        blocks,
+        nodes: u32::from(blocks) * factor,
+    }
+}
+
+/// The files of so many nodes of the extents tree and of the catalog. None exactly where their allocation blocks are more than
+/// the volume has.
+fn tree_files(
+    factor: u32,
+    room: u16,
+    extents_nodes: u32,
+    catalog_nodes: u32,
+) -> Option<(TreeFile, TreeFile)>
     requires some { 1 ≤ factor }
     requires few { factor ≤ 65 }
-    ensures file { spec.FindsFile least factor nodes result }
-    ensures bounds { IfSome result (λ file. (least ≤ file.nodes) × (file.nodes ≤ 2048)) }
+    ensures { spec.FindsFiles factor room extents_nodes catalog_nodes result }
 {
-    if nodes < least || nodes > 2048 {
+    let extents = file_blocks(factor, extents_nodes);
+    let catalog = file_blocks(factor, catalog_nodes);
+    if extents + catalog > u64::from(room) {
         return None;
     }
-    let blocks = (nodes + (factor - 1)) / factor;
-    let nodes = blocks * factor;
-    if nodes > 2048 {
-        return None;
-    }
-    Some(TreeFile {
-        blocks: blocks as u16,
-        nodes,
-    })
+    Some((
+        tree_file(factor, extents as u16),
+        tree_file(factor, catalog as u16),
+    ))
 }
 
 /// The name of a volume. None exactly where it isn't an item name of at most 27 characters.
@@ -114,8 +135,7 @@ impl Layout {
     /// Where the parts of the planned volume lie, or the plan's first fault.
     #[tactic(auto, unfolding(crate::specs::Plan::format_fault, crate::specs::Plan::layout_of))]
     pub fn of(plan: &FormatPlan) -> Result<Layout, FormatFault>
-        ensures answer { MatchResult result (IsLaidOut plan.entry.now) (HasFault plan.entry.now) }
-        ensures bounds { IfOk result IsLayout }
+        ensures { MatchResult result (IsLaidOut plan.entry.now) (HasFault plan.entry.now) }
     {
         let Some(name) = volume_name(&plan.name) else {
             return Err(FormatFault::BadName);
@@ -124,18 +144,20 @@ impl Layout {
         if blocks < 8 || blocks > 4_194_304 {
             return Err(FormatFault::BadSize);
         }
+        if plan.catalog_nodes < 2 || plan.extents_nodes < 1 {
+            return Err(FormatFault::BadNodes);
+        }
         let factor = block_factor(blocks);
-        let Some(catalog) = tree_file(2, factor, plan.catalog_nodes) else {
-            return Err(FormatFault::BadNodes);
-        };
-        let Some(extents) = tree_file(1, factor, plan.extents_nodes) else {
-            return Err(FormatFault::BadNodes);
-        };
         let start = allocation_start(blocks, factor);
         let allocation_blocks = allocation_blocks(blocks, start, factor);
-        if extents.blocks as u32 + catalog.blocks as u32 > allocation_blocks as u32 {
+        let Some((extents, catalog)) = tree_files(
+            factor,
+            allocation_blocks,
+            plan.extents_nodes,
+            plan.catalog_nodes,
+        ) else {
             return Err(FormatFault::NoRoom);
-        }
+        };
         Ok(Layout {
             name,
             moment: plan.now,

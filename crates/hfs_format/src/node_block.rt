@@ -1,17 +1,18 @@
-//! The parts of a node without neighbours.
+//! The parts of a node.
 ghost use Rattle.std.specs.Prelude.{◌≡◌, ◌+◌, ◌-◌, ◌≤◌, [], ◌∷◌, length};
 ghost use Rattle.hfs_format.specs.NewTrees as spec;
 
 use hfs_fields::FieldRow;
 use hfs_node::NodeKind;
 
-/// The descriptor of a node without neighbours.
-pub fn descriptor(kind: NodeKind, height: u8, records: u16) -> FieldRow
-    ensures bytes { result ≡ spec.lone_descriptor kind height records }
+/// The descriptor of a node between these.
+pub fn descriptor(forward: u32, backward: u32, kind: NodeKind, height: u8, records: u16) -> FieldRow
+    ensures bytes { result ≡ spec.descriptor forward backward kind height records }
     ensures length { length result ≡ 14 }
 {
     let mut row = FieldRow::new();
-    row.push_zeros(8);
+    row.push_u32(forward);
+    row.push_u32(backward);
     row.push(&[kind.byte(), height]);
     row.push_u16(records);
     row.push_zeros(2);
@@ -25,7 +26,7 @@ pub fn leaf_block(first: &FieldRow, second: &FieldRow) -> [u8; 512]
 {
     let second_start = 14 + first.len();
     let free_start = second_start + second.len();
-    let mut row = descriptor(NodeKind::Leaf, 1, 2);
+    let mut row = descriptor(0, 0, NodeKind::Leaf, 1, 2);
     row.push_row(first);
     row.push_row(second);
     row.push_zeros(506 - free_start);

@@ -3,6 +3,7 @@ ghost use Rattle.std.specs.Prelude.{◌<◌};
 
 use crate::layout::Layout;
 use crate::*;
+use hfs_sparse::BlockSource;
 use std::alloc::{AllocError, Global};
 use std::test::Fail;
 
@@ -198,6 +199,117 @@ fn the_largest_volume_is_laid_out(rt: HostRuntime) -> Result<(), Fail> {
     assert!(rt; (volume.start, volume.allocation_blocks) == (19, 64_527));
     assert!(rt; (volume.extents.blocks, volume.extents.nodes) == (1, 65));
     assert!(rt; (volume.catalog.blocks, volume.catalog.nodes) == (1, 65));
+    let plan = plan_of(rt.alloc(), b"D", 4_194_304, 1, 4_194_190)?;
+    let volume = Layout::of(&plan)?;
+    assert!(rt; (volume.catalog.blocks, volume.catalog.nodes) == (64_526, 4_194_190));
+    Ok(())
+}
+
+/// Whether an image has these bytes in blocks, each from a place on.
+fn has_all(image: &[u8], pieces: &[(usize, usize, &[u8])]) -> bool {
+    for (block, at, bytes) in pieces {
+        if *block >= 65_536 || *at >= 512 || !has(image, *block, *at, *bytes) {
+            return false;
+        }
+    }
+    true
+}
+
+/// An extents file of 2,049 nodes in the blocks from 8 on has one map node, a catalog of 5,985 from block 2,057 on two.
+#[test]
+fn large_trees_have_map_nodes(rt: HostRuntime) -> Result<(), Fail> {
+    let image = format(rt.alloc(), plan_of(rt.alloc(), b"D", 20_000, 2_049, 5_985)?)?;
+    let zeros = [0; 512];
+    let last = [1, 0xfa, 0, 14];
+    let pieces: [(usize, usize, &[u8]); 21] = [
+        // the bitmap has 8,034 bits
+        (3, 511, &[0xff]),
+        (4, 491, &[0xff, 0xc0, 0]),
+        // the extents tree: its links and kind, its numbers, the first bytes of its map
+        (
+            8,
+            0,
+            &[0, 0, 0, 1, 0, 0, 0, 0, 1, 0, 0, 3, 0, 0, 0, 0, 0, 0],
+        ),
+        (8, 32, &[2, 0, 0, 7, 0, 0, 8, 1, 0, 0, 7, 0xff]),
+        (8, 248, &[0xc0, 0]),
+        (9, 0, &[0, 0, 0, 0, 0, 0, 0, 0, 2, 0, 0, 1, 0, 0]),
+        (9, 14, &zeros[..494]),
+        (9, 508, &last),
+        (10, 0, &zeros),
+        // the catalog: header node, two map nodes, and its leaf
+        (2_057, 0, &[0, 0, 0, 1, 0, 0, 0, 0, 1, 0, 0, 3, 0, 0]),
+        (
+            2_057,
+            14,
+            &[0, 1, 0, 0, 0, 3, 0, 0, 0, 2, 0, 0, 0, 3, 0, 0, 0, 3],
+        ),
+        (
+            2_057,
+            32,
+            &[2, 0, 0, 37, 0, 0, 0x17, 0x61, 0, 0, 0x17, 0x5d],
+        ),
+        (2_057, 248, &[0xf0, 0]),
+        (2_058, 0, &[0, 0, 0, 2, 0, 0, 0, 0, 2, 0, 0, 1, 0, 0]),
+        (2_058, 14, &zeros[..494]),
+        (2_058, 508, &last),
+        (2_059, 0, &[0, 0, 0, 0, 0, 0, 0, 1, 2, 0, 0, 1, 0, 0]),
+        (2_059, 508, &last),
+        (2_060, 0, &[0, 0, 0, 0, 0, 0, 0, 0, 0xff, 1, 0, 2]),
+        (2_060, 506, &[0, 146, 0, 92, 0, 14]),
+        (2_061, 0, &zeros),
+    ];
+    assert!(rt; has_all(&image, &pieces));
+    Ok(())
+}
+
+/// The last trees that need no map node, or no second one.
+#[test]
+fn map_nodes_begin_where_they_are_wanted(rt: HostRuntime) -> Result<(), Fail> {
+    let image = format(rt.alloc(), plan_of(rt.alloc(), b"D", 20_000, 2_048, 5_984)?)?;
+    let pieces: [(usize, usize, &[u8]); 7] = [
+        (8, 0, &[0, 0, 0, 0, 0, 0, 0, 0, 1]),
+        (8, 248, &[0x80, 0]),
+        (9, 0, &[0; 512]),
+        (2_056, 0, &[0, 0, 0, 1, 0, 0, 0, 0, 1]),
+        (2_056, 248, &[0xe0, 0]),
+        (2_057, 0, &[0, 0, 0, 0, 0, 0, 0, 0, 2]),
+        (2_058, 8, &[0xff, 1, 0, 2]),
+    ];
+    assert!(rt; has_all(&image, &pieces));
+    Ok(())
+}
+
+/// Trees as large as those that `hformat` of hfsutils 3.2.6 makes on 2 gigabytes: 8 map nodes, and the leaf is node 9.
+#[test]
+fn large_trees_are_those_of_hformat(rt: HostRuntime) -> Result<(), Fail> {
+    let image = format(
+        rt.alloc(),
+        plan_of(rt.alloc(), b"D", 70_000, 32_704, 32_704)?,
+    )?;
+    let pieces: [(usize, usize, &[u8]); 11] = [
+        // the extents file begins behind the bitmap, whose 35,000 bits take 9 blocks
+        (12, 0, &[0, 0, 0, 1, 0, 0, 0, 0, 1, 0, 0, 3, 0, 0]),
+        (12, 32, &[2, 0, 0, 7, 0, 0, 0x7f, 0xc0, 0, 0, 0x7f, 0xb7]),
+        (12, 248, &[0xff, 0x80, 0]),
+        (13, 0, &[0, 0, 0, 2, 0, 0, 0, 0, 2, 0, 0, 1, 0, 0]),
+        (13, 508, &[1, 0xfa, 0, 14]),
+        (18, 0, &[0, 0, 0, 7, 0, 0, 0, 5, 2, 0, 0, 1, 0, 0]),
+        (20, 0, &[0, 0, 0, 0, 0, 0, 0, 7, 2, 0, 0, 1, 0, 0]),
+        (
+            32_716,
+            14,
+            &[0, 1, 0, 0, 0, 9, 0, 0, 0, 2, 0, 0, 0, 9, 0, 0, 0, 9],
+        ),
+        (
+            32_716,
+            32,
+            &[2, 0, 0, 37, 0, 0, 0x7f, 0xc0, 0, 0, 0x7f, 0xb6],
+        ),
+        (32_716, 248, &[0xff, 0xc0, 0]),
+        (32_725, 8, &[0xff, 1, 0, 2]),
+    ];
+    assert!(rt; has_all(&image, &pieces));
     Ok(())
 }
 
@@ -220,7 +332,7 @@ fn plans_have_their_first_fault(rt: HostRuntime) -> Result<(), Fail> {
     let bad_size = Some(FormatFault::BadSize);
     let bad_nodes = Some(FormatFault::BadNodes);
     let no_room = Some(FormatFault::NoRoom);
-    let cases: [(&[u8], u32, u32, u32, Option<FormatFault>); 26] = [
+    let cases: [(&[u8], u32, u32, u32, Option<FormatFault>); 33] = [
         (&name, 64, 2, 6, bad_name),
         (&name[..27], 64, 2, 6, None),
         (b"", 64, 2, 6, bad_name),
@@ -237,12 +349,19 @@ fn plans_have_their_first_fault(rt: HostRuntime) -> Result<(), Fail> {
         (b"D", 64, 0, 6, bad_nodes),
         (b"D", 64, 1, 6, None),
         (b"D", 9_000, 1, 2_048, None),
-        (b"D", 9_000, 1, 2_049, bad_nodes),
+        (b"D", 9_000, 1, 2_049, None),
         (b"D", 9_000, 2_048, 2, None),
-        (b"D", 9_000, 2_049, 2, bad_nodes),
+        (b"D", 9_000, 2_049, 2, None),
+        (b"D", 9_000, 1, 8_991, None),
+        (b"D", 9_000, 1, 8_992, no_room),
+        (b"D", 9_000, 8_990, 2, None),
+        (b"D", 9_000, 8_991, 2, no_room),
         (b"D", 131_072, 2_046, 2_046, None),
-        (b"D", 131_072, 1, 2_047, bad_nodes),
-        (b"D", 131_072, 4_294_967_295, 2, bad_nodes),
+        (b"D", 131_072, 1, 2_047, None),
+        (b"D", 131_072, 4_294_967_295, 2, no_room),
+        (b"D", 131_072, 1, 4_294_967_295, no_room),
+        (b"D", 4_194_304, 4_294_967_295, 4_294_967_295, no_room),
+        (b"D", 64, 4_294_967_295, 1, bad_nodes),
         (b"D", 64, 2, 56, None),
         (b"D", 64, 2, 57, no_room),
         (b"", 7, 1, 2, bad_name),
@@ -273,5 +392,56 @@ fn refused_plans_have_no_image(rt: HostRuntime) -> Result<(), Fail> {
     }
     let long = plan_of(rt.alloc(), &[b'n'; 28], 64, 2, 6)?;
     assert!(rt; matches!(format(rt.alloc(), long), Err(FormatFault::BadName)));
+    Ok(())
+}
+
+#[test]
+fn blocks_are_made_where_they_are_read(rt: HostRuntime) -> Result<(), Fail> {
+    let plan = plan_of(rt.alloc(), b"D", 20_000, 2_049, 5_985)?;
+    let mut image = PlannedImage::of(&plan)?;
+    assert!(rt; image.count() == 20_000);
+    let whole = format(rt.alloc(), plan)?;
+    for (first, len) in [
+        (0u32, 8_192usize),
+        (2, 512),
+        (8, 1_536),
+        (2_055, 3_584),
+        (19_984, 8_192),
+        (20_000, 0),
+    ] {
+        let mut read = vec![in rt.alloc(); 0u8; len]?;
+        assert!(rt; image.read_blocks(first, &mut read).is_ok());
+        let from = first as usize * 512;
+        assert!(rt; from <= whole.len());
+        assert!(rt; whole[from..].starts_with(&read), "block {first}");
+    }
+    for (first, len) in [
+        (20_000, 512),
+        (19_999, 1_024),
+        (20_001, 0),
+        (4_294_967_295, 512),
+        (0, 511),
+    ] {
+        let mut read = vec![in rt.alloc(); 0u8; len]?;
+        assert!(rt;
+            image.read_blocks(first, &mut read).is_err(),
+            "block {first}"
+        );
+    }
+    Ok(())
+}
+
+#[test]
+fn images_are_written(rt: HostRuntime) -> Result<(), Fail> {
+    let plan = plan_of(rt.alloc(), b"D", 2_401, 2_049, 9)?;
+    let image = PlannedImage::of(&plan)?;
+    let whole = format(rt.alloc(), plan)?;
+    let mut written = Vec::new(rt.alloc());
+    assert!(rt; image.write(&mut written).is_ok());
+    assert!(rt; written == whole);
+    let mut short = [0; 1_000];
+    let mut room = &mut short[..];
+    assert!(rt; image.write(&mut room).is_err());
+    assert!(rt; whole.starts_with(&short));
     Ok(())
 }

@@ -6,7 +6,9 @@ use Rattle.std.proofs.lemmas.Bool.{ltb-true, ltb-false, leb-true, lt-leb, lt-ltb
 use Rattle.std.proofs.lemmas.List.{append-nil, length-map, length-take, take_all, take_at, take-take, take-map}
 use Rattle.hfs_fields.specs.Names.{is_item_name, is_name_character}
 use Rattle.hfs_incoming.specs.declared.names.GivenName.TheVariants.{Item, Other}
-use Rattle.hfs_incoming.specs.Names.{given_name, host_letters, named_letter, renamed, seen_letter, seen_letters}
+use Rattle.hfs_incoming.specs.declared.spelled.Spelling.{Spelling}
+use Rattle.hfs_incoming.specs.Names.{given_name, named_letter, renamed}
+use Rattle.hfs_incoming.specs.Spelled.{letters_in, seen_letter, seen_letters}
 
 -- ---- one letter
 
@@ -133,18 +135,18 @@ renamed_some x xs letters row name n some size is own =
             let whole : min (length l) 31 ≡ 31 = omega (arith, long) in
             ap (λ (k : ℕ). take k l) whole
 
--- ---- as a host name is read
+-- ---- as a text is read
 
 pub letters_full : (row behind all : List ℕ) → all ≡ row ++ behind → length row ≤ 32 → 32 ≤ length row → row ≡ take 32 all
 letters_full row behind all is most least = sym (ap (take 32) is ∙ take_at row behind 32 (omega (arith, most, least)))
 
-nothing : (row : List ℕ) → row ++ seen_letters [] ≡ row
-unfolding host_letters
-nothing row = append-nil row
+nothing : (s : Spelling) (row : List ℕ) → row ++ seen_letters s [] ≡ row
+unfolding letters_in
+nothing s row = append-nil row
 
-pub letters_end : (row characters all : List ℕ) → all ≡ row ++ seen_letters characters → characters ≡ [] → length row ≤ 32 → row ≡ take 32 all
-letters_end row characters all is none most =
-    let whole : all ≡ row = is ∙ ap (λ (l : List ℕ). row ++ seen_letters l) none ∙ nothing row in
+pub letters_end : (s : Spelling) (row characters all : List ℕ) → all ≡ row ++ seen_letters s characters → characters ≡ [] → length row ≤ 32 → row ≡ take 32 all
+letters_end s row characters all is none most =
+    let whole : all ≡ row = is ∙ ap (λ (l : List ℕ). row ++ seen_letters s l) none ∙ nothing s row in
     sym (ap (take 32) whole ∙ take_all 32 row most)
 
 pub given_row : (row zeros bytes letters : List ℕ) (n : ℕ) → bytes ≡ row ++ zeros → n ≡ length row → row ≡ take 32 (map seen_letter letters) → given_name (take n bytes) ≡ given_name letters

@@ -15,7 +15,9 @@ use Rattle.hfs_names.specs.MacRoman.{high_characters, roman_character, character
 use Rattle.hfs_names.specs.HostNames.{is_reserved, is_device_name, is_dropped_at_end, is_first_escaped, host_character, host_rest, host_name}
 use Rattle.hfs_names.specs.Laws.{is_bytes}
 use Rattle.hfs_incoming.specs.declared.names.GivenName.TheVariants.{Item, Other}
-use Rattle.hfs_incoming.specs.Names.{are_digits, digit_value, digits_byte, given_name, host_letters, named_letter, renamed, roman_byte}
+use Rattle.hfs_incoming.specs.declared.spelled.Spelling.TheVariants.{HostName}
+use Rattle.hfs_incoming.specs.Names.{given_name, named_letter, renamed}
+use Rattle.hfs_incoming.specs.Spelled.{are_digits, digit_value, digits_byte, host_letters, letter_value, letters_in, roman_byte}
 use Rattle.hfs_incoming.specs.Laws.{AreHostNamesRead}
 use Rattle.hfs_incoming.proofs.Letters.{plain}
 
@@ -28,7 +30,7 @@ low-digit : ℕ → ℕ
 low-digit b = upper_digit (b % 16)
 
 escaped-test : ℕ → Bool
-escaped-test b = (are_digits (high-digit b) (low-digit b) && (digits_byte (high-digit b) (low-digit b) == b)) && (nat_lt (high-digit b) 128 && nat_lt (low-digit b) 128)
+escaped-test b = (are_digits HostName (high-digit b) (low-digit b) && (digits_byte HostName (high-digit b) (low-digit b) == b)) && (nat_lt (high-digit b) 128 && nat_lt (low-digit b) 128)
 
 itself-test : ℕ → Bool
 itself-test b = (roman_byte (roman_character b) == b) && scalars (roman_character b ∷ [])
@@ -37,7 +39,7 @@ unequal-test : ℕ → Bool
 unequal-test b = is_reserved b || not (roman_character b == 61)
 
 escaped-tried : (b : ℕ) → b < 256 → escaped-test b ≡ true
-unfolding each_below escaped-test high-digit low-digit digit_value
+unfolding each_below escaped-test high-digit low-digit digit_value letter_value
 escaped-tried b h = at-each 256 escaped-test refl b h
 
 itself-tried : (b : ℕ) → b < 256 → itself-test b ≡ true
@@ -48,9 +50,14 @@ unequal-tried : (b : ℕ) → b < 256 → unequal-test b ≡ true
 unfolding each_below unequal-test is_reserved roman_character high_characters
 unequal-tried b h = at-each 256 unequal-test refl b h
 
+-- the byte of a byte's character is the byte
+pub itself-back : (b : ℕ) → b < 256 → roman_byte (roman_character b) ≡ b
+unfolding itself-test
+itself-back b h = eqb-true _ _ (and_parts _ _ (itself-tried b h)).0
+
 -- ---- one word
 
-itself-chars : (b : ℕ) (t : List ℕ) → b < 256 → chars (character_text b ++ t) ≡ roman_character b ∷ chars t
+pub itself-chars : (b : ℕ) (t : List ℕ) → b < 256 → chars (character_text b ++ t) ≡ roman_character b ∷ chars t
 unfolding character_text itself-test
 itself-chars b t h =
     let one : scalars (roman_character b ∷ []) ≡ true = (and_parts _ _ (itself-tried b h)).1 in
@@ -66,10 +73,10 @@ escaped-chars b t h =
     chars-append (61 ∷ high-digit b ∷ low-digit b ∷ []) t (IsUtf8-from_ascii _ ascii) ∙ ap (λ (l : List ℕ). l ++ chars t) (chars-IsAscii _ ascii)
 
 escaped-letter : (b : ℕ) (t : List ℕ) → b < 256 → host_letters (61 ∷ high-digit b ∷ low-digit b ∷ t) ≡ b ∷ host_letters t
-unfolding host_letters escaped-test
+unfolding letters_in escaped-test
 escaped-letter b t h =
     let two = and_parts _ _ (and_parts _ _ (escaped-tried b h)).0 in
-    ap (λ c. if (61 == 61) && c then digits_byte (high-digit b) (low-digit b) ∷ host_letters t else roman_byte 61 ∷ host_letters (high-digit b ∷ low-digit b ∷ t)) two.0
+    ap (λ c. if (61 == 61) && c then digits_byte HostName (high-digit b) (low-digit b) ∷ host_letters t else roman_byte 61 ∷ host_letters (high-digit b ∷ low-digit b ∷ t)) two.0
     ∙ ap (λ (n : ℕ). n ∷ host_letters t) (eqb-true _ _ two.1)
 
 open-test : (r b : Bool) → (r || b) ≡ true → not r ≡ true → b ≡ true
@@ -77,10 +84,10 @@ open-test true b p q = cc
 open-test false b p q = p
 
 itself-letter : (b : ℕ) (t : List ℕ) → b < 256 → not (is_reserved b) ≡ true → host_letters (roman_character b ∷ t) ≡ b ∷ host_letters t
-unfolding itself-test unequal-test
+unfolding unequal-test
 itself-letter b t h free =
-    plain (roman_character b) t (not-true _ (open-test (is_reserved b) _ (unequal-tried b h) free))
-    ∙ ap (λ (n : ℕ). n ∷ host_letters t) (eqb-true _ _ (and_parts _ _ (itself-tried b h)).0)
+    plain HostName (roman_character b) t (not-true _ (open-test (is_reserved b) _ (unequal-tried b h) free))
+    ∙ ap (λ (n : ℕ). n ∷ host_letters t) (itself-back b h)
 
 word-back : (escaped : Bool) (b : ℕ) (t xs : List ℕ) → b < 256 → (escaped || not (is_reserved b)) ≡ true → host_letters (chars t) ≡ xs
     → host_letters (chars (host_character escaped b ++ t)) ≡ b ∷ xs
@@ -103,7 +110,7 @@ first-marks false false false true = refl
 first-marks false false false false = refl
 
 no-letters : host_letters (chars []) ≡ []
-unfolding host_letters
+unfolding letters_in
 no-letters = ap host_letters chars-nil
 
 rest-back : (a : List ℕ) → is_bytes a ≡ true → host_letters (chars (host_rest a)) ≡ a
@@ -124,7 +131,7 @@ name-back (c ∷ behind) h some =
 
 -- ---- item names
 
-characters-bytes : (a : List ℕ) → list_all is_name_character a ≡ true → is_bytes a ≡ true
+pub characters-bytes : (a : List ℕ) → list_all is_name_character a ≡ true → is_bytes a ≡ true
 characters-bytes [] h = refl
 characters-bytes (x ∷ a) h =
     let two = and_parts _ _ h in

@@ -1,10 +1,11 @@
--- The letters of a host name, one by one.
+-- The letters of a text, one by one.
 use Rattle.std.proofs.Common.{◌≡◌, ◌≢◌, ◌∙◌, sym, ap, refl, ℕ, ◌+◌, ◌<◌, ◌≤◌, Bool, true, false, ◌&&◌, List, [], ◌∷◌, map, Option, Some, None, arith}
 use Rattle.std.specs.Prelude.{◌==◌, if◌then◌else◌}
 use Rattle.std.specs.List.{position}
-use Rattle.std.proofs.lemmas.Bool.{lt-ltb, le-ltb, ne_eqb, and_from, and_left, and_right}
+use Rattle.std.proofs.lemmas.Bool.{lt-ltb, le-ltb, eq-eqb, ne_eqb, and_from, and_left, and_right}
 use Rattle.hfs_names.specs.MacRoman.{high_characters}
-use Rattle.hfs_incoming.specs.Names.{high_byte, roman_byte, are_digits, digits_byte, host_letters, digits_in, seen_letter, seen_letters}
+use Rattle.hfs_incoming.specs.declared.spelled.Spelling.{Spelling}
+use Rattle.hfs_incoming.specs.Spelled.{high_byte, roman_byte, mark, are_digits, digits_byte, letters_in, digits_in, seen_letter, seen_letters}
 
 -- ---- the letter of one character
 
@@ -35,23 +36,23 @@ other : {A : Type 0} (t : Bool) (x y : A) → t ≡ false → (if t then x else 
 other true x y e = cc
 other false x y e = refl
 
-pub plain : (a : ℕ) (rest : List ℕ) → (a == 61) ≡ false → host_letters (a ∷ rest) ≡ roman_byte a ∷ host_letters rest
-unfolding host_letters
-plain a [] e = refl
-plain a (b ∷ []) e = refl
-plain a (b ∷ c ∷ rest) e = other ((a == 61) && are_digits b c) (digits_byte b c ∷ host_letters rest) (roman_byte a ∷ host_letters (b ∷ c ∷ rest)) (and_left (a == 61) (are_digits b c) e)
+pub plain : (s : Spelling) (a : ℕ) (rest : List ℕ) → (a == mark s) ≡ false → letters_in s (a ∷ rest) ≡ roman_byte a ∷ letters_in s rest
+unfolding letters_in
+plain s a [] e = refl
+plain s a (b ∷ []) e = refl
+plain s a (b ∷ c ∷ rest) e = other ((a == mark s) && are_digits s b c) (digits_byte s b c ∷ letters_in s rest) (roman_byte a ∷ letters_in s (b ∷ c ∷ rest)) (and_left (a == mark s) (are_digits s b c) e)
 
 no-pair : (t : Bool) (n : ℕ) (rest : List ℕ) → if◌then◌else◌ {A = Option (ℕ × List ℕ)} t (Some (n, rest)) None ≡ None → t ≡ false
 no-pair true n rest e = cc
 no-pair false n rest e = refl
 
-bare : (a : ℕ) (rest : List ℕ) → digits_in rest ≡ None → host_letters (a ∷ rest) ≡ roman_byte a ∷ host_letters rest
-unfolding host_letters digits_in
-bare a [] e = refl
-bare a (b ∷ []) e = refl
-bare a (b ∷ c ∷ rest) e =
-    other ((a == 61) && are_digits b c) (digits_byte b c ∷ host_letters rest) (roman_byte a ∷ host_letters (b ∷ c ∷ rest))
-    (and_right (a == 61) (are_digits b c) (no-pair (are_digits b c) (digits_byte b c) rest e))
+bare : (s : Spelling) (a : ℕ) (rest : List ℕ) → digits_in s rest ≡ None → letters_in s (a ∷ rest) ≡ roman_byte a ∷ letters_in s rest
+unfolding letters_in digits_in
+bare s a [] e = refl
+bare s a (b ∷ []) e = refl
+bare s a (b ∷ c ∷ rest) e =
+    other ((a == mark s) && are_digits s b c) (digits_byte s b c ∷ letters_in s rest) (roman_byte a ∷ letters_in s (b ∷ c ∷ rest))
+    (and_right (a == mark s) (are_digits s b c) (no-pair (are_digits s b c) (digits_byte s b c) rest e))
 
 inside : (p q : ℕ × List ℕ) → Some p ≡ Some q → p ≡ q
 inside p q e = cc
@@ -67,22 +68,22 @@ pair true m n rest more e =
     record { are = refl; number = ap (λ (p : ℕ × List ℕ). p.0) same; behind = ap (λ (p : ℕ × List ℕ). p.1) same }
 pair false m n rest more e = cc
 
-escape : (a n : ℕ) (rest more : List ℕ) → (a == 61) ≡ true → digits_in rest ≡ Some (n, more) → host_letters (a ∷ rest) ≡ n ∷ host_letters more
-unfolding host_letters digits_in
-escape a n [] more first e = cc
-escape a n (b ∷ []) more first e = cc
-escape a n (b ∷ c ∷ rest) more first e =
-    let two = pair (are_digits b c) (digits_byte b c) n rest more e in
-    chosen ((a == 61) && are_digits b c) (digits_byte b c ∷ host_letters rest) (roman_byte a ∷ host_letters (b ∷ c ∷ rest)) (and_from _ _ first two.are)
-    ∙ (λ i. two.number i ∷ host_letters (two.behind i))
+escape : (s : Spelling) (a n : ℕ) (rest more : List ℕ) → (a == mark s) ≡ true → digits_in s rest ≡ Some (n, more) → letters_in s (a ∷ rest) ≡ n ∷ letters_in s more
+unfolding letters_in digits_in
+escape s a n [] more first e = cc
+escape s a n (b ∷ []) more first e = cc
+escape s a n (b ∷ c ∷ rest) more first e =
+    let two = pair (are_digits s b c) (digits_byte s b c) n rest more e in
+    chosen ((a == mark s) && are_digits s b c) (digits_byte s b c ∷ letters_in s rest) (roman_byte a ∷ letters_in s (b ∷ c ∷ rest)) (and_from _ _ first two.are)
+    ∙ (λ i. two.number i ∷ letters_in s (two.behind i))
 
 -- as they are read
-pub plain_first : (a letter : ℕ) (rest : List ℕ) → a ≢ 61 → letter ≡ seen_letter (roman_byte a) → seen_letters (a ∷ rest) ≡ letter ∷ seen_letters rest
-plain_first a letter rest differs is = ap (map seen_letter) (plain a rest (ne_eqb a 61 differs)) ∙ ap (λ (x : ℕ). x ∷ seen_letters rest) (sym is)
+pub plain_first : (s : Spelling) (a m letter : ℕ) (rest : List ℕ) → m ≡ mark s → a ≢ m → letter ≡ seen_letter (roman_byte a) → seen_letters s (a ∷ rest) ≡ letter ∷ seen_letters s rest
+plain_first s a m letter rest own differs is = ap (map seen_letter) (plain s a rest (ap (λ (x : ℕ). a == x) (sym own) ∙ ne_eqb a m differs)) ∙ ap (λ (x : ℕ). x ∷ seen_letters s rest) (sym is)
 
-pub no_digits : (a letter : ℕ) (rest : List ℕ) → digits_in rest ≡ None → letter ≡ seen_letter (roman_byte a) → seen_letters (a ∷ rest) ≡ letter ∷ seen_letters rest
-no_digits a letter rest none is = ap (map seen_letter) (bare a rest none) ∙ ap (λ (x : ℕ). x ∷ seen_letters rest) (sym is)
+pub no_digits : (s : Spelling) (a letter : ℕ) (rest : List ℕ) → digits_in s rest ≡ None → letter ≡ seen_letter (roman_byte a) → seen_letters s (a ∷ rest) ≡ letter ∷ seen_letters s rest
+no_digits s a letter rest none is = ap (map seen_letter) (bare s a rest none) ∙ ap (λ (x : ℕ). x ∷ seen_letters s rest) (sym is)
 
-pub escape_first : (a n letter : ℕ) (rest more : List ℕ) → a ≡ 61 → digits_in rest ≡ Some (n, more) → letter ≡ seen_letter n → seen_letters (a ∷ rest) ≡ letter ∷ seen_letters more
-escape_first a n letter rest more first found is =
-    ap (map seen_letter) (escape a n rest more (ap (λ (x : ℕ). x == 61) first) found) ∙ ap (λ (x : ℕ). x ∷ seen_letters more) (sym is)
+pub escape_first : (s : Spelling) (a m n letter : ℕ) (rest more : List ℕ) → m ≡ mark s → a ≡ m → digits_in s rest ≡ Some (n, more) → letter ≡ seen_letter n → seen_letters s (a ∷ rest) ≡ letter ∷ seen_letters s more
+escape_first s a m n letter rest more own first found is =
+    ap (map seen_letter) (escape s a n rest more (eq-eqb a (mark s) (first ∙ own)) found) ∙ ap (λ (x : ℕ). x ∷ seen_letters s more) (sym is)

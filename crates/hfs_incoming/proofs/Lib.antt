@@ -1,6 +1,7 @@
 mod Letters
 mod Given
 mod HostNamesRead
+mod PlainTextRead
 mod MacBinaryRead
 mod Entries
 mod AppleDoubleRead

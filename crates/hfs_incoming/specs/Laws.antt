@@ -9,7 +9,8 @@ use Rattle.hfs_encodings.specs.MacBinary.{macbinary_bytes, resource_place}
 use Rattle.hfs_incoming.specs.declared.names.GivenName.TheVariants.{Item}
 use Rattle.hfs_incoming.specs.declared.apple_double.AppleDoubleFile.{AppleDoubleFile}
 use Rattle.hfs_incoming.specs.declared.macbinary.MacBinaryFile.{MacBinaryFile}
-use Rattle.hfs_incoming.specs.Names.{given_name, host_letters, renamed}
+use Rattle.hfs_incoming.specs.Names.{given_name, renamed}
+use Rattle.hfs_incoming.specs.Spelled.{host_letters, plain_letters}
 use Rattle.hfs_incoming.specs.Forks.{fork_in}
 use Rattle.hfs_incoming.specs.AppleDouble.{apple_double_in}
 use Rattle.hfs_incoming.specs.MacBinary.{macbinary_in}
@@ -22,6 +23,13 @@ pub record AreHostNamesRead (host_name : List ℕ → List ℕ) : Type 0 where
   pub item : (name : List ℕ) → IsTrue (is_item_name name) → given_name (host_letters (chars (host_name name))) ≡ Item name
   -- and what stands in the place of other letters is an item name
   pub other : (letters : List ℕ) → IsTrue (is_item_name (renamed letters))
+
+-- the laws of plain text that is read back
+pub record IsPlainTextRead (plain_text : List ℕ → List ℕ) : Type 0 where
+  -- the letters of the plain text of bytes are these bytes, whatever they are
+  pub back : (bytes : List ℕ) → IsTrue (is_bytes bytes) → plain_letters (chars (plain_text bytes)) ≡ bytes
+  -- so an item name comes back
+  pub item : (name : List ℕ) → IsTrue (is_item_name name) → given_name (plain_letters (chars (plain_text name))) ≡ Item name
 
 -- what is told of a file with this header and both forks
 abbrev pub macbinary_file_of : MacBinaryHead → MacBinaryFile

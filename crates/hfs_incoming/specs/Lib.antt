@@ -1,3 +1,4 @@
+pub mod Spelled
 pub mod Names
 pub mod Forks
 pub mod MacBinary

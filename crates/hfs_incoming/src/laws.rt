@@ -1,7 +1,8 @@
 //! What is written comes back.
 ghost use Rattle.std.specs.Prelude.{◌≡◌, ◌≤◌, ℕ, List, length};
 ghost use Rattle.hfs_names.specs.HostNames.{host_name};
-ghost use Rattle.hfs_incoming.specs.Laws.{AreHostNamesRead, IsAppleDoubleReadBack, IsReadBack};
+ghost use Rattle.hfs_names.specs.PlainTexts.{plain_text};
+ghost use Rattle.hfs_incoming.specs.Laws.{AreHostNamesRead, IsAppleDoubleReadBack, IsPlainTextRead, IsReadBack};
 
 use hfs_encodings::{AppleDoubleHead, MacBinaryHead};
 
@@ -9,6 +10,11 @@ use hfs_encodings::{AppleDoubleHead, MacBinaryHead};
 /// name does; and what an item is called in the place of letters that are no item name is one.
 pub fn host_item_name_laws()
     ensures { AreHostNamesRead host_name }
+{}
+
+/// The laws of plain text that is read back: any bytes come back from their plain text, so each item name does.
+pub fn plain_text_laws()
+    ensures { IsPlainTextRead plain_text }
 {}
 
 /// The law of MacBinary: header and forks come back from the file that is written of them, where it has a name.

@@ -33,7 +33,8 @@ use Rattle.hfs_item_table.specs.declared.row.RowKind.{RowKind}
 use Rattle.hfs_item_table.specs.declared.row.RowKind.TheVariants.{Folder, File as FileRow}
 use Rattle.hfs_item_table.specs.declared.table.Table.{Table}
 use Rattle.hfs_item_table.specs.Places.{place, place_cmp}
-use Rattle.hfs_item_table.specs.Tables.{bytes_of, IsForkIn, item_of, kind_of, items_of, volume_of, AreNames, IsTable, IsKindOf}
+use Rattle.hfs_fork_pieces.specs.Pieces.{ArePieces, bytes_from}
+use Rattle.hfs_item_table.specs.Tables.{base_bytes, bytes_of, IsForkIn, item_of, kind_of, items_of, volume_of, AreNames, IsTable, IsKindOf}
 use Rattle.hfs_item_table.specs.Edits.{Writes, Leaves, HasRoom, kind_with_child, with_child}
 use Rattle.hfs_item_table.proofs.ShownLemmas.{items, get_items, put_item}
 use Rattle.hfs_item_table.proofs.Named.{entry_has, child_named_is, tied, is_level}
@@ -299,12 +300,15 @@ rows_besides t lawful dir folder rows k w next put = put.2 dir (sym (unsigned_ti
 
 -- ---- new kinds
 
-pub no_extents : (mdb : Mdb) (f : RowFork) → f.extents ≡ [] → f.size ≡ 0 → IsForkIn mdb f
-no_extents mdb f none zero_size = record {
+pub no_extents : (mdb : Mdb) (f : RowFork) → f.extents ≡ [] → f.pieces.base_len ≡ 0 → ArePieces f.pieces → IsForkIn mdb f
+no_extents mdb f none zero_size pieces = record {
   within = subst (λ (l : List Extent). AreExtentsWithin mdb.allocation_blocks l) (sym none) (λ k d lt. absurd (omega arith));
   room = subst (λ (n : ℕ). n ≤ block_total f.extents * mdb.allocation_block_size) (sym zero_size) (omega arith);
+  pieces = pieces;
 }
 
-pub no_bytes : (base : List ℕ) (mdb : Mdb) (f : RowFork) → f.size ≡ 0 → bytes_of base mdb f ≡ []
+pub no_bytes : (base : List ℕ) (mdb : Mdb) (f : RowFork) → f.pieces.touched ≡ false → f.pieces.base_len ≡ 0 → bytes_of base mdb f ≡ []
 unfolding bytes_of fork_bytes
-no_bytes base mdb f zero_size = ap (λ (n : ℕ). take n (joined (file_blocks (block_at base) mdb f.extents))) zero_size
+no_bytes base mdb f untouched zero_size =
+    ap (λ (t : Bool). cond t (bytes_from (base_bytes base mdb f) 0 f.pieces.pieces) (base_bytes base mdb f)) untouched
+    ∙ ap (λ (n : ℕ). take n (joined (file_blocks (block_at base) mdb f.extents))) zero_size

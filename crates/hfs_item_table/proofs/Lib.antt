@@ -16,3 +16,5 @@ mod NameLemmas
 pub mod PlaceLemmas
 pub mod ShownLemmas
 mod Copied
+mod ForkLemmas
+mod ForkReads

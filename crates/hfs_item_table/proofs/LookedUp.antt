@@ -1,5 +1,5 @@
 -- What is looked up in a table.
-use Rattle.std.proofs.Common.{◌≡◌, ⊎_elim, ℕ, ◌+◌, ◌-◌, ◌<◌, ◌^◌, arith, cond, List, true, length, refl, sym, ◌∙◌, ap, subst, Option, Some, None, Bor}
+use Rattle.std.proofs.Common.{◌≡◌, ⊎_elim, ℕ, ◌+◌, ◌-◌, ◌<◌, ◌≤◌, ◌^◌, arith, cond, List, true, length, refl, sym, ◌∙◌, ap, subst, Option, Some, None, Bor}
 use Rattle.std.specs.Ordering.{nat_cmp}
 use Rattle.std.specs.Option.{option_map, option_and_then, option_copied}
 use Rattle.std.specs.FinMap as map
@@ -33,7 +33,9 @@ use Rattle.hfs_model.specs.Children.{entry_at, child_named, is_child_named, is_f
 use Rattle.hfs_item_table.specs.declared.row.Row.{Row}
 use Rattle.hfs_item_table.specs.declared.table.Table.{Table}
 use Rattle.hfs_item_table.specs.Places.{place, place_cmp}
-use Rattle.hfs_item_table.specs.Tables.{bytes_of, item_of, kind_of, items_of, IsForkIn, IsTable}
+use Rattle.hfs_fork_pieces.specs.Pieces.{fork_length}
+use Rattle.hfs_fork_pieces.proofs.Edited.{length-shown}
+use Rattle.hfs_item_table.specs.Tables.{base_bytes, bytes_of, item_of, kind_of, items_of, IsForkIn, IsTable}
 use Rattle.hfs_item_table.proofs.ShownLemmas.{get_items}
 use Rattle.hfs_check.proofs.EntryLemmas.{entry_get as entry_at_is}
 use Rattle.hfs_item_table.proofs.Named.{child_named_is}
@@ -87,39 +89,47 @@ module _ (t : Table) (is : IsTable t) where
   even : t.mdb.allocation_block_size % 512 ≡ 0
   even = ap (λ n. n % 512) is.over.layout.allocation_block_size ∙ is.over.sound.blocks.mdb.whole_size
 
-  pub size_is : (fork : RowFork) → IsForkIn t.mdb fork → length (bytes_of t.base t.mdb fork) ≡ fork.size
-  unfolding bytes_of
-  size_is fork in_ = length-fork_bytes (block_at t.base) _ (length-block_at t.base) t.mdb area fork.extents fork.size even in_.within in_.room
+  -- the base has as many bytes of the fork as the row says
+  pub base_long : (fork : RowFork) → IsForkIn t.mdb fork → length (base_bytes t.base t.mdb fork) ≡ fork.pieces.base_len
+  base_long fork in_ = length-fork_bytes (block_at t.base) _ (length-block_at t.base) t.mdb area fork.extents fork.pieces.base_len even in_.within in_.room
 
-  pub told_file : (id : ℕ) (r : Row) (f : RowFile) → r.kind ≡ FileRow f → IsForkIn t.mdb f.«data» × IsForkIn t.mdb f.resource
-      → record { id = id; parent = r.parent; name = r.name; kind = item_kind.File; created = r.created; modified = r.modified; backup = r.backup; finder = r.finder; locked = f.locked; has_id = f.has_thread; valence = 0; data_len = f.«data».size; res_len = f.resource.size }
+  pub size_is : (fork : RowFork) → IsForkIn t.mdb fork → length (bytes_of t.base t.mdb fork) ≡ fork_length fork.pieces
+  unfolding bytes_of
+  size_is fork in_ = length-shown fork.pieces (base_bytes t.base t.mdb fork) in_.pieces (base_long fork in_)
+
+  pub told_file : (id : ℕ) (r : Row) (f : RowFile) (data_len res_len : ℕ) → data_len ≡ fork_length f.«data».pieces → res_len ≡ fork_length f.resource.pieces → r.kind ≡ FileRow f → IsForkIn t.mdb f.«data» × IsForkIn t.mdb f.resource
+      → record { id = id; parent = r.parent; name = r.name; kind = item_kind.File; created = r.created; modified = r.modified; backup = r.backup; finder = r.finder; locked = f.locked; has_id = f.has_thread; valence = 0; data_len = data_len; res_len = res_len }
       ≡ info_of (map.entries (items_of t)) (id, item_of t.base t.mdb r)
   unfolding info_of
-  told_file id r f is_file forks =
-      let all : Info = record { id = id; parent = r.parent; name = r.name; kind = item_kind.File; created = r.created; modified = r.modified; backup = r.backup; finder = r.finder; locked = f.locked; has_id = f.has_thread; valence = 0; data_len = f.«data».size; res_len = f.resource.size } in
-      (λ i. record all { data_len = sym (size_is f.«data» forks.0) i; res_len = sym (size_is f.resource forks.1) i }) ∙ ap (λ k. info_of (map.entries (items_of t)) (id, record (item_of t.base t.mdb r) { kind = kind_of t.base t.mdb k })) (sym is_file)
+  told_file id r f data_len res_len data_is res_is is_file forks =
+      let all : Info = record { id = id; parent = r.parent; name = r.name; kind = item_kind.File; created = r.created; modified = r.modified; backup = r.backup; finder = r.finder; locked = f.locked; has_id = f.has_thread; valence = 0; data_len = data_len; res_len = res_len } in
+      (λ i. record all { data_len = (data_is ∙ sym (size_is f.«data» forks.0)) i; res_len = (res_is ∙ sym (size_is f.resource forks.1)) i }) ∙ ap (λ k. info_of (map.entries (items_of t)) (id, record (item_of t.base t.mdb r) { kind = kind_of t.base t.mdb k })) (sym is_file)
 
   -- ---- forks
 
   pub within_base : (fork : RowFork) (read : List Extent) → IsForkIn t.mdb fork → read ≡ fork.extents → AreExtentsWithin (mdb_in (block_at t.base)).allocation_blocks read
   within_base fork read in_ same = subst (λ (n : ℕ). AreExtentsWithin n read) is.over.layout.allocation_blocks (subst (AreExtentsWithin t.mdb.allocation_blocks) (sym same) in_.within)
 
-  -- a fork has as many bytes as its length says, and what is read of it stops there
-  pub part_is : (fork : RowFork) (read : List Extent) (offset count few : ℕ) (bytes : List ℕ) → IsForkIn t.mdb fork → read ≡ fork.extents → few ≡ min count (fork.size - offset)
-      → bytes ≡ read_from (bytes_of_extents t.base read) offset few
-      → record { code = cond (nat_lt fork.size (offset + count)) END_OF_FILE (pos 0); value = value.Bytes bytes } ≡ part_of (bytes_of t.base t.mdb fork) offset count
-  unfolding bytes_of fork_bytes
-  part_is fork read offset count few bytes in_ same few_is is_read i = record {
-    code = cond (nat_lt (sym (size_is fork in_) i) (offset + count)) END_OF_FILE (pos 0);
-    value = value.Bytes (whole i);
+  -- what is read of the base is a part of its fork, where it lies within that
+  pub base_part : (fork : RowFork) (read : List Extent) (offset count : ℕ) (bytes : List ℕ) → read ≡ fork.extents → offset + count ≤ fork.pieces.base_len
+      → bytes ≡ read_from (bytes_of_extents t.base read) offset count
+      → bytes ≡ read_from (base_bytes t.base t.mdb fork) offset count
+  unfolding fork_bytes
+  base_part fork read offset count bytes same within is_read =
+      let few : count ≡ min count (fork.pieces.base_len - offset) = omega (arith, within) in
+      is_read
+      ∙ (λ i. read_from (bytes_of_extents t.base (same i)) offset (few i))
+      ∙ ap (λ (l : List ℕ). read_from l offset (min count (fork.pieces.base_len - offset))) (sym (same_bytes (block_at t.base) (mdb_in (block_at t.base)) t.mdb fork.extents is.over.layout))
+      ∙ sym (read-take count offset fork.pieces.base_len (all_bytes (block_at t.base) t.mdb fork.extents))
+
+  -- a fork has as many bytes as its length says
+  pub part_is : (fork : RowFork) (size offset count : ℕ) (bytes : List ℕ) → IsForkIn t.mdb fork → size ≡ fork_length fork.pieces
+      → bytes ≡ read_from (bytes_of t.base t.mdb fork) offset count
+      → record { code = cond (nat_lt size (offset + count)) END_OF_FILE (pos 0); value = value.Bytes bytes } ≡ part_of (bytes_of t.base t.mdb fork) offset count
+  part_is fork size offset count bytes in_ size_as is_read i = record {
+    code = cond (nat_lt ((size_as ∙ sym (size_is fork in_)) i) (offset + count)) END_OF_FILE (pos 0);
+    value = value.Bytes (is_read i);
   }
-    where
-      whole : bytes ≡ read_from (bytes_of t.base t.mdb fork) offset count
-      whole =
-          is_read
-          ∙ (λ i. read_from (bytes_of_extents t.base (same i)) offset (few_is i))
-          ∙ ap (λ (l : List ℕ). read_from l offset (min count (fork.size - offset))) (sym (same_bytes (block_at t.base) (mdb_in (block_at t.base)) t.mdb fork.extents is.over.layout))
-          ∙ sym (read-take count offset fork.size (all_bytes (block_at t.base) t.mdb fork.extents))
 
 module _ (m : Items) where
   -- the ID behind a folder's is a number of 32 bits

@@ -6,6 +6,8 @@ use Rattle.std.specs.BTreeMap as tree
 use Rattle.std.specs.FinMap as finite
 use Rattle.hfs_fields.specs.declared.mdb.Mdb.{Mdb}
 use Rattle.hfs_model.specs.declared.item.Kind.{Kind}
+use Rattle.hfs_model.specs.ForkCalls.{set_eof, write_fork}
+use Rattle.hfs_model.specs.declared.call.Fork.{Fork}
 use Rattle.hfs_model.specs.Changes.{cat_move, create, rename, set_cat_info}
 use Rattle.hfs_model.specs.Children.{is_folder, child_named, valence}
 use Rattle.hfs_model.specs.Volume.{Volume, Items, Entry}
@@ -72,6 +74,14 @@ pub record Leaves (t : Table) (v : Volume) : Type 0 where
 -- the dates and the Finder bytes of the folder's item of that name are set
 abbrev pub SetsCatInfo : ℕ → List ℕ → ℕ → ℕ → ℕ → List ℕ → ℕ → Table → Table → Type 0
 SetsCatInfo dir name created modified backup info now old new = Leaves new (set_cat_info (volume_of old) dir name created modified backup info now).0
+
+-- the fork of the folder's file of that name is its first bytes
+abbrev pub SetsEof : ℕ → List ℕ → Fork → ℕ → ℕ → Table → Table → Type 0
+SetsEof dir name fork length now old new = Leaves new (set_eof old.mdb.allocation_block_size (volume_of old) dir name fork length now).0
+
+-- bytes are written over the fork of the folder's file of that name
+abbrev pub WritesFork : ℕ → List ℕ → Fork → ℕ → List ℕ → ℕ → Table → Table → Type 0
+WritesFork dir name fork offset bytes now old new = Leaves new (write_fork old.mdb.allocation_block_size (volume_of old) dir name fork offset bytes now).0
 
 -- an item of that kind is made under the folder
 abbrev pub Adds : Kind → ℕ → List ℕ → ℕ → Table → Table → Type 0

@@ -22,3 +22,5 @@ is_in_place (call.RstFLock dir name now) = true
 is_in_place (call.CreateFileId dir name now) = true
 is_in_place (call.DeleteFileId id now) = true
 is_in_place (call.ResolveFileId id) = false
+is_in_place (call.SetEof dir name fork length now) = false
+is_in_place (call.WriteFork dir name fork offset bytes now) = false

@@ -19,6 +19,7 @@ use Rattle.hfs_model.specs.Choices.{is_bad_move}
 use Rattle.hfs_model.specs.Lawful.{Has}
 use Rattle.hfs_space.specs.Extents.{AreExtentsWithin, block_total}
 use Rattle.hfs_space.specs.Forks.{fork_bytes}
+use Rattle.hfs_fork_pieces.specs.Pieces.{ArePieces, fork_shown}
 use Rattle.hfs_check.specs.Parts.{mdb_in}
 use Rattle.hfs_check.specs.Sound.{IsSound}
 use Rattle.hfs_volume.specs.Layout.{SameLayout}
@@ -33,8 +34,12 @@ use Rattle.hfs_item_table.specs.declared.table.Table.{Table}
 use Rattle.hfs_item_table.specs.Places.{place_cmp, place}
 
 -- the bytes of a fork in the base
+abbrev pub base_bytes : List ℕ → Mdb → RowFork → List ℕ
+base_bytes base mdb fork = fork_bytes (block_at base) mdb fork.extents fork.pieces.base_len
+
+-- the bytes of a fork over the base
 unfoldable pub bytes_of : List ℕ → Mdb → RowFork → List ℕ
-bytes_of base mdb fork = fork_bytes (block_at base) mdb fork.extents fork.size
+bytes_of base mdb fork = fork_shown (base_bytes base mdb fork) fork.pieces
 
 abbrev pub file_of : List ℕ → Mdb → RowFile → File
 file_of base mdb f = record { kept = f.kept; locked = f.locked; has_thread = f.has_thread; «data» = bytes_of base mdb f.«data»; resource = bytes_of base mdb f.resource }
@@ -90,10 +95,11 @@ volume_of t = record {
   block_size = t.mdb.allocation_block_size;
 }
 
--- the fork's extents lie in the volume, and have room for its bytes
+-- the fork's extents lie in the volume, and have room for the bytes that it has in the base
 pub record IsForkIn (mdb : Mdb) (fork : RowFork) : Type 0 where
   pub within : AreExtentsWithin mdb.allocation_blocks fork.extents
-  pub room : fork.size ≤ block_total fork.extents * mdb.allocation_block_size
+  pub room : fork.pieces.base_len ≤ block_total fork.extents * mdb.allocation_block_size
+  pub pieces : ArePieces fork.pieces
 
 -- a folder's row has the number of its children, and a file's forks lie in the volume
 abbrev pub IsKindOf : Items → Mdb → ℕ → RowKind → Type 0

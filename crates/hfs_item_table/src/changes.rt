@@ -4,17 +4,18 @@ ghost use Rattle.hfs_model.specs.Changes.{set_f_info, set_lock, delete, new_file
 ghost use Rattle.hfs_model.specs.FileIds.{create_file_id, delete_file_id};
 ghost use Rattle.hfs_model.specs.Lawful.{AreLawful};
 ghost use Rattle.hfs_model.specs.Step.{step};
-ghost use Rattle.hfs_item_table.specs.Edits.{Adds, AddsRow, Leaves, IsNew, SetsCatInfo};
+ghost use Rattle.hfs_item_table.specs.Edits.{Adds, AddsRow, Leaves, IsNew, SetsCatInfo, SetsEof, WritesFork};
 ghost use Rattle.hfs_item_table.specs.InPlace.{is_in_place};
 ghost use Rattle.hfs_item_table.specs.Tables.{items_of, volume_of, IsTable};
 
 use crate::edits;
 use crate::edits::new_row;
+use crate::forks::{ForkEdit, edit_fork};
 use crate::place::Place;
 use crate::row::RowKind;
 use crate::table::Table;
 use hfs_fields::Name;
-use hfs_model::{Call, reading_leaves};
+use hfs_model::{Call, Fork, SharedBytes, reading_leaves};
 use std::alloc::{AllocError, Global};
 
 impl Table {
@@ -51,6 +52,57 @@ impl Table {
         };
         edits::set_info(&mut self.by_id, id, created, modified, backup, info);
         self.changed = now;
+    }
+
+    /// Makes a fork of a file its first bytes, with zeros after them where it was shorter. At want of memory the items are as they were.
+    pub fn set_eof(
+        &mut self,
+        alloc: Global,
+        dir: u32,
+        name: &[u8],
+        fork: Fork,
+        length: u32,
+        now: u32,
+    ) -> Result<(), AllocError>
+        requires { IsTable self.old }
+        ensures ok { OnOk result (SetsEof dir name.now fork length now self.old self.new) }
+        ensures err { OnErr result (Leaves self.new (volume_of self.old)) }
+    {
+        let id = match self.to_set_eof(dir, name, length) {
+            Ok(found) => found.id,
+            Err(_) => return Ok(()),
+        };
+        let size = self.mdb.allocation_block_size;
+        let edit = ForkEdit::SetLength { count: length };
+        edit_fork(alloc, &mut self.by_id, id, size, fork, edit, now)?;
+        self.changed = now;
+        Ok(())
+    }
+
+    /// Writes bytes over a fork of a file, which are shared from then on. At want of memory the items are as they were.
+    pub fn write_fork(
+        &mut self,
+        alloc: Global,
+        dir: u32,
+        name: &[u8],
+        fork: Fork,
+        offset: u32,
+        bytes: &SharedBytes,
+        now: u32,
+    ) -> Result<(), AllocError>
+        requires { IsTable self.old }
+        ensures ok { OnOk result (WritesFork dir name.now fork offset bytes.now now self.old self.new) }
+        ensures err { OnErr result (Leaves self.new (volume_of self.old)) }
+    {
+        let id = match self.to_write_fork(dir, name, fork, offset, bytes.as_slice()) {
+            Ok(found) => found.id,
+            Err(_) => return Ok(()),
+        };
+        let size = self.mdb.allocation_block_size;
+        let edit = ForkEdit::Write { offset, bytes };
+        edit_fork(alloc, &mut self.by_id, id, size, fork, edit, now)?;
+        self.changed = now;
+        Ok(())
     }
 
     /// Locks or unlocks a file.
@@ -209,7 +261,9 @@ impl Table {
             | Call::GetIndexed { .. }
             | Call::List { .. }
             | Call::ReadFork { .. }
-            | Call::ResolveFileId { .. } => unreachable!(),
+            | Call::ResolveFileId { .. }
+            | Call::SetEof { .. }
+            | Call::WriteFork { .. } => unreachable!(),
         }
     }
 
@@ -237,6 +291,21 @@ impl Table {
                 new_dir,
                 now,
             } => self.cat_move(*dir, name.as_slice(), *new_dir, *now),
+            Call::SetEof {
+                dir,
+                name,
+                fork,
+                length,
+                now,
+            } => self.set_eof(alloc, *dir, name.as_slice(), *fork, *length, *now),
+            Call::WriteFork {
+                dir,
+                name,
+                fork,
+                offset,
+                bytes,
+                now,
+            } => self.write_fork(alloc, *dir, name.as_slice(), *fork, *offset, bytes, *now),
             Call::SetFInfo { .. }
             | Call::SetCatInfo { .. }
             | Call::SetFLock { .. }

@@ -4,15 +4,19 @@ ghost use Rattle.hfs_fields.specs.Names.{is_item_name};
 ghost use Rattle.hfs_model.specs.Choices.{is_locked, lock_code, child_to_change, file_to_change, to_set_f_info, to_set_cat_info, to_create, to_delete, to_rename, to_move, is_busy, is_full, is_held, is_taken, lies_in};
 ghost use Rattle.hfs_model.specs.Children.{is_folder};
 ghost use Rattle.hfs_model.specs.FileIds.{file_of_id, to_create_file_id, to_delete_file_id};
+ghost use Rattle.hfs_model.specs.ForkCalls.{to_set_eof, to_write_fork};
+ghost use Rattle.hfs_model.specs.Forks.{fork_bytes};
+ghost use Rattle.hfs_item_table.specs.ForkParts.{MayWrite};
 ghost use Rattle.hfs_item_table.specs.Edits.{Chooses, chosen_of, IsFound, MayAdd};
-ghost use Rattle.hfs_item_table.specs.Tables.{volume_of, IsTable, table_entries, row_entry, IsKindIn, moves_into_itself};
+ghost use Rattle.hfs_item_table.specs.Tables.{kind_of, volume_of, IsTable, table_entries, row_entry, IsKindIn, moves_into_itself};
 
 use crate::row::{Row, RowKind};
 use crate::table::{Found, Table};
 use hfs_fields::Name;
 use hfs_model::{
-    BAD_MOVE, BAD_NAME, BUSY, DUPLICATE, FILE_ID_EXISTS, FILE_ID_NOT_FOUND, FILE_LOCKED,
-    FOLDER_FULL, HARDWARE_LOCKED, NOT_A_FILE, NOT_A_FOLDER, NOT_FOUND, SOFTWARE_LOCKED,
+    BAD_MOVE, BAD_NAME, BUSY, DUPLICATE, END_OF_FILE, FILE_ID_EXISTS, FILE_ID_NOT_FOUND,
+    FILE_LOCKED, FOLDER_FULL, Fork, HARDWARE_LOCKED, NOT_A_FILE, NOT_A_FOLDER, NOT_FOUND,
+    PARAMETER, SOFTWARE_LOCKED,
 };
 
 impl Table {
@@ -63,6 +67,7 @@ impl Table {
         requires { IsTable self.now }
         ensures choice { Chooses self.now (λ v. file_to_change v dir name.now) result }
         ensures found { IfOk result (IsFound self.now) }
+        ensures sound { IfOk result (λ f. IsKindIn self.now f.id f.row.now.kind) }
     {
         let found = match self.child_to_change(dir, name) {
             Ok(found) => found,
@@ -79,6 +84,7 @@ impl Table {
         requires { IsTable self.now }
         ensures choice { Chooses self.now (λ v. to_set_f_info v dir name.now) result }
         ensures found { IfOk result (IsFound self.now) }
+        ensures sound { IfOk result (λ f. IsKindIn self.now f.id f.row.now.kind) }
     {
         let found = match self.file_to_change(dir, name) {
             Ok(found) => found,
@@ -88,6 +94,62 @@ impl Table {
             RowKind::File(file) if file.locked => Err(FILE_LOCKED),
             _ => Ok(found),
         }
+    }
+
+    /// The file whose fork gets another length.
+    #[tactic(auto, unfolding(hfs_model::specs::ForkCalls::to_set_eof, hfs_model::specs::Choices::to_set_f_info))]
+    pub(crate) fn to_set_eof(&self, dir: u32, name: &[u8], length: u32) -> Result<Found<'_>, i16>
+        requires { IsTable self.now }
+        ensures choice { Chooses self.now (λ v. to_set_eof v dir name.now length) result }
+        ensures found { IfOk result (IsFound self.now) }
+    {
+        if length > 2_147_483_647 {
+            return Err(PARAMETER);
+        }
+        self.to_set_f_info(dir, name)
+    }
+
+    /// How many bytes a fork of a row has, 0 of a folder.
+    fn fork_len(&self, id: u32, row: &Row, fork: Fork) -> u32
+        requires table { IsTable self.now }
+        requires row { IsKindIn self.now id row.now.kind }
+        ensures { result ≡ length (fork_bytes fork (kind_of self.now.base self.now.mdb row.now.kind)) }
+    {
+        match &row.kind {
+            RowKind::Folder { .. } => 0,
+            RowKind::File(file) => match fork {
+                Fork::DataFork => file.data.pieces.len(),
+                Fork::ResFork => file.resource.pieces.len(),
+            },
+        }
+    }
+
+    /// The file over a fork of which so many bytes are written from an offset on.
+    #[tactic(auto, unfolding(hfs_model::specs::ForkCalls::to_write_fork, hfs_model::specs::Choices::to_set_f_info))]
+    pub(crate) fn to_write_fork(
+        &self,
+        dir: u32,
+        name: &[u8],
+        fork: Fork,
+        offset: u32,
+        bytes: &[u8],
+    ) -> Result<Found<'_>, i16>
+        requires { IsTable self.now }
+        ensures choice { Chooses self.now (λ v. to_write_fork v dir name.now fork offset bytes.now) result }
+        ensures found { IfOk result (IsFound self.now) }
+        ensures within { IfOk result (MayWrite self.now fork offset bytes.now) }
+    {
+        if bytes.len() > 65_536 || u64::from(offset) + bytes.len() as u64 > 2_147_483_647 {
+            return Err(PARAMETER);
+        }
+        let found = match self.to_set_f_info(dir, name) {
+            Ok(found) => found,
+            Err(code) => return Err(code),
+        };
+        if self.fork_len(found.id, found.row, fork) < offset {
+            return Err(END_OF_FILE);
+        }
+        Ok(found)
     }
 
     #[tactic(auto, unfolding(hfs_model::specs::Choices::to_set_cat_info))]

@@ -1,5 +1,5 @@
 //! Rows that are written.
-ghost use Rattle.std.specs.Prelude.{◌≡◌, ℕ, List, Some, OnOk, OnErr};
+ghost use Rattle.std.specs.Prelude.{◌≡◌, ℕ, false, List, Some, OnOk, OnErr};
 ghost use Rattle.std.specs.Ordering.{nat_cmp};
 ghost use Rattle.std.specs.BTreeMap as tree;
 ghost use Rattle.hfs_item_table.specs.declared.row.Row.{Row};
@@ -14,6 +14,7 @@ use crate::extents::Extents;
 use crate::place::Place;
 use crate::row::{Row, RowFile, RowFork, RowKind};
 use hfs_fields::{FileFlags, Name};
+use hfs_fork_pieces::ForkPieces;
 use std::alloc::{AllocError, Global};
 use std::collections::BTreeMap;
 
@@ -158,10 +159,12 @@ pub fn new_row(kind: RowKind, dir: u32, name: Name, now: u32) -> Row
 
 fn no_fork(alloc: Global) -> RowFork
     ensures within { (mdb : Mdb) → IsForkIn mdb result }
-    ensures size { result.size ≡ 0 }
+    ensures untouched { result.pieces.touched ≡ false }
+    ensures size { result.pieces.base_len ≡ 0 }
 {
     let extents = Extents::new(Vec::new(alloc));
-    RowFork { extents, size: 0 }
+    let pieces = ForkPieces::untouched(alloc, 0);
+    RowFork { extents, pieces }
 }
 
 /// What a new file has: it is unlocked, with no thread and empty forks.

@@ -6,6 +6,7 @@ mod choices;
 mod edits;
 mod extents;
 mod following;
+mod forks;
 mod moving;
 mod place;
 mod row;

@@ -5,6 +5,7 @@ ghost use Rattle.hfs_item_table.specs.Places.{place};
 use crate::extents::Extents;
 use crate::place::Place;
 use hfs_fields::Name;
+use hfs_fork_pieces::ForkPieces;
 use std::alloc::AllocError;
 
 /// A folder or a file, without its ID. Its bytes stand in the base.
@@ -65,9 +66,9 @@ pub struct RowFile {
     pub resource: RowFork,
 }
 
-/// Where a fork's bytes stand, and how many there are.
+/// Where a fork's bytes stand in the base, and what calls made of them.
 #[derive(Clone, Drop)]
 pub struct RowFork {
     pub extents: Extents,
-    pub size: u32,
+    pub pieces: ForkPieces,
 }

@@ -5,13 +5,17 @@ ghost use Rattle.hfs_model.specs.FileIds.{resolve_file_id};
 ghost use Rattle.hfs_model.specs.Lawful.{IsLawful};
 ghost use Rattle.hfs_model.specs.Reading.{get_dir_info, get_cat_info, get_indexed, list, read_fork, part_of};
 ghost use Rattle.hfs_model.specs.Replies.{refusal, success, info_of, infos};
+ghost use Rattle.hfs_fork_pieces.specs.Pieces.{fork_length};
+ghost use Rattle.hfs_space.specs.Forks.{read_from};
 ghost use Rattle.hfs_space.specs.Results.{Gives};
+ghost use Rattle.hfs_item_table.specs.ForkParts.{IsPushed};
 ghost use Rattle.hfs_volume.specs.ForkParts.{part_reply};
 ghost use Rattle.hfs_item_table.specs.Tables.{FindsChild, FindsRow, bytes_in, volume_of, IsForkIn, IsTable, table_entries, row_entry, IsKindIn, HasItemOf};
 
 use crate::place::Place;
 use crate::row::{Row, RowFork, RowKind};
 use hfs_fields::{Mdb, Name};
+use hfs_fork_pieces::Stretch;
 use hfs_model::{
     BAD_NAME, END_OF_FILE, Fork, Info, Infos, ItemKind, NOT_A_FOLDER, NOT_FOUND, OwnedBytes,
     PARAMETER, Reply, Value,
@@ -136,8 +140,8 @@ impl Table {
                 info.kind = ItemKind::File;
                 info.locked = file.locked;
                 info.has_id = file.has_thread;
-                info.data_len = file.data.size;
-                info.res_len = file.resource.size;
+                info.data_len = file.data.pieces.len();
+                info.res_len = file.resource.pieces.len();
             }
         }
         info
@@ -299,6 +303,63 @@ impl Table {
         }
     }
 
+    /// Adds the bytes of a fork from a place on as far as they come of one source, and at most so many. Answers how many these are.
+    fn push_stretch(
+        &self,
+        alloc: Global,
+        fork: &RowFork,
+        place: u32,
+        most: u32,
+        bytes: &mut Vec<u8>,
+    ) -> Result<u32, AllocError>
+        requires table { IsTable self.now }
+        requires fork { IsForkIn self.now.mdb fork.now }
+        requires within { place < fork_length fork.now.pieces }
+        requires some { 0 < most }
+        ensures { IfOk result (IsPushed (bytes_in self.now fork.now) place most bytes.old.items bytes.new.items) }
+    {
+        match fork.pieces.stretch(place, most) {
+            Stretch::Base { from, count } => {
+                let extents = fork.extents.as_slice();
+                let read = self.base.read(alloc, extents, from, count)?;
+                bytes.extend_from_slice(&read)?;
+                Ok(count)
+            }
+            Stretch::Zeros { count } => {
+                let len = bytes.len() + count as usize;
+                bytes.resize(len, 0)?;
+                Ok(count)
+            }
+            Stretch::Given { bytes: given } => {
+                bytes.extend_from_slice(given)?;
+                Ok(given.len() as u32)
+            }
+        }
+    }
+
+    /// Bytes of a file's fork from a place on: so many, or as many as there are.
+    pub fn fork_bytes(
+        &self,
+        alloc: Global,
+        fork: &RowFork,
+        offset: u32,
+        count: u32,
+    ) -> Result<Vec<u8>, AllocError>
+        requires table { IsTable self.now }
+        requires fork { IsForkIn self.now.mdb fork.now }
+        ensures { IfOk result (λ bytes. bytes.items ≡ read_from (bytes_in self.now fork.now) offset count) }
+    {
+        let mut bytes = Vec::new(alloc);
+        let mut place = offset;
+        let mut left = count.min(fork.pieces.len().saturating_sub(offset));
+        while left > 0 {
+            let pushed = self.push_stretch(alloc, fork, place, left, &mut bytes)?;
+            place += pushed;
+            left -= pushed;
+        }
+        Ok(bytes)
+    }
+
     /// A part of one of a file's forks.
     fn fork_part(
         &self,
@@ -311,11 +372,8 @@ impl Table {
         requires fork { IsForkIn self.now.mdb fork.now }
         ensures { Gives (part_of (bytes_in self.now fork.now) offset count) result }
     {
-        let rest = fork.size.saturating_sub(offset);
-        let bytes = self
-            .base
-            .read(alloc, fork.extents.as_slice(), offset, count.min(rest))?;
-        Ok(part_reply(bytes, fork.size, offset, count))
+        let bytes = self.fork_bytes(alloc, fork, offset, count)?;
+        Ok(part_reply(bytes, fork.pieces.len(), offset, count))
     }
 
     /// At most `count` bytes of a file's fork, from an offset on.

@@ -1,7 +1,7 @@
 -- Laws of this crate, each by the laws that it stands on.
 use Rattle.std.proofs.Common.{true, false}
 use Rattle.hfs_model.specs.declared.call.Call.{Call}
-use Rattle.hfs_model.specs.declared.call.Call.TheVariants.{GetDirInfo, GetCatInfo, GetIndexed, List, ReadFork, Create, DirCreate, Delete, Rename, CatMove, SetFInfo, SetCatInfo, SetFLock, RstFLock, CreateFileId, DeleteFileId, ResolveFileId}
+use Rattle.hfs_model.specs.declared.call.Call.TheVariants.{GetDirInfo, GetCatInfo, GetIndexed, List, ReadFork, Create, DirCreate, Delete, Rename, CatMove, SetFInfo, SetCatInfo, SetFLock, RstFLock, CreateFileId, DeleteFileId, ResolveFileId, SetEof, WriteFork}
 use Rattle.hfs_model.specs.Volume.{Volume}
 use Rattle.hfs_model.specs.Lawful.{IsLawful}
 use Rattle.hfs_model.specs.Changes.{new_file, new_folder}
@@ -10,6 +10,7 @@ use Rattle.hfs_model.proofs.KeepsCalls.{create_keeps, rename_keeps, set_f_info_k
 use Rattle.hfs_model.proofs.KeepsRemoval.{delete_keeps}
 use Rattle.hfs_model.proofs.KeepsMove.{cat_move_keeps}
 use Rattle.hfs_model.proofs.KeepsFileIds.{create_file_id_keeps, delete_file_id_keeps}
+use Rattle.hfs_model.proofs.KeepsForks.{set_eof_keeps, write_fork_keeps}
 use Rattle.hfs_model.specs.Laws.{StepKeepsLawful, ReadingLeaves, RefusalLeaves, StepIsNeverFull, EnoughIsStep, ChildrenAreOne, CountsChildren}
 use Rattle.hfs_model.proofs.LawTypes.{ReadingNeedsNone, FindsAtAnyDepth}
 use Rattle.hfs_model.proofs.Leaves.{reading_leaves as reading_leaves-proved, refusal_leaves as refusal_leaves-proved, step_is_never_full as step_is_never_full-proved, enough_is_step as enough_is_step-proved, reading_needs_none as reading_needs_none-proved}
@@ -35,6 +36,8 @@ keeps v (RstFLock dir name now) h = set_lock_keeps false v dir name now h
 keeps v (CreateFileId dir name now) h = create_file_id_keeps v dir name now h
 keeps v (DeleteFileId id now) h = delete_file_id_keeps v id now h
 keeps v (ResolveFileId id) h = h
+keeps v (SetEof dir name fork length now) h = set_eof_keeps v.block_size v dir name fork length now h
+keeps v (WriteFork dir name fork offset bytes now) h = write_fork_keeps v.block_size v dir name fork offset bytes now h
 
 -- Each call keeps a volume lawful.
 pub step_keeps_lawful : StepKeepsLawful

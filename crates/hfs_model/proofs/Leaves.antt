@@ -1,6 +1,6 @@
 -- What calls leave, and the codes that they never answer.
 use Rattle.std.proofs.Common.{◌≡◌, ℕ, ◌+◌, ◌<◌, ◌≤◌, Bool, true, false, cond, ◌&&◌, eqb, ltb, IsTrue, List, [], ◌∷◌, ◌++◌, drop, length, refl, ap, subst, arith, Option, Some, None, Result, Ok, Err, ℤ, pos, negsuc}
-use Rattle.std.specs.Option.{option_map_or, ok_or}
+use Rattle.std.specs.Option.{option_map_or, ok_or, is_some}
 use Rattle.std.specs.FinMap as map
 use Rattle.std.proofs.lemmas.Bool.{ltb-true}
 use Rattle.hfs_model.specs.declared.codes.TheConstants.{DISK_FULL}
@@ -12,6 +12,7 @@ use Rattle.hfs_model.specs.declared.call.Fork.{Fork}
 use Rattle.hfs_model.specs.declared.reply.Reply.{Reply}
 use Rattle.hfs_model.specs.declared.reply.Value.{Value}
 use Rattle.hfs_model.specs.declared.journal.Entry.{Entry as JournalEntry}
+use Rattle.hfs_model.specs.declared.journal.Want.{Want}
 use Rattle.hfs_model.specs.Volume.{Volume, Items, Entry}
 use Rattle.hfs_model.specs.Children.{is_folder_kind, child_named, entry_at, entries_of}
 use Rattle.hfs_model.specs.Replies.{refusal, success, is_accepted, has_thread}
@@ -20,9 +21,12 @@ use Rattle.hfs_model.specs.Choices.{and_then, lock_code, is_locked, child_to_cha
 use Rattle.hfs_model.specs.Changes.{Outcome, touched, moved, with_lock, new_item, change, add, create, delete, rename, cat_move, set_f_info, set_cat_info, set_lock, new_file, new_folder}
 use Rattle.hfs_model.specs.FileIds.{set_thread, unless_has_thread, if_has_thread, file_of_id, to_create_file_id, to_delete_file_id, change_to_id, create_file_id, delete_file_id, place_reply, resolve_file_id}
 use Rattle.hfs_model.specs.Step.{step, is_reading}
+use Rattle.hfs_model.specs.Forks.{resized, written}
+use Rattle.hfs_model.specs.ForkCalls.{file_to_write, to_set_eof, to_write_fork, unless_past_end, set_eof, write_fork}
 use Rattle.hfs_model.specs.Runs.{after, after_entry}
-use Rattle.hfs_model.specs.Need.{need, meets_want_of_nodes, step_within, full}
+use Rattle.hfs_model.specs.Need.{need, meets_want_of_nodes, step_within, full, wanting, step_wanting}
 use Rattle.hfs_model.proofs.Facts.{true_false}
+use Rattle.hfs_model.proofs.KeepsForks.{edits}
 
 -- ---- the changes of the items
 
@@ -65,7 +69,7 @@ change_to_id_leaves v (Ok e) make now refused = absurd (refused refl)
 change_to_id_leaves v (Err code) make now refused = refl
 
 pub refusal_leaves : (v : Volume) (c : Call) → Leaves v (step v c)
-unfolding create delete rename cat_move set_f_info set_cat_info set_lock create_file_id delete_file_id
+unfolding create delete rename cat_move set_f_info set_cat_info set_lock create_file_id delete_file_id set_eof write_fork
 refusal_leaves v (call.GetDirInfo dir) refused = refl
 refusal_leaves v (call.GetCatInfo dir name) refused = refl
 refusal_leaves v (call.GetIndexed dir index) refused = refl
@@ -83,6 +87,8 @@ refusal_leaves v (call.RstFLock dir name now) refused = change_leaves v (file_to
 refusal_leaves v (call.CreateFileId dir name now) refused = change_to_id_leaves v (to_create_file_id v dir name) (set_thread true) now refused
 refusal_leaves v (call.DeleteFileId id now) refused = change_leaves v (to_delete_file_id v id) (set_thread false) now refused
 refusal_leaves v (call.ResolveFileId id) refused = refl
+refusal_leaves v (call.SetEof dir name fork length now) refused = change_leaves v (to_set_eof v dir name length) (edits v.block_size fork (resized length) now) now refused
+refusal_leaves v (call.WriteFork dir name fork offset bytes now) refused = change_leaves v (to_write_fork v dir name fork offset bytes) (edits v.block_size fork (written offset bytes) now) now refused
 
 -- ---- what no call changes
 
@@ -102,7 +108,7 @@ change_to_id_size v (Ok e) make now = refl
 change_to_id_size v (Err code) make now = refl
 
 pub block_size_stays : (v : Volume) (c : Call) → SameSize v (step v c)
-unfolding create delete rename cat_move set_f_info set_cat_info set_lock create_file_id delete_file_id
+unfolding create delete rename cat_move set_f_info set_cat_info set_lock create_file_id delete_file_id set_eof write_fork
 block_size_stays v (call.GetDirInfo dir) = refl
 block_size_stays v (call.GetCatInfo dir name) = refl
 block_size_stays v (call.GetIndexed dir index) = refl
@@ -120,6 +126,8 @@ block_size_stays v (call.RstFLock dir name now) = change_size v (file_to_change 
 block_size_stays v (call.CreateFileId dir name now) = change_to_id_size v (to_create_file_id v dir name) (set_thread true) now
 block_size_stays v (call.DeleteFileId id now) = change_size v (to_delete_file_id v id) (set_thread false) now
 block_size_stays v (call.ResolveFileId id) = refl
+block_size_stays v (call.SetEof dir name fork length now) = change_size v (to_set_eof v dir name length) (edits v.block_size fork (resized length) now) now
+block_size_stays v (call.WriteFork dir name fork offset bytes now) = change_size v (to_write_fork v dir name fork offset bytes) (edits v.block_size fork (written offset bytes) now) now
 
 -- ---- what a reading call leaves
 
@@ -141,6 +149,8 @@ reading_leaves v (call.RstFLock dir name now) h = absurd (true_false false h ref
 reading_leaves v (call.CreateFileId dir name now) h = absurd (true_false false h refl)
 reading_leaves v (call.DeleteFileId id now) h = absurd (true_false false h refl)
 reading_leaves v (call.ResolveFileId id) h = refl
+reading_leaves v (call.SetEof dir name fork length now) h = absurd (true_false false h refl)
+reading_leaves v (call.WriteFork dir name fork offset bytes now) h = absurd (true_false false h refl)
 
 pub reading_needs_none : (c : Call) (depth : ℕ) → IsTrue (is_reading c) → need c depth ≡ 0
 reading_needs_none (call.GetDirInfo dir) depth h = refl
@@ -160,6 +170,8 @@ reading_needs_none (call.RstFLock dir name now) depth h = refl
 reading_needs_none (call.CreateFileId dir name now) depth h = absurd (true_false false h refl)
 reading_needs_none (call.DeleteFileId id now) depth h = refl
 reading_needs_none (call.ResolveFileId id) depth h = refl
+reading_needs_none (call.SetEof dir name fork length now) depth h = refl
+reading_needs_none (call.WriteFork dir name fork offset bytes now) depth h = refl
 
 -- ---- -34 is none of the codes of step
 
@@ -266,6 +278,17 @@ delete_file_id_other : (v : Volume) (id : ℕ) → OtherCode (to_delete_file_id 
 unfolding to_delete_file_id
 delete_file_id_other v id = unless (is_locked v) _ _ (lock_other v) (file_of_id_other (entries_of v) id)
 
+to_write_other : (v : Volume) (dir : ℕ) (name : List ℕ) → OtherCode (file_to_write v dir name)
+to_write_other v dir name = then (file_to_change v dir name) unless_locked_file (file_other v dir name) lock_file_other
+
+set_eof_other : (v : Volume) (dir : ℕ) (name : List ℕ) (length : ℕ) → OtherCode (to_set_eof v dir name length)
+unfolding to_set_eof
+set_eof_other v dir name length = unless _ _ _ (negative 49 refl) (to_write_other v dir name)
+
+write_fork_other : (v : Volume) (dir : ℕ) (name : List ℕ) (fork : Fork) (offset : ℕ) (bytes : List ℕ) → OtherCode (to_write_fork v dir name fork offset bytes)
+unfolding to_write_fork
+write_fork_other v dir name fork offset bytes = unless _ _ _ (negative 49 refl) (then (file_to_write v dir name) (unless_past_end fork offset) (to_write_other v dir name) (λ e. unless _ _ _ (negative 38 refl) (fine _)))
+
 change_other : (v : Volume) (chosen : Result Entry ℤ) (make : Entry → Items → Items) (now : ℕ) → OtherCode chosen → Other (change v chosen make now).1.code
 change_other v (Ok e) make now p = none
 change_other v (Err code) make now p = p.other code refl
@@ -334,7 +357,7 @@ unfolding read_fork
 read_fork_other es dir name fork offset count = either _ _ _ (refuses 49 refl) (either _ _ _ (refuses 36 refl) (either _ _ _ (refuses 119 refl) (or_else _ (child_named es dir name) _ (λ e. part_other fork offset count e.1.kind) (refuses 42 refl))))
 
 pub step_is_never_full : (v : Volume) (c : Call) → Other (step v c).1.code
-unfolding create delete rename cat_move set_f_info set_cat_info set_lock create_file_id delete_file_id
+unfolding create delete rename cat_move set_f_info set_cat_info set_lock create_file_id delete_file_id set_eof write_fork
 step_is_never_full v (call.GetDirInfo dir) = (dir_info_other (entries_of v) dir).other
 step_is_never_full v (call.GetCatInfo dir name) = (cat_info_other (entries_of v) dir name).other
 step_is_never_full v (call.GetIndexed dir index) = (indexed_other (entries_of v) dir index).other
@@ -352,8 +375,10 @@ step_is_never_full v (call.RstFLock dir name now) = change_other v (file_to_chan
 step_is_never_full v (call.CreateFileId dir name now) = change_to_id_other v (to_create_file_id v dir name) (set_thread true) now (create_file_id_other v dir name)
 step_is_never_full v (call.DeleteFileId id now) = change_other v (to_delete_file_id v id) (set_thread false) now (delete_file_id_other v id)
 step_is_never_full v (call.ResolveFileId id) = resolve_other (entries_of v) id
+step_is_never_full v (call.SetEof dir name fork length now) = change_other v (to_set_eof v dir name length) (edits v.block_size fork (resized length) now) now (set_eof_other v dir name length)
+step_is_never_full v (call.WriteFork dir name fork offset bytes now) = change_other v (to_write_fork v dir name fork offset bytes) (edits v.block_size fork (written offset bytes) now) now (write_fork_other v dir name fork offset bytes)
 
--- ---- want of nodes
+-- ---- want of nodes and blocks
 
 pub full_where_wanting : (free depth : ℕ) (v : Volume) (c : Call) → ((step_within free depth v c).1.code ≡ DISK_FULL → IsTrue (meets_want_of_nodes free depth v c)) × (IsTrue (meets_want_of_nodes free depth v c) → (step_within free depth v c).1.code ≡ DISK_FULL)
 full_where_wanting free depth v c = elim (meets_want_of_nodes free depth v c) as (λ (b : Bool). ((cond b (v, full free depth) (step v c)).1.code ≡ DISK_FULL → b ≡ true) × (b ≡ true → (cond b (v, full free depth) (step v c)).1.code ≡ DISK_FULL)) [
@@ -370,6 +395,14 @@ enough_is_step free depth v c le = ap (λ (b : Bool). cond b (v, full free depth
 
     enough : (n m : ℕ) → n ≤ m → ltb m n ≡ false
     enough n m h = elim (ltb m n) as (λ (b : Bool). ltb m n ≡ b → b ≡ false) [ true ↦ λ e. let less : m < n = ltb-true m n e in absurd (omega arith) | false ↦ λ e. refl ] refl
+
+pub full_where_wanted : (o : Option Want) (v : Volume) (c : Call) →
+    ((step_wanting o v c).1.code ≡ DISK_FULL → IsTrue (is_some o) × IsTrue (is_accepted (step v c).1)) × (IsTrue (is_some o) × IsTrue (is_accepted (step v c).1) → (step_wanting o v c).1.code ≡ DISK_FULL)
+full_where_wanted None v c = (λ e. absurd (step_is_never_full v c e), λ both. absurd (true_false false both.0 refl))
+full_where_wanted (Some want) v c = elim (is_accepted (step v c).1) as (λ (b : Bool). ((cond b (v, wanting want) (step v c)).1.code ≡ DISK_FULL → IsTrue true × (b ≡ true)) × (IsTrue true × (b ≡ true) → (cond b (v, wanting want) (step v c)).1.code ≡ DISK_FULL)) [
+  | true ↦ (λ _. (refl, refl), λ _. refl)
+  | false ↦ (λ e. absurd (step_is_never_full v c e), λ both. absurd (true_false false both.1 refl))
+]
 
 -- ---- runs
 

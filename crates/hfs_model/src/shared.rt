@@ -30,6 +30,15 @@ impl SharedBytes {
         })
     }
 
+    /// The bytes of a `Vec`, which are shared from then on: none is copied. `Err` only where memory is wanting.
+    pub fn from_vec(items: Vec<u8>) -> Result<Self, AllocError>
+        ensures { IfOk result (λ b. b ≡ items.items) }
+    {
+        Ok(SharedBytes {
+            bytes: bytes::Bytes::from_vec(items)?,
+        })
+    }
+
     /// The bytes.
     pub fn as_slice(&self) -> &[u8]
         ensures { result.now ≡ self.now }

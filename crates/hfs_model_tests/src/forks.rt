@@ -1,6 +1,6 @@
 //! Forks that are written: codes, bytes, lengths and dates by hand. Blocks have 512 bytes where nothing else is said.
 use crate::fixture::{root_item, volume};
-use hfs_model::{File, Fork, Kind, Value};
+use hfs_model::{Call, File, Fork, Kind, SharedBytes, Value};
 use hfs_store::PlainVolume;
 use std::alloc::{AllocError, Global};
 use std::test::Fail;
@@ -77,6 +77,66 @@ fn with_a(alloc: Global) -> Result<PlainVolume, Fail> {
     let mut plain = volume(alloc)?;
     plain.create(2, b"a", 1)?;
     Ok(plain)
+}
+
+/// A WriteFork to the data fork of `a` at moment 7.
+fn write_call(alloc: Global, offset: u32, bytes: &[u8]) -> Result<Call, AllocError> {
+    Ok(Call::WriteFork {
+        dir: 2,
+        name: SharedBytes::from_slice(alloc, b"a")?,
+        fork: Fork::DataFork,
+        offset,
+        bytes: SharedBytes::from_slice(alloc, bytes)?,
+        now: 7,
+    })
+}
+
+/// A SetEof of the data fork of `a` at moment 7.
+fn set_eof_call(alloc: Global, length: u32) -> Result<Call, AllocError> {
+    Ok(Call::SetEof {
+        dir: 2,
+        name: SharedBytes::from_slice(alloc, b"a")?,
+        fork: Fork::DataFork,
+        length,
+        now: 7,
+    })
+}
+
+/// The code of a call of which a copy is made.
+fn code(plain: &mut PlainVolume, call: &Call) -> Result<i16, Fail> {
+    let reply = plain.call(&call.copied()?)?;
+    Ok(reply.code)
+}
+
+/// The code of a WriteFork to the data fork of `a`, as a call of the model.
+fn write_code(alloc: Global, plain: &mut PlainVolume, at: u32, bytes: &[u8]) -> Result<i16, Fail> {
+    code(plain, &write_call(alloc, at, bytes)?)
+}
+
+/// The same calls, as calls of the model.
+#[test]
+fn calls_write_forks(rt: HostRuntime) -> Result<(), Fail> {
+    let mut plain = with_a(rt.alloc())?;
+    assert!(rt;
+        write_code(rt.alloc(), &mut plain, 0, b"hello")? == 0 && is_data(&plain, b"hello")?
+    );
+    assert!(rt; code(&mut plain, &set_eof_call(rt.alloc(), 3)?)? == 0 && is_data(&plain, b"hel")?);
+    assert!(rt; lengths(&plain) == Some((3, 0, 7)) && plain.changed() == 7);
+    assert!(rt; physical_lengths(&plain) == Some((512, 0)));
+    assert!(rt; write_code(rt.alloc(), &mut plain, 4, b"x")? == -39 && is_data(&plain, b"hel")?);
+    Ok(())
+}
+
+/// Of blocks that are wanting the definitions know nothing: a fork has as many as its bytes take.
+#[test]
+fn blocks_are_never_wanting(rt: HostRuntime) -> Result<(), Fail> {
+    let mut plain = with_a(rt.alloc())?;
+    let first = set_eof(&mut plain, b"a", Fork::DataFork, 8192)?;
+    let second = set_eof(&mut plain, b"a", Fork::ResFork, 1)?;
+    assert!(rt; first == 0 && second == 0 && physical_lengths(&plain) == Some((8192, 512)));
+    assert!(rt; set_eof(&mut plain, b"a", Fork::DataFork, 8193)? == 0);
+    assert!(rt; physical_lengths(&plain) == Some((8704, 512)));
+    Ok(())
 }
 
 /// Five bytes are written and read, and change length, physical length and both moments.

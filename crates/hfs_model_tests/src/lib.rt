@@ -1,8 +1,10 @@
-//! Tests of names, records and nodes, of what comes from a host, of shared bytes, of the text of scripts, and of what the plain
+//! Tests of names, records and nodes, of what comes from a host and of what a bag tells, of shared bytes, of the text of scripts, and of what the plain
 //! program alone can be asked for. Each code of each call, and worked lists of calls, stand as text in
 //! `tests/volumes/lists`.
 #![tactic(auto)]
 
+#[cfg(test)]
+mod bags;
 #[cfg(test)]
 mod fixture;
 #[cfg(test)]
@@ -14,10 +16,14 @@ mod names;
 #[cfg(test)]
 mod node_bytes;
 #[cfg(test)]
+mod pieces;
+#[cfg(test)]
 mod records;
 #[cfg(test)]
 mod scripts;
 #[cfg(test)]
 mod shared;
+#[cfg(test)]
+mod sources;
 #[cfg(test)]
 mod stories;

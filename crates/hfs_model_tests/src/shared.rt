@@ -10,6 +10,19 @@ fn part_of_five(alloc: Global) -> Result<SharedBytes, AllocError> {
     part.clone()
 }
 
+/// A part of a vector's bytes.
+fn part_of_a_vector(alloc: Global) -> Result<SharedBytes, AllocError> {
+    let bytes = SharedBytes::from_vec(Vec::from_slice(alloc, b"abcde")?)?;
+    bytes.part(3, 5)
+}
+
+#[test]
+fn a_vector_is_shared(rt: HostRuntime) -> Result<(), Fail> {
+    let part = part_of_a_vector(rt.alloc())?;
+    assert!(rt; part.as_slice() == b"de".as_slice());
+    Ok(())
+}
+
 #[test]
 fn a_part_is_shared(rt: HostRuntime) -> Result<(), Fail> {
     let part = part_of_five(rt.alloc())?;

@@ -1,5 +1,5 @@
 -- Reads that failed.
-use Rattle.std.proofs.Common.{◌≡◌, ℕ, ◌+◌, ◌≤◌, List, subst, sym}
+use Rattle.std.proofs.Common.{ℕ, ◌+◌, ◌≤◌, List, subst, sym}
 use Rattle.std.proofs.Math.Logic.{∥∥₁_map}
 use Rattle.hfs_source.specs.Images.{FailsWhere, HasLength, OfEach}
 use Rattle.hfs_needed.specs.Failing.{SomeFailsWithin, SomeReadFails}

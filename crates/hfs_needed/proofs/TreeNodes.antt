@@ -1,6 +1,6 @@
 -- What was read of a tree tells as much of it whatever else is read.
 use Rattle.std.proofs.Common.{◌≡◌, ℕ, zero, suc, ◌+◌, ◌*◌, ◌<◌, ◌≤◌, Bool, true, false, List, [], ◌∷◌, ◌++◌, length, map, get_or, set, replicate, Option, Some, IsSome, Result, Ok, Err, refl, sym, ap, subst, ◌∙◌, arith, append_assoc, append-nil}
-use Rattle.std.specs.Prelude.{◌&&◌, ◌||◌, ◌==◌, nat_le, not, if◌then◌else◌, unwrap_or, OnOk}
+use Rattle.std.specs.Prelude.{◌&&◌, ◌||◌, ◌==◌, nat_le, not, if◌then◌else◌, OnOk}
 use Rattle.std.specs.List.{flat_map, range_with_len}
 use Rattle.std.specs.Option.{is_none}
 use Rattle.std.proofs.lemmas.Bool.{and_parts, and_from, and_left, and_right, leb-true, le-leb, le-ltb, lt-ltb, eq-eqb, cond-true}
@@ -21,7 +21,7 @@ use Rattle.hfs_btree_checks.proofs.ShapeTurn.{met-more}
 use Rattle.hfs_btree.proofs.ChainLemmas.{chain-step}
 use Rattle.hfs_btree_checks.proofs.ShapeChain.{chain-goes-on}
 use Rattle.hfs_btree_checks.proofs.ShapeMaps.{unmet, chain-fault-is, wrong-chain, no-bits}
-use Rattle.hfs_sparse.specs.Sparse.{zero_block, sparse, HasEach, HasGrown}
+use Rattle.hfs_sparse.specs.Sparse.{sparse, HasEach, HasGrown}
 use Rattle.hfs_sparse.proofs.SparseLemmas.{each-grown, each-same, has-grown}
 use Rattle.hfs_needed.specs.Marked.{where_right, chain_of, map_chain, marked_of, needed_of_map, needed_of_tree, IsSameNode}
 use Rattle.hfs_needed.specs.TreeReads.{nodes_of, block_for, HasNode, IsHeadOf, HasChain, IsMapOf, HasMapChain, HasMarked}

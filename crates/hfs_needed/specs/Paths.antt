@@ -6,7 +6,7 @@ use Rattle.hfs_fields.specs.Order.{same_name}
 use Rattle.hfs_model.specs.declared.codes.TheConstants.{NOT_FOUND}
 use Rattle.hfs_model.specs.declared.reply.Reply.{Reply}
 use Rattle.hfs_model.specs.declared.reply.Value.{Value}
-use Rattle.hfs_model.specs.declared.reply.Value.TheVariants.{Nothing, Id, One, Many, Bytes, Full, Place}
+use Rattle.hfs_model.specs.declared.reply.Value.TheVariants.{Nothing, Id, One, Many, Bytes, Full, Room, ExtentNodes, Place}
 use Rattle.hfs_model.specs.Reading.{get_cat_info, get_dir_info}
 use Rattle.hfs_model.specs.Replies.{refusal}
 use Rattle.hfs_model.specs.Volume.{Entry}
@@ -23,6 +23,8 @@ told_from child told name (One info) = told_child child info.id name
 told_from child told name (Many infos) = told
 told_from child told name (Bytes bytes) = told
 told_from child told name (Full free depth) = told
+told_from child told name (Room free wanted) = told
+told_from child told name (ExtentNodes free depth) = told
 told_from child told name (Place dir place) = told
 
 unfoldable pub told_next : (ℕ → List ℕ → Reply) → Reply → List ℕ → Reply
@@ -36,6 +38,8 @@ is_root_name name (One root) = (length name == 0) || same_name root.name name
 is_root_name name (Many infos) = false
 is_root_name name (Bytes bytes) = false
 is_root_name name (Full free depth) = false
+is_root_name name (Room free wanted) = false
+is_root_name name (ExtentNodes free depth) = false
 is_root_name name (Place dir place) = false
 
 -- where this tells of the root, and this of the items of folders: -43 where the first name isn't the root's or a name leads nowhere,

@@ -1,6 +1,5 @@
 -- The forks of files, of each image that has the bytes which were read.
 use Rattle.std.specs.Prelude.{◌≡◌, ℕ, List, Result, Ok, Err, Option, Some, MatchResult, ⊤}
-use Rattle.std.proofs.Common.{Vec, Global}
 use Rattle.std.specs.Io.KnownBytes.{Appends}
 use Rattle.hfs_blocks.specs.Blocks.{block_count}
 use Rattle.hfs_model.specs.declared.call.Fork.{Fork}
@@ -54,10 +53,6 @@ pub record RefusesFile (dir : ℕ) (name : List ℕ) (reply : Reply) (image : Li
   pub resource_fork : RefusesFork dir name ResFork reply image
 
 -- ---- what is answered of it
-
--- a fork's bytes, or the reply that refuses it
-abbrev pub IsForkFound : ℕ → List ℕ → Fork → Result (Vec ℕ Global) Reply → List ℕ → Type 0
-IsForkFound dir name fork found image = MatchResult found (λ bytes. HasFork dir name fork bytes.items image) (λ reply. RefusesFork dir name fork reply image)
 
 -- a file with both forks, or the reply that refuses either
 abbrev pub IsFileFound : ℕ → List ℕ → Result NeededFile Reply → List ℕ → Type 0

@@ -1,5 +1,5 @@
 //! The bytes of forks, by the needed blocks of an image.
-ghost use Rattle.std.specs.Prelude.{◌≡◌, ℕ, ◌/◌, Err, None, IfOk, OnErr, OnOk};
+ghost use Rattle.std.specs.Prelude.{◌≡◌, ℕ, ◌/◌, Err, IfOk, OnErr, OnOk};
 ghost use Rattle.std.specs.Io.KnownBytes.{Appends};
 ghost use Rattle.hfs_texts.specs.Writing.{AppendsFront};
 ghost use Rattle.hfs_check.specs.Parts.{mdb_in, catalog_in};
@@ -11,7 +11,7 @@ ghost use Rattle.hfs_sparse.specs.Seen.{EachKnown};
 ghost use Rattle.hfs_sparse.specs.Sparse.{sparse};
 ghost use Rattle.hfs_needed.specs.Forks.{AreForkRuns, AreForksIn, HoldsFork, HoldsForkOf, IsForkIn, OfFork, OfForkNamed, OfForkOf, RefusesWriting, WritesForkNamed};
 ghost use Rattle.hfs_needed.specs.Opened.{IsOpenedOf};
-ghost use Rattle.hfs_needed.specs.SeenFiles.{HasForkOf, IsForkFound, IsForkWritten, IsReadOfEach};
+ghost use Rattle.hfs_needed.specs.SeenFiles.{HasForkOf, IsForkWritten, IsReadOfEach};
 
 use crate::opening::NeededVolume;
 use hfs_blocks::Run;
@@ -128,33 +128,6 @@ pub(crate) fn find_file(
         runs: &trees.catalog,
     };
     file_named(&nodes, dir, name)
-}
-
-/// The bytes of a file's fork of an image that was opened so; or what a call that reads the fork answers where there is none: -37, -120 or
-/// -43. Errors: a read failed, memory was refused.
-pub(crate) fn opened_fork<S: BlockSource>(
-    alloc: Global,
-    source: &mut S,
-    volume: &NeededVolume,
-    dir: u32,
-    name: &[u8],
-    fork: Fork,
-) -> Result<Result<Vec<u8>, Reply>, SparseFault>
-    requires opened { IsOpenedOf None volume.now.count volume.now }
-    requires seen { IsReadOfEach (S.Holds source.old) volume.now }
-    ensures found { IfOk result (λ found. OfEach (S.Holds source.new)
-        (IsForkFound dir name.now fork found)) }
-    ensures narrows { OfEach (S.Holds source.new) (S.Holds source.old) }
-{
-    let (read, count, sound) = (&volume.read, volume.count, &volume.sound);
-    let file = match find_file(read, count, &sound.trees, dir, name) {
-        Ok(file) => file,
-        Err(reply) => return Ok(Err(reply)),
-    };
-    match read_file(alloc, source, read, count, sound, &file, fork) {
-        Ok(bytes) => Ok(Ok(bytes)),
-        Err(fault) => Err(fault),
-    }
 }
 
 /// Writes the bytes of a fork of a file piece by piece, as they are read.

@@ -24,7 +24,6 @@ pub use crate::laws::{marked_nodes_decide, needed_is_enough, needed_of_images};
 pub use crate::listing::catalog_records;
 pub use crate::noted::{NotedBlocks, PickedFailures, noted_fault};
 pub use crate::opening::{NeededFault, NeededVolume};
-pub use crate::reporting::needed_report;
 pub use crate::seen::{SeenImage, Unopened};
 pub use crate::told_report::seen_report;
 pub use crate::whole_files::NeededFile;

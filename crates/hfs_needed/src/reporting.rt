@@ -38,7 +38,7 @@ fn gathered_report<S: BlockSource>(
 
 /// Reports on an image of `len` bytes, of which only the blocks are read that its checks need: what the report on the whole image tells.
 /// Errors: a read failed, memory was refused.
-pub fn needed_report<S: BlockSource>(
+pub(crate) fn needed_report<S: BlockSource>(
     alloc: Global,
     source: &mut S,
     len: u64,

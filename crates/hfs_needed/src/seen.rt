@@ -12,13 +12,13 @@ ghost use Rattle.hfs_needed.specs.Failing.{SomeReadFails};
 ghost use Rattle.hfs_needed.specs.Listing.{brief_list};
 ghost use Rattle.hfs_needed.specs.Opened.{IsOpenedOf};
 ghost use Rattle.hfs_needed.specs.Paths.{path_told};
-ghost use Rattle.hfs_needed.specs.Seen.{HasNoFault, IsOpenedBy, IsRefusedBy};
-ghost use Rattle.hfs_needed.specs.SeenFiles.{HasForkOf, IsFileFound, IsForkFound, IsForkWritten, LiesInRuns, RefusesFile};
+ghost use Rattle.hfs_needed.specs.Seen.{HasNoFault, IsOpenedBy, IsRefusedBy, IsSeenAs};
+ghost use Rattle.hfs_needed.specs.SeenFiles.{HasForkOf, IsFileFound, IsForkWritten, LiesInRuns, RefusesFile};
 
 use crate::fork_runs::{FileRuns, opened_runs};
-use crate::forks::{opened_fork, write_opened};
+use crate::forks::write_opened;
 use crate::listing::{catalog_records, list_in_brief};
-use crate::noted::{NotedBlocks, PickedFailures};
+use crate::noted::{NotedBlocks, PickedFailures, noted_fault};
 use crate::opening::{NeededFault, NeededVolume, open_needed};
 use crate::paths::told_in;
 use crate::reporting::{ReportedVolume, open_reported};
@@ -156,36 +156,6 @@ impl<S: PlacedBlocks> SeenImage<S> {
         let records = catalog_records(alloc, &volume.read, volume.count, &volume.sound.trees)?;
         Inventory::new(alloc, records)
     }
-    /// The bytes of a file's fork, whose own blocks alone are read; or what a call that reads the fork answers where there is none: -37,
-    /// -120 or -43. Errors: a read failed, memory was refused.
-    pub fn fork(
-        &mut self,
-        alloc: Global,
-        dir: u32,
-        name: &[u8],
-        fork: Fork,
-    ) -> Result<Result<Vec<u8>, Reply>, SparseFault>
-        ensures found { IfOk result (λ found. OfEach (S.Holds self.new)
-            (IsForkFound dir name.now fork found)) }
-        ensures narrows { OfEach (S.Holds self.new) (S.Holds self.old) }
-    {
-        opened_fork(alloc, &mut self.source, &self.volume, dir, name, fork)
-    }
-
-    /// What is told of a file, and the bytes of both its forks, whose own blocks alone are read; or what a call that reads a fork answers
-    /// where there is no such file: -37, -120 or -43. Errors: a read failed, memory was refused.
-    pub fn file(
-        &mut self,
-        alloc: Global,
-        dir: u32,
-        name: &[u8],
-    ) -> Result<Result<NeededFile, Reply>, SparseFault>
-        ensures found { IfOk result (λ found. OfEach (S.Holds self.new)
-            (IsFileFound dir name.now found)) }
-        ensures narrows { OfEach (S.Holds self.new) (S.Holds self.old) }
-    {
-        opened_file(alloc, &mut self.source, &self.volume, dir, name)
-    }
 
     /// Writes the bytes of a file's fork piece by piece, as they are read, at most 65,536 at a time: memory doesn't grow with the fork. Or answers
     /// what a call that reads the fork answers where there is none: -37, -120 or -43, and nothing is written. Errors: a read failed or
@@ -243,6 +213,32 @@ impl<S: PlacedBlocks> SeenImage<S> {
         ensures later { FailsWhere (S.Fails self.new) (S.Fails self.old) }
     {
         self.source.blocks.read_blocks(first, into)
+    }
+}
+
+impl<S: PlacedBlocks + Drop> SeenImage<S> {
+    /// What is told of a file, and the bytes of both its forks, whose own blocks alone are read, and what they are read from; or
+    /// what a call that reads a fork answers where there is no such file: -37, -120 or -43. Errors: a read failed, memory was
+    /// refused.
+    pub fn file(
+        self,
+        alloc: Global,
+        dir: u32,
+        name: &[u8],
+    ) -> Result<(Result<NeededFile, Reply>, SeenBlocks<S>), SparseFault>
+        ensures found { IfOk result (λ told. OfEach (S.Holds told.1.blocks)
+            (IsFileFound dir name.now told.0)) }
+        ensures narrows { IfOk result (λ told. OfEach (S.Holds told.1.blocks) (S.Holds self)) }
+        ensures later { IfOk result (λ told. FailsWhere (S.Fails told.1.blocks) (S.Fails self)) }
+        ensures failed { IfErr result (λ fault. fault ≡ SparseFault.ReadFailed
+            → SomeReadFails (S.Holds self) (S.Fails self)) }
+    {
+        let SeenImage {
+            source,
+            len,
+            volume,
+        } = self;
+        file_noted::<Brand, S>(alloc, source, len, &volume, dir, name)
     }
 }
 
@@ -318,5 +314,33 @@ fn report_noted<K: PickedFailures, S: PlacedBlocks>(
             let fault = why.noted(failed);
             Err(Unopened { fault, source })
         }
+    }
+}
+
+/// What is told of a file of an image of `len` bytes as [`SeenImage::file`] tells it, where the reads that may fail are picked.
+fn file_noted<K: PickedFailures, S: PlacedBlocks + Drop>(
+    alloc: Global,
+    source: SeenBlocks<S>,
+    len: u64,
+    volume: &NeededVolume,
+    dir: u32,
+    name: &[u8],
+) -> Result<(Result<NeededFile, Reply>, SeenBlocks<S>), SparseFault>
+    requires fails { FailsWhere (S.Fails source.blocks) K.fails }
+    requires seen { IsSeenAs (S.Holds source.blocks) len volume.now }
+    requires len { len ≡ K.len }
+    ensures found { IfOk result (λ told. OfEach (S.Holds told.1.blocks)
+        (IsFileFound dir name.now told.0)) }
+    ensures narrows { IfOk result (λ told. OfEach (S.Holds told.1.blocks) (S.Holds source.blocks)) }
+    ensures later { IfOk result (λ told. FailsWhere (S.Fails told.1.blocks) K.fails) }
+    ensures failed { IfErr result (λ fault. fault ≡ SparseFault.ReadFailed
+        → SomeReadFails (S.Holds source.blocks) K.fails) }
+{
+    let mut noted = NotedBlocks::<S, K>::new(source, len);
+    let told = opened_file(alloc, &mut noted, volume, dir, name);
+    let (source, failed) = noted.into_source();
+    match told {
+        Ok(found) => Ok((found, source)),
+        Err(why) => Err(noted_fault(why, failed)),
     }
 }

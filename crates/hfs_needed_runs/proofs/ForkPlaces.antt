@@ -1,10 +1,9 @@
 -- Where the forks of files lie, as more of them come.
-use Rattle.std.proofs.Common.{◌≡◌, ◌⊎◌, inl, inr, ⊎_elim, ℕ, Bool, true, false, cond, List, [], ◌∷◌, ◌++◌, Some, None, is_some, Result, Ok, Err, IfOk, refl, sym, ap, subst, ◌∙◌, true≢false, Vec, Global, length, arith, eqb, take, get_or, suc, ◌+◌, ◌<◌}
+use Rattle.std.proofs.Common.{◌≡◌, ◌⊎◌, inl, inr, ⊎_elim, ℕ, Bool, true, false, cond, List, [], ◌∷◌, ◌++◌, Some, None, is_some, Result, Ok, Err, IfOk, refl, sym, ap, subst, ◌∙◌, true≢false, length, arith, eqb, take, get_or, suc, ◌+◌, ◌<◌, ◌≤◌}
 use Rattle.std.specs.Prelude.{nat_eq, ◌||◌}
 use Rattle.std.specs.List.{flat_map}
 use Rattle.std.specs.Map.{lookup}
 use Rattle.std.proofs.lemmas.Bool.{and_parts, eqb-true}
-use Rattle.std.proofs.lemmas.List.Concat.{flat_map-cons}
 use Rattle.std.proofs.lemmas.Grind.{flat_map-append}
 use Rattle.std.proofs.Math.Seq.{take-suc}
 use Rattle.hfs_fields.specs.declared.file_record.FileRecord.{FileRecord}
@@ -14,21 +13,18 @@ use Rattle.hfs_scans.proofs.ElementLemmas.{each-append, each-mono}
 use Rattle.hfs_model.specs.declared.call.Call.{Call}
 use Rattle.hfs_model.specs.declared.reply.Reply.{Reply}
 use Rattle.hfs_blocks.specs.declared.run.Run.{Run}
-use Rattle.hfs_blocks.specs.Blocks.{run_of, AreRunsWithin}
-use Rattle.hfs_blocks.specs.Layers.{Numbered}
-use Rattle.hfs_space.specs.declared.fork_kind.ForkKind.TheVariants.{Data, Resource}
+use Rattle.hfs_blocks.specs.Blocks.{run_of}
 use Rattle.hfs_catalog.specs.Records.{Record, Catalog, item_with}
 use Rattle.hfs_catalog.proofs.DistinctLemmas.{later_from_distinct}
 use Rattle.hfs_catalog.proofs.NameOrder.{found_by_id}
 use Rattle.hfs_check.specs.Parts.{Blocks, catalog_in}
 use Rattle.hfs_check.specs.Sound.{AreBlocksSound}
-use Rattle.hfs_needed.specs.Forks.{AreForkRuns}
 use Rattle.hfs_queries.specs.Told.{file_named}
 use Rattle.hfs_queries.proofs.NamedFileLemmas.{found_file}
 use Rattle.hfs_scripts.specs.declared.lines.ScriptLine.{ScriptLine}
-use Rattle.hfs_sparse.specs.Sparse.{sparse}
 use Rattle.hfs_alike.specs.Named.{named_by}
-use Rattle.hfs_needed_runs.specs.NamedForks.{AreAmong, GainForks, HasMet, HaveMet, HaveNamedForks, IsFileOf, LieAmong, OfNamed, blocks_of_runs, file_blocks, fork_blocks}
+use Rattle.hfs_needed_runs.specs.Keeping.{GainsRuns, LieIn}
+use Rattle.hfs_needed_runs.specs.NamedForks.{AreAmong, GainForks, HasMet, HaveMet, HaveNamedForks, IsFileOf, OfNamed, blocks_of_runs, file_blocks}
 
 -- ---- members
 
@@ -52,26 +48,26 @@ among-itself (n ∷ ns) = (inl refl, each-mono (λ m. In m ns) (λ m. In m (n �
 
 -- ---- runs
 
-pub blocks-append : (a b : List (Vec Run Global)) → blocks_of_runs (a ++ b) ≡ blocks_of_runs a ++ blocks_of_runs b
-blocks-append a b = flat_map-append (λ (runs : Vec Run Global). flat_map run_of runs.items) a b
+pub blocks-append : (a b : List Run) → blocks_of_runs (a ++ b) ≡ blocks_of_runs a ++ blocks_of_runs b
+blocks-append a b = flat_map-append run_of a b
 
-pub among-gained : (ns : List ℕ) (old new : List (Vec Run Global)) → GainForks old new → AreAmong ns (blocks_of_runs old) → AreAmong ns (blocks_of_runs new)
+pub among-gained : (ns : List ℕ) (old new : List Run) → GainForks old new → AreAmong ns (blocks_of_runs old) → AreAmong ns (blocks_of_runs new)
 among-gained ns old new gained h =
     subst (AreAmong ns) (sym (ap blocks_of_runs gained.1 ∙ blocks-append old gained.0)) (among-left ns (blocks_of_runs old) (blocks_of_runs gained.0) h)
 
-pub gained-itself : (forks : List (Vec Run Global)) → GainForks forks forks
+pub gained-itself : (forks : List Run) → GainForks forks forks
 gained-itself forks = ([], sym (append-nil forks))
   where
-    append-nil : (xs : List (Vec Run Global)) → xs ++ [] ≡ xs
+    append-nil : (xs : List Run) → xs ++ [] ≡ xs
     append-nil [] = refl
-    append-nil (x ∷ xs) = ap (λ (l : List (Vec Run Global)). x ∷ l) (append-nil xs)
+    append-nil (x ∷ xs) = ap (λ (l : List Run). x ∷ l) (append-nil xs)
 
-pub gained-on : (a b c : List (Vec Run Global)) → GainForks a b → GainForks b c → GainForks a c
-gained-on a b c first second = (first.0 ++ second.0, second.1 ∙ ap (λ (l : List (Vec Run Global)). l ++ second.0) first.1 ∙ append-assoc a first.0 second.0)
+pub gained-on : (a b c : List Run) → GainForks a b → GainForks b c → GainForks a c
+gained-on a b c first second = (first.0 ++ second.0, second.1 ∙ ap (λ (l : List Run). l ++ second.0) first.1 ∙ append-assoc a first.0 second.0)
   where
-    append-assoc : (xs ys zs : List (Vec Run Global)) → (xs ++ ys) ++ zs ≡ xs ++ (ys ++ zs)
+    append-assoc : (xs ys zs : List Run) → (xs ++ ys) ++ zs ≡ xs ++ (ys ++ zs)
     append-assoc [] ys zs = refl
-    append-assoc (x ∷ xs) ys zs = ap (λ (l : List (Vec Run Global)). x ∷ l) (append-assoc xs ys zs)
+    append-assoc (x ∷ xs) ys zs = ap (λ (l : List Run). x ∷ l) (append-assoc xs ys zs)
 
 -- ---- the files that are named
 
@@ -82,7 +78,7 @@ of-named catalog P Q call step h dir name is = by (file_named catalog dir name) 
     by (Ok file) p = step file p
     by (Err reply) p = tt
 
-pub named-gained : (blocks : Blocks) (lines : List ScriptLine) (old new : List (Vec Run Global)) → GainForks old new
+pub named-gained : (blocks : Blocks) (lines : List ScriptLine) (old new : List Run) → GainForks old new
     → HaveNamedForks blocks lines (blocks_of_runs old) → HaveNamedForks blocks lines (blocks_of_runs new)
 named-gained blocks lines old new gained h =
     each-mono (λ (line : ScriptLine). OfNamed (catalog_in blocks) (λ (file : FileRecord). AreAmong (file_blocks blocks file) (blocks_of_runs old)) line.call)
@@ -122,7 +118,7 @@ not-dir body file = elim (is_dir body) as (λ (b : Bool). is_dir body ≡ b → 
   | false ↦ λ e. refl
 ] refl
 
-item-id : (body : List ℕ) → is_file body ≡ true → item_id body ≡ (file_record_of body).id
+pub item-id : (body : List ℕ) → is_file body ≡ true → item_id body ≡ (file_record_of body).id
 item-id body file = ap (λ (b : Bool). cond b (dir_record_of body).id (file_record_of body).id) (not-dir body file)
 
 pub item-is : (body : List ℕ) → is_file body ≡ true → is_item body ≡ true
@@ -145,13 +141,13 @@ same-file total blocks sound f g is-f is-g same =
     sym is-f.is ∙ ap (λ (r : Record). file_record_of r.1) records ∙ is-g.is
 
 -- the IDs that were met, with one more
-pub met-first : {A : Type 0} (blocks : Blocks) (ids : List (ℕ × A)) (forks : List (Vec Run Global)) → ids ≡ [] → HaveMet blocks ids forks
+pub met-first : {A : Type 0} (blocks : Blocks) (ids : List (ℕ × A)) (forks : List Run) → ids ≡ [] → HaveMet blocks ids forks
 met-first {A} blocks ids forks none file is met = absurd (true≢false (sym met ∙ ap (λ (es : List (ℕ × A)). is_some (lookup (nat_eq file.id) es)) none))
 
-pub met-gained : {A : Type 0} (blocks : Blocks) (ids : List (ℕ × A)) (old new : List (Vec Run Global)) → GainForks old new → HaveMet blocks ids old → HaveMet blocks ids new
+pub met-gained : {A : Type 0} (blocks : Blocks) (ids : List (ℕ × A)) (old new : List Run) → GainForks old new → HaveMet blocks ids old → HaveMet blocks ids new
 met-gained blocks ids old new gained h file is met = among-gained (file_blocks blocks file) old new gained (h file is met)
 
-pub met-more : {A : Type 0} (total : ℕ) (blocks : Blocks) → AreBlocksSound total blocks → (old new : List (ℕ × A)) (forks : List (Vec Run Global)) (file : FileRecord)
+pub met-more : {A : Type 0} (total : ℕ) (blocks : Blocks) → AreBlocksSound total blocks → (old new : List (ℕ × A)) (forks : List Run) (file : FileRecord)
     → IsFileOf (catalog_in blocks) file → HaveMet blocks old forks → AreAmong (file_blocks blocks file) (blocks_of_runs forks)
     → ((id : ℕ) → HasMet new id → (id ≡ file.id) ⊎ HasMet old id) → HaveMet blocks new forks
 met-more total blocks sound old new forks file is h here step other is-other met = ⊎_elim
@@ -162,31 +158,23 @@ met-more total blocks sound old new forks file is h here step other is-other met
 
 -- ---- the runs of one file
 
-pub pushed-file : (read : Numbered) (count : ℕ) (file : FileRecord) (old : List (Vec Run Global)) (first second : Vec Run Global)
-    → AreForkRuns read count file.id Data file.«data» first.items → AreForkRuns read count file.id Resource file.resource second.items
-    → AreAmong (file_blocks (sparse read) file) (blocks_of_runs ((old ++ first ∷ []) ++ second ∷ []))
-pushed-file read count file old first second is-first is-second =
-    let both = old ++ first ∷ [] in
-    let among-first : AreAmong (fork_blocks (sparse read) file.id Data file.«data») (blocks_of_runs (both ++ second ∷ [])) =
-    subst (AreAmong (fork_blocks (sparse read) file.id Data file.«data»)) (sym (blocks-append both (second ∷ [])))
-    (among-left _ (blocks_of_runs both) (blocks_of_runs (second ∷ [])) (subst (AreAmong (fork_blocks (sparse read) file.id Data file.«data»)) (sym (blocks-append old (first ∷ [])))
-    (among-right _ (blocks_of_runs old) (blocks_of_runs (first ∷ [])) (one first (fork_blocks (sparse read) file.id Data file.«data») is-first.numbers)))) in
-    let among-second : AreAmong (fork_blocks (sparse read) file.id Resource file.resource) (blocks_of_runs (both ++ second ∷ [])) =
-    subst (AreAmong (fork_blocks (sparse read) file.id Resource file.resource)) (sym (blocks-append both (second ∷ [])))
-    (among-right _ (blocks_of_runs both) (blocks_of_runs (second ∷ [])) (one second (fork_blocks (sparse read) file.id Resource file.resource) is-second.numbers)) in
-    each-append (λ n. In n (blocks_of_runs (both ++ second ∷ []))) (fork_blocks (sparse read) file.id Data file.«data») (fork_blocks (sparse read) file.id Resource file.resource)
-    among-first among-second
-  where
-    one : (runs : Vec Run Global) (ns : List ℕ) → flat_map run_of runs.items ≡ ns → AreAmong ns (blocks_of_runs (runs ∷ []))
-    one runs ns e =
-        subst (AreAmong ns) (sym (flat_map-cons (λ (r : Vec Run Global). flat_map run_of r.items) runs []))
-        (among-left ns (flat_map run_of runs.items) (blocks_of_runs []) (subst (AreAmong ns) (sym e) (among-itself ns)))
+pub pushed-among : (first second : List ℕ) (count : ℕ) (old middle new : List Run) → GainsRuns first count old middle → GainsRuns second count middle new
+    → AreAmong (first ++ second) (blocks_of_runs new)
+pushed-among first second count old middle new one two =
+    each-append (λ n. In n (blocks_of_runs new)) first second
+    (among-gained first middle new (two.more, two.are)
+    (subst (AreAmong first) (sym (ap blocks_of_runs one.are ∙ blocks-append old one.more))
+    (among-right first (blocks_of_runs old) (blocks_of_runs one.more) (subst (AreAmong first) (sym one.numbers_are) (among-itself first)))))
+    (subst (AreAmong second) (sym (ap blocks_of_runs two.are ∙ blocks-append middle two.more))
+    (among-right second (blocks_of_runs middle) (blocks_of_runs two.more) (subst (AreAmong second) (sym two.numbers_are) (among-itself second))))
 
-pub pushed-gained : (old : List (Vec Run Global)) (first second : Vec Run Global) → GainForks old ((old ++ first ∷ []) ++ second ∷ [])
-pushed-gained old first second = gained-on old (old ++ first ∷ []) ((old ++ first ∷ []) ++ second ∷ []) (first ∷ [], refl) (second ∷ [], refl)
+pub pushed-gained : (first second : List ℕ) (count : ℕ) (old middle new : List Run) → GainsRuns first count old middle → GainsRuns second count middle new
+    → GainForks old new
+pushed-gained first second count old middle new one two = gained-on old middle new (one.more, one.are) (two.more, two.are)
 
-pub lie-more : (count : ℕ) (old : List (Vec Run Global)) (runs : Vec Run Global) → AreRunsWithin runs.items count → LieAmong count old → LieAmong count (old ++ runs ∷ [])
-lie-more count old runs within h = each-append (λ (r : Vec Run Global). AreRunsWithin r.items count) old (runs ∷ []) h (within, tt)
+pub lie-more : (numbers : List ℕ) (count : ℕ) (old new : List Run) → GainsRuns numbers count old new → LieIn count old → LieIn count new
+lie-more numbers count old new came h =
+    subst (LieIn count) (sym came.are) (each-append (λ (run : Run). run.first + run.count ≤ count) old came.more h came.within)
 
 -- an entry that was put in
 pub met-by : {A : Type 0} (old new : List (ℕ × A)) (id : ℕ) (x : A) → ((q : ℕ) → lookup (nat_eq q) new ≡ cond (nat_eq id q) (Some x) (lookup (nat_eq q) old))
@@ -197,7 +185,7 @@ met-by old new id x updates other met = elim (nat_eq id other) as (λ (b : Bool)
 ] refl
 
 -- one line more
-pub named-next : (blocks : Blocks) (lines : List ScriptLine) (i : ℕ) (line : ScriptLine) (old new : List (Vec Run Global)) → i < length lines → GainForks old new
+pub named-next : (blocks : Blocks) (lines : List ScriptLine) (i : ℕ) (line : ScriptLine) (old new : List Run) → i < length lines → GainForks old new
     → HaveNamedForks blocks (take i lines) (blocks_of_runs old)
     → OfNamed (catalog_in blocks) (λ (file : FileRecord). AreAmong (file_blocks blocks file) (blocks_of_runs new)) (get_or lines i line).call
     → HaveNamedForks blocks (take (i + 1) lines) (blocks_of_runs new)

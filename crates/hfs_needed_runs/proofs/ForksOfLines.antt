@@ -30,8 +30,6 @@ use Rattle.hfs_space.specs.declared.fork_kind.ForkKind.{ForkKind}
 use Rattle.hfs_space.specs.declared.fork_kind.ForkKind.TheVariants.{Data, Resource}
 use Rattle.hfs_space.specs.Extents.{Overflow, fork_extents, fork_byte}
 use Rattle.hfs_space.specs.ForkLaws.{block_numbers}
-use Rattle.hfs_space.specs.Forks.{joined, fork_bytes}
-use Rattle.hfs_space.specs.TreeFiles.{node_count, tree_blocks}
 use Rattle.hfs_space.specs.TreeKeys.{overflow_of}
 use Rattle.hfs_catalog.specs.Items.{Contents, folder_of, file_of, item_of}
 use Rattle.hfs_catalog.specs.Lookups.{child_named, is_child_named}
@@ -49,21 +47,22 @@ use Rattle.hfs_check.proofs.LawsProved.{catalog_is_sound}
 use Rattle.hfs_needed.specs.Needed.{AgreeOn}
 use Rattle.hfs_queries.specs.Told.{is_folder, only_file, file_named}
 use Rattle.hfs_queries.proofs.Holders.{is_folder-holder}
-use Rattle.hfs_queries.proofs.Queries.{files_are_long}
 use Rattle.hfs_sparse.specs.Sparse.{sparse, zero_block, HasEach, IsOf}
 use Rattle.hfs_sparse.proofs.SparseLemmas.{each-of}
 use Rattle.hfs_volume.specs.Image.{copy_of}
 use Rattle.hfs_volume.proofs.CopyLemmas.{block-copy, length-copy}
 use Rattle.hfs_working.specs.Opened.{IsWorking}
-use Rattle.hfs_working.specs.Working.{working_blocks, IsWorkingCopy}
-use Rattle.hfs_working.proofs.AlikeVolumes.{FilesAreLong, FilesAreSame, volumes-alike}
+use Rattle.hfs_needed.specs.Laws.{blocks_of_fork}
+use Rattle.hfs_working.specs.Working.{working_blocks, HasForksOf, IsWorkingCopy, SameForks}
+use Rattle.hfs_working.proofs.LawsProved.{kept_forks_are_alike}
 use Rattle.hfs_working.proofs.Copies.{each-image, is-copy}
 use Rattle.hfs_working.proofs.SameWork as work
 use Rattle.hfs_alike.specs.Alike.{AreAlike}
 use Rattle.hfs_alike.specs.Named.{named_by, KeepsNamed}
 use Rattle.hfs_scripts.specs.declared.lines.ScriptLine.{ScriptLine}
 use Rattle.hfs_needed_runs.specs.NamedForks.{HasNamedForks, OfNamed, file_blocks, fork_blocks}
-use Rattle.hfs_needed_runs.specs.OnImage.{NamedForksAreTheImages, ShareForks, line_calls}
+use Rattle.hfs_needed_runs.specs.Naming.{line_calls}
+use Rattle.hfs_needed_runs.specs.OnImage.{NamedForksAreTheImages, ShareForks}
 use Rattle.hfs_needed_runs.proofs.ForkPlaces.{not-dir, item-is}
 use Rattle.hfs_needed_runs.proofs.SameNames.{name-kept}
 
@@ -90,7 +89,7 @@ module _ (next : ℕ) (catalog : Catalog) (sound : IsSoundCatalog next catalog) 
       ∙ ap (λ (b : Bool). cond b (Err (refusal NOT_FOUND)) (Ok (file_record_of r.1))) (not-dir r.1 file)
 
 -- the item of a record stands where the record does
-item-place : (contents : Contents) (catalog : Catalog) (r : Record) → ((item_of contents catalog r).parent ≡ r.0.parent) × ((item_of contents catalog r).name ≡ r.0.name)
+pub item-place : (contents : Contents) (catalog : Catalog) (r : Record) → ((item_of contents catalog r).parent ≡ r.0.parent) × ((item_of contents catalog r).name ≡ r.0.name)
 unfolding item_of folder_of file_of
 item-place contents catalog r =
     let f = file_record_of r.1 in
@@ -103,11 +102,11 @@ item-place contents catalog r =
 
 -- ---- which items calls name
 
-abbrev names : Item → Call → Bool
+abbrev pub names : Item → Call → Bool
 names item c = option_map_or (λ (place : ℕ × List ℕ). eqb item.parent place.0 && same_name item.name place.1) (named_by c) false
 
 -- whether one of the calls names the item of that ID, or it is still to be made
-abbrev keeps : List Call → Volume → ℕ → Bool
+abbrev pub keeps : List Call → Volume → ℕ → Bool
 keeps calls v id = leb v.next_id id || option_map_or (λ (item : Item). list_any (names item) calls) (fin.get v.items id) false
 
 any-in : {A : Type 0} (p : A → Bool) (xs : List A) (x : A) → In x xs → p x ≡ true → list_any p xs ≡ true
@@ -124,7 +123,7 @@ any-found p (y ∷ ys) e = ⊎_elim
     (λ (later : list_any p ys ≡ true). let found = any-found p ys later in (found.0, inr found.1, found.2))
     (or_cases (p y) (list_any p ys) e)
 
-keeps-named : (calls : List Call) (v : Volume) → KeepsNamed (keeps calls v) calls v
+pub keeps-named : (calls : List Call) (v : Volume) → KeepsNamed (keeps calls v) calls v
 keeps-named calls v = record {
   named = λ c dir name asked is id item has stands.
       or_right (leb v.next_id id) _
@@ -136,14 +135,14 @@ keeps-named calls v = record {
 }
 
 -- the call that names an item
-record IsNamedBy (calls : List Call) (item : Item) : Type 0 where
-  c : Call
-  dir : ℕ
-  name : List ℕ
-  asked : In c calls
-  names_it : named_by c ≡ Some (dir, name)
-  parent : item.parent ≡ dir
-  same : same_name item.name name ≡ true
+pub record IsNamedBy (calls : List Call) (item : Item) : Type 0 where
+  pub c : Call
+  pub dir : ℕ
+  pub name : List ℕ
+  pub asked : In c calls
+  pub names_it : named_by c ≡ Some (dir, name)
+  pub parent : item.parent ≡ dir
+  pub same : same_name item.name name ≡ true
 
 names-found : (calls : List Call) (item : Item) (c : Call) → In c calls → names item c ≡ true → IsNamedBy calls item
 names-found calls item c asked e = by (named_by c) refl e
@@ -155,7 +154,7 @@ names-found calls item c asked e = by (named_by c) refl e
         let parts = and_parts (eqb item.parent place.0) (same_name item.name place.1) e in
         record { c = c; dir = place.0; name = place.1; asked = asked; names_it = is; parent = eqb-true item.parent place.0 parts.0; same = parts.1 }
 
-keeps-found : (calls : List Call) (v : Volume) (id : ℕ) (item : Item) → id < v.next_id → fin.get v.items id ≡ Some item → keeps calls v id ≡ true → IsNamedBy calls item
+pub keeps-found : (calls : List Call) (v : Volume) (id : ℕ) (item : Item) → id < v.next_id → fin.get v.items id ≡ Some item → keeps calls v id ≡ true → IsNamedBy calls item
 keeps-found calls v id item given has e = ⊎_elim
     (λ (new : leb v.next_id id ≡ true). absurd (omega (arith, given, leb-true v.next_id id new)))
     (λ (old : option_map_or (λ (i : Item). list_any (names i) calls) (fin.get v.items id) false ≡ true).
@@ -172,53 +171,14 @@ of-call catalog Fact (line ∷ lines) h c i = ⊎_elim
     (λ (there : In c (line_calls lines)). of-call catalog Fact lines h.1 c there)
     i
 
--- ---- the bytes of a fork stand in its first blocks
+-- ---- the blocks of forks
 
-module _ (f g : ℕ → List ℕ) where
-  same-first : (numbers : List ℕ) (n len : ℕ) → len ≤ 512 * n → Each (λ k. length (g k) ≡ 512) (take n numbers) → AgreeOn (take n numbers) g f
-      → take len (joined (map f numbers)) ≡ take len (joined (map g numbers))
-  same-first [] n len le whole same = refl
-  same-first (k ∷ ks) zero len le whole same =
-      let none : len ≡ 0 = omega (arith, le) in
-      ap (λ m. take m (joined (map f (k ∷ ks)))) none ∙ sym (ap (λ m. take m (joined (map g (k ∷ ks)))) none)
-  same-first (k ∷ ks) (suc n) len le whole same =
-      ap (λ (b : List ℕ). take len (b ++ joined (map f ks))) same.0
-      ∙ elim (leb_tells len 512) [
-        | inl few ↦
-            let within : len ≤ length (g k) = omega (arith, few.1, whole.0) in
-            take-append-le len (g k) (joined (map f ks)) within ∙ sym (take-append-le len (g k) (joined (map g ks)) within)
-        | inr more ↦
-            let split : len ≡ 512 + (len - 512) = omega (arith, more.1) in
-            let rest : len - 512 ≤ 512 * n = omega (arith, le, more.1) in
-            ap (λ m. take m (g k ++ joined (map f ks))) split ∙ behind (joined (map f ks)) (len - 512)
-            ∙ ap (λ l. g k ++ l) (same-first ks n (len - 512) rest whole.1 same.1)
-            ∙ sym (ap (λ m. take m (g k ++ joined (map g ks))) split ∙ behind (joined (map g ks)) (len - 512))
-      ]
-    where
-      behind : (l : List ℕ) (m : ℕ) → take (512 + m) (g k ++ l) ≡ g k ++ take m l
-      behind l m =
-          take-add 512 m (g k ++ l)
-          ∙ (λ i. take_at (g k) l 512 (whole.0) i ++ take m (drop_at (g k) l 512 (whole.0) i))
-
-module _ (old new : Blocks) (directory : mdb_in new ≡ mdb_in old) (overflow : overflow_in new ≡ overflow_in old) where
-  bytes-first : (file : ℕ) (kind : ForkKind) (fork : ForkRecord) → Each (λ k. length (old k) ≡ 512) (fork_blocks old file kind fork)
-      → AgreeOn (fork_blocks old file kind fork) old new → bytes_in new file kind fork ≡ bytes_in old file kind fork
-  unfolding bytes_in fork_bytes nodes_in tree_blocks
-  bytes-first file kind fork whole same =
-      (λ i. fork_bytes new (directory i) (fork_extents (overflow i) file (fork_byte kind) fork.extents) fork.length)
-      ∙ same-first new old (block_numbers (mdb_in old) (fork_extents (overflow_in old) file (fork_byte kind) fork.extents)) (node_count fork.length) fork.length
-      (omega arith) whole same
-
-  contents-first : (f : FileRecord) → Each (λ k. length (old k) ≡ 512) (file_blocks old f) → AgreeOn (file_blocks old f) old new
-      → contents_in new f ≡ contents_in old f
-  unfolding contents_in
-  contents-first f whole same =
-      let first = fork_blocks old f.id Data f.«data» in
-      let second = fork_blocks old f.id Resource f.resource in
-      λ i. (
-        bytes-first f.id Data f.«data» (each-left (λ k. length (old k) ≡ 512) first second whole) (each-left (λ k. new k ≡ old k) first second same) i,
-        bytes-first f.id Resource f.resource (each-right (λ k. length (old k) ≡ 512) first second whole) (each-right (λ k. new k ≡ old k) first second same) i,
-      )
+pub same-forks : (old new : Blocks) (f : FileRecord) → AgreeOn (file_blocks old f) old new → SameForks old new f
+unfolding blocks_of_fork
+same-forks old new f same = (
+  each-left (λ k. new k ≡ old k) (fork_blocks old f.id Data f.«data») (fork_blocks old f.id Resource f.resource) same,
+  each-right (λ k. new k ≡ old k) (fork_blocks old f.id Data f.«data») (fork_blocks old f.id Resource f.resource) same,
+)
 
 -- ---- of what was read
 
@@ -240,6 +200,9 @@ module _ (read : Numbered) (len count : ℕ) (mdb : Mdb) (trees : VolumeTrees) (
   unfolding overflow_in
   overflow-copy = ap overflow_of (work.extents-is (len / 512) (sparse read) (block_at copy) agree)
 
+  pub catalog-copy : catalog_in (block_at (copy_of read len)) ≡ catalog_in (sparse read)
+  catalog-copy = work.records-are (len / 512) (sparse read) (block_at copy) agree
+
   -- of the copy, the forks that lines name were read
   named-copy : (lines : List ScriptLine) → HasNamedForks (sparse read) lines read → HasNamedForks (block_at copy) lines read
   named-copy lines named = subst P (λ i. (sym records i, sym directory i, sym overflow-copy i)) named
@@ -252,17 +215,8 @@ module _ (read : Numbered) (len count : ℕ) (mdb : Mdb) (trees : VolumeTrees) (
 
       P : Catalog × Mdb × Overflow → Type 0
       P parts = Each (λ (line : ScriptLine). OfNamed parts.0 (λ (file : FileRecord). HasEach read
-          (tree_blocks parts.1 (fork_extents parts.2 file.id (fork_byte Data) file.«data».extents) file.«data».length
-          ++ tree_blocks parts.1 (fork_extents parts.2 file.id (fork_byte Resource) file.resource.extents) file.resource.length)) line.call) lines
-
-  -- a block that was read is whole
-  each-whole : (numbers : List ℕ) → HasEach read numbers → Each (λ k. length (block_at copy k) ≡ 512) numbers
-  each-whole [] h = tt
-  each-whole (n ∷ numbers) h = (by (changes read n) refl h.0, each-whole numbers h.1)
-    where
-      by : (o : Option (List ℕ)) → changes read n ≡ o → IsSome o → length (block_at copy n) ≡ 512
-      by None e some = absurd (true≢false (sym some))
-      by (Some block) e some = ap length (sym (copy-of n block e)) ∙ (is.within n block e).1
+          (block_numbers parts.1 (fork_extents parts.2 file.id (fork_byte Data) file.«data».extents)
+          ++ block_numbers parts.1 (fork_extents parts.2 file.id (fork_byte Resource) file.resource.extents))) line.call) lines
 
   module _ (lines : List ScriptLine) (named : HasNamedForks (sparse read) lines read) (image : List ℕ) (image-long : length image ≡ len) (of : IsOf image read) where
     abbrev catalog : Catalog
@@ -279,13 +233,6 @@ module _ (read : Numbered) (len count : ℕ) (mdb : Mdb) (trees : VolumeTrees) (
 
     sound : IsSoundCatalog (mdb_in (block_at copy)).next_id catalog
     sound = catalog_is_sound (block_count copy) (block_at copy) copy-is.sound.blocks
-
-    directory : mdb_in (block_at image) ≡ mdb_in (block_at copy)
-    directory = work.mdb-is (block_count copy) (block_at copy) (block_at image) copy-is.same
-
-    overflow : overflow_in (block_at image) ≡ overflow_in (block_at copy)
-    unfolding overflow_in
-    overflow = ap overflow_of (work.extents-is (block_count copy) (block_at copy) (block_at image) copy-is.same)
 
     -- the item of a file's record
     item-there : (r : Record) → In r catalog → is_item r.1 ≡ true → fin.get (volume_of copy).items (item_id r.1) ≡ Some (item_of (contents_in (block_at copy)) catalog r)
@@ -313,35 +260,20 @@ module _ (read : Numbered) (len count : ℕ) (mdb : Mdb) (trees : VolumeTrees) (
         let Fact = λ (f : FileRecord). HasEach read (file_blocks (block_at copy) f) in
         subst (λ (o : Result FileRecord Reply). IfOk o Fact) found (of-call catalog Fact lines (named-copy lines named) by.c by.asked by.dir by.name by.names_it)
 
-    file-same : (r : Record) → In r catalog → is_file r.1 ≡ true → keep (item_id r.1) ≡ true
-        → contents_in (block_at image) (file_record_of r.1) ≡ contents_in (block_at copy) (file_record_of r.1)
+    file-same : (r : Record) → In r catalog → is_file r.1 ≡ true → keep (item_id r.1) ≡ true → SameForks (block_at copy) (block_at image) (file_record_of r.1)
     file-same r there file kept =
-        let has = read-file r there file kept in
-        let numbers = file_blocks (block_at copy) (file_record_of r.1) in
-        contents-first (block_at copy) (block_at image) directory overflow (file_record_of r.1) (each-whole numbers has)
-        (each-image read len is.within image of numbers has)
+        same-forks (block_at copy) (block_at image) (file_record_of r.1)
+        (each-image read len is.within image of (file_blocks (block_at copy) (file_record_of r.1)) (read-file r there file kept))
 
-    files-same : (rs : Catalog) → ((r : Record) → In r rs → In r catalog) → FilesAreSame keep (block_at copy) (block_at image) rs
+    files-same : (rs : Catalog) → ((r : Record) → In r rs → In r catalog) → Each (HasForksOf keep (block_at copy) (block_at image)) rs
     files-same [] within = tt
     files-same (r ∷ rs) within = (λ file kept. file-same r (within r (inl refl)) file kept, files-same rs (λ q i. within q (inr i)))
 
-    counts : block_count image ≡ block_count copy
-    counts = ap (λ (n : ℕ). n / 512) (image-long ∙ sym long)
-
-    alike : AreAlike keep (volume_of copy) (volume_of image)
-    unfolding volume_of
-    alike =
-        let whole = subst (λ (n : ℕ). (k : ℕ) → k < n → length (block_at image k) ≡ 512) counts (length-block_at image) in
-        let h = copy-is.same in
-        let records : catalog_in (block_at image) ≡ catalog = work.records-are (block_count copy) (block_at copy) (block_at image) h in
-        volumes-alike keep (block_at copy) (block_at image) (work.volume-is (block_count copy) (block_at copy) (block_at image) h)
-        (files_are_long (block_count copy) (block_at copy) (length-block_at copy) copy-is.sound.blocks)
-        (subst (λ (c : Catalog). FilesAreLong (block_at image) c) records
-        (files_are_long (block_count copy) (block_at image) whole (work.sound-is (block_count copy) (block_at copy) (block_at image) h copy-is.sound.blocks)))
-        (files-same catalog (λ r i. i))
+    pub lines-alike : AreAlike (keeps (line_calls lines) (volume_of (copy_of read len))) (volume_of (copy_of read len)) (volume_of image)
+    lines-alike = kept_forks_are_alike keep copy image copy-is (files-same catalog (λ r i. i))
 
     pub share-forks : ShareForks (line_calls lines) copy image
-    share-forks = record { keep = keep; alike = alike; named = keeps-named (line_calls lines) (volume_of copy) }
+    share-forks = record { keep = keep; alike = lines-alike; named = keeps-named (line_calls lines) (volume_of copy) }
 
 pub named_forks_are_the_images : NamedForksAreTheImages
 named_forks_are_the_images lines len working image is right named long of = record {

@@ -1,8 +1,12 @@
 pub mod ForkPlaces
 pub mod KeptBlocks
+pub mod FreeBlocks
 pub mod MoreRead
-pub mod WorkingRuns
-pub mod KeptWorking
 pub mod SameNames
 pub mod ForksOfLines
+pub mod MadeFiles
+pub mod MadeForks
+pub mod KeptWorking
+pub mod RunOver
+pub mod Answered
 pub mod OnImage

@@ -1,5 +1,5 @@
 -- More blocks of a volume that were read leave its working blocks as they are.
-use Rattle.std.proofs.Common.{◌≡◌, ⊎_elim, ℕ, zero, suc, ◌+◌, ◌<◌, List, [], ◌∷◌, ◌++◌, length, get_or, Option, IsSome, Vec, Global, refl, sym, ap, subst, ◌∙◌, arith}
+use Rattle.std.proofs.Common.{◌≡◌, ⊎_elim, ℕ, zero, suc, ◌+◌, ◌<◌, List, [], ◌∷◌, ◌++◌, length, get_or, Option, IsSome, refl, sym, ap, subst, ◌∙◌, arith}
 use Rattle.std.specs.List.{flat_map}
 use Rattle.std.proofs.lemmas.Bool.{cases_eq}
 use Rattle.std.proofs.lemmas.List.Concat.{flat_map-cons}
@@ -13,7 +13,7 @@ use Rattle.hfs_blocks.specs.Blocks.{run_of}
 use Rattle.hfs_space.specs.declared.fork_kind.ForkKind.TheVariants.{Data, Resource}
 use Rattle.hfs_space.specs.Extents.{Overflow}
 use Rattle.hfs_space.specs.Extents.{fork_extents, fork_byte}
-use Rattle.hfs_space.specs.TreeFiles.{tree_blocks}
+use Rattle.hfs_space.specs.ForkLaws.{block_numbers}
 use Rattle.hfs_space.specs.TreeKeys.{overflow_of}
 use Rattle.hfs_catalog.specs.Records.{Catalog}
 use Rattle.hfs_check.specs.Parts.{mdb_in, overflow_in, catalog_in}
@@ -65,8 +65,8 @@ module _ (known later : Option (List ℕ)) (total count : ℕ) (old new : Number
 
       P : Catalog × Mdb × Overflow → Type 0
       P parts = Each (λ (line : ScriptLine). OfNamed parts.0 (λ (file : FileRecord). HasEach new
-          (tree_blocks parts.1 (fork_extents parts.2 file.id (fork_byte Data) file.«data».extents) file.«data».length
-          ++ tree_blocks parts.1 (fork_extents parts.2 file.id (fork_byte Resource) file.resource.extents) file.resource.length)) line.call) lines
+          (block_numbers parts.1 (fork_extents parts.2 file.id (fork_byte Data) file.«data».extents)
+          ++ block_numbers parts.1 (fork_extents parts.2 file.id (fork_byte Resource) file.resource.extents))) line.call) lines
 
       here : P (catalog_in (sparse old), mdb_in (sparse old), overflow_in (sparse old))
       here =
@@ -77,27 +77,24 @@ module _ (known later : Option (List ℕ)) (total count : ℕ) (old new : Number
           (λ file among. each-mono (λ n. In n numbers) (λ n. IsSome (changes new n)) (file_blocks (sparse old) file) (λ n i. each_in (λ m. IsSome (changes new m)) numbers n has i) among) p)
           named
 
--- ---- fork by fork
+-- ---- run by run
 
-pub each-forks : (P : ℕ → Type 0) (forks : List (Vec Run Global)) → ((i : ℕ) (none : Vec Run Global) → i < length forks → Each P (flat_map run_of (get_or forks i none).items))
-    → Each P (blocks_of_runs forks)
-each-forks P [] h = tt
-each-forks P (runs ∷ forks) h =
-    subst (λ (ns : List ℕ). Each P ns) (sym (flat_map-cons (λ (r : Vec Run Global). flat_map run_of r.items) runs forks))
-    (each-append P (flat_map run_of runs.items) (blocks_of_runs forks) (h 0 runs (omega arith)) (each-forks P forks (λ i none lt. h (suc i) none (omega (arith, lt)))))
+pub each-run : (P : ℕ → Type 0) (runs : List Run) → ((i : ℕ) (none : Run) → i < length runs → Each P (run_of (get_or runs i none))) → Each P (blocks_of_runs runs)
+each-run P [] h = tt
+each-run P (run ∷ runs) h =
+    subst (λ (ns : List ℕ). Each P ns) (sym (flat_map-cons run_of run runs))
+    (each-append P (run_of run) (blocks_of_runs runs) (h 0 run (omega arith)) (each-run P runs (λ i none lt. h (suc i) none (omega (arith, lt)))))
 
-pub one-fork-more : (old new : Numbered) → HasGrown old new → (forks : List (Vec Run Global)) (i : ℕ) (item : Vec Run Global) → i < length forks
-    → (runs : List Run) → runs ≡ (get_or forks i item).items → HasEach new (flat_map run_of runs)
-    → ((k : ℕ) (none : Vec Run Global) → k < i → HasEach old (flat_map run_of (get_or forks k none).items))
-    → (k : ℕ) (none : Vec Run Global) → k < i + 1 → HasEach new (flat_map run_of (get_or forks k none).items)
-one-fork-more old new grown forks i item within runs are here before k none lt = ⊎_elim
+pub one-run-more : (old new : Numbered) → HasGrown old new → (runs : List Run) (i : ℕ) (item : Run) → i < length runs → HasEach new (run_of (get_or runs i item))
+    → ((k : ℕ) (none : Run) → k < i → HasEach old (run_of (get_or runs k none)))
+    → (k : ℕ) (none : Run) → k < i + 1 → HasEach new (run_of (get_or runs k none))
+one-run-more old new grown runs i item within here before k none lt = ⊎_elim
     (λ (same : k ≡ i).
-    subst (λ (r : Vec Run Global). HasEach new (flat_map run_of r.items)) (sym (ap (λ (n : ℕ). get_or forks n none) same ∙ get_or-any forks i none item within))
-    (subst (λ (rs : List Run). HasEach new (flat_map run_of rs)) are here))
-    (λ (other : k ≡ i → ⊥). each-grown old new grown (flat_map run_of (get_or forks k none).items) (before k none (omega (arith, lt, other))))
+    subst (λ (r : Run). HasEach new (run_of r)) (sym (ap (λ (n : ℕ). get_or runs n none) same ∙ get_or-any runs i none item within)) here)
+    (λ (other : k ≡ i → ⊥). each-grown old new grown (run_of (get_or runs k none)) (before k none (omega (arith, lt, other))))
     (cases_eq k i)
   where
-    get_or-any : (xs : List (Vec Run Global)) (n : ℕ) (d e : Vec Run Global) → n < length xs → get_or xs n d ≡ get_or xs n e
+    get_or-any : (xs : List Run) (n : ℕ) (d e : Run) → n < length xs → get_or xs n d ≡ get_or xs n e
     get_or-any [] n d e lt = absurd (omega (arith, lt))
     get_or-any (x ∷ xs) zero d e lt = refl
     get_or-any (x ∷ xs) (suc n) d e lt = get_or-any xs n d e (omega (arith, lt))

@@ -1,20 +1,24 @@
 -- What a run over a copy of an image answers its workers is what the image answers.
-use Rattle.std.proofs.Common.{◌≡◌, inl, inr, ⊎_elim, ℕ, zero, suc, ◌+◌, ◌<◌, Bool, true, false, cond, List, [], ◌∷◌, map, filter, length, get_or, refl, sym, ap, subst, ◌∙◌, arith}
+use Rattle.std.proofs.Common.{◌≡◌, inl, inr, ⊎_elim, ℕ, zero, suc, ◌+◌, ◌<◌, Bool, true, false, cond, List, [], ◌∷◌, map, filter, length, get_or, Option, refl, sym, ap, subst, ◌∙◌, arith, true≢false}
 use Rattle.std.proofs.lemmas.Bool.{or_left, or_right}
 use Rattle.std.proofs.lemmas.List.{length-map, get_or-map}
 use Rattle.logbook.specs.Pages.{Book}
 use Rattle.hfs_scans.specs.Members.{In}
 use Rattle.hfs_model.specs.declared.call.Call.{Call}
+use Rattle.hfs_model.specs.declared.call.Call.TheVariants as call
+use Rattle.hfs_model.specs.declared.journal.Want.{Want}
+use Rattle.hfs_model.specs.Changes.{Outcome}
+use Rattle.hfs_model.specs.Step.{is_writing}
 use Rattle.hfs_model.specs.declared.reply.Reply.{Reply}
 use Rattle.hfs_model.specs.declared.journal.Entry.{Entry}
-use Rattle.hfs_model.specs.Need.{step_within}
+use Rattle.hfs_model.specs.Need.{step_within, step_wanting}
 use Rattle.hfs_model.specs.Runs.{after}
 use Rattle.hfs_model.specs.Volume.{Volume}
 use Rattle.hfs_check.specs.VolumeOf.{volume_of}
 use Rattle.hfs_published.specs.Tolds.{ToldState}
 use Rattle.hfs_volume.specs.Serving.{free_in, depth_in}
-use Rattle.hfs_alike.specs.Alike.{no_file, reads_fork}
-use Rattle.hfs_alike.proofs.LawsProved.{alike_after, alike_within}
+use Rattle.hfs_alike.specs.Alike.{bare_volume, no_file, reads_fork}
+use Rattle.hfs_alike.proofs.LawsProved.{alike_after, alike_wanting, alike_within}
 use Rattle.hfs_alike.proofs.NamedItems.{asked_answer_alike}
 use Rattle.hfs_working.proofs.LawsProved.{copies_answer}
 use Rattle.hfs_scripts.specs.declared.lines.Caller.{Caller}
@@ -24,15 +28,12 @@ use Rattle.hfs_scripts.specs.Callers.{calls_of, is_same}
 use Rattle.hfs_shared.specs.Desks.{PassState, pass_state}
 use Rattle.hfs_shared.specs.Shareds.{IsReplyOf}
 use Rattle.hfs_shared.specs.Works.{IsWork}
-use Rattle.hfs_needed_runs.specs.Naming.{read_forks}
-use Rattle.hfs_needed_runs.specs.OnImage.{AreOfWhereRead, IsLinesCopy, IsReplyOnImage, IsSomeReplyOnImage, WorkersReadTheImage, line_calls}
+use Rattle.hfs_needed_runs.specs.Naming.{line_calls, read_forks, uses_fork}
+use Rattle.hfs_needed_runs.specs.OnImage.{AreOfWhereRead, IsForkReplyIn, IsLinesCopy, IsReplyIn, IsReplyOnImage, IsSomeReplyOnImage, SavedIsMade, WorkersReadTheImage}
+use Rattle.hfs_needed_runs.proofs.Answered.{fork-outcome, other-outcome}
+use Rattle.hfs_needed_runs.proofs.MadeForks.{in-at}
 
 -- ---- calls of lines
-
-in-at : {A : Type 0} (xs : List A) (k : ℕ) (d : A) → k < length xs → In (get_or xs k d) xs
-in-at [] k d lt = absurd (omega (arith, lt))
-in-at (x ∷ xs) zero d lt = inl refl
-in-at (x ∷ xs) (suc k) d lt = inr (in-at xs k d (omega (arith, lt)))
 
 -- a caller's calls are those of lines
 in-lines : (caller : Caller) (lines : List ScriptLine) (c : Call) → In c (calls_of caller lines) → In c (line_calls lines)
@@ -47,15 +48,37 @@ in-lines caller (line ∷ lines) c i = by (λ there. in-lines caller lines c the
     by rest true (inr there) = inr (rest there)
     by rest false there = inr (rest there)
 
--- where one of the calls reads a fork, the lines do
+-- where one of the calls reads a fork, forks are read for the lines
 reads-of : (lines : List ScriptLine) (c : Call) → In c (line_calls lines) → reads_fork c ≡ true → read_forks lines ≡ true
 reads-of [] c i e = absurd i
 reads-of (line ∷ lines) c i e = ⊎_elim
-    (λ (same : line.call ≡ c). or_left (reads_fork line.call) (read_forks lines) (ap reads_fork same ∙ e))
-    (λ (there : In c (line_calls lines)). or_right (reads_fork line.call) (read_forks lines) (reads-of lines c there e))
+    (λ (same : line.call ≡ c). or_left (uses_fork line.call) (read_forks lines) (ap uses_fork same ∙ or_left (reads_fork c) (is_writing c) e))
+    (λ (there : In c (line_calls lines)). or_right (uses_fork line.call) (read_forks lines) (reads-of lines c there e))
     i
 
 -- ---- one reply
+
+-- a call that writes a fork reads none
+writes-not : (c : Call) → is_writing c ≡ true → reads_fork c ≡ false
+writes-not (call.GetDirInfo dir) e = refl
+writes-not (call.GetCatInfo dir name) e = refl
+writes-not (call.GetIndexed dir index) e = refl
+writes-not (call.List dir) e = refl
+writes-not (call.ReadFork dir name fork offset count) e = absurd (true≢false (sym e))
+writes-not (call.Create dir name now) e = refl
+writes-not (call.DirCreate dir name now) e = refl
+writes-not (call.Delete dir name now) e = refl
+writes-not (call.Rename dir name new_name now) e = refl
+writes-not (call.CatMove dir name new_dir now) e = refl
+writes-not (call.SetFInfo dir name info now) e = refl
+writes-not (call.SetCatInfo dir name created modified backup info now) e = refl
+writes-not (call.SetFLock dir name now) e = refl
+writes-not (call.RstFLock dir name now) e = refl
+writes-not (call.CreateFileId dir name now) e = refl
+writes-not (call.DeleteFileId id now) e = refl
+writes-not (call.ResolveFileId id) e = refl
+writes-not (call.SetEof dir name fork length now) e = refl
+writes-not (call.WriteFork dir name fork offset bytes now) e = refl
 
 module _ (lines : List ScriptLine) (copy image : List ℕ) (is : IsLinesCopy lines copy image) where
   abbrev calls : List Call
@@ -73,14 +96,34 @@ module _ (lines : List ScriptLine) (copy image : List ℕ) (is : IsLinesCopy lin
           let alike = alike_after no_file (volume_of copy) (volume_of image) before (copies_answer copy image is.working).alike in
           (alike_within no_file free depth (after (volume_of copy) before) (after (volume_of image) before) c alike).reply e
 
+  fork-answers : (want : Option Want) (before : List Entry) (c : Call) → is_writing c ≡ true
+      → (step_wanting want (after (volume_of image) before) c).1 ≡ (step_wanting want (after (volume_of copy) before) c).1
+  fork-answers want before c writes =
+      let alike = alike_after no_file (volume_of copy) (volume_of image) before (copies_answer copy image is.working).alike in
+      (alike_wanting no_file want (after (volume_of copy) before) (after (volume_of image) before) c alike).reply (writes-not c writes)
+
+  fork-reply : (before : List Entry) (c : Call) (r : Reply) (s : IsReplyOf copy (after (volume_of copy) before) c r) → is_writing c ≡ true
+      → IsForkReplyIn s.image (after (volume_of image) before) c r
+  fork-reply before c r s writes =
+      let o = fork-outcome s.image c (s.left, r) s.outcome writes in
+      record {
+        want = o.want;
+        meets = o.meets;
+        is = ap (λ (outcome : Outcome). outcome.1) o.is ∙ ap (λ (v : Volume). (step_wanting o.want v c).1) s.volume_is
+            ∙ sym (fork-answers o.want before c writes);
+      }
+
   on-image : (before : List Entry) (c : Call) (r : Reply) → In c (line_calls lines) → IsReplyOf copy (after (volume_of copy) before) c r
       → IsReplyOnImage (line_calls lines) copy image before c r
   on-image before c r there s = record {
     on_copy = s;
-    on_image = λ asked.
-        s.reply_is
-        ∙ ap (λ (v : Volume). (step_within (free_in s.image) (depth_in s.image) v c).1) s.volume_is
-        ∙ sym (answers (free_in s.image) (depth_in s.image) before c there asked);
+    on_image = λ asked. record {
+      other = λ e.
+          ap (λ (outcome : Outcome). outcome.1) (other-outcome s.image c (s.left, r) s.outcome e)
+          ∙ ap (λ (v : Volume). (step_within (free_in s.image) (depth_in s.image) v c).1) s.volume_is
+          ∙ sym (answers (free_in s.image) (depth_in s.image) before c there asked);
+      fork = λ e. fork-reply before c r s e;
+    };
   }
 
   -- ---- the replies of a worker
@@ -121,3 +164,13 @@ workers_read_the_image copy image lines volume text whole shown is ran place bel
                 (call-there lines copy image is ran.book worker worked.0 worked.1 replies worked.2 worked.3 k call lt) s.reply_is,
           );
     }
+
+-- ---- what goes out
+
+pub saved_is_made : SavedIsMade
+saved_is_made copy image lines patch text whole shown over keep forks = record {
+  keep = keep;
+  named = forks.named;
+  made = sym (alike_after keep (volume_of copy) (volume_of image) over.ran.journal forks.alike)
+      ∙ ap (bare_volume keep) (sym over.ran.follows ∙ ap volume_of over.makes) ∙ forks.laid;
+}

@@ -1,5 +1,6 @@
 pub mod Naming
-pub mod NamedForks
 pub mod Keeping
+pub mod GivenBack
+pub mod NamedForks
 pub mod NeededRuns
 pub mod OnImage

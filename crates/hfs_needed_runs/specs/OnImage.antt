@@ -1,14 +1,21 @@
 -- What a run over a copy of an image answers, of the image itself. Each law is what a function of src/laws.rt ensures.
-use Rattle.std.specs.Prelude.{◌≡◌, ℕ, ◌+◌, ◌/◌, ◌<◌, true, Bool, List, ◌++◌, map, length, get_or, None}
+use Rattle.std.specs.Prelude.{◌≡◌, ℕ, ◌+◌, ◌/◌, ◌<◌, true, false, IsTrue, Bool, List, ◌++◌, length, get_or, Option, None}
 use Rattle.hfs_model.specs.declared.call.Call.{Call}
 use Rattle.hfs_model.specs.declared.reply.Reply.{Reply}
 use Rattle.hfs_model.specs.declared.journal.Entry.{Entry}
-use Rattle.hfs_model.specs.Need.{step_within}
+use Rattle.hfs_model.specs.declared.journal.Want.{Want}
+use Rattle.hfs_model.specs.Need.{step_within, step_wanting}
+use Rattle.hfs_model.specs.Replies.{is_accepted}
 use Rattle.hfs_model.specs.Runs.{after}
+use Rattle.hfs_model.specs.Step.{step, is_writing}
+use Rattle.hfs_model.specs.Volume.{Volume}
+use Rattle.hfs_blocks.specs.Blocks.{block_at}
+use Rattle.hfs_blocks.specs.Layers.{Numbered}
+use Rattle.hfs_call_edits.specs.ForkWants.{MeetsForkWant}
 use Rattle.hfs_check.specs.Sound.{IsImageLength}
 use Rattle.hfs_check.specs.VolumeOf.{volume_of}
 use Rattle.hfs_sparse.specs.Sparse.{sparse, IsOf}
-use Rattle.hfs_volume.specs.Image.{ImageValue, copy_of}
+use Rattle.hfs_volume.specs.Image.{ImageValue, copy_of, patched}
 use Rattle.hfs_volume.specs.Serving.{free_in, depth_in}
 use Rattle.hfs_alike.specs.Alike.{AreAlike, reads_fork}
 use Rattle.hfs_alike.specs.Named.{AreOf, KeepsNamed}
@@ -21,11 +28,8 @@ use Rattle.hfs_scripts.specs.Callers.{calls_of, workers}
 use Rattle.hfs_shared.specs.Shareds.{IsReplyOf}
 use Rattle.hfs_runs.specs.Runs.{AreLinesRun}
 use Rattle.hfs_needed_runs.specs.NamedForks.{HasNamedForks}
-use Rattle.hfs_needed_runs.specs.Naming.{read_forks}
-
--- the calls of these lines
-abbrev pub line_calls : List ScriptLine → List Call
-line_calls lines = map (λ (line : ScriptLine). line.call) lines
+use Rattle.hfs_needed_runs.specs.NeededRuns.{AreLinesRunOver, CarriesForks}
+use Rattle.hfs_needed_runs.specs.Naming.{line_calls, read_forks}
 
 -- copy and image hold the same, but for the bytes of forks of files that none of these calls names by its place; such files
 -- have IDs that are not kept, and no item that will be made is among them
@@ -34,7 +38,7 @@ pub record ShareForks (calls : List Call) (copy image : List ℕ) : Type 0 where
   pub alike : AreAlike keep (volume_of copy) (volume_of image)
   pub named : KeepsNamed keep calls (volume_of copy)
 
--- the image has the copy's working blocks, and, where some of these lines read forks, the forks of the files that they name
+-- the image has the copy's working blocks, and, where some of these lines read or write forks, the forks of the files that they name
 pub record IsLinesCopy (lines : List ScriptLine) (copy image : List ℕ) : Type 0 where
   pub working : IsWorkingCopy copy image
   pub forks : read_forks lines ≡ true → ShareForks (line_calls lines) copy image
@@ -43,12 +47,23 @@ pub record IsLinesCopy (lines : List ScriptLine) (copy image : List ℕ) : Type 
 abbrev pub AreOfWhereRead : List Call → List Entry → Call → Type 0
 AreOfWhereRead calls before call = reads_fork call ≡ true → AreOf calls before
 
--- the copy's reply to a call behind some entries is the image's behind the same ones, where the catalog has as many free nodes and levels
--- as that of the copy has there; of a call that reads a fork, where the entries are of these calls alone
+-- this is wanting of a call that writes a fork, in an image, if anything is, and the reply is the one of a volume where the same is wanting
+pub record IsForkReplyIn (image : List ℕ) (v : Volume) (call : Call) (reply : Reply) : Type 0 where
+  pub want : Option Want
+  pub meets : IsTrue (is_accepted (step (volume_of image) call).1) → MeetsForkWant call (block_at image) want
+  pub is : reply ≡ (step_wanting want v call).1
+
+-- the reply to a call is the one of a volume whose catalog has as many free nodes and levels as that of an image, and in which the same is wanting
+-- of a call that writes a fork
+pub record IsReplyIn (image : List ℕ) (v : Volume) (call : Call) (reply : Reply) : Type 0 where
+  pub other : is_writing call ≡ false → reply ≡ (step_within (free_in image) (depth_in image) v call).1
+  pub fork : is_writing call ≡ true → IsForkReplyIn image v call reply
+
+-- the copy's reply to a call behind some entries is the image's behind the same ones, where as much is wanting as in the copy there; of a call
+-- that reads a fork, where the entries are of these calls alone
 pub record IsReplyOnImage (calls : List Call) (copy image : List ℕ) (before : List Entry) (call : Call) (reply : Reply) : Type 0 where
   pub on_copy : IsReplyOf copy (after (volume_of copy) before) call reply
-  pub on_image : AreOfWhereRead calls before call
-      → reply ≡ (step_within (free_in on_copy.image) (depth_in on_copy.image) (after (volume_of image) before) call).1
+  pub on_image : AreOfWhereRead calls before call → IsReplyIn on_copy.image (after (volume_of image) before) call reply
 
 -- so is the reply behind some entries
 abbrev pub IsSomeReplyOnImage : List Call → List ℕ → List ℕ → Call → Reply → Type 0
@@ -74,6 +89,13 @@ abbrev pub AreAllOnImage : (lines : List ScriptLine) (copy image : List ℕ) (vo
 AreAllOnImage lines copy image volume text whole shown ran =
     (place : ℕ) → place < workers lines → AreWorkersOnImage lines copy image shown ran.journal (place + 1) (ran.replies (Worker (place + 1)))
 
+-- these bytes hold what entries make of an image's volume, but for the bytes of forks of files that none of these calls names by its place, of which
+-- those that there are in the copy have IDs that are not kept
+pub record HoldsMade (calls : List Call) (journal : List Entry) (copy image saved : List ℕ) : Type 0 where
+  pub keep : ℕ → Bool
+  pub named : KeepsNamed keep calls (volume_of copy)
+  pub made : AreAlike keep (after (volume_of image) journal) (volume_of saved)
+
 -- ---- the laws
 
 -- what was read of an image of so many bytes, with the forks that lines name, is such a copy of each image that has what was read
@@ -88,3 +110,10 @@ abbrev pub WorkersReadTheImage : Type 0
 WorkersReadTheImage =
     (copy image : List ℕ) (lines : List ScriptLine) (volume : ImageValue) (text : List ℕ) (whole shown : Bool) → IsLinesCopy lines copy image
     → (ran : AreLinesRun copy lines volume text whole shown) → AreAllOnImage lines copy image volume text whole shown ran
+
+-- what goes out of a run over such a copy makes of the image what the run's calls make of its volume
+abbrev pub SavedIsMade : Type 0
+SavedIsMade =
+    (copy image : List ℕ) (lines : List ScriptLine) (patch : Numbered) (text : List ℕ) (whole shown : Bool)
+    (over : AreLinesRunOver copy lines patch text whole shown) (keep : ℕ → Bool) → CarriesForks keep (line_calls lines) patch copy image
+    → HoldsMade (line_calls lines) over.ran.journal copy image (patched patch image)

@@ -3,15 +3,17 @@ ghost use Rattle.std.specs.Prelude.{◌≡◌, ℕ, ◌/◌, ◌++◌, ◌∷◌
 ghost use Rattle.hfs_check.specs.Parts.{mdb_in, catalog_in};
 ghost use Rattle.hfs_check.specs.Sound.{AreBlocksSound};
 ghost use Rattle.hfs_check.specs.Trees.{HasTrees};
-ghost use Rattle.hfs_needed.specs.Forks.{AreForkRuns, AreForksIn, IsForkIn};
+ghost use Rattle.hfs_needed.specs.Forks.{AreForksIn, IsForkIn};
 ghost use Rattle.hfs_queries.specs.Told as told;
 ghost use Rattle.hfs_sparse.specs.Seen.{SeesMore};
 ghost use Rattle.hfs_sparse.specs.Sparse.{sparse, HasEach, HasGrown, StaysOf};
 ghost use Rattle.hfs_working.specs.Opened.{IsWorkingOf};
-ghost use Rattle.hfs_needed_runs.specs.NamedForks.{AreAmong, GainForks, HaveMet, HaveNamedForks, HasNamedForks, IsFileOf, LieAmong, OfNamed, blocks_of_runs, file_blocks};
+ghost use Rattle.hfs_needed_runs.specs.NamedForks.{AreAmong, GainForks, HaveMet, HaveNamedForks, HasNamedForks, IsFileOf, OfNamed, blocks_of_runs, file_blocks, fork_blocks};
+ghost use Rattle.hfs_needed_runs.specs.Keeping.{GainsRuns, LieIn};
 ghost use Rattle.hfs_needed_runs.specs.Naming.{read_forks};
 ghost use Rattle.hfs_blocks.specs.Layers.{KeepsWithin};
 
+use crate::extents::push_extents;
 use crate::naming::{named_by, read_forks};
 use hfs_blocks::Run;
 use hfs_btree::RunNodes;
@@ -20,27 +22,29 @@ use hfs_fields::{FileRecord, ForkRecord};
 use hfs_model::{Call, Reply};
 use hfs_queries::file_named;
 use hfs_scripts::{Script, ScriptLine};
-use hfs_space::{ForkKind, fork_extents, tree_runs};
-use hfs_sparse::{BlockSource, SparseBlocks, SparseFault, fetch_runs};
+use hfs_space::{ForkKind, fork_extents};
+use hfs_sparse::{BlockSource, SparseBlocks, SparseFault, fetch_range};
 use hfs_working::WorkingVolume;
 use indexmap::IndexMap;
 use std::alloc::{AllocError, Global};
 
-/// The runs of the blocks of a fork of a file that have one of its bytes, which are found by the blocks that were read.
-fn fork_runs(
+/// Appends where a fork of a file lies, which is found by the blocks that were read.
+fn push_fork(
     alloc: Global,
+    runs: &mut Vec<Run>,
     read: &SparseBlocks,
     count: u32,
     sound: &SoundVolume,
     file: u32,
     kind: ForkKind,
     fork: &ForkRecord,
-) -> Result<Vec<Run>, AllocError>
+) -> Result<(), AllocError>
     requires sound { AreBlocksSound count (sparse read.now) }
     requires directory { sound.now.mdb ≡ mdb_in (sparse read.now) }
     requires trees { HasTrees count (sparse read.now) sound.now.trees }
     requires fork { IsForkIn (sparse read.now) file kind fork.now }
-    ensures { IfOk result (λ runs. AreForkRuns read.now count file kind fork.now runs.items) }
+    ensures { OnOk result (GainsRuns (fork_blocks (sparse read.now) file kind fork.now) count
+        runs.old.items runs.new.items) }
 {
     let blocks = read.volume(count);
     let nodes = RunNodes {
@@ -48,14 +52,14 @@ fn fork_runs(
         runs: &sound.trees.extents,
     };
     let extents = fork_extents(alloc, &nodes, file, kind, &fork.extents)?;
-    tree_runs(alloc, &blocks, &sound.mdb, &extents, fork.length)
+    push_extents(runs, &sound.mdb, &extents)
 }
 
 /// Appends where both forks of a file lie.
 #[tactic(auto, using(hfs_needed::proofs::Named::data_sound, hfs_needed::proofs::Named::resource_sound))]
 fn push_file(
     alloc: Global,
-    forks: &mut Vec<Vec<Run>>,
+    runs: &mut Vec<Run>,
     read: &SparseBlocks,
     count: u32,
     sound: &SoundVolume,
@@ -65,18 +69,24 @@ fn push_file(
     requires directory { sound.now.mdb ≡ mdb_in (sparse read.now) }
     requires trees { HasTrees count (sparse read.now) sound.now.trees }
     requires forks { AreForksIn (sparse read.now) file.now }
-    ensures within { LieAmong count forks.old.items → LieAmong count forks.new.items }
-    ensures gained { OnOk result (GainForks forks.old.items forks.new.items) }
+    ensures within { OnOk result (LieIn count runs.old.items → LieIn count runs.new.items) }
+    ensures gained { OnOk result (GainForks runs.old.items runs.new.items) }
     ensures forks { OnOk result
-        (AreAmong (file_blocks (sparse read.now) file.now) (blocks_of_runs forks.new.items)) }
+        (AreAmong (file_blocks (sparse read.now) file.now) (blocks_of_runs runs.new.items)) }
 {
     let id = file.id;
-    let data = fork_runs(alloc, read, count, sound, id, ForkKind::Data, &file.data)?;
+    push_fork(
+        alloc,
+        runs,
+        read,
+        count,
+        sound,
+        id,
+        ForkKind::Data,
+        &file.data,
+    )?;
     let kind = ForkKind::Resource;
-    let resource = fork_runs(alloc, read, count, sound, id, kind, &file.resource)?;
-    forks.push(data)?;
-    forks.push(resource)?;
-    Ok(())
+    push_fork(alloc, runs, read, count, sound, id, kind, &file.resource)
 }
 
 /// The record of the folder's file of that name, or the reply that refuses it.
@@ -103,7 +113,7 @@ fn find_file(
 /// Appends where both forks of a file lie, unless its ID was met before.
 fn push_once(
     alloc: Global,
-    forks: &mut Vec<Vec<Run>>,
+    runs: &mut Vec<Run>,
     ids: &mut IndexMap<u32, ()>,
     read: &SparseBlocks,
     count: u32,
@@ -115,17 +125,17 @@ fn push_once(
     requires trees { HasTrees count (sparse read.now) sound.now.trees }
     requires file { IsFileOf (catalog_in (sparse read.now)) file.now }
     requires forks { AreForksIn (sparse read.now) file.now }
-    requires met { HaveMet (sparse read.now) ids.old.entries forks.old.items }
-    ensures within { LieAmong count forks.old.items → LieAmong count forks.new.items }
-    ensures gained { OnOk result (GainForks forks.old.items forks.new.items) }
+    requires met { HaveMet (sparse read.now) ids.old.entries runs.old.items }
+    ensures within { OnOk result (LieIn count runs.old.items → LieIn count runs.new.items) }
+    ensures gained { OnOk result (GainForks runs.old.items runs.new.items) }
     ensures forks { OnOk result
-        (AreAmong (file_blocks (sparse read.now) file.now) (blocks_of_runs forks.new.items)) }
-    ensures met { OnOk result (HaveMet (sparse read.now) ids.new.entries forks.new.items) }
+        (AreAmong (file_blocks (sparse read.now) file.now) (blocks_of_runs runs.new.items)) }
+    ensures met { OnOk result (HaveMet (sparse read.now) ids.new.entries runs.new.items) }
 {
     if ids.contains_key(&file.id) {
         return Ok(());
     }
-    push_file(alloc, forks, read, count, sound, file)?;
+    push_file(alloc, runs, read, count, sound, file)?;
     ids.insert(file.id, ())?;
     Ok(())
 }
@@ -133,7 +143,7 @@ fn push_once(
 /// Appends where both forks of the file lie that a call names, if it names one.
 fn push_named(
     alloc: Global,
-    forks: &mut Vec<Vec<Run>>,
+    runs: &mut Vec<Run>,
     ids: &mut IndexMap<u32, ()>,
     read: &SparseBlocks,
     count: u32,
@@ -143,70 +153,71 @@ fn push_named(
     requires sound { AreBlocksSound count (sparse read.now) }
     requires directory { sound.now.mdb ≡ mdb_in (sparse read.now) }
     requires trees { HasTrees count (sparse read.now) sound.now.trees }
-    requires met { HaveMet (sparse read.now) ids.old.entries forks.old.items }
-    ensures within { LieAmong count forks.old.items → LieAmong count forks.new.items }
-    ensures gained { OnOk result (GainForks forks.old.items forks.new.items) }
+    requires met { HaveMet (sparse read.now) ids.old.entries runs.old.items }
+    ensures within { OnOk result (LieIn count runs.old.items → LieIn count runs.new.items) }
+    ensures gained { OnOk result (GainForks runs.old.items runs.new.items) }
     ensures forks { OnOk result (OfNamed (catalog_in (sparse read.now)) (λ file.
-        AreAmong (file_blocks (sparse read.now) file) (blocks_of_runs forks.new.items)) call.now) }
-    ensures met { OnOk result (HaveMet (sparse read.now) ids.new.entries forks.new.items) }
+        AreAmong (file_blocks (sparse read.now) file) (blocks_of_runs runs.new.items)) call.now) }
+    ensures met { OnOk result (HaveMet (sparse read.now) ids.new.entries runs.new.items) }
 {
     let Some((dir, name)) = named_by(call) else {
         return Ok(());
     };
     match find_file(read, count, sound, dir, name) {
-        Ok(file) => push_once(alloc, forks, ids, read, count, sound, &file),
+        Ok(file) => push_once(alloc, runs, ids, read, count, sound, &file),
         Err(_reply) => Ok(()),
     }
 }
 
-/// Where the forks of the files lie that these lines name, each file once.
+/// Where the forks of the files lie that these lines name, each file's once.
 fn named_forks(
     alloc: Global,
     read: &SparseBlocks,
     count: u32,
     sound: &SoundVolume,
     lines: &[ScriptLine],
-) -> Result<Vec<Vec<Run>>, AllocError>
+) -> Result<Vec<Run>, AllocError>
     requires sound { AreBlocksSound count (sparse read.now) }
     requires directory { sound.now.mdb ≡ mdb_in (sparse read.now) }
     requires trees { HasTrees count (sparse read.now) sound.now.trees }
-    ensures within { IfOk result (λ forks. LieAmong count forks.items) }
-    ensures forks { IfOk result (λ forks.
-        HaveNamedForks (sparse read.now) lines.now (blocks_of_runs forks.items)) }
+    ensures within { IfOk result (λ runs. LieIn count runs.items) }
+    ensures forks { IfOk result (λ runs.
+        HaveNamedForks (sparse read.now) lines.now (blocks_of_runs runs.items)) }
 {
-    let mut forks = Vec::new(alloc);
+    let mut runs = Vec::new(alloc);
     let mut ids = IndexMap::new(alloc);
     for line in lines {
-        push_named(alloc, &mut forks, &mut ids, read, count, sound, &line.call)?;
+        push_named(alloc, &mut runs, &mut ids, read, count, sound, &line.call)?;
     }
-    Ok(forks)
+    Ok(runs)
 }
 
-/// Reads the blocks of forks that lie in these runs, each block unless it was read before.
+/// Reads the blocks of these runs, each unless it was read before.
 #[tactic(auto, using(hfs_sparse::proofs::Seen::sees_itself))]
 fn fetch_forks<S: BlockSource>(
     source: &mut S,
     read: &mut SparseBlocks,
     count: u32,
-    forks: &[Vec<Run>],
+    runs: &[Run],
 ) -> Result<(), SparseFault>
-    requires { LieAmong count forks.now }
-    ensures has { OnOk result (HasEach read.new (blocks_of_runs forks.now)) }
+    requires { LieIn count runs.now }
+    ensures has { OnOk result (HasEach read.new (blocks_of_runs runs.now)) }
     ensures grown { HasGrown read.old read.new }
     ensures stays { StaysOf (S.image source.old) read.old read.new }
     ensures within { KeepsWithin read.old read.new count }
     ensures image { S.image source.new ≡ S.image source.old }
     ensures sees { SeesMore (S.Holds source.old) (S.Holds source.new) read.old read.new }
 {
-    for runs in forks {
-        fetch_runs(source, read, runs)?;
+    for run in runs {
+        fetch_range(source, read, run.first, run.count)?;
     }
     Ok(())
 }
 
 /// Reads both forks of each file that a line of a script names by its folder and name, of whatever call, where a line of the script reads
-/// bytes of a fork at all; a fork's blocks that have none of its bytes aren't read. So a read of a fork finds its bytes, also where the file was
-/// renamed or moved by then. At an error some of these blocks may have been read. Errors: a read failed, memory was refused.
+/// or writes a fork at all; a fork's blocks behind its end are read, too. So a read of a fork finds its bytes, and a block that is written in part
+/// has its others, also where the file was renamed or moved by then. At an error some of these blocks may have been read. Errors: a read
+/// failed, memory was refused.
 #[tactic(auto, using(hfs_sparse::proofs::Seen::sees_itself))]
 pub fn fetch_named_forks<S: BlockSource>(
     alloc: Global,
@@ -229,8 +240,8 @@ pub fn fetch_named_forks<S: BlockSource>(
         return Ok(());
     }
     let (read, count, sound) = (&working.read, working.count, &working.sound);
-    let Ok(forks) = named_forks(alloc, read, count, sound, lines) else {
+    let Ok(runs) = named_forks(alloc, read, count, sound, lines) else {
         return Err(SparseFault::Memory);
     };
-    fetch_forks(source, &mut working.read, count, &forks)
+    fetch_forks(source, &mut working.read, count, &runs)
 }

@@ -1,48 +1,141 @@
-//! Those of a volume's changed blocks that lie in some runs.
-ghost use Rattle.std.specs.Prelude.{◌≡◌, ◌+◌, ◌≤◌, ◌∷◌, [], IfOk, OnOk};
+//! Which blocks of a volume go out: those that are other than they were, and those of zeros of forks and of free blocks.
+ghost use Rattle.std.specs.Prelude.{◌≡◌, ◌≢◌, ◌+◌, ◌<◌, ◌≤◌, ◌∷◌, [], true, false, IfOk, OnOk};
 ghost use Rattle.std.specs.List.{flat_map, range_with_len};
-ghost use Rattle.hfs_blocks.specs.Blocks.{run_of};
-ghost use Rattle.hfs_blocks.specs.Layers.{changes, AreWhole};
-ghost use Rattle.hfs_needed_runs.specs.Keeping.{AreChangedIn, AreNumbered, GainsChanged};
+ghost use Rattle.hfs_blocks.specs.Blocks.{block_count, run_of};
+ghost use Rattle.hfs_sparse.specs.Sparse.{zero_block};
+ghost use Rattle.hfs_volume.specs.Image.{patched};
+ghost use Rattle.hfs_needed_runs.specs.GivenBack.{AreKeptOf};
+ghost use Rattle.hfs_needed_runs.specs.Keeping.{GainsChanged, GainsZeros, LieIn};
 
-use hfs_blocks::{Patch, Run};
+use crate::given_back::keep_given_back;
+use hfs_blocks::{Blocks, Run};
+use hfs_changed_blocks::{ChangedBlocks, ChangedOver};
+use hfs_volume::Volume;
 use std::alloc::{AllocError, Global};
 
-/// Puts in block `n`, where it was changed.
-fn keep_block(kept: &mut Patch, changed: &Patch, n: u32) -> Result<(), AllocError>
-    ensures kept { OnOk result (GainsChanged (n ∷ []) changed.now kept.old kept.new) }
-    ensures whole { AreWhole (changes changed.now) }
+/// Whether two blocks are the same.
+fn is_same(first: &[u8; 512], second: &[u8; 512]) -> bool
+    ensures same { result ≡ true → first.now ≡ second.now }
+    ensures others { result ≡ false → first.now ≢ second.now }
 {
-    match changed.get(n) {
-        Some(block) => kept.put(n, block),
-        None => Ok(()),
-    }
+    first.as_slice() == second.as_slice()
 }
 
-/// Puts in those of `count` blocks from number `first` on that were changed.
-fn keep_range(kept: &mut Patch, changed: &Patch, first: u32, count: u32) -> Result<(), AllocError>
-    requires { first + count ≤ 4294967296 }
-    ensures { OnOk result
-        (GainsChanged (range_with_len first count) changed.now kept.old kept.new) }
+/// Puts in block `n`, where it is changed and other than it was.
+fn keep_changed<B: Blocks>(
+    kept: &mut ChangedBlocks,
+    now: &ChangedOver<'_, B>,
+    n: u32,
+) -> Result<(), AllocError>
+    requires { n < B.total now.now.below.now }
+    ensures { OnOk result (GainsChanged now.now.changed.now (B.blocks now.now.below.now) (n ∷ [])
+        kept.old kept.new) }
 {
-    for i in 0..count {
-        keep_block(kept, changed, first + i)?;
+    let Some(block) = now.changed.get(n) else {
+        return Ok(());
+    };
+    let mut was = [0; 512];
+    now.below.block(n, &mut was);
+    if is_same(block, &was) {
+        return Ok(());
+    }
+    kept.put(n, block)
+}
+
+/// Puts in those of the first `count` blocks that are changed and other than they were.
+fn keep_all_changed<B: Blocks>(
+    kept: &mut ChangedBlocks,
+    now: &ChangedOver<'_, B>,
+    count: u32,
+) -> Result<(), AllocError>
+    requires { count ≤ B.total now.now.below.now }
+    ensures { OnOk result (GainsChanged now.now.changed.now (B.blocks now.now.below.now)
+        (range_with_len 0 count) kept.old kept.new) }
+{
+    for n in 0..count {
+        keep_changed(kept, now, n)?;
     }
     Ok(())
 }
 
-/// Those of the changed blocks of a volume that are its master directory block or lie in these runs. Calls change none but working blocks,
-/// so where these are the runs of the others nothing is lost. A patch may have other blocks, as they were in the copy, and the image has
-/// other bytes there. The only error is want of memory.
-pub fn kept_in(alloc: Global, changed: &Patch, runs: &[Run]) -> Result<Patch, AllocError>
-    requires { AreNumbered runs.now }
-    ensures kept { IfOk result (AreChangedIn (2 ∷ flat_map run_of runs.now) changed.now) }
-    ensures whole { AreWhole (changes changed.now) }
+/// Whether a block has zeros alone.
+#[tactic(auto, unfolding(hfs_sparse::specs::Sparse::zero_block))]
+pub(crate) fn is_zeros(block: &[u8; 512]) -> bool
+    ensures zeros { result ≡ true → block.now ≡ zero_block }
+    ensures others { result ≡ false → block.now ≢ zero_block }
 {
-    let mut kept = Patch::new(alloc);
-    keep_block(&mut kept, changed, 2)?;
-    for run in runs {
-        keep_range(&mut kept, changed, run.first, run.count)?;
+    block.as_slice() == [0; 512].as_slice()
+}
+
+/// Puts in block `n`, where it is one of zeros.
+fn keep_zeros<B: Blocks>(kept: &mut ChangedBlocks, now: &B, n: u32) -> Result<(), AllocError>
+    requires { n < B.total now.now }
+    ensures { OnOk result (GainsZeros (B.blocks now.now) (n ∷ []) kept.old kept.new) }
+{
+    let mut block = [0; 512];
+    now.block(n, &mut block);
+    if !is_zeros(&block) {
+        return Ok(());
     }
+    kept.put(n, &block)
+}
+
+/// Puts in those of `count` blocks from number `first` on that are of zeros.
+fn keep_zeros_of<B: Blocks>(
+    kept: &mut ChangedBlocks,
+    now: &B,
+    first: u32,
+    count: u32,
+) -> Result<(), AllocError>
+    requires { first + count ≤ B.total now.now }
+    ensures { OnOk result (GainsZeros (B.blocks now.now) (range_with_len first count)
+        kept.old kept.new) }
+{
+    for i in 0..count {
+        keep_zeros(kept, now, first + i)?;
+    }
+    Ok(())
+}
+
+/// Puts in those of the blocks of these runs that are of zeros.
+fn keep_zeros_in<B: Blocks>(
+    kept: &mut ChangedBlocks,
+    now: &B,
+    runs: &[Run],
+) -> Result<(), AllocError>
+    requires { LieIn (B.total now.now) runs.now }
+    ensures { OnOk result (GainsZeros (B.blocks now.now) (flat_map run_of runs.now)
+        kept.old kept.new) }
+{
+    for run in runs {
+        keep_zeros_of(kept, now, run.first, run.count)?;
+    }
+    Ok(())
+}
+
+/// The blocks of a volume that go out: each that is other than it was when the volume was mounted, of the blocks in the runs of
+/// forks each of zeros, and of the free blocks each of zeros that is kept as changed. A block of zeros is as it was in a copy in
+/// which it wasn't read, and not in the image. Laid over the bytes as they were mounted, they make those that they are now.
+/// One of zeros takes a flag, and no bytes. The only error is want of memory.
+pub fn kept_blocks(
+    alloc: Global,
+    volume: &Volume,
+    forks: &[Run],
+    free: &[Run],
+) -> Result<ChangedBlocks, AllocError>
+    requires forks { LieIn (block_count volume.now.base) forks.now }
+    requires free { LieIn (block_count volume.now.base) free.now }
+    ensures kept { IfOk result (AreKeptOf volume.now (flat_map run_of forks.now)
+        (flat_map run_of free.now)) }
+    ensures makes { IfOk result (λ kept. patched kept volume.now.base ≡ volume.now.current) }
+{
+    let base = volume.base()?;
+    let below = base.blocks();
+    let changed = volume.changes();
+    let now = changed.over(&below);
+    let mut kept = ChangedBlocks::new(alloc);
+    keep_all_changed(&mut kept, &now, now.count())?;
+    keep_zeros_in(&mut kept, &now, forks)?;
+    keep_given_back(&mut kept, changed, free)?;
     Ok(kept)
 }

@@ -1,5 +1,5 @@
 //! What a run over a copy of an image answers, of the image itself, each as the contract of a function that does nothing.
-ghost use Rattle.hfs_needed_runs.specs.OnImage.{NamedForksAreTheImages, WorkersReadTheImage};
+ghost use Rattle.hfs_needed_runs.specs.OnImage.{NamedForksAreTheImages, SavedIsMade, WorkersReadTheImage};
 
 /// What was read of an image for a script, with zeros elsewhere, has the image's working blocks, and the forks of all files that the script's
 /// lines name, of each image that has the bytes which were read.
@@ -11,4 +11,10 @@ pub fn named_forks_are_the_images()
 /// script's lines.
 pub fn workers_read_the_image()
     ensures { WorkersReadTheImage }
+{}
+
+/// What goes out of a run over such a copy makes of the image what the run's calls make of its volume, but for the bytes of forks of files that
+/// no line names.
+pub fn saved_is_made()
+    ensures { SavedIsMade }
 {}

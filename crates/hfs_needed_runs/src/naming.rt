@@ -1,8 +1,7 @@
 //! The items that the lines of a script name.
 ghost use Rattle.std.specs.Prelude.{◌≡◌, None, Some, MatchOption};
-ghost use Rattle.hfs_alike.specs.Alike.{reads_fork};
 ghost use Rattle.hfs_alike.specs.Named.{named_by};
-ghost use Rattle.hfs_needed_runs.specs.Naming.{read_forks};
+ghost use Rattle.hfs_needed_runs.specs.Naming.{read_forks, uses_fork};
 
 use hfs_model::Call;
 use hfs_scripts::ScriptLine;
@@ -27,15 +26,17 @@ pub(crate) fn named_by(call: &Call) -> Option<(u32, &[u8])>
         Call::SetFLock { dir, name, .. } => Some((*dir, name.as_slice())),
         Call::RstFLock { dir, name, .. } => Some((*dir, name.as_slice())),
         Call::CreateFileId { dir, name, .. } => Some((*dir, name.as_slice())),
+        Call::SetEof { dir, name, .. } => Some((*dir, name.as_slice())),
+        Call::WriteFork { dir, name, .. } => Some((*dir, name.as_slice())),
     }
 }
 
-/// Whether a call reads bytes of a fork.
-fn reads_fork(call: &Call) -> bool
-    ensures { result ≡ reads_fork call.now }
+/// Whether a call reads or writes a fork.
+fn uses_fork(call: &Call) -> bool
+    ensures { result ≡ uses_fork call.now }
 {
     match call {
-        Call::ReadFork { .. } => true,
+        Call::ReadFork { .. } | Call::SetEof { .. } | Call::WriteFork { .. } => true,
         Call::GetDirInfo { .. } | Call::GetCatInfo { .. } | Call::GetIndexed { .. } => false,
         Call::List { .. } | Call::Create { .. } | Call::DirCreate { .. } => false,
         Call::Delete { .. } | Call::Rename { .. } | Call::CatMove { .. } => false,
@@ -45,9 +46,9 @@ fn reads_fork(call: &Call) -> bool
     }
 }
 
-/// Whether one of these lines reads bytes of a fork.
+/// Whether one of these lines reads or writes a fork, so that forks are read for them.
 pub(crate) fn read_forks(lines: &[ScriptLine]) -> bool
     ensures { result ≡ read_forks lines.now }
 {
-    lines.iter().any(|line| reads_fork(&line.call))
+    lines.iter().any(|line| uses_fork(&line.call))
 }

@@ -67,9 +67,27 @@ module _ (len : ℕ) (changed : Numbered) (done count first : ℕ) (at : first �
             ))
             (cases_lt n count)
 
+  -- what holds of the first bytes, and of the piece behind them
+  module _ (Holds Then : List ℕ → Type 0) (narrows : OfEach Then Holds) where
+    pub fact-next : (Before Own After : List ℕ → Type 0)
+        → ((bytes : List ℕ) → length bytes ≡ len → Before (take done bytes) → Own (take count (drop done bytes)) → After (take (done + count) bytes))
+        → OfPatched Holds len changed (λ bytes. Before (take done bytes)) → OfPiece Then changed first count Own
+        → OfPatched Then len changed (λ bytes. After (take (done + count) bytes))
+    fact-next Before Own After join before own = λ image held long.
+        let bytes = patched changed image in
+        join bytes (length-laid_over (changes changed) image (inside image long) ∙ long) (before image (narrows image held) long)
+        (subst Own (more image long) (own image held (inside image long) (is-piece image long)))
+
 -- when all were written
 pub written-all : (Holds : List ℕ → Type 0) (len : ℕ) (changed : Numbered) (done : ℕ) (old now : Option (List ℕ)) → len ≤ done
     → AreWithin (changes changed) (len / 512) → HasWritten Holds len changed done old now → OfPatched Holds len changed (Appends old now)
 written-all Holds len changed done old now all within h = λ image held long.
     let inside : AreWithin (changes changed) (block_count image) = subst (λ (n : ℕ). AreWithin (changes changed) (n / 512)) (sym long) within in
     subst (Appends old now) (take_all done (patched changed image) (omega (arith, all, long, length-laid_over (changes changed) image inside))) (h image held long)
+
+-- what holds of the first bytes, when there are no more
+pub fact-all : (Holds : List ℕ → Type 0) (len : ℕ) (changed : Numbered) (done : ℕ) (Fact : List ℕ → Type 0) → len ≤ done
+    → AreWithin (changes changed) (len / 512) → OfPatched Holds len changed (λ bytes. Fact (take done bytes)) → OfPatched Holds len changed Fact
+fact-all Holds len changed done Fact all within h = λ image held long.
+    let inside : AreWithin (changes changed) (block_count image) = subst (λ (n : ℕ). AreWithin (changes changed) (n / 512)) (sym long) within in
+    subst Fact (take_all done (patched changed image) (omega (arith, all, long, length-laid_over (changes changed) image inside))) (h image held long)

@@ -1,1 +1,2 @@
 pub mod Patched
+pub mod InFile

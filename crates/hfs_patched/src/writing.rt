@@ -7,7 +7,7 @@ ghost use Rattle.hfs_source.specs.Images.{OfEach};
 ghost use Rattle.hfs_patched.specs.Patched.{OfPatched, OfPiece};
 
 use crate::laying::lay_piece;
-use hfs_blocks::Patch;
+use hfs_changed_blocks::ChangedBlocks;
 use hfs_sparse::BlockSource;
 use hfs_texts::put;
 use std::alloc::{AllocError, Global};
@@ -25,22 +25,22 @@ pub enum PatchedFault {
 }
 
 /// The most bytes that are read at once.
-const MOST_AT_ONCE: u64 = 1_048_576;
+pub(crate) const MOST_AT_ONCE: u64 = 1_048_576;
 
 /// Writes `count` bytes from block `first` on, with the changed blocks in place of their own.
 fn write_piece<S: BlockSource, W: Write>(
     source: &mut S,
     first: u32,
     count: usize,
-    patch: &Patch,
+    changed: &ChangedBlocks,
     buffer: &mut [u8],
     writer: &mut W,
 ) -> Result<(), PatchedFault>
     requires room { count ≤ length buffer.old }
     requires numbers { first + count / 512 ≤ 4294967295 }
-    ensures written { OnOk result (OfPiece (S.Holds source.new) patch.now first count
+    ensures written { OnOk result (OfPiece (S.Holds source.new) changed.now first count
         (Appends (W.contents writer.old) (W.contents writer.new))) }
-    ensures part { OnErr result (OfPiece (S.Holds source.new) patch.now first count
+    ensures part { OnErr result (OfPiece (S.Holds source.new) changed.now first count
         (AppendsFront (W.contents writer.old) (W.contents writer.new))) }
     ensures memory { result ≢ Err PatchedFault.Memory }
     ensures room { length buffer.new ≡ length buffer.old }
@@ -51,7 +51,7 @@ fn write_piece<S: BlockSource, W: Write>(
     let Ok(()) = source.read_blocks(first, piece) else {
         return Err(PatchedFault::ReadFailed);
     };
-    lay_piece(patch, first, piece);
+    lay_piece(changed, first, piece);
     let Ok(()) = put(writer, piece) else {
         return Err(PatchedFault::WriteFailed);
     };
@@ -62,16 +62,16 @@ fn write_piece<S: BlockSource, W: Write>(
 fn write_pieces<S: BlockSource, W: Write>(
     source: &mut S,
     len: u64,
-    patch: &Patch,
+    changed: &ChangedBlocks,
     buffer: &mut [u8],
     writer: &mut W,
 ) -> Result<(), PatchedFault>
     requires small { len ≤ 2147483648 }
     requires room { 1048576 ≤ length buffer.old }
-    requires within { AreWithin (changes patch.now) (len / 512) }
-    ensures written { OnOk result (OfPatched (S.Holds source.new) len patch.now
+    requires within { AreWithin (changes changed.now) (len / 512) }
+    ensures written { OnOk result (OfPatched (S.Holds source.new) len changed.now
         (Appends (W.contents writer.old) (W.contents writer.new))) }
-    ensures part { OnErr result (OfPatched (S.Holds source.new) len patch.now
+    ensures part { OnErr result (OfPatched (S.Holds source.new) len changed.now
         (AppendsFront (W.contents writer.old) (W.contents writer.new))) }
     ensures memory { result ≢ Err PatchedFault.Memory }
     ensures narrows { OfEach (S.Holds source.new) (S.Holds source.old) }
@@ -81,14 +81,14 @@ fn write_pieces<S: BlockSource, W: Write>(
     while done < len {
         let count = (len - done).min(MOST_AT_ONCE);
         let first = (done / 512) as u32;
-        write_piece(source, first, count as usize, patch, buffer, writer)?;
+        write_piece(source, first, count as usize, changed, buffer, writer)?;
         done += count;
     }
     Ok(())
 }
 
 /// Room for so many bytes.
-fn buffer_of(alloc: Global, count: usize) -> Result<Vec<u8>, AllocError>
+pub(crate) fn buffer_of(alloc: Global, count: usize) -> Result<Vec<u8>, AllocError>
     ensures { IfOk result (λ buffer. length buffer.items ≡ count) }
 {
     vec![in alloc; 0; count]
@@ -102,14 +102,14 @@ pub fn write_patched<S: BlockSource, W: Write>(
     alloc: Global,
     source: &mut S,
     len: u64,
-    patch: &Patch,
+    changed: &ChangedBlocks,
     writer: &mut W,
 ) -> Result<(), PatchedFault>
     requires small { len ≤ 2147483648 }
-    requires within { AreWithin (changes patch.now) (len / 512) }
-    ensures written { OnOk result (OfPatched (S.Holds source.new) len patch.now
+    requires within { AreWithin (changes changed.now) (len / 512) }
+    ensures written { OnOk result (OfPatched (S.Holds source.new) len changed.now
         (Appends (W.contents writer.old) (W.contents writer.new))) }
-    ensures part { OnErr result (OfPatched (S.Holds source.new) len patch.now
+    ensures part { OnErr result (OfPatched (S.Holds source.new) len changed.now
         (AppendsFront (W.contents writer.old) (W.contents writer.new))) }
     ensures memory { result ≡ Err PatchedFault.Memory → writer.new ≡ writer.old }
     ensures narrows { OfEach (S.Holds source.new) (S.Holds source.old) }
@@ -118,6 +118,6 @@ pub fn write_patched<S: BlockSource, W: Write>(
     let Ok(mut buffer) = buffer_of(alloc, MOST_AT_ONCE as usize) else {
         return Err(PatchedFault::Memory);
     };
-    write_pieces(source, len, patch, &mut buffer, writer)?;
+    write_pieces(source, len, changed, &mut buffer, writer)?;
     Ok(())
 }

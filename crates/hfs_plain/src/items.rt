@@ -15,9 +15,8 @@ fn content_of(alloc: Global, table: &Table, fork: &RowFork) -> Result<Content, A
     requires fork { IsForkIn table.now.mdb fork.now }
     ensures { IfOk result (λ content. content ≡ bytes_in table.now fork.now) }
 {
-    let bytes = table
-        .base
-        .read(alloc, fork.extents.as_slice(), 0, fork.size)?;
+    let len = fork.pieces.len();
+    let bytes = table.fork_bytes(alloc, fork, 0, len)?;
     Ok(Content::new(bytes))
 }
 

@@ -36,6 +36,8 @@ value_without_ids (value.Id id) = value.Id id
 value_without_ids (value.One info) = value.One info
 value_without_ids (value.Bytes bytes) = value.Bytes bytes
 value_without_ids (value.Full free depth) = value.Full free depth
+value_without_ids (value.Room free wanted) = value.Room free wanted
+value_without_ids (value.ExtentNodes free depth) = value.ExtentNodes free depth
 value_without_ids (value.Place dir name) = value.Place dir name
 
 -- a reply to List, with each item as of one without a thread

@@ -29,6 +29,8 @@ pub fn letters_in(reply: &Reply) -> Option<usize> {
         | Value::One(_)
         | Value::Bytes(_)
         | Value::Full { .. }
+        | Value::Room { .. }
+        | Value::ExtentNodes { .. }
         | Value::Place { .. } => None,
     }
 }

@@ -60,6 +60,8 @@ fn is_made(reply: &Reply, number: u64) -> bool {
         | Value::Many(_)
         | Value::Bytes(_)
         | Value::Full { .. }
+        | Value::Room { .. }
+        | Value::ExtentNodes { .. }
         | Value::Place { .. } => false,
     }
 }

@@ -10,3 +10,4 @@ mod OneRun
 mod KeptReplies
 mod PieceLemmas
 mod Reasons
+mod SendLemmas

@@ -61,6 +61,7 @@ ran items book image lines volume text whole shown asked passes jobs dones begun
       whole_is = whole_is;
       base_is = closed.base_is;
       agrees = closed.agrees;
+      wrote = closed.made;
       legal = closed.legal;
       follows = closed.follows;
       made = λ place below. made_at items book image lines (workers lines) passes jobs dones out.journal begins done closed.all place below;

@@ -20,6 +20,8 @@ value_bytes (value.One info) = []
 value_bytes (value.Many infos) = []
 value_bytes (value.Bytes bytes) = bytes
 value_bytes (value.Full free depth) = []
+value_bytes (value.Room free wanted) = []
+value_bytes (value.ExtentNodes free depth) = []
 value_bytes (value.Place dir name) = []
 
 -- those that a reply has, and none where there is no reply

@@ -6,7 +6,7 @@ use Rattle.hfs_model.specs.declared.reply.Reply.{Reply}
 use Rattle.hfs_model.specs.declared.journal.Entry.{Entry}
 use Rattle.hfs_model.specs.Volume.{Volume}
 use Rattle.hfs_model.specs.Runs.{after}
-use Rattle.hfs_check.specs.Agree.{Agrees}
+use Rattle.hfs_check.specs.Agree.{AgreesBut}
 use Rattle.hfs_check.specs.Faults.{fault_of}
 use Rattle.hfs_check.specs.Sound.{IsSound}
 use Rattle.hfs_check.specs.VolumeOf.{volume_of}
@@ -23,6 +23,7 @@ use Rattle.hfs_published.specs.Tolds.{ToldState}
 use Rattle.hfs_shared.specs.Closings.{HasNoOthers, IsClosed}
 use Rattle.hfs_shared.specs.declared.done.Done.{Done}
 use Rattle.hfs_shared.specs.Desks.{PassState, pass_state}
+use Rattle.hfs_shared.specs.Stages.{HaveMadeOf, stage_of}
 use Rattle.hfs_shared.specs.Works.{IsWork}
 use Rattle.hfs_runs.specs.declared.fault.ScriptFault.{ScriptFault}
 use Rattle.hfs_runs.specs.declared.fault.ScriptFault.TheVariants as run
@@ -88,9 +89,9 @@ pub record IsHandedOut (base : List ℕ) (volume : ImageValue) (dones : List Don
   pub learned : OfEach (AllBegin before.list) dones
 
 -- what a run of these lines on an image made: the volume afterwards, the text of the answers, whether all lines were answered, and
--- whether each change was shown at once. The volume's image agrees with the given one, and its volume is the one after a legal
--- journal, which has as many entries of each worker as it got replies, and none of anybody else. Where each change was shown at
--- once, each reply to a worker stands in that journal.
+-- whether each change was shown at once. The volume's image agrees with the given one, but for the blocks of forks that calls of a legal
+-- journal wrote, which made it one after the other, and its volume is the one after that journal, which has as many entries of each worker
+-- as it got replies, and none of anybody else. Where each change was shown at once, each reply to a worker stands in that journal.
 pub record AreLinesRun (image : List ℕ) (lines : List ScriptLine) (volume : ImageValue) (text : List ℕ) (whole shown : Bool) : Type 0 where
   pub book : Book
   pub journal : List Entry
@@ -100,7 +101,8 @@ pub record AreLinesRun (image : List ℕ) (lines : List ScriptLine) (volume : Im
   pub text_is : text ≡ answers_text replies asked
   pub whole_is : whole ≡ is_whole replies asked
   pub base_is : volume.base ≡ image
-  pub agrees : Agrees image volume.current
+  pub agrees : AgreesBut volume.written image volume.current
+  pub wrote : HaveMadeOf image journal (stage_of volume)
   pub legal : IsLegal (volume_of image) journal
   pub follows : volume_of volume.current ≡ after (volume_of image) journal
   pub made : (place : ℕ) → place < workers lines → made_by (place + 1) journal ≡ length (replies (Worker (place + 1)))

@@ -61,7 +61,8 @@ fn long_head(alloc: Global, asked: Asked, reply: &Reply) -> Result<Option<String
             Ok(Some(head))
         }
         Value::Nothing | Value::Id(_) | Value::One(_) | Value::Many(_) => Ok(None),
-        Value::Full { .. } | Value::Place { .. } => Ok(None),
+        Value::Full { .. } | Value::Room { .. } | Value::ExtentNodes { .. } | Value::Place { .. } =>
+            Ok(None),
     }
 }
 

@@ -46,7 +46,8 @@ fn value_bytes(value: &Value) -> &[u8]
     match value {
         Value::Bytes(bytes) => bytes.as_slice(),
         Value::Nothing | Value::Id(_) | Value::One(_) | Value::Many(_) => &[],
-        Value::Full { .. } | Value::Place { .. } => &[],
+        Value::Full { .. } | Value::Room { .. } | Value::ExtentNodes { .. } | Value::Place { .. } =>
+            &[],
     }
 }
 

@@ -3,7 +3,8 @@ use Rattle.std.proofs.Common.{◌≡◌, ◌∙◌, ℕ, suc, ◌+◌, ◌<◌, 
 use Rattle.std.proofs.lemmas.List.{drop_all, drop_more}
 use Rattle.std.proofs.KnownBytes.{Appends-nil}
 use Rattle.std.specs.Io.KnownBytes.{Appends}
-use Rattle.hfs_commands.proofs.Rows.{front_first, front_next, whole_next}
+use Rattle.hfs_commands.proofs.Rows.{whole_next}
+use Rattle.hfs_patched.proofs.Fronts.{front_first, front_next}
 use Rattle.hfs_needed.specs.Known.{OfKnown}
 use Rattle.hfs_rescue.specs.declared.catalog.FoundRecord.{FoundRecord}
 use Rattle.hfs_rescue_items.specs.declared.found.Found.{Found}

@@ -7,11 +7,11 @@ use Rattle.hfs_scripts.specs.declared.words.Word.{Word}
 use Rattle.hfs_scripts.specs.declared.words.Word.TheVariants as word
 use Rattle.hfs_scripts.specs.Options.{◌>>=◌}
 use Rattle.hfs_scripts.specs.Words.{word_of}
-use Rattle.hfs_scripts.specs.Calls.{call_of, call_on_target, number_alone, indexed_of, target_of, read_of, rename_of, move_of, set_f_info_of, set_info_of}
+use Rattle.hfs_scripts.specs.Calls.{call_of, call_on_target, number_alone, indexed_of, target_of, read_of, rename_of, move_of, set_f_info_of, set_info_of, set_eof_of, write_of}
 use Rattle.hfs_scripts.specs.Lines.{caller_of, may_ask, line_of_fields}
 
 call_of-many : (now : ℕ) (word : Word) (a b c d e f g : List ℕ) (more : List (List ℕ)) → call_of now word (a ∷ b ∷ c ∷ d ∷ e ∷ f ∷ g ∷ more) ≡ None
-unfolding call_of call_on_target number_alone indexed_of target_of read_of rename_of move_of set_f_info_of set_info_of
+unfolding call_of call_on_target number_alone indexed_of target_of read_of rename_of move_of set_f_info_of set_info_of set_eof_of write_of
 call_of-many now word.DirInfo a b c d e f g more = refl
 call_of-many now word.Info a b c d e f g more = refl
 call_of-many now word.Indexed a b c d e f g more = refl
@@ -29,6 +29,8 @@ call_of-many now word.Unlock a b c d e f g more = refl
 call_of-many now word.NewId a b c d e f g more = refl
 call_of-many now word.DropId a b c d e f g more = refl
 call_of-many now word.Resolve a b c d e f g more = refl
+call_of-many now word.SetEof a b c d e f g more = refl
+call_of-many now word.Write a b c d e f g more = refl
 
 -- the line of a caller and a word whose call is none
 abbrev line_with : Option Caller → Option Word → (Word → Option Call) → Option ScriptLine

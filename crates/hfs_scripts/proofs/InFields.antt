@@ -82,6 +82,8 @@ is_field-word word.Unlock = refl
 is_field-word word.NewId = refl
 is_field-word word.DropId = refl
 is_field-word word.Resolve = refl
+is_field-word word.SetEof = refl
+is_field-word word.Write = refl
 
 pub are_fields-arguments : (call : Call) → IsReadable call → has_fields call ≡ true → list_all is_field (arguments call) ≡ true
 are_fields-arguments (call.GetDirInfo dir) r h = rw (is_field-decimal dir r) refl
@@ -104,3 +106,7 @@ are_fields-arguments (call.RstFLock dir name t) r h = rw (is_field-decimal dir r
 are_fields-arguments (call.CreateFileId dir name t) r h = rw (is_field-decimal dir r, h) refl
 are_fields-arguments (call.DeleteFileId id t) r h = rw (is_field-decimal id r) refl
 are_fields-arguments (call.ResolveFileId id) r h = rw (is_field-decimal id r) refl
+are_fields-arguments (call.SetEof dir name fork end t) r h = rw (is_field-decimal dir r.0, h, is_field-fork fork, is_field-decimal end r.1) refl
+are_fields-arguments (call.WriteFork dir name fork offset bytes t) r h =
+    let both = and-parts (is_field name) (nat_le (length bytes) 65536) h in
+    rw (is_field-decimal dir r.0, both.0, is_field-fork fork, is_field-decimal offset r.1, is_field-hex bytes) refl

@@ -104,7 +104,7 @@ pub line_of-line_text : (now : ℕ) (line : ScriptLine) → is_writable now line
 unfolding line_of line_of_fields
 line_of-line_text now line h r =
     let p = parts_of now line h in
-    rw (fields_of-line_text now line p r, caller_of-caller_text line.caller p.caller, word_of-word_text (word_for line.call), call_of-arguments now line.call r p.moment, p.asks) refl
+    rw (fields_of-line_text now line p r, caller_of-caller_text line.caller p.caller, word_of-word_text (word_for line.call), call_of-arguments now line.call r p.fields p.moment, p.asks) refl
 
 -- ---- the lines of a text
 

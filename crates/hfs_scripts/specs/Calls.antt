@@ -9,7 +9,7 @@ use Rattle.hfs_scripts.specs.declared.words.Word.{Word}
 use Rattle.hfs_scripts.specs.declared.words.Word.TheVariants as word
 use Rattle.hfs_scripts.specs.Options.{◌>>=◌}
 use Rattle.hfs_scripts.specs.Numbers.{number_of}
-use Rattle.hfs_scripts.specs.Fields.{bytes_of, fork_of}
+use Rattle.hfs_scripts.specs.Fields.{bytes_of, few_bytes_of, fork_of}
 
 -- DIR, or ID
 unfoldable pub number_alone : List (List ℕ) → Option ℕ
@@ -80,6 +80,30 @@ set_info_of now (dir ∷ name ∷ created ∷ modified ∷ backup ∷ info ∷ [
   Some (call.SetCatInfo dir name created modified backup info now)
 set_info_of now _ = None
 
+-- DIR NAME, `data` or `res`, LENGTH
+unfoldable pub set_eof_of : ℕ → List (List ℕ) → Option Call
+set_eof_of now (dir ∷ name ∷ fork ∷ length ∷ []) = do
+  dir ← number_of dir
+  fork ← fork_of fork
+  length ← number_of length
+  Some (call.SetEof dir name fork length now)
+set_eof_of now _ = None
+
+-- OFFSET HEX of a fork
+abbrev pub written_of : ℕ → ℕ → List ℕ → Fork → List ℕ → List ℕ → Option Call
+written_of now dir name fork offset bytes = do
+  offset ← number_of offset
+  bytes ← few_bytes_of bytes
+  Some (call.WriteFork dir name fork offset bytes now)
+
+-- DIR NAME, `data` or `res`, OFFSET HEX, at most 131,072 digits
+unfoldable pub write_of : ℕ → List (List ℕ) → Option Call
+write_of now (dir ∷ name ∷ fork ∷ offset ∷ bytes ∷ []) = do
+  dir ← number_of dir
+  fork ← fork_of fork
+  written_of now dir name fork offset bytes
+write_of now _ = None
+
 -- the call of a word that has DIR NAME alone behind it
 abbrev pub target_call : ℕ → Word → Target → Option Call
 target_call now word.Info item = Some (call.GetCatInfo item.dir item.name)
@@ -99,6 +123,8 @@ target_call now word.SetFInfo item = None
 target_call now word.SetInfo item = None
 target_call now word.DropId item = None
 target_call now word.Resolve item = None
+target_call now word.SetEof item = None
+target_call now word.Write item = None
 
 unfoldable pub call_on_target : ℕ → Word → List (List ℕ) → Option Call
 call_on_target now word fields = ◌>>=◌ (target_of fields) (target_call now word)
@@ -115,6 +141,8 @@ call_of now word.SetFInfo fields = set_f_info_of now fields
 call_of now word.SetInfo fields = set_info_of now fields
 call_of now word.DropId fields = option_map (λ id. call.DeleteFileId id now) (number_alone fields)
 call_of now word.Resolve fields = option_map (λ id. call.ResolveFileId id) (number_alone fields)
+call_of now word.SetEof fields = set_eof_of now fields
+call_of now word.Write fields = write_of now fields
 call_of now word.Info fields = call_on_target now word.Info fields
 call_of now word.Create fields = call_on_target now word.Create fields
 call_of now word.MkDir fields = call_on_target now word.MkDir fields

@@ -1,8 +1,8 @@
 -- The fields of a script's line.
-use Rattle.std.specs.Prelude.{ℕ, ◌==◌, if◌then◌else◌, List, codes, bytes_eq, Option, Some, None, map}
+use Rattle.std.specs.Prelude.{ℕ, ◌==◌, nat_lt, if◌then◌else◌, List, length, codes, bytes_eq, Option, Some, None, map}
 use Rattle.std.specs.List.{slice_split}
 use Rattle.std.specs.Result.{result_ok}
-use Rattle.hex.specs.Hex.{decode_sized}
+use Rattle.hex.specs.Hex.{decode_of, decode_sized}
 use Rattle.hfs_model.specs.declared.call.Fork.{Fork}
 use Rattle.hfs_model.specs.declared.call.Fork.TheVariants.{DataFork, ResFork}
 use Rattle.std.specs.Borrow.{Bor}
@@ -18,6 +18,10 @@ texts_of fields = map (λ field. field.now) fields
 -- so many bytes, each as two hexadecimal digits of either case
 unfoldable pub bytes_of : ℕ → List ℕ → Option (List ℕ)
 bytes_of count field = result_ok (decode_sized field count)
+
+-- at most 65,536 bytes, each as two hexadecimal digits of either case
+unfoldable pub few_bytes_of : List ℕ → Option (List ℕ)
+few_bytes_of field = if nat_lt 131072 (length field) then None else result_ok (decode_of field)
 
 -- a fork, by its word
 unfoldable pub fork_of : List ℕ → Option Fork

@@ -1,12 +1,12 @@
 -- What is written of numbers and bytes is read again.
-use Rattle.std.specs.Prelude.{◌≡◌, ℕ, List, Some, true}
+use Rattle.std.specs.Prelude.{◌≡◌, ◌≤◌, ℕ, List, length, Some, true}
 use Rattle.std.specs.Fmt.{decimal}
 use Rattle.hex.specs.Hex.{encode_lower}
 use Rattle.hfs_model.specs.declared.call.Call.{Call}
 use Rattle.hfs_model.specs.declared.call.Call.TheVariants as call
 use Rattle.hfs_scripts.specs.declared.lines.ScriptLine.{ScriptLine}
 use Rattle.hfs_scripts.specs.Numbers.{number_of}
-use Rattle.hfs_scripts.specs.Fields.{bytes_of}
+use Rattle.hfs_scripts.specs.Fields.{bytes_of, few_bytes_of}
 use Rattle.hfs_scripts.specs.Texts.{is_writable}
 
 abbrev pub Reads : ℕ → Type 0
@@ -14,6 +14,10 @@ Reads number = number_of (decimal number) ≡ Some number
 
 abbrev pub ReadsBytes : ℕ → List ℕ → Type 0
 ReadsBytes count bytes = bytes_of count (encode_lower bytes) ≡ Some bytes
+
+-- where they are no more than 65,536
+abbrev pub ReadsFewBytes : List ℕ → Type 0
+ReadsFewBytes bytes = length bytes ≤ 65536 → few_bytes_of (encode_lower bytes) ≡ Some bytes
 
 -- each number and each row of bytes of a call is read again
 abbrev pub IsReadable : Call → Type 0
@@ -34,6 +38,8 @@ IsReadable (call.RstFLock dir name now) = Reads dir
 IsReadable (call.CreateFileId dir name now) = Reads dir
 IsReadable (call.DeleteFileId id now) = Reads id
 IsReadable (call.ResolveFileId id) = Reads id
+IsReadable (call.SetEof dir name fork length now) = Reads dir × Reads length
+IsReadable (call.WriteFork dir name fork offset bytes now) = Reads dir × Reads offset × ReadsFewBytes bytes
 
 -- a line that has a text, with numbers and bytes that are read again
 pub record IsWritten (now : ℕ) (line : ScriptLine) : Type 0 where

@@ -40,6 +40,8 @@ word_text word.Unlock = codes "unlock"
 word_text word.NewId = codes "newid"
 word_text word.DropId = codes "dropid"
 word_text word.Resolve = codes "resolve"
+word_text word.SetEof = codes "seteof"
+word_text word.Write = codes "write"
 
 -- the word that asks for a call
 abbrev pub word_for : Call → Word
@@ -60,14 +62,24 @@ word_for (call.RstFLock dir name now) = word.Unlock
 word_for (call.CreateFileId dir name now) = word.NewId
 word_for (call.DeleteFileId id now) = word.DropId
 word_for (call.ResolveFileId id) = word.Resolve
+word_for (call.SetEof dir name fork length now) = word.SetEof
+word_for (call.WriteFork dir name fork offset bytes now) = word.Write
 
 abbrev pub fork_text : Fork → List ℕ
 fork_text DataFork = codes "data"
 fork_text ResFork = codes "res"
 
+-- a fork of the folder's file of that name, and a number
+abbrev pub fork_fields : ℕ → List ℕ → Fork → ℕ → List (List ℕ)
+fork_fields dir name fork number = decimal dir ∷ name ∷ fork_text fork ∷ decimal number ∷ []
+
 -- the fields behind the word of a read of a fork
 abbrev pub read_fields : ℕ → List ℕ → Fork → ℕ → ℕ → List (List ℕ)
 read_fields dir name fork offset count = decimal dir ∷ name ∷ fork_text fork ∷ decimal offset ∷ decimal count ∷ []
+
+-- the fields behind the word of a write into a fork
+abbrev pub write_fields : ℕ → List ℕ → Fork → ℕ → List ℕ → List (List ℕ)
+write_fields dir name fork offset bytes = decimal dir ∷ name ∷ fork_text fork ∷ decimal offset ∷ encode_lower bytes ∷ []
 
 -- three dates and Finder bytes
 abbrev pub info_fields : ℕ → ℕ → ℕ → List ℕ → List (List ℕ)
@@ -93,6 +105,8 @@ arguments (call.RstFLock dir name now) = decimal dir ∷ name ∷ []
 arguments (call.CreateFileId dir name now) = decimal dir ∷ name ∷ []
 arguments (call.DeleteFileId id now) = decimal id ∷ []
 arguments (call.ResolveFileId id) = decimal id ∷ []
+arguments (call.SetEof dir name fork length now) = decimal dir ∷ name ∷ fork_text fork ∷ decimal length ∷ []
+arguments (call.WriteFork dir name fork offset bytes now) = decimal dir ∷ name ∷ fork_text fork ∷ decimal offset ∷ encode_lower bytes ∷ []
 
 -- a field behind a tab
 abbrev pub tabbed : List ℕ → List ℕ
@@ -116,7 +130,7 @@ script_text lines = flat_map fed lines
 unfoldable pub is_field : List ℕ → Bool
 is_field name = list_all (λ byte. not (byte == 9) && not (byte == 10)) name
 
--- whether a call's names stand in fields
+-- whether a call's names stand in fields, and the bytes that it writes are few enough for one
 abbrev pub has_fields : Call → Bool
 has_fields (call.GetDirInfo dir) = true
 has_fields (call.GetCatInfo dir name) = is_field name
@@ -135,6 +149,8 @@ has_fields (call.RstFLock dir name now) = is_field name
 has_fields (call.CreateFileId dir name now) = is_field name
 has_fields (call.DeleteFileId id now) = true
 has_fields (call.ResolveFileId id) = true
+has_fields (call.SetEof dir name fork length now) = is_field name
+has_fields (call.WriteFork dir name fork offset bytes now) = is_field name && nat_le (length bytes) 65536
 
 -- whether a call is made at that moment, where it has one
 abbrev pub is_made_at : ℕ → Call → Bool
@@ -155,13 +171,15 @@ is_made_at moment (call.RstFLock dir name now) = now == moment
 is_made_at moment (call.CreateFileId dir name now) = now == moment
 is_made_at moment (call.DeleteFileId id now) = now == moment
 is_made_at moment (call.ResolveFileId id) = true
+is_made_at moment (call.SetEof dir name fork length now) = now == moment
+is_made_at moment (call.WriteFork dir name fork offset bytes now) = now == moment
 
 -- whether the number is one from 1 to 8
 abbrev pub is_caller : Caller → Bool
 is_caller (Worker number) = nat_le 1 number && nat_le number 8
 is_caller (Viewer number) = nat_le 1 number && nat_le number 8
 
--- whether a line has a text: its caller may make the call, at the moment that a reader is given, and its names stand in fields
+-- whether a line has a text: its caller may make the call, at the moment that a reader is given, and its names and bytes stand in fields
 unfoldable pub is_writable : ℕ → ScriptLine → Bool
 is_writable now line = is_caller line.caller && may_ask line.caller (word_for line.call) && has_fields line.call && is_made_at now line.call
 

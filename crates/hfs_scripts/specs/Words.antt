@@ -28,6 +28,8 @@ changing_words =
     ∷ (codes "unlock", word.Unlock)
     ∷ (codes "newid", word.NewId)
     ∷ (codes "dropid", word.DropId)
+    ∷ (codes "seteof", word.SetEof)
+    ∷ (codes "write", word.Write)
     ∷ []
 
 -- what stands beside a text in a table
@@ -64,3 +66,5 @@ is_for_viewers word.Unlock = false
 is_for_viewers word.NewId = false
 is_for_viewers word.DropId = false
 is_for_viewers word.Resolve = false
+is_for_viewers word.SetEof = false
+is_for_viewers word.Write = false

@@ -2,11 +2,11 @@
 ghost use Rattle.std.specs.Prelude.{◌≡◌, false, IfOk, IsTrue, [], ◌∷◌, length};
 ghost use Rattle.std.specs.Fmt.{decimal};
 ghost use Rattle.hex.specs.Hex.{encode_lower};
-ghost use Rattle.hfs_model.specs.Step.{is_reading};
+ghost use Rattle.hfs_model.specs.Step.{is_reading, is_writing};
 ghost use Rattle.hfs_scripts.specs.declared.words.Word.TheVariants.{SetInfo};
 ghost use Rattle.hfs_scripts.specs.Results.{GainsItems, GivesItems};
-ghost use Rattle.hfs_scripts.specs.Readable.{Reads, ReadsBytes, IsReadable};
-ghost use Rattle.hfs_scripts.specs.Texts.{arguments, fork_text, read_fields, info_fields, word_for};
+ghost use Rattle.hfs_scripts.specs.Readable.{Reads, ReadsBytes, ReadsFewBytes, IsReadable};
+ghost use Rattle.hfs_scripts.specs.Texts.{arguments, fork_text, fork_fields, read_fields, write_fields, info_fields, word_for};
 
 use hfs_model::{Call, Fork, OwnedBytes, SharedBytes};
 use std::alloc::{AllocError, Global};
@@ -27,6 +27,7 @@ pub(crate) fn number_field(alloc: Global, number: u32) -> Result<OwnedBytes, All
 fn hex_field(alloc: Global, bytes: &[u8]) -> Result<OwnedBytes, AllocError>
     ensures text { IfOk result (λ field. field ≡ encode_lower bytes.now) }
     ensures reads { IfOk result (λ field. ReadsBytes (length bytes.now) bytes.now) }
+    ensures few { IfOk result (λ field. ReadsFewBytes bytes.now) }
 {
     let text = hex::encode(alloc, bytes)?;
     Ok(OwnedBytes::new(text.into_bytes()))
@@ -78,6 +79,7 @@ fn with_bytes(
 ) -> Result<Vec<OwnedBytes>, AllocError>
     ensures fields { GainsItems fields (encode_lower bytes.now ∷ []) result }
     ensures reads { IfOk result (λ all. ReadsBytes (length bytes.now) bytes.now) }
+    ensures few { IfOk result (λ all. ReadsFewBytes bytes.now) }
 {
     with_field(fields, hex_field(alloc, bytes)?)
 }
@@ -150,6 +152,23 @@ fn target_and_info(
     with_bytes(alloc, fields, info)
 }
 
+/// DIR, NAME, a fork and a number.
+fn fork_and_number(
+    alloc: Global,
+    dir: u32,
+    name: &SharedBytes,
+    fork: Fork,
+    number: u32,
+) -> Result<Vec<OwnedBytes>, AllocError>
+    ensures fields { GivesItems (fork_fields dir name.now fork number) result }
+    ensures dir { IfOk result (λ fields. Reads dir) }
+    ensures number { IfOk result (λ fields. Reads number) }
+{
+    let fields = target(alloc, dir, name)?;
+    let fields = with_text(alloc, fields, fork_text(fork))?;
+    with_number(alloc, fields, number)
+}
+
 /// DIR, NAME, a fork, OFFSET and COUNT.
 fn part_of_fork(
     alloc: Global,
@@ -164,10 +183,26 @@ fn part_of_fork(
     ensures offset { IfOk result (λ fields. Reads offset) }
     ensures count { IfOk result (λ fields. Reads count) }
 {
-    let fields = target(alloc, dir, name)?;
-    let fields = with_text(alloc, fields, fork_text(fork))?;
-    let fields = with_number(alloc, fields, offset)?;
+    let fields = fork_and_number(alloc, dir, name, fork, offset)?;
     with_number(alloc, fields, count)
+}
+
+/// DIR, NAME, a fork, OFFSET and bytes.
+fn written_part(
+    alloc: Global,
+    dir: u32,
+    name: &SharedBytes,
+    fork: Fork,
+    offset: u32,
+    bytes: &SharedBytes,
+) -> Result<Vec<OwnedBytes>, AllocError>
+    ensures fields { GivesItems (write_fields dir name.now fork offset bytes.now) result }
+    ensures dir { IfOk result (λ fields. Reads dir) }
+    ensures offset { IfOk result (λ fields. Reads offset) }
+    ensures bytes { IfOk result (λ fields. ReadsFewBytes bytes.now) }
+{
+    let fields = fork_and_number(alloc, dir, name, fork, offset)?;
+    with_bytes(alloc, fields, bytes.as_slice())
 }
 
 /// Dates and Finder bytes, behind DIR and NAME.
@@ -220,7 +255,51 @@ fn reading_fields(alloc: Global, call: &Call) -> Result<Vec<OwnedBytes>, AllocEr
         | Call::SetFLock { .. }
         | Call::RstFLock { .. }
         | Call::CreateFileId { .. }
-        | Call::DeleteFileId { .. } => unreachable!(),
+        | Call::DeleteFileId { .. }
+        | Call::SetEof { .. }
+        | Call::WriteFork { .. } => unreachable!(),
+    }
+}
+
+/// The fields of a call that writes a fork.
+fn writing_fields(alloc: Global, call: &Call) -> Result<Vec<OwnedBytes>, AllocError>
+    requires { IsTrue (is_writing call.now) }
+    ensures fields { GivesItems (arguments call.now) result }
+    ensures reads { IfOk result (λ fields. IsReadable call.now) }
+{
+    match call {
+        Call::SetEof {
+            dir,
+            name,
+            fork,
+            length,
+            ..
+        } => fork_and_number(alloc, *dir, name, *fork, *length),
+        Call::WriteFork {
+            dir,
+            name,
+            fork,
+            offset,
+            bytes,
+            ..
+        } => written_part(alloc, *dir, name, *fork, *offset, bytes),
+        Call::GetDirInfo { .. }
+        | Call::GetCatInfo { .. }
+        | Call::GetIndexed { .. }
+        | Call::List { .. }
+        | Call::ReadFork { .. }
+        | Call::Create { .. }
+        | Call::DirCreate { .. }
+        | Call::Delete { .. }
+        | Call::Rename { .. }
+        | Call::CatMove { .. }
+        | Call::SetFInfo { .. }
+        | Call::SetCatInfo { .. }
+        | Call::SetFLock { .. }
+        | Call::RstFLock { .. }
+        | Call::CreateFileId { .. }
+        | Call::DeleteFileId { .. }
+        | Call::ResolveFileId { .. } => unreachable!(),
     }
 }
 
@@ -279,6 +358,7 @@ fn changing_fields(alloc: Global, call: &Call) -> Result<Vec<OwnedBytes>, AllocE
         } => target_and_info(alloc, *dir, name, info),
         Call::SetCatInfo { .. } => set_info_fields(alloc, call),
         Call::DeleteFileId { id, .. } => one_number(alloc, *id),
+        Call::SetEof { .. } | Call::WriteFork { .. } => writing_fields(alloc, call),
         Call::GetDirInfo { .. }
         | Call::GetCatInfo { .. }
         | Call::GetIndexed { .. }

@@ -1,9 +1,9 @@
 //! The call of a line: what its word and the fields behind it ask for.
 ghost use Rattle.std.specs.Prelude.{◌≡◌, map, IfOk};
-ghost use Rattle.hfs_scripts.specs.Calls.{number_alone, indexed_of, target_of, part_of, read_of, rename_of, move_of, set_f_info_of, set_info_of, target_call, call_on_target, call_of};
+ghost use Rattle.hfs_scripts.specs.Calls.{number_alone, indexed_of, target_of, part_of, read_of, rename_of, move_of, set_f_info_of, set_info_of, set_eof_of, written_of, write_of, target_call, call_on_target, call_of};
 ghost use Rattle.hfs_scripts.specs.Fields.{texts_of};
 
-use crate::fields::{read_16_bytes, read_32_bytes, read_fork};
+use crate::fields::{read_16_bytes, read_32_bytes, read_bytes, read_fork};
 use crate::numbers::{read_number, read_two_numbers};
 use crate::words::Word;
 use hfs_model::{Call, Fork, SharedBytes};
@@ -183,6 +183,72 @@ fn read_set_info(alloc: Global, fields: &[&[u8]], now: u32) -> Result<Option<Cal
     }))
 }
 
+#[tactic(auto, unfolding(crate::specs::Calls::set_eof_of))]
+fn read_set_eof(alloc: Global, fields: &[&[u8]], now: u32) -> Result<Option<Call>, AllocError>
+    ensures { IfOk result (λ call. call ≡ set_eof_of now (texts_of fields.now)) }
+{
+    let [dir, name, fork, length] = fields else {
+        return Ok(None);
+    };
+    let Some((dir, fork)) = read_number(dir).zip(read_fork(fork)) else {
+        return Ok(None);
+    };
+    let Some(length) = read_number(length) else {
+        return Ok(None);
+    };
+    let name = SharedBytes::from_slice(alloc, name)?;
+    Ok(Some(Call::SetEof {
+        dir,
+        name,
+        fork,
+        length,
+        now,
+    }))
+}
+
+#[tactic(auto, unfolding(crate::specs::Calls::write_of))]
+fn read_write(alloc: Global, fields: &[&[u8]], now: u32) -> Result<Option<Call>, AllocError>
+    ensures { IfOk result (λ call. call ≡ write_of now (texts_of fields.now)) }
+{
+    let [dir, name, fork, offset, bytes] = fields else {
+        return Ok(None);
+    };
+    let Some((dir, fork)) = read_number(dir).zip(read_fork(fork)) else {
+        return Ok(None);
+    };
+    read_written(alloc, dir, name, fork, offset, bytes, now)
+}
+
+// The bytes of a fork that OFFSET and HEX name.
+fn read_written(
+    alloc: Global,
+    dir: u32,
+    name: &[u8],
+    fork: Fork,
+    offset: &[u8],
+    bytes: &[u8],
+    now: u32,
+) -> Result<Option<Call>, AllocError>
+    ensures { IfOk result (λ call.
+        call ≡ written_of now dir name.now fork offset.now bytes.now) }
+{
+    let Some(offset) = read_number(offset) else {
+        return Ok(None);
+    };
+    let Some(bytes) = read_bytes(alloc, bytes)? else {
+        return Ok(None);
+    };
+    let name = SharedBytes::from_slice(alloc, name)?;
+    Ok(Some(Call::WriteFork {
+        dir,
+        name,
+        fork,
+        offset,
+        bytes,
+        now,
+    }))
+}
+
 /// The call of a word with DIR and NAME alone behind it; no call of another word.
 #[tactic(auto, unfolding(crate::specs::Calls::target_call))]
 fn on_target(word: Word, target: Target, now: u32) -> Option<Call>
@@ -206,7 +272,9 @@ fn on_target(word: Word, target: Target, now: u32) -> Option<Call>
         | Word::SetFInfo
         | Word::SetInfo
         | Word::DropId
-        | Word::Resolve => None,
+        | Word::Resolve
+        | Word::SetEof
+        | Word::Write => None,
     }
 }
 
@@ -247,6 +315,8 @@ pub(crate) fn read_call(
         Word::SetInfo => read_set_info(alloc, fields, now),
         Word::DropId => Ok(read_number_alone(fields).map(|id| Call::DeleteFileId { id, now })),
         Word::Resolve => Ok(read_number_alone(fields).map(|id| Call::ResolveFileId { id })),
+        Word::SetEof => read_set_eof(alloc, fields, now),
+        Word::Write => read_write(alloc, fields, now),
         Word::Info
         | Word::Create
         | Word::MkDir

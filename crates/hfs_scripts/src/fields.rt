@@ -1,11 +1,14 @@
 //! The fields of a script's line.
 ghost use Rattle.std.specs.Prelude.{◌≡◌, IfOk, take};
-ghost use Rattle.hfs_scripts.specs.Fields.{fields_of, bytes_of, fork_of, texts_of};
+ghost use Rattle.hfs_scripts.specs.Fields.{fields_of, bytes_of, few_bytes_of, fork_of, texts_of};
 
 use arrayvec::ArrayVec;
-use hex::FromHex;
-use hfs_model::Fork;
+use hex::{FromHex, FromHexError};
+use hfs_model::{Fork, SharedBytes};
 use std::alloc::{AllocError, Global};
+
+/// The most hexadecimal digits of bytes that a line writes into a fork.
+const MOST_DIGITS: usize = 131_072;
 
 /// The fields of a line; of more than nine the first nine, since no line that reads has as many. They take no memory.
 #[tactic(auto, unfolding(crate::specs::Fields::fields_of))]
@@ -29,6 +32,25 @@ pub(crate) fn read_32_bytes(field: &[u8]) -> Option<[u8; 32]>
     ensures { result ≡ bytes_of 32 field.now }
 {
     <[u8; 32] as FromHex>::from_hex(field).ok()
+}
+
+/// At most 65,536 bytes, each as two hexadecimal digits of either case. `Err` only where memory is wanting.
+#[tactic(auto, unfolding(crate::specs::Fields::few_bytes_of))]
+pub(crate) fn read_bytes(alloc: Global, field: &[u8]) -> Result<Option<SharedBytes>, AllocError>
+    ensures { IfOk result (λ bytes. bytes ≡ few_bytes_of field.now) }
+{
+    if field.len() > MOST_DIGITS {
+        return Ok(None);
+    }
+    match hex::decode(alloc, field) {
+        Ok(bytes) => Ok(Some(SharedBytes::from_vec(bytes)?)),
+        Err(FromHexError::OutOfMemory) => Err(AllocError),
+        Err(
+            FromHexError::InvalidHexCharacter { .. }
+            | FromHexError::OddLength
+            | FromHexError::InvalidStringLength,
+        ) => Ok(None),
+    }
 }
 
 /// A fork, by its word.

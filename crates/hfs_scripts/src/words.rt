@@ -24,6 +24,8 @@ pub(crate) enum Word {
     NewId,
     DropId,
     Resolve,
+    SetEof,
+    Write,
 }
 
 /// The words of calls that only read.
@@ -37,7 +39,7 @@ const READING_WORDS: [Word; 6] = [
 ];
 
 /// The words of changes.
-const CHANGING_WORDS: [Word; 11] = [
+const CHANGING_WORDS: [Word; 13] = [
     Word::Create,
     Word::MkDir,
     Word::Delete,
@@ -49,6 +51,8 @@ const CHANGING_WORDS: [Word; 11] = [
     Word::Unlock,
     Word::NewId,
     Word::DropId,
+    Word::SetEof,
+    Word::Write,
 ];
 
 /// The text of a word.
@@ -74,6 +78,8 @@ pub(crate) fn word_text(word: Word) -> &'static [u8]
         Word::NewId => b"newid",
         Word::DropId => b"dropid",
         Word::Resolve => b"resolve",
+        Word::SetEof => b"seteof",
+        Word::Write => b"write",
     }
 }
 
@@ -126,6 +132,8 @@ pub(crate) fn is_for_viewers(word: Word) -> bool
         | Word::Unlock
         | Word::NewId
         | Word::DropId
-        | Word::Resolve => false,
+        | Word::Resolve
+        | Word::SetEof
+        | Word::Write => false,
     }
 }

@@ -6,6 +6,9 @@ use crate::lines::{Caller, ScriptLine, may_ask};
 use crate::words::Word;
 use hfs_model::Call;
 
+/// The most bytes that a line writes into a fork.
+const MOST_WRITTEN: usize = 65_536;
+
 /// The word that asks for a call.
 pub(crate) fn word_for(call: &Call) -> Word
     ensures { result ≡ word_for call.now }
@@ -28,6 +31,8 @@ pub(crate) fn word_for(call: &Call) -> Word
         Call::CreateFileId { .. } => Word::NewId,
         Call::DeleteFileId { .. } => Word::DropId,
         Call::ResolveFileId { .. } => Word::Resolve,
+        Call::SetEof { .. } => Word::SetEof,
+        Call::WriteFork { .. } => Word::Write,
     }
 }
 
@@ -38,7 +43,7 @@ fn is_field(name: &[u8]) -> bool
     name.iter().all(|byte| *byte != b'\t' && *byte != b'\n')
 }
 
-/// Whether no name of the call has a tab or a line feed.
+/// Whether no name of the call has a tab or a line feed, and the bytes that it writes are no more than 65,536.
 fn has_fields(call: &Call) -> bool
     ensures { result ≡ has_fields call.now }
 {
@@ -62,6 +67,10 @@ fn has_fields(call: &Call) -> bool
         Call::CreateFileId { name, .. } => is_field(name.as_slice()),
         Call::DeleteFileId { .. } => true,
         Call::ResolveFileId { .. } => true,
+        Call::SetEof { name, .. } => is_field(name.as_slice()),
+        Call::WriteFork { name, bytes, .. } => {
+            is_field(name.as_slice()) && bytes.as_slice().len() <= MOST_WRITTEN
+        }
     }
 }
 
@@ -87,6 +96,8 @@ fn is_made_at(moment: u32, call: &Call) -> bool
         Call::CreateFileId { now, .. } => *now == moment,
         Call::DeleteFileId { now, .. } => *now == moment,
         Call::ResolveFileId { .. } => true,
+        Call::SetEof { now, .. } => *now == moment,
+        Call::WriteFork { now, .. } => *now == moment,
     }
 }
 

@@ -6,7 +6,7 @@ use Rattle.hfs_published.specs.Pairs.{PairState, IsOpened}
 use Rattle.hfs_shared.specs.Desks.{DeskState, desk_state, IsHeadline}
 use Rattle.hfs_shared.specs.Shareds.{IsUnused}
 
-pub unused : (base : List ℕ) (workers : ℕ) (current : List ℕ) (d : DeskState) (p : PairState) → d ≡ desk_state base base [] workers → IsHeadline d.base d.current d.journal
+pub unused : (base : List ℕ) (workers : ℕ) (current : List ℕ) (d : DeskState) (p : PairState) → d ≡ desk_state base base [] [] workers → IsHeadline d.base d.current d.written d.journal
     → current ≡ d.current → IsOpened (volume_of current) p → IsUnused d p
 unused base workers current d p is headline same opens =
     let first : current ≡ d.base = same ∙ ap (λ (x : DeskState). x.current) is ∙ sym (ap (λ (x : DeskState). x.base) is) in

@@ -5,14 +5,12 @@ use Rattle.hfs_model.specs.declared.call.Call.{Call}
 use Rattle.hfs_model.specs.declared.reply.Reply.{Reply}
 use Rattle.hfs_model.specs.declared.journal.Entry.{Entry}
 use Rattle.hfs_model.specs.Volume.{Volume}
-use Rattle.hfs_model.specs.Changes.{Outcome}
 use Rattle.hfs_model.specs.Runs.{after}
-use Rattle.hfs_check.specs.Agree.{Agrees}
 use Rattle.hfs_check.specs.VolumeOf.{volume_of}
 use Rattle.hfs_published.specs.Histories.{known}
 use Rattle.hfs_published.specs.Journals.{IsLegal, published}
 use Rattle.hfs_published.specs.Tolds.{ToldState, told}
-use Rattle.hfs_shared.specs.Desks.{DeskState, PassState, IsApplied}
+use Rattle.hfs_shared.specs.Desks.{DeskState, PassState, IsApplied, IsHeadline}
 use Rattle.hfs_shared.specs.declared.desk.CallFault.{CallFault}
 use Rattle.hfs_shared.specs.declared.desk.CallFault.TheVariants.{Stamp, Memory}
 use Rattle.hfs_shared.specs.Faults.{IsFaultAt, IsFaultUnder}
@@ -46,9 +44,12 @@ is_call book base s t p q c r x base_is a told_is =
         legal = subst (λ (y : Volume × List Entry). IsLegal y.0 y.1) (λ i. (opens_after i, a.journal i)) a.headline_after.legal;
         reply = record {
           image = s.current;
-          agrees = subst (λ (b : List ℕ). Agrees b s.current) (sym a.base ∙ base_is) a.headline.agrees;
+          written = s.written;
+          entries = s.journal;
+          headline = subst (λ (b : List ℕ). IsHeadline b s.current s.written s.journal) (sym a.base ∙ base_is) a.headline;
           volume_is = v_is;
-          reply_is = ap (λ (o : Outcome). o.1) a.outcome;
+          left = volume_of t.current;
+          outcome = a.outcome;
         };
         told_is = subst (λ (es : List Entry). IsToldOf book opening es x) a.journal told_is;
       },

@@ -1,28 +1,26 @@
 -- One call more keeps the headline.
-use Rattle.std.proofs.Common.{◌≡◌, ◌≢◌, ◌⊎◌, ℕ, ◌+◌, ◌-◌, ◌<◌, ◌≤◌, ◌==◌, ◌&&◌, Bool, true, false, cond, ℤ, pos, List, [], ◌∷◌, ◌++◌, length, Option, Some, None, refl, sym, ap, ◌∙◌, subst, inl, inr, ⊎_elim, arith}
-use Rattle.std.specs.Prelude.{leb, nat_lt, slice_index, slice_set, if◌then◌else◌}
-use Rattle.std.specs.Option.{option_map_or}
-use Rattle.std.specs.Ordering.{int_eq}
+use Rattle.std.proofs.Common.{◌≡◌, ◌≢◌, ◌⊎◌, ℕ, ◌+◌, ◌-◌, ◌<◌, ◌≤◌, ◌==◌, ◌&&◌, Bool, true, false, cond, pos, List, [], ◌∷◌, ◌++◌, length, refl, sym, ap, ◌∙◌, subst, inl, inr, ⊎_elim, arith}
+use Rattle.std.specs.Prelude.{leb, slice_index, slice_set}
 use Rattle.std.proofs.lemmas.List.{length-set, get_or-set_same, get_or-set_other}
 use Rattle.std.proofs.lemmas.List.Sums.{sum_by-append}
-use Rattle.std.proofs.lemmas.Bool.Decides.{nat_tests, Decides-int_eq}
-use Rattle.hfs_model.specs.declared.codes.TheConstants.{DISK_FULL}
+use Rattle.std.proofs.lemmas.Bool.Decides.{nat_tests}
 use Rattle.hfs_model.specs.declared.call.Call.{Call}
 use Rattle.hfs_model.specs.declared.reply.Reply.{Reply}
 use Rattle.hfs_model.specs.declared.journal.Entry.{Entry}
 use Rattle.hfs_model.specs.Volume.{Volume}
-use Rattle.hfs_model.specs.Changes.{Outcome}
-use Rattle.hfs_model.specs.Step.{step}
 use Rattle.hfs_model.specs.Runs.{after, after_entry}
-use Rattle.hfs_model.specs.declared.journal.Want.{Want}
-use Rattle.hfs_model.specs.declared.journal.Want.TheVariants as want
-use Rattle.hfs_model.specs.Need.{need, meets_want_of_nodes, full, step_within}
 use Rattle.hfs_model.specs.Laws.{StepIsNeverFull}
-use Rattle.hfs_check.specs.Agree.{Agrees}
+use Rattle.hfs_check.specs.Agree.{AgreesBut}
+use Rattle.hfs_check.specs.Sound.{IsSound}
 use Rattle.hfs_check.specs.VolumeOf.{volume_of}
-use Rattle.hfs_volume.specs.Serving.{free_in, depth_in, outcome_in}
+use Rattle.hfs_volume.specs.Image.{ImageValue}
+use Rattle.hfs_volume.specs.Serving.{IsOutcomeIn}
+use Rattle.hfs_volume.specs.Steps.{HasWrittenBlocks}
 use Rattle.hfs_published.specs.Journals.{made_by, IsAnswered, IsLegalAt, IsLegal}
-use Rattle.hfs_shared.specs.Desks.{IsHeadline, IsCounted, PassState, entry_of, want_of, want_in, wanted}
+use Rattle.hfs_shared.specs.Desks.{IsHeadline, IsCounted, PassState, entry_of, wanted}
+use Rattle.hfs_shared.specs.Stages.{stage, stage_of, HasMade}
+use Rattle.hfs_shared.proofs.Entries.{tells}
+use Rattle.hfs_shared.proofs.Stages.{stages_more}
 
 -- where an entry stands in a list with one entry more
 pub snoc_split : {A : Type 0} (p xs : List A) (x e : A) (rest : List A) → xs ++ x ∷ [] ≡ p ++ e ∷ rest → ((p ≡ xs) × (e ≡ x)) ⊎ ((more : List A) × (xs ≡ p ++ e ∷ more))
@@ -49,54 +47,30 @@ pub after_more : (v : Volume) (journal : List Entry) (e : Entry) → after v (jo
 after_more v [] e = refl
 after_more v (x ∷ xs) e = after_more (after_entry v x) xs e
 
-int_is : (x y : ℤ) → int_eq x y ≡ true → x ≡ y
-int_is x y h = (Decides-int_eq x y).0 h
-
-int_apart : (b : Bool) (x y : ℤ) → int_eq x y ≡ b → x ≢ y → b ≡ false
-int_apart true x y h apart = absurd (apart (int_is x y h))
-int_apart false x y h apart = refl
-
-and_both : (a b : Bool) → (a && b) ≡ true → (a ≡ true) × (b ≡ true)
-and_both true b h = (refl, h)
-and_both false b h = absurd (cc h)
-
--- what an outcome says of its entry
-abbrev Tells : Volume → PassState → Call → Reply → Volume → Option Want → Type 0
-Tells v p c r w o = IsAnswered v (entry_of p c r) o × (w ≡ option_map_or (λ _. v) o (step v c).0)
-
 module _ (never : StepIsNeverFull) where
-  -- where nodes are wanting
-  tells_full : (v : Volume) (free depth : ℕ) (p : PassState) (c : Call) → meets_want_of_nodes free depth v c ≡ true → Tells v p c (full free depth) v (Some (want.Nodes free depth))
-  tells_full v free depth p c meets =
-      let both = and_both (int_eq (step v c).1.code (pos 0)) (nat_lt free (need c depth)) meets in
-      let less : nat_lt free (need c depth) ≡ true = both.1 in
-      let short : free < need c depth = grind (arith, nat_tests) in
-      ((int_is (step v c).1.code (pos 0) both.0, short, refl), refl)
+  -- the image that a call's entry made
+  pub entry_makes : (old new : ImageValue) (p : PassState) (c : Call) (r : Reply) → IsSound old.current → IsOutcomeIn old.current c (volume_of new.current, r) → HasWrittenBlocks c old new → (r.code ≢ pos 0 → new ≡ old)
+      → HasMade (entry_of p c r) (stage old.current old.written) (stage new.current new.written)
+  entry_makes old new p c r sound outcome wrote refused = record {
+    before = old;
+    afterwards = new;
+    begins = refl;
+    ends = refl;
+    follows = (tells never old.current sound p r (volume_of new.current) c outcome).1;
+    wrote = wrote;
+    refused = λ other. ap stage_of (refused other);
+  }
 
-  -- where they are not
-  tells_step : (v : Volume) (p : PassState) (c : Call) → Tells v p c (step v c).1 (step v c).0 (want_of (step v c).1)
-  tells_step v p c =
-      let none : want_of (step v c).1 ≡ None = ap (λ (b : Bool). if b then want_in (step v c).1.value else None) (int_apart (int_eq (step v c).1.code DISK_FULL) (step v c).1.code DISK_FULL refl (never v c)) in
-      subst (λ (o : Option Want). Tells v p c (step v c).1 (step v c).0 o) (sym none) (refl, refl)
-
-  pub tells : (v : Volume) (free depth : ℕ) (p : PassState) (c : Call) (r : Reply) (w : Volume) → (w, r) ≡ step_within free depth v c → Tells v p c r w (want_of r)
-  tells v free depth p c r w is = by_test (meets_want_of_nodes free depth v c) refl
-    where
-      by_test : (b : Bool) → meets_want_of_nodes free depth v c ≡ b → Tells v p c r w (want_of r)
-      by_test true meets =
-          let out : (w, r) ≡ (v, full free depth) = is ∙ ap (λ (b : Bool). if b then (v, full free depth) else step v c) meets in
-          subst (λ (x : Outcome). Tells v p c x.1 x.0 (want_of x.1)) (sym out) (tells_full v free depth p c meets)
-      by_test false meets =
-          let out : (w, r) ≡ step v c = is ∙ ap (λ (b : Bool). if b then (v, full free depth) else step v c) meets in
-          subst (λ (x : Outcome). Tells v p c x.1 x.0 (want_of x.1)) (sym out) (tells_step v p c)
-
-  pub headline_more : (base current : List ℕ) (journal : List Entry) (p : PassState) (c : Call) (r : Reply) (new : List ℕ)
-      → IsHeadline base current journal → (volume_of new, r) ≡ outcome_in current c → p.number ≡ made_by p.worker journal + 1 → Agrees base new → IsHeadline base new (journal ++ entry_of p c r ∷ [])
-  headline_more base current journal p c r new h outcome number agrees =
+  pub headline_more : (base : List ℕ) (old new : ImageValue) (journal : List Entry) (p : PassState) (c : Call) (r : Reply)
+      → IsHeadline base old.current old.written journal → IsOutcomeIn old.current c (volume_of new.current, r)
+      → HasMade (entry_of p c r) (stage old.current old.written) (stage new.current new.written) → p.number ≡ made_by p.worker journal + 1 → AgreesBut new.written base new.current
+      → IsHeadline base new.current new.written (journal ++ entry_of p c r ∷ [])
+  headline_more base old new journal p c r h outcome made number agrees =
       let e = entry_of p c r in
-      let t = tells (volume_of current) (free_in current) (depth_in current) p c r (volume_of new) outcome in
+      let t = tells never old.current h.agrees.sound p r (volume_of new.current) c outcome in
       record {
         agrees = agrees;
+        made = stages_more journal e (stage base []) (stage old.current old.written) (stage new.current new.written) h.made made;
         legal = legal_more (volume_of base) journal e h.legal record {
           stamped = number;
           answered = subst (λ (v : Volume). IsAnswered v e e.want) h.follows t.0;

@@ -1,6 +1,9 @@
+mod Entries
 pub mod Headline
 pub mod Showing
-pub mod Unchanged
+mod Stages
+pub mod LawsProved
 pub mod Calling
 pub mod Working
 mod Begun
+pub mod SendLemmas

@@ -26,7 +26,7 @@ under_lock book base d p added shown i = record { base_is = i.base_is; headline 
 
 -- the pair's lists stay those of the journal while it grows
 pub locked_more : PublishedStays → (book : Book) (base : List ℕ) (d e : DeskState) (p : PairState) (added shown : ℕ) (more : List Entry)
-    → IsLocked book base d p added shown → e.base ≡ d.base → e.journal ≡ d.journal ++ more → IsHeadline e.base e.current e.journal → IsLocked book base e p added shown
+    → IsLocked book base d p added shown → e.base ≡ d.base → e.journal ≡ d.journal ++ more → IsHeadline e.base e.current e.written e.journal → IsLocked book base e p added shown
 locked_more stays book base d e p added shown more i same grown headline =
     let length_is : length e.journal ≡ length (d.journal ++ more) = ap length grown in
     record {

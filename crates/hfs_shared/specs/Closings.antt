@@ -3,7 +3,7 @@ use Rattle.std.specs.Prelude.{◌≡◌, ℕ, ◌+◌, ◌<◌, ◌≤◌, Bool,
 use mathlib.Core.List.{IsPrefix}
 use Rattle.hfs_model.specs.declared.journal.Entry.{Entry}
 use Rattle.hfs_model.specs.Runs.{after}
-use Rattle.hfs_check.specs.Agree.{Agrees}
+use Rattle.hfs_check.specs.Agree.{AgreesBut}
 use Rattle.hfs_check.specs.VolumeOf.{volume_of}
 use Rattle.hfs_volume.specs.Image.{ImageValue}
 use Rattle.hfs_published.specs.Histories.{Known}
@@ -11,6 +11,7 @@ use Rattle.hfs_published.specs.Journals.{IsLegal, made_by, published}
 use Rattle.hfs_shared.specs.declared.closed.Closed.{Closed}
 use Rattle.hfs_shared.specs.Desks.{PassState, pass_state}
 use Rattle.hfs_shared.specs.Lockeds.{LockedState}
+use Rattle.hfs_shared.specs.Stages.{stage_of, HaveMadeOf}
 
 -- the answer is whether it holds
 abbrev pub IsWhether : Bool → Type 0 → Type 0
@@ -34,11 +35,13 @@ abbrev pub AreTheirPasses : List PassState → LockedState → Type 0
 AreTheirPasses passes l = AreAllPasses passes l.workers l.journal
 
 -- what closing gives for these passes, and the lent viewer's list before and after it. The volume's image agrees with the
--- one that was shared, this base, and its volume is the one after the journal; each worker has as many entries as its pass says,
+-- one that was shared, this base, but for the blocks of forks that calls of the journal wrote, which made it one after the other, and its
+-- volume is the one after the journal; each worker has as many entries as its pass says,
 -- and nobody else has any; the viewer has then seen what is published, which begins with what it had seen.
 pub record IsClosed (base : List ℕ) (volume : ImageValue) (journal : List Entry) (shown : ℕ) (passes : List PassState) (before afterwards : Known) : Type 0 where
   pub base_is : volume.base ≡ base
-  pub agrees : Agrees base volume.current
+  pub agrees : AgreesBut volume.written base volume.current
+  pub made : HaveMadeOf base journal (stage_of volume)
   pub legal : IsLegal (volume_of base) journal
   pub follows : volume_of volume.current ≡ after (volume_of base) journal
   pub all : AreAllPasses passes (length passes) journal
@@ -53,4 +56,4 @@ IsClosedAs base c passes before afterwards = IsClosed base c.volume c.journal.it
 
 -- what closing gives is what lay under the lock
 abbrev pub GivesAll : LockedState → Closed → Type 0
-GivesAll l c = (c.volume.current ≡ l.current) × (c.journal.items ≡ l.journal) × (c.shown ≡ l.shown)
+GivesAll l c = (c.volume.current ≡ l.current) × (c.volume.written ≡ l.written) × (c.journal.items ≡ l.journal) × (c.shown ≡ l.shown)

@@ -11,25 +11,29 @@ use Rattle.hfs_model.specs.declared.journal.Want.{Want}
 use Rattle.hfs_model.specs.declared.journal.Want.TheVariants as want
 use Rattle.hfs_model.specs.Step.{is_reading}
 use Rattle.hfs_model.specs.Runs.{after}
-use Rattle.hfs_check.specs.Agree.{Agrees}
+use Rattle.hfs_check.specs.Agree.{AgreesBut}
 use Rattle.hfs_check.specs.VolumeOf.{volume_of}
-use Rattle.hfs_volume.specs.Serving.{outcome_in}
+use Rattle.hfs_volume.specs.Serving.{IsOutcomeIn}
 use Rattle.hfs_published.specs.Journals.{IsLegal, made_by}
+use Rattle.hfs_shared.specs.Stages.{stage, HasMade, HaveMadeOf}
 
--- the image as it was mounted, the image as it is, the journal, and how many workers there are
+-- the image as it was mounted, the image as it is, the blocks of forks that were written since, the journal, and how many workers there
+-- are
 pub record DeskState : Type 0 where
   pub base : List ℕ
   pub current : List ℕ
+  pub written : List ℕ
   pub journal : List Entry
   pub workers : ℕ
 
-abbrev pub desk_state : List ℕ → List ℕ → List Entry → ℕ → DeskState
-desk_state b c j n = record { base = b; current = c; journal = j; workers = n }
+abbrev pub desk_state : List ℕ → List ℕ → List ℕ → List Entry → ℕ → DeskState
+desk_state b c w j n = record { base = b; current = c; written = w; journal = j; workers = n }
 
--- the headline: the image agrees with the one that was mounted, the journal is legal over the mounted volume, and the volume
--- now is the one after it
-pub record IsHeadline (base current : List ℕ) (journal : List Entry) : Type 0 where
-  pub agrees : Agrees base current
+-- the headline: the image agrees with the one that was mounted, but for the blocks of forks that calls of the journal wrote, which made it
+-- one after the other; the journal is legal over the mounted volume, and the volume now is the one after it
+pub record IsHeadline (base current written : List ℕ) (journal : List Entry) : Type 0 where
+  pub agrees : AgreesBut written base current
+  pub made : HaveMadeOf base journal (stage current written)
   pub legal : IsLegal (volume_of base) journal
   pub follows : volume_of current ≡ after (volume_of base) journal
 
@@ -64,6 +68,8 @@ want_in (value.One info) = None
 want_in (value.Many infos) = None
 want_in (value.Bytes bytes) = None
 want_in (value.Full free depth) = Some (want.Nodes free depth)
+want_in (value.Room free wanted) = Some (want.Room free wanted)
+want_in (value.ExtentNodes free depth) = Some (want.ExtentNodes free depth)
 want_in (value.Place dir name) = None
 
 -- what a reply says of want
@@ -81,8 +87,9 @@ pub record IsApplied (s : DeskState) (p : PassState) (c : Call) (r : Reply) (t :
   pub journal : t.journal ≡ s.journal ++ entry_of p c r ∷ []
   pub pass : q ≡ pass_state p.worker (p.number + 1)
   pub wanted_is : p.number ≡ wanted s.workers s.journal p.worker
-  pub outcome : (volume_of t.current, r) ≡ outcome_in s.current c
+  pub outcome : IsOutcomeIn s.current c (volume_of t.current, r)
   pub refused : r.code ≢ pos 0 → t.current ≡ s.current
   pub reading : IsTrue (is_reading c) → t.current ≡ s.current
-  pub headline : IsHeadline s.base s.current s.journal
-  pub headline_after : IsHeadline t.base t.current t.journal
+  pub made : HasMade (entry_of p c r) (stage s.current s.written) (stage t.current t.written)
+  pub headline : IsHeadline s.base s.current s.written s.journal
+  pub headline_after : IsHeadline t.base t.current t.written t.journal

@@ -12,21 +12,22 @@ use Rattle.hfs_shared.specs.Desks.{DeskState, desk_state, IsHeadline}
 pub record LockedState : Type 0 where
   pub base : List ℕ
   pub current : List ℕ
+  pub written : List ℕ
   pub journal : List Entry
   pub workers : ℕ
   pub shown : ℕ
 
 abbrev pub locked_state : DeskState → ℕ → LockedState
-locked_state d n = record { base = d.base; current = d.current; journal = d.journal; workers = d.workers; shown = n }
+locked_state d n = record { base = d.base; current = d.current; written = d.written; journal = d.journal; workers = d.workers; shown = n }
 
 abbrev pub desk_of : LockedState → DeskState
-desk_of l = desk_state l.base l.current l.journal l.workers
+desk_of l = desk_state l.base l.current l.written l.journal l.workers
 
 -- what holds whenever the lock is free, of a session with this base: the headline over it, and the published list covers no
 -- more entries than there are
 pub record IsUnderLock (base : List ℕ) (l : LockedState) : Type 0 where
   pub base_is : l.base ≡ base
-  pub headline : IsHeadline l.base l.current l.journal
+  pub headline : IsHeadline l.base l.current l.written l.journal
   pub within : l.shown ≤ length l.journal
 
 -- so many entries are all of them, or those that the published list covers already
@@ -41,7 +42,7 @@ KeepsUp l n = NoneAccepted (drop l.shown l.journal) → n ≡ length l.journal
 -- covers so many entries, and the one with all that was added covers at least these
 pub record IsLocked (book : Book) (base : List ℕ) (d : DeskState) (p : PairState) (added shown : ℕ) : Type 0 where
   pub base_is : d.base ≡ base
-  pub headline : IsHeadline d.base d.current d.journal
+  pub headline : IsHeadline d.base d.current d.written d.journal
   pub book_is : p.book ≡ book
   pub all_is : p.all ≡ published (volume_of d.base) d.journal added
   pub shown_is : p.shown ≡ published (volume_of d.base) d.journal shown

@@ -6,10 +6,9 @@ use Rattle.hfs_model.specs.declared.reply.Reply.{Reply}
 use Rattle.hfs_model.specs.declared.journal.Entry.{Entry}
 use Rattle.hfs_model.specs.Volume.{Volume}
 use Rattle.hfs_model.specs.Runs.{after}
-use Rattle.hfs_check.specs.Agree.{Agrees}
 use Rattle.hfs_check.specs.VolumeOf.{volume_of}
 use Rattle.hfs_volume.specs.Image.{ImageValue}
-use Rattle.hfs_volume.specs.Serving.{outcome_in}
+use Rattle.hfs_volume.specs.Serving.{IsOutcomeIn}
 use Rattle.hfs_published.specs.Histories.{Known, known, opened}
 use Rattle.hfs_published.specs.Journals.{IsLegal, published}
 use Rattle.hfs_published.specs.Pairs.{PairState}
@@ -30,7 +29,7 @@ parts_state d p = record { book = p.book; base = d.base; workers = d.workers }
 -- no call was made yet, and the opening alone is published
 pub record IsUnused (d : DeskState) (p : PairState) : Type 0 where
   pub empty : d.journal ≡ []
-  pub headline : IsHeadline d.base d.current d.journal
+  pub headline : IsHeadline d.base d.current d.written d.journal
   pub all : p.all ≡ opened (volume_of d.base)
   pub shown : p.shown ≡ opened (volume_of d.base)
 
@@ -53,13 +52,16 @@ IsStartOf image workers viewers p passes seen = IsStart image.current workers vi
 
 -- ---- one call
 
--- the reply is that of the call on an image that has this volume and agrees with the base: that of the step, or of want of nodes
--- where that image's catalog has too few
+-- the reply is that of the call on an image that has this volume and over which the headline holds: that of the step, or of what is wanting
+-- in that image
 pub record IsReplyOf (base : List ℕ) (v : Volume) (c : Call) (r : Reply) : Type 0 where
   pub image : List ℕ
-  pub agrees : Agrees base image
+  pub written : List ℕ
+  pub entries : List Entry
+  pub headline : IsHeadline base image written entries
   pub volume_is : volume_of image ≡ v
-  pub reply_is : r ≡ (outcome_in image c).1
+  pub left : Volume
+  pub outcome : IsOutcomeIn image c (left, r)
 
 -- what is told of a journal: the published list that covers so many of its entries, and how many there are
 abbrev pub told_of : Book → Volume → List Entry → ℕ → ToldState

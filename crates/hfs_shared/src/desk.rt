@@ -20,8 +20,9 @@ pub enum CallFault {
     Memory,
 }
 
-/// A volume and the journal of its calls. Contracts see the image as it was mounted, the image as it is, the journal, and how
-/// many workers there are. The journal is legal over the mounted volume, and the volume is the one after it.
+/// A volume and the journal of its calls. Contracts see the image as it was mounted, the image as it is, the blocks of forks that
+/// were written since, the journal, and how many workers there are. The journal is legal over the mounted volume, and the volume
+/// is the one after it.
 #[derive(Drop)]
 pub struct Desk {
     volume: Volume,
@@ -35,9 +36,9 @@ impl Model for Desk {
 
     ghost Value = { DeskState };
 
-    ghost view = { λ d. desk_state d.volume.base d.volume.current d.journal.items (length d.next.items) };
+    ghost view = { λ d. desk_state d.volume.base d.volume.current d.volume.written d.journal.items (length d.next.items) };
 
-    ghost invariant = { λ d. IsHeadline d.volume.base d.volume.current d.journal.items × IsCounted d.next.items d.journal.items };
+    ghost invariant = { λ d. IsHeadline d.volume.base d.volume.current d.volume.written d.journal.items × IsCounted d.next.items d.journal.items };
 }
 
 impl Desk {
@@ -45,8 +46,9 @@ impl Desk {
     pub fn new(alloc: Global, volume: Volume, workers: u32) -> Result<Desk, Volume>
         requires workers { workers ≤ 8 }
         requires fresh { volume.current ≡ volume.base }
-        ensures ok { IfOk result (λ d. d ≡ desk_state volume.base volume.base [] workers) }
-        ensures headline { IfOk result (λ d. IsHeadline d.base d.current d.journal) }
+        requires unwritten { volume.written ≡ [] }
+        ensures ok { IfOk result (λ d. d ≡ desk_state volume.base volume.base [] [] workers) }
+        ensures headline { IfOk result (λ d. IsHeadline d.base d.current d.written d.journal) }
         ensures err { IfErr result (λ v. v ≡ volume) }
     {
         let Ok(next) = Vec::from_elem(alloc, 1u64, workers as usize) else {
@@ -73,7 +75,8 @@ impl Desk {
     /// The entries of the journal.
     pub fn journal(&self) -> &[Entry]
         ensures entries { result.now ≡ self.now.journal }
-        ensures headline { IsHeadline self.now.base self.now.current self.now.journal }
+        ensures headline { IsHeadline self.now.base self.now.current self.now.written
+            self.now.journal }
     {
         &self.journal
     }
@@ -141,6 +144,14 @@ fn want_in(value: &Value) -> Option<Want>
 {
     match value {
         Value::Full { free, depth } => Some(Want::Nodes {
+            free: *free,
+            depth: *depth,
+        }),
+        Value::Room { free, wanted } => Some(Want::Room {
+            free: *free,
+            wanted: *wanted,
+        }),
+        Value::ExtentNodes { free, depth } => Some(Want::ExtentNodes {
             free: *free,
             depth: *depth,
         }),

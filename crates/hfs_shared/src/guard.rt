@@ -17,8 +17,8 @@ use std::marker::Model;
 use std::sync::{MutexGuard, Wait};
 
 /// It has the lock, until it is dropped, and offers the calls of what lies under it. Contracts see what lies there: the image
-/// as it was mounted, the image as it is, the journal, how many workers there are, and how many entries the published list
-/// covers.
+/// as it was mounted, the image as it is, the blocks of forks that were written since, the journal, how many workers there are,
+/// and how many entries the published list covers.
 #[derive(Drop)]
 pub struct Guard<'a, K: Session> {
     inner: MutexGuard<'a, Locked<K>>,

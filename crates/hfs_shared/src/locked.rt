@@ -44,7 +44,7 @@ impl<K: Session> Locked<K> {
     pub(crate) fn new(desk: Desk, pair: Pair) -> Locked<K>
         requires empty { desk.journal ≡ [] }
         requires base { desk.base ≡ K.base }
-        requires headline { IsHeadline desk.base desk.current desk.journal }
+        requires headline { IsHeadline desk.base desk.current desk.written desk.journal }
         requires book { pair.book ≡ K.book }
         requires all { pair.all ≡ published (volume_of desk.base) [] 0 }
         requires shown { pair.shown ≡ published (volume_of desk.base) [] 0 }

@@ -10,7 +10,7 @@ use crate::session::Session;
 use crate::shared::Shared;
 use hfs_published::{Pair, PairFault, Viewer};
 use hfs_volume::Volume;
-use std::alloc::{AllocFailed, Global};
+use std::alloc::Global;
 use std::marker::Model;
 use std::sync::Wait;
 
@@ -102,8 +102,10 @@ impl Parts {
 // A desk of the volume, and the first passes.
 fn begin(alloc: Global, volume: Volume, workers: u32) -> Result<(Desk, Vec<Pass>), StartFault>
     requires { workers ≤ 8 }
-    ensures desk { IfOk result (λ r. r.0 ≡ desk_state volume.current volume.current [] workers) }
-    ensures headline { IfOk result (λ r. IsHeadline r.0.base r.0.current r.0.journal) }
+    ensures desk { IfOk result (λ r. r.0
+        ≡ desk_state volume.current volume.current [] [] workers) }
+    ensures headline { IfOk result (λ r.
+        IsHeadline r.0.base r.0.current r.0.written r.0.journal) }
     ensures passes { IfOk result (λ r. AreFirstPasses workers r.1.items) }
     ensures err { IfErr result (λ f. f.volume.current ≡ volume.current) }
 {
@@ -122,30 +124,17 @@ fn fault(why: Why, volume: Volume) -> StartFault
     StartFault { why, volume }
 }
 
-// A desk of the volume, which is mounted anew where blocks of it are changed. It comes back where memory is wanting.
+// A desk of the volume, which is mounted anew. It comes back where memory is wanting.
 fn new_desk(alloc: Global, volume: Volume, workers: u32) -> Result<Desk, Volume>
     requires { workers ≤ 8 }
-    ensures ok { IfOk result (λ d. d ≡ desk_state volume.current volume.current [] workers) }
-    ensures headline { IfOk result (λ d. IsHeadline d.base d.current d.journal) }
+    ensures ok { IfOk result (λ d. d ≡ desk_state volume.current volume.current [] [] workers) }
+    ensures headline { IfOk result (λ d. IsHeadline d.base d.current d.written d.journal) }
     ensures err { IfErr result (λ v. v.current ≡ volume.current) }
 {
-    match unchanged(alloc, volume) {
+    match volume.mounted_anew(alloc) {
         Ok(volume) => Desk::new(alloc, volume, workers),
         Err(failed) => Err(failed.value),
     }
-}
-
-// The volume with no block changed: it, or a new one over its bytes.
-fn unchanged(alloc: Global, volume: Volume) -> Result<Volume, AllocFailed<Volume>>
-    ensures base { IfOk result (λ v. v.base ≡ volume.current) }
-    ensures current { IfOk result (λ v. v.current ≡ volume.current) }
-    ensures err { IfErr result (λ f. f.value ≡ volume) }
-{
-    if volume.changed() > 0 {
-        return volume.mounted_anew(alloc);
-    }
-    volume.agrees_with_base();
-    Ok(volume)
 }
 
 // The passes of so many workers. None where memory is wanting.

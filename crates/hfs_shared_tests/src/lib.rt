@@ -7,6 +7,8 @@ mod beside;
 #[cfg(test)]
 mod closing;
 #[cfg(test)]
+mod forks;
+#[cfg(test)]
 mod meeting;
 #[cfg(test)]
 mod passes;

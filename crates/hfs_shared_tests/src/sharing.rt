@@ -183,7 +183,9 @@ fn tells(alloc: Global, reply: &Reply, wanted: &[u8]) -> bool {
         | Value::One(_)
         | Value::Bytes(_)
         | Value::Place { .. }
-        | Value::Full { .. } => wanted.is_empty(),
+        | Value::Full { .. }
+        | Value::Room { .. }
+        | Value::ExtentNodes { .. } => wanted.is_empty(),
     }
 }
 

@@ -30,6 +30,13 @@ impl<F> TrustedFile<F> {
         TrustedFile { file, log }
     }
 
+    /// What was done with the file.
+    pub fn log(&self) -> &ReadLog
+        ensures { result.now.steps ≡ self.now.log.steps }
+    {
+        &self.log
+    }
+
     /// The file, wherever it stands.
     pub fn into_file(self) -> F
         ensures { result ≡ self.file }

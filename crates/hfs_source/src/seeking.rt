@@ -43,6 +43,13 @@ impl<P: PlacedReader> SeekableBytes<P> {
         let place = Some(len);
         Ok(SeekableBytes { reader, place, len })
     }
+
+    /// The reader.
+    pub fn reader(&self) -> &P
+        ensures { result.now ≡ self.now }
+    {
+        &self.reader
+    }
 }
 
 impl<P: PlacedReader> PlacedBytes for SeekableBytes<P> {

@@ -44,10 +44,6 @@ StaysOf known old new = IfSome known (λ bytes. IsOf bytes old → IsOf bytes ne
 abbrev pub HoldsFrom : Option (List ℕ) → ℕ → List ℕ → Type 0
 HoldsFrom known place bytes = IfSome known (λ all. bytes ≡ take (length bytes) (drop place all))
 
--- where the bytes are known, a reader stands there
-abbrev pub StandsAt : Option (List ℕ) → ℕ → ℕ → Type 0
-StandsAt known place target = IfSome known (λ all. place ≡ target)
-
 -- where the image's bytes are known, these are the bytes of the runs' blocks
 abbrev pub HoldsRuns : Option (List ℕ) → List Run → Vec ℕ Global → Type 0
 HoldsRuns known runs = λ bytes. IfSome known (λ image. bytes.items ≡ flat_map (block_at image) (flat_map run_of runs))

@@ -13,7 +13,7 @@ use Rattle.hfs_model.specs.Children.{entries_of}
 use Rattle.hfs_model.specs.Lawful.{IsLawful}
 use Rattle.hfs_model.specs.Replies.{success}
 use Rattle.hfs_model.specs.Changes.{Outcome, change}
-use Rattle.hfs_fork_calls.specs.Forks.{fork_bytes, kind_with_fork, item_with_fork}
+use Rattle.hfs_model.specs.Forks.{fork_bytes, kind_with_fork, item_with_fork}
 use Rattle.hfs_store.specs.Found.{IsPlaceOf}
 use Rattle.hfs_store.specs.PlainVolume.{AreEntries, Becomes, ItemBecomes, IsPlainVolume, volume_of}
 use Rattle.hfs_store.proofs.Kept.{becomes_read_edited}

@@ -22,3 +22,5 @@ is_setting (call.RstFLock dir name now) = true
 is_setting (call.CreateFileId dir name now) = false
 is_setting (call.DeleteFileId id now) = false
 is_setting (call.ResolveFileId id) = false
+is_setting (call.SetEof dir name fork length now) = false
+is_setting (call.WriteFork dir name fork offset bytes now) = false

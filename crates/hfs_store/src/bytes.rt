@@ -1,6 +1,6 @@
 //! The bytes of a fork as the calls that write it make them.
 ghost use Rattle.std.specs.Prelude.{◌≡◌, ◌+◌, ◌<◌, ◌^◌, length, IfOk};
-ghost use Rattle.hfs_fork_calls.specs.Forks.{resized, written, fork_bytes};
+ghost use Rattle.hfs_model.specs.Forks.{resized, written, fork_bytes};
 
 use hfs_model::{Fork, Kind};
 use std::alloc::{AllocError, Global};
@@ -20,7 +20,7 @@ pub fn fork_bytes(fork: Fork, kind: &Kind) -> &[u8]
 }
 
 /// The first `count` bytes, with zeros after them where there are fewer.
-#[tactic(auto, unfolding(hfs_fork_calls::specs::Forks::resized))]
+#[tactic(auto, unfolding(hfs_model::specs::Forks::resized))]
 pub fn resized(alloc: Global, bytes: &[u8], count: usize) -> Result<Vec<u8>, AllocError>
     ensures bytes { IfOk result (λ made. made.items ≡ resized count bytes.now) }
     ensures long { IfOk result (λ made. length made.items ≡ count) }
@@ -31,7 +31,7 @@ pub fn resized(alloc: Global, bytes: &[u8], count: usize) -> Result<Vec<u8>, All
 }
 
 /// New bytes from `offset` on, also past the end of the old ones.
-#[tactic(auto, unfolding(hfs_fork_calls::specs::Forks::written), using(hfs_fork_calls::proofs::ForkLemmas::written_is_short))]
+#[tactic(auto, unfolding(hfs_model::specs::Forks::written), using(hfs_model::proofs::ForkLemmas::written_is_short))]
 pub fn written(
     alloc: Global,
     bytes: &[u8],

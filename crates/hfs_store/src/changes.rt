@@ -4,7 +4,7 @@ ghost use Rattle.std.specs.FinMap as map;
 ghost use Rattle.hfs_model.specs.Changes.{touched, moved};
 ghost use Rattle.hfs_model.specs.FileIds.{with_thread_bit, set_thread};
 ghost use Rattle.hfs_model.specs.Children.{valence};
-ghost use Rattle.hfs_fork_calls.specs.Forks.{laid_over, physical_length, with_physical_length, with_fork, item_with_fork};
+ghost use Rattle.hfs_model.specs.Forks.{laid_over, physical_length, with_physical_length, with_fork, item_with_fork};
 ghost use Rattle.byteorder.specs.Endian.{big_bytes};
 ghost use Rattle.hfs_store.specs.PlainVolume.{Becomes, BecomesAt, ItemBecomes, InfoBecomes, Gains, removed, with_first_info, with_item_lock};
 
@@ -125,7 +125,7 @@ pub fn set_thread(items: &mut Vec<(u32, Item)>, at: usize, there: bool)
 }
 
 /// Writes the four lowest bytes of a number over a file's kept bytes, the highest of them first.
-#[tactic(auto, using(hfs_fork_calls::proofs::ForkLemmas::four_of_eight))]
+#[tactic(auto, using(hfs_model::proofs::ForkLemmas::four_of_eight))]
 fn put_number(kept: &mut [u8; 102], at: usize, number: u64)
     requires { at ≤ 98 }
     ensures { kept.new ≡ laid_over at (big_bytes 4 number) kept.old }
@@ -136,7 +136,7 @@ fn put_number(kept: &mut [u8; 102], at: usize, number: u64)
 }
 
 /// Sets the physical length of a fork among a file's kept bytes.
-#[tactic(auto, unfolding(hfs_fork_calls::specs::Forks::with_physical_length))]
+#[tactic(auto, unfolding(hfs_model::specs::Forks::with_physical_length))]
 fn set_physical_length(kept: &mut [u8; 102], fork: Fork, bytes: u64)
     ensures { kept.new ≡ with_physical_length fork bytes kept.old }
 {

@@ -635,12 +635,14 @@ impl PlainVolume {
             | Call::SetFLock { .. }
             | Call::RstFLock { .. }
             | Call::CreateFileId { .. }
-            | Call::DeleteFileId { .. } => unreachable!(),
+            | Call::DeleteFileId { .. }
+            | Call::SetEof { .. }
+            | Call::WriteFork { .. } => unreachable!(),
         }
     }
 
     /// Answers a call that may change the volume: the names, places and threads of its items here, what else is told of one
-    /// in [`PlainVolume::set`].
+    /// in [`PlainVolume::set`], and the bytes of its forks in [`PlainVolume::write`].
     #[tactic(auto)]
     fn change(&mut self, call: &Call) -> Result<Reply, AllocError>
         requires { is_reading call.now ≡ false }
@@ -671,6 +673,7 @@ impl PlainVolume {
                 Ok(self.create_file_id(*dir, name.as_slice(), *now))
             }
             Call::DeleteFileId { id, now } => Ok(self.delete_file_id(*id, *now)),
+            Call::SetEof { .. } | Call::WriteFork { .. } => self.write(call),
             Call::GetDirInfo { .. }
             | Call::GetCatInfo { .. }
             | Call::GetIndexed { .. }
@@ -724,7 +727,9 @@ impl PlainVolume {
             | Call::CatMove { .. }
             | Call::CreateFileId { .. }
             | Call::DeleteFileId { .. }
-            | Call::ResolveFileId { .. } => unreachable!(),
+            | Call::ResolveFileId { .. }
+            | Call::SetEof { .. }
+            | Call::WriteFork { .. } => unreachable!(),
         }
     }
 

@@ -2,6 +2,8 @@
 ghost use Rattle.std.proofs.Props.{props};
 ghost use Rattle.std.specs.Prelude.{◌≡◌, IfErr, IfOk};
 ghost use Rattle.hfs_check.specs.Report.{report_of};
+ghost use Rattle.hfs_needed.specs.Failing.{SomeReadFails};
+ghost use Rattle.hfs_needed.specs.declared.opening.NeededFault.TheVariants.{ReadFailed};
 ghost use Rattle.hfs_needed.specs.Seen.{HasNoFault, IsRefusedBy};
 ghost use Rattle.hfs_source.specs.Images.{HasLength, OfEach};
 
@@ -42,6 +44,8 @@ impl<S: PlacedBlocks + Drop> TakenImage<S> {
         ensures sound { IfOk result (λ image. OfEach (S.Holds image.opened) HasNoFault) }
         ensures refused { IfErr result (λ back. OfEach (S.Holds back.source.blocks)
             (IsRefusedBy back.fault)) }
+        ensures failed { IfErr result (λ back. back.fault ≡ ReadFailed
+            → SomeReadFails (S.Holds source.blocks) (S.Fails source.blocks)) }
         ensures back { IfErr result (λ back. OfEach (S.Holds back.source.blocks)
             (S.Holds source.blocks)) }
     {

@@ -2,12 +2,14 @@
 ghost use Rattle.std.specs.Prelude.{◌≡◌, IfErr, IfOk, IfSome, None, string_bytes};
 ghost use Rattle.std.specs.Option.{option_map};
 ghost use Rattle.hfs_commands.specs.Faults.{IsUnopened, IsUnreadFile};
-ghost use Rattle.hfs_commands.specs.OpenedFiles.{AreOthersOf, known_bytes, stored_bytes};
+ghost use Rattle.hfs_commands.specs.OpenedFiles.{AreOthersOf, images_of, known_bytes, stored_bytes};
 ghost use Rattle.hfs_commands.specs.SeenFiles.{parts_of};
+ghost use Rattle.hfs_commands.specs.Volumes.{sum_told};
+ghost use Rattle.hfs_containers.specs.Ranges.{bytes_in};
 ghost use Rattle.hfs_needed.specs.Seen.{HasNoFault};
 ghost use Rattle.hfs_source.specs.Images.{OfEach};
 ghost use Rattle.hfs_take.specs.Faults.{IsImageFault};
-ghost use Rattle.hfs_take.specs.Opening.{AreBlocksAt, IsLineOf, IsToldLine, IsToldPart, TellsVolume};
+ghost use Rattle.hfs_take.specs.Opening.{AreBlocksAt, IsLineOf, IsSumAt, IsToldLine, IsToldPart, TellsSum, TellsSumIn, TellsVolume};
 
 use crate::facts::volume_text;
 use crate::image::TakenImage;
@@ -15,11 +17,13 @@ use crate::words::TakeWords;
 use hfs_check::MountFault;
 use hfs_commands::{
     Counted, Fault, FilePart, NumberedRange, OpenedFile, PartBlocks, RawFile, StoredFile, Window,
-    open_asked, part_blocks, sum_told,
+    open_asked, part_blocks,
 };
-use hfs_containers::{ByteRange, volume_name};
+use hfs_containers::{ByteRange, Container, FoundRange, volume_name};
+use hfs_contents::range_sum;
 use hfs_needed::Unopened;
-use hfs_source::{BlocksOf, PlacedBlocks, RangeBytes};
+use hfs_source::{BlocksOf, PlacedBlocks, PlacedBytes, RangeBytes};
+use hfs_sparse::SparseFault;
 use std::alloc::Global;
 use std::fs::{File, Metadata, OpenFile};
 use std::io::{Read, Seek};
@@ -37,6 +41,22 @@ pub struct FoundPart<F: Read + Seek> {
     pub sum: Option<bool>,
 }
 
+/// Whether the sum that a disk copy's header tells is that of its data, which are read; None of what has no header.
+fn sum_told<S: PlacedBytes>(source: &mut S, found: &FoundRange) -> Result<Option<bool>, SparseFault>
+    ensures told { IfOk result (λ sum. OfEach (S.Holds source.new)
+        (λ file. sum ≡ sum_told found.now.container (bytes_in found.now.range file))) }
+    ensures held { OfEach (S.Holds source.new) (S.Holds source.old) }
+{
+    match found.container {
+        Container::DiskCopy { sum } => {
+            let own = range_sum(source, found.range)?;
+            Ok(Some(own == sum))
+        }
+        Container::Bare | Container::MacBinary | Container::Partition => Ok(None),
+        Container::RawBare | Container::RawPartition => Ok(None),
+    }
+}
+
 /// The line of a range of a file, and whether its sum is right, where it has one: it is taken of all its bytes. Of raw sectors each is looked at. Faults: a
 /// read failed, memory was refused.
 fn line_of<'a, F: Read + Seek>(
@@ -46,7 +66,7 @@ fn line_of<'a, F: Read + Seek>(
     path: &'a str,
 ) -> Result<(String, Option<bool>), Fault<'a>>
     ensures line { IfOk result (λ told. IsToldLine (AreOthersOf file.old) (known_bytes file.old) place.now (string_bytes told.0) told.1) }
-    ensures known { known_bytes file.new ≡ known_bytes file.old }
+    ensures sum { IfOk result (λ told. IsSumAt (images_of file.new) (Some place.now) told.1) }
     ensures fault { IfErr result (IsUnreadFile path.entry) }
 {
     let others = match file.others() {
@@ -76,8 +96,7 @@ fn told_part<'a, F: Read + Seek + Drop>(
     ensures range { IfOk result (λ found. found.bytes.range ≡ part.bytes.range) }
     ensures line { IfOk result (λ found. IsToldPart (AreOthersOf part.bytes.source) (known_bytes part.bytes.source) part.place
         (option_map string_bytes found.line) found.sum) }
-    ensures known { IfOk result (λ found. known_bytes found.bytes.source
-        ≡ known_bytes part.bytes.source) }
+    ensures sum { IfOk result (λ found. IsSumAt (images_of found.bytes.source) part.place found.sum) }
     ensures fault { IfErr result (IsUnreadFile path.entry) }
 {
     let FilePart { mut bytes, place } = part;
@@ -98,7 +117,7 @@ fn told_part<'a, F: Read + Seek + Drop>(
 
 /// What is asked for of an image, by the number of a volume that lies in it or without one, as [`open_asked`] opens it, and what is told of where it lies.
 /// Faults: as [`open_asked`] has them.
-#[tactic(auto, using(crate::proofs::PartLines::line_of_part))]
+#[tactic(auto, using(crate::proofs::PartLines::line_of_part, crate::proofs::PartLines::sum_of_part))]
 pub fn find_part<'a, R: Files + AllocGlobal>(
     rt: &R,
     path: &'a str,
@@ -107,6 +126,8 @@ pub fn find_part<'a, R: Files + AllocGlobal>(
 ) -> Result<FoundPart<R::File>, Fault<'a>>
     ensures line { IfOk result (λ part. IsLineOf volume part.bytes.range
         (option_map string_bytes part.line)) }
+    ensures sum { IfOk result (λ part. TellsSum (images_of part.bytes.source) volume
+        part.bytes.range (option_map string_bytes part.line) part.sum) }
     ensures fault { IfErr result (IsUnopened path.entry volume) }
 {
     let part = open_asked(rt, path, counted, volume)?;
@@ -222,6 +243,8 @@ fn find_blocks<'a, R: Files + AllocGlobal>(
 ) -> Result<FoundBlocks<R::File>, Fault<'a>>
     ensures line { IfOk result (λ found. IsLineOf words.now.volume found.range
         (option_map string_bytes found.line)) }
+    ensures sum { IfOk result (λ found. TellsSum (images_of found.source.blocks.bytes.bytes)
+        words.now.volume found.range (option_map string_bytes found.line) found.sum) }
     ensures part { IfOk result (λ found. AreBlocksAt found.range found.source) }
     ensures beside { IfOk result (λ found. IfSome found.beside (AreBlocksAt found.range)) }
     ensures fault { IfErr result (IsUnopened words.now.image words.now.volume) }
@@ -266,6 +289,8 @@ pub(crate) fn open_image<'a, R: Files + AllocGlobal>(
 ) -> Result<OpenedTake<PlacedPart<R::File>>, Fault<'a>>
     ensures line { IfOk result (λ opened. TellsVolume words.now.volume opened.image.len
         (option_map string_bytes opened.image.volume)) }
+    ensures sum { IfOk result (λ opened. TellsSumIn (parts_of opened.image.opened)
+        words.now.volume opened.image.len (option_map string_bytes opened.image.volume) opened.sum) }
     ensures sound { IfOk result (λ opened. OfEach (parts_of opened.image.opened) HasNoFault) }
     ensures fault { IfErr result (IsImageFault words.now) }
 {

@@ -4,7 +4,7 @@ use Rattle.std.specs.List.{flat_map}
 use Rattle.std.specs.Fmt.{decimal, signed_decimal}
 use Rattle.hfs_model.specs.declared.reply.Reply.{Reply}
 use Rattle.hfs_model.specs.declared.reply.Value.{Value}
-use Rattle.hfs_model.specs.declared.reply.Value.TheVariants.{Nothing, Id, One, Many, Bytes, Full, Place}
+use Rattle.hfs_model.specs.declared.reply.Value.TheVariants.{Nothing, Id, One, Many, Bytes, Full, Room, ExtentNodes, Place}
 use Rattle.hfs_model.specs.declared.reply.Info.{Info}
 use Rattle.hfs_model.specs.declared.reply.ItemKind.{ItemKind}
 use Rattle.hfs_model.specs.declared.reply.ItemKind.TheVariants.{Folder, File}
@@ -51,7 +51,7 @@ unfoldable pub bytes_text : List ℕ → List ℕ
 bytes_text [] = []
 bytes_text (byte ∷ bytes) = spaced (hex_text (byte ∷ bytes))
 
--- a value, and behind a list its items
+-- a value, and behind a list its items; nodes of either tree are told alike
 unfoldable pub value_text : Value → List ℕ
 value_text Nothing = codes "-"
 value_text (Id id) = codes "id" ++ spaced (decimal id)
@@ -59,6 +59,8 @@ value_text (One info) = codes "info" ++ spaced (item_text info)
 value_text (Many items) = codes "list" ++ spaced (decimal (length items)) ++ listed_items items
 value_text (Bytes bytes) = codes "bytes" ++ bytes_text bytes
 value_text (Full free depth) = codes "full" ++ spaced (decimal free) ++ spaced (decimal depth)
+value_text (Room free wanted) = codes "room" ++ spaced (decimal free) ++ spaced (decimal wanted)
+value_text (ExtentNodes free depth) = codes "full" ++ spaced (decimal free) ++ spaced (decimal depth)
 value_text (Place dir name) = codes "place" ++ spaced (decimal dir) ++ spaced (item_name_text name)
 
 -- the lines of an answer: who called, the number of the call among theirs, its code and its value, with tabs between

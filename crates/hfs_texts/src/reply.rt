@@ -1,5 +1,6 @@
 //! The text of an answer.
 ghost use Rattle.std.specs.Prelude.{◌≡◌, ◌++◌, IfOk, OnOk, codes, length, string_bytes};
+ghost use Rattle.std.specs.Fmt.{decimal};
 ghost use Rattle.hfs_texts.specs.Answers.{bytes_text, flag_text, item_text, kind_text, listed_item, listed_items, place_text, reply_text, size_text, spaced, value_text};
 ghost use Rattle.hfs_texts.specs.Lines.{item_name_character, item_name_text};
 ghost use Rattle.hfs_texts.specs.Texts.{Gains};
@@ -156,6 +157,16 @@ fn push_bytes(text: &mut String, bytes: &[u8]) -> Result<(), AllocError>
     }
 }
 
+/// Appends a word and two numbers.
+fn push_numbers(text: &mut String, word: &str, first: u32, second: u32) -> Result<(), AllocError>
+    ensures { OnOk result (Gains text.old text.new
+        (word.now ++ spaced (decimal first) ++ spaced (decimal second))) }
+{
+    text.push_str(word)?;
+    push_spaced(text, first)?;
+    push_spaced(text, second)
+}
+
 /// Appends a value, and behind a list its items.
 #[tactic(auto, unfolding(crate::specs::Answers::value_text))]
 fn push_value(text: &mut String, value: &Value) -> Result<(), AllocError>
@@ -181,11 +192,9 @@ fn push_value(text: &mut String, value: &Value) -> Result<(), AllocError>
             text.push_str("bytes")?;
             push_bytes(text, bytes.as_slice())
         }
-        Value::Full { free, depth } => {
-            text.push_str("full")?;
-            push_spaced(text, *free)?;
-            push_spaced(text, *depth)
-        }
+        Value::Full { free, depth } => push_numbers(text, "full", *free, *depth),
+        Value::Room { free, wanted } => push_numbers(text, "room", *free, *wanted),
+        Value::ExtentNodes { free, depth } => push_numbers(text, "full", *free, *depth),
         Value::Place { dir, name } => {
             text.push_str("place")?;
             push_spaced(text, *dir)?;

@@ -73,12 +73,12 @@ fn print_fork_in<'a, F: Read + Seek + Drop>(
 
 /// Prints the file that a path leads to with both forks, or the code that refuses it.
 pub fn print_macbinary_at<'a>(rt: &HostRuntime, place: &PathWords<'a>) -> Result<u8, Fault<'a>> {
-    let mut image = open_seen(rt, place.image, place.volume)?;
+    let image = open_seen(rt, place.image, place.volume)?;
     let reply = file_at(rt, &image, place)?;
     match &reply.value {
         Value::One(file) => {
             let (dir, name) = (file.parent, file.name.bytes());
-            print_macbinary(rt, &mut image, place.image, dir, name)
+            print_macbinary(rt, image, place.image, dir, name)
         }
         _ => print_code(rt, &reply),
     }

@@ -67,7 +67,7 @@ pub fn tell_fork<'a>(rt: &HostRuntime, file: &ForkWords<'a>) -> Result<u8, Fault
 
 /// Prints a file with both forks.
 pub fn tell_macbinary<'a>(rt: &HostRuntime, file: &FileWords<'a>) -> Result<u8, Fault<'a>> {
-    let mut image = open_seen(rt, file.image, file.volume)?;
+    let image = open_seen(rt, file.image, file.volume)?;
     let name = file.name.as_bytes();
-    print_macbinary(rt, &mut image, file.image, file.dir, name)
+    print_macbinary(rt, image, file.image, file.dir, name)
 }

@@ -9,15 +9,15 @@ use crate::running::run_script_of;
 use crate::saving::{save, save_as_read, tell};
 use crate::taking::take_volume;
 use crate::volumes::print_volumes;
-use crate::words::{NewVolume, Words};
+use crate::words::{NewVolume, RepairWords, Words};
 use hfs_check::MountFault;
 use hfs_commands::{
-    CheckAnswer, Fault, Format, NeededFile, PartBlocks, PartImage, RepairAnswer, Status,
-    WatchedImage, code_text, needed_check_answer, open_watched, put_macbinary, refused_text,
-    repair_answer, run_info, write_items,
+    BlockSource, CheckAnswer, Fault, Format, ImageInFile, NeededFile, PartBlocks, PartImage,
+    ReadContents, RepairAnswer, Status, code_text, needed_check_answer, open_volume, open_watched,
+    put_macbinary, refused_text, repair_answer, run_info, write_items,
 };
 use hfs_console::{print_lines, tell_hint};
-use hfs_format::{FormatPlan, format};
+use hfs_format::{FormatPlan, PlannedImage};
 use hfs_model::{Fork, Reply};
 use std::alloc::AllocError;
 use std::fs::File;
@@ -53,7 +53,7 @@ pub fn obey<'a, T: Threads + Wait + Sync>(
         Words::Rescue(words) => rescue_volume(rt, words),
         Words::RescueList(words) => list_remains(rt, words),
         Words::New(volume) => write_new(rt, volume),
-        Words::Repair { image, file } => write_repaired(rt, *image, *file),
+        Words::Repair(words) => write_repaired(rt, words),
         Words::Run(run) => run_script_of(rt, threads, run),
     }
 }
@@ -105,9 +105,8 @@ pub fn print_needed_check<'a, F: Read + Seek + Drop>(
     path: &'a str,
     blocks: PartBlocks<F>,
 ) -> Result<u8, Fault<'a>> {
-    let mut blocks = blocks;
-    match needed_check_answer(rt.alloc(), &mut blocks) {
-        Ok(told) => print_checked(rt, &told),
+    match needed_check_answer(rt.alloc(), blocks) {
+        Ok((told, _)) => print_checked(rt, &told),
         Err(fault) => Err(Fault::of_sparse(fault, path)),
     }
 }
@@ -125,13 +124,13 @@ pub fn print_table<F: Read + Seek + Drop>(
 /// Prints a file of an opened image with both forks, or the code of the call that was refused.
 pub fn print_macbinary<'a, F: Read + Seek + Drop>(
     rt: &HostRuntime,
-    image: &mut PartImage<F>,
+    image: PartImage<F>,
     path: &'a str,
     dir: u32,
     name: &[u8],
 ) -> Result<u8, Fault<'a>> {
     match image.file(rt.alloc(), dir, name) {
-        Ok(found) => print_found(rt, found),
+        Ok((found, _)) => print_found(rt, found),
         Err(fault) => Err(Fault::of_sparse(fault, path)),
     }
 }
@@ -198,7 +197,7 @@ fn write_new<'a>(rt: &HostRuntime, volume: &NewVolume<'a>) -> Result<u8, Fault<'
         catalog_nodes: volume.catalog_nodes,
         now: volume.now,
     };
-    match format(rt.alloc(), plan) {
+    match PlannedImage::of(&plan) {
         Ok(image) => {
             let leftover = save(rt, volume.file, &image)?;
             tell(rt, &leftover);
@@ -208,48 +207,85 @@ fn write_new<'a>(rt: &HostRuntime, volume: &NewVolume<'a>) -> Result<u8, Fault<'
     }
 }
 
-/// Writes an image with its counts mended to a file, and prints what was mended. An image that is refused is told of, and nothing is
-/// written; where the write fails nothing else is printed.
-fn write_repaired<'a>(rt: &HostRuntime, path: &'a str, file: &'a str) -> Result<u8, Fault<'a>> {
-    match open_watched(rt, path) {
-        Ok(source) => write_mended(rt, path, file, source),
+/// Writes an image with its counts mended to a file, or with those of the volume in it that is asked for, and prints what was
+/// mended. An image that is refused is told of, and nothing is written; where the write fails nothing else is printed.
+fn write_repaired<'a>(rt: &HostRuntime, words: &RepairWords<'a>) -> Result<u8, Fault<'a>> {
+    let written = match words.volume {
+        None | Some(0) => write_mended_image(rt, words),
+        Some(n) => write_mended_volume(rt, words, n),
+    };
+    match written {
         Err(Fault::Refused(why)) => print_refused(rt, why),
-        Err(fault) => Err(fault),
+        other => other,
     }
 }
 
-/// Mends an image that was opened by this path, and writes it to a file.
-fn write_mended<'a>(
-    rt: &HostRuntime,
-    path: &'a str,
-    file: &'a str,
-    source: WatchedImage<File>,
-) -> Result<u8, Fault<'a>> {
+/// Mends an image as it is, and writes it to a file.
+fn write_mended_image<'a>(rt: &HostRuntime, words: &RepairWords<'a>) -> Result<u8, Fault<'a>> {
+    let source = open_watched(rt, words.image)?;
     let len = source.len();
-    match repair_answer(rt.alloc(), source, len) {
-        Ok(answer) => write_answer(rt, path, file, answer),
-        Err(fault) => Err(Fault::of_sparse(fault, path)),
-    }
-}
-
-/// Writes a mended image to a file as it is read, and prints what was mended.
-fn write_answer<'a>(
-    rt: &HostRuntime,
-    path: &'a str,
-    file: &'a str,
-    answer: RepairAnswer<WatchedImage<File>>,
-) -> Result<u8, Fault<'a>> {
     let RepairAnswer {
         image,
         fault,
         status,
         lines,
-    } = answer;
-    let leftover = match image {
-        Ok(mut image) => save_as_read(rt, file, path, &mut image)?,
+    } = mended(rt, words.image, source, len)?;
+    let contents = match image {
+        Ok(image) => Some(image),
         Err(_refused) => None,
     };
-    print_lines(rt, lines.as_str())?;
+    print_mended(rt, words, contents, fault, status, lines.as_str())
+}
+
+/// Mends the volume with this number in an image, and writes the image to a file.
+fn write_mended_volume<'a>(
+    rt: &HostRuntime,
+    words: &RepairWords<'a>,
+    number: u64,
+) -> Result<u8, Fault<'a>> {
+    let volume = open_volume(rt, words.image, number)?;
+    let len = volume.len();
+    let sum_at = volume.sum_at;
+    let RepairAnswer {
+        image,
+        fault,
+        status,
+        lines,
+    } = mended(rt, words.image, volume.blocks, len)?;
+    let contents = match image {
+        Ok(image) => Some(ImageInFile::of(image, sum_at)),
+        Err(_refused) => None,
+    };
+    print_mended(rt, words, contents, fault, status, lines.as_str())
+}
+
+/// Mends an image of so many bytes, which was opened by this path.
+fn mended<'a, S: BlockSource + Drop>(
+    rt: &HostRuntime,
+    path: &'a str,
+    source: S,
+    len: u64,
+) -> Result<RepairAnswer<S>, Fault<'a>> {
+    match repair_answer(rt.alloc(), source, len) {
+        Ok(answer) => Ok(answer),
+        Err(fault) => Err(Fault::of_sparse(fault, path)),
+    }
+}
+
+/// Writes what a file is to hold with a mended image, if it isn't refused, and prints what was mended.
+fn print_mended<'a, C: ReadContents + Drop>(
+    rt: &HostRuntime,
+    words: &RepairWords<'a>,
+    contents: Option<C>,
+    fault: Option<MountFault>,
+    status: u8,
+    lines: &str,
+) -> Result<u8, Fault<'a>> {
+    let leftover = match contents {
+        Some(mut contents) => save_as_read(rt, words.file, words.image, &mut contents)?,
+        None => None,
+    };
+    print_lines(rt, lines)?;
     tell(rt, &leftover);
     if let Some(why) = fault {
         tell_hint(rt, why);

@@ -35,8 +35,8 @@ read the N-th of them with --volume N, and the file as it is with
 --volume 0. Without --volume they take a bare volume as it is, or else
 the only volume inside, and rescue the only line, even one with 'no
 volume'; if there are several, none. info, run and repair take the file
-as it is, and so does every word that reads a pipe. run and repair have
-no --volume: use extract to make a file of the volume for them.
+as it is, and so does every word that reads a pipe. With --volume N run
+and repair write the file with that volume changed.
 
 Not looked for: a map within a map or within a disk copy, Disk Copy 6
 and other compressed forms, MFS, and HFS Plus without a wrapper.";
@@ -56,9 +56,15 @@ pub(crate) const RUNS: &str = "Each line of the script is answered by a line: wh
 of the call among the caller's own, the code, and a value. With --out
 the changed image is written before the first answer is printed.
 
+With --volume N it runs on that volume in IMAGE, and FILE is IMAGE with
+the volume changed: no other byte is, but the checksum of a disk copy,
+which is made anew.
+
 Faults, in the order in which they are looked for; each is printed
 alone:
   cannot read IMAGE, or image too large
+  no volume N        or not written here, where it lies in raw sectors
+  sum wrong          the checksum of a disk copy isn't that of its data
   cannot read SCRIPT, or script too large
   script line N      the first line that isn't valid, counted from 1;
                      no call was made

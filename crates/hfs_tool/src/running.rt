@@ -4,8 +4,9 @@ use crate::progress::Progress;
 use crate::saving::{save, save_as_read, tell};
 use crate::words::RunWords;
 use hfs_commands::{
-    Fault, Leftover, Ran, RanImage, RunImage, Status, WatchedImage, load_script, open_watched,
-    run_script_at, script_lines, write_answers,
+    Answers, Fault, ImageInFile, Leftover, Ran, RanImage, ReadContents, RunImage, Status, Watched,
+    WatchedVolume, load_script, open_volume, open_watched, run_script_at, script_lines,
+    write_answers,
 };
 use hfs_console::print_lines;
 use std::fs::File;
@@ -13,9 +14,21 @@ use std::io::IsTerminal;
 use std::sync::Wait;
 use std::thread::Threads;
 
-/// Runs a script on an image, and prints the answers. The changed image is written before the first line is printed; where
-/// that fails, only the fault is printed.
+/// Runs a script on an image, or on the volume in it that is asked for, and prints the answers. The changed image is written
+/// before the first line is printed; where that fails, only the fault is printed.
 pub fn run_script_of<'a, T: Threads + Wait + Sync>(
+    rt: &HostRuntime,
+    threads: &T,
+    run: &RunWords<'a>,
+) -> Result<u8, Fault<'a>> {
+    match run.volume {
+        None | Some(0) => run_on_image(rt, threads, run),
+        Some(n) => run_on_volume(rt, threads, run, open_volume(rt, run.image, n)?),
+    }
+}
+
+/// Runs a script on an image as it is.
+fn run_on_image<'a, T: Threads + Wait + Sync>(
     rt: &HostRuntime,
     threads: &T,
     run: &RunWords<'a>,
@@ -23,8 +36,26 @@ pub fn run_script_of<'a, T: Threads + Wait + Sync>(
     let image = open_watched(rt, run.image)?;
     match image.into_held() {
         Ok(image) => run_whole(rt, threads, run, image),
-        Err(source) => run_by_need(rt, threads, run, source),
+        Err(source) => {
+            let len = source.len();
+            let ran = run_by_need(rt, threads, run, source, len)?;
+            print_ran_image(rt, run, ran.image, &ran.answers, ran.whole)
+        }
     }
+}
+
+/// Runs a script on a volume in a file. What is written is the file, with the volume changed.
+fn run_on_volume<'a, T: Threads + Wait + Sync>(
+    rt: &HostRuntime,
+    threads: &T,
+    run: &RunWords<'a>,
+    volume: WatchedVolume<File>,
+) -> Result<u8, Fault<'a>> {
+    let len = volume.len();
+    let sum_at = volume.sum_at;
+    let ran = run_by_need(rt, threads, run, volume.blocks, len)?;
+    let image = ImageInFile::of(ran.image, sum_at);
+    print_ran_image(rt, run, image, &ran.answers, ran.whole)
 }
 
 /// The progress of a run that standard error shows.
@@ -68,14 +99,15 @@ fn print_ran<'a>(rt: &HostRuntime, out: Option<&'a str>, ran: &Ran) -> Result<u8
     print_answers(rt, ran.text.as_str(), ran.whole, &leftover)
 }
 
-/// Runs a script on an image of which only what the script needs is read. A refused image is a fault once the script was read.
-fn run_by_need<'a, T: Threads + Wait + Sync>(
+/// Runs a script on an image of so many bytes, of which only what the script needs is read. A refused image is a fault once the
+/// script was read.
+fn run_by_need<'a, T: Threads + Wait + Sync, S: Watched + Drop>(
     rt: &HostRuntime,
     threads: &T,
     run: &RunWords<'a>,
-    source: WatchedImage<File>,
-) -> Result<u8, Fault<'a>> {
-    let len = source.len();
+    source: S,
+    len: u64,
+) -> Result<RanImage<S>, Fault<'a>> {
     let opened = RunImage::open(rt.alloc(), source, len, run.image)?;
     let bytes = load_script(rt, run.script)?;
     let script = script_lines(rt.alloc(), bytes.as_slice(), run.now)?;
@@ -84,30 +116,26 @@ fn run_by_need<'a, T: Threads + Wait + Sync>(
             let progress = progress(rt);
             let ran = image.run_at(threads, rt.alloc(), &progress, script, run.image);
             progress.end(bytes.len());
-            print_ran_image(rt, run, ran?)
+            ran
         }
         Err(refused) => Err(Fault::Refused(refused.why)),
     }
 }
 
 /// Writes the changed image to its file as it is read, where one is given, and prints the answers.
-fn print_ran_image<'a>(
+fn print_ran_image<'a, C: ReadContents + Drop>(
     rt: &HostRuntime,
     run: &RunWords<'a>,
-    ran: RanImage<WatchedImage<File>>,
+    image: C,
+    answers: &Answers,
+    whole: bool,
 ) -> Result<u8, Fault<'a>> {
-    let RanImage {
-        image,
-        answers,
-        whole,
-        shown: _,
-    } = ran;
     let mut image = image;
     let leftover = match run.out {
         Some(file) => save_as_read(rt, file, run.image, &mut image)?,
         None => None,
     };
-    write_answers(&mut rt.stdout(), &answers)?;
+    write_answers(&mut rt.stdout(), answers)?;
     Ok(end(rt, whole, &leftover))
 }
 

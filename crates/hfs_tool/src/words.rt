@@ -58,12 +58,9 @@ pub enum Words<'a> {
     RescueList(RescueWords<'a>),
     /// `new FILE NAME BLOCKS NODES EXTENTS [--now N]`: a new volume.
     New(NewVolume<'a>),
-    /// `repair IMAGE FILE`: the image with its counts mended.
-    Repair {
-        image: &'a str,
-        file: &'a str,
-    },
-    /// `run IMAGE SCRIPT [--now N] [--out FILE]`: the calls of a script.
+    /// `repair IMAGE FILE [--volume N]`: the image with its counts mended.
+    Repair(RepairWords<'a>),
+    /// `run IMAGE SCRIPT [--now N] [--out FILE] [--volume N]`: the calls of a script.
     Run(RunWords<'a>),
 }
 
@@ -113,8 +110,8 @@ impl<'a> Words<'a> {
             Words::Take(words) => (words.image, words.volume),
             Words::Rescue(words) => (words.words.image, words.words.volume),
             Words::RescueList(words) => (words.image, words.volume),
-            Words::Repair { image, .. } => (*image, None),
-            Words::Run(run) => (run.image, None),
+            Words::Repair(words) => (words.image, words.volume),
+            Words::Run(run) => (run.image, run.volume),
         };
         Some(LookedAt { path, volume })
     }
@@ -195,11 +192,24 @@ pub struct NewVolume<'a> {
     pub now: u32,
 }
 
+/// An image whose counts are mended.
+#[derive(Clone, Copy)]
+pub struct RepairWords<'a> {
+    /// The path of the image.
+    pub image: &'a str,
+    /// The number of the volume in it, where one is asked for.
+    pub volume: Option<u64>,
+    /// The path of the file that the mended image is written to.
+    pub file: &'a str,
+}
+
 /// A script that is run on an image.
 #[derive(Clone, Copy)]
 pub struct RunWords<'a> {
     /// The path of the image.
     pub image: &'a str,
+    /// The number of the volume in it, where one is asked for.
+    pub volume: Option<u64>,
     /// The path of the script.
     pub script: &'a str,
     /// The moment of every change, in seconds since midnight of 1 January 1904.

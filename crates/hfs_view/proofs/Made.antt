@@ -1,5 +1,5 @@
 -- The rows of all records of a sound image are a table of its volume.
-use Rattle.std.proofs.Common.{◌≡◌, ℕ, if◌then◌else◌, Bool, true, ◌&&◌, IsTrue, List, [], refl, sym, ◌∙◌, ap, subst, Option, Some, None}
+use Rattle.std.proofs.Common.{◌≡◌, ℕ, if◌then◌else◌, Bool, true, false, ◌&&◌, IsTrue, List, [], refl, sym, ◌∙◌, ap, subst, Option, Some, None}
 use Rattle.std.specs.Ordering.{nat_cmp}
 use Rattle.std.specs.Cmp.{nat_cmp_total}
 use Rattle.std.specs.Option.{option_map}
@@ -23,8 +23,8 @@ use Rattle.hfs_catalog.specs.Records.{Record}
 use Rattle.hfs_catalog.specs.Items.{items_in, entry_of}
 use Rattle.hfs_catalog.specs.Lookups.{child_named}
 use Rattle.hfs_catalog.specs.Sound.{IsSoundCatalog, HasValence}
-use Rattle.hfs_catalog.proofs.LawTypes.{ItemsAreRecords, NamedAreRecords, ValencesAreCounted}
-use Rattle.hfs_check.specs.Agree.{Agrees}
+use Rattle.hfs_catalog.proofs.LawTypes.{EntriesAreRecords, ItemsAreRecords, NamedAreRecords, SoundIsLawful, ValencesAreCounted}
+use Rattle.hfs_check.specs.Agree.{AgreesBut}
 use Rattle.hfs_check.specs.Laws.{SoundImagesAreLawful}
 use Rattle.hfs_check.proofs.LawTypes.{CatalogIsSound}
 use Rattle.hfs_check.specs.Parts.{mdb_in, overflow_in, catalog_in}
@@ -34,15 +34,16 @@ use Rattle.hfs_fields.specs.declared.mdb.Mdb.{Mdb}
 use Rattle.hfs_volume.specs.Layout.{SameLayout}
 use Rattle.hfs_volume.proofs.LayoutLemmas.{same_layout}
 use Rattle.hfs_volume.specs.Mounted.{AreForksIn}
-use Rattle.hfs_volume.specs.Sharing.{ForksStay}
-use Rattle.hfs_volume.proofs.SharingLaws.{FileForksStay}
+use Rattle.hfs_volume.specs.Opening.{opened_fork}
 use Rattle.hfs_view.specs.declared.opening.Maps.{Maps}
 use Rattle.hfs_item_table.specs.declared.place.Place.{Place}
 use Rattle.hfs_item_table.specs.declared.table.Table.{Table}
 use Rattle.hfs_item_table.specs.Places.{place, place_cmp}
 use Rattle.hfs_item_table.specs.Tables as tables
 use Rattle.hfs_item_table.specs.Tables.{item_of, items_of, IsTable, IsKindOf, AreNames}
+use Rattle.hfs_view.specs.Forks.{OpensForks}
 use Rattle.hfs_view.specs.Opened.{IsRight, AreRowsOf, table_over}
+use Rattle.hfs_view.proofs.Opens.{opens as opens_own}
 use Rattle.hfs_model.proofs.Facts.{none_is_some}
 use Rattle.hfs_model.proofs.Facts.{same_some}
 use Rattle.hfs_model.proofs.Facts.{found_has}
@@ -62,7 +63,7 @@ module _ (image : List ℕ) (sound : IsSound image) (catalog_law : CatalogIsSoun
   unfolding volume_of volume_in
   items_are = refl
 
-  module _ (base : List ℕ) (agrees : Agrees base image) (stays : FileForksStay) (counted : ValencesAreCounted) where
+  module _ (counted : ValencesAreCounted) (lawful_law : SoundIsLawful) (entries_law : EntriesAreRecords) where
     valences : (r : Record) → In r (catalog_in (block_at image)) → IsTrue (is_dir r.1)
         → (dir_record_of r.1).valence ≡ model.valence (finite.entries (volume_of image).items) (item_id r.1)
     valences r i dir =
@@ -75,12 +76,16 @@ module _ (image : List ℕ) (sound : IsSound image) (catalog_law : CatalogIsSoun
         subst (λ (b : Bool). Each (IsForkSound (mdb_in (block_at image)) (overflow_in (block_at image))) (if b then forks_of_file (file_record_of r.1) else [])) file
         (each_in (λ (x : Record). Each (IsForkSound (mdb_in (block_at image)) (overflow_in (block_at image))) (forks_of x)) (catalog_in (block_at image)) r sound.blocks.forks.files i)
 
-    pub are_right : Each (IsRight base image (volume_of image).items) (catalog_in (block_at image))
-    are_right = each_of _ (catalog_in (block_at image)) (λ r i. record {
-      valence_is = valences r i;
-      forks = forks r i;
-      stay = each_in (λ (x : Record). IsTrue (is_file x.1) → ForksStay base image (file_record_of x.1)) (catalog_in (block_at image)) r (stays base image agrees) i;
-    })
+    opens : (r : Record) → In r (catalog_in (block_at image)) → is_dir r.1 ≡ false → IsTrue (is_file r.1) → OpensForks image r.0 (file_record_of r.1)
+    opens r i other file fork =
+        let contents = contents_in (block_at image) in
+        let next = (mdb_in (block_at image)).next_id in
+        let catalog = catalog_in (block_at image) in
+        ap (λ (m : Items). opened_fork (finite.entries m) r.0.parent r.0.name fork) items_are
+        ∙ opens_own contents next catalog sound_catalog (lawful_law contents next catalog sound.blocks.mdb.next_id sound_catalog) entries_law r i other file fork
+
+    pub are_right : Each (IsRight image (volume_of image).items) (catalog_in (block_at image))
+    are_right = each_of _ (catalog_in (block_at image)) (λ r i. record { valence_is = valences r i; forks = forks r i; opens = opens r i })
 
   -- ---- the table
 
@@ -163,7 +168,7 @@ module _ (image : List ℕ) (sound : IsSound image) (catalog_law : CatalogIsSoun
         block_size = (over i).mdb.allocation_block_size;
       }
 
-module _ (base image : List ℕ) (maps : Maps) (base_sound : IsSound base) (agrees : Agrees base image) (catalog_law : CatalogIsSound) (records_law : ItemsAreRecords) (named_law : NamedAreRecords) (lawful_law : SoundImagesAreLawful)
+module _ (written base image : List ℕ) (maps : Maps) (base_sound : IsSound base) (agrees : AgreesBut written base image) (catalog_law : CatalogIsSound) (records_law : ItemsAreRecords) (named_law : NamedAreRecords) (lawful_law : SoundImagesAreLawful)
     (rows : AreRowsOf base image (catalog_in (block_at image)) maps) (t : Table) (is : t ≡ table_over base (mdb_in (block_at image)) maps) where
   layout : SameLayout (mdb_in (block_at base)) (mdb_in (block_at image))
   layout = same_layout (block_at base) (block_at image) agrees.kept.mdb

@@ -1,5 +1,5 @@
 -- The rows of records, record by record.
-use Rattle.std.proofs.Common.{◌≡◌, ℕ, ◌*◌, ◌≤◌, Bool, true, false, cond, eqb, ◌&&◌, ◌||◌, List, [], ◌∷◌, ◌++◌, append_assoc, refl, sym, ◌∙◌, ap, subst, Some}
+use Rattle.std.proofs.Common.{◌≡◌, ℕ, Bool, true, false, cond, eqb, ◌&&◌, ◌||◌, List, [], ◌∷◌, ◌++◌, append_assoc, refl, sym, ◌∙◌, ap, subst, Some}
 use Rattle.std.specs.declared.cmp.Ordering.{Ordering}
 use Rattle.std.specs.declared.cmp.Ordering.TheVariants.{Less, Equal, Greater}
 use Rattle.std.specs.Ordering.{nat_cmp, is_eq, ordering_then}
@@ -13,7 +13,6 @@ use Rattle.hfs_fields.specs.declared.file_record.FileRecord.{FileRecord}
 use Rattle.hfs_fields.specs.Order.{name_cmp, same_name}
 use Rattle.hfs_fields.specs.Records.{is_dir, is_file, is_item, item_id, is_bit_set, dir_record_of, file_record_of}
 use Rattle.hfs_blocks.specs.Blocks.{block_at}
-use Rattle.hfs_model.specs.declared.call.Fork.{Fork}
 use Rattle.hfs_model.specs.declared.call.Fork.TheVariants.{DataFork, ResFork}
 use Rattle.hfs_model.specs.declared.item.Item.{Item}
 use Rattle.hfs_model.specs.Volume.{Items}
@@ -22,63 +21,32 @@ use Rattle.hfs_model.specs.Children.{valence}
 use Rattle.hfs_scans.specs.Each.{Each}
 use Rattle.hfs_scans.proofs.ElementLemmas.{each-right}
 use Rattle.hfs_fields.specs.declared.dir_record.DirRecord.{DirRecord}
-use Rattle.hfs_space.specs.Extents.{fork_byte, AreExtentsWithin, block_total}
-use Rattle.hfs_space.specs.Forks.{fork_bytes}
-use Rattle.hfs_space.specs.Owners.{forks_of_file}
-use Rattle.hfs_space.specs.Sound.{IsForkSound}
 use Rattle.hfs_catalog.specs.Records.{Record, Catalog, has_id, has_thread, item_with}
 use Rattle.hfs_catalog.specs.Items.{Contents, file_kept, folder_of, file_of}
 use Rattle.hfs_catalog.specs.Items as records
 use Rattle.hfs_catalog.specs.Lookups.{is_child_named, child_named}
-use Rattle.hfs_check.specs.Parts.{mdb_in, overflow_in, catalog_in}
-use Rattle.hfs_check.specs.VolumeOf.{bytes_in, contents_in, volume_of}
-use Rattle.hfs_volume.specs.Mounted.{AreForksIn, fork_record}
-use Rattle.hfs_volume.specs.Sharing.{file_extents, ForksStay}
+use Rattle.hfs_check.specs.Parts.{mdb_in, catalog_in}
+use Rattle.hfs_check.specs.VolumeOf.{contents_in, volume_of}
+use Rattle.hfs_volume.specs.Image.{ImageValue}
 use Rattle.hfs_view.specs.declared.opening.Maps.{Maps}
 use Rattle.hfs_item_table.specs.declared.place.Place.{Place}
 use Rattle.hfs_item_table.specs.declared.row.Row.{Row}
 use Rattle.hfs_item_table.specs.declared.row.RowFork.{RowFork}
 use Rattle.hfs_item_table.specs.declared.row.RowKind.TheVariants.{File as FileRow}
 use Rattle.hfs_item_table.specs.Places.{place, place_cmp}
-use Rattle.hfs_item_table.specs.Tables.{bytes_of, item_of, IsForkIn, IsKindOf}
+use Rattle.hfs_item_table.specs.Tables.{item_of, IsKindOf}
+use Rattle.hfs_view.specs.Forks.{ShowsFork}
 use Rattle.hfs_view.specs.Opened.{IsRight, Enters, AreRows, AreRowsOf}
 use Rattle.hfs_model.proofs.Facts.{same_some}
 use Rattle.hfs_item_table.proofs.ShownLemmas.{option_map_cond}
 
 -- ---- a file's row
 
-module _ (base image : List ℕ) (f : FileRecord) where
-  abbrev mdb : Mdb
-  mdb = mdb_in (block_at image)
-
-  sound : (fork : Fork) → AreForksIn (block_at image) f
-      → IsForkSound mdb (overflow_in (block_at image))
-      (record { file = f.id; fork = fork_byte (fork_record fork f).0; len = (fork_record fork f).1.length; first = (fork_record fork f).1.extents })
-  unfolding forks_of_file
-  sound fork h = elim fork as (λ (k : Fork). IsForkSound mdb (overflow_in (block_at image))
-      (record { file = f.id; fork = fork_byte (fork_record k f).0; len = (fork_record k f).1.length; first = (fork_record k f).1.extents })) [ DataFork ↦ h.0 | ResFork ↦ h.1.0 ]
-
-  pub fork_in : (fork : Fork) (row : RowFork) → AreForksIn (block_at image) f → row.extents ≡ file_extents (block_at image) fork f
-      → row.size ≡ (fork_record fork f).1.length → IsForkIn mdb row
-  unfolding file_extents
-  fork_in fork row h are size =
-      let whole = sound fork h in
-      record {
-        within = subst (AreExtentsWithin mdb.allocation_blocks) (sym are) whole.within;
-        room = subst (λ (n : ℕ). n ≤ block_total row.extents * mdb.allocation_block_size) (sym size)
-            (subst (λ (es : List _). (fork_record fork f).1.length ≤ block_total es * mdb.allocation_block_size) (sym are) whole.room);
-      }
-
-  fork_shown : (fork : Fork) (row : RowFork) → ForksStay base image f → row.extents ≡ file_extents (block_at image) fork f
-      → row.size ≡ (fork_record fork f).1.length → bytes_of base mdb row ≡ bytes_in (block_at image) f.id (fork_record fork f).0 (fork_record fork f).1
-  unfolding bytes_of bytes_in file_extents
-  fork_shown fork row stay are size = (λ i. fork_bytes (block_at base) mdb (are i) (size i)) ∙ stay fork
-
-  pub file_shown : (key : CatKey) (has_thread : Bool) (finder kept : List ℕ) (locked : Bool) (d r : RowFork) → ForksStay base image f
+module _ (image : ImageValue) (f : FileRecord) where
+  pub file_shown : (key : CatKey) (has_thread : Bool) (finder kept : List ℕ) (locked : Bool) (d r : RowFork)
       → finder ≡ f.finder_info ++ f.extended_finder_info → kept ≡ file_kept f → locked ≡ is_bit_set 0 f.flags.0
-      → d.extents ≡ file_extents (block_at image) DataFork f → d.size ≡ f.«data».length
-      → r.extents ≡ file_extents (block_at image) ResFork f → r.size ≡ f.resource.length
-      → item_of base mdb (record {
+      → ShowsFork image DataFork f d → ShowsFork image ResFork f r
+      → item_of image.base (mdb_in (block_at image.current)) (record {
         parent = key.parent;
         name = key.name;
         created = f.created;
@@ -87,9 +55,9 @@ module _ (base image : List ℕ) (f : FileRecord) where
         finder = finder;
         kind = FileRow (record { kept = kept; locked = locked; has_thread = has_thread; «data» = d; resource = r });
       })
-      ≡ file_of has_thread (contents_in (block_at image) f) key f
-  unfolding file_of contents_in
-  file_shown key has_thread finder kept locked d r stay a b c d_are d_size r_are r_size = λ i. record {
+      ≡ file_of has_thread (contents_in (block_at image.current) f) key f
+  unfolding file_of
+  file_shown key has_thread finder kept locked d r a b c d_shown r_shown = λ i. record {
     parent = key.parent;
     name = key.name;
     created = f.created;
@@ -100,8 +68,8 @@ module _ (base image : List ℕ) (f : FileRecord) where
       kept = b i;
       locked = c i;
       has_thread = has_thread;
-      «data» = fork_shown DataFork d stay d_are d_size i;
-      resource = fork_shown ResFork r stay r_are r_size i;
+      «data» = d_shown i;
+      resource = r_shown i;
     });
   }
 
@@ -155,7 +123,7 @@ module _ (base : List ℕ) (mdb : Mdb) (items : Items) (contents : Contents) (ca
     kinds = λ q x at. kinds_now q x are at;
   }
 
-module _ (base image : List ℕ) (r : Record) (key : CatKey) (body : List ℕ) (key_is : key ≡ r.0) (body_is : body ≡ r.1) (right : IsRight base image (volume_of image).items r) (row : Row) (old new : Maps) where
+module _ (base image : List ℕ) (r : Record) (key : CatKey) (body : List ℕ) (key_is : key ≡ r.0) (body_is : body ≡ r.1) (right : IsRight image (volume_of image).items r) (row : Row) (old new : Maps) where
   abbrev items : Items
   items = (volume_of image).items
 

@@ -1,5 +1,5 @@
 -- The rows that a catalog's records make.
-use Rattle.std.specs.Prelude.{◌≡◌, ℕ, ◌||◌, Bool, IsTrue, nat_eq, List, ◌∷◌, Some}
+use Rattle.std.specs.Prelude.{◌≡◌, ℕ, ◌||◌, Bool, false, IsTrue, nat_eq, List, ◌∷◌, Some}
 use Rattle.std.specs.List.{list_any}
 use Rattle.std.specs.Ordering.{nat_cmp}
 use Rattle.std.specs.Option.{option_map}
@@ -13,7 +13,6 @@ use Rattle.hfs_fields.specs.declared.file_record.FileRecord.{FileRecord}
 use Rattle.hfs_fields.specs.declared.key.CatKey.{CatKey}
 use Rattle.hfs_fields.specs.declared.mdb.Mdb.{Mdb}
 use Rattle.hfs_fields.specs.Records.{is_dir, is_file, item_id, is_bit_set, dir_record_of, file_record_of}
-use Rattle.hfs_model.specs.declared.call.Fork.{Fork}
 use Rattle.hfs_scans.specs.Each.{Each}
 use Rattle.hfs_model.specs.Volume.{Items}
 use Rattle.hfs_model.specs.Children.{valence}
@@ -24,11 +23,10 @@ use Rattle.hfs_catalog.specs.Lookups.{child_named}
 use Rattle.hfs_check.specs.Parts.{mdb_in, catalog_in}
 use Rattle.hfs_check.specs.VolumeOf.{contents_in, volume_of}
 use Rattle.hfs_volume.specs.Image.{ImageValue}
-use Rattle.hfs_volume.specs.Sharing.{ForksStay, file_extents}
 use Rattle.hfs_volume.specs.Mounted.{AreForksIn}
 use Rattle.hfs_item_table.specs.declared.place.Place.{Place}
 use Rattle.hfs_item_table.specs.declared.row.Row.{Row}
-use Rattle.hfs_item_table.specs.declared.row.RowFork.{RowFork}
+use Rattle.hfs_view.specs.Forks.{OpensForks}
 use Rattle.hfs_view.specs.declared.opening.Maps.{Maps}
 use Rattle.hfs_item_table.specs.declared.table.Table.{Table}
 use Rattle.hfs_item_table.specs.Places.{place, place_cmp}
@@ -50,19 +48,19 @@ AreThreadsOf catalog numbers = (id : ℕ) → has_number numbers id ≡ has_thre
 abbrev pub image_catalog : List ℕ → Catalog
 image_catalog image = catalog_in (block_at image)
 
--- a record of an image: a folder's has the number of its children; a file's forks lie in the volume, and are the base's
-pub record IsRight (base image : List ℕ) (items : Items) (r : Record) : Type 0 where
+-- a record of an image: a folder's has the number of its children; a file's forks lie in the volume, and are opened by its folder and name
+pub record IsRight (image : List ℕ) (items : Items) (r : Record) : Type 0 where
   pub valence_is : IsTrue (is_dir r.1) → (dir_record_of r.1).valence ≡ valence (finite.entries items) (item_id r.1)
   pub forks : IsTrue (is_file r.1) → AreForksIn (block_at image) (file_record_of r.1)
-  pub stay : IsTrue (is_file r.1) → ForksStay base image (file_record_of r.1)
+  pub opens : is_dir r.1 ≡ false → IsTrue (is_file r.1) → OpensForks image r.0 (file_record_of r.1)
 
 -- a record of an image, as its volume is
-abbrev pub IsRightIn : List ℕ → List ℕ → Record → Type 0
-IsRightIn base image r = IsRight base image (volume_of image).items r
+abbrev pub IsRightIn : List ℕ → Record → Type 0
+IsRightIn image r = IsRight image (volume_of image).items r
 
--- the records of an image over its base are right
-abbrev pub AreRight : ImageValue → Type 0
-AreRight image = Each (IsRightIn image.base image.current) (image_catalog image.current)
+-- the records of an image are right
+abbrev pub AreRight : List ℕ → Type 0
+AreRight image = Each (IsRightIn image) (image_catalog image)
 
 -- ---- the rows of records
 
@@ -73,10 +71,6 @@ ShowsFolder key folder row = (base : List ℕ) (mdb : Mdb) → item_of base mdb 
 -- it has the number of the children, where the record has it
 abbrev pub HasChildrenOf : DirRecord → Row → Type 0
 HasChildrenOf folder row = (items : Items) (mdb : Mdb) (id : ℕ) → folder.valence ≡ valence (finite.entries items) id → IsKindOf items mdb id row.kind
-
--- it has all extents of the file's fork in the image
-abbrev pub HasExtents : List ℕ → Fork → FileRecord → RowFork → Type 0
-HasExtents image fork file row = row.extents ≡ file_extents (block_at image) fork file
 
 -- the row shows the file of this record, with a thread or without one
 abbrev pub ShowsFile : ImageValue → Bool → CatKey → FileRecord → Row → Type 0

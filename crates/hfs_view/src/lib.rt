@@ -2,6 +2,8 @@
 //! the calls that read with no lock, and take in the changes that were accepted.
 #![tactic(auto)]
 
+mod changed;
+mod forks;
 mod kept;
 mod locks;
 mod opening;

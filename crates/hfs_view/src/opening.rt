@@ -2,16 +2,18 @@
 ghost use Rattle.std.specs.Prelude.{◌≡◌, ◌++◌, IfOk, OnOk};
 ghost use Rattle.hfs_blocks.specs.Blocks.{block_at};
 ghost use Rattle.hfs_check.specs.Parts.{catalog_in};
-ghost use Rattle.hfs_volume.specs.Mounted.{fork_record, AreForksIn};
-ghost use Rattle.hfs_volume.specs.Sharing.{ForksStay};
-ghost use Rattle.hfs_view.specs.Opened.{AreAllRows, AreRight, AreThreadsOf, Enters, HasChildrenOf, HasExtents, HasForksIn, HasSameEntries, HasSameRows, IsRightIn, ShowsFile, ShowsFolder, TakesRecord, image_catalog, table_over};
+ghost use Rattle.hfs_volume.specs.Mounted.{AreForksIn};
+ghost use Rattle.hfs_view.specs.Changed.{TellsChanges};
+ghost use Rattle.hfs_view.specs.Forks.{OpensForks};
+ghost use Rattle.hfs_view.specs.Opened.{AreAllRows, AreRight, AreThreadsOf, Enters, HasChildrenOf, HasForksIn, HasSameEntries, HasSameRows, IsRightIn, ShowsFile, ShowsFolder, TakesRecord, image_catalog, table_over};
 
+use crate::forks::fork_row;
 use crate::kept::{file_kept, folder_kept};
 use crate::locks::{is_hardware_locked, is_software_locked};
 use crate::threads::ThreadIds;
 use hfs_catalog::{CatalogRecord, is_file, is_folder};
 use hfs_fields::{CatKey, DirRecord, FileRecord, Mdb};
-use hfs_item_table::{Extents, Place, Row, RowFile, RowFork, RowKind, Table};
+use hfs_item_table::{Place, Row, RowFile, RowKind, Table};
 use hfs_model::Fork;
 use hfs_volume::{Base, Volume};
 use std::alloc::{AllocError, Global};
@@ -54,42 +56,23 @@ fn folder_row(key: &CatKey, folder: &DirRecord) -> Row
     }
 }
 
-/// The row of one of a file's forks, with all its extents. The only error is want of memory.
-fn fork_row(
-    alloc: Global,
-    volume: &Volume,
-    file: &FileRecord,
-    fork: Fork,
-) -> Result<RowFork, AllocError>
-    ensures extents { IfOk result (HasExtents volume.now.current fork file.now) }
-    ensures size { IfOk result (λ f. f.size ≡ (fork_record fork file.now).1.length) }
-{
-    let extents = volume.file_extents(alloc, file, fork)?;
-    let size = match fork {
-        Fork::DataFork => file.data.length,
-        Fork::ResFork => file.resource.length,
-    };
-    Ok(RowFork {
-        extents: Extents::new(extents),
-        size,
-    })
-}
-
 /// The row of a file's record. The only error is want of memory.
 fn file_row(
     alloc: Global,
     volume: &Volume,
+    changed: bool,
     has_thread: bool,
     key: &CatKey,
     file: &FileRecord,
 ) -> Result<Row, AllocError>
+    requires changed { TellsChanges volume.now changed }
     requires forks { AreForksIn (block_at volume.now.current) file.now }
-    requires stay { ForksStay volume.now.base volume.now.current file.now }
+    requires opens { OpensForks volume.now.current key.now file.now }
     ensures shows { IfOk result (ShowsFile volume.now has_thread key.now file.now) }
     ensures kind { IfOk result (HasForksIn volume.now.current) }
 {
-    let data = fork_row(alloc, volume, file, Fork::DataFork)?;
-    let resource = fork_row(alloc, volume, file, Fork::ResFork)?;
+    let data = fork_row(alloc, volume, changed, key, file, Fork::DataFork)?;
+    let resource = fork_row(alloc, volume, changed, key, file, Fork::ResFork)?;
     Ok(Row {
         parent: key.parent,
         name: key.name,
@@ -134,10 +117,12 @@ impl Maps {
         &mut self,
         alloc: Global,
         volume: &Volume,
+        changed: bool,
         threads: &ThreadIds,
         entry: &CatalogRecord,
     ) -> Result<(), AllocError>
-        requires right { IsRightIn volume.now.base volume.now.current entry.now }
+        requires changed { TellsChanges volume.now changed }
+        requires right { IsRightIn volume.now.current entry.now }
         requires threads { AreThreadsOf (image_catalog volume.now.current) threads.now }
         ensures { OnOk result (TakesRecord volume.now entry.now self.old self.new) }
     {
@@ -153,7 +138,7 @@ impl Maps {
             let Some(file) = FileRecord::read(body) else {
                 unreachable!()
             };
-            let row = file_row(alloc, volume, threads.has(file.id), key, &file)?;
+            let row = file_row(alloc, volume, changed, threads.has(file.id), key, &file)?;
             return self.enter(file.id, row);
         }
         Ok(())
@@ -163,11 +148,13 @@ impl Maps {
     fn gathered(
         alloc: Global,
         volume: &Volume,
+        changed: bool,
         threads: &ThreadIds,
         records: Vec<CatalogRecord>,
     ) -> Result<Maps, AllocError>
         requires records { records.items ≡ catalog_in (block_at volume.now.current) }
-        requires right { AreRight volume.now }
+        requires changed { TellsChanges volume.now changed }
+        requires right { AreRight volume.now.current }
         requires threads { AreThreadsOf (image_catalog volume.now.current) threads.now }
         ensures { IfOk result (AreAllRows volume.now) }
     {
@@ -177,7 +164,7 @@ impl Maps {
             by_name: BTreeMap::new(alloc),
         };
         while let Some(record) = records.pop() {
-            maps.take(alloc, volume, threads, &record)?;
+            maps.take(alloc, volume, changed, threads, &record)?;
         }
         Ok(maps)
     }
@@ -192,19 +179,22 @@ impl Maps {
         Ok(Maps { by_id, by_name })
     }
 
-    /// The rows of a volume's catalog, whose records these are. The only error is want of memory.
+    /// The rows of a volume's catalog, whose records these are, where `changed` says whether a block of the volume was changed since it
+    /// was mounted. The only error is want of memory.
     pub fn of(
         alloc: Global,
         volume: &Volume,
+        changed: bool,
         threads: &ThreadIds,
         records: Vec<CatalogRecord>,
     ) -> Result<Maps, AllocError>
         requires records { records.items ≡ catalog_in (block_at volume.now.current) }
-        requires right { AreRight volume.now }
+        requires changed { TellsChanges volume.now changed }
+        requires right { AreRight volume.now.current }
         requires threads { AreThreadsOf (image_catalog volume.now.current) threads.now }
         ensures { IfOk result (AreAllRows volume.now) }
     {
-        let maps = Maps::gathered(alloc, volume, threads, records)?;
+        let maps = Maps::gathered(alloc, volume, changed, threads, records)?;
         maps.packed(alloc)
     }
 }

@@ -49,14 +49,16 @@ impl Clone for Rows {
 }
 
 impl Rows {
-    /// The rows of a volume as it is now, over the bytes as they were mounted. The only error is want of memory.
+    /// The rows of a volume as it is now, over the bytes as they were mounted. A fork of which a block was changed since is read whole,
+    /// and takes memory for its bytes. The only error is want of memory.
     pub fn of(alloc: Global, volume: &Volume) -> Result<Rows, AllocError>
         ensures { IfOk result (λ rows. rows ≡ volume_of volume.now.current) }
     {
         let base = volume.base()?;
         let records = volume.records(alloc)?;
         let threads = ThreadIds::of(alloc, &records)?;
-        let maps = Maps::of(alloc, volume, &threads, records)?;
+        let changed = volume.changed() > 0;
+        let maps = Maps::of(alloc, volume, changed, &threads, records)?;
         let table = table_over(base, volume.directory(), maps);
         Ok(Rows { alloc, table })
     }
@@ -112,7 +114,9 @@ impl Rows {
             | Call::SetFLock { .. }
             | Call::RstFLock { .. }
             | Call::CreateFileId { .. }
-            | Call::DeleteFileId { .. } => unreachable!(),
+            | Call::DeleteFileId { .. }
+            | Call::SetEof { .. }
+            | Call::WriteFork { .. } => unreachable!(),
         }
     }
 }

@@ -29,14 +29,14 @@ use Rattle.hfs_catalog.specs.Records.{Record, Catalog, has_id, has_thread, item_
 use Rattle.hfs_catalog.specs.Items.{Contents, folder_of, file_of, item_of}
 use Rattle.hfs_catalog.proofs.LawTypes.{ItemsAreRecords}
 use Rattle.hfs_catalog.specs.Lookups.{catalog_item}
-use Rattle.hfs_check.specs.Agree.{Agrees}
+use Rattle.hfs_check.specs.Agree.{AgreesBut}
 use Rattle.hfs_check.specs.Parts.{mdb_in, overflow_in, catalog_in}
 use Rattle.hfs_check.specs.VolumeOf.{bytes_in, contents_in, volume_in, volume_of}
 use Rattle.hfs_volume.specs.Layout.{SameLayout}
 use Rattle.hfs_volume.proofs.LayoutLemmas.{same_layout, same_bytes}
 use Rattle.hfs_volume.specs.Mounted.{AreForksIn, fork_record}
-use Rattle.hfs_volume.specs.Sharing.{file_extents, ForksStay, HasFile, AreExtentsOf, HaveFork, bytes_of_extents}
-use Rattle.hfs_volume.proofs.SharingLaws.{FileForksStay}
+use Rattle.hfs_volume.specs.Sharing.{file_extents, AreUnwritten, HasFile, AreExtentsOf, HaveFork, bytes_of_extents}
+use Rattle.hfs_volume.proofs.SharingLaws.{ForksStay, FileForksStay}
 use Rattle.hfs_queries.specs.Told.{pick}
 
 -- ---- the record of a file
@@ -137,7 +137,7 @@ module _ (image : List ℕ) (records_law : ItemsAreRecords) (id : ℕ) where
 
     -- ---- its extents
 
-    module _ (base : List ℕ) (agrees : Agrees base image) (stays : FileForksStay) (fork : Fork) (es : List Extent) (es_are : es ≡ file_extents (block_at image) fork (file_record_of its.of.1)) where
+    module _ (written base : List ℕ) (agrees : AgreesBut written base image) (stays : FileForksStay) (fork : Fork) (es : List Extent) (es_are : es ≡ file_extents (block_at image) fork (file_record_of its.of.1)) where
       abbrev own : FileRecord
       own = file_record_of its.of.1
 
@@ -174,14 +174,14 @@ module _ (image : List ℕ) (records_law : ItemsAreRecords) (id : ℕ) where
       unfolding contents_in bytes_in file_extents
       in_image k = elim k as (λ (x : Fork). pick x (contents own) ≡ fork_bytes (block_at image) (mdb_in (block_at image)) (file_extents (block_at image) x own) (fork_record x own).1.length) [ DataFork ↦ refl | ResFork ↦ refl ]
 
-      stay : ForksStay base image own
-      stay = each_in (λ (x : Record). is_file x.1 ≡ true → ForksStay base image (file_record_of x.1)) catalog its.of (stays base image agrees) there.0 is_one
+      stay : ForksStay written base image own
+      stay = each_in (λ (x : Record). is_file x.1 ≡ true → ForksStay written base image (file_record_of x.1)) catalog its.of (stays written base image agrees) there.0 is_one
 
       -- the same bytes, cut at the logical length
-      cut : (bytes : List ℕ) → bytes ≡ pick fork (contents own) → bytes ≡ take (fork_record fork own).1.length (bytes_of_extents base es)
+      cut : AreUnwritten written (block_at image) es → (bytes : List ℕ) → bytes ≡ pick fork (contents own) → bytes ≡ take (fork_record fork own).1.length (bytes_of_extents base es)
       unfolding fork_bytes
-      cut bytes is =
-          is ∙ in_image fork ∙ sym (stay fork)
+      cut unwritten bytes is =
+          is ∙ in_image fork ∙ sym (stay fork (subst (AreUnwritten written (block_at image)) es_are unwritten))
           ∙ ap (take (fork_record fork own).1.length) (same_bytes (block_at base) (mdb_in (block_at base)) (mdb_in (block_at image)) (file_extents (block_at image) fork own) layout)
           ∙ ap (λ (x : List Extent). take (fork_record fork own).1.length (bytes_of_extents base x)) (sym es_are)
 
@@ -192,13 +192,13 @@ own_length n xs = ⊎_elim
     (cases_lt n (length xs))
 
 module _ (image : List ℕ) (records_law : ItemsAreRecords) (id : ℕ) (first : File) (has_first : HasFile (volume_of image) id first) (found : Option CatalogItem)
-    (found_is : found ≡ option_map catalog_item (item_with (catalog_in (block_at image)) id)) (base : List ℕ) (agrees : Agrees base image) (stays : FileForksStay) (fork : Fork) (es : List Extent)
+    (found_is : found ≡ option_map catalog_item (item_with (catalog_in (block_at image)) id)) (written base : List ℕ) (agrees : AgreesBut written base image) (stays : FileForksStay) (fork : Fork) (es : List Extent)
     (are : AreExtentsOf (block_at image) id fork es) where
-  pub have_fork : HaveFork base (volume_of image) id fork es
-  have_fork file has =
+  pub have_fork : AreUnwritten written (block_at image) es → HaveFork base (volume_of image) id fork es
+  have_fork unwritten file has =
       let r = its image records_law id file has found found_is in
-      let one = is_one image records_law id file has found found_is base agrees stays fork _ refl in
-      let whole = cut image records_law id file has found found_is base agrees stays fork es (are r.of (r.found, one)) (fork_of fork file)
+      let one = is_one image records_law id file has found found_is written base agrees stays fork _ refl in
+      let whole = cut image records_law id file has found found_is written base agrees stays fork es (are r.of (r.found, one)) unwritten (fork_of fork file)
       (its_fork (contents_in (block_at image)) (catalog_in (block_at image)) r.of file (its_kind image records_law id file has found found_is) fork) in
       whole ∙ own_length _ (bytes_of_extents base es) ∙ ap (λ (x : List ℕ). take (length x) (bytes_of_extents base es)) (sym whole)
 

@@ -17,6 +17,8 @@ pub mod OwnedStay
 pub mod Stepping
 pub mod Anew
 pub mod Outcomes
+pub mod WantsTold
 pub mod RunSteps
 pub mod LayoutLemmas
 pub mod SharingLaws
+pub mod BlocksWritten

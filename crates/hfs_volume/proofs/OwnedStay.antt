@@ -10,6 +10,7 @@ use Rattle.hfs_blocks.specs.Blocks.{block_at, run_of}
 use Rattle.hfs_scans.specs.Each.{Each}
 use Rattle.hfs_scans.proofs.ElementLemmas.{each-append}
 use Rattle.hfs_scans.specs.Members.{In}
+use Rattle.hfs_scans.proofs.MemberLemmas.{each_in}
 use Rattle.hfs_btree.specs.Sound.{IsOther}
 use Rattle.hfs_model.specs.declared.call.Fork.{Fork}
 use Rattle.hfs_model.specs.declared.call.Fork.TheVariants.{DataFork, ResFork}
@@ -24,8 +25,8 @@ use Rattle.hfs_check.specs.Agree.{bitmap_blocks, node_blocks, changing_blocks, I
 use Rattle.hfs_check.specs.Parts.{Blocks, mdb_in, overflow_in, extents_nodes, catalog_extents, catalog_nodes, catalog_in, owned_in}
 use Rattle.hfs_check.specs.Sound.{IsSound}
 use Rattle.hfs_volume.specs.Mounted.{fork_record}
-use Rattle.hfs_volume.specs.Sharing.{file_extents, ForksStay}
-use Rattle.hfs_volume.proofs.SharingLaws.{FileForksStay}
+use Rattle.hfs_volume.specs.Sharing.{file_extents}
+use Rattle.hfs_volume.proofs.SharingLaws.{ForksStay, FileForksStay}
 use Rattle.hfs_volume.proofs.StayingBlocks.{same_changing}
 use Rattle.hfs_space.proofs.OwnerLemmas.{append}
 use Rattle.hfs_changes.proofs.Space.{extents_parts}
@@ -188,9 +189,10 @@ each_of P [] f = tt
 each_of P (x ∷ xs) f = (f x (inl refl), each_of P xs (λ y i. f y (inr i)))
 
 pub forks_stay : FileForksStay
-forks_stay base image agrees = each_of (λ (r : Record). IsTrue (is_file r.1) → ForksStay base image (file_record_of r.1)) (catalog_in (block_at image)) (λ r i file fork.
+forks_stay written base image agrees = each_of (λ (r : Record). IsTrue (is_file r.1) → ForksStay written base image (file_record_of r.1)) (catalog_in (block_at image)) (λ r i file fork unwritten.
     let extents = file_extents (block_at image) fork (file_record_of r.1) in
     fork_bytes-same (block_at base) (block_at image) (mdb_in (block_at image)) extents (fork_record fork (file_record_of r.1)).1.length (λ n c.
     let here = in_from_contains (block_numbers (mdb_in (block_at image)) extents) n c.0 c.1 c.2 in
-    sym (agrees.kept.others n (subst (λ (ns : List ℕ). Each (IsOther n) ns) (same_changing (block_at base) (block_at image) agrees.kept)
-    (beside image agrees.sound r i file fork n here)))))
+    sym (agrees.kept.others n (each-append (IsOther n) written (changing_blocks (block_at base)) (each_in (λ (k : ℕ). Each (IsOther k) written) (block_numbers (mdb_in (block_at image)) extents) n unwritten here)
+    (subst (λ (ns : List ℕ). Each (IsOther n) ns) (same_changing written (block_at base) (block_at image) agrees.kept)
+    (beside image agrees.sound r i file fork n here))))))

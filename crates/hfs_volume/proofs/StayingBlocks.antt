@@ -1,15 +1,15 @@
 -- The blocks that calls change are the same in an image that agrees with another.
-use Rattle.std.proofs.Common.{◌≡◌, ◌∷◌, ◌++◌, map, take}
+use Rattle.std.proofs.Common.{◌≡◌, ℕ, List, ◌∷◌, ◌++◌, map, take}
 use Rattle.std.specs.List.{flat_map, range_with_len}
 use Rattle.hfs_blocks.specs.Blocks.{run_of}
 use Rattle.hfs_space.specs.Bitmap.{bitmap_len}
 use Rattle.hfs_check.specs.Parts.{Blocks, mdb_in}
-use Rattle.hfs_check.specs.Agree.{changing_blocks}
+use Rattle.hfs_check.specs.Agree.{changing_blocks, KeepsBut}
 use Rattle.hfs_volume.specs.Layout.{SameLayout}
-use Rattle.hfs_check.proofs.Stays.{KeepsVolume, run_by}
+use Rattle.hfs_check.proofs.Stays.{run_by}
 use Rattle.hfs_volume.proofs.LayoutLemmas.{same_layout}
 
-module _ (old new : Blocks) (kept : KeepsVolume old new) where
+module _ (written : List ℕ) (old new : Blocks) (kept : KeepsBut written old new) where
   layout : SameLayout (mdb_in old) (mdb_in new)
   layout = same_layout old new kept.mdb
 

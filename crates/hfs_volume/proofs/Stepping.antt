@@ -1,5 +1,5 @@
 -- A change that was laid over an image.
-use Rattle.std.proofs.Common.{◌≡◌, ℕ, ◌/◌, Ok, Option, Vec, Global, List, length, sym, ap, ◌∙◌, subst}
+use Rattle.std.proofs.Common.{◌≡◌, ℕ, ◌/◌, Ok, Option, Some, None, List, [], ◌++◌, length, refl, sym, ap, ◌∙◌, subst}
 use Rattle.std.specs.List.{flat_map}
 use Rattle.hfs_fields.specs.declared.mdb.Mdb.{Mdb}
 use Rattle.hfs_fields.specs.declared.extent.Extent.{Extent}
@@ -11,25 +11,46 @@ use Rattle.hfs_space.specs.TreeFiles.{tree_blocks}
 use Rattle.hfs_space.proofs.TreeFileLemmas.{nodes_in-tree_blocks}
 use Rattle.hfs_model.specs.declared.call.Call.{Call}
 use Rattle.hfs_model.specs.Step.{step}
-use Rattle.hfs_check.specs.Agree.{Agrees}
-use Rattle.hfs_check.proofs.Stays.{KeepsVolume}
-use Rattle.hfs_check.proofs.LawTypes.{AgreesOn}
+use Rattle.hfs_check.specs.Agree.{AgreesBut, KeepsBut}
+use Rattle.hfs_check.specs.Laws.{AgreementsJoin}
 use Rattle.hfs_check.specs.Parts.{Blocks, mdb_in, catalog_extents, extents_blocks, extents_nodes, catalog_blocks, catalog_nodes}
 use Rattle.hfs_check.specs.Sound.{IsImageLength, AreBlocksSound, IsSound}
 use Rattle.hfs_check.specs.VolumeOf.{volume_in, volume_of}
-use Rattle.hfs_changes.specs.Laws.{IsStepped, IsSteppedBut}
+use Rattle.hfs_changes.specs.Laws.{IsSteppedBut}
 use Rattle.hfs_call_patches.specs.declared.change.Change.{Change}
-use Rattle.hfs_call_patches.specs.CallChanges.{IsChangeOf, written_blocks}
+use Rattle.hfs_call_patches.specs.declared.change.ForkBlocks.{ForkBlocks}
+use Rattle.hfs_call_patches.specs.CallChanges.{IsChangeOf, AreZerosAmong, changed, laid_with, written_blocks}
+use Rattle.std.proofs.lemmas.List.Elements.{All-nil}
+use Rattle.hfs_blocks.specs.Layers.{Numbered}
+use Rattle.hfs_fork_bytes.specs.Zeros.{AreAmong}
+use Rattle.hfs_changed_blocks.specs.Changed.{laid_changes}
+use Rattle.hfs_changed_blocks.proofs.AllBlocks.{patched-laid, laid-within}
 use Rattle.hfs_volume.specs.Image.{ImageValue}
 use Rattle.hfs_volume.specs.Laid.{laid_over}
 use Rattle.hfs_volume.specs.Mounted.{IsMounted}
-use Rattle.hfs_volume.specs.Steps.{IsEditOn}
+use Rattle.hfs_volume.specs.Steps.{IsEditOn, zero_runs, written_runs}
 use Rattle.hfs_volume.proofs.Laid.{AreBlocks-within, block_at-laid_over, length-laid}
 
-module _ (c : Call) (counts : Mdb) (base current after : List ℕ) (g : Changes) (agrees : Agrees base current) (within : AreWithin g (block_count current))
-    (stepped : IsStepped c (block_count current) (block_at current) (over g (block_at current))) (made : mdb_in (over g (block_at current)) ≡ with_counts counts (mdb_in (block_at current)))
+-- ---- what a change lays over a volume's blocks
+
+pub laid_is : (w : Option ForkBlocks) (patch : Numbered) (old : Blocks) → laid_with w patch old ≡ over (laid_changes patch (zero_runs w)) old
+laid_is None patch old = λ i k. patched-laid patch [] old k i
+laid_is (Some fork) patch old = λ i k. patched-laid patch fork.zeros old k i
+
+pub zeros_among : (w : Option ForkBlocks) (total : ℕ) → AreZerosAmong w total → AreAmong (zero_runs w) total
+zeros_among None total h = All-nil _
+zeros_among (Some fork) total h = h
+
+pub blocks_written : (w : Option ForkBlocks) → flat_map run_of (written_runs w) ≡ written_blocks w
+blocks_written None = refl
+blocks_written (Some fork) = refl
+
+-- ---- the image afterwards
+
+module _ (c : Call) (counts : Mdb) (before written base current after : List ℕ) (g : Changes) (agrees : AgreesBut before base current) (within : AreWithin g (block_count current))
+    (stepped : IsSteppedBut written c (block_count current) (block_at current) (over g (block_at current))) (made : mdb_in (over g (block_at current)) ≡ with_counts counts (mdb_in (block_at current)))
     (is : after ≡ laid_over g current) where
-  blocks_after : block_at after ≡ over g (block_at current)
+  pub blocks_after : block_at after ≡ over g (block_at current)
   blocks_after = ap block_at is ∙ block_at-laid_over g current within
 
   len : length after ≡ length current
@@ -44,11 +65,11 @@ module _ (c : Call) (counts : Mdb) (base current after : List ℕ) (g : Changes)
     blocks = subst (λ (n : ℕ). AreBlocksSound n (block_at after)) (sym count_after) (subst (AreBlocksSound (block_count current)) (sym blocks_after) stepped.sound);
   }
 
-  keeps : KeepsVolume (block_at current) (block_at after)
-  keeps = subst (KeepsVolume (block_at current)) (sym blocks_after) stepped.kept
+  keeps : KeepsBut written (block_at current) (block_at after)
+  keeps = subst (KeepsBut written (block_at current)) (sym blocks_after) stepped.kept
 
-  pub agrees_after : AgreesOn → Agrees base after
-  agrees_after on = on base current after agrees (record { sound = sound; len = len; kept = keeps })
+  pub agrees_after : AgreementsJoin → AgreesBut (before ++ written) base after
+  agrees_after join = join before written base current after agrees (record { sound = sound; len = len; kept = keeps })
 
   pub volume_after : volume_of after ≡ (step (volume_of current) c).0
   unfolding volume_of
@@ -82,10 +103,12 @@ catalog_in blocks runs e = nodes_in-tree_blocks blocks (mdb_in blocks) (catalog_
 
 module _ (own value after : ImageValue) (mdb : Mdb) (extents catalog : List Run) (view_is : own ≡ value) (mounted : IsMounted own mdb extents catalog) where
   -- the same bytes
-  pub still_mounted : after.base ≡ own.base → after.current ≡ own.current → IsMounted after mdb extents catalog
-  still_mounted base current = record {
+  pub still_mounted : after.base ≡ own.base → after.current ≡ own.current → after.written ≡ own.written → IsMounted after mdb extents catalog
+  still_mounted base current written = record {
     base = subst IsSound (sym base) mounted.base;
-    agrees = subst (λ (b : List ℕ). Agrees b after.current) (sym base) (subst (Agrees own.base) (sym current) mounted.agrees);
+    agrees =
+        subst (λ (w : List ℕ). AgreesBut w after.base after.current) (sym written)
+        (subst (λ (b : List ℕ). AgreesBut own.written b after.current) (sym base) (subst (AgreesBut own.written own.base) (sym current) mounted.agrees));
     directory = mounted.directory ∙ ap (λ (b : List ℕ). mdb_in (block_at b)) (sym current);
     extents_within = subst (λ (b : List ℕ). AreRunsWithin extents (block_count b)) (sym current) mounted.extents_within;
     extents_blocks = mounted.extents_blocks ∙ ap (λ (b : List ℕ). extents_blocks (block_at b)) (sym current);
@@ -96,29 +119,53 @@ module _ (own value after : ImageValue) (mdb : Mdb) (extents catalog : List Run)
   }
 
   -- a change was laid over them
-  module _ (change : Change) (laid : after.current ≡ laid_over (changes change.patch) own.current) (c : Call) (is : IsEditOn c value.current (Ok change)) where
-    here : IsChangeOf c (block_count own.current) (block_at own.current) change
-    here = (subst (λ (v : ImageValue). IsEditOn c v.current (Ok change)) (sym view_is) is).comes
+  module _ (change : Change) (laid : after.current ≡ laid_over (laid_changes change.patch (zero_runs change.written)) own.current) (c : Call) (is : IsEditOn c value.current (Ok change)) where
+    abbrev total : ℕ
+    total = block_count own.current
 
-    -- no block of a fork was written
-    stepped_here : IsStepped c (block_count own.current) (block_at own.current) (over (changes change.patch) (block_at own.current))
-    stepped_here = subst (λ (w : Option (Vec Run Global)). IsSteppedBut (written_blocks w) c (block_count own.current) (block_at own.current) (over (changes change.patch) (block_at own.current))) here.unwritten here.stepped
+    abbrev blocks : Blocks
+    blocks = block_at own.current
+
+    abbrev g : Changes
+    g = laid_changes change.patch (zero_runs change.written)
+
+    here : IsChangeOf c total blocks change
+    here = (subst (λ (v : ImageValue). IsEditOn c v.current (Ok change)) (sym view_is) is).is.comes
+
+    g_within : AreWithin g total
+    g_within = laid-within change.patch (zero_runs change.written) total here.within (zeros_among change.written total here.zeros)
+
+    stepped_here : IsSteppedBut (written_blocks change.written) c total blocks (over g blocks)
+    stepped_here = subst (IsSteppedBut (written_blocks change.written) c total blocks) (laid_is change.written change.patch blocks) here.stepped
+
+    directory_here : mdb_in (over g blocks) ≡ with_counts change.counts (mdb_in blocks)
+    directory_here = ap mdb_in (sym (laid_is change.written change.patch blocks)) ∙ here.directory
 
     pub committed_volume : volume_of after.current ≡ (step (volume_of value.current) c).0
     committed_volume =
-        volume_after c change.counts own.base own.current after.current (changes change.patch) mounted.agrees here.within stepped_here here.directory laid
+        volume_after c change.counts own.written (written_blocks change.written) own.base own.current after.current g mounted.agrees g_within stepped_here directory_here laid
         ∙ ap (λ (v : ImageValue). (step (volume_of v.current) c).0) view_is
 
-    pub committed_mounted : AgreesOn → after.base ≡ own.base → IsMounted after (with_counts change.counts mdb) extents catalog
-    committed_mounted on base =
-        let count = count_after c change.counts own.base own.current after.current (changes change.patch) mounted.agrees here.within stepped_here here.directory laid in
-        let first = mounted.extents_blocks ∙ sym (extents_after c change.counts own.base own.current after.current (changes change.patch) mounted.agrees here.within stepped_here here.directory laid) in
-        let second = mounted.catalog_blocks ∙ sym (catalog_after c change.counts own.base own.current after.current (changes change.patch) mounted.agrees here.within stepped_here here.directory laid) in
+    pub committed_blocks : block_at after.current ≡ changed (block_at value.current) change
+    committed_blocks =
+        blocks_after c change.counts own.written (written_blocks change.written) own.base own.current after.current g mounted.agrees g_within stepped_here directory_here laid
+        ∙ sym (laid_is change.written change.patch blocks)
+        ∙ ap (λ (v : ImageValue). changed (block_at v.current) change) view_is
+
+    pub committed_mounted : AgreementsJoin → after.base ≡ own.base → after.written ≡ own.written ++ written_blocks change.written → IsMounted after (with_counts change.counts mdb) extents catalog
+    committed_mounted join base written =
+        let count = count_after c change.counts own.written (written_blocks change.written) own.base own.current after.current g mounted.agrees g_within stepped_here directory_here laid in
+        let first = mounted.extents_blocks ∙ sym (extents_after c change.counts own.written (written_blocks change.written) own.base own.current after.current g mounted.agrees g_within stepped_here directory_here laid) in
+        let second = mounted.catalog_blocks ∙ sym (catalog_after c change.counts own.written (written_blocks change.written) own.base own.current after.current g mounted.agrees g_within stepped_here directory_here laid) in
         record {
           base = subst IsSound (sym base) mounted.base;
-          agrees = subst (λ (b : List ℕ). Agrees b after.current) (sym base)
-              (agrees_after c change.counts own.base own.current after.current (changes change.patch) mounted.agrees here.within stepped_here here.directory laid on);
-          directory = ap (with_counts change.counts) mounted.directory ∙ sym (mdb_after c change.counts own.base own.current after.current (changes change.patch) mounted.agrees here.within stepped_here here.directory laid);
+          agrees =
+              subst (λ (w : List ℕ). AgreesBut w after.base after.current) (sym written)
+              (subst (λ (b : List ℕ). AgreesBut (own.written ++ written_blocks change.written) b after.current) (sym base)
+              (agrees_after c change.counts own.written (written_blocks change.written) own.base own.current after.current g mounted.agrees g_within stepped_here directory_here laid join));
+          directory =
+              ap (with_counts change.counts) mounted.directory
+              ∙ sym (mdb_after c change.counts own.written (written_blocks change.written) own.base own.current after.current g mounted.agrees g_within stepped_here directory_here laid);
           extents_within = subst (AreRunsWithin extents) (sym count) mounted.extents_within;
           extents_blocks = first;
           extents_nodes = extents_in (block_at after.current) extents first;

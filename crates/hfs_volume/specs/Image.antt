@@ -5,11 +5,13 @@ use Rattle.hfs_blocks.specs.Blocks.{block_at, block_count}
 use Rattle.hfs_blocks.specs.Layers.{Numbered, Changes, AreWithin, changes, numbers}
 use Rattle.hfs_volume.specs.Laid.{laid_over}
 
--- the bytes as they were opened, the bytes as they are, and the numbers of the blocks that are kept as changed, each once
+-- the bytes as they were opened, the bytes as they are, the numbers of the blocks that are kept as changed, each once, and the blocks of forks
+-- that were written since
 pub record ImageValue : Type 0 where
   pub base : List ℕ
   pub current : List ℕ
   pub changed : List ℕ
+  pub written : List ℕ
 
 -- the bytes, with the changed blocks in place of their own
 abbrev pub patched : Numbered → List ℕ → List ℕ
@@ -19,9 +21,9 @@ patched changed bytes = laid_over (changes changed) bytes
 abbrev pub copy_of : Numbered → ℕ → List ℕ
 copy_of read len = patched read (replicate len 0)
 
--- an image with these blocks changed
-abbrev pub image_of : List ℕ → Numbered → ImageValue
-image_of base changed = record { base = base; current = patched changed base; changed = numbers changed }
+-- an image with these blocks changed, and these written
+abbrev pub image_of : List ℕ → Numbered → List ℕ → ImageValue
+image_of base changed written = record { base = base; current = patched changed base; changed = numbers changed; written = written }
 
 -- block n is kept as changed
 abbrev pub is_changed : ImageValue → ℕ → Bool

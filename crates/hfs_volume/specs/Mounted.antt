@@ -14,15 +14,15 @@ use Rattle.hfs_space.specs.declared.fork_kind.ForkKind.TheVariants.{Data, Resour
 use Rattle.hfs_space.specs.Owners.{forks_of_file}
 use Rattle.hfs_space.specs.Sound.{IsForkSound}
 use Rattle.hfs_check.specs.Parts.{Blocks, mdb_in, extents_blocks, extents_nodes, overflow_in, catalog_blocks, catalog_nodes}
-use Rattle.hfs_check.specs.Agree.{Agrees}
+use Rattle.hfs_check.specs.Agree.{AgreesBut}
 use Rattle.hfs_check.specs.Sound.{IsSound}
 use Rattle.hfs_volume.specs.Image.{ImageValue}
 
--- the base is sound, and the current image agrees with it, and so is sound, too; this is its master directory block, and in these runs of blocks, which are those
+-- the base is sound, and the current image agrees with it but for the blocks of forks that were written, and so is sound, too; this is its master directory block, and in these runs of blocks, which are those
 -- with the right numbers, lie the nodes of its extents tree and of its catalog
 pub record IsMounted (image : ImageValue) (mdb : Mdb) (extents catalog : List Run) : Type 0 where
   pub base : IsSound image.base
-  pub agrees : Agrees image.base image.current
+  pub agrees : AgreesBut image.written image.base image.current
   pub directory : mdb ≡ mdb_in (block_at image.current)
   pub extents_within : AreRunsWithin extents (block_count image.current)
   pub extents_blocks : flat_map run_of extents ≡ extents_blocks (block_at image.current)

@@ -5,6 +5,9 @@ use Rattle.hfs_fields.specs.declared.extent.Extent.{Extent}
 use Rattle.hfs_fields.specs.declared.file_record.FileRecord.{FileRecord}
 use Rattle.hfs_fields.specs.Records.{is_file, file_record_of}
 use Rattle.hfs_blocks.specs.Blocks.{block_at}
+use Rattle.hfs_scans.specs.Each.{Each}
+use Rattle.hfs_btree.specs.Sound.{IsOther}
+use Rattle.hfs_space.specs.ForkLaws.{block_numbers}
 use Rattle.hfs_model.specs.declared.call.Fork.{Fork}
 use Rattle.hfs_model.specs.declared.item.File.{File}
 use Rattle.hfs_model.specs.declared.item.Item.{Item}
@@ -14,7 +17,7 @@ use Rattle.hfs_model.specs.Reading.{fork_of}
 use Rattle.hfs_model.specs.Volume.{Volume}
 use Rattle.hfs_space.specs.Extents as extents
 use Rattle.hfs_space.specs.ForkLengths.{all_bytes}
-use Rattle.hfs_space.specs.Forks.{fork_bytes, read_from}
+use Rattle.hfs_space.specs.Forks.{read_from}
 use Rattle.hfs_catalog.specs.Records.{Record, Catalog, item_with}
 use Rattle.hfs_check.specs.Parts.{Blocks, mdb_in, overflow_in, catalog_in}
 use Rattle.hfs_check.specs.VolumeOf.{volume_of}
@@ -26,12 +29,9 @@ unfoldable pub file_extents : Blocks → Fork → FileRecord → List Extent
 file_extents blocks fork file =
     extents.fork_extents (overflow_in blocks) file.id (extents.fork_byte (fork_record fork file).0) (fork_record fork file).1.extents
 
--- the bytes of a file's forks are the same in two images, where the second says where they lie
-abbrev pub ForksStay : List ℕ → List ℕ → FileRecord → Type 0
-ForksStay base image file =
-    (fork : Fork)
-    → fork_bytes (block_at base) (mdb_in (block_at image)) (file_extents (block_at image) fork file) (fork_record fork file).1.length
-    ≡ fork_bytes (block_at image) (mdb_in (block_at image)) (file_extents (block_at image) fork file) (fork_record fork file).1.length
+-- none of these extents' blocks was written
+abbrev pub AreUnwritten : List ℕ → Blocks → List Extent → Type 0
+AreUnwritten written blocks es = Each (λ n. Each (IsOther n) written) (block_numbers (mdb_in blocks) es)
 
 -- the record of the file of that ID
 abbrev pub IsFileOf : Catalog → ℕ → Record → Type 0
@@ -69,6 +69,6 @@ AreExtentsIn image es = extents.AreExtentsWithin (mdb_in (block_at image)).alloc
 abbrev pub AreForkExtents : List ℕ → ℕ → Fork → Vec Extent Global → Type 0
 AreForkExtents image id fork es = AreExtentsOf (block_at image) id fork es.items
 
--- their bytes in the base begin with those of a fork of the image's file of that ID
+-- their bytes in the base begin with those of a fork of the image's file of that ID, where no call wrote a block of them
 abbrev pub BeginWithFork : ImageValue → ℕ → Fork → Vec Extent Global → Type 0
-BeginWithFork image id fork es = HaveFork image.base (volume_of image.current) id fork es.items
+BeginWithFork image id fork es = AreUnwritten image.written (block_at image.current) es.items → HaveFork image.base (volume_of image.current) id fork es.items

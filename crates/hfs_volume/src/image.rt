@@ -1,26 +1,31 @@
 //! An image: its bytes as they were opened, and the blocks that were changed since.
 
-ghost use Rattle.std.specs.Prelude.{◌≡◌, [], ◌<◌, ◌≤◌, ◌^◌, length, IfOk, IfErr, OnOk, OnErr, nat_eq};
-ghost use Rattle.std.specs.List.{IsDistinct};
-ghost use Rattle.hfs_blocks.specs.Blocks.{block_at, block_count, length-block_at, few-block_count};
-ghost use Rattle.hfs_blocks.specs.Layers.{changes, AreWithin};
+ghost use Rattle.std.specs.Prelude.{◌≡◌, [], ◌++◌, ◌<◌, ◌≤◌, ◌^◌, length, IfOk, IfErr, OnOk, OnErr, nat_eq};
+ghost use Rattle.std.specs.List.{IsDistinct, flat_map};
+ghost use Rattle.hfs_blocks.specs.Blocks.{block_at, block_count, length-block_at, few-block_count, run_of};
+ghost use Rattle.hfs_blocks.specs.Layers.{changes, AreWithin, numbers};
+ghost use Rattle.hfs_changed_blocks.specs.Changed.{laid_changes};
+ghost use Rattle.hfs_fork_bytes.specs.Zeros.{AreAmong};
 ghost use Rattle.hfs_volume.specs.BaseBytes.{EndsInZeros};
-ghost use Rattle.hfs_volume.specs.Image.{HasKept, IsSameBeside, image_of, patched};
+ghost use Rattle.hfs_volume.specs.Image.{HasKept, IsSameBeside, patched};
+ghost use Rattle.hfs_volume.specs.Laid.{laid_over};
 ghost use Rattle.hfs_volume.specs.Saving.{WritesAll, BreaksOff};
 
 use crate::base::Base;
 use crate::saving::{SaveFault, save_laid, write_at};
-use hfs_blocks::{Blocks, Patch};
+use hfs_blocks::{Blocks, Patch, Run};
+use hfs_changed_blocks::{ChangedBlocks, WrittenLog, WrittenRuns};
 use std::alloc::{AllocError, AllocFailed, Global};
 use std::io::Write;
 use std::marker::Model;
 
 /// An image of at most 2,147,483,648 bytes: blocks of 512 bytes, counted from 0, and what may follow the last whole one.
-/// Contracts see its bytes as they were opened, and as they are.
+/// Contracts see its bytes as they were opened, and as they are, and which blocks of forks were written since.
 #[derive(Drop)]
 pub struct Image {
     base: Base,
-    changed: Patch,
+    changed: ChangedBlocks,
+    written: WrittenLog,
 }
 
 impl Model for Image {
@@ -28,7 +33,7 @@ impl Model for Image {
 
     ghost Value = { ImageValue };
 
-    ghost view = { λ m. image_of m.base m.changed };
+    ghost view = { λ m. image_of m.base m.changed m.written.blocks };
 
     ghost invariant = { λ m. IsImage m.base m.changed };
 }
@@ -40,6 +45,7 @@ impl Image {
         ensures base { IfOk result (λ image. image.base ≡ bytes.items) }
         ensures current { IfOk result (λ image. image.current ≡ bytes.items) }
         ensures changed { IfOk result (λ image. image.changed ≡ []) }
+        ensures written { IfOk result (λ image. image.written ≡ []) }
         ensures value_returned { IfErr result (λ failed. failed.value ≡ bytes) }
     {
         let base = Base::new(alloc, bytes)?;
@@ -51,18 +57,21 @@ impl Image {
         ensures base { result.base ≡ base }
         ensures current { result.current ≡ base }
         ensures changed { result.changed ≡ [] }
+        ensures written { result.written ≡ [] }
     {
         // A proof knows how long the bytes can be once they are counted.
         let _len = base.len();
         Image {
             base,
-            changed: Patch::new(alloc),
+            changed: ChangedBlocks::new(alloc),
+            written: WrittenLog::new(),
         }
     }
 
     /// The changed blocks, which lie over the bytes as they were opened.
-    pub fn changes(&self) -> &Patch
-        ensures { self.now ≡ image_of self.now.base result.now }
+    pub fn changes(&self) -> &ChangedBlocks
+        ensures current { self.now.current ≡ patched result.now self.now.base }
+        ensures changed { self.now.changed ≡ numbers result.now }
     {
         &self.changed
     }
@@ -102,16 +111,30 @@ impl Image {
         self.changed.over(&base).block(n, into);
     }
 
-    /// Lays a patch over the image. At an error the bytes are as they were. The bytes as they were opened stay.
-    pub fn commit(&mut self, patch: &Patch) -> Result<(), AllocError>
-        requires { AreWithin (changes patch.now) (block_count self.old.current) }
-        ensures current { OnOk result (self.new.current ≡ patched patch.now self.old.current) }
-        ensures changed { OnOk result (HasKept self.old (changes patch.now) self.new) }
+    /// Lays a patch over the image, with the blocks of the first runs as zeros below it; those of the others are blocks of a fork that
+    /// were written. At an error the bytes are as they were. The bytes as they were opened stay.
+    pub fn commit(
+        &mut self,
+        alloc: Global,
+        patch: &Patch,
+        zeros: &[Run],
+        written: &[Run],
+    ) -> Result<(), AllocError>
+        requires patch { AreWithin (changes patch.now) (block_count self.old.current) }
+        requires zeros { AreAmong zeros.now (block_count self.old.current) }
+        ensures current { OnOk result (self.new.current
+            ≡ laid_over (laid_changes patch.now zeros.now) self.old.current) }
+        ensures changed { OnOk result
+            (HasKept self.old (laid_changes patch.now zeros.now) self.new) }
+        ensures written { OnOk result (self.new.written
+            ≡ self.old.written ++ flat_map run_of written.now) }
         ensures unchanged { OnErr result (self.new.current ≡ self.old.current) }
+        ensures unwritten { OnErr result (self.new.written ≡ self.old.written) }
         ensures base { self.new.base ≡ self.old.base }
     {
         let base = self.base.blocks();
-        self.changed.lay(&base, patch)?;
+        self.changed.lay(alloc, &base, patch, zeros)?;
+        self.written = self.written.then(&WrittenRuns { runs: written });
         Ok(())
     }
 
@@ -154,14 +177,18 @@ impl Image {
         }
     }
 
-    /// The image with its bytes as they are now as those that it was opened with: nothing is changed. Where memory is wanting the
-    /// image is handed back.
+    /// The image with its bytes as they are now as those that it was opened with: nothing is changed. Takes no memory where nothing
+    /// was. Where memory is wanting the image is handed back.
     pub fn opened_anew(self, alloc: Global) -> Result<Image, AllocFailed<Image>>
         ensures base { IfOk result (λ image. image.base ≡ self.current) }
         ensures current { IfOk result (λ image. image.current ≡ self.current) }
         ensures changed { IfOk result (λ image. image.changed ≡ []) }
+        ensures written { IfOk result (λ image. image.written ≡ []) }
         ensures value_returned { IfErr result (λ failed. failed.value ≡ self) }
     {
+        if self.changed() == 0 {
+            return Ok(self.as_opened(alloc));
+        }
         // A proof knows how long the bytes can be once the blocks are counted.
         let _count = self.count();
         let Ok(bytes) = self.copy(alloc) else {
@@ -171,6 +198,22 @@ impl Image {
             Ok(image) => Ok(image),
             Err(_failed) => Err(AllocFailed { value: self }),
         }
+    }
+
+    /// The image, in which nothing is changed, over its own base.
+    fn as_opened(self, alloc: Global) -> Image
+        requires { length self.changed ≡ 0 }
+        ensures base { result.base ≡ self.current }
+        ensures current { result.current ≡ self.current }
+        ensures changed { result.changed ≡ [] }
+        ensures written { result.written ≡ [] }
+    {
+        let Image {
+            base,
+            changed: _,
+            written: _,
+        } = self;
+        Image::over(alloc, base)
     }
 
     /// The blocks as they are now.

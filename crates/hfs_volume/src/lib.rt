@@ -12,6 +12,7 @@ mod repairing;
 mod replies;
 mod saving;
 mod volume;
+mod written;
 
 pub use base::{Base, BaseBlocks};
 pub use hfs_check::{Alternate, MountFault, Report, report};

@@ -31,6 +31,7 @@ pub fn mount(alloc: Global, image: Vec<u8>) -> Result<Volume, Refused>
     ensures base { IfOk result (λ volume. volume.base ≡ image.items) }
     ensures current { IfOk result (λ volume. volume.current ≡ image.items) }
     ensures changed { IfOk result (λ volume. volume.changed ≡ []) }
+    ensures written { IfOk result (λ volume. volume.written ≡ []) }
     ensures fault { IfErr result (HasFaultOf image.items) }
     ensures given { IfErr result (λ refused. refused.image ≡ image) }
 {
@@ -59,6 +60,7 @@ pub fn mount_sound(alloc: Global, base: Base, found: SoundVolume) -> Volume
     ensures base { result.base ≡ base }
     ensures current { result.current ≡ base }
     ensures changed { result.changed ≡ [] }
+    ensures written { result.written ≡ [] }
 {
     let SoundVolume { mdb, trees } = found;
     let VolumeTrees {

@@ -37,6 +37,7 @@ pub fn mount_repaired(alloc: Global, image: Vec<u8>) -> Result<(Volume, Vec<Fix>
     ensures base { IfOk result (λ mounted. mounted.0.base ≡ repair image.items) }
     ensures current { IfOk result (λ mounted. mounted.0.current ≡ repair image.items) }
     ensures changed { IfOk result (λ mounted. mounted.0.changed ≡ []) }
+    ensures written { IfOk result (λ mounted. mounted.0.written ≡ []) }
     ensures fixes { IfOk result (λ mounted. AreFixes (wrong_in image.items) mounted.1.items) }
     ensures fault { IfErr result (HasFaultOf (repair image.items)) }
     ensures given { IfErr result (λ refused. refused.image.items ≡ image.items) }

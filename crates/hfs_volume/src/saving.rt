@@ -6,7 +6,7 @@ ghost use Rattle.hfs_blocks.specs.Layers.{changes, AreWithin};
 ghost use Rattle.hfs_volume.specs.Image.{patched};
 ghost use Rattle.hfs_volume.specs.Saving.{WritesAll, WritesFirst, BreaksOff, BreaksOffBehind, bytes_between};
 
-use hfs_blocks::Patch;
+use hfs_changed_blocks::ChangedBlocks;
 use std::io::{ErrorKind, Write};
 use thiserror::Error;
 
@@ -55,7 +55,7 @@ pub(crate) fn write_at<W: Write>(writer: &mut W, n: u32, bytes: &[u8]) -> Result
 }
 
 /// The first changed block from `n` on, or `count`.
-fn next_changed(changed: &Patch, n: u32, count: u32) -> u32
+fn next_changed(changed: &ChangedBlocks, n: u32, count: u32) -> u32
     requires { n ≤ count }
     ensures after { n ≤ result }
     ensures within { result ≤ count }
@@ -71,7 +71,7 @@ fn next_changed(changed: &Patch, n: u32, count: u32) -> u32
 }
 
 /// The longest piece from block `n` on that lies in one place, and the block behind it.
-fn piece<'a>(changed: &'a Patch, base: &'a [u8], n: u32, count: u32) -> (&'a [u8], u32)
+fn piece<'a>(changed: &'a ChangedBlocks, base: &'a [u8], n: u32, count: u32) -> (&'a [u8], u32)
     requires count { count ≡ block_count base.now }
     requires in_range { n < count }
     requires within { AreWithin (changes changed.now) (block_count base.now) }
@@ -94,7 +94,7 @@ fn piece<'a>(changed: &'a Patch, base: &'a [u8], n: u32, count: u32) -> (&'a [u8
 /// Writes the bytes of the base, with the changed blocks in place of its own: each piece from where it lies, and last what
 /// follows the last whole block.
 pub(crate) fn save_laid<W: Write>(
-    changed: &Patch,
+    changed: &ChangedBlocks,
     base: &[u8],
     count: u32,
     writer: &mut W,

@@ -1,6 +1,6 @@
 //! A mounted volume.
 
-ghost use Rattle.std.specs.Prelude.{◌≡◌, ◌≢◌, pos, length, nat_eq, false, IsTrue, Ok, IfOk, OnOk, OnErr};
+ghost use Rattle.std.specs.Prelude.{◌≡◌, ◌≢◌, ◌++◌, pos, length, nat_eq, false, IsTrue, Ok, IfOk, OnOk, OnErr};
 ghost use Rattle.std.specs.List.{IsDistinct};
 ghost use Rattle.hfs_model.specs.Reading.{get_dir_info, get_cat_info, get_indexed, list, part_of};
 ghost use Rattle.hfs_model.specs.FileIds.{resolve_file_id};
@@ -17,7 +17,8 @@ ghost use Rattle.hfs_volume.specs.Image.{IsSameBeside};
 ghost use Rattle.hfs_volume.specs.Opening.{opened_fork};
 ghost use Rattle.hfs_volume.specs.Saving.{WritesAll, BreaksOff};
 ghost use Rattle.hfs_volume.specs.Serving.{AreEntriesIn, entries_in, fork_in, fork_reply};
-ghost use Rattle.hfs_volume.specs.Steps.{IsEditIn, IsEditReply, IsImageAfter, IsReplyTo, AreRepliesTo, AreFirstMade};
+ghost use Rattle.hfs_volume.specs.Steps.{IsEditIn, IsEditReply, IsImageAfter, IsReplyTo, AreRepliesTo, AreFirstMade, AreFirstServed, AreServedWith, AreWrittenBy, HasWrittenBlocks, IsLaidBy};
+ghost use Rattle.hfs_call_patches.specs.CallChanges.{written_blocks};
 ghost use Rattle.hfs_queries.specs.Told.{IsCatalog};
 ghost use Rattle.hfs_volume.specs.Mounted.{IsMounted, AreForksIn};
 
@@ -27,6 +28,7 @@ use crate::image_nodes::ImageNodes;
 use crate::open_fork::{OpenFork, Opened};
 use crate::replies::refused_by;
 use crate::saving::SaveFault;
+use crate::written::{written_runs, zero_runs};
 use hfs_blocks::Run;
 use hfs_call_edits::{Editing, Refusal};
 use hfs_call_patches::{Change, with_counts};
@@ -107,7 +109,9 @@ impl Volume {
             | Call::SetFLock { .. }
             | Call::RstFLock { .. }
             | Call::CreateFileId { .. }
-            | Call::DeleteFileId { .. } => unreachable!(),
+            | Call::DeleteFileId { .. }
+            | Call::SetEof { .. }
+            | Call::WriteFork { .. } => unreachable!(),
         }
     }
 
@@ -121,7 +125,9 @@ impl Volume {
         ensures outcome { IfOk result (IsReplyTo call.now self.old.current self.new.current) }
         ensures refused { IfOk result (λ reply. reply.code ≢ pos 0 → self.new ≡ self.old) }
         ensures reading { IsTrue (is_reading call.now) → self.new ≡ self.old }
+        ensures written { OnOk result (HasWrittenBlocks call.now self.old self.new) }
         ensures unchanged { OnErr result (self.new.current ≡ self.old.current) }
+        ensures unwritten { OnErr result (self.new.written ≡ self.old.written) }
         ensures base { self.new.base ≡ self.old.base }
     {
         reading_leaves();
@@ -138,6 +144,8 @@ impl Volume {
         ensures made { IfOk result (AreRepliesTo calls.now self.old.current self.new.current) }
         ensures broken { OnErr result
             (AreFirstMade calls.now self.old.current self.new.current) }
+        ensures served { IfOk result (AreServedWith calls.now self.old self.new) }
+        ensures broken_off { OnErr result (AreFirstServed calls.now self.old self.new) }
         ensures base { self.new.base ≡ self.old.base }
     {
         let mut replies = Vec::new(alloc);
@@ -309,45 +317,55 @@ impl Volume {
         requires { is_reading call.now ≡ false }
         ensures outcome { IfOk result (IsReplyTo call.now self.old.current self.new.current) }
         ensures refused { IfOk result (λ reply. reply.code ≢ pos 0 → self.new ≡ self.old) }
+        ensures written { OnOk result (HasWrittenBlocks call.now self.old self.new) }
         ensures unchanged { OnErr result (self.new.current ≡ self.old.current) }
+        ensures unwritten { OnErr result (self.new.written ≡ self.old.written) }
         ensures base { self.new.base ≡ self.old.base }
     {
         let blocks = self.image.blocks();
         let edit = Editing::new(&blocks, &self.mdb, &self.extents, &self.catalog).edit(
             alloc, call,
         )?;
-        self.make(edit)
+        self.make(alloc, edit)
     }
 
     /// Makes of the image what some call makes of it, and answers the call.
-    fn make(&mut self, edit: Result<Change, Refusal>) -> Result<Reply, AllocError>
+    fn make(&mut self, alloc: Global, edit: Result<Change, Refusal>) -> Result<Reply, AllocError>
         requires { IsEditIn self.old.current edit }
         ensures outcome { IfOk result (IsEditReply edit self.old.current self.new.current) }
         ensures refused { IfOk result (λ reply. reply.code ≢ pos 0 → self.new ≡ self.old) }
+        ensures written { OnOk result (AreWrittenBy edit self.old self.new) }
+        ensures laid { OnOk result (IsLaidBy edit self.old self.new) }
         ensures unchanged { OnErr result (self.new.current ≡ self.old.current) }
+        ensures unwritten { OnErr result (self.new.written ≡ self.old.written) }
         ensures base { self.new.base ≡ self.old.base }
     {
         match edit {
-            Ok(change) => self.commit(change),
+            Ok(change) => self.commit(alloc, change),
             Err(refusal) => Ok(refused_by(refusal)),
         }
     }
 
     /// Lays a change over the image. The volume's own master directory block follows when nothing can go wrong any more.
-    fn commit(&mut self, change: Change) -> Result<Reply, AllocError>
+    fn commit(&mut self, alloc: Global, change: Change) -> Result<Reply, AllocError>
         requires { IsEditIn self.old.current (Ok change) }
         ensures volume { OnOk result (IsImageAfter self.old.current change self.new.current) }
         ensures reply { IfOk result (λ reply. reply ≡ success change.value) }
+        ensures written { OnOk result (self.new.written
+            ≡ self.old.written ++ written_blocks change.written) }
+        ensures laid { OnOk result (IsLaidBy (Ok change) self.old self.new) }
         ensures unchanged { OnErr result (self.new.current ≡ self.old.current) }
+        ensures unwritten { OnErr result (self.new.written ≡ self.old.written) }
         ensures base { self.new.base ≡ self.old.base }
     {
         let Change {
             patch,
             counts,
-            written: _written,
+            written,
             value,
         } = change;
-        self.image.commit(&patch)?;
+        self.image
+            .commit(alloc, &patch, zero_runs(&written), written_runs(&written))?;
         self.mdb = with_counts(&counts, &self.mdb);
         Ok(success(value))
     }

@@ -53,7 +53,7 @@ fn commit_three(alloc: Global, image: &mut Image, values: [u8; 3]) -> Result<(),
     patch.put(4, &[values[2]; 512])?;
     patch.put(1, &[values[0]; 512])?;
     patch.put(2, &[values[1]; 512])?;
-    image.commit(&patch)
+    image.commit(alloc, &patch, &[], &[])
 }
 
 /// Commits blocks 1, 2 and 4 of an image that has five blocks.

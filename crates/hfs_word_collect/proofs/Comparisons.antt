@@ -1,6 +1,6 @@
 -- What was asked of the database, and what is told of a file by it.
-use Rattle.std.proofs.Common.{◌≡◌, ◌≢◌, ◌∙◌, ◌⊎◌, inl, inr, refl, sym, ap, ℕ, Bool, true, false, cond, List, length, Option, Some, None, Result, Ok, Err}
-use Rattle.std.specs.Prelude.{IfOk, ◌&&◌, ◌==◌, is_some, nat_eq, String, string_bytes}
+use Rattle.std.proofs.Common.{◌≡◌, ◌≢◌, ◌∙◌, inl, inr, refl, sym, ap, ℕ, Bool, true, false, cond, List, [], ◌∷◌, length, Option, Some, None, Result, Ok, Err}
+use Rattle.std.specs.Prelude.{IfErr, IfOk, ◌&&◌, ◌==◌, is_some, nat_eq, String, string_bytes}
 use Rattle.hex.specs.Hex.{encode_lower}
 use Rattle.sha2.specs.Sha256.{sha256}
 use Rattle.std.specs.Cmp.Lexicographic.{pointwise}
@@ -8,12 +8,18 @@ use Rattle.std.proofs.Math.Logic.{∥∥₁_map}
 use Rattle.sqlite.specs.State.{State}
 use Rattle.hfs_contents.specs.Failing.{SomeFail}
 use Rattle.hfs_source.specs.Images.{FailsWhere, OfEach}
-use Rattle.hfs_database.specs.Asking.{IsKnown}
+use Rattle.sqlite.specs.declared.types.Value.TheVariants.{Text}
+use Rattle.hfs_database.specs.Asking.{IsKnown, known_image_text}
+use Rattle.hfs_database.specs.Faults.{FailsToTell}
+use Rattle.hfs_database.specs.declared.fault.DatabaseFault.{DatabaseFault}
 use Rattle.hfs_database.specs.Comparing.{by_digest, comparison, needs_digest}
 use Rattle.hfs_database.specs.declared.comparing.Comparison.{Comparison}
 use Rattle.hfs_database.specs.declared.comparing.Comparison.TheVariants.{Changed, Missing, New, Same}
 use Rattle.hfs_database.specs.declared.comparing.KnownImage.{KnownImage}
-use Rattle.hfs_word_collect.specs.Comparing.{IsAsked, IsCompared, IsComparedIn, IsComparison, IsReadUnless}
+use Rattle.hfs_word_collect.specs.Answers.{database_fault}
+use Rattle.hfs_word_collect.specs.declared.fault.RunFault.{RunFault}
+use Rattle.hfs_word_collect.specs.declared.fault.RunFault.TheVariants as run
+use Rattle.hfs_word_collect.specs.Comparing.{FailsToCompare, IsAsked, IsCompared, IsComparedIn, IsComparison, IsReadUnless}
 
 -- a length and a digest tell it
 pub told_by : (known : KnownImage) (found : Comparison) (len : ℕ) (digits : List ℕ) → found ≡ comparison known len digits → IsComparison known found
@@ -106,3 +112,14 @@ pub read_before : {E : Type 0} (result : Result Comparison E) (Holds : List ℕ 
 read_before (Ok found) Holds Later Before later (inl read) = inl read
 read_before (Ok found) Holds Later Before later (inr some) = inr (fails-before Holds Later Before later some)
 read_before (Err why) Holds Later Before later told = tt
+
+-- ---- why it is not compared
+
+pub fails_by_database : (old new : State) (path : List ℕ) (fault : RunFault) (why : DatabaseFault) → fault ≡ database_fault why → FailsToTell old new known_image_text (Text path ∷ []) why
+    → FailsToCompare old new path fault
+fails_by_database old new path fault why is fails = inl (why, is, fails)
+
+pub fails_by_memory : {X : Type 0} (old new : State) (path : List ℕ) (r : Result X RunFault) (known : KnownImage) → IsKnown old new path (Some known) → IfErr r (λ fault. fault ≡ run.NoMemory)
+    → IfErr r (FailsToCompare old new path)
+fails_by_memory old new path (Ok x) known is none = tt
+fails_by_memory old new path (Err fault) known is none = inr (none, (known, is))

@@ -1,5 +1,9 @@
--- What a fault of giving an image's rows means for the run.
+-- What faults mean for the run.
 use Rattle.std.specs.Prelude.{Option, Some, None}
+use Rattle.hfs_rows.specs.declared.fault.TakerFault.{TakerFault}
+use Rattle.hfs_rows.specs.declared.fault.TakerFault.TheVariants as taker
+use Rattle.hfs_database.specs.declared.fault.DatabaseFault.{DatabaseFault}
+use Rattle.hfs_database.specs.declared.fault.DatabaseFault.TheVariants as database
 use Rattle.hfs_collection.specs.declared.fault.CollectFault.{CollectFault}
 use Rattle.hfs_collection.specs.declared.fault.CollectFault.TheVariants as collect
 use Rattle.hfs_word_collect.specs.declared.fault.RunFault.{RunFault}
@@ -10,3 +14,14 @@ abbrev pub image_fault : CollectFault → Option RunFault
 image_fault collect.ReadFailed = None
 image_fault collect.CannotWrite = Some run.CannotWrite
 image_fault collect.NoMemory = Some run.NoMemory
+
+-- what a fault of the database means for the run
+abbrev pub database_fault : DatabaseFault → RunFault
+database_fault (database.CannotOpen obstacle) = run.CannotOpen obstacle
+database_fault database.CannotWrite = run.CannotWrite
+database_fault database.NoMemory = run.NoMemory
+
+-- what a fault of the taker means for the run
+abbrev pub taker_fault : TakerFault → RunFault
+taker_fault taker.CannotWrite = run.CannotWrite
+taker_fault taker.NoMemory = run.NoMemory

@@ -1,14 +1,20 @@
 -- Images beside what a collection has of them.
-use Rattle.std.specs.Prelude.{◌≡◌, ◌≢◌, ◌⊎◌, ℕ, List, length, Option, Some, None}
+use Rattle.std.specs.Prelude.{◌≡◌, ◌≢◌, ◌⊎◌, ℕ, List, [], ◌∷◌, length, Option, Some, None}
 use Rattle.hex.specs.Hex.{encode_lower}
 use Rattle.sha2.specs.Sha256.{sha256}
 use Rattle.hfs_database.specs.declared.comparing.Comparison.{Comparison}
 use Rattle.sqlite.specs.State.{State}
-use Rattle.hfs_database.specs.Asking.{IsKnown}
+use Rattle.sqlite.specs.declared.types.Value.TheVariants.{Text}
+use Rattle.hfs_database.specs.Asking.{IsKnown, known_image_text}
+use Rattle.hfs_database.specs.Faults.{FailsToTell}
+use Rattle.hfs_database.specs.declared.fault.DatabaseFault.{DatabaseFault}
 use Rattle.hfs_database.specs.declared.comparing.Comparison.TheVariants.{Missing, New}
 use Rattle.hfs_database.specs.declared.comparing.KnownImage.{KnownImage}
 use Rattle.hfs_database.specs.Comparing.{comparison}
 use Rattle.hfs_contents.specs.Failing.{SomeFail}
+use Rattle.hfs_word_collect.specs.Answers.{database_fault}
+use Rattle.hfs_word_collect.specs.declared.fault.RunFault.{RunFault}
+use Rattle.hfs_word_collect.specs.declared.fault.RunFault.TheVariants as run
 
 -- a file with these bytes is told of by its length and its digest, unless it could not be read
 abbrev pub IsCompared : KnownImage → Comparison → List ℕ → Type 0
@@ -39,3 +45,10 @@ IsComparedIn old new path found file = found ≢ Missing → ∥ ((known : Optio
 -- the file was read, or some read of its bytes may fail
 abbrev pub IsReadUnless : (List ℕ → Type 0) → (ℕ → ℕ → Type 0) → Comparison → Type 0
 IsReadUnless Holds Fails found = (found ≢ Missing) ⊎ SomeFail Holds Fails
+
+-- the database was asked for the image of this path, and the fault is that of its error;
+-- or it has the image, and memory was refused after that
+abbrev pub FailsToCompare : State → State → List ℕ → RunFault → Type 0
+FailsToCompare old new path fault =
+    ((why : DatabaseFault) × (fault ≡ database_fault why) × FailsToTell old new known_image_text (Text path ∷ []) why)
+    ⊎ ((fault ≡ run.NoMemory) × ((known : KnownImage) × IsKnown old new path (Some known)))

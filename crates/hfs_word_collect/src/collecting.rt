@@ -1,10 +1,10 @@
 //! An image's rows in the database.
-ghost use Rattle.std.specs.Prelude.{◌≡◌, ◌++◌, IfErr, IfNone, IfOk, IfSome};
+ghost use Rattle.std.specs.Prelude.{◌≡◌, ◌++◌, false, IfErr, IfNone, IfOk, IfSome, OnErr};
 ghost use Rattle.hfs_collection.specs.Counts.{image_counts};
 ghost use Rattle.hfs_collection.specs.Images.{image_rows};
 ghost use Rattle.hfs_collection.specs.Looking.{IsFaultOf};
 ghost use Rattle.hfs_word_collect.specs.Collecting.{AreRowsOf};
-ghost use Rattle.hfs_database.specs.Transactions.{LeavesAllOrNone, LeavesFile, PutsAllInOne};
+ghost use Rattle.hfs_database.specs.Transactions.{LeavesAllOrNone, LeavesAsBefore, LeavesFile, PutsAllInOne};
 
 use crate::fault::RunFault;
 use hfs_collection::{CollectFault, ImageCounts, ImageFacts, ImageFile, give_image};
@@ -58,9 +58,10 @@ impl<S: PlacedBytes + Drop, K: PickedImage, F: ImageFile<S, K>> RowSource
     }
 }
 
-/// Puts the rows of an image into the database, in the place of those that it had of the same path, and answers how much the image holds. None
-/// where it can't be opened, or not be read as far as is wanted, and then nothing has changed. At a fault all is there, or nothing has changed. Faults:
-/// `CannotWrite`, `NoMemory`.
+/// Puts the rows of an image into the database, in the place of those that it had of the same path, and answers how much the image
+/// holds. None if it can't be opened or read as far as is wanted: then nothing has changed, and no transaction is under way. At a
+/// fault the open database shows what it showed; in the file are all rows, or nothing has changed. Faults: `CannotWrite`,
+/// `NoMemory`.
 #[tactic(auto, using(crate::proofs::WrittenImages::unread_by))]
 pub fn collect_image<D: Alter + Drop, S: PlacedBytes + Drop, K: PickedImage, F: ImageFile<S, K>>(
     collection: &mut Collection<D>,
@@ -74,6 +75,12 @@ pub fn collect_image<D: Alter + Drop, S: PlacedBytes + Drop, K: PickedImage, F: 
     ensures unread { IfOk result (λ found. IfNone found (F.IsUnread rows.new.file)) }
     ensures left { IfOk result (λ found. IfNone found
         (LeavesFile D.Store collection.old.conn collection.new.conn)) }
+    ensures ended { IfOk result (λ found. IfNone found
+        (collection.new.conn.in_transaction ≡ false)) }
+    ensures back { IfOk result (λ found. IfNone found
+        (LeavesAsBefore D.Store collection.old.conn collection.new.conn)) }
+    ensures undone { OnErr result
+        (LeavesAsBefore D.Store collection.old.conn collection.new.conn) }
     ensures all_or_none { LeavesAllOrNone D.Store
         (AreRowsOf (F.Holds rows.new.file) K.image rows.old.facts.now)
         collection.old.conn collection.new.conn }

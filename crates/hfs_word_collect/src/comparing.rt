@@ -1,5 +1,5 @@
 //! Images beside what the database has of them.
-ghost use Rattle.std.specs.Prelude.{◌≡◌, ◌≢◌, IfNone, IfOk, IfSome, OnErr, string_bytes};
+ghost use Rattle.std.specs.Prelude.{◌≡◌, ◌≢◌, IfErr, IfNone, IfOk, IfSome, OnErr, string_bytes};
 ghost use Rattle.hex.specs.Hex.{encode_lower};
 ghost use Rattle.sha2.specs.Sha256.{sha256};
 ghost use Rattle.sqlite.specs.Held.{state};
@@ -7,7 +7,8 @@ ghost use Rattle.hfs_contents.specs.Failing.{SomeFail};
 ghost use Rattle.hfs_database.specs.Comparing.{comparison};
 ghost use Rattle.hfs_database.specs.declared.comparing.Comparison.TheVariants.{Missing};
 ghost use Rattle.hfs_source.specs.Images.{FailsWhere, OfEach};
-ghost use Rattle.hfs_word_collect.specs.Comparing.{IsAsked, IsCompared, IsComparedIn, IsComparison, IsReadUnless};
+ghost use Rattle.hfs_word_collect.specs.Comparing.{FailsToCompare, IsAsked, IsCompared, IsComparedIn, IsComparison, IsReadUnless};
+ghost use Rattle.hfs_word_collect.specs.declared.fault.RunFault.TheVariants.{NoMemory};
 
 use crate::fault::RunFault;
 use crate::files::FileByPath;
@@ -28,6 +29,7 @@ fn image_digits<S: PlacedBytes>(alloc: Global, source: &mut S) -> Result<Option<
     ensures none { IfOk result (λ found. IfNone found
         (SomeFail (S.Holds source.new) (S.Fails source.old))) }
     ensures held { OfEach (S.Holds source.new) (S.Holds source.old) }
+    ensures fault { IfErr result (λ fault. fault ≡ NoMemory) }
 {
     let Ok(digest) = file_digest(source) else {
         return Ok(None);
@@ -46,8 +48,8 @@ fn told_by(known: &KnownImage, len: u64, digits: &str) -> Comparison
     known.compared(len, digits)
 }
 
-/// How an image stands to what the database has of it. It is read where its digest is needed; where a read fails, it is missing. The
-/// only fault is `NoMemory`.
+/// How an image compares with what the database has of it. It is read where its digest is needed; where a read fails, it is
+/// missing. The only fault is `NoMemory`.
 #[tactic(auto, using(crate::proofs::Comparisons::told_by, crate::proofs::Comparisons::told_missing, crate::proofs::Comparisons::compared_missing_of, crate::proofs::Comparisons::compared_unread, crate::proofs::Comparisons::compared_read, crate::proofs::Comparisons::known_read, crate::proofs::Comparisons::unread_missing))]
 pub fn compare_known<S: PlacedBytes>(
     alloc: Global,
@@ -59,6 +61,7 @@ pub fn compare_known<S: PlacedBytes>(
     ensures comparison { IfOk result (IsComparison known.now) }
     ensures read { IfOk result (IsReadUnless (S.Holds source.new) (S.Fails source.old)) }
     ensures held { OfEach (S.Holds source.new) (S.Holds source.old) }
+    ensures fault { IfErr result (λ fault. fault ≡ NoMemory) }
 {
     let len = source.len();
     if !known.needs_digest(len) {
@@ -72,7 +75,7 @@ pub fn compare_known<S: PlacedBytes>(
 
 /// How an image stands to what the database has of this path: `New` where it has no row of it, else by its length and its digest;
 /// `Missing` where a read fails. Faults: `CannotWrite` where the database can't be read, `NoMemory`.
-#[tactic(auto, using(crate::proofs::Comparisons::asked_known, crate::proofs::Comparisons::asked_new, crate::proofs::Comparisons::compared_known, crate::proofs::Comparisons::compared_new, crate::proofs::Comparisons::known_read, crate::proofs::Comparisons::new_read))]
+#[tactic(auto, using(crate::proofs::Comparisons::asked_known, crate::proofs::Comparisons::asked_new, crate::proofs::Comparisons::compared_known, crate::proofs::Comparisons::compared_new, crate::proofs::Comparisons::known_read, crate::proofs::Comparisons::new_read, crate::proofs::Comparisons::fails_by_database, crate::proofs::Comparisons::fails_by_memory))]
 pub fn compare_file<D: Alter + Drop, S: PlacedBytes>(
     alloc: Global,
     collection: &mut Collection<D>,
@@ -85,6 +88,8 @@ pub fn compare_file<D: Alter + Drop, S: PlacedBytes>(
         (state D.Store collection.old.conn) (state D.Store collection.new.conn) path.now found)) }
     ensures read { IfOk result (IsReadUnless (S.Holds source.new) (S.Fails source.old)) }
     ensures held { OfEach (S.Holds source.new) (S.Holds source.old) }
+    ensures fault { IfErr result (FailsToCompare (state D.Store collection.old.conn)
+        (state D.Store collection.new.conn) path.now) }
 {
     match known_image(collection, path)? {
         Some(known) => compare_known(alloc, source, &known),
@@ -106,8 +111,8 @@ fn read_first<S: PlacedBytes>(source: &mut S) -> io::Result<()>
     Ok(())
 }
 
-/// How an image that was opened stands to what the database has of its path, as [`compare_file`] says; `Missing` also where its first byte can't be
-/// read, and then the database isn't asked. It is said of each image that has the bytes which were read.
+/// How an image that was opened compares with what the database has of its path, as [`compare_file`] says; `Missing` also where its
+/// first byte can't be read, and then the database isn't asked. It is said of each image that has the bytes which were read.
 #[tactic(auto, using(crate::proofs::Comparisons::asked_missing, crate::proofs::Comparisons::compared_missing, crate::proofs::Comparisons::unread_missing, crate::proofs::Comparisons::read_before))]
 pub fn compare_image<D: Alter + Drop, S: PlacedBytes>(
     alloc: Global,
@@ -121,6 +126,8 @@ pub fn compare_image<D: Alter + Drop, S: PlacedBytes>(
         (state D.Store collection.old.conn) (state D.Store collection.new.conn) path.now found)) }
     ensures read { IfOk result (IsReadUnless (S.Holds source.new) (S.Fails source.old)) }
     ensures held { OfEach (S.Holds source.new) (S.Holds source.old) }
+    ensures fault { IfErr result (FailsToCompare (state D.Store collection.old.conn)
+        (state D.Store collection.new.conn) path.now) }
 {
     let Ok(()) = read_first(source) else {
         return Ok(Comparison::Missing);

@@ -18,6 +18,10 @@ pub enum RunFault {
 }
 
 impl From<DatabaseFault> for RunFault {
+    ghost use Rattle.hfs_word_collect.specs.Answers.{database_fault};
+
+    ghost from_gives = { λ why fault. fault ≡ database_fault why };
+
     fn from(fault: DatabaseFault) -> RunFault {
         match fault {
             DatabaseFault::CannotOpen(obstacle) => RunFault::CannotOpen(obstacle),
@@ -28,6 +32,10 @@ impl From<DatabaseFault> for RunFault {
 }
 
 impl From<TakerFault> for RunFault {
+    ghost use Rattle.hfs_word_collect.specs.Answers.{taker_fault};
+
+    ghost from_gives = { λ why fault. fault ≡ taker_fault why };
+
     fn from(fault: TakerFault) -> RunFault {
         match fault {
             TakerFault::CannotWrite => RunFault::CannotWrite,

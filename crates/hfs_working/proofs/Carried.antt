@@ -1,5 +1,5 @@
 -- What was changed in a copy, laid over the image.
-use Rattle.std.proofs.Common.{◌≡◌, ℕ, ◌+◌, ◌*◌, ◌/◌, ◌<◌, ◌≤◌, Bool, List, ◌∷◌, ◌++◌, map, take, length, Option, Some, None, IsSome, is_some, unwrap_or, refl, sym, ap, subst, ◌∙◌, arith}
+use Rattle.std.proofs.Common.{◌≡◌, ℕ, ◌+◌, ◌*◌, ◌/◌, ◌<◌, ◌≤◌, Bool, List, ◌∷◌, ◌++◌, map, take, length, Option, Some, None, IsSome, is_some, unwrap_or, refl, sym, ap, subst, ◌∙◌, arith, ◌⊎◌, ⊎_elim, true≢false}
 use Rattle.std.specs.Prelude.{◌-◌, slice_index}
 use Rattle.std.specs.List.{flat_map, range_with_len}
 use Rattle.std.proofs.lemmas.List.{get_or-take}
@@ -9,7 +9,7 @@ use Rattle.hfs_fields.specs.Counts.{IsBesideCounts}
 use Rattle.hfs_fields.specs.Numbers.{number_at}
 use Rattle.hfs_fields.proofs.PutLemmas.{number_at-same}
 use Rattle.hfs_scans.specs.Each.{Each}
-use Rattle.hfs_scans.proofs.ElementLemmas.{each-mono}
+use Rattle.hfs_scans.proofs.ElementLemmas.{each-left, each-mono}
 use Rattle.hfs_blocks.specs.Blocks.{block_at, block_count, length-block_at, run_of}
 use Rattle.hfs_blocks.specs.Layers.{Numbered, Changes, changes, AreWithin, over}
 use Rattle.hfs_btree.specs.Sound.{IsOther, KeepsFrame}
@@ -18,23 +18,23 @@ use Rattle.hfs_space.specs.Bitmap.{bitmap_len}
 use Rattle.hfs_space.specs.TreeFiles.{node_count, tree_blocks}
 use Rattle.hfs_space.specs.TreeKeys.{ext_keys}
 use Rattle.hfs_catalog.specs.Tree.{cat_keys}
-use Rattle.hfs_check.specs.Agree.{IsBeside, IsSpareBit}
+use Rattle.hfs_check.specs.Agree.{IsBesideAll, IsSpareBit, KeepsBut, changing_blocks}
 use Rattle.hfs_check.specs.Parts.{Blocks, mdb_in, extents_blocks, extents_nodes, catalog_blocks, catalog_nodes, catalog_in, is_marked_in}
 use Rattle.hfs_check.specs.Sound.{IsImageLength, AreBlocksSound, IsSound}
 use Rattle.hfs_check.specs.VolumeOf.{volume_of}
-use Rattle.hfs_check.proofs.Stays.{KeepsVolume, run_by}
+use Rattle.hfs_check.proofs.Stays.{run_by}
 use Rattle.hfs_needed.specs.Needed.{AgreeOn}
 use Rattle.hfs_volume.specs.Image.{patched}
 use Rattle.hfs_volume.specs.Layout.{SameLayout}
 use Rattle.hfs_volume.proofs.Laid.{block_at-laid_over}
 use Rattle.hfs_volume.proofs.LayoutLemmas.{same_layout}
 use Rattle.hfs_volume.proofs.SavedPieces.{length-laid_over}
-use Rattle.hfs_working.specs.Working.{working_blocks, IsWorkingCopy, HasForksOf, HoldVolumeOf, AreChangesOf, AnswersAs, CarriesOver}
+use Rattle.hfs_working.specs.Working.{working_blocks, IsWorkingCopy, HasForksOf, HoldVolumeOf, AreChangesBut, AnswersAs, CarriesOverBut}
 use Rattle.hfs_working.proofs.SameWork as work
 
 -- ---- the working blocks stay where they are
 
-module _ (old new : Blocks) (kept : KeepsVolume old new) where
+module _ (written : List ℕ) (old new : Blocks) (kept : KeepsBut written old new) where
   layout : SameLayout (mdb_in old) (mdb_in new)
   layout = same_layout old new kept.mdb
 
@@ -71,36 +71,39 @@ module _ (old new : Blocks) (kept : KeepsVolume old new) where
 
 -- ---- blocks of the copy and of the image, as they were and with the changed ones over them
 
-module _ (total : ℕ) (g : Changes) (old whole new full : Blocks) (same : AgreeOn (working_blocks total old) old whole)
+module _ (total : ℕ) (written : List ℕ) (g : Changes) (old whole new full : Blocks) (same : AgreeOn (working_blocks total old) old whole)
     (is-new : (n : ℕ) → new n ≡ over g old n) (is-full : (n : ℕ) → full n ≡ over g whole n)
-    (known : (n : ℕ) → IsSome (g n) → whole n ≡ old n) (kept : KeepsVolume old new) where
+    (known : (n : ℕ) → IsSome (g n) → Each (IsOther n) written → whole n ≡ old n) (kept : KeepsBut written old new) where
   over-same : (n : ℕ) → whole n ≡ old n → full n ≡ new n
   over-same n e = is-full n ∙ ap (unwrap_or (g n)) e ∙ sym (is-new n)
 
   pub after : AgreeOn (working_blocks total new) new full
-  after = subst (λ (numbers : List ℕ). AgreeOn numbers new full) (sym (working-stays old new kept total))
+  after = subst (λ (numbers : List ℕ). AgreeOn numbers new full) (sym (working-stays written old new kept total))
       (each-mono (λ n. whole n ≡ old n) (λ n. full n ≡ new n) (working_blocks total old) over-same same)
 
   -- a block that no call changes is the image's
-  others : (n : ℕ) → IsBeside whole n → full n ≡ whole n
+  others : (n : ℕ) → IsBesideAll written whole n → full n ≡ whole n
   others n beside = by (g n) refl
     where
       there : new n ≡ old n
-      there = kept.others n (subst (λ (ns : List ℕ). Each (IsOther n) ns) (work.changing-is total old whole same) beside)
+      there = kept.others n (subst (λ (ns : List ℕ). Each (IsOther n) (written ++ ns)) (work.changing-is total old whole same) beside)
+
+      unwritten : Each (IsOther n) written
+      unwritten = each-left (IsOther n) written (changing_blocks whole) beside
 
       by : (o : Option (List ℕ)) → g n ≡ o → full n ≡ whole n
       by None e = is-full n ∙ ap (λ (o : Option (List ℕ)). unwrap_or o (whole n)) e
-      by (Some b) e = let w = known n (ap is_some e) in over-same n w ∙ there ∙ sym w
+      by (Some b) e = let w = known n (ap is_some e) unwritten in over-same n w ∙ there ∙ sym w
 
   allocation_blocks-stay : (mdb_in new).allocation_blocks ≡ (mdb_in old).allocation_blocks
-  allocation_blocks-stay = (layout old new kept).allocation_blocks
+  allocation_blocks-stay = (layout written old new kept).allocation_blocks
 
   spare-bits : (i : ℕ) → IsSpareBit (mdb_in old) i → is_marked_in full i ≡ is_marked_in whole i
   spare-bits i spare =
       work.bit-is total new full after i (subst (λ (n : ℕ). i < 4096 * bitmap_len n) (sym allocation_blocks-stay) spare.within)
       ∙ kept.bits i spare ∙ sym (work.bit-is total old whole same i spare.within)
 
-  pub keeps : KeepsVolume whole full
+  pub keeps : KeepsBut written whole full
   keeps =
       let two = work.block_2 total old whole same in
       let mdb = work.mdb-is total old whole same in
@@ -151,7 +154,7 @@ module _ (copy image : List ℕ) (is : IsWorkingCopy copy image) where
   pub copy-answers : AnswersAs copy image
   copy-answers = record { sound = sound; volume = volume; alike = alike }
 
-  module _ (changed : Numbered) (are : AreChangesOf changed copy image) where
+  module _ (written : List ℕ) (changed : Numbered) (are : AreChangesBut written changed copy image) where
     abbrev g : Changes
     g = changes changed
 
@@ -174,7 +177,7 @@ module _ (copy image : List ℕ) (is : IsWorkingCopy copy image) where
     count-full = ap (λ (n : ℕ). n / 512) (long ∙ is.len)
 
     agree : AgreeOn (working_blocks (block_count copy) (block_at (patched changed copy))) (block_at (patched changed copy)) (block_at (patched changed image))
-    agree = after (block_count copy) g (block_at copy) (block_at image) (block_at (patched changed copy)) (block_at (patched changed image)) is.same new-is full-is
+    agree = after (block_count copy) written g (block_at copy) (block_at image) (block_at (patched changed copy)) (block_at (patched changed image)) is.same new-is full-is
         are.known are.agrees.kept
 
     sound-new : AreBlocksSound (block_count copy) (block_at (patched changed copy))
@@ -197,14 +200,33 @@ module _ (copy image : List ℕ) (is : IsWorkingCopy copy image) where
         (subst (λ (n : ℕ). (k : ℕ) → k < n → length (block_at (patched changed copy) k) ≡ 512) count-new (length-block_at (patched changed copy)))
         (subst (λ (n : ℕ). (k : ℕ) → k < n → length (block_at (patched changed image) k) ≡ 512) count-full (length-block_at (patched changed image))) sound-new
 
-    pub carries-over : CarriesOver changed copy image
+    -- a block that was changed, or was the image's, is the image's
+    pub block-after : (n : ℕ) → IsSome (g n) ⊎ (block_at image n ≡ block_at copy n) → block_at (patched changed image) n ≡ block_at (patched changed copy) n
+    block-after n either = full-is n ∙ by (g n) refl either ∙ sym (new-is n)
+      where
+        by : (o : Option (List ℕ)) → g n ≡ o → IsSome (g n) ⊎ (block_at image n ≡ block_at copy n) → unwrap_or (g n) (block_at image n) ≡ unwrap_or (g n) (block_at copy n)
+        by None e either = ⊎_elim
+            (λ (some : IsSome (g n)). absurd (true≢false (sym some ∙ ap is_some e)))
+            (λ (same : block_at image n ≡ block_at copy n). ap (unwrap_or (g n)) same)
+            either
+        by (Some b) e either = ap (λ (o : Option (List ℕ)). unwrap_or o (block_at image n)) e ∙ sym (ap (λ (o : Option (List ℕ)). unwrap_or o (block_at copy n)) e)
+
+    still-copy : IsWorkingCopy (patched changed copy) (patched changed image)
+    still-copy = record {
+      sound = are.agrees.sound;
+      len = long ∙ is.len ∙ sym (length-laid_over g copy are.within);
+      same = subst (λ (n : ℕ). AgreeOn (working_blocks n (block_at (patched changed copy))) (block_at (patched changed copy)) (block_at (patched changed image))) (sym count-new) agree;
+    }
+
+    pub carries-over : CarriesOverBut written changed copy image
     carries-over = record {
       agrees = record {
         sound = sound-full;
         len = long;
-        kept = keeps (block_count copy) g (block_at copy) (block_at image) (block_at (patched changed copy)) (block_at (patched changed image)) is.same
+        kept = keeps (block_count copy) written g (block_at copy) (block_at image) (block_at (patched changed copy)) (block_at (patched changed image)) is.same
             new-is full-is are.known are.agrees.kept;
       };
+      copied = still-copy;
       volume = volume-full;
       alike = alike-full;
     }

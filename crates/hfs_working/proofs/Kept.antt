@@ -9,7 +9,7 @@ use Rattle.hfs_btree.specs.Header.{header_in}
 use Rattle.hfs_btree.specs.Sound.{IsOther}
 use Rattle.hfs_space.specs.ForkLaws.{block_numbers}
 use Rattle.hfs_space.specs.TreeFiles.{node_count, tree_blocks}
-use Rattle.hfs_check.specs.Agree.{Agrees, bitmap_blocks, node_blocks, changing_blocks}
+use Rattle.hfs_check.specs.Agree.{AgreesBut, bitmap_blocks, node_blocks, changing_blocks}
 use Rattle.hfs_check.specs.Parts.{Blocks, mdb_in, extents_blocks, extents_nodes, catalog_extents, catalog_blocks, catalog_nodes}
 use Rattle.hfs_check.specs.Sound.{AreBlocksSound}
 use Rattle.hfs_sparse.specs.Sparse.{HasEach}
@@ -17,7 +17,7 @@ use Rattle.hfs_volume.specs.Image.{patched, copy_of}
 use Rattle.hfs_volume.specs.Laid.{laid}
 use Rattle.hfs_volume.proofs.Laid.{block_at-laid_over}
 use Rattle.hfs_volume.proofs.CopyLemmas.{length-copy}
-use Rattle.hfs_working.specs.Working.{working_blocks, IsWorkingCopy, AreChangesOf, CarriesOver, kept_block, AreKeptTo, PutsKept, AreWorkingOf}
+use Rattle.hfs_working.specs.Working.{working_blocks, IsWorkingCopy, AreChangesBut, CarriesOverBut, kept_block, AreKeptTo, PutsKept, AreWorkingOf}
 use Rattle.hfs_working.proofs.Carried.{carries-over}
 use Rattle.hfs_working.proofs.Copies.{is-copy, each-image, places}
 
@@ -121,8 +121,8 @@ changing-read read total blocks sound has =
           (each-left P (bitmap_blocks mdb) (extents ++ catalog) has.1.1) first) second,
     )
 
-module _ (read changed kept : Numbered) (image : List ℕ) (is : AreWorkingOf read image) (within : AreWithin (changes changed) (block_count image))
-    (are : AreKeptTo read changed kept) (agrees : Agrees (copy_of read (length image)) (patched changed (copy_of read (length image)))) where
+module _ (read changed kept : Numbered) (image written : List ℕ) (is : AreWorkingOf read image) (within : AreWithin (changes changed) (block_count image))
+    (are : AreKeptTo read changed kept) (has : HasEach read written) (agrees : AgreesBut written (copy_of read (length image)) (patched changed (copy_of read (length image)))) where
   abbrev copy : List ℕ
   copy = copy_of read (length image)
 
@@ -139,6 +139,9 @@ module _ (read changed kept : Numbered) (image : List ℕ) (is : AreWorkingOf re
   read-changing = changing-read read (block_count copy) (block_at copy) copy-is.sound.blocks
       (subst (λ (ns : List ℕ). HasEach read ns) (sym (places read (length image) is.within is.working is.sound is.len)) is.working)
 
+  read-all : HasEach read (written ++ changing_blocks (block_at copy))
+  read-all = each-append (λ (n : ℕ). IsSome (changes read n)) written (changing_blocks (block_at copy)) has read-changing
+
   -- the copy shows the same with either
   same-over : (n : ℕ) → over (changes kept) (block_at copy) n ≡ over (changes changed) (block_at copy) n
   same-over n =
@@ -147,7 +150,7 @@ module _ (read changed kept : Numbered) (image : List ℕ) (is : AreWorkingOf re
         | true ↦ λ has. ap (λ (o : Option (List ℕ)). unwrap_or o (block_at copy n)) (are n ∙ ap (λ (t : Bool). cond t (changes changed n) None) has)
         | false ↦ λ unread.
             ap (λ (o : Option (List ℕ)). unwrap_or o (block_at copy n)) (are n ∙ ap (λ (t : Bool). cond t (changes changed n) None) unread)
-            ∙ sym (agrees.kept.others n (unread-other read n unread (changing_blocks (block_at copy)) read-changing))
+            ∙ sym (agrees.kept.others n (unread-other read n unread (written ++ changing_blocks (block_at copy)) read-all))
             ∙ ap (λ (f : ℕ → List ℕ). f n) (block_at-laid_over (changes changed) copy inside)
       ] refl
 
@@ -165,12 +168,12 @@ module _ (read changed kept : Numbered) (image : List ℕ) (is : AreWorkingOf re
   kept-changed n b found =
       sym (are n ∙ ap (λ (t : Bool). cond t (changes changed n) None) (kept-read n (ap is_some found))) ∙ found
 
-  changes-are : AreChangesOf kept copy image
+  changes-are : AreChangesBut written kept copy image
   changes-are = record {
     within = λ n b found. inside n b (kept-changed n b found);
-    known = λ n some. (each-image read (length image) is.within image is.of (n ∷ []) (kept-read n some, tt)).0;
-    agrees = subst (λ (bytes : List ℕ). Agrees copy bytes) (sym same-copy) agrees;
+    known = λ n some other. (each-image read (length image) is.within image is.of (n ∷ []) (kept-read n some, tt)).0;
+    agrees = subst (λ (bytes : List ℕ). AgreesBut written copy bytes) (sym same-copy) agrees;
   }
 
-  pub kept-carries : (patched kept copy ≡ patched changed copy) × CarriesOver kept copy image
-  kept-carries = (same-copy, carries-over copy image copy-is kept changes-are)
+  pub kept-carries : (patched kept copy ≡ patched changed copy) × CarriesOverBut written kept copy image
+  kept-carries = (same-copy, carries-over copy image copy-is written kept changes-are)

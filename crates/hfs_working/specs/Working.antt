@@ -9,7 +9,8 @@ use Rattle.hfs_space.specs.declared.fork_kind.ForkKind.TheVariants.{Data, Resour
 use Rattle.hfs_catalog.specs.Records.{Record}
 use Rattle.hfs_blocks.specs.Blocks.{block_at, block_count}
 use Rattle.hfs_blocks.specs.Layers.{Numbered, changes, AreWithin}
-use Rattle.hfs_check.specs.Agree.{Agrees, bitmap_blocks}
+use Rattle.hfs_btree.specs.Sound.{IsOther}
+use Rattle.hfs_check.specs.Agree.{AgreesBut, bitmap_blocks}
 use Rattle.hfs_check.specs.Parts.{Blocks, mdb_in, extents_blocks, catalog_blocks, catalog_in}
 use Rattle.hfs_check.specs.Sound.{IsImageLength, AreBlocksSound, IsSound}
 use Rattle.hfs_check.specs.VolumeOf.{contents_in, volume_of}
@@ -32,11 +33,11 @@ pub record IsWorkingCopy (copy image : List ℕ) : Type 0 where
 abbrev pub HoldVolumeOf : List ℕ → List ℕ → Type 0
 HoldVolumeOf others bytes = volume_of bytes ≡ volume_with (contents_in (block_at bytes)) (block_at others)
 
--- the blocks were changed in the copy as calls do, each where the copy had the image's
-pub record AreChangesOf (changed : Numbered) (copy image : List ℕ) : Type 0 where
+-- the blocks were changed in the copy as calls do, which wrote these blocks of forks; each other was changed where the copy had the image's
+pub record AreChangesBut (written : List ℕ) (changed : Numbered) (copy image : List ℕ) : Type 0 where
   pub within : AreWithin (changes changed) (block_count copy)
-  pub known : (n : ℕ) → IsSome (changes changed n) → block_at image n ≡ block_at copy n
-  pub agrees : Agrees copy (patched changed copy)
+  pub known : (n : ℕ) → IsSome (changes changed n) → Each (IsOther n) written → block_at image n ≡ block_at copy n
+  pub agrees : AgreesBut written copy (patched changed copy)
 
 -- the image is sound, and holds the copy's volume, but for the bytes of forks
 pub record AnswersAs (copy image : List ℕ) : Type 0 where
@@ -44,9 +45,11 @@ pub record AnswersAs (copy image : List ℕ) : Type 0 where
   pub volume : HoldVolumeOf copy image
   pub alike : AreAlike no_file (volume_of copy) (volume_of image)
 
--- the image with the changed blocks agrees with the image, and holds the volume of the changed copy, but for the bytes of forks
-pub record CarriesOver (changed : Numbered) (copy image : List ℕ) : Type 0 where
-  pub agrees : Agrees image (patched changed image)
+-- the image with the changed blocks agrees with the image, but for these blocks of forks; the changed copy has its working blocks; and it holds the
+-- volume of that copy, but for the bytes of forks
+pub record CarriesOverBut (written : List ℕ) (changed : Numbered) (copy image : List ℕ) : Type 0 where
+  pub agrees : AgreesBut written image (patched changed image)
+  pub copied : IsWorkingCopy (patched changed copy) (patched changed image)
   pub volume : HoldVolumeOf (patched changed copy) (patched changed image)
   pub alike : AreAlike no_file (volume_of (patched changed copy)) (volume_of (patched changed image))
 
@@ -101,10 +104,12 @@ KeptForksAreAlike =
 
 abbrev pub ChangesCarryOver : Type 0
 ChangesCarryOver =
-    (copy image : List ℕ) (changed : Numbered) → IsWorkingCopy copy image → AreChangesOf changed copy image → CarriesOver changed copy image
+    (copy image written : List ℕ) (changed : Numbered) → IsWorkingCopy copy image → AreChangesBut written changed copy image → CarriesOverBut written changed copy image
 
+-- where the blocks of forks that were written were read
 abbrev pub KeptChangesCarryOver : Type 0
 KeptChangesCarryOver =
-    (read changed kept : Numbered) (image : List ℕ) → AreWorkingOf read image → AreWithin (changes changed) (block_count image) → AreKeptTo read changed kept
-    → Agrees (copy_of read (length image)) (patched changed (copy_of read (length image)))
-    → (patched kept (copy_of read (length image)) ≡ patched changed (copy_of read (length image))) × CarriesOver kept (copy_of read (length image)) image
+    (read changed kept : Numbered) (image written : List ℕ) → AreWorkingOf read image → AreWithin (changes changed) (block_count image) → AreKeptTo read changed kept
+    → HasEach read written
+    → AgreesBut written (copy_of read (length image)) (patched changed (copy_of read (length image)))
+    → (patched kept (copy_of read (length image)) ≡ patched changed (copy_of read (length image))) × CarriesOverBut written kept (copy_of read (length image)) image

@@ -4,13 +4,14 @@ ghost use Rattle.hfs_blocks.specs.Layers.{changes, AreWithin};
 ghost use Rattle.hfs_working.specs.Working.{AreKeptTo, PutsKept};
 
 use hfs_blocks::Patch;
+use hfs_changed_blocks::ChangedBlocks;
 use hfs_sparse::SparseBlocks;
 use std::alloc::{AllocError, Global};
 
 /// Puts in block `n`, where it was changed and was read.
 fn keep_block(
     kept: &mut Patch,
-    changed: &Patch,
+    changed: &ChangedBlocks,
     read: &SparseBlocks,
     n: u32,
 ) -> Result<(), AllocError>
@@ -25,11 +26,11 @@ fn keep_block(
     }
 }
 
-/// Those changed blocks of a volume of `count` blocks that were read. A block that was not read is none that calls change: where a patch
-/// has one, it has it as it was in the copy, and the image has other bytes there. The only error is want of memory.
+/// Those changed blocks of a volume of `count` blocks that were read. A block that was not read is none that calls change, unless they
+/// write a fork: where it is kept as changed, it is as it was in the copy, and the image has other bytes there. The only error is want of memory.
 pub fn kept_to(
     alloc: Global,
-    changed: &Patch,
+    changed: &ChangedBlocks,
     read: &SparseBlocks,
     count: u32,
 ) -> Result<Patch, AllocError>

@@ -11,14 +11,15 @@ pub fn kept_forks_are_alike()
     ensures { KeptForksAreAlike }
 {}
 
-/// What calls change in such a copy, laid over the image, agrees with the image: nothing else of it has changed. It holds the volume
-/// that the changed copy holds, but for the bytes of forks. A changed block must be one whose bytes were the image's in the copy.
+/// What calls change in such a copy, laid over the image, agrees with the image but for the blocks of forks that they wrote: nothing else of it
+/// has changed. It holds the volume that the changed copy holds, but for the bytes of forks. Any other changed block must be one whose bytes were
+/// the image's in the copy.
 pub fn changes_carry_over()
     ensures { ChangesCarryOver }
 {}
 
-/// Where the copy is what was read, with zeros elsewhere, the changed blocks that were read are all that have changed: they make of
-/// the copy what all changed blocks make of it, and carry over to the image.
+/// Where the copy is what was read, with zeros elsewhere, and the blocks of forks that calls wrote were read, the changed blocks that were read are
+/// all that have changed: they make of the copy what all changed blocks make of it, and carry over to the image.
 pub fn kept_changes_carry_over()
     ensures { KeptChangesCarryOver }
 {}

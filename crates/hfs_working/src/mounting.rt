@@ -20,6 +20,7 @@ pub fn mount_read(
     ensures base { IfOk result (λ volume. volume.base ≡ copy_of working.read len) }
     ensures current { IfOk result (λ volume. volume.current ≡ copy_of working.read len) }
     ensures changed { IfOk result (λ volume. volume.changed ≡ []) }
+    ensures written { IfOk result (λ volume. volume.written ≡ []) }
     ensures value_returned { IfErr result (λ failed. failed.value ≡ working) }
 {
     let WorkingVolume { read, count, sound } = working;

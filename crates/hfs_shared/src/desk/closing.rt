@@ -34,8 +34,9 @@ impl Desk {
     pub(crate) fn into_parts(self) -> (Volume, Vec<Entry>)
         ensures base { result.0.base ≡ self.base }
         ensures current { result.0.current ≡ self.current }
+        ensures written { result.0.written ≡ self.written }
         ensures journal { result.1.items ≡ self.journal }
-        ensures headline { IsHeadline self.base self.current self.journal }
+        ensures headline { IsHeadline self.base self.current self.written self.journal }
         ensures others { HasNoOthers self.workers self.journal }
     {
         let Desk {

@@ -60,6 +60,7 @@ impl<K: Session> Locked<K> {
     fn end<R: Wait>(self, rt: &R) -> Closed
         ensures base { result.volume.base ≡ self.base }
         ensures current { result.volume.current ≡ self.current }
+        ensures written { result.volume.written ≡ self.written }
         ensures journal { result.journal.items ≡ self.journal }
         ensures shown { result.shown ≡ self.shown }
         ensures headline { IsUnderLock K.base self }

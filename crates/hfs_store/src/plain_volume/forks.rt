@@ -1,7 +1,8 @@
 //! The calls that write forks.
-ghost use Rattle.std.specs.Prelude.{◌≡◌, ◌+◌, ◌≤◌, length, OnOk, OnErr};
-ghost use Rattle.hfs_fork_calls.specs.ForkCalls.{file_to_write, to_set_eof, to_write_fork, set_eof, write_fork};
+ghost use Rattle.std.specs.Prelude.{◌≡◌, ◌+◌, ◌≤◌, length, IsTrue, OnOk, OnErr};
+ghost use Rattle.hfs_model.specs.ForkCalls.{file_to_write, to_set_eof, to_write_fork, set_eof, write_fork};
 ghost use Rattle.hfs_model.specs.Lawful.{IsLawful};
+ghost use Rattle.hfs_model.specs.Step.{step, is_writing};
 ghost use Rattle.hfs_store.specs.PlainVolume.{GivesOutcome, IsPlaceIn};
 
 use super::PlainVolume;
@@ -9,7 +10,7 @@ use crate::bytes::{fork_bytes, resized, written};
 use crate::changes::set_fork;
 use crate::entries::is_locked_file;
 use crate::reading::{refusal, success};
-use hfs_model::{END_OF_FILE, FILE_LOCKED, Fork, PARAMETER, Reply, Value};
+use hfs_model::{Call, END_OF_FILE, FILE_LOCKED, Fork, PARAMETER, Reply, Value};
 use std::alloc::AllocError;
 
 impl PlainVolume {
@@ -24,7 +25,7 @@ impl PlainVolume {
         Ok(at)
     }
 
-    #[tactic(auto, unfolding(hfs_fork_calls::specs::ForkCalls::to_set_eof))]
+    #[tactic(auto, unfolding(hfs_model::specs::ForkCalls::to_set_eof))]
     fn to_set_eof(&self, dir: u32, name: &[u8], length: u32) -> Result<usize, i16>
         ensures place { IsPlaceIn self.now (to_set_eof self.now dir name.now length) result }
         ensures short { OnOk result (length ≤ 2147483647) }
@@ -35,7 +36,7 @@ impl PlainVolume {
         self.file_to_write(dir, name)
     }
 
-    #[tactic(auto, unfolding(hfs_fork_calls::specs::ForkCalls::to_write_fork))]
+    #[tactic(auto, unfolding(hfs_model::specs::ForkCalls::to_write_fork))]
     fn to_write_fork(
         &self,
         dir: u32,
@@ -61,7 +62,7 @@ impl PlainVolume {
     /// Makes a file's fork its first `length` bytes, with zeros after them where it was shorter, and its physical length that of
     /// the allocation blocks that these take. `Err` only where memory is wanting, and then the volume is as it was.
     /// A lawful volume stays lawful.
-    #[tactic(auto, unfolding(hfs_fork_calls::specs::ForkCalls::set_eof))]
+    #[tactic(auto, unfolding(hfs_model::specs::ForkCalls::set_eof))]
     pub fn set_eof(
         &mut self,
         dir: u32,
@@ -90,7 +91,7 @@ impl PlainVolume {
     /// Writes bytes into a file's fork from an offset on, which lengthens the fork where they go past its end. `Err` only where
     /// memory is wanting, and then the volume is as it was.
     /// A lawful volume stays lawful.
-    #[tactic(auto, unfolding(hfs_fork_calls::specs::ForkCalls::write_fork))]
+    #[tactic(auto, unfolding(hfs_model::specs::ForkCalls::write_fork))]
     pub fn write_fork(
         &mut self,
         dir: u32,
@@ -114,6 +115,55 @@ impl PlainVolume {
                 Ok(success(Value::Nothing))
             }
             Err(code) => Ok(refusal(code)),
+        }
+    }
+    /// Answers a call that writes a fork. A refused call, and one for which memory was wanting, changes nothing.
+    #[tactic(auto)]
+    pub(super) fn write(&mut self, call: &Call) -> Result<Reply, AllocError>
+        requires { IsTrue (is_writing call.now) }
+        ensures ok { GivesOutcome (step self.old call.now) self.new result }
+        ensures err { OnErr result (self.new ≡ self.old) }
+    {
+        match call {
+            Call::SetEof {
+                dir,
+                name,
+                fork,
+                length,
+                now,
+            } => self.set_eof(*dir, name.as_slice(), *fork, *length, *now),
+            Call::WriteFork {
+                dir,
+                name,
+                fork,
+                offset,
+                bytes,
+                now,
+            } => self.write_fork(
+                *dir,
+                name.as_slice(),
+                *fork,
+                *offset,
+                bytes.as_slice(),
+                *now,
+            ),
+            Call::GetDirInfo { .. }
+            | Call::GetCatInfo { .. }
+            | Call::GetIndexed { .. }
+            | Call::List { .. }
+            | Call::ReadFork { .. }
+            | Call::Create { .. }
+            | Call::DirCreate { .. }
+            | Call::Delete { .. }
+            | Call::Rename { .. }
+            | Call::CatMove { .. }
+            | Call::SetFInfo { .. }
+            | Call::SetCatInfo { .. }
+            | Call::SetFLock { .. }
+            | Call::RstFLock { .. }
+            | Call::CreateFileId { .. }
+            | Call::DeleteFileId { .. }
+            | Call::ResolveFileId { .. } => unreachable!(),
         }
     }
 }

@@ -38,7 +38,7 @@ const NO_BLOCKS: NoValue = NoValue("<BLOCKS>: a number of blocks, or 800K, or 14
 const NODES: Argument = Argument {
     name: "NODES",
     takes: Takes::MaybeNumber,
-    help: "Nodes of the catalog, 2 to 2048; if left out, drNmAlBlks / 128",
+    help: "Nodes of the catalog, at least 2; if left out, drNmAlBlks / 128",
     excludes: &[],
 };
 
@@ -46,7 +46,7 @@ const NODES: Argument = Argument {
 const EXTENTS: Argument = Argument {
     name: "EXTENTS",
     takes: Takes::MaybeNumber,
-    help: "Nodes of the extents file, 1 to 2048; if left out, drNmAlBlks / 128",
+    help: "Nodes of the extents file, at least 1; if left out, drNmAlBlks / 128",
     excludes: &[],
 };
 

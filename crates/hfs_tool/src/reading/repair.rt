@@ -1,7 +1,7 @@
 //! The word `repair`.
 
-use super::places::BARE_IMAGE;
-use crate::words::Words;
+use super::places::{BARE_IMAGE, VOLUME, volume_of};
+use crate::words::{RepairWords, Words};
 use clap::{ArgMatches, Command};
 use hfs_arguments::{Argument, NoValue, Takes, Word};
 use std::alloc::{AllocError, Global};
@@ -18,7 +18,7 @@ const REPAIR: Word = Word {
     name: "repair",
     about: "Writes a volume with its counts mended, if nothing else is wrong",
     after_help: None,
-    arguments: &[BARE_IMAGE, FILE],
+    arguments: &[BARE_IMAGE, FILE, VOLUME],
 };
 
 /// The command of `repair`.
@@ -28,8 +28,9 @@ pub fn repair_command<'a>(alloc: Global) -> Result<Command<'a>, AllocError> {
 
 /// What `repair` asks for.
 pub fn repair_words<'a>(matches: &ArgMatches<'a>) -> Result<Words<'a>, NoValue> {
-    Ok(Words::Repair {
+    Ok(Words::Repair(RepairWords {
         image: BARE_IMAGE.text(matches)?,
+        volume: volume_of(matches)?,
         file: FILE.text(matches)?,
-    })
+    }))
 }

@@ -1,6 +1,6 @@
 //! The word `run`.
 
-use super::places::{BARE_IMAGE, NOW};
+use super::places::{BARE_IMAGE, NOW, VOLUME, volume_of};
 use crate::help::RUNS;
 use crate::words::{RunWords, Words};
 use clap::{ArgMatches, Command};
@@ -27,7 +27,7 @@ const RUN: Word = Word {
     name: "run",
     about: "Runs a script of calls by several workers and viewers at once, and prints the answers",
     after_help: Some(RUNS),
-    arguments: &[BARE_IMAGE, SCRIPT, NOW, OUT],
+    arguments: &[BARE_IMAGE, SCRIPT, NOW, OUT, VOLUME],
 };
 
 /// The command of `run`.
@@ -39,6 +39,7 @@ pub fn run_command<'a>(alloc: Global) -> Result<Command<'a>, AllocError> {
 pub fn run_words<'a>(matches: &ArgMatches<'a>) -> Result<Words<'a>, NoValue> {
     Ok(Words::Run(RunWords {
         image: BARE_IMAGE.text(matches)?,
+        volume: volume_of(matches)?,
         script: SCRIPT.text(matches)?,
         now: NOW.number(matches)?,
         out: OUT.given_text(matches),

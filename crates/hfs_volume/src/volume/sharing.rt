@@ -2,19 +2,20 @@
 
 ghost use Rattle.std.specs.Prelude.{◌≡◌, [], IfOk, IfErr};
 ghost use Rattle.hfs_blocks.specs.Blocks.{block_at};
-ghost use Rattle.hfs_check.specs.Agree.{Agrees};
+ghost use Rattle.hfs_check.specs.Agree.{AgreesBut};
 ghost use Rattle.hfs_check.specs.Parts.{mdb_in, catalog_in};
 ghost use Rattle.hfs_check.specs.Sound.{IsSound};
 ghost use Rattle.hfs_check.specs.VolumeOf.{volume_of};
 ghost use Rattle.hfs_space.specs.Results.{GivesItems};
-ghost use Rattle.hfs_volume.specs.Image.{image_of};
+ghost use Rattle.hfs_volume.specs.Image.{patched};
+ghost use Rattle.hfs_blocks.specs.Layers.{numbers};
 ghost use Rattle.hfs_volume.specs.Sharing.{file_extents, IsFileId, AreForkExtents, BeginWithFork, AreExtentsIn};
 
 use super::Volume;
 use crate::base::Base;
 use crate::fork::fork_record;
-use hfs_blocks::Patch;
 use hfs_catalog::{CatalogRecord, ItemRecord, by_id, read_records};
+use hfs_changed_blocks::ChangedBlocks;
 use hfs_fields::{Extent, FileRecord, Mdb};
 use hfs_model::Fork;
 use hfs_space::fork_extents;
@@ -25,7 +26,7 @@ impl Volume {
     pub fn base(&self) -> Result<Base, AllocError>
         ensures base { IfOk result (λ base. base ≡ self.now.base) }
         ensures sound { IsSound self.now.base }
-        ensures agrees { Agrees self.now.base self.now.current }
+        ensures agrees { AgreesBut self.now.written self.now.base self.now.current }
     {
         self.image.base()
     }
@@ -34,7 +35,7 @@ impl Volume {
     /// calls were made. It does nothing.
     pub fn agrees_with_base(&self)
         ensures base { IsSound self.now.base }
-        ensures agrees { Agrees self.now.base self.now.current }
+        ensures agrees { AgreesBut self.now.written self.now.base self.now.current }
     {
         // A proof knows what a volume keeps to once it has seen the image.
         let _image = &self.image;
@@ -42,8 +43,9 @@ impl Volume {
 
     /// The blocks that were changed since the volume was mounted, by their numbers: laid over the bytes as they were mounted they make
     /// those that they are now. There may be some that are as they were.
-    pub fn changes(&self) -> &Patch
-        ensures { self.now ≡ image_of self.now.base result.now }
+    pub fn changes(&self) -> &ChangedBlocks
+        ensures current { self.now.current ≡ patched result.now self.now.base }
+        ensures changed { self.now.changed ≡ numbers result.now }
     {
         self.image.changes()
     }
@@ -54,6 +56,7 @@ impl Volume {
         ensures base { IfOk result (λ volume. volume.base ≡ self.current) }
         ensures current { IfOk result (λ volume. volume.current ≡ self.current) }
         ensures changed { IfOk result (λ volume. volume.changed ≡ []) }
+        ensures written { IfOk result (λ volume. volume.written ≡ []) }
         ensures value_returned { IfErr result (λ failed. failed.value ≡ self) }
     {
         let Volume {

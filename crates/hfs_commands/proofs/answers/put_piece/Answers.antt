@@ -6,7 +6,8 @@ use Rattle.hfs_texts.specs.Writing.{AppendsFront}
 use Rattle.hfs_runs.specs.Answers.{kept_replies, reply_to}
 use Rattle.hfs_runs.specs.Pieces.{bytes_in}
 use Rattle.hfs_sparse.proofs.Written.{on-err as on_err}
-use Rattle.hfs_commands.proofs.Rows.{front_first, front_next, on_err_then}
+use Rattle.hfs_patched.proofs.Fronts.{front_first, front_next}
+use Rattle.hfs_commands.proofs.Rows.{on_err_then}
 use Rattle.hfs_commands.proofs.answers.put_piece.Goals as goal
 
 pub returns-in_err-put-clause-err : goal.returns-in_err-put-clause-err

@@ -7,7 +7,8 @@ use Rattle.hfs_runs.specs.declared.pieces.Piece.{Piece}
 use Rattle.hfs_runs.specs.Pieces.{piece_text}
 use Rattle.hfs_sparse.proofs.Written.{on-err as on_err}
 use Rattle.hfs_commands.proofs.Digits.{text-front}
-use Rattle.hfs_commands.proofs.Rows.{front_next, on_err_then}
+use Rattle.hfs_patched.proofs.Fronts.{front_next}
+use Rattle.hfs_commands.proofs.Rows.{on_err_then}
 use Rattle.hfs_commands.proofs.answers.put_pieces.Goals as goal
 
 pub returns-in_err-put_piece-clause-err : goal.returns-in_err-put_piece-clause-err

@@ -4,15 +4,9 @@ use Rattle.hfs_finds.proofs.looking.refused_image.Goals as goal
 
 pub invariant_of-result : goal.invariant_of-result
 invariant_of-result g c = record {
-  refused = λ image h. c.requires image (c.in-Ok.ensures.narrows image h);
-  long = λ image h. c.len-len.ensures image (c.in-Ok.ensures.narrows image h);
-  found_is = some_found (g.S.PlacedBlocks.Holds c.finds_of.new.source.blocks) c.len-len.result c.in-Ok.found c.in-Ok.ensures.found;
-  few = c.in-Ok.ensures.few;
-}
-
-pub returns-in-Ok-clause-refused : goal.returns-in-Ok-clause-refused
-returns-in-Ok-clause-refused g c = record {
-  refused = λ image h. c.requires image (c.in-Ok.ensures.narrows image h);
-  long = λ image h. c.len-len.ensures image (c.in-Ok.ensures.narrows image h);
-  found_is = c.in-Ok.ensures.found;
+  refused = λ image h. c.requires.fault image (c.in_ok-source.ensures.narrows image h);
+  long = λ image h. c.requires.long image (c.in_ok-source.ensures.narrows image h);
+  found_is = some_found (g.S.PlacedBlocks.Holds c.in_ok-source.field-0.source.blocks) c.args.len c.in_ok-source.field-0.found
+      c.in_ok-source.ensures.found;
+  few = c.in_ok-source.ensures.few;
 }

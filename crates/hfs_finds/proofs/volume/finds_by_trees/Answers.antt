@@ -1,11 +1,8 @@
 -- The blocks that were read are those of a sound volume with this directory.
-use Rattle.std.proofs.Common.{◌≡◌, ◌∙◌, ℕ, ◌≤◌, ◌<◌, List, map, refl, sym, ap, subst, arith}
-use Rattle.hfs_catalog.specs.Records.{Catalog}
-use Rattle.hfs_check.specs.Sound.{IsMdbSound}
-use Rattle.hfs_fields.specs.declared.mdb.Mdb.{Mdb}
+use Rattle.std.proofs.Common.{◌∙◌, ℕ, List, map, refl, ap, subst}
 use Rattle.hfs_remains.specs.Records.{thing_of}
 use Rattle.hfs_rescue.specs.Remains.{catalog_file_blocks, extents_file_blocks, remaining_overflow}
-use Rattle.hfs_rescue.specs.TreeFiles.{AreThere, FileBlocks}
+use Rattle.hfs_rescue.specs.TreeFiles.{AreThere}
 use Rattle.hfs_rescue.specs.declared.catalog.FoundRecord.{FoundRecord}
 use Rattle.hfs_sparse.specs.Sparse.{sparse}
 use Rattle.hfs_finds.specs.Volumes.{young_items}

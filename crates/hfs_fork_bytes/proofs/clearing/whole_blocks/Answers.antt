@@ -5,6 +5,7 @@ use Rattle.hfs_blocks.specs.declared.run.Run.{Run}
 use Rattle.hfs_blocks.specs.Blocks.{run_of, AreRunsWithin}
 use Rattle.hfs_space.specs.ForkLaws.{block_numbers}
 use Rattle.hfs_fork_bytes.specs.Clearing.{HaveZeros, KeepOthers}
+use Rattle.hfs_fork_bytes.specs.Zeros.{AreAmong}
 use Rattle.hfs_fork_bytes.proofs.Puts.{runs-small}
 use Rattle.hfs_fork_bytes.proofs.NumberLemmas.{numbers-once}
 use Rattle.hfs_fork_bytes.proofs.FromLemmas.{once-from}
@@ -29,7 +30,7 @@ pub returns-clause-written : goal.returns-clause-written
 returns-clause-written g c =
     let below = g.B.Blocks.blocks c.args.blocks.now in
     subst (λ (bs : ℕ → List ℕ). HaveZeros c.args.mdb.now c.args.extents.now (512 * c.args.first) (512 * (c.args.last - c.args.first)) below bs)
-    (same-shown c.in_ok-whole.whole.items c.of.result below c.of.ensures)
+    (same-shown c.in_ok-whole.whole.items c.of.result below c.of.ensures.same)
     (whole-zeros c.args.mdb.now c.args.extents.now c.args.first c.args.last (g.B.Blocks.total c.args.blocks.now) below c.in_ok-whole.whole.items c.requires.area c.requires.extents c.requires.once c.requires.order c.requires.fits
     (λ k lt. g.met.B.Blocks.whole c.args.blocks.now k lt)
     (c.in_ok-whole.ensures.blocks ∙ ap (λ (rs : List Run). drop c.args.first (flat_map run_of rs)) c.deref.ensures.value
@@ -39,8 +40,13 @@ pub returns-clause-beside : goal.returns-clause-beside
 returns-clause-beside g c =
     let below = g.B.Blocks.blocks c.args.blocks.now in
     subst (λ (bs : ℕ → List ℕ). KeepOthers c.args.mdb.now c.args.extents.now (512 * c.args.first) (512 * (c.args.last - c.args.first)) below bs)
-    (same-shown c.in_ok-whole.whole.items c.of.result below c.of.ensures)
+    (same-shown c.in_ok-whole.whole.items c.of.result below c.of.ensures.same)
     (whole-beside c.args.mdb.now c.args.extents.now c.args.first c.args.last (g.B.Blocks.total c.args.blocks.now) below c.in_ok-whole.whole.items c.requires.area c.requires.extents c.requires.once c.requires.order c.requires.fits
     (λ k lt. g.met.B.Blocks.whole c.args.blocks.now k lt)
     (c.in_ok-whole.ensures.blocks ∙ ap (λ (rs : List Run). drop c.args.first (flat_map run_of rs)) c.deref.ensures.value
     ∙ ap (drop c.args.first) (first-numbers c.args.mdb.now c.args.extents.now c.args.last c.in_ok-runs.runs.items c.in_ok-runs.ensures.numbers)))
+
+pub returns-clause-among : goal.returns-clause-among
+returns-clause-among g c =
+    let total = g.B.Blocks.total c.args.blocks.now in
+    c.of.ensures.among total (c.in_ok-whole.ensures.among total (subst (λ (rs : List Run). AreAmong rs total) (sym c.deref.ensures.value) c.in_ok-runs.ensures.within.within))

@@ -2,6 +2,7 @@
 use Rattle.std.proofs.Common.{◌≡◌, ◌<◌, ◌≤◌, length, take, drop}
 use Rattle.std.specs.List.{All, flat_map}
 use Rattle.hfs_blocks.specs.Blocks.{run_of}
+use Rattle.hfs_fork_bytes.specs.Zeros.{StayAmong}
 use Rattle.hfs_fork_bytes.proofs.zero_runs.runs_from.Given as goal
 
 abbrev pub invariant-loop-i : goal.invariant-loop-i
@@ -9,4 +10,5 @@ invariant-loop-i l = record {
   few : l.i ≤ length l.runs;
   blocks : flat_map run_of l.rest.items ≡ drop l.from (flat_map run_of (take l.i l.runs));
   some : All (λ run. 0 < run.count) l.rest.items;
+  among : StayAmong l.runs l.rest.items;
 }

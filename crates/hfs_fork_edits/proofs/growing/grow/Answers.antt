@@ -9,7 +9,7 @@ use Rattle.hfs_space.specs.Bitmap.{is_used}
 use Rattle.hfs_claims.specs.Choice.{AreFreeOnce}
 use Rattle.hfs_extents_edits.specs.Need.{HasNodesFor}
 use Rattle.hfs_check.specs.Parts.{mdb_in, extents_nodes}
-use Rattle.hfs_fork_calls.specs.Forks.{blocks}
+use Rattle.hfs_model.specs.Forks.{blocks}
 use Rattle.hfs_fork_extents.specs.Growing.{grown as pieced, records_coming}
 use Rattle.hfs_fork_changes.specs.Files.{fork_of}
 use Rattle.hfs_fork_changes.specs.Edits.{extents_of, blocks_of}
@@ -118,7 +118,7 @@ returns-in-Ok-made g c =
     let laid = laid_for fork f.file len mdb old c.requires.volume.directory c.deref.result.now _ all from _ offset part _ _ z.zeros z.patch below c.in_ok-zeros.ensures.lays c.in_ok-zeros.ensures.written zeros in
     let enough = subst (λ (ps : List Extent). HasNodesFor (records_coming was ps) (extents_nodes old)) c.deref-2.ensures.value gained.enough in
     resized f fork len offset part c.args.resizing.now.moment _ _ old _ z.patch c.in-Ok-made.settled gained.settled z.zeros below from _ z.written laid
-    c.fork_change.result c.fork_change.ensures.zeros c.fork_change.ensures.patch c.fork_change.ensures.counts c.fork_change.ensures.written c.fork_change.ensures.value
+    c.fork_change.result c.fork_change.ensures.patch c.fork_change.ensures.counts c.fork_change.ensures.written c.in_ok-zeros.ensures.among c.fork_change.ensures.value
     (grown.meets_none _ _ _ _ _ c.requires.volume _ c.args.resizing.now.fork _ c.requires.found.is c.args.block_size c.args.resizing.now.length c.args.resizing.now.from c.args.resizing.now.offset _ c.requires.size c.requires.places _ c.requires.was c.args.wanted c.requires.wants c.in-Ok.grown (at_ok _ _ _ _ c.in-Ok.is c.in_ok-grown.ensures) enough)
 
 pub returns : goal.returns

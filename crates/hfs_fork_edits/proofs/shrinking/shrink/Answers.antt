@@ -76,5 +76,5 @@ returns g c =
     let laid = laid_for fork f.file len mdb old c.requires.volume.directory es _ all from _ offset part _ _ z.zeros z.patch below
     (shrunk.laid_by mdb es from len offset part old _ c.min.result c.min.ensures c.in_ok-zeros.ensures.lays) (shrunk.written_by (block_numbers mdb es) from len offset (length part) _ c.min.result c.min.ensures c.in_ok-zeros.ensures.written) (shrunk.zeros_are _ _ _ _ _ c.requires.volume _ c.args.resizing.now.fork _ c.requires.found.is c.args.block_size c.args.resizing.now.length c.args.resizing.now.from c.args.resizing.now.offset _ c.requires.size c.requires.places c.args.count c.requires.count _ c.requires.was c.requires.fewer) in
     resized f fork len offset part c.args.resizing.now.moment _ _ old _ z.patch c.in_ok-settled.settled c.in_ok-settled.ensures z.zeros below from _ z.written laid
-    c.fork_change.result c.fork_change.ensures.zeros c.fork_change.ensures.patch c.fork_change.ensures.counts c.fork_change.ensures.written c.fork_change.ensures.value
+    c.fork_change.result c.fork_change.ensures.patch c.fork_change.ensures.counts c.fork_change.ensures.written c.in_ok-zeros.ensures.among c.fork_change.ensures.value
     (shrunk.meets_less _ _ _ _ _ c.requires.volume _ c.args.resizing.now.fork _ c.requires.found.is c.args.block_size c.args.resizing.now.length c.args.resizing.now.from c.args.resizing.now.offset _ c.requires.size c.requires.places c.args.count c.requires.count _ c.requires.was c.requires.fewer)

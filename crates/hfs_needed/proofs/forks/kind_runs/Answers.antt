@@ -1,12 +1,9 @@
 -- The extents lie in the volume, and have these blocks.
-use Rattle.std.proofs.Common.{◌≡◌, ℕ, ◌∙◌, sym, ap, subst, List}
-use Rattle.std.specs.List.{flat_map}
+use Rattle.std.proofs.Common.{◌∙◌, sym, subst, List}
 use Rattle.hfs_fields.specs.declared.extent.Extent.{Extent}
 use Rattle.hfs_fields.specs.declared.mdb.Mdb.{Mdb}
-use Rattle.hfs_blocks.specs.declared.run.Run.{Run}
-use Rattle.hfs_blocks.specs.Blocks.{nodes_in, run_of, AreRunsWithin}
+use Rattle.hfs_blocks.specs.Blocks.{nodes_in}
 use Rattle.hfs_space.specs.Extents.{AreExtentsWithin, fork_extents, fork_byte}
-use Rattle.hfs_space.specs.TreeFiles.{tree_blocks}
 use Rattle.hfs_check.specs.Parts.{overflow_in}
 use Rattle.hfs_sparse.specs.Sparse.{sparse}
 use Rattle.hfs_needed.proofs.ForkBytes.{extents-by, runs-so}

@@ -1,5 +1,5 @@
 -- The first blocks of the fork's extents have its bytes.
-use Rattle.std.proofs.Common.{◌≡◌, ◌∙◌, sym, ap, subst, List, ℕ, Some}
+use Rattle.std.proofs.Common.{◌∙◌, sym, ap, subst, List, Some}
 use Rattle.std.specs.List.{flat_map}
 use Rattle.std.specs.Io.KnownBytes.{Appends}
 use Rattle.hfs_texts.specs.Writing.{AppendsFront}

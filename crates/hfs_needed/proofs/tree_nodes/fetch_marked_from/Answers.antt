@@ -1,8 +1,7 @@
 -- Those that lie side by side are read together.
-use Rattle.std.proofs.Common.{◌≡◌, ◌+◌, ◌≤◌, ℕ, sym, ap, subst, arith}
+use Rattle.std.proofs.Common.{◌+◌, ◌≤◌, ℕ, sym, subst}
 use Rattle.std.specs.List.{range_with_len}
 use Rattle.hfs_sparse.specs.Sparse.{HasEach}
-use Rattle.hfs_needed.specs.TreeReads.{block_for}
 use Rattle.hfs_needed.proofs.Gathered.{reads-range, beside-read}
 use Rattle.hfs_needed.proofs.tree_nodes.fetch_marked_from.Goals as goal
 

@@ -1,5 +1,5 @@
 -- Node by node.
-use Rattle.std.proofs.Common.{◌≡◌, ◌+◌, ◌-◌, ◌<◌, ◌≤◌, ℕ, ap, subst, ◌∙◌, arith}
+use Rattle.std.proofs.Common.{◌≡◌, ◌+◌, ◌-◌, ap, ◌∙◌, arith}
 use Rattle.hfs_needed.specs.TreeReads.{block_for}
 use Rattle.hfs_needed.proofs.Gathered.{beside-first, beside-more}
 use Rattle.hfs_needed.proofs.tree_nodes.marked_beside.Goals as goal

@@ -1,7 +1,5 @@
--- The blocks of the first forks were read.
+-- The blocks of the first runs were read.
 use Rattle.std.specs.Prelude.{◌≡◌, ℕ, ◌<◌, slice_index_or}
-use Rattle.std.specs.List.{flat_map}
-use Rattle.std.proofs.Common.{Vec, Global}
 use Rattle.hfs_blocks.specs.declared.run.Run.{Run}
 use Rattle.hfs_blocks.specs.Blocks.{run_of}
 use Rattle.hfs_blocks.specs.Layers.{KeepsWithin}
@@ -9,9 +7,9 @@ use Rattle.hfs_sparse.specs.Seen.{SeesMore}
 use Rattle.hfs_sparse.specs.Sparse.{HasEach, HasGrown, StaysOf}
 use Rattle.hfs_needed_runs.proofs.forks.fetch_forks.Given as goal
 
-abbrev pub invariant-loop-runs : goal.invariant-loop-runs
-invariant-loop-runs g l = record {
-  has : (k : ℕ) (none : Vec Run Global) → k < l.runs-index → HasEach l.read (flat_map run_of (slice_index_or l.forks k none).items);
+abbrev pub invariant-loop-run : goal.invariant-loop-run
+invariant-loop-run g l = record {
+  has : (k : ℕ) (none : Run) → k < l.run-index → HasEach l.read (run_of (slice_index_or l.runs k none));
   grown : HasGrown l.initial.read l.read;
   stays : StaysOf (g.S.BlockSource.image l.initial.source) l.initial.read l.read;
   within : KeepsWithin l.initial.read l.read l.count;

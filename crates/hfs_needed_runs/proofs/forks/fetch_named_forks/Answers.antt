@@ -1,5 +1,5 @@
 -- More was read of a volume whose working blocks were read.
-use Rattle.std.proofs.Common.{ℕ, refl, sym, subst, List, None, Vec, Global}
+use Rattle.std.proofs.Common.{ℕ, refl, sym, subst, List, None}
 use Rattle.hfs_blocks.specs.declared.run.Run.{Run}
 use Rattle.hfs_blocks.specs.Layers.{KeepsWithin}
 use Rattle.hfs_scripts.specs.declared.lines.ScriptLine.{ScriptLine}
@@ -24,6 +24,6 @@ pub returns-clause-forks : goal.returns-clause-forks
 returns-clause-forks g c =
     on-ok c.fetch_forks.result _ _ (λ has reads.
     named-read None None c.args.working.now.count c.args.working.now.count c.args.working.now.read c.fetch_forks.new.read c.args.working.now.sound.mdb
-    c.args.working.now.sound.trees c.requires c.fetch_forks.ensures.grown c.args.script.now (blocks_of_runs c.in-Ok.forks.items)
-    (subst (λ (lines : List ScriptLine). HaveNamedForks (sparse c.args.working.now.read) lines (blocks_of_runs c.in-Ok.forks.items)) c.lines-lines.ensures c.in-Ok.ensures.forks)
-    (subst (λ (forks : List (Vec Run Global)). HasEach c.fetch_forks.new.read (blocks_of_runs forks)) c.deref.ensures.value has)) c.fetch_forks.ensures.has
+    c.args.working.now.sound.trees c.requires c.fetch_forks.ensures.grown c.args.script.now (blocks_of_runs c.in-Ok.runs.items)
+    (subst (λ (lines : List ScriptLine). HaveNamedForks (sparse c.args.working.now.read) lines (blocks_of_runs c.in-Ok.runs.items)) c.lines-lines.ensures c.in-Ok.ensures.forks)
+    (subst (λ (runs : List Run). HasEach c.fetch_forks.new.read (blocks_of_runs runs)) c.deref.ensures.value has)) c.fetch_forks.ensures.has

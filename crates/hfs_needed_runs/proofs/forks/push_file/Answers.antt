@@ -1,14 +1,25 @@
 -- Both forks came.
-use Rattle.std.proofs.Common.{[], ◌∷◌, ◌++◌, List, Vec, Global, sym, ap, subst, ◌∙◌}
-use Rattle.hfs_blocks.specs.declared.run.Run.{Run}
+use Rattle.hfs_fields.proofs.OutcomeLemmas.{on_ok}
+use Rattle.hfs_space.specs.declared.fork_kind.ForkKind.TheVariants.{Data, Resource}
 use Rattle.hfs_sparse.specs.Sparse.{sparse}
-use Rattle.hfs_needed_runs.specs.NamedForks.{AreAmong, blocks_of_runs, file_blocks}
-use Rattle.hfs_needed_runs.proofs.ForkPlaces.{pushed-file}
+use Rattle.hfs_needed_runs.specs.NamedForks.{fork_blocks}
+use Rattle.hfs_needed_runs.proofs.ForkPlaces.{lie-more, pushed-among, pushed-gained}
 use Rattle.hfs_needed_runs.proofs.forks.push_file.Goals as goal
+
+pub returns-clause-within : goal.returns-clause-within
+returns-clause-within c =
+    on_ok c.push_fork-2.result _ _ (λ came within.
+    lie-more _ c.args.count c.push_fork.new.runs.items c.push_fork-2.new.runs.items came
+    (lie-more _ c.args.count c.args.runs.now.items c.push_fork.new.runs.items c.in_ok-push_fork.ensures within)) c.push_fork-2.ensures
+
+pub returns-clause-gained : goal.returns-clause-gained
+returns-clause-gained c =
+    on_ok c.push_fork-2.result _ _ (λ came.
+    pushed-gained _ _ c.args.count c.args.runs.now.items c.push_fork.new.runs.items c.push_fork-2.new.runs.items c.in_ok-push_fork.ensures came) c.push_fork-2.ensures
 
 pub returns-clause-forks : goal.returns-clause-forks
 returns-clause-forks c =
-    subst (λ (forks : List (Vec Run Global)). AreAmong (file_blocks (sparse c.args.read.now) c.args.file.now) (blocks_of_runs forks))
-    (sym (c.in_ok-push-2.ensures.items ∙ ap (λ (forks : List (Vec Run Global)). forks ++ c.in_ok-resource.resource ∷ []) c.in_ok-push.ensures.items))
-    (pushed-file c.args.read.now c.args.count c.args.file.now c.args.forks.now.items c.in_ok-data.data c.in_ok-resource.resource c.in_ok-data.ensures
-    c.in_ok-resource.ensures)
+    on_ok c.push_fork-2.result _ _ (λ came.
+    pushed-among (fork_blocks (sparse c.args.read.now) c.args.file.now.id Data c.args.file.now.«data»)
+    (fork_blocks (sparse c.args.read.now) c.args.file.now.id Resource c.args.file.now.resource) c.args.count c.args.runs.now.items c.push_fork.new.runs.items
+    c.push_fork-2.new.runs.items c.in_ok-push_fork.ensures came) c.push_fork-2.ensures

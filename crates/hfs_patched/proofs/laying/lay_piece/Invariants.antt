@@ -6,4 +6,4 @@ use Rattle.hfs_patched.proofs.Pieces.{AreLaid}
 use Rattle.hfs_patched.proofs.laying.lay_piece.Given as goal
 
 abbrev pub invariant-loop-k : goal.invariant-loop-k
-invariant-loop-k l = AreLaid (over (λ k. changes l.patch (l.first + k)) (block_at l.initial.piece)) l.initial.piece l.k l.piece
+invariant-loop-k l = AreLaid (over (λ k. changes l.changed (l.first + k)) (block_at l.initial.piece)) l.initial.piece l.k l.piece

@@ -8,7 +8,7 @@ pub returns-in_err-write_piece-clause-part : goal.returns-in_err-write_piece-cla
 returns-in_err-write_piece-clause-part g c =
     let done = c.loop-done.done in
     let count = c.min-count.result in
-    on-err _ _ (written-part c.args.len c.args.patch.now done count (done / 512) refl (c.loop-done.invariant.even c.loop-done-test.true)
+    on-err _ _ (written-part c.args.len c.args.changed.now done count (done / 512) refl (c.loop-done.invariant.even c.loop-done-test.true)
     (omega (arith, c.min-count.ensures, c.loop-done.invariant.few)) (λ lt. omega (arith, lt, c.min-count.ensures)) c.requires.within
     (g.S.BlockSource.Holds c.loop-done.source) (g.S.BlockSource.Holds c.write_piece.new.source) c.write_piece.ensures.narrows
     (g.W.Write.contents c.args.writer.now) (g.W.Write.contents c.loop-done.writer) (g.W.Write.contents c.write_piece.new.writer) c.loop-done.invariant.written c.in_err-write_piece.ensures.part)
@@ -23,7 +23,7 @@ loop-done-preserved g c =
       few = fits;
       even = λ lt. omega (arith, lt, c.min-count.ensures, even);
       room = c.in_ok-write_piece.ensures.room ∙ c.loop-done.invariant.room;
-      written = written-next c.args.len c.args.patch.now done count (done / 512) refl even fits (λ lt. omega (arith, lt, c.min-count.ensures)) c.requires.within
+      written = written-next c.args.len c.args.changed.now done count (done / 512) refl even fits (λ lt. omega (arith, lt, c.min-count.ensures)) c.requires.within
           (g.S.BlockSource.Holds c.loop-done.source) (g.S.BlockSource.Holds c.write_piece.new.source) c.in_ok-write_piece.ensures.narrows
           (g.W.Write.contents c.args.writer.now) (g.W.Write.contents c.loop-done.writer) (g.W.Write.contents c.write_piece.new.writer)
           c.loop-done.invariant.written c.in_ok-write_piece.ensures.written;
@@ -33,5 +33,5 @@ loop-done-preserved g c =
 
 pub returns-clause-written : goal.returns-clause-written
 returns-clause-written g c =
-    written-all (g.S.BlockSource.Holds c.loop-done.source) c.args.len c.args.patch.now c.loop-done.done (g.W.Write.contents c.args.writer.now)
+    written-all (g.S.BlockSource.Holds c.loop-done.source) c.args.len c.args.changed.now c.loop-done.done (g.W.Write.contents c.args.writer.now)
     (g.W.Write.contents c.loop-done.writer) (omega (arith, c.loop-done-test.false)) c.requires.within c.loop-done.invariant.written

@@ -9,7 +9,7 @@ invariant-loop-done g l = record {
   few : l.done ≤ l.len;
   even : l.done < l.len → l.done % 512 ≡ 0;
   room : length l.buffer ≡ length l.initial.buffer;
-  written : HasWritten (g.S.BlockSource.Holds l.source) l.len l.patch l.done (g.W.Write.contents l.initial.writer) (g.W.Write.contents l.writer);
+  written : HasWritten (g.S.BlockSource.Holds l.source) l.len l.changed l.done (g.W.Write.contents l.initial.writer) (g.W.Write.contents l.writer);
   narrows : OfEach (g.S.BlockSource.Holds l.source) (g.S.BlockSource.Holds l.initial.source);
   image : g.S.BlockSource.image l.source ≡ g.S.BlockSource.image l.initial.source;
 }

@@ -1,8 +1,12 @@
-use Rattle.std.proofs.Common.{◌∙◌}
-use Rattle.hfs_plain.proofs.Forks.{whole}
+-- All of the fork: as many bytes as its length says.
+use Rattle.std.proofs.Common.{◌∙◌, arith}
+use Rattle.std.proofs.lemmas.List.{take_all}
+use Rattle.hfs_item_table.specs.Tables.{bytes_in}
+use Rattle.hfs_item_table.proofs.LookedUp.{size_is}
 use Rattle.hfs_plain.proofs.items.content_of.Goals as goal
 
 pub returns : goal.returns
 returns c =
-    c.new.ensures
-    ∙ whole c.args.table.now c.args.fork.now c.as_slice.result.now c.in_ok-bytes.bytes.items c.as_slice.ensures c.in_ok-bytes.ensures c.requires.table.over.layout
+    let all = bytes_in c.args.table.now c.args.fork.now in
+    let long = size_is c.args.table.now c.requires.table c.args.fork.now c.requires.fork in
+    c.new.ensures ∙ c.in_ok-bytes.ensures ∙ take_all c.len-len.result all (omega (arith, long, c.len-len.ensures))

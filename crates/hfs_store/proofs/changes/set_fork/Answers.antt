@@ -1,5 +1,5 @@
 use Rattle.std.proofs.Common.{sym, ap, ◌∙◌}
-use Rattle.hfs_fork_calls.specs.Forks.{kind_with_fork}
+use Rattle.hfs_model.specs.Forks.{kind_with_fork}
 use Rattle.hfs_store.proofs.ForkOutcomes.{becomes_read_fork}
 use Rattle.hfs_store.proofs.changes.set_fork.Goals as goal
 

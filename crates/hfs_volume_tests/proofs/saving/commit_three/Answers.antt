@@ -10,8 +10,8 @@ one_more : (old new : Changes) (n value count : ℕ) → new ≡ with_change old
 one_more old new n value count is low within =
     subst (λ (f : Changes). AreWithin f count) (sym is) (AreWithin-with_change old n (replicate 512 value) count low (length-replicate 512 value) within)
 
-pub commit-requires : goal.commit-requires
-commit-requires c =
+pub commit-requires-clause-patch : goal.commit-requires-clause-patch
+commit-requires-clause-patch c =
     let count = block_count c.args.image.now.current in
     let none = subst (λ (l : Numbered). AreWithin (changes l) count) (sym c.new-patch.ensures) (AreWithin-nothing count) in
     let first = one_more _ _ 4 _ count c.in_ok-put.ensures.written (omega (arith, c.requires)) none in

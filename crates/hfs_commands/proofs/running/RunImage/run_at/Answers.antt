@@ -27,7 +27,7 @@ returns-in-Ok-run_needed_at-clause-ran g c =
     c.fetch_named_forks.new.working c.self.invariant c.fetch_named_forks.ensures.mountable c.args.script made.image.patch (text_of_pieces made.answers)
     made.whole made.shown c.in-Ok-run_needed_at.ran c.ran_image.ensures.patch (ap text_of_pieces c.ran_image.ensures.answers) c.ran_image.ensures.whole
     c.ran_image.ensures.shown c.in-Ok-run_needed_at.ensures.ran c.in-Ok.ensures.forks
-    (seen-then c.self.invariant.seen c.fetch_named_forks.ensures.sees then) c.in-Ok-run_needed_at.ensures.carried)
+    (seen-then c.self.invariant.seen c.fetch_named_forks.ensures.sees then))
 
 pub returns-in-Ok-run_needed_at-clause-narrows : goal.returns-in-Ok-run_needed_at-clause-narrows
 returns-in-Ok-run_needed_at-clause-narrows g c = λ image h.

@@ -2,12 +2,13 @@ use Rattle.std.proofs.Common.{◌≡◌, ℕ, ◌<◌, ◌≤◌, ◌+◌, ◌-�
 use Rattle.std.specs.Prelude.{slice_set}
 use Rattle.std.proofs.lemmas.List.{length-set}
 use Rattle.hfs_model.specs.declared.journal.Entry.{Entry}
-use Rattle.hfs_check.specs.Agree.{Agrees}
+use Rattle.hfs_check.specs.Agree.{AgreesBut}
 use Rattle.hfs_check.specs.VolumeOf.{volume_of}
-use Rattle.hfs_volume.specs.Serving.{outcome_in}
+use Rattle.hfs_volume.specs.Serving.{IsOutcomeIn}
 use Rattle.hfs_published.specs.Journals.{made_by}
 use Rattle.hfs_shared.specs.Desks.{DeskState, IsHeadline, IsCounted, wanted, entry_of, pass_state}
-use Rattle.hfs_shared.proofs.Headline.{headline_more, counted_more, wanted_known}
+use Rattle.hfs_shared.specs.Stages.{stage, HasMade}
+use Rattle.hfs_shared.proofs.Headline.{entry_makes, headline_more, counted_more, wanted_known}
 use Rattle.hfs_model.proofs.LawsProved.{step_is_never_full}
 use Rattle.hfs_shared.proofs.desk.Desk.apply.Goals as goal
 
@@ -33,12 +34,18 @@ is_known c = wanted_known (length c.self.inside.next.items) c.self.inside.journa
 number_is : (c : goal.After-raise) → c.args.pass.now.number ≡ made_by c.args.pass.now.worker c.self.inside.journal.items + 1
 number_is c = (let known = is_known c in sym c.number-number.ensures.value ∙ is_wanted c ∙ known.2)
 
-headline_is : (c : goal.After-raise) → IsHeadline c.call.new.self.base c.call.new.self.current c.push_reserved.new.self.items
+-- the image that the entry made of the one before
+made_is : (c : goal.After-raise) → let v = c.self.inside.volume in let w = c.call.new.self in HasMade (entry_of c.args.pass.now c.args.call.now c.in-Ok-call.reply) (stage v.current v.written) (stage w.current w.written)
+made_is c =
+    entry_makes step_is_never_full c.self.inside.volume c.call.new.self c.args.pass.now c.args.call.now c.in-Ok-call.reply c.self.invariant.0.agrees.sound c.in-Ok-call.ensures.outcome c.in-Ok-call.ensures.written c.in-Ok-call.ensures.refused
+
+headline_is : (c : goal.After-raise) → IsHeadline c.call.new.self.base c.call.new.self.current c.call.new.self.written c.push_reserved.new.self.items
 headline_is c =
-    let agrees : Agrees c.self.inside.volume.base c.call.new.self.current = subst (λ (b : List ℕ). Agrees b c.call.new.self.current) c.call.ensures.base c.agrees_with_base.ensures.agrees in
-    subst (λ (y : List ℕ × List Entry). IsHeadline y.0 c.call.new.self.current y.1) (λ i. (sym c.call.ensures.base i, sym (items_is c) i))
-    (headline_more step_is_never_full c.self.inside.volume.base c.self.inside.volume.current c.self.inside.journal.items c.args.pass.now c.args.call.now c.in-Ok-call.reply c.call.new.self.current
-    c.self.invariant.0 c.in-Ok-call.ensures.outcome (number_is c) agrees)
+    let w = c.call.new.self in
+    let agrees : AgreesBut w.written c.self.inside.volume.base w.current = subst (λ (b : List ℕ). AgreesBut w.written b w.current) c.call.ensures.base c.agrees_with_base.ensures.agrees in
+    subst (λ (y : List ℕ × List Entry). IsHeadline y.0 w.current w.written y.1) (λ i. (sym c.call.ensures.base i, sym (items_is c) i))
+    (headline_more step_is_never_full c.self.inside.volume.base c.self.inside.volume w c.self.inside.journal.items c.args.pass.now c.args.call.now c.in-Ok-call.reply
+    c.self.invariant.0 c.in-Ok-call.ensures.outcome (made_is c) (number_is c) agrees)
 
 pub invariant_of-self-2 : goal.invariant_of-self-2
 invariant_of-self-2 c =
@@ -65,9 +72,10 @@ returns-clause-ok c =
       journal = items_is c ∙ ap (λ (s : DeskState). s.journal ++ e ∷ []) same;
       pass = c.raise.ensures;
       wanted_is = sym c.number-number.ensures.value ∙ is_wanted c ∙ ap (λ (s : DeskState). wanted s.workers s.journal p.worker) same;
-      outcome = subst (λ (s : DeskState). (volume_of c.call.new.self.current, c.in-Ok-call.reply) ≡ outcome_in s.current c.args.call.now) same c.in-Ok-call.ensures.outcome;
+      outcome = subst (λ (s : DeskState). IsOutcomeIn s.current c.args.call.now (volume_of c.call.new.self.current, c.in-Ok-call.reply)) same c.in-Ok-call.ensures.outcome;
       reading = λ reads. ap (λ v. v.current) (c.call.ensures.reading reads) ∙ ap (λ (s : DeskState). s.current) same;
       refused = λ other. ap (λ v. v.current) (c.in-Ok-call.ensures.refused other) ∙ ap (λ (s : DeskState). s.current) same;
-      headline = subst (λ (s : DeskState). IsHeadline s.base s.current s.journal) same c.self.invariant.0;
+      made = subst (λ (s : DeskState). HasMade e (stage s.current s.written) (stage c.call.new.self.current c.call.new.self.written)) same (made_is c);
+      headline = subst (λ (s : DeskState). IsHeadline s.base s.current s.written s.journal) same c.self.invariant.0;
       headline_after = headline_is c;
     }

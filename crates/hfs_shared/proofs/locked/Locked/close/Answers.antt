@@ -1,10 +1,11 @@
 use Rattle.std.proofs.Common.{◌≡◌, ℕ, ◌≤◌, List, length, sym, ap, ◌∙◌, subst}
-use Rattle.hfs_check.specs.Agree.{Agrees}
+use Rattle.hfs_check.specs.Agree.{AgreesBut}
 use Rattle.hfs_check.specs.VolumeOf.{volume_of}
 use Rattle.hfs_model.specs.declared.journal.Entry.{Entry}
 use Rattle.hfs_model.specs.Runs.{after}
 use Rattle.hfs_published.specs.Journals.{IsLegal, published}
 use Rattle.hfs_shared.specs.Closings.{AreAllPasses, HasNoOthers}
+use Rattle.hfs_shared.specs.Stages.{stage, HaveMadeOf}
 use Rattle.hfs_shared.proofs.locked.Locked.close.Goals as goal
 
 pub returns-clause-ok : goal.returns-clause-ok
@@ -16,7 +17,8 @@ returns-clause-ok g c =
     let headline = e.headline.headline in
     record {
       base_is = e.base ∙ base;
-      agrees = subst (λ (y : List ℕ × List ℕ). Agrees y.0 y.1) (λ i. (base i, sym e.current i)) headline.agrees;
+      agrees = subst (λ (y : List ℕ × List ℕ × List ℕ). AgreesBut y.0 y.1 y.2) (λ i. (sym e.written i, base i, sym e.current i)) headline.agrees;
+      made = subst (λ (y : List ℕ × List Entry × List ℕ × List ℕ). HaveMadeOf y.0 y.1 (stage y.2 y.3)) (λ i. (base i, sym e.journal i, sym e.current i, sym e.written i)) headline.made;
       legal = subst (λ (y : List ℕ × List Entry). IsLegal (volume_of y.0) y.1) (λ i. (base i, sym e.journal i)) headline.legal;
       follows = ap volume_of e.current ∙ headline.follows ∙ (λ i. after (volume_of (base i)) (sym e.journal i));
       all = subst (λ (y : ℕ × List Entry). AreAllPasses passes y.0 y.1) (λ i. (sym all.many i, sym e.journal i)) all;

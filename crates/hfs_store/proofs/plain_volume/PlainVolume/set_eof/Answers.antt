@@ -1,7 +1,7 @@
 use Rattle.std.proofs.Common.{arith}
-use Rattle.hfs_fork_calls.specs.Forks.{resized}
-use Rattle.hfs_fork_calls.specs.ForkCalls.{set_eof}
-use Rattle.hfs_fork_calls.proofs.LawsProved.{set_eof_is_lawful}
+use Rattle.hfs_model.specs.Forks.{resized}
+use Rattle.hfs_model.specs.ForkCalls.{set_eof}
+use Rattle.hfs_model.proofs.KeepsForks.{set_eof_keeps}
 use Rattle.hfs_store.proofs.Outcomes.{within}
 use Rattle.hfs_store.proofs.ForkOutcomes.{fork_entries, fork_changes, kept_lawful}
 use Rattle.hfs_store.proofs.plain_volume.PlainVolume.set_eof.Goals as goal
@@ -26,4 +26,4 @@ returns-in_ok-bytes-in-Ok-clause-ok c =
 
 pub returns-in_ok-bytes-in-Ok-clause-lawful : goal.returns-in_ok-bytes-in-Ok-clause-lawful
 returns-in_ok-bytes-in-Ok-clause-lawful c =
-    kept_lawful c.args.self.now _ _ (set_eof c.args.self.now.block_size c.args.self.now c.args.dir c.args.name.now c.args.fork c.args.length c.args.now) (returns-in_ok-bytes-in-Ok-clause-ok c) (set_eof_is_lawful c.args.self.now.block_size c.args.self.now c.args.dir c.args.name.now c.args.fork c.args.length c.args.now).lawful
+    kept_lawful c.args.self.now _ _ (set_eof c.args.self.now.block_size c.args.self.now c.args.dir c.args.name.now c.args.fork c.args.length c.args.now) (returns-in_ok-bytes-in-Ok-clause-ok c) (set_eof_keeps c.args.self.now.block_size c.args.self.now c.args.dir c.args.name.now c.args.fork c.args.length c.args.now)

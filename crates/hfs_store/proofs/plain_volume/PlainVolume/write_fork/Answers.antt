@@ -1,6 +1,6 @@
-use Rattle.hfs_fork_calls.specs.Forks.{written}
-use Rattle.hfs_fork_calls.specs.ForkCalls.{write_fork}
-use Rattle.hfs_fork_calls.proofs.LawsProved.{write_fork_is_lawful}
+use Rattle.hfs_model.specs.Forks.{written}
+use Rattle.hfs_model.specs.ForkCalls.{write_fork}
+use Rattle.hfs_model.proofs.KeepsForks.{write_fork_keeps}
 use Rattle.hfs_store.proofs.Outcomes.{within}
 use Rattle.hfs_store.proofs.ForkOutcomes.{fork_entries, fork_changes, kept_lawful}
 use Rattle.hfs_store.proofs.plain_volume.PlainVolume.write_fork.Goals as goal
@@ -25,4 +25,4 @@ returns-in_ok-made-in-Ok-clause-ok c =
 
 pub returns-in_ok-made-in-Ok-clause-lawful : goal.returns-in_ok-made-in-Ok-clause-lawful
 returns-in_ok-made-in-Ok-clause-lawful c =
-    kept_lawful c.args.self.now _ _ (write_fork c.args.self.now.block_size c.args.self.now c.args.dir c.args.name.now c.args.fork c.args.offset c.args.bytes.now c.args.now) (returns-in_ok-made-in-Ok-clause-ok c) (write_fork_is_lawful c.args.self.now.block_size c.args.self.now c.args.dir c.args.name.now c.args.fork c.args.offset c.args.bytes.now c.args.now).lawful
+    kept_lawful c.args.self.now _ _ (write_fork c.args.self.now.block_size c.args.self.now c.args.dir c.args.name.now c.args.fork c.args.offset c.args.bytes.now c.args.now) (returns-in_ok-made-in-Ok-clause-ok c) (write_fork_keeps c.args.self.now.block_size c.args.self.now c.args.dir c.args.name.now c.args.fork c.args.offset c.args.bytes.now c.args.now)

@@ -2,25 +2,32 @@ use Rattle.std.proofs.Common.{◌≡◌, ◌∙◌}
 use Rattle.hfs_blocks.specs.Blocks.{block_at}
 use Rattle.hfs_check.specs.Parts.{mdb_in}
 use Rattle.hfs_view.specs.Opened.{table_over}
+use Rattle.hfs_view.proofs.ChangedLemmas.{none_of}
 use Rattle.hfs_view.proofs.Made.{are_right, is_table, is_volume, is_lawful}
 use Rattle.hfs_check.proofs.LawsProved.{catalog_is_sound, sound_images_are_lawful}
-use Rattle.hfs_volume.proofs.OwnedStay.{forks_stay}
-use Rattle.hfs_catalog.proofs.LawsProved.{valences_are_counted, items_are_records, named_are_records}
+use Rattle.hfs_catalog.proofs.LawsProved.{valences_are_counted, items_are_records, named_are_records, sound_is_lawful, entries_are_records}
 use Rattle.hfs_view.proofs.rows.Rows.of.Goals as goal
+
+pub of-requires-2-clause-changed : goal.of-requires-2-clause-changed
+of-requires-2-clause-changed c = record {
+  sound = c.in_ok-base.ensures.agrees.sound;
+  none = λ e. none_of c.args.volume.now.changed c.changed-changed.result c.changed-changed.ensures.count e;
+  beside = c.changed-changed.ensures.others;
+}
 
 pub of-requires-2-clause-right : goal.of-requires-2-clause-right
 of-requires-2-clause-right c =
     let v = c.args.volume.now in
-    are_right v.current c.in_ok-base.ensures.agrees.sound catalog_is_sound v.base c.in_ok-base.ensures.agrees forks_stay valences_are_counted
+    are_right v.current c.in_ok-base.ensures.agrees.sound catalog_is_sound valences_are_counted sound_is_lawful entries_are_records
 
 pub invariant_of-result : goal.invariant_of-result
 invariant_of-result c =
     let v = c.args.volume.now in
     let is : c.table_over-table.result ≡ table_over v.base (mdb_in (block_at v.current)) c.in_ok-maps.maps =
     c.table_over-table.ensures ∙ (λ i. table_over (c.in_ok-base.ensures.base i) (c.directory.ensures i) c.in_ok-maps.maps) in (
-      is_table v.base v.current c.in_ok-maps.maps c.in_ok-base.ensures.sound c.in_ok-base.ensures.agrees catalog_is_sound items_are_records named_are_records sound_images_are_lawful
+      is_table v.written v.base v.current c.in_ok-maps.maps c.in_ok-base.ensures.sound c.in_ok-base.ensures.agrees catalog_is_sound items_are_records named_are_records sound_images_are_lawful
           c.in_ok-maps.ensures c.table_over-table.result is,
-      is_lawful v.base v.current c.in_ok-maps.maps c.in_ok-base.ensures.sound c.in_ok-base.ensures.agrees catalog_is_sound items_are_records named_are_records sound_images_are_lawful
+      is_lawful v.written v.base v.current c.in_ok-maps.maps c.in_ok-base.ensures.sound c.in_ok-base.ensures.agrees catalog_is_sound items_are_records named_are_records sound_images_are_lawful
           c.in_ok-maps.ensures c.table_over-table.result is,
     )
 
@@ -29,5 +36,5 @@ returns c =
     let v = c.args.volume.now in
     let is : c.table_over-table.result ≡ table_over v.base (mdb_in (block_at v.current)) c.in_ok-maps.maps =
     c.table_over-table.ensures ∙ (λ i. table_over (c.in_ok-base.ensures.base i) (c.directory.ensures i) c.in_ok-maps.maps) in
-    is_volume v.base v.current c.in_ok-maps.maps c.in_ok-base.ensures.sound c.in_ok-base.ensures.agrees catalog_is_sound items_are_records named_are_records sound_images_are_lawful
+    is_volume v.written v.base v.current c.in_ok-maps.maps c.in_ok-base.ensures.sound c.in_ok-base.ensures.agrees catalog_is_sound items_are_records named_are_records sound_images_are_lawful
     c.in_ok-maps.ensures c.table_over-table.result is

@@ -14,6 +14,6 @@ block-requires c =
 
 pub returns : goal.returns
 returns c =
-    c.block.ensures ∙ (λ i. over (changes (c.over.ensures.patch i)) (block_at (c.over.ensures.below i).base.now) c.args.n)
+    c.block.ensures ∙ (λ i. over (changes (c.over.ensures.changed i)) (block_at (c.over.ensures.below i).base.now) c.args.n)
     ∙ ap (λ bytes. over (changes c.self.inside.changed) (block_at bytes) c.args.n) c.blocks-base.ensures
     ∙ ap (λ f. f c.args.n) (same_blocks (changes c.self.inside.changed) c.self.inside.base c.args.self.now.current c.self.invariant.within (ap (λ v. v.current) c.self.view_is))

@@ -5,9 +5,16 @@ use Rattle.hfs_blocks.specs.Blocks.{block_count}
 use Rattle.hfs_blocks.specs.Layers.{changes}
 use Rattle.hfs_volume.specs.Laid.{laid_over}
 use Rattle.hfs_volume.specs.Image.{IsSameBeside}
-use Rattle.hfs_volume.proofs.Kept.{few_numbers, beside}
+use Rattle.hfs_changed_blocks.proofs.AllBlocks.{few_numbers}
+use Rattle.hfs_volume.proofs.Kept.{beside}
 use Rattle.hfs_volume.proofs.Viewing.{same_blocks}
 use Rattle.hfs_volume.proofs.image.Image.changed.Goals as goal
+
+pub len-requires : goal.len-requires
+len-requires c = λ n b found.
+    let at = c.self.invariant.within n b found in
+    let low = at.0 in
+    (omega (arith, low, c.self.invariant.small), at.1)
 
 pub returns-clause-count : goal.returns-clause-count
 returns-clause-count c = c.len.ensures.len ∙ ap (λ v. length v.changed) c.self.view_is

@@ -1,0 +1,111 @@
+//! What SetEof and WriteFork make of a volume's blocks.
+
+ghost use Rattle.std.specs.Prelude.{◌≡◌};
+ghost use Rattle.hfs_model.specs.declared.call.Call.TheVariants as call;
+ghost use Rattle.hfs_model.specs.ForkCalls.{file_to_write};
+ghost use Rattle.hfs_check.specs.VolumeOf.{volume_in};
+ghost use Rattle.hfs_fork_edits.specs.Calls.{AreFoundIn, IsForkVolumeIn};
+ghost use Rattle.hfs_fork_edits.specs.Found.{FindsFile};
+ghost use Rattle.hfs_call_edits.specs.Edits.{HasForkRoom, HasForkWritten, IsEditOf};
+ghost use Rattle.hfs_call_edits.specs.ForkWants as wants;
+ghost use Rattle.hfs_call_patches.specs.CallChanges.{Makes};
+
+use crate::editing::{Editing, Refusal};
+use hfs_blocks::Blocks;
+use hfs_call_patches::Change;
+use hfs_fork_edits::{ForkRefusal, ForkVolume, FoundFile};
+use hfs_model::Fork;
+use std::alloc::{AllocError, Global};
+
+/// A call's change, or what refuses it.
+fn edit_of(edit: Result<Change, ForkRefusal>) -> Result<Change, Refusal>
+    ensures { result ≡ wants.edit_of edit }
+{
+    match edit {
+        Ok(change) => Ok(change),
+        Err(ForkRefusal::Code(code)) => Err(Refusal::Code(code)),
+        Err(ForkRefusal::Want(want)) => Err(Refusal::Want(want)),
+    }
+}
+
+impl<B: Blocks> Editing<'_, B> {
+    /// The folder's file of that name, which isn't locked, with the place of its record, or the code that refuses to write it.
+    fn found_file(&self, dir: u32, name: &[u8]) -> Result<FoundFile, i16>
+        ensures found { FindsFile (B.blocks self.now)
+            (file_to_write (volume_in (B.blocks self.now)) dir name.now) result }
+        ensures there { AreFoundIn (B.blocks self.now) result }
+    {
+        match self.file_to_set(dir, name) {
+            Ok(placed) => Ok(FoundFile {
+                key: placed.key,
+                file: placed.file,
+                place: placed.place,
+            }),
+            Err(code) => Err(code),
+        }
+    }
+
+    /// The volume as those who write forks take it.
+    fn fork_volume(&self) -> ForkVolume<'_, B>
+        ensures volume { IsForkVolumeIn B.total B.blocks result.blocks.now
+            result.mdb.now result.extents.now result.catalog.now }
+        ensures blocks { result.blocks.now ≡ self.now }
+    {
+        ForkVolume {
+            blocks: self.blocks,
+            mdb: self.mdb,
+            extents: self.extents,
+            catalog: self.catalog,
+        }
+    }
+
+    /// What SetEof makes of the volume. The only error is want of memory.
+    pub(crate) fn set_eof(
+        &self,
+        alloc: Global,
+        dir: u32,
+        name: &[u8],
+        fork: Fork,
+        length: u32,
+        now: u32,
+    ) -> Result<Result<Change, Refusal>, AllocError>
+        ensures made { Makes result (IsEditOf (call.SetEof dir name.now fork length now))
+            B.total B.blocks self.now }
+        ensures room { Makes result (HasForkRoom (call.SetEof dir name.now fork length now))
+            B.total B.blocks self.now }
+        ensures forks { Makes result (HasForkWritten (call.SetEof dir name.now fork length now))
+            B.total B.blocks self.now }
+    {
+        let found = self.found_file(dir, name);
+        let volume = self.fork_volume();
+        let edit = hfs_fork_edits::set_eof(alloc, &volume, found, fork, length, now)?;
+        Ok(edit_of(edit))
+    }
+
+    /// What WriteFork makes of the volume. The only error is want of memory.
+    pub(crate) fn write_fork(
+        &self,
+        alloc: Global,
+        dir: u32,
+        name: &[u8],
+        fork: Fork,
+        offset: u32,
+        bytes: &[u8],
+        now: u32,
+    ) -> Result<Result<Change, Refusal>, AllocError>
+        ensures made { Makes result
+            (IsEditOf (call.WriteFork dir name.now fork offset bytes.now now))
+            B.total B.blocks self.now }
+        ensures room { Makes result
+            (HasForkRoom (call.WriteFork dir name.now fork offset bytes.now now))
+            B.total B.blocks self.now }
+        ensures forks { Makes result
+            (HasForkWritten (call.WriteFork dir name.now fork offset bytes.now now))
+            B.total B.blocks self.now }
+    {
+        let found = self.found_file(dir, name);
+        let volume = self.fork_volume();
+        let edit = hfs_fork_edits::write_fork(alloc, &volume, found, fork, offset, bytes, now)?;
+        Ok(edit_of(edit))
+    }
+}

@@ -1,0 +1,5 @@
+pub mod Walks
+pub mod Runs
+pub mod AllBlocks
+pub mod Joined
+pub mod Laid

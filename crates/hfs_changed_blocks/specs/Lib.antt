@@ -1,0 +1,5 @@
+pub mod Flags
+pub mod Again
+pub mod Laying
+pub mod Changed
+pub mod Logs

@@ -1,0 +1,45 @@
+-- Volumes in files that were opened to be changed.
+use Rattle.std.specs.Prelude.{◌≡◌, ◌⊎◌, ℕ, Bool, true, false, List, Option, None, Some}
+use Rattle.std.specs.Borrow.{Bor}
+use Rattle.hfs_containers.specs.declared.asking.NumberedRange.{NumberedRange}
+use Rattle.hfs_containers.specs.declared.ranges.ByteRange.{ByteRange}
+use Rattle.hfs_containers.specs.declared.ranges.FoundRange.{FoundRange}
+use Rattle.hfs_containers.specs.Ranges.{bytes_in, range_of}
+use Rattle.hfs_containers.specs.Reading.{IsTold}
+use Rattle.hfs_patched.specs.InFile.{sum_place}
+use Rattle.hfs_source.specs.declared.range.RangeBytes.{RangeBytes}
+use Rattle.hfs_commands.specs.Volumes.{sum_told}
+use Rattle.hfs_commands.specs.declared.fault.Fault.{Fault}
+use Rattle.hfs_commands.specs.declared.fault.Fault.TheVariants.{CannotRead, NoMemory, SumWrong}
+
+abbrev pub is_wrong : Option Bool → Bool
+is_wrong None = false
+is_wrong (Some true) = false
+is_wrong (Some false) = true
+
+-- whether the sum that a disk copy's header tells isn't that of its data
+abbrev pub has_wrong_sum : FoundRange → List ℕ → Bool
+has_wrong_sum found file = is_wrong (sum_told found.container (bytes_in found.range file))
+
+-- the same of a place in a file, if it is no whole file
+abbrev pub has_wrong_sum_at : Option NumberedRange → List ℕ → Bool
+has_wrong_sum_at None file = false
+has_wrong_sum_at (Some place) file = has_wrong_sum place.found file
+
+-- a range isn't changed: its sum is wrong, where the file's bytes are known; or they can't be read
+abbrev pub IsWrongSum : Option (List ℕ) → FoundRange → Bor (List ℕ) → Fault → Type 0
+IsWrongSum known found path why = ((why ≡ SumWrong) × IsTold known (has_wrong_sum found) true) ⊎ ((why ≡ CannotRead path) ⊎ (why ≡ NoMemory))
+
+-- where these bytes lie in their file
+abbrev pub lies_in : {S : Type 0} → RangeBytes S → ByteRange
+lies_in bytes = range_of bytes.start bytes.len
+
+-- the bytes of a place in a file, or all of it
+abbrev pub range_at : Option NumberedRange → ByteRange → ByteRange
+range_at None all = all
+range_at (Some place) all = place.found.range
+
+-- where the sum of the bytes there stands
+abbrev pub sum_at_of : Option NumberedRange → Option ℕ
+sum_at_of None = None
+sum_at_of (Some place) = sum_place place.found

@@ -1,0 +1,148 @@
+//! A volume in a file that was opened to be changed.
+ghost use Rattle.std.specs.Prelude.{◌≡◌, false, IfErr, IfOk, OnOk, Some};
+ghost use Rattle.hfs_containers.specs.Asking.{IsAnswerTo, asked_in};
+ghost use Rattle.hfs_containers.specs.Reading.{IsTold, IsToldOf};
+ghost use Rattle.hfs_containers.specs.declared.asking.Counted.TheVariants.{Ranges};
+ghost use Rattle.hfs_containers.specs.declared.ranges.Layout.TheVariants.{Plain};
+ghost use Rattle.hfs_commands.specs.Faults.{IsUnopenedVolume};
+ghost use Rattle.hfs_commands.specs.OpenedFiles.{stored_bytes};
+ghost use Rattle.hfs_commands.specs.Parts.{asked_at};
+ghost use Rattle.hfs_commands.specs.WatchedVolumes.{has_wrong_sum, has_wrong_sum_at, lies_in, range_at, sum_at_of, IsWrongSum};
+
+use crate::fault::Fault;
+use crate::opened_file::{OpenedFile, StoredFile, content_of};
+use crate::volume_files::place_asked;
+use crate::volumes::sum_told;
+use crate::watched_image::{LookedFile, WatchedImage, open_looked};
+use crate::watched_range::WatchedRange;
+use hfs_containers::{
+    ByteRange, Counted, FoundRange, Layout, NumberedRange, RawFile, ReadAt, Window,
+};
+use hfs_files::TrustedLooks;
+use hfs_patched::sum_place;
+use hfs_source::RangeBytes;
+use std::alloc::Global;
+use std::io::{Read, Seek};
+use std::rt::Files;
+
+/// A volume in a file that was opened to be changed.
+#[derive(Drop)]
+pub struct WatchedVolume<F: Read + Seek> {
+    /// Its blocks.
+    pub blocks: WatchedRange<WatchedImage<F>>,
+    /// Where it lies in the file; `None` where it is the file as it is.
+    pub place: Option<NumberedRange>,
+    /// Where its sum stands in the file; `None` where it has none.
+    pub sum_at: Option<u64>,
+}
+
+impl<F: Read + Seek> WatchedVolume<F> {
+    /// How many bytes the volume has.
+    pub fn len(&self) -> u64
+        ensures { result ≡ self.now.blocks.bytes.len }
+    {
+        self.blocks.bytes.len
+    }
+}
+
+/// Looks that the sum which a disk copy's header tells is that of its data; a range that is no disk copy has none. Faults:
+/// `SumWrong`; a read failed.
+fn need_right_sum<'a, S: ReadAt>(
+    source: &mut S,
+    found: &FoundRange,
+    path: &'a str,
+) -> Result<(), Fault<'a>>
+    ensures right { OnOk result (IsTold (S.known source.old) (has_wrong_sum found.now) false) }
+    ensures fault { IfErr result (IsWrongSum (S.known source.old) found.now path.entry) }
+    ensures known { S.known source.new ≡ S.known source.old }
+{
+    match sum_told(source, found) {
+        Ok(Some(false)) => Err(Fault::SumWrong),
+        Ok(Some(true)) | Ok(None) => Ok(()),
+        Err(fault) => Err(Fault::of_sparse(fault, path)),
+    }
+}
+
+/// The volume with this number in a file's bytes.
+fn volume_in<'a, F: Read + Seek + Drop>(
+    alloc: Global,
+    file: Window<StoredFile<F>>,
+    looks: Option<TrustedLooks<F, StoredFile<F>>>,
+    path: &'a str,
+    number: u64,
+) -> Result<WatchedVolume<F>, Fault<'a>>
+    ensures asked { IfOk result (λ volume. IsToldOf (stored_bytes file.source) file.range.len
+        (asked_in Plain Ranges (Some number)) (asked_at volume.place)) }
+    ensures answer { IfOk result (λ volume. IsAnswerTo (Some number) (asked_at volume.place)) }
+    ensures lies { IfOk result (λ volume. lies_in volume.blocks.bytes
+        ≡ range_at volume.place file.range) }
+    ensures sum_at { IfOk result (λ volume. volume.sum_at ≡ sum_at_of volume.place) }
+    ensures right { IfOk result (λ volume. IsTold (stored_bytes file.source)
+        (has_wrong_sum_at volume.place) false) }
+    ensures known { IfOk result (λ volume. stored_bytes volume.blocks.bytes.bytes.file
+        ≡ stored_bytes file.source) }
+    ensures fault { IfErr result (IsUnopenedVolume path.entry number) }
+{
+    let Window { mut source, range } = file;
+    let (layout, ranges, volume) = (Layout::Plain, Counted::Ranges, Some(number));
+    let place = place_asked(alloc, &mut source, range.len, layout, path, ranges, volume)?;
+    let (range, sum_at) = match place {
+        None => (range, None),
+        Some(place) => {
+            need_right_sum(&mut source, &place.found, path)?;
+            (place.found.range, sum_place(&place.found))
+        }
+    };
+    let file = WatchedImage {
+        file: source,
+        looks,
+    };
+    match RangeBytes::new(file, range.start, range.len) {
+        Ok(bytes) => Ok(WatchedVolume {
+            blocks: WatchedRange { bytes },
+            place,
+            sum_at,
+        }),
+        Err(_) => Err(Fault::CannotRead(path)),
+    }
+}
+
+/// Why a volume with this number in the user data of raw sectors isn't opened to be changed: there is none, or it isn't written.
+fn raw_fault<'a, F: Read + Seek + Drop>(
+    alloc: Global,
+    file: RawFile<StoredFile<F>>,
+    len: u64,
+    path: &'a str,
+    number: u64,
+) -> Fault<'a>
+    ensures { IsUnopenedVolume path.entry number result }
+{
+    let mut file = file;
+    let (layout, ranges) = (Layout::Raw, Counted::Ranges);
+    match place_asked(alloc, &mut file, len, layout, path, ranges, Some(number)) {
+        Ok(_) => Fault::NotWritten,
+        Err(fault) => fault,
+    }
+}
+
+/// Opens the volume with this number in a file, counted from 1, to write the file anew with changes of that volume; 0 is the file
+/// as it is. The file is opened as [`open_watched`](crate::open_watched) does. Faults: as [`open_file`](crate::open_file) and
+/// [`part_of`](crate::part_of) have them; `NotWritten` where it lies in raw CD sectors; `SumWrong` where the file is a disk copy
+/// whose sum isn't that of its data.
+pub fn open_volume<'a, R: Files + AllocGlobal>(
+    rt: &R,
+    path: &'a str,
+    number: u64,
+) -> Result<WatchedVolume<R::File>, Fault<'a>>
+    ensures answer { IfOk result (λ volume. IsAnswerTo (Some number) (asked_at volume.place)) }
+    ensures fault { IfErr result (IsUnopenedVolume path.entry number) }
+{
+    let LookedFile { bytes, looks } = open_looked(rt, path)?;
+    let Window { source, range } = content_of(bytes, path)?;
+    match source {
+        OpenedFile::Plain(source) => {
+            volume_in(rt.alloc(), Window { source, range }, looks, path, number)
+        }
+        OpenedFile::Raw(file) => Err(raw_fault(rt.alloc(), file, range.len, path, number)),
+    }
+}

@@ -1,0 +1,4 @@
+pub mod PieceLemmas
+pub mod Placed
+pub mod Edited
+mod Read

@@ -1,0 +1,115 @@
+//! Blocks that calls filled with zeros and that went back to the volume in the same run.
+ghost use Rattle.std.specs.Prelude.{◌≡◌, ◌+◌, ◌<◌, ◌≤◌, ◌∷◌, [], IfOk, IfNone, OnOk};
+ghost use Rattle.std.specs.List.{flat_map, range_with_len};
+ghost use Rattle.hfs_blocks.specs.Blocks.{block_at, block_count, run_of};
+ghost use Rattle.hfs_space.specs.Bitmap.{bitmap_len, is_used};
+ghost use Rattle.hfs_claims.specs.FreeRuns.{AreFreeRuns};
+ghost use Rattle.hfs_needed_runs.specs.GivenBack.{AreFreeIn, GainsGivenBack};
+ghost use Rattle.hfs_needed_runs.specs.Keeping.{LieIn};
+
+use crate::extents::push_extents;
+use crate::keeping::is_zeros;
+use crate::made_files::ScriptFiles;
+use hfs_blocks::{Blocks, Run};
+use hfs_changed_blocks::ChangedBlocks;
+use hfs_claims::free_runs;
+use hfs_fields::{Extent, Mdb};
+use hfs_space::Bitmap;
+use hfs_volume::Volume;
+use std::alloc::{AllocError, Global};
+
+/// The runs of free allocation blocks, by the volume's bitmap.
+fn free_extents<B: Blocks>(alloc: Global, blocks: &B, mdb: &Mdb) -> Result<Vec<Extent>, AllocError>
+    requires { mdb.now.bitmap_start + bitmap_len mdb.now.allocation_blocks ≤ B.total blocks.now }
+    ensures { IfOk result (λ runs. AreFreeRuns
+        (is_used (B.blocks blocks.now) mdb.now.bitmap_start) mdb.now.allocation_blocks runs.items) }
+{
+    let bitmap = Bitmap {
+        blocks,
+        start: mdb.bitmap_start,
+        count: mdb.allocation_blocks,
+    };
+    free_runs(alloc, &bitmap)
+}
+
+/// Where the free blocks of a volume lie.
+fn free_blocks_in(alloc: Global, volume: &Volume) -> Result<Vec<Run>, AllocError>
+    ensures { IfOk result (λ runs. AreFreeIn (block_at volume.now.current)
+        (block_count volume.now.current) runs.items) }
+{
+    let base = volume.base()?;
+    let below = base.blocks();
+    let now = volume.changes().over(&below);
+    let mdb = volume.directory();
+    let free = free_extents(alloc, &now, &mdb)?;
+    let mut runs = Vec::new(alloc);
+    push_extents(&mut runs, &mdb, &free)?;
+    Ok(runs)
+}
+
+/// Where the free blocks of a volume lie, if there are files whose forks a script may have written. The only error is want of memory.
+pub(crate) fn free_blocks(
+    alloc: Global,
+    volume: &Volume,
+    files: &Option<ScriptFiles>,
+) -> Result<Vec<Run>, AllocError>
+    ensures free { IfOk result (λ runs. AreFreeIn (block_at volume.now.current)
+        (block_count volume.now.current) runs.items) }
+    ensures none { IfOk result (λ runs. IfNone files.now (runs.items ≡ [])) }
+{
+    match files {
+        Some(_) => free_blocks_in(alloc, volume),
+        None => Ok(Vec::new(alloc)),
+    }
+}
+
+/// Puts in block `n`, where it is changed and one of zeros.
+fn keep_changed_zeros(
+    kept: &mut ChangedBlocks,
+    changed: &ChangedBlocks,
+    n: u32,
+) -> Result<(), AllocError>
+    requires { n < 4294967295 }
+    ensures { OnOk result (GainsGivenBack changed.now (n ∷ []) kept.old kept.new) }
+{
+    let Some(block) = changed.get(n) else {
+        return Ok(());
+    };
+    if !is_zeros(block) {
+        return Ok(());
+    }
+    kept.put(n, block)
+}
+
+/// Puts in those of `count` blocks from number `first` on that are changed and of zeros.
+fn keep_changed_zeros_of(
+    kept: &mut ChangedBlocks,
+    changed: &ChangedBlocks,
+    first: u32,
+    count: u32,
+) -> Result<(), AllocError>
+    requires { first + count ≤ 4294967295 }
+    ensures { OnOk result (GainsGivenBack changed.now (range_with_len first count)
+        kept.old kept.new) }
+{
+    for i in 0..count {
+        keep_changed_zeros(kept, changed, first + i)?;
+    }
+    Ok(())
+}
+
+/// Puts in those of the blocks of these runs that are changed and of zeros: a block that isn't changed may not have been read.
+pub(crate) fn keep_given_back(
+    kept: &mut ChangedBlocks,
+    changed: &ChangedBlocks,
+    runs: &[Run],
+) -> Result<(), AllocError>
+    requires { LieIn 4294967295 runs.now }
+    ensures { OnOk result (GainsGivenBack changed.now (flat_map run_of runs.now)
+        kept.old kept.new) }
+{
+    for run in runs {
+        keep_changed_zeros_of(kept, changed, run.first, run.count)?;
+    }
+    Ok(())
+}

@@ -1,0 +1,6 @@
+mod CallOutcomes
+mod CallRows
+mod NamedIds
+mod FolderRows
+mod PlacedItems
+mod LaidLists

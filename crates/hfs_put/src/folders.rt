@@ -1,0 +1,86 @@
+//! Folders of a list that are open: what comes may lie in them.
+ghost use Rattle.std.specs.Prelude.{◌≡◌, ℕ, Ok, OnOk, IfErr};
+ghost use Rattle.hfs_check.specs.VolumeOf.{volume_of};
+ghost use Rattle.hfs_put_calls.specs.Put.{folder_id, is_at, left};
+ghost use Rattle.hfs_put.specs.Faults.{IsLayFault};
+ghost use Rattle.hfs_put.specs.Folders.{LeavesOne, one_left, opens};
+
+use crate::calls::end_item;
+use crate::faults::{LayFault, fault_at};
+use hfs_put_calls::PutItem;
+use hfs_volume::Volume;
+use std::alloc::Global;
+
+/// A folder of a list that is open.
+#[derive(Clone, Copy)]
+pub struct OpenFolder {
+    /// Its place in the list.
+    pub place: usize,
+    pub id: u32,
+    /// The folder in which it lies.
+    pub dir: u32,
+    pub item: PutItem,
+}
+
+/// Whether the parent is the item at a place.
+fn is_at(parent: Option<usize>, place: usize) -> bool
+    ensures { result ≡ is_at parent place }
+{
+    match parent {
+        Some(parent) => parent == place,
+        None => false,
+    }
+}
+
+/// The ID of the innermost open folder, or the target.
+pub(crate) fn folder_id(target: u32, folders: &[OpenFolder]) -> u32
+    ensures { (now : ℕ) → result ≡ folder_id target (opens now folders.now) }
+{
+    match folders.last() {
+        Some(folder) => folder.id,
+        None => target,
+    }
+}
+
+/// Leaves a folder: makes the calls that come behind all that lies in it.
+fn leave_one(
+    alloc: Global,
+    volume: &mut Volume,
+    folder: &OpenFolder,
+    now: u32,
+) -> Result<(), LayFault>
+    ensures ok { OnOk result (LeavesOne now folder.now (volume_of volume.old.current)
+        (volume_of volume.new.current)) }
+    ensures err { IfErr result (IsLayFault (one_left now folder.now (volume_of volume.old.current))
+        volume.new.current) }
+{
+    match end_item(alloc, volume, folder.dir, &folder.item, now) {
+        Ok(()) => Ok(()),
+        Err(fault) => Err(fault_at(folder.place, fault)),
+    }
+}
+
+/// Leaves the open folders, the innermost first, up to the one in which the next item lies.
+#[tactic(auto, using(crate::proofs::FolderRows::left_there, crate::proofs::FolderRows::left_none))]
+pub(crate) fn leave(
+    alloc: Global,
+    volume: &mut Volume,
+    folders: &mut Vec<OpenFolder>,
+    parent: Option<usize>,
+    now: u32,
+) -> Result<(), LayFault>
+    ensures ok { OnOk result
+        (left parent (volume_of volume.old.current) (opens now folders.old.items)
+        ≡ Ok (volume_of volume.new.current, opens now folders.new.items)) }
+    ensures err { IfErr result (IsLayFault
+        (left parent (volume_of volume.old.current) (opens now folders.old.items)) volume.new.current) }
+{
+    while let Some(folder) = folders.pop() {
+        if is_at(parent, folder.place) {
+            folders.push(folder)?;
+            return Ok(());
+        }
+        leave_one(alloc, volume, &folder, now)?;
+    }
+    Ok(())
+}

@@ -1,0 +1,15 @@
+mod ForkMaps
+mod PartialBytes
+mod WrittenPieces
+mod MadeFiles
+mod EndedForks
+mod AcceptedCalls
+mod CreatedFiles
+mod EndOptions
+mod WrittenForks
+mod FewCalls
+mod QuietCalls
+mod ReadyFiles
+mod PutFiles
+mod NewItems
+mod PutLists

@@ -1,0 +1,5 @@
+pub mod Accepted
+pub mod WithForks
+pub mod Calls
+pub mod Put
+pub mod Laws

@@ -1,0 +1,18 @@
+//! What holds of the calls that put a list of items, as the contract of a function that does nothing.
+ghost use Rattle.hfs_put_calls.specs.Laws.{AreFew, AreNewItemsNamed, PutIsLaid};
+
+/// All calls make of a volume what those make that write no fork, with the bytes of the forks that came; and the same call is
+/// refused, with the same reply, where one is. So the bytes of forks may be left until all other calls are accepted.
+pub fn put_is_laid()
+    ensures { PutIsLaid }
+{}
+
+/// The ID that Create or DirCreate answers is that of the item of its name in its folder, as the list takes it.
+pub fn new_items_are_named()
+    ensures { AreNewItemsNamed }
+{}
+
+/// No item is made by more than `MAKING_CALLS` calls, and no more than `ENDING_CALLS` come behind its bytes or what lies in it.
+pub fn calls_are_few()
+    ensures { AreFew }
+{}

@@ -1,0 +1,10 @@
+//! The calls of the File Manager by which files of a host are put on a disk.
+#![tactic(auto)]
+
+mod calls;
+mod items;
+mod laws;
+
+pub use crate::calls::{ENDING_CALLS, MAKING_CALLS, ending_call, making_call};
+pub use crate::items::PutItem;
+pub use crate::laws::{calls_are_few, new_items_are_named, put_is_laid};

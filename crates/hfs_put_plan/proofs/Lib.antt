@@ -1,0 +1,4 @@
+mod SetLemmas
+mod TwinLemmas
+mod Items
+mod EntryOrder

@@ -1,0 +1,8 @@
+-- The row as the set compares it.
+use Rattle.std.proofs.Common.{◌∙◌, ap, ℕ, List, Vec, Global}
+use Rattle.hfs_put_plan.specs.Seen.{has_row}
+use Rattle.hfs_put_plan.proofs.SetLemmas.{row-there}
+use Rattle.hfs_put_plan.proofs.seen.Seen.has.Goals as goal
+
+pub returns : goal.returns
+returns c = c.contains.ensures ∙ row-there c.self.inside.rows.keys c.args.row.now ∙ ap (λ (rows : List (Vec ℕ Global)). has_row rows c.args.row.now) c.self.view_is

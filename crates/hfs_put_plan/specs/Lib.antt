@@ -1,0 +1,9 @@
+pub mod Dates
+pub mod Entries
+pub mod Names
+pub mod Facts
+pub mod Seen
+pub mod Twins
+pub mod Why
+pub mod Placing
+pub mod Steps

@@ -1,0 +1,22 @@
+-- Folded names that were seen.
+use Rattle.std.specs.Prelude.{◌≡◌, ℕ, Bool, ◌||◌, List}
+use Rattle.std.specs.List.{list_any}
+use Rattle.std.specs.Str.{bytes_eq}
+use Rattle.std.proofs.Common.{Vec, Global}
+use Rattle.hfs_fields.specs.Order.{folded}
+
+-- the row is one of these
+abbrev pub has_row : List (Vec ℕ Global) → Vec ℕ Global → Bool
+has_row rows row = list_any (λ other. bytes_eq row.items other.items) rows
+
+-- the row is one of them now, beside the old ones
+abbrev pub AddsRow : Vec ℕ Global → List (Vec ℕ Global) → List (Vec ℕ Global) → Type 0
+AddsRow row old new = (other : Vec ℕ Global) → has_row new other ≡ (has_row old other || bytes_eq row.items other.items)
+
+-- one of these names has this row
+abbrev pub has_folded : List (List ℕ) → List ℕ → Bool
+has_folded names row = list_any (λ name. bytes_eq (folded name) row) names
+
+-- the rows are those of these names
+abbrev pub KnowsNames : List (Vec ℕ Global) → List (List ℕ) → Type 0
+KnowsNames rows names = (other : Vec ℕ Global) → has_row rows other ≡ has_folded names other.items

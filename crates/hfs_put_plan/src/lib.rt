@@ -1,0 +1,24 @@
+//! What is to be put on a disk out of folders of a host: which entries of a folder make an item, how the item is called, what is kept
+//! of it, why one can't be put, how it gets its place, and by which calls.
+#![tactic(auto)]
+
+mod dates;
+mod entries;
+mod facts;
+mod names;
+mod over;
+mod reasons;
+mod seen;
+mod sorting;
+mod steps;
+mod twins;
+
+pub use crate::dates::{date_before_1970, date_since_1970};
+pub use crate::entries::{Entry, EntryKind, FolderItem, entry_order, folder_items};
+pub use crate::facts::{ItemFacts, ToldFacts, double_facts, macbinary_facts};
+pub use crate::names::{put_name, read_put_name};
+pub use crate::over::{Placing, Standing, how_placed};
+pub use crate::reasons::{Findings, Why, is_too_large, why_not};
+pub use crate::sorting::sort_entries;
+pub use crate::steps::{FileStep, ForkPiece, file_steps, fork_piece};
+pub use crate::twins::later_twins;

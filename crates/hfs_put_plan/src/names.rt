@@ -1,0 +1,26 @@
+//! The name that an item gets.
+ghost use Rattle.std.specs.Prelude.{◌≡◌, chars};
+ghost use Rattle.hfs_incoming.specs.Names.{given_name};
+ghost use Rattle.hfs_incoming.specs.Spelled.{host_letters};
+ghost use Rattle.hfs_put_plan.specs.Names.{put_name};
+
+use hfs_fields::Name;
+use hfs_incoming::{GivenName, host_item_name};
+
+/// The name that an item gets of one that was given: it, where it is an item name; where names may be changed, the one in its place;
+/// else none.
+pub fn put_name(given: GivenName, rename: bool) -> Option<Name>
+    ensures { result ≡ put_name given rename }
+{
+    match given {
+        GivenName::Item(name) => Some(name),
+        GivenName::Other(name) => { if rename { Some(name) } else { None } }
+    }
+}
+
+/// The name that an item gets by its name in a host's folder.
+pub fn read_put_name(text: &str, rename: bool) -> Option<Name>
+    ensures { result ≡ put_name (given_name (host_letters (chars text.now))) rename }
+{
+    put_name(host_item_name(text), rename)
+}

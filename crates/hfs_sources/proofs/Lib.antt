@@ -1,0 +1,4 @@
+pub mod Walks
+mod EntryOrder
+pub mod WalkLemmas
+pub mod SourceLemmas

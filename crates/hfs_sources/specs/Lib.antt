@@ -1,0 +1,12 @@
+pub mod Looks
+pub mod Trees
+pub mod Nodes
+pub mod Plans
+pub mod Items
+pub mod Paths
+pub mod Folders
+pub mod Walks
+pub mod HostSteps
+pub mod LoggedSteps
+pub mod Sources
+pub mod Laws

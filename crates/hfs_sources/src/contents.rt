@@ -1,0 +1,47 @@
+//! What files of a tree hold that are AppleDouble or MacBinary.
+ghost use Rattle.std.specs.Prelude.{◌≡◌, IfOk};
+ghost use Rattle.hfs_incoming.specs.AppleDouble.{apple_double_in};
+ghost use Rattle.hfs_incoming.specs.MacBinary.{macbinary_in};
+ghost use Rattle.hfs_sources.specs.Trees.{OfEachTree};
+
+use crate::fault::{HostFault, cannot_read};
+use crate::tree::HostTree;
+use hfs_incoming::{AppleDoubleFile, MacBinaryFile, read_apple_double, read_macbinary};
+use std::alloc::Global;
+
+/// What the file at a path holds that is AppleDouble; none where it isn't. Only the head and the parts that are asked for are
+/// read.
+pub(crate) fn read_double<T: HostTree>(
+    alloc: Global,
+    tree: &mut T,
+    path: &str,
+) -> Result<Option<AppleDoubleFile>, HostFault>
+    ensures found { IfOk result (λ found. OfEachTree (T.Holds tree.new)
+        (λ host. found ≡ apple_double_in (host.bytes path.now))) }
+    ensures held { OfEachTree (T.Holds tree.new) (T.Holds tree.old) }
+{
+    let mut file = tree.open(alloc, path)?;
+    let Ok(found) = read_apple_double(&mut file) else {
+        return Err(cannot_read(alloc, path));
+    };
+    tree.take_back(path, file);
+    Ok(found)
+}
+
+/// What the file at a path holds that is MacBinary; none where it isn't. Only its header is read.
+pub(crate) fn read_header<T: HostTree>(
+    alloc: Global,
+    tree: &mut T,
+    path: &str,
+) -> Result<Option<MacBinaryFile>, HostFault>
+    ensures found { IfOk result (λ found. OfEachTree (T.Holds tree.new)
+        (λ host. found ≡ macbinary_in (host.bytes path.now))) }
+    ensures held { OfEachTree (T.Holds tree.new) (T.Holds tree.old) }
+{
+    let mut file = tree.open(alloc, path)?;
+    let Ok(found) = read_macbinary(&mut file) else {
+        return Err(cannot_read(alloc, path));
+    };
+    tree.take_back(path, file);
+    Ok(found)
+}

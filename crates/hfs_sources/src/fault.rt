@@ -1,0 +1,48 @@
+//! Why what was to be put could not be looked at.
+ghost use Rattle.std.specs.Prelude.{◌≡◌};
+ghost use Rattle.hfs_sources.specs.declared.fault.HostFault.TheVariants.{NoMemory};
+
+use std::alloc::{AllocError, AllocFailed, Global};
+
+/// Why what was to be put could not be looked at.
+#[derive(Debug, Drop)]
+pub enum HostFault {
+    /// What has this path can't be read.
+    CannotRead(String),
+    /// A name in the folder at this path is not UTF-8.
+    NotUtf8(String),
+    /// Memory was refused.
+    NoMemory,
+}
+
+impl From<AllocError> for HostFault {
+    ghost from_gives = { λ _ fault. fault ≡ NoMemory };
+
+    fn from(_: AllocError) -> HostFault {
+        HostFault::NoMemory
+    }
+}
+
+impl<T: Drop> From<AllocFailed<T>> for HostFault {
+    ghost from_gives = { λ _ fault. fault ≡ NoMemory };
+
+    fn from(_: AllocFailed<T>) -> HostFault {
+        HostFault::NoMemory
+    }
+}
+
+/// The fault of what has a path and can't be read.
+pub(crate) fn cannot_read(alloc: Global, path: &str) -> HostFault {
+    match String::from_str(alloc, path) {
+        Ok(path) => HostFault::CannotRead(path),
+        Err(_) => HostFault::NoMemory,
+    }
+}
+
+/// The fault of a folder with a name in it that is not UTF-8.
+pub(crate) fn not_utf8(alloc: Global, path: &str) -> HostFault {
+    match String::from_str(alloc, path) {
+        Ok(path) => HostFault::NotUtf8(path),
+        Err(_) => HostFault::NoMemory,
+    }
+}

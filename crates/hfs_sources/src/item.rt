@@ -1,0 +1,142 @@
+//! Items that are to come.
+ghost use Rattle.std.specs.Prelude.{◌≡◌, IfOk, OnOk, string_bytes};
+ghost use Rattle.hfs_sources.specs.Plans.{double_at, header_at, plan_at, plan_by};
+ghost use Rattle.hfs_sources.specs.Trees.{OfEachTree};
+ghost use Rattle.hfs_sources.specs.Walks.{with_twin};
+
+use crate::contents::{read_double, read_header};
+use crate::entry::Look;
+use crate::fault::HostFault;
+use crate::plan::{ItemPlan, PutOptions, is_file, macbinary_plan, plain_plan};
+use crate::told::ToldItems;
+use crate::tree::HostTree;
+use hfs_incoming::{AppleDoubleFile, MacBinaryFile};
+use std::alloc::Global;
+use std::marker::Model;
+
+/// An item that is to come. Contracts see its path on the host, the place of its parent among the items, and its plan.
+#[derive(Drop)]
+pub struct SourceItem {
+    path: String,
+    parent: Option<usize>,
+    plan: ItemPlan,
+}
+
+impl Model for SourceItem {
+    ghost use Rattle.std.specs.Prelude.{string_bytes};
+    ghost use Rattle.hfs_sources.specs.Items.{PlannedItem};
+
+    ghost Value = { PlannedItem };
+
+    ghost view = { λ item. record { path = string_bytes item.path; parent = item.parent; plan = item.plan } };
+}
+
+impl SourceItem {
+    /// An item.
+    pub(crate) fn new(path: String, parent: Option<usize>, plan: ItemPlan) -> SourceItem
+        ensures { result ≡ record { path = string_bytes path; parent = parent; plan = plan } }
+    {
+        SourceItem { path, parent, plan }
+    }
+
+    /// Its path on the host.
+    pub fn path(&self) -> &str
+        ensures { result.now ≡ self.now.path }
+    {
+        self.path.as_str()
+    }
+
+    /// The place of the folder in which it lies, among the items of the walk; none of what the sources are themselves.
+    pub fn parent(&self) -> Option<usize>
+        ensures { result ≡ self.now.parent }
+    {
+        self.parent
+    }
+
+    /// The same item, with a note whether one before it in its folder has its name.
+    pub(crate) fn with_twin(self, twin: bool) -> SourceItem
+        ensures { result ≡ with_twin self twin }
+    {
+        let mut item = self;
+        item.plan.found.is_first = !twin;
+        item
+    }
+
+    /// What is planned of it.
+    pub fn plan(&self) -> ItemPlan
+        ensures { result ≡ self.now.plan }
+    {
+        self.plan
+    }
+}
+
+/// An item by its name, what is seen of its own entry and of the one that belongs to it, and the paths of both.
+#[derive(Clone, Copy)]
+pub(crate) struct ItemPlace<'a> {
+    pub(crate) name: &'a str,
+    pub(crate) own: Option<Look>,
+    pub(crate) double: Option<Look>,
+    pub(crate) path: &'a str,
+    pub(crate) double_path: &'a str,
+}
+
+/// What an item's own file holds that is MacBinary, where that is asked for.
+fn own_header<T: HostTree>(
+    alloc: Global,
+    tree: &mut T,
+    how: PutOptions,
+    own: Option<Look>,
+    path: &str,
+) -> Result<Option<MacBinaryFile>, HostFault>
+    ensures found { IfOk result (λ found. OfEachTree (T.Holds tree.new)
+        (λ host. found ≡ header_at host how own path.now)) }
+    ensures held { OfEachTree (T.Holds tree.new) (T.Holds tree.old) }
+{
+    if how.macbinary && is_file(own) {
+        read_header(alloc, tree, path)
+    } else {
+        Ok(None)
+    }
+}
+
+/// What a file holds that is AppleDouble and belongs to an item.
+fn own_double<T: HostTree>(
+    alloc: Global,
+    tree: &mut T,
+    double: Option<Look>,
+    path: &str,
+) -> Result<Option<AppleDoubleFile>, HostFault>
+    ensures found { IfOk result (λ found. OfEachTree (T.Holds tree.new)
+        (λ host. found ≡ double_at host double path.now)) }
+    ensures held { OfEachTree (T.Holds tree.new) (T.Holds tree.old) }
+{
+    if is_file(double) {
+        read_double(alloc, tree, path)
+    } else {
+        Ok(None)
+    }
+}
+
+/// What is planned of an item.
+pub(crate) fn read_plan<T: HostTree, B: ToldItems>(
+    alloc: Global,
+    tree: &mut T,
+    told: &B,
+    how: PutOptions,
+    at: &ItemPlace<'_>,
+) -> Result<ItemPlan, HostFault>
+    ensures plan { IfOk result (λ plan. OfEachTree (T.Holds tree.new)
+        (λ host. plan ≡ plan_at host how (B.told told.now at.now.path.now)
+        at.now.own at.now.double at.now.name.now at.now.path.now
+        at.now.double_path.now)) }
+    ensures held { OfEachTree (T.Holds tree.new) (T.Holds tree.old) }
+{
+    let facts = told.told(at.path);
+    match own_header(alloc, tree, how, at.own, at.path)? {
+        Some(file) => Ok(macbinary_plan(how, facts, at.own, file)),
+        None => {
+            let double = own_double(alloc, tree, at.double, at.double_path)?;
+            Ok(plain_plan(how, facts, at.own, at.double, at.name, double))
+        }
+    }
+}

@@ -1,0 +1,33 @@
+//! What is to come onto a disk out of a host's folders and files: the tree of what comes, and the walk over it.
+#![tactic(auto)]
+
+mod contents;
+mod entry;
+mod fault;
+mod folder;
+mod item;
+mod laws;
+mod log;
+mod memory;
+mod order;
+mod paths;
+mod plan;
+mod sources;
+mod system_tree;
+mod told;
+mod tree;
+mod twins;
+mod walking;
+
+pub use crate::entry::{HostEntry, HostTime, Look, host_date};
+pub use crate::fault::HostFault;
+pub use crate::item::SourceItem;
+pub use crate::laws::walk_laws;
+pub use crate::log::{HostLog, Step};
+pub use crate::memory::{HostNode, MemoryTree};
+pub use crate::plan::{ForkSpan, ItemPlan, PutOptions};
+pub use crate::sources::list_sources;
+pub use crate::system_tree::SystemTree;
+pub use crate::told::{NothingTold, ToldItems};
+pub use crate::tree::HostTree;
+pub use crate::walking::walk;

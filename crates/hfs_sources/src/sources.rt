@@ -1,0 +1,205 @@
+//! What sources give, each of which is the path of a file, of a folder, or of a bag.
+ghost use Rattle.std.specs.Prelude.{◌≡◌, IfOk, map, string_bytes};
+ghost use Rattle.hfs_sources.specs.Sources.{Gives, GivesBy, GiveAll, IsListing, beside, is_bag, named_plan, nameless, source_plan};
+ghost use Rattle.hfs_sources.specs.Trees.{OfEachTree};
+ghost use Rattle.std.specs.Path.{path_file_name};
+
+use crate::entry::Look;
+use crate::fault::{HostFault, cannot_read};
+use crate::folder::{FolderPlace, items_in};
+use crate::item::{ItemPlace, SourceItem, read_plan};
+use crate::paths::{behind_mark, entry_path};
+use crate::plan::{ItemPlan, PutOptions, is_file, is_folder, plain_plan};
+use crate::told::ToldItems;
+use crate::tree::HostTree;
+use crate::walking::walk;
+use std::alloc::{AllocError, Global};
+use std::path::Path;
+
+/// The path of what belongs by its name to a source.
+#[tactic(auto, unfolding(crate::specs::Sources::beside))]
+fn beside(alloc: Global, source: &str, name: &str) -> Result<String, AllocError>
+    ensures { IfOk result (λ path. string_bytes path ≡ beside source.now name.now) }
+{
+    let name = format!(in alloc; "._{name}")?;
+    let path = Path::new(source).with_file_name(alloc, name.as_str())?;
+    String::from_str(alloc, path.as_str())
+}
+
+/// The same plan of what has no name.
+fn nameless(plan: ItemPlan) -> ItemPlan
+    ensures { result ≡ nameless plan }
+{
+    let mut plan = plan;
+    plan.name = None;
+    plan.found.is_named = false;
+    plan
+}
+
+/// The plan of a source by its name.
+fn named_plan<T: HostTree, B: ToldItems>(
+    alloc: Global,
+    tree: &mut T,
+    told: &B,
+    how: PutOptions,
+    source: &str,
+    look: Look,
+    name: &str,
+) -> Result<ItemPlan, HostFault>
+    ensures plan { IfOk result (λ plan. OfEachTree (T.Holds tree.new)
+        (λ host. plan ≡ named_plan host (B.told told.now) how source.now look name.now)) }
+    ensures held { OfEachTree (T.Holds tree.new) (T.Holds tree.old) }
+{
+    match behind_mark(name) {
+        Some(own) => {
+            let at = ItemPlace {
+                name: own,
+                own: None,
+                double: Some(look),
+                path: source,
+                double_path: source,
+            };
+            read_plan(alloc, tree, told, how, &at)
+        }
+        None => {
+            let double_path = beside(alloc, source, name)?;
+            let double = tree.look(alloc, double_path.as_str())?;
+            let at = ItemPlace {
+                name,
+                own: Some(look),
+                double,
+                path: source,
+                double_path: double_path.as_str(),
+            };
+            read_plan(alloc, tree, told, how, &at)
+        }
+    }
+}
+
+/// The plan of a source.
+fn source_plan<T: HostTree, B: ToldItems>(
+    alloc: Global,
+    tree: &mut T,
+    told: &B,
+    how: PutOptions,
+    source: &str,
+    look: Look,
+) -> Result<ItemPlan, HostFault>
+    ensures plan { IfOk result (λ plan. OfEachTree (T.Holds tree.new)
+        (λ host. plan ≡ source_plan host (B.told told.now) how source.now look (path_file_name source.now))) }
+    ensures held { OfEachTree (T.Holds tree.new) (T.Holds tree.old) }
+{
+    match Path::new(source).file_name() {
+        Some(name) => named_plan(alloc, tree, told, how, source, look, name),
+        None => {
+            let plan = plain_plan(how, told.told(source), Some(look), None, "", None);
+            Ok(nameless(plan))
+        }
+    }
+}
+
+/// Whether a source is a bag.
+fn is_bag<T: HostTree>(
+    alloc: Global,
+    tree: &mut T,
+    source: &str,
+    look: Look,
+) -> Result<bool, HostFault>
+    ensures bag { IfOk result (λ found. OfEachTree (T.Holds tree.new)
+        (λ host. found ≡ is_bag host source.now look)) }
+    ensures held { OfEachTree (T.Holds tree.new) (T.Holds tree.old) }
+{
+    if !is_folder(Some(look)) {
+        return Ok(false);
+    }
+    let declaration = entry_path(alloc, source, "bagit.txt")?;
+    let declaration = tree.look(alloc, declaration.as_str())?;
+    let payload = entry_path(alloc, source, "data")?;
+    let payload = tree.look(alloc, payload.as_str())?;
+    Ok(is_file(declaration) && is_folder(payload))
+}
+
+/// What a source gives, which leads to what is seen so.
+fn given_by<T: HostTree, B: ToldItems>(
+    alloc: Global,
+    tree: &mut T,
+    told: &B,
+    how: PutOptions,
+    source: &str,
+    look: Look,
+) -> Result<Vec<SourceItem>, HostFault>
+    ensures items { IfOk result (λ items. OfEachTree (T.Holds tree.new)
+        (λ host. GivesBy (is_bag host source.now look) host (B.told told.now) how source.now look items.items)) }
+    ensures held { OfEachTree (T.Holds tree.new) (T.Holds tree.old) }
+{
+    if is_bag(alloc, tree, source, look)? {
+        let payload = entry_path(alloc, source, "data")?;
+        let folder = FolderPlace {
+            path: payload.as_str(),
+            place: None,
+        };
+        return items_in(alloc, tree, told, how, &folder);
+    }
+    let plan = source_plan(alloc, tree, told, how, source, look)?;
+    let path = String::from_str(alloc, source)?;
+    let mut items = Vec::new(alloc);
+    items.push(SourceItem::new(path, None, plan))?;
+    Ok(items)
+}
+
+/// What a source gives.
+fn gives<T: HostTree, B: ToldItems>(
+    alloc: Global,
+    tree: &mut T,
+    told: &B,
+    how: PutOptions,
+    source: &str,
+) -> Result<Vec<SourceItem>, HostFault>
+    ensures items { IfOk result (λ items. OfEachTree (T.Holds tree.new)
+        (λ host. Gives host (B.told told.now) how source.now items.items)) }
+    ensures held { OfEachTree (T.Holds tree.new) (T.Holds tree.old) }
+{
+    match tree.target(alloc, source)? {
+        Some(look) => given_by(alloc, tree, told, how, source, look),
+        None => Err(cannot_read(alloc, source)),
+    }
+}
+
+/// What all sources give, one after the other.
+fn give_all<T: HostTree, B: ToldItems>(
+    alloc: Global,
+    tree: &mut T,
+    told: &B,
+    how: PutOptions,
+    sources: &[&str],
+) -> Result<Vec<SourceItem>, HostFault>
+    ensures items { IfOk result (λ items. OfEachTree (T.Holds tree.new)
+        (λ host. GiveAll host (B.told told.now) how (map (λ s. s.now) sources.now) items.items)) }
+    ensures held { OfEachTree (T.Holds tree.new) (T.Holds tree.old) }
+{
+    let mut items = Vec::new(alloc);
+    for source in sources {
+        let mut more = gives(alloc, tree, told, how, source)?;
+        items.append(&mut more)?;
+    }
+    Ok(items)
+}
+
+/// The list of all that is to come, in the order of the walk: of each source in turn the file, or the folder and behind it what
+/// lies in it, or what lies in the `data` of a bag. A link that is a source is followed, and none below it. What can't be put is
+/// listed, and nothing below it. Faults: `CannotRead` of what can't be read or is not there, `NotUtf8` of a folder, `NoMemory`;
+/// the first one ends it.
+pub fn list_sources<T: HostTree, B: ToldItems>(
+    alloc: Global,
+    tree: &mut T,
+    told: &B,
+    how: PutOptions,
+    sources: &[&str],
+) -> Result<Vec<SourceItem>, HostFault>
+    ensures items { IfOk result (λ items. OfEachTree (T.Holds tree.new)
+        (λ host. IsListing host (B.told told.now) how (map (λ s. s.now) sources.now) items.items)) }
+    ensures held { OfEachTree (T.Holds tree.new) (T.Holds tree.old) }
+{
+    let top = give_all(alloc, tree, told, how, sources)?;
+    walk(alloc, tree, told, how, top)
+}
