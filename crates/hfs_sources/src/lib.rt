@@ -5,6 +5,7 @@ mod contents;
 mod entry;
 mod fault;
 mod folder;
+mod fork_run;
 mod item;
 mod laws;
 mod log;
@@ -21,6 +22,7 @@ mod walking;
 
 pub use crate::entry::{HostEntry, HostTime, Look, host_date};
 pub use crate::fault::HostFault;
+pub use crate::fork_run::ForkRun;
 pub use crate::item::SourceItem;
 pub use crate::laws::walk_laws;
 pub use crate::log::{HostLog, Step};
