@@ -1,1 +1,6 @@
 pub mod PlanNumbers
+pub mod SizeLemmas
+pub mod CatalogLemmas
+pub mod PlanLemmas
+pub mod ReadLemmas
+pub mod TypedLemmas

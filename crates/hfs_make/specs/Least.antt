@@ -3,8 +3,8 @@ use Rattle.std.specs.Prelude.{◌≡◌, ℕ, ◌<◌, ◌≤◌, Bool, true, fa
 
 -- the least number from a number on that passes
 pub record IsLeastFrom (from : ℕ) (passes : ℕ → Bool) (least : ℕ) : Type 0 where
-  pub from : from ≤ least
-  pub passes : passes least ≡ true
+  pub reached : from ≤ least
+  pub passed : passes least ≡ true
   pub below : (n : ℕ) → from ≤ n → n < least → passes n ≡ false
 
 -- no number from a number on passes

@@ -1,6 +1,5 @@
 pub mod TypedSizes
 pub mod Names
-pub mod Items
 pub mod Catalogs
 pub mod Least
 pub mod Wanted

@@ -1,5 +1,5 @@
 -- The name of a new volume.
-use Rattle.std.specs.Prelude.{◌≡◌, ℕ, Bool, true, IsTrue, if◌then◌else◌, List, Option, Some, None, IfSome, chars}
+use Rattle.std.specs.Prelude.{◌≡◌, ℕ, IsTrue, if◌then◌else◌, List, Option, Some, None, chars}
 use Rattle.hfs_fields.specs.Names.{is_item_name}
 use Rattle.hfs_format.specs.Plan.{is_volume_name}
 use Rattle.hfs_incoming.specs.Names.{given_name}
@@ -10,7 +10,7 @@ use Rattle.hfs_make.specs.declared.fault.MakeFault.{MakeFault}
 use Rattle.hfs_make.specs.declared.fault.MakeFault.TheVariants.{BadName}
 use Rattle.hfs_make.specs.declared.name.NameSource.{NameSource}
 use Rattle.hfs_make.specs.declared.name.NameSource.TheVariants.{Typed, PlainText, FolderName, Nameless}
-use Rattle.hfs_make.specs.declared.name.VolumeName.{VolumeName}
+use Rattle.hfs_make.specs.declared.volume_name.VolumeName.{VolumeName}
 
 -- the letters, where they are an item name
 abbrev pub item_letters : GivenName → Option (List ℕ)

@@ -1,13 +1,14 @@
 -- The plan of a new volume.
 use Rattle.std.specs.Prelude.{◌≡◌, ℕ, ◌<◌, ⊤, List, length, Option, Some, None}
 use Rattle.hfs_format.specs.declared.plan.FormatPlan.{FormatPlan}
+use Rattle.hfs_format.specs.declared.fault.FormatFault.TheVariants as format
 use Rattle.hfs_format.specs.declared.planned_image.PlannedImage.{PlannedImage}
 use Rattle.hfs_format.specs.Image.{IsImageOf}
-use Rattle.hfs_format.specs.Plan.{allocation_blocks, block_factor}
+use Rattle.hfs_format.specs.Plan.{HasFault, allocation_blocks, block_factor}
 use Rattle.hfs_make.specs.declared.fault.MakeFault.{MakeFault}
 use Rattle.hfs_make.specs.declared.fault.MakeFault.TheVariants.{BadName, BadSize, NoRoom, Memory}
-use Rattle.hfs_make.specs.declared.plan.NewVolume.{NewVolume}
-use Rattle.hfs_make.specs.declared.typed_size.VolumeSize.{VolumeSize}
+use Rattle.hfs_make.specs.declared.new_volume.NewVolume.{NewVolume}
+use Rattle.hfs_make.specs.declared.volume_size.VolumeSize.{VolumeSize}
 use Rattle.hfs_make.specs.declared.items.NewItem.{NewItem}
 use Rattle.hfs_make.specs.Catalogs.{catalog_nodes}
 use Rattle.hfs_make.specs.Sizes.{HasNoSize, IsChosenSize}
@@ -49,6 +50,10 @@ IsMadeFor volume image = (plan : FormatPlan) × IsPlanFor volume plan × IsImage
 abbrev pub HasNoRoom : Option VolumeSize → ℕ → List NewItem → Type 0
 HasNoRoom (Some size) nodes items = allocation_blocks size.blocks < tree_blocks (block_factor size.blocks) nodes
 HasNoRoom None nodes items = HasNoSize nodes items
+
+-- a plan's own want of room
+abbrev pub IsFormatFault : FormatPlan → MakeFault → Type 0
+IsFormatFault plan fault = (fault ≡ NoRoom) × HasFault plan format.NoRoom
 
 abbrev pub IsPlanFault : NewVolume → MakeFault → Type 0
 IsPlanFault volume NoRoom = HasNoRoom volume.size (nodes_of volume) volume.items.now

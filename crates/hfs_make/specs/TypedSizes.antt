@@ -4,7 +4,7 @@ use Rattle.std.specs.Option.{SomeIff}
 use Rattle.std.specs.Str.Parse.{IsNumeral, digits_value, without_leading_plus}
 use Rattle.hfs_make.specs.declared.fault.MakeFault.{MakeFault}
 use Rattle.hfs_make.specs.declared.fault.MakeFault.TheVariants.{BadSize}
-use Rattle.hfs_make.specs.declared.typed_size.VolumeSize.{VolumeSize}
+use Rattle.hfs_make.specs.declared.volume_size.VolumeSize.{VolumeSize}
 
 -- the last character; 0 where there is none
 abbrev pub last_of : List ℕ → ℕ

@@ -1,5 +1,5 @@
 //! The least size that holds all.
-ghost use Rattle.std.specs.Prelude.{◌≡◌, ◌≤◌};
+ghost use Rattle.std.specs.Prelude.{◌≡◌, ◌≤◌, IfSome};
 ghost use Rattle.hfs_format.specs.Plan as plan;
 ghost use Rattle.hfs_make.specs.Least.{FindsLeast, FindsLeastWithin};
 ghost use Rattle.hfs_make.specs.Wanted.{has_blocks, holds_all};
@@ -11,8 +11,9 @@ use crate::wanted::wanted_blocks;
 const MOST_BLOCKS: u32 = 4_194_304;
 
 /// How many allocation blocks a volume of so many blocks has.
-#[tactic(auto, using(crate::proofs::PlanNumbers::allocation_blocks_is))]
+#[tactic(auto, using(crate::proofs::PlanNumbers::allocation_blocks_is, crate::proofs::PlanNumbers::few_quotients))]
 fn allocation_blocks(blocks: u32, factor: u32) -> u32
+    requires few { blocks ≤ 4194304 }
     requires some { 1 ≤ factor }
     requires factor { factor ≡ plan.block_factor blocks }
     ensures { result ≡ plan.allocation_blocks blocks }
@@ -23,6 +24,7 @@ fn allocation_blocks(blocks: u32, factor: u32) -> u32
 
 /// Whether a volume of so many blocks has so many allocation blocks.
 fn has_blocks(blocks: u32, factor: u32, wanted: u128) -> bool
+    requires few { blocks ≤ 4194304 }
     requires some { 1 ≤ factor }
     requires factor { factor ≡ plan.block_factor blocks }
     ensures { result ≡ has_blocks wanted blocks }
@@ -33,6 +35,7 @@ fn has_blocks(blocks: u32, factor: u32, wanted: u128) -> bool
 /// The least number of blocks from `first` to `last` whose volume has so many allocation blocks, each of so many blocks.
 fn least_with_blocks(first: u32, last: u32, factor: u32, wanted: u128) -> Option<u32>
     requires range { first ≤ last }
+    requires few { last ≤ 4194304 }
     requires some { 1 ≤ factor }
     requires first { factor ≡ plan.block_factor first }
     requires last { factor ≡ plan.block_factor last }
@@ -56,7 +59,8 @@ fn least_with_blocks(first: u32, last: u32, factor: u32, wanted: u128) -> Option
 
 /// The least number of blocks from `from` on whose volume holds all.
 pub(crate) fn least_blocks(nodes: u32, items: &[NewItem], from: u32) -> Option<u32>
-    ensures { FindsLeast from (holds_all nodes items.now) result }
+    ensures least { FindsLeast from (holds_all nodes items.now) result }
+    ensures few { IfSome result (λ least. least ≤ 4194304) }
 {
     let mut first = from;
     while first <= MOST_BLOCKS {

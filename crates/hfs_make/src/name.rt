@@ -1,19 +1,11 @@
 //! The name of a new volume.
-ghost use Rattle.std.specs.Prelude.{◌≡◌, IsTrue, MatchResult, Some};
-ghost use Rattle.std.specs.Option.{SomeIff};
-ghost use Rattle.hfs_format.specs.Plan.{is_volume_name};
-ghost use Rattle.hfs_make.specs.Names.{IsBadName, IsNameOf, IsShort, is_short, item_letters, name_in};
+ghost use Rattle.std.specs.Prelude.{◌≡◌, MatchResult};
+ghost use Rattle.hfs_make.specs.Names.{IsBadName, IsNameOf, item_letters, name_in};
 
 use crate::fault::MakeFault;
+use crate::volume_name::VolumeName;
 use hfs_fields::Name;
 use hfs_incoming::{GivenName, host_item_name, plain_item_name};
-
-/// The name of a volume: 1 to 27 characters of an item name.
-#[derive(Clone, Copy)]
-pub struct VolumeName {
-    pub name: Name,
-    ghost volume: { IsTrue (is_volume_name name) },
-}
 
 /// What the name of a new volume is read from.
 #[derive(Clone, Copy)]
@@ -54,8 +46,11 @@ fn name_in(source: NameSource<'_>) -> Option<Name>
 pub fn volume_name(source: NameSource<'_>) -> Result<VolumeName, MakeFault>
     ensures { MatchResult result (IsNameOf source) (IsBadName source) }
 {
-    match name_in(source) {
-        Some(name) if name.bytes().len() <= 27 => Ok(VolumeName { name }),
-        Some(_) | None => Err(MakeFault::BadName),
+    let Some(name) = name_in(source) else {
+        return Err(MakeFault::BadName);
+    };
+    if name.bytes().len() > 27 {
+        return Err(MakeFault::BadName);
     }
+    Ok(VolumeName { name })
 }

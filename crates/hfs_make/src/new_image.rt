@@ -39,10 +39,10 @@ impl PlacedBytes for NewImage {
     }
 
     fn read_at(&mut self, place: u64, into: &mut [u8]) -> io::Result<()> {
-        let len = PlacedBytes::len(self);
         if into.is_empty() {
             return Ok(());
         }
+        let len = u64::from(self.planned.count()) * 512;
         if len < place || len - place < into.len() as u64 {
             return Err(io::Error::from(ErrorKind::UnexpectedEof));
         }

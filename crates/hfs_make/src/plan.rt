@@ -1,32 +1,19 @@
 //! The plan of a new volume.
 ghost use Rattle.std.specs.Prelude.{◌≡◌, ◌≤◌, MatchResult, MatchOption};
 ghost use Rattle.std.specs.Option.{SomeIff};
-ghost use Rattle.hfs_make.specs.Catalogs as catalogs;
+ghost use Rattle.hfs_format.specs.Image.{IsImageOf};
+ghost use Rattle.hfs_format.specs.Plan.{HasFault};
+ghost use Rattle.hfs_format.specs.declared.fault.FormatFault.{FormatFault};
+ghost use Rattle.hfs_format.specs.declared.fault.FormatFault.TheVariants as format;
 ghost use Rattle.hfs_make.specs.Plans as spec;
-ghost use Rattle.hfs_make.specs.Plans.{HasNoBlocks, IsMadeFor, IsPlanFault, IsSizeFor};
+ghost use Rattle.hfs_make.specs.Plans.{HasNoBlocks, IsFormatFault, IsMadeFor, IsPlanFault, IsSizeFor};
 
 use crate::catalog::catalog_nodes;
 use crate::fault::MakeFault;
-use crate::items::NewItem;
-use crate::name::VolumeName;
+use crate::new_volume::NewVolume;
 use crate::size::chosen_blocks;
-use crate::typed_size::VolumeSize;
 use hfs_format::{FormatFault, FormatPlan, PlannedImage};
 use std::alloc::Global;
-
-/// A new volume that is wanted.
-#[derive(Clone, Copy)]
-pub struct NewVolume<'a> {
-    pub name: VolumeName,
-    /// Its size; where it is left out, it is the least that suffices.
-    pub size: Option<VolumeSize>,
-    /// All that is to come into it.
-    pub items: &'a [NewItem],
-    /// How many times the nodes that these items want the catalog gets: 1, and twice as many where they have not sufficed.
-    pub catalog_times: u32,
-    /// The moment of all dates of the new volume, in seconds since midnight of 1 January 1904.
-    pub moment: u32,
-}
 
 /// How many nodes the catalog gets; none where they are more than a volume of 2 GB has blocks.
 fn few_nodes(volume: &NewVolume<'_>) -> Option<u32>
@@ -47,6 +34,23 @@ fn size_blocks(volume: &NewVolume<'_>, nodes: u32) -> Option<u32>
     match volume.size {
         Some(size) => Some(size.blocks),
         None => chosen_blocks(nodes, volume.items),
+    }
+}
+
+/// The image of a plan that has no fault, or wants more room than there is.
+fn image_of(plan: &FormatPlan) -> Result<PlannedImage, MakeFault>
+    requires { (fault : FormatFault) → HasFault plan.now fault → fault ≡ format.NoRoom }
+    ensures { MatchResult result (IsImageOf plan.entry.now) (IsFormatFault plan.entry.now) }
+{
+    match PlannedImage::of(plan) {
+        Ok(image) => Ok(image),
+        Err(fault) => match fault {
+            FormatFault::NoRoom => Err(MakeFault::NoRoom),
+            FormatFault::BadName => unreachable!(),
+            FormatFault::BadSize => unreachable!(),
+            FormatFault::BadNodes => unreachable!(),
+            FormatFault::Memory => unreachable!(),
+        },
     }
 }
 
@@ -71,12 +75,5 @@ pub fn plan_volume(alloc: Global, volume: &NewVolume<'_>) -> Result<PlannedImage
         catalog_nodes: nodes,
         now: volume.moment,
     };
-    match PlannedImage::of(&plan) {
-        Ok(image) => Ok(image),
-        Err(FormatFault::NoRoom) => Err(MakeFault::NoRoom),
-        Err(FormatFault::BadName)
-        | Err(FormatFault::BadSize)
-        | Err(FormatFault::BadNodes)
-        | Err(FormatFault::Memory) => unreachable!(),
-    }
+    image_of(&plan)
 }

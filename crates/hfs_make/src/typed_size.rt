@@ -3,16 +3,8 @@ ghost use Rattle.std.specs.Prelude.{◌≡◌, ◌≤◌, MatchResult};
 ghost use Rattle.hfs_make.specs.TypedSizes.{IsNumberOf, IsSizeOf, IsBadSize, digits_in, unit_in};
 
 use crate::fault::MakeFault;
+use crate::volume_size::VolumeSize;
 use std::str::from_utf8;
-
-/// The size of a volume: whole blocks of 512 bytes, from 64 KB to 2 GB.
-#[derive(Clone, Copy)]
-pub struct VolumeSize {
-    /// How many blocks of 512 bytes.
-    pub blocks: u32,
-    ghost least: { 128 ≤ blocks },
-    ghost most: { blocks ≤ 4194304 },
-}
 
 /// The digits of a size, and how many bytes each one has that they count.
 #[tactic(auto, unfolding(crate::specs::TypedSizes::digits_in, crate::specs::TypedSizes::unit_in))]
