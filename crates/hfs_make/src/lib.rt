@@ -18,7 +18,7 @@ mod wanted;
 pub use crate::catalog::catalog_nodes;
 pub use crate::fault::MakeFault;
 pub use crate::items::{NewFile, NewItem};
-pub use crate::name::{NameSource, volume_name};
+pub use crate::name::{NameSource, read_name};
 pub use crate::new_image::NewImage;
 pub use crate::new_volume::NewVolume;
 pub use crate::plan::plan_volume;

@@ -32,7 +32,7 @@ fn item_name(given: GivenName) -> Option<Name>
 
 /// The item name that is read from this.
 fn name_in(source: NameSource<'_>) -> Option<Name>
-    ensures { result ≡ name_in source }
+    ensures { result ≡ name_in source.entry }
 {
     match source {
         NameSource::Typed(text) => Name::new(text.as_bytes()),
@@ -43,8 +43,8 @@ fn name_in(source: NameSource<'_>) -> Option<Name>
 }
 
 /// The name of a volume. Error: `BadName` exactly where there is none, or it isn't an item name of at most 27 characters; it is never cut.
-pub fn volume_name(source: NameSource<'_>) -> Result<VolumeName, MakeFault>
-    ensures { MatchResult result (IsNameOf source) (IsBadName source) }
+pub fn read_name(source: NameSource<'_>) -> Result<VolumeName, MakeFault>
+    ensures { MatchResult result (IsNameOf source.entry) (IsBadName source.entry) }
 {
     let Some(name) = name_in(source) else {
         return Err(MakeFault::BadName);

@@ -60,7 +60,7 @@ fn sizes_are_read(rt: HostRuntime) {
 
 /// Whether this is read as the name with these bytes.
 fn is_named(source: NameSource<'_>, name: &[u8]) -> bool {
-    match volume_name(source) {
+    match read_name(source) {
         Ok(volume) => volume.name.bytes() == name,
         Err(_) => false,
     }
@@ -89,7 +89,7 @@ fn names_are_read(rt: HostRuntime) {
         NameSource::FolderName("Caf\u{e9}"),
         NameSource::Nameless,
     ] {
-        assert!(rt; matches!(volume_name(source), Err(MakeFault::BadName)));
+        assert!(rt; matches!(read_name(source), Err(MakeFault::BadName)));
     }
 }
 
@@ -143,7 +143,7 @@ fn sizes_are_chosen(rt: HostRuntime) -> Result<(), Fail> {
 
 /// A volume with this name that is wanted with these items.
 fn wanted<'a>(name: &str, size: &str, items: &'a [NewItem]) -> Result<NewVolume<'a>, MakeFault> {
-    let name = volume_name(NameSource::Typed(name))?;
+    let name = read_name(NameSource::Typed(name))?;
     let size = if size.is_empty() {
         None
     } else {

@@ -1,4 +1,4 @@
-use Rattle.std.proofs.Common.{◌∙◌, sym, subst, ◌+◌, ◌-◌, ◌/◌, ap}
+use Rattle.std.proofs.Common.{sym, subst, ◌+◌, ◌/◌}
 use Rattle.hfs_make.specs.Least.{IsLeastFrom}
 use Rattle.hfs_make.specs.Catalogs.{has_left, with_map_nodes}
 use Rattle.hfs_make.proofs.CatalogLemmas.{with_map_nodes-least}

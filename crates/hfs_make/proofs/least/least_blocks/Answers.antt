@@ -1,6 +1,6 @@
-use Rattle.std.proofs.Common.{rules, ◌≡◌, ◌∙◌, sym, ◌+◌, ◌*◌, ◌/◌, ◌≤◌, subst, ℕ, false, arith}
-use Rattle.hfs_make.specs.Least.{FindsLeastWithin, IsLeastFrom}
-use Rattle.hfs_make.specs.Wanted.{has_blocks, wanted_blocks}
+use Rattle.std.proofs.Common.{◌≡◌, ◌+◌, ◌/◌, subst, ℕ, false, arith}
+use Rattle.hfs_make.specs.Least.{IsLeastFrom}
+use Rattle.hfs_make.specs.Wanted.{has_blocks}
 use Rattle.hfs_make.proofs.PlanNumbers.{factor_is}
 use Rattle.hfs_make.proofs.SizeLemmas.{factor-last, least-of_range, none-of_range}
 use Rattle.hfs_make.proofs.least.least_blocks.Goals as goal

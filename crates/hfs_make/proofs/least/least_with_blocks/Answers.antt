@@ -1,4 +1,4 @@
-use Rattle.std.proofs.Common.{rules, ◌≡◌, ◌∙◌, sym, ◌+◌, ◌-◌, ◌/◌, ℕ, false, arith}
+use Rattle.std.proofs.Common.{rules, ◌≡◌, ◌+◌, ◌-◌, ◌/◌, ℕ, false, arith}
 use Rattle.hfs_make.specs.Wanted.{has_blocks}
 use Rattle.hfs_make.proofs.SizeLemmas.{factor-within, none-below}
 use Rattle.hfs_make.proofs.least.least_with_blocks.Goals as goal

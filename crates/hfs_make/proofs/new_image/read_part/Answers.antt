@@ -1,4 +1,4 @@
-use Rattle.std.proofs.Common.{rules, ◌≡◌, ◌∙◌, ap, ◌+◌, ◌-◌, ◌*◌, ◌≤◌, length, take, drop, refl, arith}
+use Rattle.std.proofs.Common.{rules, ◌≡◌, ◌∙◌, ap, ◌+◌, ◌*◌, ◌≤◌, length, take, drop, refl, arith}
 use Rattle.hfs_format.specs.Image.{image_bytes}
 use Rattle.hfs_make.proofs.ReadLemmas.{part-at}
 use Rattle.hfs_make.proofs.new_image.read_part.Goals as goal

@@ -1,8 +1,8 @@
-use Rattle.std.proofs.Common.{◌≡◌, ◌∙◌, sym, subst, ℕ, ◌<◌, ◌≤◌, refl, inl, inr, arith}
+use Rattle.std.proofs.Common.{◌∙◌, ◌<◌, refl, inl, inr}
 use Rattle.std.proofs.lemmas.Bool.{cases_lt}
 use Rattle.hfs_format.specs.declared.plan.FormatPlan.{FormatPlan}
-use Rattle.hfs_make.specs.Plans.{HasNoRoom, nodes_of}
-use Rattle.hfs_make.proofs.PlanLemmas.{no-room-lacking, no-room-over, planned, refused}
+use Rattle.hfs_make.specs.Plans.{nodes_of}
+use Rattle.hfs_make.proofs.PlanLemmas.{no-room-over, planned, refused}
 use Rattle.hfs_make.proofs.plan.plan_volume.Goals as goal
 
 pub returns-in_default : goal.returns-in_default
