@@ -1,5 +1,5 @@
 -- What is read as a name is an item name.
-use Rattle.std.proofs.Common.{◌≡◌, ◌∙◌, sym, subst, ap, ℕ, Bool, true, false, cond, List, Option, Some, None, refl}
+use Rattle.std.proofs.Common.{◌≡◌, ◌∙◌, sym, ap, ℕ, Bool, true, false, cond, List, Some, None, refl}
 use Rattle.std.specs.Prelude.{chars}
 use Rattle.hfs_fields.specs.Names.{is_item_name}
 use Rattle.hfs_incoming.specs.Names.{given_name, renamed}

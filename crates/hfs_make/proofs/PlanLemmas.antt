@@ -1,8 +1,7 @@
 -- Why no plan is made, and what a plan says.
-use Rattle.std.proofs.Common.{◌≡◌, ◌∙◌, sym, ap, subst, ℕ, ◌+◌, ◌-◌, ◌*◌, ◌/◌, ◌<◌, ◌≤◌, Bool, true, false, not, cond, List, length, Option, Some, None, refl, inl, inr, arith, leb, leb-true, leb-false, le-leb}
+use Rattle.std.proofs.Common.{◌≡◌, ◌∙◌, sym, ap, subst, ℕ, ◌+◌, ◌-◌, ◌/◌, ◌<◌, ◌≤◌, Bool, true, false, not, cond, List, length, Option, Some, None, refl, inl, inr, arith, leb, leb-true, leb-false, le-leb}
 use Rattle.std.specs.Prelude.{nat_le, Result, Ok, Err, MatchResult}
-use Rattle.std.specs.List.{sum_by}
-use Rattle.std.proofs.lemmas.Bool.{and_from, and_parts, cases_lt, false≢true, lt-leb}
+use Rattle.std.proofs.lemmas.Bool.{and_from, and_parts, cases_lt, lt-leb}
 use Rattle.std.proofs.lemmas.Nat.{le-div}
 use Rattle.hfs_format.specs.declared.fault.FormatFault.{FormatFault}
 use Rattle.hfs_format.specs.declared.fault.FormatFault.TheVariants.{BadName, BadSize, BadNodes, NoRoom}
@@ -14,12 +13,11 @@ use Rattle.hfs_make.specs.declared.items.NewItem.{NewItem}
 use Rattle.hfs_make.specs.declared.fault.MakeFault.{MakeFault}
 use Rattle.hfs_make.specs.declared.new_volume.NewVolume.{NewVolume}
 use Rattle.hfs_make.specs.declared.volume_size.VolumeSize.{VolumeSize}
-use Rattle.hfs_make.specs.Least.{IsLeastFrom, NoneFrom}
+use Rattle.hfs_make.specs.Least.{NoneFrom}
 use Rattle.hfs_make.specs.Plans.{HasNoRoom, IsFormatFault, IsMadeFor, IsPlanFault, IsPlanFor, IsSize, LacksSize, nodes_of}
-use Rattle.hfs_make.specs.Sizes.{IsChosenSize}
-use Rattle.hfs_make.specs.Wanted.{fork_blocks, has_blocks, holds_all, tree_blocks, wanted_blocks}
+use Rattle.hfs_make.specs.Wanted.{has_blocks, holds_all, tree_blocks, wanted_blocks}
 use Rattle.hfs_make.proofs.CatalogLemmas.{catalog_nodes-some}
-use Rattle.hfs_make.proofs.PlanNumbers.{allocation_blocks_is, blocks_at, few_quotients, file_blocks_is}
+use Rattle.hfs_make.proofs.PlanNumbers.{allocation_blocks_is, few_quotients, file_blocks_is}
 use Rattle.hfs_make.proofs.SizeLemmas.{div-mono, factor-some, holds-beyond, holds-few, holds-in}
 
 -- ---- trees

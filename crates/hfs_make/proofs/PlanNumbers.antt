@@ -1,5 +1,5 @@
 -- The numbers of a new volume, as they are computed.
-use Rattle.std.proofs.Common.{◌≡◌, sym, ap, ℕ, ◌+◌, ◌-◌, ◌*◌, ◌/◌, ◌^◌, ◌<◌, ◌≤◌, refl, arith}
+use Rattle.std.proofs.Common.{◌≡◌, ap, ℕ, ◌+◌, ◌-◌, ◌/◌, ◌^◌, ◌<◌, ◌≤◌, refl, arith}
 use Rattle.std.proofs.Math.Nat.{div-le_self}
 use Rattle.std.proofs.lemmas.Nat.{div_below}
 use Rattle.hfs_format.specs.Plan.{allocation_blocks, allocation_start, bitmap_blocks, block_factor, file_blocks}

@@ -1,6 +1,6 @@
 -- Larger volumes with allocation blocks of the same size have as many at least.
-use Rattle.std.proofs.Common.{◌≡◌, ◌∙◌, sym, ap, subst, ℕ, zero, suc, ◌+◌, ◌-◌, ◌*◌, ◌/◌, ◌<◌, ◌≤◌, min, Bool, true, false, ◌&&◌, List, refl, arith, leb, leb-true, leb-false, le-leb, inl, inr}
-use Rattle.std.proofs.lemmas.Nat.{div_below, le-div}
+use Rattle.std.proofs.Common.{◌≡◌, ◌∙◌, sym, ap, subst, ℕ, zero, suc, ◌+◌, ◌-◌, ◌*◌, ◌/◌, ◌<◌, ◌≤◌, min, true, false, ◌&&◌, List, arith, leb, leb-true, leb-false, le-leb, inl, inr}
+use Rattle.std.proofs.lemmas.Nat.{le-div}
 use Rattle.std.proofs.Math.Nat.{add-mul-div_left, div-mul-le_self}
 use Rattle.std.proofs.lemmas.Bool.{lt-leb, and_left, and_parts, cases_lt}
 use Rattle.hfs_format.specs.Plan.{allocation_blocks, block_factor}
@@ -91,7 +91,7 @@ module _ (nodes : ℕ) (items : List NewItem) where
         reached = omega arith;
         passed = same least up within ∙ is.passed;
         below = λ n lower smaller.
-        elim (cases_lt n first) [ inl before ↦ none n lower before | inr inside ↦ same n inside (omega arith) ∙ is.below n inside smaller ];
+            elim (cases_lt n first) [ inl before ↦ none n lower before | inr inside ↦ same n inside (omega arith) ∙ is.below n inside smaller ];
       }
 
   -- none holds all up to the end of a range in which none does

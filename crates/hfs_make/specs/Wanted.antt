@@ -3,7 +3,6 @@ use Rattle.std.specs.Prelude.{ℕ, ◌+◌, ◌*◌, Bool, ◌&&◌, nat_le, Lis
 use Rattle.std.specs.Int.{div_ceil}
 use Rattle.std.specs.List.{sum_by}
 use Rattle.hfs_format.specs.Plan.{allocation_blocks, block_factor, file_blocks}
-use Rattle.hfs_make.specs.declared.items.NewFile.{NewFile}
 use Rattle.hfs_make.specs.declared.items.NewItem.{NewItem}
 use Rattle.hfs_make.specs.declared.items.NewItem.TheVariants.{Folder, File}
 
