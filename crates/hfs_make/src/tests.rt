@@ -1,6 +1,5 @@
 use super::*;
-use hfs_fields::Name;
-use hfs_format::{FormatPlan, format};
+use hfs_format::{FormatPlan, PlannedImage, format};
 use hfs_source::PlacedBytes;
 use hfs_sparse::BlockSource;
 use std::alloc::{AllocError, Global};
@@ -141,51 +140,82 @@ fn sizes_are_chosen(rt: HostRuntime) -> Result<(), Fail> {
     Ok(())
 }
 
-/// A volume with this name that is wanted with these items.
-fn wanted<'a>(name: &str, size: &str, items: &'a [NewItem]) -> Result<NewVolume<'a>, MakeFault> {
+/// The image of a volume with this name that is wanted with these items.
+fn planned(
+    alloc: Global,
+    name: &str,
+    size: &str,
+    items: &[NewItem],
+) -> Result<PlannedImage, MakeFault> {
     let name = read_name(NameSource::Typed(name))?;
     let size = if size.is_empty() {
         None
     } else {
         Some(read_size(size)?)
     };
-    Ok(NewVolume {
+    let volume = NewVolume {
         name,
         size,
         items,
         catalog_times: 1,
         moment: 77,
-    })
+    };
+    plan_volume(alloc, &volume)
+}
+
+/// How many blocks a volume has; 0 where it is refused for want of room.
+fn planned_blocks(alloc: Global, size: &str, items: &[NewItem]) -> Result<u32, MakeFault> {
+    match planned(alloc, "D", size, items) {
+        Ok(image) => Ok(image.count()),
+        Err(MakeFault::NoRoom) => Ok(0),
+        Err(fault) => Err(fault),
+    }
 }
 
 #[test]
 fn volumes_are_planned(rt: HostRuntime) -> Result<(), Fail> {
-    let image = plan_volume(rt.alloc(), &wanted("D", "", &[])?)?;
-    assert!(rt; image.count() == 217);
-    let image = plan_volume(rt.alloc(), &wanted("D", "1M", &[])?)?;
-    assert!(rt; image.count() == 2_048);
-    let mut block = [0; 512];
-    let mut image = image;
-    assert!(rt; image.read_blocks(2, &mut block).is_ok());
-    // its moment, and behind these its name; 8 nodes of the extents file, and 3 of the catalog
-    assert!(rt; block.starts_with(&[0x42, 0x44, 0, 0, 0, 77, 0, 0, 0, 77]));
-    assert!(rt; block[36..].starts_with(&[1, b'D', 0]));
-    assert!(rt; block[130..].starts_with(&[0, 0, 0x10, 0, 0, 0, 0, 8]));
-    assert!(rt; block[146..].starts_with(&[0, 0, 0x06, 0, 0, 8, 0, 3]));
-    let items = files(rt.alloc(), 1_000, 0)?;
-    let refused = plan_volume(rt.alloc(), &wanted("D", "64K", &items)?);
-    assert!(rt; matches!(refused, Err(MakeFault::NoRoom)));
-    let items = files(rt.alloc(), 1, 2_147_483_647)?;
-    let refused = plan_volume(rt.alloc(), &wanted("D", "", &items)?);
-    assert!(rt; matches!(refused, Err(MakeFault::NoRoom)));
-    let image = plan_volume(rt.alloc(), &wanted("D", "64K", &items)?)?;
-    assert!(rt; image.count() == 128);
+    let none = files(rt.alloc(), 0, 0)?;
+    assert!(rt; planned_blocks(rt.alloc(), "", &none) == Ok(217));
+    assert!(rt; planned_blocks(rt.alloc(), "1M", &none) == Ok(2_048));
+    let many = files(rt.alloc(), 1_000, 0)?;
+    assert!(rt; planned_blocks(rt.alloc(), "64K", &many) == Ok(0));
+    let large = files(rt.alloc(), 1, 2_147_483_647)?;
+    assert!(rt; planned_blocks(rt.alloc(), "", &large) == Ok(0));
+    assert!(rt; planned_blocks(rt.alloc(), "64K", &large) == Ok(128));
     Ok(())
+}
+
+/// Whether the image has these bytes from a place on, at most 16.
+fn has(image: &mut NewImage, place: u64, bytes: &[u8]) -> bool {
+    let mut read = [0; 16];
+    match image.read_at(place, &mut read) {
+        Ok(()) => read.starts_with(bytes),
+        Err(_) => false,
+    }
 }
 
 #[test]
 fn new_images_are_read_by_places(rt: HostRuntime) -> Result<(), Fail> {
-    let planned = plan_volume(rt.alloc(), &wanted("D", "", &[])?)?;
+    let none = files(rt.alloc(), 0, 0)?;
+    let planned = planned(rt.alloc(), "D", "", &none)?;
+    let mut image = NewImage { planned };
+    assert!(rt; PlacedBytes::len(&image) == 111_104);
+    // the master directory block: its moment, and behind these its name; 8 nodes of the extents file, and 3 of the catalog
+    assert!(rt; has(&mut image, 1_024, &[0x42, 0x44, 0, 0, 0, 77, 0, 0, 0, 77]));
+    assert!(rt; has(&mut image, 1_060, &[1, b'D', 0]));
+    assert!(rt; has(&mut image, 1_154, &[0, 0, 0x10, 0, 0, 0, 0, 8]));
+    assert!(rt; has(&mut image, 1_170, &[0, 0, 0x06, 0, 0, 8, 0, 3]));
+    // the end of a block, and the next one: bits of 11 allocation blocks
+    assert!(rt; has(&mut image, 1_534, &[0, 0, 0xff, 0xe0, 0]));
+    assert!(rt; !has(&mut image, 111_089, &[]));
+    assert!(rt; has(&mut image, 111_088, &[0; 16]));
+    Ok(())
+}
+
+#[test]
+fn new_images_are_those_of_their_plans(rt: HostRuntime) -> Result<(), Fail> {
+    let none = files(rt.alloc(), 0, 0)?;
+    let planned = planned(rt.alloc(), "D", "", &none)?;
     let plan = FormatPlan {
         name: Vec::from_slice(rt.alloc(), b"D")?,
         blocks: 217,
@@ -195,14 +225,14 @@ fn new_images_are_read_by_places(rt: HostRuntime) -> Result<(), Fail> {
     };
     let whole = format(rt.alloc(), plan)?;
     let mut image = NewImage { planned };
-    assert!(rt; PlacedBytes::len(&image) == 111_104);
+    let mut blocks = vec![in rt.alloc(); 0u8; 1_024]?;
+    assert!(rt; image.read_blocks(11, &mut blocks).is_ok());
+    assert!(rt; whole.len() > 5_632);
+    assert!(rt; whole[5_632..].starts_with(&blocks));
     for (place, len) in [
         (0u64, 111_104usize),
-        (1_060, 30),
         (1_000, 2_000),
         (4_000, 3_000),
-        (111_103, 1),
-        (111_104, 0),
         (512, 1_024),
     ] {
         let mut read = vec![in rt.alloc(); 0u8; len]?;
