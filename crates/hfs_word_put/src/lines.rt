@@ -7,7 +7,7 @@ use crate::reason::PutReason;
 use hfs_commands::ShownPath;
 use hfs_put::RefusedItem;
 use hfs_sources::SourceItem;
-use hfs_texts::push_line;
+use hfs_texts::{Show, push_line};
 use std::alloc::{AllocError, Global};
 
 /// How many items that can't be put have a line of their own.
