@@ -98,8 +98,8 @@ fn source_plan<T: HostTree, B: ToldItems>(
     }
 }
 
-/// Whether a source is a bag.
-fn is_bag<T: HostTree>(
+/// Whether a source is a bag, by what its path leads to: a folder with `bagit.txt` and `data`. Faults: as of [`HostTree::look`].
+pub fn is_bag<T: HostTree>(
     alloc: Global,
     tree: &mut T,
     source: &str,
