@@ -3,6 +3,7 @@ pub mod Trees
 pub mod Nodes
 pub mod Plans
 pub mod Items
+pub mod Forks
 pub mod Paths
 pub mod Folders
 pub mod Walks
