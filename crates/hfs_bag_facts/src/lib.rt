@@ -14,3 +14,4 @@ mod wrong_files;
 pub use crate::bag_facts::BagFacts;
 pub use crate::bag_name::bag_name;
 pub use crate::manifest_digests::ManifestDigests;
+pub use crate::wrong_files::first_wrong_file;

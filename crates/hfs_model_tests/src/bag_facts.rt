@@ -1,10 +1,11 @@
 //! What bags in a tree in memory tell of their items, and the digests of their files.
 use crate::sources::{DOUBLE, file, folder};
-use hfs_bag_facts::{BagFacts, ManifestDigests, bag_name};
+use hfs_bag_facts::{BagFacts, ManifestDigests, bag_name, first_wrong_file};
 use hfs_put_plan::ToldFacts;
 use hfs_sources::{
-    HostFault, HostNode, MemoryTree, PutOptions, SourceItem, ToldItems, list_sources,
+    HostFault, HostNode, MemoryTree, NothingTold, PutOptions, ToldItems, list_sources,
 };
+use std::alloc::Global;
 
 /// The table of a bag with three items: a locked file with all three dates, a folder, and a file in it, of which a second row tells
 /// other dates; and rows that are none: a date that no calendar has, and one field.
@@ -84,4 +85,71 @@ fn a_table_of_no_bag_tells_nothing(rt: HostRuntime) {
         Ok(facts) => assert!(rt; facts.told("bag/data/f").is_none()),
         Err(_) => panic!(rt; "no table"),
     }
+}
+
+/// How items are taken in these tests.
+const HOW: PutOptions = PutOptions {
+    macbinary: false,
+    rename: false,
+};
+
+/// The first file of this bag that is wrong; none where the bag is read as it is.
+fn wrong_file(alloc: Global, nodes: &[HostNode<'_>]) -> Result<Option<String>, HostFault> {
+    let mut tree = MemoryTree { nodes };
+    let manifests = ManifestDigests::read(alloc, &mut tree, &["bag"])?;
+    let items = list_sources(alloc, &mut tree, &NothingTold {}, HOW, &["bag"])?;
+    match first_wrong_file(alloc, &mut tree, &manifests, &items)? {
+        Some(path) => Ok(Some(String::from_str(alloc, path)?)),
+        None => Ok(None),
+    }
+}
+
+/// Whether the first wrong file of a bag has this path.
+fn is_first_wrong(alloc: Global, nodes: &[HostNode<'_>], wanted: &str) -> bool {
+    match wrong_file(alloc, nodes) {
+        Ok(Some(path)) => path.as_str() == wanted,
+        Ok(None) => wanted.is_empty(),
+        Err(_) => false,
+    }
+}
+
+#[test]
+fn the_first_wrong_file_is_told(rt: HostRuntime) {
+    let alloc = rt.alloc();
+    let mut nodes = bag(b"hello");
+    assert!(rt; is_first_wrong(alloc, &nodes, ""), "all right");
+    nodes[9].bytes = b"xyz";
+    assert!(rt;
+        is_first_wrong(alloc, &nodes, "bag/data/a,b/x"),
+        "a byte more"
+    );
+    nodes[7].bytes = &DOUBLE[..40];
+    nodes[9].bytes = b"xy";
+    assert!(rt;
+        is_first_wrong(alloc, &nodes, "bag/data/._f"),
+        "a byte less"
+    );
+    nodes[6].bytes = b"hellO";
+    assert!(rt; is_first_wrong(alloc, &nodes, "bag/data/f"), "another byte");
+    nodes[0].path = "other";
+    assert!(rt; !is_first_wrong(alloc, &nodes, ""), "no source");
+}
+
+/// Whether the name of the disk that a bag was taken of is told so; none, where nothing is.
+fn is_named(alloc: Global, nodes: &[HostNode<'_>], wanted: Option<&[u8]>) -> bool {
+    let mut tree = MemoryTree { nodes };
+    match bag_name(alloc, &mut tree, "bag") {
+        Ok(Some(name)) => Some(name.as_slice()) == wanted,
+        Ok(None) => wanted == None,
+        Err(_) => false,
+    }
+}
+
+#[test]
+fn a_bag_tells_the_name_of_its_disk(rt: HostRuntime) {
+    let alloc = rt.alloc();
+    let mut nodes = bag(b"hello");
+    assert!(rt; is_named(alloc, &nodes, Some(b"D \\5c")), "the name");
+    nodes[4].bytes = b"Bag-Software-Agent: x\n";
+    assert!(rt; is_named(alloc, &nodes, None), "none");
 }
