@@ -4,6 +4,8 @@
 #![tactic(auto)]
 
 #[cfg(test)]
+mod bag_facts;
+#[cfg(test)]
 mod bags;
 #[cfg(test)]
 mod fixture;

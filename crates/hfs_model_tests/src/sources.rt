@@ -7,7 +7,7 @@ use hfs_sources::{
 };
 
 /// An AppleDouble file with three bytes of resource fork from byte 38 on.
-const DOUBLE: [u8; 41] = [
+pub(crate) const DOUBLE: [u8; 41] = [
     0, 5, 22, 7, 0, 2, 0, 0, 77, 97, 99, 32, 79, 83, 32, 88, 32, 32, 32, 32, 32, 32, 32, 32, 0, 1,
     0, 0, 0, 2, 0, 0, 0, 38, 0, 0, 0, 3, 82, 69, 83,
 ];
@@ -33,7 +33,12 @@ fn node<'a>(
     }
 }
 
-fn file<'a>(folder: &'a str, name: &'a str, path: &'a str, bytes: &'a [u8]) -> HostNode<'a> {
+pub(crate) fn file<'a>(
+    folder: &'a str,
+    name: &'a str,
+    path: &'a str,
+    bytes: &'a [u8],
+) -> HostNode<'a> {
     node(
         folder,
         name,
@@ -43,7 +48,7 @@ fn file<'a>(folder: &'a str, name: &'a str, path: &'a str, bytes: &'a [u8]) -> H
     )
 }
 
-fn folder<'a>(folder: &'a str, name: &'a str, path: &'a str) -> HostNode<'a> {
+pub(crate) fn folder<'a>(folder: &'a str, name: &'a str, path: &'a str) -> HostNode<'a> {
     node(folder, name, path, EntryKind::Folder, &[])
 }
 

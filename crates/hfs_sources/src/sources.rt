@@ -130,8 +130,8 @@ fn source_item<T: HostTree, B: ToldItems>(
     Ok(SourceItem::new(path, double_path, None, plan))
 }
 
-/// Whether a source is a bag.
-fn is_bag<T: HostTree>(
+/// Whether a source is a bag, by what its path leads to: a folder with `bagit.txt` and `data`. Faults: as of [`HostTree::look`].
+pub fn is_bag<T: HostTree>(
     alloc: Global,
     tree: &mut T,
     source: &str,
