@@ -4,13 +4,14 @@ use crate::saving::tell;
 use crate::words::PutWords;
 use hfs_commands::{Fault, Status, WatchedImage, open_volume, save_read};
 use hfs_console::{print_lines, tell_unread};
-use hfs_sources::{NothingTold, SystemTree};
+use hfs_laid_forks::HostFiles;
+use hfs_sources::SystemTree;
 use hfs_word_put::{PutFault, PutImage, PutOrder, date_of, put_lines, put_sources, unsaved};
 use std::fs::File;
 use std::time::SystemTime;
 
 /// What a file is to hold in which something was put on a volume.
-type Put<'a> = PutImage<WatchedImage<File>, SystemTree<'a, HostRuntime>>;
+type Put<'a> = PutImage<WatchedImage<File>, HostFiles<SystemTree<'a, HostRuntime>>>;
 
 /// Puts files and folders on a volume, and prints how much came. The changed image is written before; where that fails, or something
 /// can't be put, only that is printed.
@@ -48,15 +49,7 @@ fn put_at<'r, 'a>(rt: &'r HostRuntime, words: &PutWords<'a>) -> Result<Put<'r>, 
     };
     let tree = SystemTree::new(rt);
     let sum_at = volume.sum_at;
-    put_sources(
-        rt.alloc(),
-        volume.blocks,
-        sum_at,
-        words.image,
-        tree,
-        &NothingTold {},
-        &order,
-    )
+    put_sources(rt.alloc(), volume.blocks, sum_at, words.image, tree, &order)
 }
 
 /// Writes the changed image to its file, and prints how much came.
@@ -73,7 +66,7 @@ fn save_put<'a>(rt: &HostRuntime, words: &PutWords<'a>, put: Put<'_>) -> Result<
             print_lines(rt, lines.as_str())?;
             Ok(Status::Done.number())
         }
-        Err(fault) => print_fault(rt, unsaved(contents, fault)),
+        Err(fault) => print_fault(rt, unsaved(rt.alloc(), contents, fault)),
     }
 }
 

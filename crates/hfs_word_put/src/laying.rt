@@ -1,0 +1,79 @@
+//! What the calls that put a list make of a volume, but for the bytes of forks.
+
+use crate::fault::PutFault;
+use crate::lines::line_at;
+use crate::placing::PlacedList;
+use crate::reason::PutReason;
+use crate::wants::wanted_blocks;
+use hfs_commands::Fault;
+use hfs_model::{NOT_FOUND, Reply, Value};
+use hfs_put::{LayFault, lay_items};
+use hfs_sources::SourceItem;
+use hfs_volume::Volume;
+use std::alloc::Global;
+
+/// How many allocation blocks are free, and how many a list wants.
+#[derive(Clone, Copy)]
+struct BlockWants {
+    free: u32,
+    wanted: u64,
+}
+
+/// Why an item can't be put, one of whose calls got this reply.
+fn reason_of_reply(reply: &Reply, wants: BlockWants) -> PutReason {
+    match reply.value {
+        Value::Room { .. } => PutReason::Room {
+            free: wants.free,
+            wanted: wants.wanted,
+        },
+        Value::Full { free, depth } | Value::ExtentNodes { free, depth } => {
+            PutReason::Full { free, depth }
+        }
+        Value::Nothing
+        | Value::Id(_)
+        | Value::One(_)
+        | Value::Many(_)
+        | Value::Bytes(_)
+        | Value::Place { .. } => PutReason::Code(reply.code),
+    }
+}
+
+/// What it means that a list was not laid.
+fn of_lay(
+    alloc: Global,
+    fault: LayFault,
+    items: &[SourceItem],
+    wants: BlockWants,
+) -> PutFault<'static> {
+    match fault {
+        LayFault::NoMemory => PutFault::Image(Fault::NoMemory),
+        LayFault::Absent { place } => {
+            let reason = PutReason::Code(NOT_FOUND);
+            PutFault::of_lines(line_at(alloc, items, place, reason))
+        }
+        LayFault::Refused { place, reply } => {
+            let reason = reason_of_reply(&reply, wants);
+            PutFault::of_lines(line_at(alloc, items, place, reason))
+        }
+    }
+}
+
+/// Makes all calls that put a list but those that write forks: the IDs of its items. Fault: the first call that is refused; where
+/// blocks are wanting, those that were free before all, and all that the list wants.
+pub fn lay_all(
+    alloc: Global,
+    volume: &mut Volume,
+    list: &PlacedList,
+    items: &[SourceItem],
+    now: u32,
+) -> Result<Vec<u32>, PutFault<'static>> {
+    let directory = volume.directory();
+    let wants = BlockWants {
+        free: u32::from(directory.free_blocks),
+        wanted: wanted_blocks(directory.allocation_block_size, &list.places),
+    };
+    match lay_items(alloc, volume, list.target, now, &list.places) {
+        Ok(ids) => Ok(ids),
+        Err(fault) => Err(of_lay(alloc, fault, items, wants)),
+    }
+}
