@@ -11,6 +11,9 @@ use Rattle.hfs_put.specs.declared.faults.LayFault.{LayFault}
 use Rattle.hfs_put.specs.declared.faults.LayFault.TheVariants as lay_fault
 use Rattle.hfs_put_calls.specs.declared.items.PutItem.{PutItem}
 use Rattle.hfs_sources.specs.Items.{PlannedItem}
+use Rattle.hfs_check.specs.Parts.{Blocks, mdb_in}
+use Rattle.hfs_word_put.specs.Sums.{wanted_of}
+use Rattle.hfs_word_put.specs.declared.placing.PlacedList.{PlacedList}
 use Rattle.hfs_word_put.specs.declared.fault.PutFault.{PutFault}
 use Rattle.hfs_word_put.specs.declared.fault.PutFault.TheVariants as fault
 use Rattle.hfs_word_put.specs.declared.laying.BlockWants.{BlockWants}
@@ -40,8 +43,13 @@ TellsLay items wants lay_fault.NoMemory told = told ≡ fault.Image why.NoMemory
 TellsLay items wants (lay_fault.Absent place) told = TellsBy (line_at items place (reason.Code NOT_FOUND)) told
 TellsLay items wants (lay_fault.Refused place reply) told = TellsBy (line_at items place (reply_reason reply wants)) told
 
+-- what is free on the volume of these blocks, and what a list wants
+abbrev pub wants_of : Blocks → List PutItem → BlockWants
+wants_of blocks places =
+    record { free = (mdb_in blocks).free_blocks; wanted = wanted_of (mdb_in blocks).allocation_block_size places }
+
 -- the list was not laid on the volume, which is that of this image then
-pub record IsUnlaid (target now : ℕ) (places : List PutItem) (v : Volume) (image : List ℕ) (items : List PlannedItem) (wants : BlockWants) (told : PutFault) : Type 0 where
+pub record IsUnlaid (list : PlacedList) (now : ℕ) (items : List PlannedItem) (wants : BlockWants) (v : Volume) (image : List ℕ) (told : PutFault) : Type 0 where
   pub why : LayFault
-  pub of : IsFaultOfLaying target now places v image why
+  pub of : IsFaultOfLaying list.target now list.places.items v image why
   pub line : TellsLay items wants why told

@@ -21,6 +21,11 @@ use Rattle.hfs_word_put.specs.Targets.{target_folder}
 
 -- ---- what can't be put
 
+-- where the target is no folder
+abbrev pub target_line : Result ℕ Reply → Option (List ℕ)
+target_line (Ok target) = None
+target_line (Err reply) = Some (code_line reply)
+
 -- of a locked volume, where anything comes: the code of its first item
 abbrev pub locked_line : Option ℤ → List PlannedItem → Option (List ℕ)
 locked_line (Some code) items = if length items == 0 then None else Some (line_at items 0 (Code code))

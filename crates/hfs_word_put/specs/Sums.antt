@@ -53,10 +53,15 @@ wanted_by None items = 0
 abbrev pub wanted_of : ℕ → List PutItem → ℕ
 wanted_of bytes items = wanted_by (if is_block_size bytes then Some bytes else None) items
 
+abbrev pub file_total : List PutItem → ℕ
+file_total items = at_most (sum_by file_count items)
+
+abbrev pub made_total : List PutItem → ℕ
+made_total items = at_most (sum_by made_count items)
+
+abbrev pub byte_total : List PutItem → ℕ
+byte_total items = at_most (sum_by item_bytes items)
+
+-- what was put, where so many allocation blocks are free then
 abbrev pub put_sums : List PutItem → ℕ → PutSums
-put_sums items free = record {
-  files = at_most (sum_by file_count items);
-  folders = at_most (sum_by made_count items);
-  bytes = at_most (sum_by item_bytes items);
-  free = free;
-}
+put_sums items free = record { files = file_total items; folders = made_total items; bytes = byte_total items; free = free }

@@ -1,13 +1,19 @@
 //! What the calls that put a list make of a volume, but for the bytes of forks.
+ghost use Rattle.std.specs.Prelude.{◌≡◌, IfErr, IfOk};
+ghost use Rattle.hfs_blocks.specs.Blocks.{block_at};
+ghost use Rattle.hfs_check.specs.VolumeOf.{volume_of};
+ghost use Rattle.hfs_put.specs.Laying.{AreLaid};
+ghost use Rattle.hfs_word_put.specs.Laid.{IsUnlaid, TellsLay, reply_reason, wants_of};
 
 use crate::fault::PutFault;
 use crate::lines::line_at;
 use crate::placing::PlacedList;
 use crate::reason::PutReason;
-use crate::wants::wanted_blocks;
+use crate::wants::wanted_of;
 use hfs_commands::Fault;
 use hfs_model::{NOT_FOUND, Reply, Value};
 use hfs_put::{LayFault, lay_items};
+use hfs_put_calls::PutItem;
 use hfs_sources::SourceItem;
 use hfs_volume::Volume;
 use std::alloc::Global;
@@ -19,8 +25,21 @@ struct BlockWants {
     wanted: u64,
 }
 
+/// What is free on a volume, and what a list wants.
+fn wants_of(volume: &Volume, places: &[PutItem]) -> BlockWants
+    ensures { result ≡ wants_of (block_at volume.now.current) places.now }
+{
+    let directory = volume.directory();
+    BlockWants {
+        free: u32::from(directory.free_blocks),
+        wanted: wanted_of(directory.allocation_block_size, places),
+    }
+}
+
 /// Why an item can't be put, one of whose calls got this reply.
-fn reason_of_reply(reply: &Reply, wants: BlockWants) -> PutReason {
+fn reason_of_reply(reply: &Reply, wants: BlockWants) -> PutReason
+    ensures { result ≡ reply_reason reply.now wants }
+{
     match reply.value {
         Value::Room { .. } => PutReason::Room {
             free: wants.free,
@@ -44,7 +63,9 @@ fn of_lay(
     fault: LayFault,
     items: &[SourceItem],
     wants: BlockWants,
-) -> PutFault<'static> {
+) -> PutFault<'static>
+    ensures { TellsLay items.now wants fault result }
+{
     match fault {
         LayFault::NoMemory => PutFault::Image(Fault::NoMemory),
         LayFault::Absent { place } => {
@@ -66,12 +87,15 @@ pub fn lay_all(
     list: &PlacedList,
     items: &[SourceItem],
     now: u32,
-) -> Result<Vec<u32>, PutFault<'static>> {
-    let directory = volume.directory();
-    let wants = BlockWants {
-        free: u32::from(directory.free_blocks),
-        wanted: wanted_blocks(directory.allocation_block_size, &list.places),
-    };
+) -> Result<Vec<u32>, PutFault<'static>>
+    ensures laid { IfOk result (λ ids. AreLaid list.now.target now list.now.places.items
+        (volume_of volume.old.current) (volume_of volume.new.current) ids.items) }
+    ensures base { volume.new.base ≡ volume.old.base }
+    ensures fault { IfErr result (IsUnlaid list.now now items.now
+        (wants_of (block_at volume.old.current) list.now.places.items)
+        (volume_of volume.old.current) volume.new.current) }
+{
+    let wants = wants_of(volume, &list.places);
     match lay_items(alloc, volume, list.target, now, &list.places) {
         Ok(ids) => Ok(ids),
         Err(fault) => Err(of_lay(alloc, fault, items, wants)),

@@ -25,4 +25,4 @@ pub use crate::placing::{PlacedList, place_all};
 pub use crate::putting::{PutImage, put_sources, unsaved};
 pub use crate::reason::PutReason;
 pub use crate::target::target_folder;
-pub use crate::wants::{put_sums, wanted_blocks};
+pub use crate::wants::{put_sums, wanted_of};

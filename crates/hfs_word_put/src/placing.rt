@@ -1,4 +1,11 @@
 //! Where what comes gets its place on a volume.
+ghost use Rattle.std.specs.Prelude.{◌≡◌, ℕ, Err, Some, MatchResult, Ok, OnOk, None, IfErr, IfOk, map};
+ghost use Rattle.std.specs.Option.{option_map};
+ghost use Rattle.hfs_check.specs.VolumeOf.{volume_of};
+ghost use Rattle.hfs_commands.specs.Entries.{entries_in};
+ghost use Rattle.hfs_put.specs.PlacedSources.{decisions, item_put, lock_code};
+ghost use Rattle.hfs_word_put.specs.Placed.{IsPlaced, TellsAny, locked_line, places_told, refusal, target_line};
+ghost use Rattle.hfs_word_put.specs.Targets.{target_folder};
 
 use crate::fault::PutFault;
 use crate::lines::{line_at, refused_lines};
@@ -22,7 +29,10 @@ pub struct PlacedList {
 }
 
 /// Finds the folder into which it comes.
-fn find_target(alloc: Global, volume: &Volume, to: Option<&str>) -> Result<u32, PutFault<'static>> {
+fn find_target(alloc: Global, volume: &Volume, to: Option<&str>) -> Result<u32, PutFault<'static>>
+    ensures { let found = target_folder (entries_in volume.now.current) (option_map (λ path. path.now) to) in
+        MatchResult result (λ target. found ≡ Ok target) (TellsAny (target_line found)) }
+{
     match target_folder(alloc, volume, to)? {
         Ok(folder) => Ok(folder),
         Err(reply) => Err(PutFault::of_lines(code_text(alloc, &reply))),
@@ -34,7 +44,10 @@ fn need_unlocked(
     alloc: Global,
     volume: &Volume,
     items: &[SourceItem],
-) -> Result<(), PutFault<'static>> {
+) -> Result<(), PutFault<'static>>
+    ensures { let line = locked_line (lock_code (volume_of volume.now.current)) items.now in
+        MatchResult result (λ _. line ≡ None) (TellsAny line) }
+{
     match lock_code(volume) {
         Some(code) if !items.is_empty() => {
             let reason = PutReason::Code(code);
@@ -51,7 +64,15 @@ fn find_places(
     target: u32,
     replace: bool,
     items: &[SourceItem],
-) -> Result<Vec<PutItem>, PutFault<'static>> {
+) -> Result<Vec<PutItem>, PutFault<'static>>
+    ensures none { OnOk result
+        (places_told (volume_of volume.now.current) replace items.now target ≡ None) }
+    ensures places { IfOk result (λ places.
+        map item_put (decisions (volume_of volume.now.current) target replace items.now)
+        ≡ map Some places.items) }
+    ensures told { IfErr result
+        (TellsAny (places_told (volume_of volume.now.current) replace items.now target)) }
+{
     match place_sources(alloc, volume, target, replace, items)? {
         PlacedSources::All(places) => Ok(places),
         PlacedSources::Refused(refused) => {
@@ -67,7 +88,10 @@ pub fn place_all(
     volume: &Volume,
     order: &PutOrder<'_>,
     items: &[SourceItem],
-) -> Result<PlacedList, PutFault<'static>> {
+) -> Result<PlacedList, PutFault<'static>>
+    ensures { MatchResult result (IsPlaced (volume_of volume.now.current) order.now items.now)
+        (TellsAny (refusal (volume_of volume.now.current) order.now items.now)) }
+{
     let target = find_target(alloc, volume, order.to)?;
     need_unlocked(alloc, volume, items)?;
     let places = find_places(alloc, volume, target, order.replace, items)?;

@@ -1,6 +1,6 @@
 //! How much of a volume a list takes.
-ghost use Rattle.std.specs.Prelude.{◌≡◌, ℕ};
-ghost use Rattle.hfs_word_put.specs.Sums.{file_count, files_by, folders_by, item_blocks, item_bytes, made_count, put_sums, wanted_blocks, wanted_by, wanted_of};
+ghost use Rattle.std.specs.Prelude.{◌≡◌};
+ghost use Rattle.hfs_word_put.specs.Sums.{byte_total, file_total, files_by, folders_by, item_blocks, item_bytes, made_total, put_sums, wanted_blocks, wanted_of};
 
 use crate::lines::PutSums;
 use hfs_fork_calls::BlockSize;
@@ -70,7 +70,7 @@ fn files_by(kind: ItemKind) -> u64
 
 /// How many files a list has.
 fn files_in(items: &[PutItem]) -> u64
-    ensures { (free : ℕ) → result ≡ (put_sums items.now free).files }
+    ensures { result ≡ file_total items.now }
 {
     let mut files: u64 = 0;
     for item in items {
@@ -81,7 +81,7 @@ fn files_in(items: &[PutItem]) -> u64
 
 /// How many folders are made for a list.
 fn folders_in(items: &[PutItem]) -> u64
-    ensures { (free : ℕ) → result ≡ (put_sums items.now free).folders }
+    ensures { result ≡ made_total items.now }
 {
     let mut folders: u64 = 0;
     for item in items {
@@ -92,7 +92,7 @@ fn folders_in(items: &[PutItem]) -> u64
 
 /// How many bytes all forks of a list have.
 fn bytes_in(items: &[PutItem]) -> u64
-    ensures { (free : ℕ) → result ≡ (put_sums items.now free).bytes }
+    ensures { result ≡ byte_total items.now }
 {
     let mut bytes: u64 = 0;
     for item in items {
