@@ -1,5 +1,5 @@
 -- What holds of these calls. Each statement is what a function of src/laws.rt ensures.
-use Rattle.std.specs.Prelude.{◌≡◌, ℕ, ◌≤◌, List, [], length, Result, Ok, Err}
+use Rattle.std.specs.Prelude.{◌≡◌, ℕ, ◌≤◌, List, [], length, map, replicate, Result, Ok, Err}
 use Rattle.hfs_scans.specs.Each.{Each}
 use Rattle.hfs_model.specs.declared.call.Call.TheVariants as call
 use Rattle.hfs_model.specs.declared.reply.Value.TheVariants as value
@@ -37,3 +37,12 @@ with_bytes arrivals (Err refused) = Err refused
 abbrev pub PutIsLaid : Type 0
 PutIsLaid = (v : Volume) (target now : ℕ) (arrivals : List Arrival) → Each IsWhole arrivals
     → put_volume v target now arrivals ≡ with_bytes arrivals (laid_volume v target now arrivals)
+
+-- zeros in place of its bytes
+abbrev pub with_zeros : Arrival → Arrival
+with_zeros a = record { item = a.item; data_fork = replicate (length a.data_fork) 0; resource_fork = replicate (length a.resource_fork) 0 }
+
+-- without the calls that write forks, the files that came have zeros in their forks, as many as bytes come
+abbrev pub LaidForksAreZeros : Type 0
+LaidForksAreZeros = (v : Volume) (target now : ℕ) (arrivals : List Arrival) (put : Put) → Each IsWhole arrivals → laid_volume v target now arrivals ≡ Ok put
+    → with_forks (came (map with_zeros arrivals) put.ids []) put.volume ≡ put.volume

@@ -1,0 +1,9 @@
+mod Results
+mod AlikeLists
+mod AlikeForks
+mod PutAlike
+mod Located
+mod FileBlocks
+mod LaidForks
+mod Differences
+mod SavedPuts
