@@ -72,14 +72,16 @@ module _ (dir : ℕ) (item : PutItem) (now : ℕ) where
   making-reads : (kind : ItemKind) → NoneReads (making_of kind dir item now)
   making-reads Folder = one-more (folder_call dir item.name item.placing now) [] (folder-reads item.placing) tt
   making-reads File =
-      one-more (unlock_call dir item.name item.placing now) _ (unlock-reads item.placing)
-      (one-more (delete_call dir item.name item.placing now) _ (delete-reads item.placing) (
-        refl,
-        one-more (end_call dir item.name DataFork item.data_len now) _
-            (if-none (item.data_len == 0) (call.SetEof dir item.name DataFork item.data_len now) refl)
-            (one-more (end_call dir item.name ResFork item.resource_len now) []
-            (if-none (item.resource_len == 0) (call.SetEof dir item.name ResFork item.resource_len now) refl) tt),
-      ))
+      let end_data = end_call dir item.name DataFork item.data_len now in
+      let end_resource = end_call dir item.name ResFork item.resource_len now in
+      let last : NoneReads (end_resource ∷ []) =
+      one-more end_resource [] (if-none (item.resource_len == 0) (call.SetEof dir item.name ResFork item.resource_len now) refl) tt in
+      let ends : NoneReads (end_data ∷ end_resource ∷ []) =
+      one-more end_data (end_resource ∷ []) (if-none (item.data_len == 0) (call.SetEof dir item.name DataFork item.data_len now) refl) last in
+      let created : NoneReads (Some (call.Create dir item.name now) ∷ end_data ∷ end_resource ∷ []) = (refl, ends) in
+      one-more (unlock_call dir item.name item.placing now) (delete_call dir item.name item.placing now ∷ Some (call.Create dir item.name now) ∷ end_data ∷ end_resource ∷ [])
+      (unlock-reads item.placing)
+      (one-more (delete_call dir item.name item.placing now) (Some (call.Create dir item.name now) ∷ end_data ∷ end_resource ∷ []) (delete-reads item.placing) created)
 
   folder_ending-reads : (placing : Placing) → NoneReads (folder_ending dir item placing now)
   folder_ending-reads (Replaced locked) = (refl, tt)
@@ -147,17 +149,17 @@ module _ (keep : ℕ → Bool) where
   left-alike : (parent : Option ℕ) (folders : List Open) → Each EndsUnread folders → (v w : Volume) → Alike v w
       → Related SameOpen (left parent v folders) (left parent w folders)
   left-alike parent [] unread v w alike = record { volumes = alike; folders = refl; unread = tt }
-  left-alike parent (o ∷ os) unread v w alike = at (is_at parent o.place)
+  left-alike parent (o ∷ os) unread v w alike = at (is_at parent o.place) (λ a b h. left-alike parent os unread.1 a b h)
     where
-      at : (b : Bool)
+      at : (b : Bool) → ((x y : Volume) → Alike x y → Related SameOpen (left parent x os) (left parent y os))
           → Related SameOpen (cond b (Ok (v, o ∷ os)) (next (at_place o.place (all_accepted v o.ending)) (λ u. left parent u os)))
           (cond b (Ok (w, o ∷ os)) (next (at_place o.place (all_accepted w o.ending)) (λ u. left parent u os)))
-      at true = record { volumes = alike; folders = refl; unread = unread }
-      at false =
+      at true behind = record { volumes = alike; folders = refl; unread = unread }
+      at false behind =
           next-related Alike SameOpen (at_place o.place (all_accepted v o.ending)) (at_place o.place (all_accepted w o.ending)) (λ u. left parent u os)
           (λ u. left parent u os)
           (at-related Alike o.place (all_accepted v o.ending) (all_accepted w o.ending) (all-alike o.ending unread.0 v w alike))
-          (λ a b h. left-alike parent os unread.1 a b h)
+          behind
 
   -- ---- an item
 
