@@ -10,7 +10,7 @@ use Rattle.hfs_alike.proofs.MappedEntries.{mapped_entry, mapped_items, entries-m
 use Rattle.hfs_put_calls.specs.WithForks.{FileForks, forks_of, kind_with_forks, with_forks}
 use Rattle.hfs_put_laws.specs.Forks.{has_forks}
 
-abbrev by_forks : List FileForks → ℕ → Kind → Kind
+abbrev pub by_forks : List FileForks → ℕ → Kind → Kind
 by_forks forks q k = kind_with_forks (forks_of forks q) k
 
 -- ---- one change of kinds behind another

@@ -4,6 +4,9 @@ mod AlikeForks
 mod PutAlike
 mod Located
 mod FileBlocks
+mod MappedItems
+mod SameOwn
 mod LaidForks
 mod Differences
+mod CameForks
 mod SavedPuts

@@ -24,3 +24,8 @@ at-related R place (Ok a) (Ok b) related = related
 at-related R place (Err x) (Err y) related = ap (λ (reply : Reply). record { place = place; reply = reply }) related
 at-related R place (Ok a) (Err y) related = absurd related
 at-related R place (Err x) (Ok b) related = absurd related
+
+-- what is related to a value is one
+pub related-ok : {A B E : Type 0} (R : A → B → Type 0) (a : A) (s : Result B E) → Related R (Ok a) s → (b : B) × (s ≡ Ok b) × R a b
+related-ok R a (Ok b) related = (b, refl, related)
+related-ok R a (Err y) related = absurd related
