@@ -1,6 +1,6 @@
 -- Lists put on volumes that are the same but for the bytes of forks.
-use Rattle.std.proofs.Common.{◌≡◌, ℕ, ◌+◌, Bool, true, false, cond, List, [], ◌∷◌, ◌++◌, map, length, Option, Some, None, refl, sym, ap, subst, ◌∙◌, Result, Ok, Err}
-use Rattle.std.specs.Prelude.{◌==◌, filter_map}
+use Rattle.std.proofs.Common.{◌≡◌, ℕ, ◌+◌, Bool, true, false, cond, List, [], ◌∷◌, map, length, Option, Some, None, refl, sym, ap, subst, ◌∙◌, Result, Ok, Err}
+use Rattle.std.specs.Prelude.{◌==◌}
 use Rattle.std.specs.List.{cons_option}
 use Rattle.std.specs.Option.{option_map, option_map_or}
 use Rattle.hfs_scans.specs.Each.{Each}
@@ -17,7 +17,7 @@ use Rattle.hfs_model.specs.Children.{child_named, entries_of}
 use Rattle.hfs_model.specs.Replies.{is_accepted}
 use Rattle.hfs_model.specs.Step.{step}
 use Rattle.hfs_model.specs.Volume.{Entry, Volume}
-use Rattle.hfs_alike.specs.Alike.{AreAlike, bare, bare_volume, reads_fork, EndAlike as StepsAlike}
+use Rattle.hfs_alike.specs.Alike.{AreAlike, bare, reads_fork, EndAlike as StepsAlike}
 use Rattle.hfs_alike.proofs.BareEntries.{child_named-bare}
 use Rattle.hfs_alike.proofs.BareChoices.{are}
 use Rattle.hfs_alike.proofs.LawsProved.{alike_volumes_answer_alike}
@@ -26,7 +26,7 @@ use Rattle.hfs_put_plan.specs.declared.over.Placing.TheVariants.{New, Kept, Repl
 use Rattle.hfs_put_plan.specs.declared.steps.ForkPiece.{ForkPiece}
 use Rattle.hfs_put_calls.specs.declared.items.PutItem.{PutItem}
 use Rattle.hfs_put_calls.specs.Accepted.{next, accepted, all_accepted}
-use Rattle.hfs_put_calls.specs.Calls.{somes, unlock_call, delete_call, end_call, folder_call, file_making, folder_making, making_of, making, write_call, write_calls, fork_pieces, lock_call, facts_call, folder_ending, file_ending, ending_of, ending}
+use Rattle.hfs_put_calls.specs.Calls.{somes, unlock_call, delete_call, end_call, folder_call, making_of, making, write_call, write_calls, fork_pieces, lock_call, folder_ending, ending_of, ending}
 use Rattle.hfs_put_calls.specs.Put.{Arrival, Open, Placed, Put, Refused, at_place, is_at, left, folder_id, id_named, writing, filling, opened, placed, put_from, put_volume}
 use Rattle.hfs_put_laws.proofs.Results.{Related, next-related, at-related}
 

@@ -1,11 +1,11 @@
 -- The forks of the files that came are as long as their records say.
-use Rattle.std.proofs.Common.{◌≡◌, ℕ, Bool, true, false, cond, eqb, List, [], ◌∷◌, length, map, replicate, Option, Some, None, refl, sym, ap, subst, ◌∙◌, Ok}
+use Rattle.std.proofs.Common.{◌≡◌, ℕ, Bool, true, false, cond, eqb, List, [], ◌∷◌, length, map, replicate, Option, Some, refl, sym, ap, ◌∙◌, Ok}
 use Rattle.std.specs.Prelude.{◌||◌}
 use Rattle.std.specs.FinMap as fin
 use Rattle.std.specs.Option.{option_map}
 use Rattle.std.specs.List.{cons_option}
 use Rattle.std.proofs.lemmas.List.{length-replicate}
-use Rattle.hfs_fields.specs.Records.{is_dir, is_file, is_item, item_id, dir_record_of, file_record_of}
+use Rattle.hfs_fields.specs.Records.{is_file, is_item, item_id, dir_record_of, file_record_of}
 use Rattle.hfs_fields.specs.declared.file_record.FileRecord.{FileRecord}
 use Rattle.hfs_scans.specs.Each.{Each}
 use Rattle.hfs_scans.specs.Members.{In}
@@ -29,7 +29,7 @@ use Rattle.hfs_check.specs.Sound.{IsSound}
 use Rattle.hfs_check.specs.VolumeOf.{contents_in, volume_in, volume_of}
 use Rattle.hfs_put_calls.specs.Laws.{IsWhole, with_zeros}
 use Rattle.hfs_put_calls.specs.Put.{Arrival, came, file_forks, laid_volume}
-use Rattle.hfs_put_calls.specs.WithForks.{FileForks, forks_of, kind_with_forks, with_forks}
+use Rattle.hfs_put_calls.specs.WithForks.{FileForks, forks_of, kind_with_forks}
 use Rattle.hfs_put_calls.proofs.LaidZeros.{laid_forks_are_zeros}
 use Rattle.hfs_queries.proofs.Queries.{AreLong, files_are_long}
 use Rattle.hfs_volume.proofs.OwnedStay.{each_of}

@@ -1,5 +1,5 @@
 -- The blocks in which a volume differs from the copy on which it was mounted.
-use Rattle.std.proofs.Common.{◌≡◌, ◌⊎◌, inl, inr, ⊎_elim, ℕ, ◌<◌, ◌≤◌, List, [], ◌∷◌, ◌++◌, take, IsSome, refl, sym, ap, subst, ◌∙◌, arith}
+use Rattle.std.proofs.Common.{◌≡◌, ◌⊎◌, inl, inr, ⊎_elim, ℕ, List, [], ◌∷◌, ◌++◌, take, IsSome, sym, subst, arith}
 use Rattle.std.proofs.lemmas.Bool.{cases_eq}
 use Rattle.hfs_scans.specs.Each.{Each}
 use Rattle.hfs_scans.specs.Members.{In}
@@ -14,7 +14,6 @@ use Rattle.hfs_space.specs.TreeFiles.{node_count, tree_blocks}
 use Rattle.hfs_check.specs.Agree.{AgreesBut, bitmap_blocks, node_blocks, changing_blocks}
 use Rattle.hfs_check.specs.Parts.{Blocks, mdb_in, extents_blocks, extents_nodes, catalog_extents, catalog_blocks, catalog_nodes}
 use Rattle.hfs_check.specs.Sound.{AreBlocksSound}
-use Rattle.hfs_volume.specs.Image.{patched}
 use Rattle.hfs_working.specs.Working.{working_blocks, IsWorkingCopy, AreChangesBut, CarriesOverBut}
 use Rattle.hfs_working.proofs.Kept.{each-take}
 use Rattle.hfs_working.proofs.LawsProved as working

@@ -1,7 +1,6 @@
 -- The blocks of files' forks: none is one of the volume's own, and none is one of another file's.
-use Rattle.std.proofs.Common.{◌≡◌, inl, inr, ⊎_elim, ℕ, ◌+◌, ◌<◌, ◌≤◌, Bool, true, false, cond, List, [], ◌∷◌, ◌++◌, take, refl, sym, ap, subst, ◌∙◌, arith, true≢false}
+use Rattle.std.proofs.Common.{◌≡◌, ⊎_elim, ℕ, ◌+◌, ◌<◌, ◌≤◌, Bool, true, false, cond, List, [], ◌∷◌, ◌++◌, take, refl, sym, ap, subst, ◌∙◌, arith}
 use Rattle.std.specs.Prelude.{◌&&◌}
-use Rattle.std.specs.List.{flat_map}
 use Rattle.std.proofs.lemmas.Bool.{and_parts}
 use Rattle.hfs_fields.specs.declared.mdb.Mdb.{Mdb}
 use Rattle.hfs_fields.specs.declared.extent.Extent.{Extent}
@@ -9,7 +8,7 @@ use Rattle.hfs_fields.specs.declared.file_record.FileRecord.{FileRecord}
 use Rattle.hfs_fields.specs.Records.{is_file, item_id, file_record_of}
 use Rattle.hfs_scans.specs.Each.{Each}
 use Rattle.hfs_scans.specs.Members.{In}
-use Rattle.hfs_scans.proofs.ElementLemmas.{each-append, each-left, each-right}
+use Rattle.hfs_scans.proofs.ElementLemmas.{each-append}
 use Rattle.hfs_scans.proofs.MemberLemmas.{each_in}
 use Rattle.hfs_scans.proofs.PartLemmas.{in_parts, flat-each}
 use Rattle.hfs_btree.specs.Sound.{IsOther}
@@ -18,7 +17,7 @@ use Rattle.hfs_space.specs.Bitmap.{bitmap_len}
 use Rattle.hfs_space.specs.Extents.{Overflow, extent_blocks, fork_byte, fork_extents}
 use Rattle.hfs_space.specs.ForkLaws.{block_numbers}
 use Rattle.hfs_space.specs.Forks.{blocks_each}
-use Rattle.hfs_space.specs.Owners.{Fork, extents_in, bad_extents, catalog_fork, forks_of_file, owned_blocks, owners}
+use Rattle.hfs_space.specs.Owners.{forks_of_file, owned_blocks, owners}
 use Rattle.hfs_space.specs.TreeFiles.{tree_blocks}
 use Rattle.hfs_catalog.specs.Records.{Record, Catalog}
 use Rattle.hfs_check.specs.Agree.{bitmap_blocks}
@@ -29,7 +28,7 @@ use Rattle.hfs_changes.proofs.Space.{extents_parts, forks_have, others_have, own
 use Rattle.hfs_needed.specs.Laws.{blocks_of_fork}
 use Rattle.hfs_volume.proofs.OwnedStay.{each_of}
 use Rattle.hfs_put_laws.specs.Forks.{file_blocks, record_blocks, blocks_of_files}
-use Rattle.hfs_put_laws.proofs.Located.{IsLocated, in-flat, in-take, located, one-has, two-have}
+use Rattle.hfs_put_laws.proofs.Located.{in-flat, in-take, located, one-has, two-have}
 
 -- the blocks from which all is read but the bytes of forks
 abbrev pub own_blocks : Blocks → List ℕ

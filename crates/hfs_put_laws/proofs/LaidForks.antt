@@ -1,21 +1,17 @@
 -- A sound image in which the bytes of some files' forks are laid.
-use Rattle.std.proofs.Common.{◌≡◌, inl, inr, ℕ, ◌/◌, ◌<◌, Bool, true, false, List, [], ◌∷◌, ◌++◌, length, map, replicate, take, Option, Some, None, is_some, refl, sym, ap, subst, ◌∙◌}
+use Rattle.std.proofs.Common.{◌≡◌, ℕ, ◌/◌, true, List, length, replicate, take, Option, Some, None, is_some, refl, sym, ap, subst, ◌∙◌}
 use Rattle.std.proofs.Math.Seq.{take-append_seam}
 use Rattle.hfs_fields.specs.declared.file_record.FileRecord.{FileRecord}
 use Rattle.hfs_fields.specs.declared.file_record.ForkRecord.{ForkRecord}
 use Rattle.hfs_fields.specs.Records.{is_file, item_id, file_record_of}
-use Rattle.hfs_scans.specs.Each.{Each}
 use Rattle.hfs_scans.specs.Members.{In}
 use Rattle.hfs_scans.proofs.ElementLemmas.{each-left, each-right}
 use Rattle.hfs_scans.proofs.MemberLemmas.{each_in}
 use Rattle.hfs_blocks.specs.Blocks.{block_at, block_count}
-use Rattle.hfs_model.specs.Volume.{Items, Volume}
-use Rattle.hfs_alike.proofs.MappedEntries.{mapped_items}
+use Rattle.hfs_model.specs.Volume.{Items}
 use Rattle.hfs_space.specs.declared.fork_kind.ForkKind.{ForkKind}
 use Rattle.hfs_space.specs.declared.fork_kind.ForkKind.TheVariants.{Data, Resource}
-use Rattle.hfs_space.specs.Forks.{joined}
-use Rattle.hfs_catalog.specs.Records.{Record, Catalog}
-use Rattle.hfs_catalog.specs.Items.{items_in}
+use Rattle.hfs_catalog.specs.Records.{Record}
 use Rattle.hfs_check.specs.Agree.{AgreesBut}
 use Rattle.hfs_check.specs.Parts.{Blocks, catalog_in}
 use Rattle.hfs_check.specs.Sound.{IsImageLength, AreBlocksSound, IsSound}
@@ -26,7 +22,6 @@ use Rattle.hfs_needed.specs.Needed.{AgreeOn}
 use Rattle.hfs_put_calls.specs.WithForks.{FileForks, forks_of, with_forks}
 use Rattle.hfs_volume.proofs.OwnedStay.{each_of}
 use Rattle.hfs_put_laws.specs.Forks.{file_blocks, blocks_of_files, has_forks, OfTheirFiles, AreLongAs, HoldBytes, HoldForks, AreForksLaid, HoldsWithForks, LaidForksAreRead}
-use Rattle.hfs_put_laws.proofs.AlikeForks.{by_forks}
 use Rattle.hfs_put_laws.proofs.FileBlocks.{own_blocks, own-beside, file-beside}
 use Rattle.hfs_put_laws.proofs.MappedItems.{chosen, HasChosen, items-chosen}
 use Rattle.hfs_put_laws.proofs.SameOwn as own

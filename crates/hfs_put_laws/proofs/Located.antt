@@ -1,24 +1,23 @@
 -- The allocation block in which a logical block of a file lies, and who owns it.
-use Rattle.std.proofs.Common.{◌≡◌, inl, inr, ⊎_elim, ℕ, zero, suc, ◌+◌, ◌*◌, ◌<◌, ◌≤◌, Bool, true, false, cond, List, [], ◌∷◌, ◌++◌, take, refl, sym, ap, subst, ◌∙◌, arith, true≢false}
-use Rattle.std.specs.Prelude.{◌-◌, ◌&&◌}
+use Rattle.std.proofs.Common.{◌≡◌, inl, inr, ⊎_elim, ℕ, zero, suc, ◌+◌, ◌*◌, ◌<◌, ◌≤◌, Bool, true, false, List, [], ◌∷◌, take, refl, sym, ap, ◌∙◌, arith, true≢false}
+use Rattle.std.specs.Prelude.{◌-◌}
 use Rattle.std.specs.List.{flat_map, range_with_len, sum_by}
 use Rattle.std.proofs.lemmas.Bool.{cases_lt}
 use Rattle.std.proofs.lemmas.List.Sums.{sum_by-cons}
 use Rattle.std.proofs.Math.Nat.{add-mul, suc-mul}
 use Rattle.hfs_fields.specs.declared.mdb.Mdb.{Mdb}
 use Rattle.hfs_fields.specs.declared.extent.Extent.{Extent}
-use Rattle.hfs_scans.specs.Each.{Each}
 use Rattle.hfs_scans.specs.Members.{In}
 use Rattle.hfs_scans.proofs.PartLemmas.{in_parts}
 use Rattle.hfs_blocks.specs.Blocks.{run_of}
 use Rattle.hfs_space.specs.Extents.{Overflow, extent_blocks}
 use Rattle.hfs_space.specs.ForkLaws.{block_numbers}
 use Rattle.hfs_space.specs.Forks.{blocks_each, run_in}
-use Rattle.hfs_space.specs.Owners.{owners, owned_blocks}
+use Rattle.hfs_space.specs.Owners.{owners}
 use Rattle.hfs_space.proofs.OwnerLemmas.{append}
 use Rattle.hfs_catalog.specs.Records.{Record, Catalog}
 use Rattle.hfs_changes.proofs.Frames.{block_in}
-use Rattle.hfs_changes.proofs.Space.{others_have, record_has, owners_sum}
+use Rattle.hfs_changes.proofs.Space.{record_has}
 use Rattle.hfs_volume.proofs.Owned.{owners_in}
 
 -- ---- numbers in a row

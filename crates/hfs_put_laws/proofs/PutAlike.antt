@@ -1,14 +1,12 @@
 -- Volumes that are the same but for the bytes of forks, when a list was put on them.
-use Rattle.std.proofs.Common.{◌≡◌, ℕ, List, [], map, refl, sym, ap, subst, ◌∙◌, Result, Ok, Err}
-use Rattle.hfs_scans.specs.Each.{Each}
-use Rattle.hfs_model.specs.Volume.{Volume}
+use Rattle.std.proofs.Common.{ℕ, List, [], map, sym, subst, Result, Ok, Err}
 use Rattle.hfs_alike.specs.Alike.{AreAlike, no_file}
-use Rattle.hfs_put_calls.specs.Laws.{IsWhole, with_bytes}
+use Rattle.hfs_put_calls.specs.Laws.{with_bytes}
 use Rattle.hfs_put_calls.specs.Put.{Arrival, Put, Refused, put_volume, laid_volume, without_bytes, came}
 use Rattle.hfs_put_calls.specs.WithForks.{with_forks}
 use Rattle.hfs_put_calls.proofs.PutLists.{put_is_laid}
 use Rattle.hfs_put_laws.specs.Forks.{has_forks}
-use Rattle.hfs_put_laws.specs.Lists.{ArePutAlike, EndAlike, AlikeVolumesArePutAlike}
+use Rattle.hfs_put_laws.specs.Lists.{EndAlike, AlikeVolumesArePutAlike}
 use Rattle.hfs_put_laws.proofs.AlikeForks.{with-alike}
 use Rattle.hfs_put_laws.proofs.AlikeLists.{SamePut, put-alike}
 use Rattle.hfs_put_laws.proofs.Results.{Related}

@@ -1,8 +1,8 @@
 -- Results that are the same but for their values, which are related.
-use Rattle.std.proofs.Common.{◌≡◌, Result, Ok, Err, refl, sym, ap, subst, ◌∙◌}
+use Rattle.std.proofs.Common.{◌≡◌, Result, Ok, Err, refl, ap}
 use Rattle.hfs_model.specs.declared.reply.Reply.{Reply}
 use Rattle.hfs_put_calls.specs.Accepted.{next}
-use Rattle.hfs_put_calls.specs.Put.{Refused, at_place}
+use Rattle.hfs_put_calls.specs.Put.{at_place}
 use Rattle.std.proofs.Common.{ℕ}
 
 -- both values are related, or both refusals are the same

@@ -1,25 +1,19 @@
 -- Volumes that have the same blocks but for those of forks, whatever the last block but one is: a fork may have it, too.
-use Rattle.std.proofs.Common.{◌≡◌, ℕ, ◌+◌, ◌<◌, List, [], ◌∷◌, ◌++◌, length, map, take, refl, sym, ap, subst, ◌∙◌}
-use Rattle.std.specs.Prelude.{◌-◌, slice_index}
-use Rattle.hfs_fields.specs.declared.file_record.FileRecord.{FileRecord}
+use Rattle.std.proofs.Common.{◌≡◌, ℕ, List, [], ◌++◌, map, take, sym, ap, subst, ◌∙◌}
+use Rattle.std.specs.Prelude.{slice_index}
 use Rattle.hfs_fields.specs.declared.file_record.ForkRecord.{ForkRecord}
-use Rattle.hfs_fields.specs.declared.mdb.Mdb.{Mdb}
 use Rattle.hfs_scans.specs.Each.{Each}
-use Rattle.hfs_scans.specs.Members.{In}
 use Rattle.hfs_scans.proofs.ElementLemmas.{each-left}
 use Rattle.hfs_blocks.specs.Blocks.{nodes_in}
 use Rattle.hfs_btree.specs.Sound.{IsOther, KeepsFrame}
 use Rattle.hfs_btree.specs.Tree.{Store}
 use Rattle.hfs_btree_checks.specs.Shape.{has_counts}
 use Rattle.hfs_space.specs.declared.fork_kind.ForkKind.{ForkKind}
-use Rattle.hfs_space.specs.declared.fork_kind.ForkKind.TheVariants.{Data, Resource}
-use Rattle.hfs_space.specs.Bitmap.{bitmap_len}
 use Rattle.hfs_space.specs.Extents.{fork_extents, fork_byte}
 use Rattle.hfs_space.specs.Faults.{fork_fault, space_fault}
 use Rattle.hfs_space.specs.ForkLaws.{block_numbers}
 use Rattle.hfs_space.specs.Forks.{fork_bytes, joined}
 use Rattle.hfs_space.specs.TreeKeys.{ext_keys, overflow_of}
-use Rattle.hfs_catalog.specs.Records.{Catalog}
 use Rattle.hfs_catalog.specs.Tree.{cat_keys}
 use Rattle.hfs_catalog_checks.specs.Faults.{record_fault, id_fault, valence_fault, count_fault}
 use Rattle.hfs_check.specs.Agree.{KeepsBut, bitmap_blocks}

@@ -1,33 +1,30 @@
 -- A list that is put on an image by way of a copy.
-use Rattle.std.proofs.Common.{◌≡◌, ℕ, Bool, List, [], ◌∷◌, ◌++◌, map, refl, sym, ap, subst, ◌∙◌, Result, Ok, Err}
+use Rattle.std.proofs.Common.{◌≡◌, ℕ, Bool, List, [], ◌++◌, map, sym, ap, subst, ◌∙◌, Result, Ok}
 use Rattle.std.specs.Prelude.{◌&&◌, if◌then◌else◌}
 use Rattle.std.specs.List.{flat_map}
 use Rattle.hfs_fields.specs.Records.{is_file, item_id, file_record_of}
 use Rattle.hfs_fields.specs.declared.file_record.FileRecord.{FileRecord}
 use Rattle.hfs_scans.specs.Each.{Each}
 use Rattle.hfs_scans.proofs.ElementLemmas.{each-mono}
-use Rattle.hfs_blocks.specs.Blocks.{block_at, block_count}
+use Rattle.hfs_blocks.specs.Blocks.{block_at}
 use Rattle.hfs_blocks.specs.Layers.{Numbered}
 use Rattle.hfs_btree.specs.Sound.{IsOther}
-use Rattle.hfs_model.specs.Volume.{Volume}
 use Rattle.hfs_alike.specs.Alike.{AreAlike, bare_volume, no_file}
 use Rattle.hfs_space.specs.declared.fork_kind.ForkKind.TheVariants.{Data, Resource}
 use Rattle.hfs_catalog.specs.Records.{Record, Catalog}
 use Rattle.hfs_check.specs.Agree.{AgreesBut}
 use Rattle.hfs_check.specs.Parts.{Blocks, catalog_in}
-use Rattle.hfs_check.specs.Sound.{IsSound}
 use Rattle.hfs_check.specs.VolumeOf.{volume_of}
 use Rattle.hfs_check.proofs.Stays.{agreements_join}
-use Rattle.hfs_needed.specs.Laws.{blocks_of_fork}
 use Rattle.hfs_needed.specs.Needed.{AgreeOn}
 use Rattle.hfs_put_calls.specs.Laws.{IsWhole, with_bytes}
 use Rattle.hfs_put_calls.specs.Put.{Arrival, Put, Refused, put_volume, laid_volume, without_bytes, came}
-use Rattle.hfs_put_calls.specs.WithForks.{FileForks, forks_of, with_forks}
+use Rattle.hfs_put_calls.specs.WithForks.{FileForks, with_forks}
 use Rattle.hfs_put_calls.proofs.PutLists.{put_is_laid}
 use Rattle.hfs_volume.specs.Image.{patched}
 use Rattle.hfs_working.specs.Working.{working_blocks, IsWorkingCopy, CarriesOverBut}
 use Rattle.hfs_working.proofs.LawsProved as working
-use Rattle.hfs_put_laws.specs.Forks.{file_blocks, record_blocks, blocks_of_files, has_forks, OfTheirFiles, AreLongAs, HoldBytes, HoldForks, AreForksLaid, HoldsWithForks}
+use Rattle.hfs_put_laws.specs.Forks.{file_blocks, blocks_of_files, has_forks, OfTheirFiles, AreLongAs, HoldBytes, HoldForks, AreForksLaid, HoldsWithForks}
 use Rattle.hfs_put_laws.specs.Saved.{IsDifference, AreCallsMade, IsPut, SavedIsPut}
 use Rattle.hfs_put_laws.proofs.AlikeForks.{with-alike}
 use Rattle.hfs_put_laws.proofs.AlikeLists.{SamePut, put-alike}

@@ -1,5 +1,5 @@
 -- The blocks of some files' forks, and the bytes that are laid there. The law is what a function of src/laws.rt ensures.
-use Rattle.std.specs.Prelude.{◌≡◌, ℕ, Bool, true, ◌&&◌, if◌then◌else◌, List, [], ◌++◌, length, map, replicate, Option, Some, is_some}
+use Rattle.std.specs.Prelude.{◌≡◌, ℕ, Bool, true, ◌&&◌, if◌then◌else◌, List, [], ◌++◌, length, map, replicate, Some, is_some}
 use Rattle.std.specs.List.{flat_map}
 use Rattle.hfs_fields.specs.declared.file_record.FileRecord.{FileRecord}
 use Rattle.hfs_fields.specs.Records.{is_file, item_id, file_record_of}

@@ -10,7 +10,7 @@ use Rattle.hfs_put_calls.specs.Laws.{IsWhole}
 use Rattle.hfs_put_calls.specs.Put.{Arrival, Put, put_volume, laid_volume, came}
 use Rattle.hfs_volume.specs.Image.{patched}
 use Rattle.hfs_working.specs.Working.{IsWorkingCopy, CarriesOverBut}
-use Rattle.hfs_put_laws.specs.Forks.{AreForksLaid, OfTheirFiles, AreLongAs, blocks_of_files, has_forks}
+use Rattle.hfs_put_laws.specs.Forks.{AreForksLaid, blocks_of_files, has_forks}
 
 -- these are the blocks in which the new bytes differ from the old ones
 pub record IsDifference (patch : Numbered) (old new : List ℕ) : Type 0 where
