@@ -14,3 +14,4 @@ mod PutFiles
 mod NewItems
 pub mod PutLists
 pub mod LaidZeros
+pub mod OwnForks
