@@ -2,11 +2,11 @@ mod Results
 mod AlikeLists
 mod AlikeForks
 mod PutAlike
-mod Located
+pub mod Located
 mod FileBlocks
 mod MappedItems
 mod SameOwn
 mod LaidForks
 mod Differences
-mod CameForks
-mod SavedPuts
+pub mod CameForks
+pub mod SavedPuts

@@ -29,7 +29,7 @@ in-range a (suc k) n i = ⊎_elim
     (λ (there : In n (range_with_len (a + 1) k)). let rest = in-range (a + 1) k n there in (omega (arith, rest.0), omega (arith, rest.1)))
     i
 
-range-in : (a k n : ℕ) → a ≤ n → n < a + k → In n (range_with_len a k)
+pub range-in : (a k n : ℕ) → a ≤ n → n < a + k → In n (range_with_len a k)
 range-in a zero n low high = absurd (omega arith)
 range-in a (suc k) n low high = ⊎_elim
     (λ (more : a < n). inr (range-in (a + 1) k n (omega arith) (omega arith)))
