@@ -30,6 +30,10 @@ length-pad zero l = refl
 length-pad (suc n) [] = let rest = length-pad n [] in omega (arith, rest)
 length-pad (suc n) (x ∷ xs) = let rest = length-pad n xs in omega (arith, rest)
 
+pub pad-zero : (l : List ℕ) → pad 0 l ≡ []
+unfolding pad
+pad-zero l = refl
+
 pub pad-parts : (a b c : ℕ) (l : List ℕ) → c ≡ a + b → pad c l ≡ pad a l ++ pad b (drop a l)
 unfolding pad
 pad-parts zero b c l e = ap (λ (n : ℕ). pad n l) (let same : c ≡ b = omega (arith, e) in same)

@@ -5,7 +5,7 @@ use Rattle.std.specs.List.{flat_map, range_with_len}
 use Rattle.std.proofs.lemmas.Bool.{cases_lt}
 use Rattle.std.proofs.lemmas.Nat.{div-mul-add}
 use Rattle.std.proofs.Math.Nat.{add-mul, mul_assoc, mul_comm, mul-le-mul_right}
-use Rattle.hfs_fields.specs.Records.{is_file, item_id, file_record_of}
+use Rattle.hfs_fields.specs.Records.{is_file, item_id, dir_record_of, file_record_of}
 use Rattle.hfs_fields.specs.declared.extent.Extent.{Extent}
 use Rattle.hfs_fields.specs.declared.file_record.FileRecord.{FileRecord}
 use Rattle.hfs_fields.specs.declared.mdb.Mdb.{Mdb}
@@ -89,7 +89,7 @@ module _ (total : ℕ) (blocks : Blocks) (sound : AreBlocksSound total blocks) (
   forks = came arrivals ids []
 
   item-id : (r : Record) → is_file r.1 ≡ true → item_id r.1 ≡ (file_record_of r.1).id
-  item-id r file = ap (λ (b : Bool). cond b _ (file_record_of r.1).id) (file-not_dir r.1 file)
+  item-id r file = ap (λ (b : Bool). cond b (dir_record_of r.1).id (file_record_of r.1).id) (file-not_dir r.1 file)
 
   -- ---- a fork's extents
 

@@ -21,7 +21,7 @@ use Rattle.hfs_put.specs.ForkRuns.{run_at, runs_from}
 use Rattle.hfs_put_calls.specs.Put.{Arrival}
 use Rattle.hfs_sources.specs.declared.fork_run.ForkRun.{ForkRun}
 use Rattle.hfs_put_image.specs.LaidRuns.{fork_bytes, filled}
-use Rattle.hfs_put_image.proofs.Filled.{pad, filled-pad, pad-parts}
+use Rattle.hfs_put_image.proofs.Filled.{pad, filled-pad, pad-parts, pad-zero}
 use Rattle.hfs_put_image.proofs.LaidAt.{Holds}
 
 -- ---- a run is one of an extent that has blocks
@@ -101,8 +101,9 @@ module _ (mdb : Mdb) (arrivals : List Arrival) (item : ℕ) (fork : Fork) (image
   part before count = pad (512 * (count * each)) (drop (512 * (before * each)) bytes)
 
   part-none : (before : ℕ) → part before 0 ≡ []
-  unfolding pad
-  part-none before = ap (λ (n : ℕ). pad n (drop (512 * (before * each)) bytes)) (let e : 512 * (0 * each) ≡ 0 = omega arith in e)
+  part-none before =
+      ap (λ (n : ℕ). pad n (drop (512 * (before * each)) bytes)) (let e : 512 * (0 * each) ≡ 0 = omega arith in e)
+      ∙ pad-zero (drop (512 * (before * each)) bytes)
 
   parts : (before a b : ℕ) → part before a ++ part (before + a) b ≡ part before (a + b)
   parts before a b =
