@@ -1,5 +1,5 @@
 -- Why nothing was put, as it is printed, and how the program ends.
-use Rattle.std.specs.Prelude.{◌≡◌, ℕ, List, ◌++◌, codes, string_bytes}
+use Rattle.std.specs.Prelude.{◌≡◌, ℕ, List, ◌++◌, codes, string_bytes, Option, Some, None}
 use Rattle.hfs_commands.specs.Faults.{fault_text, status_of}
 use Rattle.hfs_commands.specs.Paths.{path_text}
 use Rattle.hfs_commands.specs.declared.fault.Fault.{Fault}
@@ -35,3 +35,8 @@ abbrev pub IsHostFault : HostFault → PutFault → Type 0
 IsHostFault (host.CannotRead path) told = told ≡ fault.CannotRead path
 IsHostFault (host.NotUtf8 folder) told = TellsBy (refusal_line (string_bytes folder) reason.NameNotText) told
 IsHostFault host.NoMemory told = told ≡ fault.Image why.NoMemory
+
+-- what is to be written was not: what comes couldn't be read, or it is this fault
+abbrev pub IsUnsavedBy : Option HostFault → Fault → PutFault → Type 0
+IsUnsavedBy (Some why) found told = IsHostFault why told
+IsUnsavedBy None found told = told ≡ fault.Image found

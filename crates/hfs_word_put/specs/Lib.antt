@@ -9,3 +9,4 @@ pub mod Sums
 pub mod Laid
 pub mod Contents
 pub mod Put
+pub mod Files

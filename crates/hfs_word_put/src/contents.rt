@@ -1,5 +1,5 @@
 //! A file with what is put on its volume, which is looked at again with all that it is read from.
-ghost use Rattle.std.specs.Prelude.{⊤};
+ghost use Rattle.std.specs.Prelude.{◌≡◌, ⊤};
 ghost use Rattle.hfs_laid_forks.specs.Images.{laid_images};
 ghost use Rattle.hfs_word_put.specs.Contents.{IsSettled};
 
@@ -32,7 +32,9 @@ impl<S: PlacedBytes + Drop, H: PlacedFiles + Drop> PlacedBytes for LaidFile<S, H
 
 impl<S: WatchedBytes + Drop, H: PlacedFiles + Drop> LaidFile<S, H> {
     /// Why what comes couldn't be read, or was found changed, the first time.
-    pub fn into_fault(self) -> Option<HostFault> {
+    pub fn into_fault(self) -> Option<HostFault>
+        ensures { result ≡ self.forks.fault }
+    {
         let LaidFile { mut forks } = self;
         forks.take_fault()
     }

@@ -1,8 +1,9 @@
 //! What the calls that put a list make of a volume, but for the bytes of forks.
 ghost use Rattle.std.specs.Prelude.{◌≡◌, IfErr, IfOk};
-ghost use Rattle.hfs_blocks.specs.Blocks.{block_at};
+ghost use Rattle.hfs_blocks.specs.Blocks.{block_at, block_count};
 ghost use Rattle.hfs_check.specs.VolumeOf.{volume_of};
-ghost use Rattle.hfs_put.specs.Laying.{AreLaid};
+ghost use Rattle.hfs_blocks.specs.Layers.{changes, AreWithin};
+ghost use Rattle.hfs_put_image.specs.PutImages.{IsPutOver};
 ghost use Rattle.hfs_word_put.specs.Laid.{IsUnlaid, TellsLay, reply_reason, wants_of};
 
 use crate::fault::PutFault;
@@ -12,8 +13,9 @@ use crate::reason::PutReason;
 use crate::wants::wanted_of;
 use hfs_commands::Fault;
 use hfs_model::{NOT_FOUND, Reply, Value};
-use hfs_put::{LayFault, lay_items};
+use hfs_put::LayFault;
 use hfs_put_calls::PutItem;
+use hfs_put_image::{PutBlocks, put_items};
 use hfs_sources::SourceItem;
 use hfs_volume::Volume;
 use std::alloc::Global;
@@ -79,25 +81,26 @@ fn of_lay(
     }
 }
 
-/// Makes all calls that put a list but those that write forks: the IDs of its items. Fault: the first call that is refused; where
-/// blocks are wanting, those that were free before all, and all that the list wants.
+/// Makes all calls that put a list on a volume but those that write forks: what goes out. Fault: the first call that is refused;
+/// where blocks are wanting, those that were free before all, and all that the list wants.
 pub fn lay_all(
     alloc: Global,
     volume: &mut Volume,
     list: &PlacedList,
     items: &[SourceItem],
     now: u32,
-) -> Result<Vec<u32>, PutFault<'static>>
-    ensures laid { IfOk result (λ ids. AreLaid list.now.target now list.now.places.items
-        (volume_of volume.old.current) (volume_of volume.new.current) ids.items) }
-    ensures base { volume.new.base ≡ volume.old.base }
+) -> Result<PutBlocks, PutFault<'static>>
+    requires { volume.old.current ≡ volume.old.base }
+    ensures put { IfOk result (λ put. IsPutOver volume.old.base list.now.target now
+        list.now.places.items put.patch put.runs.items put.ids.items) }
+    ensures within { IfOk result (λ put. AreWithin (changes put.patch) (block_count volume.old.base)) }
     ensures fault { IfErr result (IsUnlaid list.now now items.now
         (wants_of (block_at volume.old.current) list.now.places.items)
-        (volume_of volume.old.current) volume.new.current) }
+        (volume_of volume.old.base) volume.new.current) }
 {
     let wants = wants_of(volume, &list.places);
-    match lay_items(alloc, volume, list.target, now, &list.places) {
-        Ok(ids) => Ok(ids),
+    match put_items(alloc, volume, list.target, now, &list.places) {
+        Ok(put) => Ok(put),
         Err(fault) => Err(of_lay(alloc, fault, items, wants)),
     }
 }

@@ -1,103 +1,134 @@
-//! A list is put on a volume in a file: what the file is to hold then.
+//! What comes is put on a volume in a file: what the file is to hold then.
+ghost use Rattle.std.specs.Prelude.{◌≡◌, ◌≤◌, ◌/◌, IfErr, IfOk, MatchResult};
+ghost use Rattle.hfs_blocks.specs.Blocks.{block_count};
+ghost use Rattle.hfs_blocks.specs.Layers.{changes, AreWithin};
+ghost use Rattle.hfs_sources.specs.Trees.{OfEachTree};
+ghost use Rattle.hfs_laid_forks.specs.Files.{IsReadOf};
+ghost use Rattle.hfs_word_put.specs.Faults.{IsUnsavedBy};
+ghost use Rattle.hfs_word_put.specs.Files.{IsPutFile, place_of};
+ghost use Rattle.hfs_word_put.specs.Put.{IsPutFault, IsPutOf, IsPutOn, IsUnput, IsUnputOn};
 
 use crate::contents::LaidFile;
 use crate::fault::PutFault;
 use crate::laying::lay_all;
 use crate::lines::PutSums;
 use crate::listing::{Listed, list_all, need_digests};
+use crate::mounting::mount_image;
 use crate::order::PutOrder;
-use crate::placing::{PlacedList, place_all};
+use crate::placing::place_all;
 use crate::wants::put_sums;
 use hfs_commands::{ByteRange, Fault, ImageInFile, WatchedBytes, WatchedRange};
 use hfs_laid_forks::{HostFiles, LaidForks, PlacedFiles};
-use hfs_needed_runs::kept_blocks;
 use hfs_patched::ImagePlace;
-use hfs_put::fork_runs;
+use hfs_put_image::PutBlocks;
 use hfs_source::RangeBytes;
 use hfs_sources::{HostTree, SourceItem};
-use hfs_sparse::BlockSource;
 use hfs_volume::Volume;
-use hfs_working::{mount_read, open_working};
 use std::alloc::Global;
 
-/// What a file is to hold when a list was put on a volume in it, and how much was put.
+/// A list that was put on a volume.
+#[derive(Drop)]
+pub struct PutList {
+    /// The blocks that go out, and where the forks are to be laid.
+    pub blocks: PutBlocks,
+    /// How much was put.
+    pub sums: PutSums,
+}
+
+/// What came, and was put on a volume.
+#[derive(Drop)]
+pub struct PutItems {
+    pub items: Vec<SourceItem>,
+    pub list: PutList,
+}
+
+/// What a file is to hold in which something was put on a volume, and how much was put.
 #[derive(Drop)]
 pub struct PutImage<S, H> {
     pub contents: ImageInFile<LaidFile<S, H>>,
     pub sums: PutSums,
 }
 
-/// A volume on which a list was laid.
-#[derive(Drop)]
-struct LaidVolume {
-    volume: Volume,
-    items: Vec<SourceItem>,
-    list: PlacedList,
-    ids: Vec<u32>,
+/// Puts a list on a volume that was mounted just now. Faults, in this order: what can't come to its place; the first call that is
+/// refused. Or want of memory.
+fn put_list(
+    alloc: Global,
+    volume: &mut Volume,
+    order: &PutOrder<'_>,
+    items: &[SourceItem],
+) -> Result<PutList, PutFault<'static>>
+    requires { volume.old.current ≡ volume.old.base }
+    ensures put { IfOk result (λ put. IsPutOn order.now volume.old.base items.now put.blocks put.sums) }
+    ensures within { IfOk result (λ put. AreWithin (changes put.blocks.patch) (block_count volume.old.base)) }
+    ensures fault { IfErr result (IsUnputOn order.now volume.old.base items.now) }
+{
+    let list = place_all(alloc, volume, order, items)?;
+    let blocks = lay_all(alloc, volume, &list, items, order.now)?;
+    let free = u32::from(volume.directory().free_blocks);
+    let sums = put_sums(&list.places, free);
+    Ok(PutList { blocks, sums })
 }
 
-/// Reads the blocks of an image that calls read and write, makes all checks, and mounts its volume over them. Faults: `CannotRead`
-/// of the path, `Refused`, `NoMemory`.
-fn mount_image<'a, S: BlockSource>(
+/// Puts what comes on a volume that was mounted just now, by all calls but those that write forks. Faults, in this order: what can't
+/// be read of it; what can't come to its place; the first call that is refused; the first file with another digest than its bag
+/// tells. Or want of memory.
+pub fn put_items<T: HostTree>(
     alloc: Global,
-    source: &mut S,
-    len: u64,
-    path: &'a str,
-) -> Result<Volume, Fault<'a>> {
-    match open_working(alloc, source, len) {
-        Ok(working) => match mount_read(alloc, working, len) {
-            Ok(volume) => Ok(volume),
-            Err(_) => Err(Fault::NoMemory),
-        },
-        Err(fault) => Err(Fault::of_needed(fault, path)),
-    }
-}
-
-/// Lays a list on a volume.
-fn lay_on<T: HostTree>(
-    alloc: Global,
-    volume: Volume,
+    volume: &mut Volume,
     tree: &mut T,
     order: &PutOrder<'_>,
-) -> Result<LaidVolume, PutFault<'static>> {
-    let mut volume = volume;
+) -> Result<PutItems, PutFault<'static>>
+    requires { volume.old.current ≡ volume.old.base }
+    ensures put { IfOk result (λ put. IsPutOf (T.Holds tree.new) order.now volume.old.base
+        put.items.items put.list.blocks put.list.sums) }
+    ensures within { IfOk result (λ put. AreWithin (changes put.list.blocks.patch) (block_count volume.old.base)) }
+    ensures held { OfEachTree (T.Holds tree.new) (T.Holds tree.old) }
+    ensures fault { IfErr result (IsUnput (T.Holds tree.new) order.now volume.old.base) }
+{
     let Listed { items, digests } = list_all(alloc, tree, order)?;
-    let list = place_all(alloc, &volume, order, &items)?;
-    let ids = lay_all(alloc, &mut volume, &list, &items, order.now)?;
+    let list = put_list(alloc, volume, order, &items)?;
     need_digests(alloc, tree, &digests, &items)?;
-    Ok(LaidVolume {
-        volume,
-        items,
-        list,
-        ids,
-    })
+    Ok(PutItems { items, list })
 }
 
-/// What a file is to hold in which an image lies, on whose volume a list was laid.
-fn put_image<S: WatchedBytes + Drop, H: PlacedFiles + Drop>(
+/// What a file is to hold in which an image lies, on whose volume this was put. Fault: `CannotRead` of the path, where the image
+/// doesn't lie in the file.
+fn put_image<'a, S: WatchedBytes + Drop, H: PlacedFiles + Drop>(
     alloc: Global,
     image: WatchedRange<S>,
     sum_at: Option<u64>,
+    path: &'a str,
     files: H,
-    laid: LaidVolume,
-) -> Result<PutImage<S, H>, Fault<'static>> {
-    let LaidVolume {
-        volume,
-        items,
-        list,
-        ids,
-    } = laid;
-    let sums = put_sums(&list.places, u32::from(volume.directory().free_blocks));
-    let Ok(patch) = kept_blocks(alloc, &volume, &[], &[]) else {
-        return Err(Fault::NoMemory);
-    };
-    let Ok(runs) = fork_runs(alloc, &volume, &list.places, &ids) else {
-        return Err(Fault::NoMemory);
-    };
+    put: PutItems,
+) -> Result<PutImage<S, H>, Fault<'a>>
+    requires small { image.bytes.len ≤ 2147483648 }
+    requires within { AreWithin (changes put.list.blocks.patch) (image.bytes.len / 512) }
+    ensures file { IfOk result (λ made. made.contents.file.forks.bytes ≡ image.bytes.bytes) }
+    ensures files { IfOk result (λ made. made.contents.file.forks.files ≡ files) }
+    ensures items { IfOk result (λ made. made.contents.file.forks.items ≡ put.items) }
+    ensures runs { IfOk result (λ made. made.contents.file.forks.runs ≡ put.list.blocks.runs) }
+    ensures start { IfOk result (λ made. made.contents.file.forks.start ≡ image.bytes.start) }
+    ensures patch { IfOk result (λ made. made.contents.patch ≡ put.list.blocks.patch) }
+    ensures place { IfOk result (λ made. made.contents.place
+        ≡ place_of image.bytes.start image.bytes.len sum_at) }
+    ensures sums { IfOk result (λ made. made.sums ≡ put.list.sums) }
+    ensures fault { IfErr result (λ fault. fault ≡ Fault.CannotRead path.entry) }
+{
+    let PutItems { items, list } = put;
+    let PutList { blocks, sums } = list;
+    let PutBlocks {
+        patch,
+        runs,
+        ids: _,
+    } = blocks;
     let WatchedRange { bytes } = image;
-    let RangeBytes { bytes, start, len } = bytes;
-    let Some(forks) = LaidForks::new(alloc, bytes, files, items, runs, start) else {
-        return Err(Fault::NoMemory);
+    let RangeBytes {
+        bytes: file,
+        start,
+        len,
+    } = bytes;
+    let Some(forks) = LaidForks::new(alloc, file, files, items, runs, start) else {
+        return Err(Fault::CannotRead(path));
     };
     let range = ByteRange { start, len };
     Ok(PutImage {
@@ -111,8 +142,8 @@ fn put_image<S: WatchedBytes + Drop, H: PlacedFiles + Drop>(
     })
 }
 
-/// Puts a list on the volume of an image that lies in a file: what the file is to hold then. The bytes of forks are read as it is
-/// written. Faults, in this order: the image's; what can't be read of what comes; what can't be put.
+/// Puts what comes on the volume of an image that lies in a file, which was opened by this path: what the file is to hold then. The
+/// bytes of forks are read as it is written. Faults, in this order: those of the image, then those of [`put_items`].
 pub fn put_sources<'a, S: WatchedBytes + Drop, T: HostTree + Drop>(
     alloc: Global,
     image: WatchedRange<S>,
@@ -120,18 +151,22 @@ pub fn put_sources<'a, S: WatchedBytes + Drop, T: HostTree + Drop>(
     path: &'a str,
     tree: T,
     order: &PutOrder<'_>,
-) -> Result<PutImage<S, HostFiles<T>>, PutFault<'a>> {
+) -> Result<PutImage<S, HostFiles<T>>, PutFault<'a>>
+    ensures put { IfOk result (λ made. IsPutFile S.Holds (IsReadOf T.Holds T.File.Holds)
+        order.now image.bytes.start image.bytes.len sum_at made) }
+    ensures fault { IfErr result (IsPutFault path.entry) }
+{
     let mut image = image;
     let mut tree = tree;
     let len = image.bytes.len;
-    let volume = match mount_image(alloc, &mut image, len, path) {
+    let mut volume = match mount_image(alloc, &mut image, len, path) {
         Ok(volume) => volume,
         Err(fault) => return Err(PutFault::Image(fault)),
     };
-    let laid = lay_on(alloc, volume, &mut tree, order)?;
+    let put = put_items(alloc, &mut volume, &mut tree, order)?;
     let files = HostFiles::new(alloc, tree);
-    match put_image(alloc, image, sum_at, files, laid) {
-        Ok(put) => Ok(put),
+    match put_image(alloc, image, sum_at, path, files, put) {
+        Ok(made) => Ok(made),
         Err(fault) => Err(PutFault::Image(fault)),
     }
 }
@@ -142,13 +177,12 @@ pub fn unsaved<'a, S: WatchedBytes + Drop, H: PlacedFiles + Drop>(
     alloc: Global,
     contents: ImageInFile<LaidFile<S, H>>,
     fault: Fault<'a>,
-) -> PutFault<'a> {
+) -> PutFault<'a>
+    ensures { IsUnsavedBy contents.file.forks.fault fault result }
+{
     let ImageInFile { file, .. } = contents;
-    match fault {
-        Fault::CannotRead(_) => match file.into_fault() {
-            Some(why) => PutFault::of_host(alloc, why),
-            None => PutFault::Image(fault),
-        },
-        _ => PutFault::Image(fault),
+    match file.into_fault() {
+        Some(why) => PutFault::of_host(alloc, why),
+        None => PutFault::Image(fault),
     }
 }
