@@ -1,0 +1,4 @@
+pub mod Later
+pub mod Tags
+pub mod Told
+pub mod Digests

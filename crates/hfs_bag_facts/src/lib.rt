@@ -1,0 +1,17 @@
+//! What bags tell of what lies in them: lock and dates of items, digests of files, and the name of the disk.
+#![tactic(auto)]
+
+mod bag_facts;
+mod bag_name;
+mod by_path;
+mod facts_table;
+mod fault;
+mod manifest_digests;
+mod paths;
+mod tag_text;
+mod wrong_files;
+
+pub use crate::bag_facts::BagFacts;
+pub use crate::bag_name::bag_name;
+pub use crate::manifest_digests::ManifestDigests;
+pub use crate::wrong_files::first_wrong_file;

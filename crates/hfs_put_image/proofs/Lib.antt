@@ -1,0 +1,6 @@
+mod Filled
+mod LaidAt
+mod RunBlocks
+mod FilesAt
+mod LaidFiles
+mod PutOver

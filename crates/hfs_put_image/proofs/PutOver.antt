@@ -1,0 +1,78 @@
+-- What goes out of a list that was put on a copy.
+use Rattle.std.proofs.Common.{◌≡◌, ℕ, ◌/◌, ◌<◌, List, [], ◌∷◌, ◌++◌, length, map, IsSome, Ok, refl, sym, ap, subst, ◌∙◌}
+use Rattle.std.specs.List.{flat_map}
+use Rattle.hfs_scans.specs.Each.{Each}
+use Rattle.hfs_blocks.specs.declared.run.Run.{Run}
+use Rattle.hfs_blocks.specs.Blocks.{block_at, block_count, length-block_at, run_of}
+use Rattle.hfs_blocks.specs.Layers.{Numbered, changes, AreWithin}
+use Rattle.hfs_catalog.specs.Records.{Catalog}
+use Rattle.hfs_check.specs.Agree.{AgreesBut}
+use Rattle.hfs_check.specs.VolumeOf.{volume_of}
+use Rattle.hfs_volume.specs.Image.{ImageValue, patched}
+use Rattle.hfs_volume.proofs.SavedPieces.{length-laid_over}
+use Rattle.hfs_working.specs.Working.{IsWorkingCopy}
+use Rattle.hfs_needed_runs.specs.GivenBack.{AreChangedZeros, AreKeptOf}
+use Rattle.hfs_needed_runs.specs.Keeping.{AreKept}
+use Rattle.hfs_put.specs.ForkRuns.{AreForkRuns}
+use Rattle.hfs_put.specs.Laying.{item_of, AreLaid}
+use Rattle.hfs_put_calls.specs.declared.items.PutItem.{PutItem}
+use Rattle.hfs_put_calls.specs.Laws.{IsWhole}
+use Rattle.hfs_put_calls.specs.Put.{Arrival, came}
+use Rattle.hfs_put_calls.proofs.OwnForks.{forks_are_theirs}
+use Rattle.hfs_sources.specs.declared.fork_run.ForkRun.{ForkRun}
+use Rattle.hfs_put_laws.specs.Forks.{AreForksLaid}
+use Rattle.hfs_put_laws.specs.Saved.{IsDifference, IsPut}
+use Rattle.hfs_put_laws.proofs.CameForks.{are-long}
+use Rattle.hfs_put_laws.proofs.SavedPuts.{saved_is_put}
+use Rattle.hfs_put_image.specs.LaidRuns.{laid}
+use Rattle.hfs_put_image.specs.PutImages.{IsPutOver}
+use Rattle.hfs_put_image.proofs.LaidFiles.{are-laid}
+
+-- ---- the blocks that go out
+
+no-zeros : (volume : ImageValue) (zeros : List ℕ) → AreChangedZeros volume [] zeros → zeros ≡ []
+no-zeros volume [] are = refl
+no-zeros volume (n ∷ zeros) are = absurd are.each.0.0
+
+module _ (volume : ImageValue) (patch : Numbered) (written : List ℕ) (agrees : AgreesBut written volume.base volume.current) (kept : AreKeptOf volume [] [] patch)
+    (makes : patched patch volume.base ≡ volume.current) where
+  are-kept : AreKept (block_count volume.base) [] (block_at volume.base) (block_at volume.current) patch
+  are-kept = subst (λ (zeros : List ℕ). AreKept (block_count volume.base) zeros (block_at volume.base) (block_at volume.current) patch) (no-zeros volume kept.zeros kept.are) kept.kept
+
+  pub patch-within : AreWithin (changes patch) (block_count volume.base)
+  patch-within n block found =
+      let put = are-kept.are n block found in
+      let below : n < block_count volume.current = subst (λ (len : ℕ). n < len / 512) (sym agrees.len) put.0 in
+      (put.0, ap (λ (b : List ℕ). length b) put.1 ∙ length-block_at volume.current n below)
+
+  pub is-difference : IsDifference patch volume.base volume.current
+  is-difference = record { within = patch-within; makes = makes; differ = λ n some same. are-kept.only n some same }
+
+-- ---- the whole
+
+module _ (volume : ImageValue) (target now : ℕ) (items : List PutItem) (patch : Numbered) (runs : List ForkRun) (ids : List ℕ)
+    (calls : AreLaid target now items (volume_of volume.base) (volume_of volume.current) ids) (agrees : AgreesBut volume.written volume.base volume.current)
+    (kept : AreKeptOf volume [] [] patch) (makes : patched patch volume.base ≡ volume.current)
+    (are : AreForkRuns (block_at volume.current) items ids runs) where
+  module _ (arrivals : List Arrival) (image : List ℕ) (same : map item_of arrivals ≡ items) (whole : Each IsWhole arrivals) (is : IsWorkingCopy volume.base image) where
+    abbrev middle : List ℕ
+    middle = patched patch image
+
+    count : block_count middle ≡ block_count volume.current
+    count = ap (λ (n : ℕ). n / 512)
+        (length-laid_over (changes patch) image
+        (subst (λ (len : ℕ). AreWithin (changes patch) (len / 512)) (sym is.len) (patch-within volume patch volume.written agrees kept makes))
+        ∙ is.len ∙ sym agrees.len)
+
+    there : AreForksLaid (came arrivals ids []) (block_at volume.current) middle (laid arrivals runs middle)
+    there = are-laid (block_count volume.current) (block_at volume.current) agrees.sound.blocks arrivals ids
+        (forks_are_theirs (volume_of volume.base) target now arrivals (record { volume = volume_of volume.current; ids = ids }) (calls arrivals same)) runs
+        (subst (λ (own : List PutItem). AreForkRuns (block_at volume.current) own ids runs) (sym same) are) middle count
+        (are-long target now arrivals ids volume.base volume.current whole agrees.sound (calls arrivals same))
+
+    puts : IsPut target now arrivals ids volume.written image (laid arrivals runs middle)
+    puts = saved_is_put target now arrivals ids volume.written volume.base volume.current image (laid arrivals runs middle) patch is whole
+        (record { laid = calls arrivals same; agrees = agrees }) (is-difference volume patch volume.written agrees kept makes) there
+
+  pub is-put-over : IsPutOver volume.base target now items patch runs ids
+  is-put-over = record { written = volume.written; puts = puts }

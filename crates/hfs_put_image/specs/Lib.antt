@@ -1,0 +1,2 @@
+pub mod LaidRuns
+pub mod PutImages

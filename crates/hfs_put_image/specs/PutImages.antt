@@ -1,0 +1,22 @@
+-- What goes out of a list that was put on a copy of an image.
+use Rattle.std.specs.Prelude.{◌≡◌, ℕ, List, map}
+use Rattle.hfs_scans.specs.Each.{Each}
+use Rattle.hfs_blocks.specs.Layers.{Numbered}
+use Rattle.hfs_volume.specs.Image.{patched}
+use Rattle.hfs_working.specs.Working.{IsWorkingCopy}
+use Rattle.hfs_put_calls.specs.declared.items.PutItem.{PutItem}
+use Rattle.hfs_put_calls.specs.Laws.{IsWhole}
+use Rattle.hfs_put_calls.specs.Put.{Arrival}
+use Rattle.hfs_put.specs.Laying.{item_of}
+use Rattle.hfs_sources.specs.declared.fork_run.ForkRun.{ForkRun}
+use Rattle.hfs_put_laws.specs.Saved.{IsPut}
+use Rattle.hfs_put_image.specs.LaidRuns.{laid}
+
+-- A list was put on a copy of an image, with these IDs; these blocks go out, and these runs are those of its files' forks. Whatever bytes come for the
+-- list, and whatever image has the copy's working blocks: the image with these blocks over it, and with the bytes laid in these runs, holds what the File
+-- Manager makes of the image's volume by the list, but for the bytes of forks of other files.
+pub record IsPutOver (copy : List ℕ) (target now : ℕ) (items : List PutItem) (patch : Numbered) (runs : List ForkRun) (ids : List ℕ) : Type 0 where
+  -- the blocks of forks that calls wrote
+  pub written : List ℕ
+  pub puts : (arrivals : List Arrival) (image : List ℕ) → map item_of arrivals ≡ items → Each IsWhole arrivals → IsWorkingCopy copy image
+      → IsPut target now arrivals ids written image (laid arrivals runs (patched patch image))
