@@ -93,7 +93,7 @@ pub fn put_items<T: HostTree>(
 
 /// What a file is to hold in which an image lies, on whose volume this was put. Fault: `CannotRead` of the path, where the image
 /// doesn't lie in the file.
-fn put_image<'a, S: WatchedBytes + Drop, H: PlacedFiles + Drop>(
+pub fn put_image<'a, S: WatchedBytes + Drop, H: PlacedFiles + Drop>(
     alloc: Global,
     image: WatchedRange<S>,
     sum_at: Option<u64>,
