@@ -70,7 +70,8 @@ fn found_name<T: HostTree>(
 }
 
 /// The name that the new volume gets: the one that is given; else, where one bag comes, the name that it tells of its disk; else,
-/// where one folder comes, its last part. Faults: `BadName`, also where there is none of these; what can't be read of what comes.
+/// where one folder comes, its last part. Faults: `BadName`, also where there is none of these; what can't be read of what comes,
+/// but `BadSize` goes before that.
 pub(crate) fn made_name<T: HostTree>(
     alloc: Global,
     tree: &mut T,
@@ -80,7 +81,10 @@ pub(crate) fn made_name<T: HostTree>(
         Some(name) => read_name(NameSource::Typed(name)),
         None => match found_name(alloc, tree, order.sources) {
             Ok(read) => read,
-            Err(fault) => return Err(PutFault::of_host(alloc, fault)),
+            Err(fault) => {
+                made_size(order)?;
+                return Err(PutFault::of_host(alloc, fault));
+            }
         },
     };
     match read {
