@@ -2,7 +2,6 @@
 #![tactic(auto)]
 
 mod filling;
-mod items;
 mod lines;
 mod listing;
 mod making;
@@ -11,9 +10,8 @@ mod order;
 mod refusing;
 mod settled_image;
 
-pub use crate::items::new_items;
 pub use crate::lines::made_lines;
-pub use crate::listing::list_new;
+pub use crate::listing::list_all_new;
 pub use crate::making::make_volume;
 pub use crate::order::MakeOrder;
 pub use crate::settled_image::SettledImage;

@@ -1,12 +1,12 @@
 //! A new volume is made of files and folders.
 use crate::filling::{FilledImage, filled_image};
-use crate::items::new_items;
-use crate::listing::list_new;
+use crate::listing::list_all_new;
 use crate::naming::{made_name, made_size};
 use crate::order::MakeOrder;
 use crate::settled_image::SettledImage;
 use hfs_laid_forks::HostFiles;
 use hfs_make::NewVolume;
+use hfs_make_items::new_items;
 use hfs_sources::HostTree;
 use hfs_word_put::{Listed, PutFault, PutImage, PutItems, need_digests, put_image};
 use std::alloc::Global;
@@ -23,7 +23,7 @@ pub fn make_volume<'a, T: HostTree + Drop>(
     let mut tree = tree;
     let name = made_name(alloc, &mut tree, order)?;
     let size = made_size(order)?;
-    let Listed { items, digests } = list_new(alloc, &mut tree, order)?;
+    let Listed { items, digests } = list_all_new(alloc, &mut tree, order)?;
     let new = new_items(alloc, &items)?;
     let wanted = NewVolume {
         name,

@@ -1,7 +1,7 @@
 //! What is to come into a new volume, as far as its size depends on it.
 ghost use Rattle.std.specs.Prelude.{◌≡◌, IfOk, map};
 ghost use Rattle.hfs_sources.specs.Plans.{is_folder};
-ghost use Rattle.hfs_word_make.specs.Items.{name_len, new_item, new_item_of};
+ghost use Rattle.hfs_make_items.specs.Items.{name_len, new_item, new_item_of};
 
 use hfs_fields::Name;
 use hfs_make::{NewFile, NewItem};

@@ -3,7 +3,6 @@ use Rattle.std.specs.Prelude.{ℕ, if◌then◌else◌, List, length, Option, So
 use Rattle.hfs_sources.specs.Items.{PlannedItem}
 use Rattle.hfs_sources.specs.Plans.{is_folder}
 use Rattle.hfs_sources.specs.declared.plan.ItemPlan.{ItemPlan}
-use Rattle.hfs_make.specs.declared.items.NewFile.{NewFile}
 use Rattle.hfs_make.specs.declared.items.NewItem.{NewItem}
 use Rattle.hfs_make.specs.declared.items.NewItem.TheVariants.{Folder, File}
 
