@@ -1,0 +1,3 @@
+pub mod LaterLemmas
+pub mod PathLemmas
+pub mod RecordLemmas
