@@ -38,8 +38,8 @@ module _ {X : Type 0} where
   abbrev pub TellsOn : {A : Type 0} → (List ℕ → A → Option X) → List A → List A → Entries X → Entries X → Type 0
   TellsOn told left all old now = (path : List ℕ) → option_or (last_told (told path) left) (told_at now path) ≡ option_or (last_told (told path) all) (told_at old path)
 
-  pub on-first : {A : Type 0} (told : List ℕ → A → Option X) (all : List A) (old : Entries X) → TellsOn told all all old old
-  on-first told all old path = refl
+  pub on-first : {A : Type 0} (told : List ℕ → A → Option X) (all : List A) (old now : Entries X) → now ≡ old → TellsOn told all all old now
+  on-first told all old now is path = λ t. option_or (last_told (told path) all) (told_at (is t) path)
 
   pub on-step : {A : Type 0} (told : List ℕ → A → Option X) (left next all : List A) (a : A) (old mid new : Entries X) → left ≡ a ∷ next
       → Tells (λ path. told path a) mid new → TellsOn told left all old mid → TellsOn told next all old new

@@ -1,3 +1,5 @@
 pub mod LaterLemmas
+pub mod LineLemmas
 pub mod PathLemmas
 pub mod RecordLemmas
+pub mod WrongLemmas

@@ -37,10 +37,12 @@ fn note_line(
 ) -> Result<(), AllocError>
     ensures { OnOk result (Tells (λ path. digest_by_line front.now path line.now) digests.old digests.new) }
 {
-    let Some((digest, path)) = manifest_line(without_return(line)) else {
+    let Some(found) = manifest_line(without_return(line)) else {
         return Ok(());
     };
-    digests.put(path_behind(alloc, front, path)?, digest)
+    let digest = found.0;
+    let path = path_behind(alloc, front, found.1)?;
+    digests.put(path, digest)
 }
 
 /// Notes what the lines of a manifest tell, with this before their paths.

@@ -51,7 +51,7 @@ fn wrong_at<'a, T: HostTree>(
 ) -> Result<Option<&'a str>, HostFault>
     ensures wrong { IfOk result (λ wrong. OfEachTree (T.Holds tree.new)
         (λ host. option_map (λ p. p.now) wrong
-        ≡ wrong_at host (told_at manifests.now) (option_map (λ p. p.now) path))) }
+        ≡ wrong_at host (told_at manifests.now) (option_map (λ p. p.now) path.entry))) }
     ensures held { OfEachTree (T.Holds tree.new) (T.Holds tree.old) }
 {
     let Some(path) = path else {
