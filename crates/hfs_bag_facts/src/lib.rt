@@ -5,7 +5,6 @@ mod bag_facts;
 mod bag_name;
 mod by_path;
 mod facts_table;
-mod fault;
 mod manifest_digests;
 mod paths;
 mod tag_text;

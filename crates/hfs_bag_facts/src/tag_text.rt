@@ -3,9 +3,8 @@ ghost use Rattle.std.specs.Prelude.{◌≡◌, IfOk};
 ghost use Rattle.hfs_sources.specs.Trees.{OfEachTree};
 ghost use Rattle.hfs_bag_facts.specs.Tags.{leads_to_bag, tag_text, without_return};
 
-use crate::fault::cannot_read;
 use hfs_source::PlacedBytes;
-use hfs_sources::{HostFault, HostTree, entry_path, is_bag, is_file};
+use hfs_sources::{HostFault, HostTree, cannot_read, entry_path, is_bag, is_file};
 use std::alloc::Global;
 
 /// A line without the return that stands at its end where a program ends lines by two characters.

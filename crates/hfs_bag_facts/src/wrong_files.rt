@@ -5,10 +5,9 @@ ghost use Rattle.hfs_sources.specs.Trees.{OfEachTree};
 ghost use Rattle.hfs_bag_facts.specs.Digests.{double_path, first_wrong, is_wrong, own_path, wrong_at, wrong_of};
 ghost use Rattle.hfs_bag_facts.specs.Later.{told_at};
 
-use crate::fault::cannot_read;
 use crate::manifest_digests::ManifestDigests;
 use hfs_contents::file_digest;
-use hfs_sources::{HostFault, HostTree, SourceItem, is_file};
+use hfs_sources::{HostFault, HostTree, SourceItem, cannot_read, is_file};
 use std::alloc::Global;
 
 /// The SHA-256 digest of the file at a path, which is read once, in pieces. Faults: `CannotRead` of the path, `NoMemory`.

@@ -14,6 +14,8 @@ mod forks;
 #[cfg(test)]
 mod incoming;
 #[cfg(test)]
+mod laid_forks;
+#[cfg(test)]
 mod names;
 #[cfg(test)]
 mod node_bytes;

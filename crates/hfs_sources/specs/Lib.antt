@@ -11,3 +11,4 @@ pub mod HostSteps
 pub mod LoggedSteps
 pub mod Sources
 pub mod Laws
+pub mod Faults

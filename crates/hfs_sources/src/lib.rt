@@ -21,7 +21,7 @@ mod twins;
 mod walking;
 
 pub use crate::entry::{HostEntry, HostTime, Look, host_date};
-pub use crate::fault::HostFault;
+pub use crate::fault::{HostFault, cannot_read};
 pub use crate::fork_run::ForkRun;
 pub use crate::item::SourceItem;
 pub use crate::laws::walk_laws;

@@ -1,0 +1,6 @@
+pub mod Runs
+pub mod Laid
+pub mod Pieces
+pub mod Images
+pub mod Files
+pub mod Again
