@@ -1,1 +1,4 @@
 mod LaidLemmas
+mod FilledLemmas
+mod OrderLemmas
+mod PieceLemmas

@@ -7,6 +7,7 @@ mod fork;
 mod laid;
 mod order;
 mod piece;
+mod reading;
 
 pub use crate::again::look_again;
 pub use crate::files::{HostFiles, PlacedFiles};

@@ -44,7 +44,9 @@ fn piece_before(run: ForkRun, byte: u64, room: usize) -> Piece
     requires ends { byte < end_of run }
     requires room { 0 < room }
     ensures before { byte < run.place → result ≡ Own (min room (run.place - byte)) }
-    ensures inside { run.place ≤ byte → result ≡ OfRun run (byte - run.place) (min room (end_of run - byte)) }
+    ensures some { 0 < piece_len result }
+    ensures within { IsInRun result }
+    ensures in_run { run.place ≤ byte → result ≡ OfRun run (byte - run.place) (min room (end_of run - byte)) }
 {
     if byte < run.place {
         Piece::Own(least(room, run.place - byte))
