@@ -2,3 +2,4 @@ mod LaidLemmas
 mod FilledLemmas
 mod OrderLemmas
 mod PieceLemmas
+mod FailureLemmas

@@ -2,5 +2,6 @@ pub mod Runs
 pub mod Laid
 pub mod Pieces
 pub mod Images
+pub mod Failures
 pub mod Files
 pub mod Again
