@@ -72,7 +72,8 @@ fn put_at<'w, 'r, 'a>(
     )
 }
 
-/// Writes the changed image to its file, and prints how much came.
+/// Writes the changed image to its file, and prints how much came. The lines are made before, so that nothing is written where there
+/// is no memory for them.
 fn save_put<'a>(
     rt: &HostRuntime,
     words: &PutWords<'a>,
@@ -81,15 +82,15 @@ fn save_put<'a>(
 ) -> Result<u8, Fault<'a>> {
     let PutImage { contents, sums } = put;
     let mut contents = contents;
+    let Ok(lines) = put_lines(rt.alloc(), &sums) else {
+        return Err(Fault::NoMemory);
+    };
     progress.begin(contents.file.len());
     let saved = save_read(rt, words.out, words.image, &mut contents);
     progress.end();
     tell(rt, &saved.leftover);
     match saved.written {
         Ok(()) => {
-            let Ok(lines) = put_lines(rt.alloc(), &sums) else {
-                return Err(Fault::NoMemory);
-            };
             print_lines(rt, lines.as_str())?;
             Ok(Status::Done.number())
         }

@@ -1,5 +1,6 @@
 //! A file with what is put on its volume, which is looked at again with all that it is read from.
-ghost use Rattle.std.specs.Prelude.{◌≡◌, ⊤};
+ghost use Rattle.std.specs.Prelude.{◌≡◌};
+ghost use Rattle.hfs_laid_forks.specs.Failures.{FailsLaid};
 ghost use Rattle.hfs_laid_forks.specs.Images.{laid_images};
 ghost use Rattle.hfs_word_put.specs.Contents.{IsSettled};
 
@@ -28,7 +29,7 @@ impl<S: PlacedBytes + Drop, H: PlacedFiles + Drop, W: PutWatch> PlacedBytes
     for LaidFile<'_, S, H, W> {
     ghost Holds = { λ file. laid_images S.Holds H.Holds file.forks };
 
-    ghost Fails = { λ _ _ _. ⊤ };
+    ghost Fails = { λ file. FailsLaid (S.Fails file.forks.bytes) file.forks.start file.forks.runs.items };
 
     fn len(&self) -> u64 {
         self.forks.len()
