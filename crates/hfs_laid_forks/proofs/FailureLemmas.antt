@@ -1,11 +1,10 @@
 -- Where reads fail.
-use Rattle.std.proofs.Common.{◌≡◌, ◌∙◌, ℕ, ◌+◌, ◌<◌, ◌≤◌, ◌⊎◌, List, Result, Ok, Err, inl, inr, arith}
+use Rattle.std.proofs.Common.{◌≡◌, ℕ, ◌+◌, ◌<◌, ◌≤◌, List, Result, Ok, Err, inl, inr, arith}
 use Rattle.std.specs.Prelude.{OnErr}
 use Rattle.hfs_source.specs.Images.{FailsWhere}
 use Rattle.hfs_sources.specs.declared.fork_run.ForkRun.{ForkRun}
-use Rattle.hfs_laid_forks.specs.Failures.{FailsLaid, FailsWithin, MeetsRun}
+use Rattle.hfs_laid_forks.specs.Failures.{FailsLaid}
 use Rattle.hfs_laid_forks.specs.Pieces.{IsPartOfRun}
-use Rattle.hfs_laid_forks.specs.Runs.{end_of}
 
 -- of own bytes
 pub fails-own : (Fails : ℕ → ℕ → Type 0) (start : ℕ) (runs : List ForkRun) (place count : ℕ) → Fails place count → FailsLaid Fails start runs place count
