@@ -1,30 +1,10 @@
 -- Where reads fail.
-use Rattle.std.proofs.Common.{◌≡◌, ◌∙◌, ℕ, ◌+◌, ◌<◌, ◌≤◌, ◌⊎◌, List, Result, Ok, Err, inl, inr, arith}
+use Rattle.std.proofs.Common.{ℕ, ◌+◌, ◌≤◌, List, Option, Result, Ok, Err, inl, inr, arith}
 use Rattle.std.specs.Prelude.{OnErr}
 use Rattle.hfs_source.specs.Images.{FailsWhere}
+use Rattle.hfs_sources.specs.declared.fault.HostFault.{HostFault}
 use Rattle.hfs_sources.specs.declared.fork_run.ForkRun.{ForkRun}
-use Rattle.hfs_laid_forks.specs.Failures.{FailsLaid, FailsWithin, MeetsRun}
-use Rattle.hfs_laid_forks.specs.Pieces.{IsPartOfRun}
-use Rattle.hfs_laid_forks.specs.Runs.{end_of}
-
--- of own bytes
-pub fails-own : (Fails : ℕ → ℕ → Type 0) (start : ℕ) (runs : List ForkRun) (place count : ℕ) → Fails place count → FailsLaid Fails start runs place count
-fails-own Fails start runs place count fails = inl (record { at = place; few = count; behind = omega arith; before = omega arith; fails = fails })
-
--- of a part of a run
-pub fails-run : (Fails : ℕ → ℕ → Type 0) (start : ℕ) (runs : List ForkRun) (place count : ℕ) (run : ForkRun) (from n : ℕ) → 0 < count → count ≡ n
-    → IsPartOfRun start runs place run from n → FailsLaid Fails start runs place count
-fails-run Fails start runs place count run from n some same part =
-    let there = part.there in
-    let within = part.within in
-    inr (inl (record { run = run; is_one = part.is_one; behind = omega (arith, there, within, some, same); before = omega (arith, there, some) }))
-
--- what fails later failed before
-pub later-laid : (New Old : ℕ → ℕ → Type 0) (start : ℕ) (runs : List ForkRun) → FailsWhere New Old → FailsWhere (FailsLaid New start runs) (FailsLaid Old start runs)
-later-laid New Old start runs later = λ place count fails. elim fails [
-  | inl own ↦ inl (record { at = own.at; few = own.few; behind = own.behind; before = own.before; fails = later own.at own.few own.fails })
-  | inr other ↦ inr other
-]
+use Rattle.hfs_laid_forks.specs.Failures.{FailsLaid, FailsTold}
 
 -- where a part fails, the whole does
 pub fails-part : (Fails : ℕ → ℕ → Type 0) (start : ℕ) (runs : List ForkRun) (at n place count : ℕ) → place ≤ at → at + n ≤ place + count
@@ -39,6 +19,20 @@ fails-part Fails start runs at n place count behind before fails = elim fails [
         let first = meets.behind in
         let last = meets.before in
         inr (inl (record { run = meets.run; is_one = meets.is_one; behind = omega (arith, behind, first); before = omega (arith, before, last) }))
+    | inr past ↦ inr (inr (omega (arith, past, before)))
+  ]
+]
+
+-- and is told where the part was
+pub told-part : (New Old : ℕ → ℕ → Type 0) (fault : Option HostFault) (at n place count : ℕ) → place ≤ at → at + n ≤ place + count → FailsWhere New Old
+    → FailsTold fault New at n → FailsTold fault Old place count
+told-part New Old fault at n place count behind before later told = elim told [
+  | inl some ↦ inl some
+  | inr other ↦ elim other [
+    | inl own ↦
+        let first = own.behind in
+        let last = own.before in
+        inr (inl (record { at = own.at; few = own.few; behind = omega (arith, behind, first); before = omega (arith, before, last); fails = later own.at own.few own.fails }))
     | inr past ↦ inr (inr (omega (arith, past, before)))
   ]
 ]

@@ -1,9 +1,9 @@
 -- Runs that lie one behind the other.
-use Rattle.std.proofs.Common.{◌≡◌, ◌∙◌, ℕ, zero, suc, ◌+◌, ◌<◌, ◌≤◌, Bool, true, false, ◌&&◌, leb, ltb, List, [], ◌∷◌, length, drop, get_or, Option, Some, None, ap, sym, refl, subst, inl, inr, arith}
+use Rattle.std.proofs.Common.{◌≡◌, ◌∙◌, ℕ, zero, suc, ◌+◌, ◌<◌, ◌≤◌, Bool, true, false, ◌&&◌, leb, ltb, List, [], ◌∷◌, length, drop, get_or, Some, ap, sym, refl, subst, inl, inr, arith}
 use Rattle.std.specs.Prelude.{find, slice_get, Contains}
 use Rattle.std.specs.List.Sorted.{IsNonDecreasingBy, IsPartitionedBy, IsPartitionPoint}
 use Rattle.std.proofs.lemmas.Bool.{and_parts, and_left, leb-true, leb-false, le-leb, lt-leb, le-ltb, lt-ltb, ltb-true, cases_Bool, cond-true, cond-false}
-use Rattle.std.proofs.lemmas.List.{drop_more, get_or_read}
+use Rattle.std.proofs.lemmas.List.{drop_more}
 use Rattle.std.proofs.lemmas.List.Sorted.{IsPartitionedBy-leb}
 use Rattle.std.proofs.lemmas.Option.{none-some}
 use Rattle.hfs_sources.specs.declared.fork_run.ForkRun.{ForkRun}

@@ -3,5 +3,6 @@ pub mod Laid
 pub mod Pieces
 pub mod Images
 pub mod Failures
+pub mod Laws
 pub mod Files
 pub mod Again

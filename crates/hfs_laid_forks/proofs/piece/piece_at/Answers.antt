@@ -1,6 +1,6 @@
 -- By the next run.
-use Rattle.std.proofs.Common.{◌≡◌, ◌∙◌, ◌-◌, min, sym, arith, Some, None}
-use Rattle.hfs_laid_forks.specs.Runs.{end_of, next_run}
+use Rattle.std.proofs.Common.{◌∙◌, ◌-◌, min, sym, arith}
+use Rattle.hfs_laid_forks.specs.Runs.{end_of}
 use Rattle.hfs_laid_forks.proofs.OrderLemmas.{next-ends}
 use Rattle.hfs_laid_forks.proofs.PieceLemmas.{piece-before, piece-behind, piece-in, piece-next}
 use Rattle.hfs_laid_forks.proofs.piece.piece_at.Goals as goal

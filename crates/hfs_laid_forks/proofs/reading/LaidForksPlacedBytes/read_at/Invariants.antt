@@ -12,6 +12,7 @@ invariant-loop-done g l = record {
   laid : OfEach (laid_images g.B.PlacedBytes.Holds g.H.PlacedFiles.Holds l.self) (λ image. take l.done l.into ≡ take l.done (drop l.place image));
   later : FailsWhere (FailsLaid (g.B.PlacedBytes.Fails l.self.bytes) l.self.start l.self.runs.items)
       (FailsLaid (g.B.PlacedBytes.Fails l.initial.self.bytes) l.initial.self.start l.initial.self.runs.items);
+  own : FailsWhere (g.B.PlacedBytes.Fails l.self.bytes) (g.B.PlacedBytes.Fails l.initial.self.bytes);
   held : OfEach (laid_images g.B.PlacedBytes.Holds g.H.PlacedFiles.Holds l.self) (laid_images g.B.PlacedBytes.Holds g.H.PlacedFiles.Holds l.initial.self);
 }
 
