@@ -9,11 +9,11 @@ use Rattle.hfs_sources.specs.Paths.{entry_path}
 use Rattle.hfs_sources.specs.Plans.{is_file}
 use Rattle.hfs_sources.specs.Trees.{Tree}
 use Rattle.hfs_bag_facts.specs.Later.{Entries, last_told, told_at}
-use Rattle.hfs_bag_facts.specs.Tags.{tag_text}
+use Rattle.hfs_bag_facts.specs.Tags.{tag_text, without_return}
 
 -- the digest that a line of a manifest tells of a path, where this stands before its own
 abbrev pub digest_by_line : List ℕ → List ℕ → List ℕ → Option (List ℕ)
-digest_by_line front path line = if bytes_eq (front ++ path_in line) path then digest_in line else None
+digest_by_line front path line = if bytes_eq (front ++ path_in (without_return line)) path then digest_in (without_return line) else None
 
 -- that its lines tell
 abbrev pub digest_by_lines : List ℕ → List ℕ → List ℕ → Option (List ℕ)

@@ -41,7 +41,8 @@ fn note_source<T: HostTree>(
 {
     let text = tag_text(alloc, tree, source, "items.csv")?;
     let front = entry_path(alloc, source, "data/")?;
-    note_table(alloc, front.as_str(), &text, facts)
+    note_table(alloc, front.as_str(), &text, facts)?;
+    Ok(())
 }
 
 impl BagFacts {

@@ -2,16 +2,17 @@
 #![tactic(auto)]
 
 mod bag_facts;
-mod bag_name;
 mod by_path;
+mod disk_name;
 mod facts_table;
-mod fault;
+mod laws;
 mod manifest_digests;
 mod paths;
 mod tag_text;
 mod wrong_files;
 
 pub use crate::bag_facts::BagFacts;
-pub use crate::bag_name::bag_name;
+pub use crate::disk_name::bag_name;
+pub use crate::laws::bag_paths;
 pub use crate::manifest_digests::ManifestDigests;
 pub use crate::wrong_files::first_wrong_file;

@@ -6,7 +6,7 @@ ghost use Rattle.hfs_bag_facts.specs.Later.{Tells, told_at};
 
 use crate::by_path::ByPath;
 use crate::paths::path_behind;
-use crate::tag_text::tag_text;
+use crate::tag_text::{tag_text, without_return};
 use hfs_bag_tags::{manifest_line, next_line};
 use hfs_sources::{HostFault, HostTree, entry_path};
 use std::alloc::{AllocError, Global};
@@ -37,10 +37,12 @@ fn note_line(
 ) -> Result<(), AllocError>
     ensures { OnOk result (Tells (λ path. digest_by_line front.now path line.now) digests.old digests.new) }
 {
-    let Some((digest, path)) = manifest_line(line) else {
+    let Some(found) = manifest_line(without_return(line)) else {
         return Ok(());
     };
-    digests.put(path_behind(alloc, front, path)?, digest)
+    let digest = found.0;
+    let path = path_behind(alloc, front, found.1)?;
+    digests.put(path, digest)
 }
 
 /// Notes what the lines of a manifest tell, with this before their paths.

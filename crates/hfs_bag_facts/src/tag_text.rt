@@ -1,12 +1,22 @@
 //! The tag files of a bag that is a source.
 ghost use Rattle.std.specs.Prelude.{◌≡◌, IfOk};
 ghost use Rattle.hfs_sources.specs.Trees.{OfEachTree};
-ghost use Rattle.hfs_bag_facts.specs.Tags.{leads_to_bag, tag_text};
+ghost use Rattle.hfs_bag_facts.specs.Tags.{leads_to_bag, tag_text, without_return};
 
-use crate::fault::cannot_read;
 use hfs_source::PlacedBytes;
-use hfs_sources::{HostFault, HostTree, entry_path, is_bag, is_file};
+use hfs_sources::{HostFault, HostTree, cannot_read, entry_path, is_bag, is_file};
 use std::alloc::Global;
+
+/// A line without the return that stands at its end where a program ends lines by two characters.
+pub(crate) fn without_return(line: &[u8]) -> &[u8]
+    ensures { result.now ≡ without_return line.now }
+{
+    if line.len() >= 1 && line[line.len() - 1] == b'\r' {
+        &line[..line.len() - 1]
+    } else {
+        line
+    }
+}
 
 /// All bytes of a file. Faults: `CannotRead` of its path, `NoMemory`.
 fn file_bytes<T: HostTree>(alloc: Global, tree: &mut T, path: &str) -> Result<Vec<u8>, HostFault>

@@ -5,10 +5,9 @@ ghost use Rattle.hfs_sources.specs.Trees.{OfEachTree};
 ghost use Rattle.hfs_bag_facts.specs.Digests.{double_path, first_wrong, is_wrong, own_path, wrong_at, wrong_of};
 ghost use Rattle.hfs_bag_facts.specs.Later.{told_at};
 
-use crate::fault::cannot_read;
 use crate::manifest_digests::ManifestDigests;
 use hfs_contents::file_digest;
-use hfs_sources::{HostFault, HostTree, SourceItem, is_file};
+use hfs_sources::{HostFault, HostTree, SourceItem, cannot_read, is_file};
 use std::alloc::Global;
 
 /// The SHA-256 digest of the file at a path, which is read once, in pieces. Faults: `CannotRead` of the path, `NoMemory`.
@@ -51,7 +50,7 @@ fn wrong_at<'a, T: HostTree>(
 ) -> Result<Option<&'a str>, HostFault>
     ensures wrong { IfOk result (λ wrong. OfEachTree (T.Holds tree.new)
         (λ host. option_map (λ p. p.now) wrong
-        ≡ wrong_at host (told_at manifests.now) (option_map (λ p. p.now) path))) }
+        ≡ wrong_at host (told_at manifests.now) (option_map (λ p. p.now) path.entry))) }
     ensures held { OfEachTree (T.Holds tree.new) (T.Holds tree.old) }
 {
     let Some(path) = path else {

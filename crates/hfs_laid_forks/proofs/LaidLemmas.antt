@@ -1,14 +1,15 @@
 -- Pieces of a file in which forks are laid.
-use Rattle.std.proofs.Common.{◌≡◌, ◌∙◌, ℕ, ◌+◌, ◌-◌, ◌<◌, ◌≤◌, Bool, true, false, leb, ltb, List, [], ◌∷◌, ◌++◌, length, take, drop, replicate, Option, Some, None, ap, sym, refl, subst, min, inl, inr, arith}
-use Rattle.std.specs.Prelude.{IsTrue, find, slice_get}
-use Rattle.std.proofs.lemmas.Bool.{and_parts, leb-true, ltb-true, ltb-false, cases_Bool}
+use Rattle.std.proofs.Common.{◌≡◌, ◌∙◌, ℕ, ◌+◌, ◌-◌, ◌≤◌, Bool, true, cond, leb, ltb, List, [], ◌∷◌, ◌++◌, length, take, drop, replicate, Some, ap, sym, refl, subst, inl, inr, arith}
+use Rattle.std.specs.Prelude.{slice_get}
+use Rattle.std.proofs.lemmas.Bool.{and_parts, leb-true, ltb-false, cases_Bool}
 use Rattle.std.proofs.lemmas.List.{length-take, length-drop, length-append, length-replicate, take-append-le, drop-append-le, drop-drop, drop-take, take-take}
+use Rattle.std.proofs.lemmas.Option.{none-some}
 use Rattle.std.proofs.Math.Seq.{drop-append-add}
 use Rattle.hfs_sources.specs.Items.{PlannedItem}
 use Rattle.hfs_sources.specs.Trees.{Tree}
 use Rattle.hfs_sources.specs.declared.fork_run.ForkRun.{ForkRun}
 use Rattle.hfs_laid_forks.specs.Laid.{filled, bytes_of, run_bytes, laid_at, laid}
-use Rattle.hfs_laid_forks.specs.Runs.{are_apart, end_of, last_end, lie_in, next_run}
+use Rattle.hfs_laid_forks.specs.Runs.{are_apart, end_of, last_end, next_run}
 
 -- ---- bytes that are laid at a place
 
@@ -71,6 +72,9 @@ from-last_end from (run ∷ runs) apart =
     let rest = from-last_end (end_of run) runs both.1 in
     omega (arith, first, rest)
 
+pub same-run : (a b : ForkRun) → Some a ≡ Some b → a ≡ b
+same-run a b is = cc
+
 module _ (start : ℕ) (host : Tree) (items : List PlannedItem) (file : List ℕ) where
   pub length-laid : (from : ℕ) (runs : List ForkRun) → are_apart from runs ≡ true → start + last_end from runs ≤ length file → length (laid start host items runs file) ≡ length file
   length-laid from [] apart inside = refl
@@ -92,3 +96,53 @@ module _ (start : ℕ) (host : Tree) (items : List PlannedItem) (file : List ℕ
       let ends = from-last_end (end_of run) runs both.1 in
       before-laid_at (start + run.place) at k (run_bytes host items run) (laid start host items runs file) (omega (arith, long, ends, inside)) (omega (arith, first, before))
       ∙ before-laid (end_of run) at k runs both.1 inside (omega (arith, first, before))
+
+  -- before the first that ends behind a byte, it has them too
+  pub own-laid : (from b k : ℕ) (runs : List ForkRun) → are_apart from runs ≡ true → start + last_end from runs ≤ length file
+      → ((next : ForkRun) → next_run runs b ≡ Some next → b + k ≤ next.place)
+      → take k (drop (start + b) (laid start host items runs file)) ≡ take k (drop (start + b) file)
+  own-laid from b k [] apart inside gap = refl
+  own-laid from b k (run ∷ runs) apart inside gap =
+      let both = and_parts (leb from run.place) (are_apart (end_of run) runs) apart in
+      let long : length (laid start host items runs file) ≡ length file = length-laid (end_of run) runs both.1 inside in
+      let own = length-filled run.len (drop run.offset (bytes_of host (slice_get items run.item) run.fork)) in
+      let ends = from-last_end (end_of run) runs both.1 in
+      elim (cases_Bool (ltb b (end_of run))) [
+        | inl here ↦
+            let before : b + k ≤ run.place = gap run (ap (λ (t : Bool). cond t (Some run) (next_run runs b)) here) in
+            before-laid_at (start + run.place) (start + b) k (run_bytes host items run) (laid start host items runs file) (omega (arith, long, ends, inside)) (omega (arith, before))
+            ∙ before-laid (end_of run) (start + b) k runs both.1 inside (omega (arith, before))
+        | inr past ↦
+            let ended = ltb-false b (end_of run) past in
+            behind-laid_at (start + run.place) (start + b) k (run_bytes host items run) (laid start host items runs file) (omega (arith, long, ends, inside))
+            (omega (arith, own, ended))
+            ∙ own-laid (end_of run) b k runs both.1 inside (λ next is. gap next (ap (λ (t : Bool). cond t (Some run) (next_run runs b)) past ∙ is))
+      ]
+
+  -- and in that one what stands in it
+  pub run-laid : (from b k : ℕ) (next : ForkRun) (runs : List ForkRun) → are_apart from runs ≡ true → start + last_end from runs ≤ length file
+      → next_run runs b ≡ Some next → next.place ≤ b → b + k ≤ end_of next
+      → take k (drop (start + b) (laid start host items runs file)) ≡ take k (drop (b - next.place) (run_bytes host items next))
+  run-laid from b k next [] apart inside is low high = absurd (none-some next is)
+  run-laid from b k next (run ∷ runs) apart inside is low high =
+      let both = and_parts (leb from run.place) (are_apart (end_of run) runs) apart in
+      let long : length (laid start host items runs file) ≡ length file = length-laid (end_of run) runs both.1 inside in
+      let own = length-filled run.len (drop run.offset (bytes_of host (slice_get items run.item) run.fork)) in
+      let ends = from-last_end (end_of run) runs both.1 in
+      elim (cases_Bool (ltb b (end_of run))) [
+        | inl here ↦
+            let found : Some run ≡ Some next = sym (ap (λ (t : Bool). cond t (Some run) (next_run runs b)) here) ∙ is in
+            let same : run ≡ next = same-run run next found in
+            let first : run.place ≤ b = subst (λ (r : ForkRun). r.place ≤ b) (sym same) low in
+            let last : b + k ≤ end_of run = subst (λ (r : ForkRun). b + k ≤ end_of r) (sym same) high in
+            let there : start + b ≡ start + run.place + (b - run.place) = omega (arith, first) in
+            subst (λ (r : ForkRun). take k (drop (start + b) (laid start host items (run ∷ runs) file)) ≡ take k (drop (b - r.place) (run_bytes host items r))) same
+            (ap (λ n. take k (drop n (laid start host items (run ∷ runs) file))) there
+            ∙ in-laid_at (start + run.place) (b - run.place) k (run_bytes host items run) (laid start host items runs file) (omega (arith, long, ends, inside))
+            (omega (arith, own, first, last)))
+        | inr past ↦
+            let ended = ltb-false b (end_of run) past in
+            behind-laid_at (start + run.place) (start + b) k (run_bytes host items run) (laid start host items runs file) (omega (arith, long, ends, inside))
+            (omega (arith, own, ended))
+            ∙ run-laid (end_of run) b k next runs both.1 inside (sym (ap (λ (t : Bool). cond t (Some run) (next_run runs b)) past) ∙ is) low high
+      ]

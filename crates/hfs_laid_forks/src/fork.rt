@@ -7,49 +7,56 @@ ghost use Rattle.hfs_laid_forks.specs.Laid.{filled, run_bytes};
 
 use crate::files::PlacedFiles;
 use crate::piece::least;
-use hfs_model::Fork;
 use hfs_sources::{ForkRun, ForkSpan, HostFault, SourceItem, cannot_read};
 use std::alloc::Global;
 
-/// Reads the bytes of a span of a file from byte `offset` of the span on, with zeros behind its end.
+/// Reads the bytes of a span of a file from byte `offset + from` of the span on, with zeros behind its end.
 fn read_span<H: PlacedFiles>(
     alloc: Global,
     files: &mut H,
     path: &str,
     span: ForkSpan,
     offset: u64,
+    from: u64,
     into: &mut [u8],
 ) -> Result<(), HostFault>
     ensures read { OnOk result (OfEachTree (H.Holds files.new)
-        (λ host. into.new ≡ filled (length into.old) (drop offset (span_bytes host (Some path.now) span)))) }
+        (λ host. into.new ≡ filled (length into.old) (drop (offset + from) (span_bytes host (Some path.now) span)))) }
     ensures held { OfEachTree (H.Holds files.new) (H.Holds files.old) }
 {
-    let count = least(into.len(), span.len.saturating_sub(offset));
+    let count = least(
+        into.len(),
+        span.len.saturating_sub(offset).saturating_sub(from),
+    );
     into[count..].fill(0);
     if count == 0 {
         return Ok(());
     }
-    let Some(place) = span.start.checked_add(offset) else {
+    let Some(place) = span.start.checked_add(offset + from) else {
         return Err(cannot_read(alloc, path));
     };
     files.read_at(alloc, path, place, &mut into[..count])
 }
 
-/// Reads the bytes of a fork of an item from byte `offset` of it on, with zeros behind its end.
+/// Reads the bytes of a run's fork of an item from a byte of the run on, with zeros behind the fork's end.
 fn read_fork<H: PlacedFiles>(
     alloc: Global,
     files: &mut H,
     item: &SourceItem,
-    fork: Fork,
-    offset: u64,
+    run: &ForkRun,
+    from: u64,
     into: &mut [u8],
 ) -> Result<(), HostFault>
     ensures read { OnOk result (OfEachTree (H.Holds files.new)
-        (λ host. into.new ≡ filled (length into.old) (drop offset (fork_bytes host item.now fork)))) }
+        (λ host. into.new ≡ filled (length into.old)
+        (drop (run.now.offset + from) (fork_bytes host item.now run.now.fork)))) }
     ensures held { OfEachTree (H.Holds files.new) (H.Holds files.old) }
 {
-    match item.fork_path(fork) {
-        Some(path) => read_span(alloc, files, path, item.fork_span(fork), offset, into),
+    match item.fork_path(run.fork) {
+        Some(path) => {
+            let span = item.fork_span(run.fork);
+            read_span(alloc, files, path, span, run.offset, from, into)
+        }
         None => {
             into.fill(0);
             Ok(())
@@ -72,10 +79,7 @@ pub(crate) fn read_run<H: PlacedFiles>(
     ensures held { OfEachTree (H.Holds files.new) (H.Holds files.old) }
 {
     match items.get(run.item) {
-        Some(item) => {
-            let offset = run.offset.saturating_add(from);
-            read_fork(alloc, files, item, run.fork, offset, into)
-        }
+        Some(item) => read_fork(alloc, files, item, run, from, into),
         None => {
             into.fill(0);
             Ok(())

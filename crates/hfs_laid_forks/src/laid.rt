@@ -1,21 +1,12 @@
 //! A file in which the forks of files of a host are laid.
-ghost use Rattle.std.specs.Prelude.{◌≡◌, ◌+◌, ⊤, false, IfNone, IfSome, IsTrue, None, OnOk, length, nat_le};
-ghost use Rattle.hfs_source.specs.Images.{HasAt, OfEach};
-ghost use Rattle.hfs_sources.specs.Trees.{OfEachTree};
-ghost use Rattle.hfs_laid_forks.specs.Again.{AreUnchanged};
-ghost use Rattle.hfs_laid_forks.specs.Images.{laid_images};
-ghost use Rattle.hfs_laid_forks.specs.Pieces.{IsInRun, IsPieceAt, piece_len};
+ghost use Rattle.std.specs.Prelude.{◌≡◌, ◌+◌, false, IfNone, IfSome, IsTrue, None, nat_le};
+ghost use Rattle.hfs_source.specs.Images.{OfEach};
 ghost use Rattle.hfs_laid_forks.specs.Runs.{are_apart, lie_in};
 
-use crate::files::PlacedFiles;
-use crate::fork::read_run;
 use crate::order::apart_end;
-use crate::piece::{Piece, piece_at};
 use hfs_source::PlacedBytes;
 use hfs_sources::{ForkRun, HostFault, SourceItem};
 use std::alloc::Global;
-use std::io;
-use std::io::ErrorKind;
 
 /// The bytes of a file with the forks of items of a host's tree in the place of its own in some runs, and with zeros there behind a
 /// fork's end.
@@ -45,7 +36,7 @@ fn is_inside(end: u128, start: u64, len: u64) -> bool
     end <= len && u128::from(start) <= len - end
 }
 
-impl<B: PlacedBytes + Drop, H: PlacedFiles + Drop> LaidForks<B, H> {
+impl<B: PlacedBytes + Drop, H: Drop> LaidForks<B, H> {
     /// The file with these forks laid in it. None where the runs don't lie one behind the other in the file.
     pub fn new(
         alloc: Global,
@@ -86,76 +77,5 @@ impl<B: PlacedBytes + Drop, H: PlacedFiles + Drop> LaidForks<B, H> {
         ensures rest { self.new ≡ record self.old { fault = None } }
     {
         self.fault.take()
-    }
-
-    /// Takes back the file that is open, and looks again at the files of all items. Faults: as of [`look_again`](crate::look_again).
-    pub fn look_again(&mut self) -> Result<(), HostFault>
-        ensures same { OnOk result (OfEachTree (H.Holds self.new.files)
-            (AreUnchanged self.new.items.items)) }
-        ensures held { OfEach (laid_images B.Holds H.Holds self.new)
-            (laid_images B.Holds H.Holds self.old) }
-    {
-        self.files.look_again(self.alloc, &self.items)
-    }
-
-    /// Keeps a fault of the tree, where none is kept yet, and answers it as one of a read.
-    fn noted(&mut self, fault: HostFault) -> io::Error
-        ensures { self.new ≡ record self.old { fault = self.new.fault } }
-    {
-        if self.fault.is_none() {
-            self.fault = Some(fault);
-        }
-        io::Error::from(ErrorKind::InvalidData)
-    }
-
-    /// Reads a piece of the bytes from byte `at` on.
-    fn read_piece(&mut self, at: u64, piece: &Piece, into: &mut [u8]) -> io::Result<()>
-        requires piece { IsPieceAt self.old.start self.old.runs.items at piece.now }
-        requires inside { IsInRun piece.now }
-        requires room { length into.old ≡ piece_len piece.now }
-        ensures read { OnOk result (OfEach (laid_images B.Holds H.Holds self.new) (HasAt at into.new)) }
-        ensures held { OfEach (laid_images B.Holds H.Holds self.new)
-            (laid_images B.Holds H.Holds self.old) }
-    {
-        match piece {
-            Piece::Own(_) => self.bytes.read_at(at, into),
-            Piece::OfRun(run, from, _) => {
-                let files = &mut self.files;
-                match read_run(self.alloc, files, &self.items, run, *from, into) {
-                    Ok(()) => Ok(()),
-                    Err(fault) => Err(self.noted(fault)),
-                }
-            }
-        }
-    }
-}
-
-impl<B: PlacedBytes + Drop, H: PlacedFiles + Drop> PlacedBytes for LaidForks<B, H> {
-    ghost Holds = { λ laid. laid_images B.Holds H.Holds laid };
-
-    ghost Fails = { λ _ _ _. ⊤ };
-
-    fn len(&self) -> u64 {
-        self.bytes.len()
-    }
-
-    fn read_at(&mut self, place: u64, into: &mut [u8]) -> io::Result<()> {
-        let len = self.bytes.len();
-        if len < place || len - place < into.len() as u64 {
-            return if into.is_empty() {
-                Ok(())
-            } else {
-                Err(io::Error::from(ErrorKind::UnexpectedEof))
-            };
-        }
-        let mut done = 0;
-        while done < into.len() {
-            let at = place + done as u64;
-            let piece = piece_at(&self.runs, self.start, at, into.len() - done);
-            let count = piece.len();
-            self.read_piece(at, &piece, &mut into[done..done + count])?;
-            done += count;
-        }
-        Ok(())
     }
 }

@@ -5,9 +5,12 @@ mod again;
 mod files;
 mod fork;
 mod laid;
+mod laws;
 mod order;
 mod piece;
+mod reading;
 
 pub use crate::again::look_again;
 pub use crate::files::{HostFiles, PlacedFiles};
 pub use crate::laid::LaidForks;
+pub use crate::laws::laid_forks_laws;

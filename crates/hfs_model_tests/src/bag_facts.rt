@@ -3,7 +3,7 @@ use crate::sources::{DOUBLE, file, folder};
 use hfs_bag_facts::{BagFacts, ManifestDigests, bag_name, first_wrong_file};
 use hfs_put_plan::ToldFacts;
 use hfs_sources::{
-    HostFault, HostNode, MemoryTree, NothingTold, PutOptions, ToldItems, list_sources,
+    HostFault, HostNode, MemoryTree, NothingTold, PutOptions, SourceItem, ToldItems, list_sources,
 };
 use std::alloc::Global;
 
@@ -14,7 +14,7 @@ const ITEMS: &'static [u8] =
 
 /// The digests of its files: of `hello`, of the AppleDouble file, and of `xy` twice, the second of which is right.
 const MANIFEST: &'static [u8] =
-    b"2cf24dba5fb0a30e26e83b2ac5b9e29e1b161e5c1fa7425e73043362938b9824  data/f\n2d939741182bdb609ddb2f39802ee9f7ab41c64489064080472995634264212c  data/._f\nnone\n2cf24dba5fb0a30e26e83b2ac5b9e29e1b161e5c1fa7425e73043362938b9824  data/a,b/x\n769a4e6d0003189c7e96c5d9b7e810a0d11c3a12832527ec94b0f86d277f51ca  data/a,b/x\n";
+    b"2cf24dba5fb0a30e26e83b2ac5b9e29e1b161e5c1fa7425e73043362938b9824  data/f\n2d939741182bdb609ddb2f39802ee9f7ab41c64489064080472995634264212c  data/._f\r\nnone\n2cf24dba5fb0a30e26e83b2ac5b9e29e1b161e5c1fa7425e73043362938b9824  data/a,b/x\n769a4e6d0003189c7e96c5d9b7e810a0d11c3a12832527ec94b0f86d277f51ca  data/a,b/x\n";
 
 /// The nodes of the bag, in whose file these bytes are.
 fn bag<'a>(bytes: &'a [u8]) -> [HostNode<'a>; 10] {
@@ -101,6 +101,39 @@ fn wrong_file(alloc: Global, nodes: &[HostNode<'_>]) -> Result<Option<String>, H
     match first_wrong_file(alloc, &mut tree, &manifests, &items)? {
         Some(path) => Ok(Some(String::from_str(alloc, path)?)),
         None => Ok(None),
+    }
+}
+
+/// Whether an item has these facts: lock and dates.
+fn has_facts(item: &SourceItem, path: &str, locked: bool, dates: (u32, u32, u32)) -> bool {
+    let facts = item.plan().facts;
+    item.path() == path
+        && facts.locked == locked
+        && facts.dates.created == dates.0
+        && facts.dates.modified == dates.1
+        && facts.dates.backup == dates.2
+}
+
+/// The items of this bag with what it tells of them.
+fn told_items(alloc: Global, nodes: &[HostNode<'_>]) -> Result<Vec<SourceItem>, HostFault> {
+    let mut tree = MemoryTree { nodes };
+    let facts = BagFacts::read(alloc, &mut tree, &["bag"])?;
+    list_sources(alloc, &mut tree, &facts, HOW, &["bag"])
+}
+
+#[test]
+fn items_of_a_bag_have_its_facts(rt: HostRuntime) {
+    match told_items(rt.alloc(), &bag(b"hello")) {
+        Ok(items) => match items.as_slice() {
+            [folder, file, other] => {
+                let first = has_facts(folder, "bag/data/a,b", false, (5_097_600, 1, 0));
+                let second = has_facts(file, "bag/data/a,b/x", false, (0, 5_097_600, 0));
+                let third = (3_029_529_600, 3_034_627_200, 1);
+                assert!(rt; first && second && has_facts(other, "bag/data/f", true, third));
+            }
+            _ => panic!(rt; "{} items", items.len()),
+        },
+        Err(_) => panic!(rt; "the walk"),
     }
 }
 

@@ -70,28 +70,49 @@ const FILE: [u8; 23] = *b"...ABCDEFGHIJKLMNOPQRST";
 /// The same with the forks in them.
 const LAID: [u8; 23] = *b"...ABhellRES\0KLo\0\0\0QyzT";
 
-fn items_of(rt: &HostRuntime, tree: &mut MemoryTree<'_>) -> Vec<SourceItem> {
+/// The items of both files.
+fn items_of(rt: &HostRuntime, nodes: &[HostNode<'_>]) -> Vec<SourceItem> {
     let how = PutOptions {
         macbinary: false,
         rename: false,
     };
-    match list_sources(rt.alloc(), tree, &NothingTold {}, how, &["s/a", "s/b"]) {
+    let mut tree = MemoryTree { nodes };
+    match list_sources(rt.alloc(), &mut tree, &NothingTold {}, how, &["s/a", "s/b"]) {
         Ok(items) => items,
         Err(_) => Vec::new(rt.alloc()),
+    }
+}
+
+/// The forks of both files, as the first nodes have them, laid in the file out of the other nodes.
+fn laid<'a>(
+    rt: &HostRuntime,
+    first: &[HostNode<'_>],
+    other: &'a [HostNode<'a>],
+    runs: [ForkRun; 4],
+    start: u64,
+) -> Option<LaidForks<MemoryBytes<'a>, HostFiles<MemoryTree<'a>>>> {
+    let items = items_of(rt, first);
+    let Ok(runs) = Vec::from_array(rt.alloc(), runs) else {
+        return None;
+    };
+    let bytes = MemoryBytes { bytes: &FILE };
+    let files = HostFiles::new(rt.alloc(), MemoryTree { nodes: other });
+    LaidForks::new(rt.alloc(), bytes, files, items, runs, start)
+}
+
+/// Whether a fault is that this path can't be read.
+fn is_unread(fault: &HostFault, path: &str) -> bool {
+    match fault {
+        HostFault::CannotRead(unread) => unread.as_str() == path,
+        HostFault::NotUtf8(_) => false,
+        HostFault::NoMemory => false,
     }
 }
 
 #[test]
 fn forks_are_read_in_their_places(rt: HostRuntime) {
     let nodes = nodes();
-    let mut tree = MemoryTree { nodes: &nodes };
-    let items = items_of(&rt, &mut tree);
-    let Ok(runs) = Vec::from_array(rt.alloc(), runs()) else {
-        panic!(rt; "memory");
-    };
-    let bytes = MemoryBytes { bytes: &FILE };
-    let files = HostFiles::new(rt.alloc(), tree);
-    let Some(mut laid) = LaidForks::new(rt.alloc(), bytes, files, items, runs, 3) else {
+    let Some(mut laid) = laid(&rt, &nodes, &nodes, runs(), 3) else {
         panic!(rt; "the runs lie apart");
     };
     assert!(rt; laid.len() == 23, "{} bytes", laid.len());
@@ -112,4 +133,71 @@ fn forks_are_read_in_their_places(rt: HostRuntime) {
     }
     assert!(rt; laid.take_fault().is_none(), "a fault");
     assert!(rt; laid.look_again().is_ok(), "a change");
+}
+
+#[test]
+fn runs_lie_apart_in_the_file(rt: HostRuntime) {
+    let nodes = nodes();
+    assert!(rt;
+        laid(&rt, &nodes, &nodes, runs(), 4).is_some(),
+        "the last ends with the file"
+    );
+    assert!(rt;
+        laid(&rt, &nodes, &nodes, runs(), 5).is_none(),
+        "the last ends behind the file"
+    );
+    let mut runs = runs();
+    runs[1].place = 5;
+    assert!(rt;
+        laid(&rt, &nodes, &nodes, runs, 3).is_none(),
+        "two runs have one byte"
+    );
+}
+
+#[test]
+fn a_file_that_cant_be_read_is_told(rt: HostRuntime) {
+    let nodes = nodes();
+    let mut other = nodes;
+    other[1].bytes = &DOUBLE[..40];
+    other[2].bytes = b"xy";
+    let Some(mut laid) = laid(&rt, &nodes, &other, runs(), 3) else {
+        panic!(rt; "the runs lie apart");
+    };
+    let mut bytes = [0; 6];
+    assert!(rt; laid.read_at(3, &mut bytes).is_ok(), "before it");
+    assert!(rt; bytes == *b"ABhell", "before it");
+    let mut all = [0; 23];
+    assert!(rt; laid.read_at(0, &mut all).is_err(), "the whole");
+    let mut last = [0; 2];
+    assert!(rt; laid.read_at(20, &mut last).is_err(), "the second file");
+    match laid.take_fault() {
+        Some(fault) => assert!(rt; is_unread(&fault, "s/._a"), "another fault"),
+        None => panic!(rt; "no fault"),
+    }
+    assert!(rt; laid.take_fault().is_none(), "twice");
+}
+
+#[test]
+fn a_file_that_changed_is_told(rt: HostRuntime) {
+    let nodes = nodes();
+    let items = items_of(&rt, &nodes);
+    let mut tree = MemoryTree { nodes: &nodes };
+    assert!(rt;
+        look_again(rt.alloc(), &mut tree, &items).is_ok(),
+        "no change"
+    );
+    let mut other = nodes;
+    other[1].look = look(41, 3);
+    let mut tree = MemoryTree { nodes: &other };
+    match look_again(rt.alloc(), &mut tree, &items) {
+        Err(fault) => assert!(rt; is_unread(&fault, "s/._a"), "another fault"),
+        Ok(()) => panic!(rt; "its time"),
+    }
+    let mut other = nodes;
+    other[2].look = look(4, 3);
+    let mut tree = MemoryTree { nodes: &other };
+    match look_again(rt.alloc(), &mut tree, &items) {
+        Err(fault) => assert!(rt; is_unread(&fault, "s/b"), "another fault"),
+        Ok(()) => panic!(rt; "its length"),
+    }
 }

@@ -4,3 +4,10 @@ mod NamedIds
 mod FolderRows
 mod PlacedItems
 mod LaidLists
+mod PlacedLists
+mod LockCodes
+mod FittingForks
+mod FileRecords
+pub mod ForkRunLists
+pub mod RunsApart
+pub mod RunMembers

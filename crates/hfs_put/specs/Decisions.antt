@@ -107,10 +107,16 @@ decision_by (Some why) name placing inside item = decided.Refused why
 decision_by None (Some name) placing inside item = decided.Put (put_item item.parent item.plan name placing) inside
 decision_by None None placing inside item = decided.Refused NoName
 
+-- of an item that gets its place so
+abbrev pub placed_by : Placing → Destination → PlannedItem → Decision
+placed_by placing folder item = decision_by (why_not (findings_with placing item.plan)) item.plan.name placing folder item
+
+-- how it gets its place where this stands there
+abbrev pub placing_over : Bool → Option Info → PlannedItem → Placing
+placing_over replace there item = how_placed (standing_of there) (item_kind item.plan.own) replace
+
 abbrev pub judged : Bool → Option Info → PlannedItem → Decision
-judged replace there item =
-    let placing = how_placed (standing_of there) (item_kind item.plan.own) replace in
-    decision_by (why_not (findings_with placing item.plan)) item.plan.name placing (inside_of placing there) item
+judged replace there item = placed_by (placing_over replace there item) (inside_of (placing_over replace there item) there) item
 
 -- of an item that comes into that folder, where files may be replaced or may not
 abbrev pub decision : Volume → Bool → Destination → PlannedItem → Decision
@@ -120,6 +126,6 @@ decision v replace destination.Refused item = decided.Untold
 
 -- the folder into which comes what lies in it
 abbrev pub inside : Decision → Destination
-inside (decided.Put item inside) = inside
+inside (decided.Put item folder) = folder
 inside (decided.Refused why) = destination.Refused
 inside decided.Untold = destination.Refused

@@ -1,6 +1,9 @@
 -- What becomes of a list of items that is to come into a folder of a volume.
 use Rattle.std.specs.Prelude.{◌≡◌, ◌≢◌, ℕ, ◌+◌, ℤ, Bool, if◌then◌else◌, List, [], ◌∷◌, ◌++◌, map, get_or, Option, Some, None}
 use Rattle.std.specs.List.{cons_option}
+use Rattle.hfs_fields.specs.declared.mdb.Mdb.{Mdb}
+use Rattle.hfs_fields.specs.Records.{is_bit_set}
+use Rattle.hfs_model.specs.declared.codes.TheConstants.{HARDWARE_LOCKED, SOFTWARE_LOCKED}
 use Rattle.hfs_model.specs.Choices as choices
 use Rattle.hfs_model.specs.Volume.{Volume}
 use Rattle.hfs_put_calls.specs.declared.items.PutItem.{PutItem}
@@ -17,6 +20,10 @@ use Rattle.hfs_put.specs.declared.placing.RefusedItem.{RefusedItem}
 -- the code that refuses each call that changes a locked volume
 abbrev pub lock_code : Volume → Option ℤ
 lock_code v = if choices.is_locked v then Some (choices.lock_code v) else None
+
+-- by its master directory block
+abbrev pub directory_lock_code : Mdb → Option ℤ
+directory_lock_code mdb = if is_bit_set 7 mdb.attributes.0 then Some HARDWARE_LOCKED else if is_bit_set 15 mdb.attributes.0 then Some SOFTWARE_LOCKED else None
 
 -- the folder into which an item comes: the target, or where that comes which lies in its parent
 abbrev pub destination : ℕ → List Destination → Option ℕ → Destination
@@ -37,12 +44,12 @@ decisions v target replace items = decisions_behind v target replace [] items
 -- ---- those that are put, and those that can't be
 
 abbrev pub item_put : Decision → Option PutItem
-item_put (decided.Put item inside) = Some item
+item_put (decided.Put item folder) = Some item
 item_put (decided.Refused why) = None
 item_put decided.Untold = None
 
 abbrev pub refused_at : ℕ → Decision → Option RefusedItem
-refused_at place (decided.Put item inside) = None
+refused_at place (decided.Put item folder) = None
 refused_at place (decided.Refused why) = Some (record { place = place; why = why })
 refused_at place decided.Untold = None
 

@@ -1,7 +1,8 @@
 //! What becomes of one item that is to come, by what stands on the disk in its place.
-ghost use Rattle.std.specs.Prelude.{◌≡◌};
+ghost use Rattle.std.specs.Prelude.{◌≡◌, None, true};
+ghost use Rattle.hfs_put_plan.specs.Why.{why_not};
 ghost use Rattle.hfs_check.specs.VolumeOf.{volume_of};
-ghost use Rattle.hfs_put.specs.Decisions.{decision, decision_by, findings_with, fork_spans_fit, info_in, info_named, inside_kept, inside_of, is_taken, item_kind, judged, put_item, standing_of};
+ghost use Rattle.hfs_put.specs.Decisions.{decision, decision_by, findings_with, fork_spans_fit, info_in, info_named, inside_kept, inside_of, is_taken, item_kind, judged, placed_by, placing_over, put_item, standing_of};
 
 use hfs_fields::Name;
 use hfs_model::{Info, ItemKind, Value};
@@ -61,8 +62,8 @@ fn info_named(volume: &Volume, dir: u32, name: Option<Name>) -> Option<Info>
 }
 
 /// What stands there, as far as it matters to what comes in its place.
-fn standing_of(there: Option<Info>) -> Option<Standing>
-    ensures { result ≡ standing_of there }
+fn standing_of(there: &Option<Info>) -> Option<Standing>
+    ensures { result ≡ standing_of there.now }
 {
     match there {
         Some(info) => Some(Standing {
@@ -119,11 +120,19 @@ fn findings_with(plan: &ItemPlan, placing: Placing) -> Findings
     }
 }
 
-/// The item as it is put.
-fn put_item(source: &SourceItem, plan: &ItemPlan, name: Name, placing: Placing) -> PutItem
-    requires { fork_spans_fit plan.now ≡ true }
-    ensures { result ≡ put_item source.now.parent plan.now name placing }
+/// Why an item can't be put that gets its place so.
+fn why_refused(plan: &ItemPlan, placing: Placing) -> Option<Why>
+    ensures { result ≡ why_not (findings_with placing plan.now) }
 {
+    why_not(&findings_with(plan, placing))
+}
+
+/// The item as it is put.
+fn put_item(source: &SourceItem, name: Name, placing: Placing) -> PutItem
+    requires { fork_spans_fit source.now.plan ≡ true }
+    ensures { result ≡ put_item source.now.parent source.now.plan name placing }
+{
+    let plan = source.plan();
     PutItem {
         parent: source.parent(),
         kind: item_kind(plan.own),
@@ -136,8 +145,8 @@ fn put_item(source: &SourceItem, plan: &ItemPlan, name: Name, placing: Placing) 
 }
 
 /// The folder into which comes what lies in the folder that stands there.
-fn inside_kept(there: Option<Info>) -> Destination
-    ensures { result ≡ inside_kept there }
+fn inside_kept(there: &Option<Info>) -> Destination
+    ensures { result ≡ inside_kept there.now }
 {
     match there {
         Some(info) => Destination::OnDisk(info.id),
@@ -146,8 +155,8 @@ fn inside_kept(there: Option<Info>) -> Destination
 }
 
 /// The folder into which comes what lies in an item that gets its place so.
-fn inside_of(placing: Placing, there: Option<Info>) -> Destination
-    ensures { result ≡ inside_of placing there }
+fn inside_of(placing: Placing, there: &Option<Info>) -> Destination
+    ensures { result ≡ inside_of placing there.now }
 {
     match placing {
         Placing::Kept => inside_kept(there),
@@ -155,22 +164,54 @@ fn inside_of(placing: Placing, there: Option<Info>) -> Destination
     }
 }
 
-/// What becomes of an item where this stands in its place.
-fn judged(source: &SourceItem, replace: bool, there: Option<Info>) -> Decision
-    ensures { result ≡ judged replace there source.now }
+/// What becomes of an item by what is against it.
+fn decision_by(
+    source: &SourceItem,
+    why: Option<Why>,
+    placing: Placing,
+    inside: Destination,
+) -> Decision
+    requires { why ≡ None → fork_spans_fit source.now.plan ≡ true }
+    ensures { result ≡ decision_by why source.now.plan.name placing inside source.now }
 {
     let plan = source.plan();
-    let placing = how_placed(standing_of(there), item_kind(plan.own), replace);
-    match why_not(&findings_with(&plan, placing)) {
+    match why {
         Some(why) => Decision::Refused(why),
         None => match plan.name {
             Some(name) => Decision::Put {
-                item: put_item(source, &plan, name, placing),
-                inside: inside_of(placing, there),
+                item: put_item(source, name, placing),
+                inside,
             },
             None => Decision::Refused(Why::NoName),
         },
     }
+}
+
+/// What becomes of an item that gets its place so.
+#[tactic(auto, using(crate::proofs::FittingForks::why_fits))]
+fn placed_by(source: &SourceItem, placing: Placing, inside: Destination) -> Decision
+    ensures { result ≡ placed_by placing inside source.now }
+{
+    let plan = source.plan();
+    let why = why_refused(&plan, placing);
+    decision_by(source, why, placing, inside)
+}
+
+/// How an item gets its place where this stands there.
+fn placing_over(source: &SourceItem, replace: bool, there: &Option<Info>) -> Placing
+    ensures { result ≡ placing_over replace there.now source.now }
+{
+    let plan = source.plan();
+    how_placed(standing_of(there), item_kind(plan.own), replace)
+}
+
+/// What becomes of an item where this stands in its place.
+fn judged(source: &SourceItem, replace: bool, there: &Option<Info>) -> Decision
+    ensures { result ≡ judged replace there.now source.now }
+{
+    let placing = placing_over(source, replace, there);
+    let inside = inside_of(placing, there);
+    placed_by(source, placing, inside)
 }
 
 /// What becomes of an item that is to come into that folder.
@@ -185,9 +226,9 @@ pub(crate) fn decide(
     match into {
         Destination::OnDisk(dir) => {
             let there = info_named(volume, dir, source.plan().name);
-            judged(source, replace, there)
+            judged(source, replace, &there)
         }
-        Destination::Made => judged(source, replace, None),
+        Destination::Made => judged(source, replace, &None),
         Destination::Refused => Decision::Untold,
     }
 }

@@ -1,5 +1,6 @@
 //! The runs of an image in which the extents of a fork lie.
-ghost use Rattle.std.specs.Prelude.{◌≡◌, ◌<◌, ◌^◌, ◌++◌, OnOk};
+ghost use Rattle.std.specs.Prelude.{◌≡◌, ◌<◌, ◌^◌, ◌++◌, [], OnOk};
+ghost use Rattle.std.specs.List.{cons_option};
 ghost use Rattle.hfs_space.specs.Extents.{block_total};
 ghost use Rattle.hfs_put.specs.ForkRuns.{run_at, runs_from};
 
@@ -10,7 +11,6 @@ use std::alloc::AllocError;
 
 /// The run of an extent's blocks, before which the fork has so many allocation blocks; none of an extent without blocks.
 fn run_at(mdb: &Mdb, item: usize, fork: Fork, before: u32, extent: Extent) -> Option<ForkRun>
-    requires { before < 2 ^ 32 }
     ensures { result ≡ run_at mdb.now item fork before extent }
 {
     if extent.count == 0 {
@@ -27,6 +27,19 @@ fn run_at(mdb: &Mdb, item: usize, fork: Fork, before: u32, extent: Extent) -> Op
     })
 }
 
+/// Appends a run, if there is one.
+fn push_run(runs: &mut Vec<ForkRun>, run: Option<ForkRun>) -> Result<(), AllocError>
+    ensures { OnOk result (runs.new.items ≡ runs.old.items ++ cons_option run []) }
+{
+    match run {
+        Some(run) => {
+            runs.push(run)?;
+            Ok(())
+        }
+        None => Ok(()),
+    }
+}
+
 /// Appends the runs of a fork's extents.
 pub(crate) fn push_extents(
     runs: &mut Vec<ForkRun>,
@@ -41,9 +54,7 @@ pub(crate) fn push_extents(
 {
     let mut before = 0;
     for extent in extents {
-        if let Some(run) = run_at(mdb, item, fork, before, *extent) {
-            runs.push(run)?;
-        }
+        push_run(runs, run_at(mdb, item, fork, before, *extent))?;
         before += u32::from(extent.count);
     }
     Ok(())

@@ -53,6 +53,7 @@ fn leave_one(
         (volume_of volume.new.current)) }
     ensures err { IfErr result (IsLayFault (one_left now folder.now (volume_of volume.old.current))
         volume.new.current) }
+    ensures base { volume.new.base ≡ volume.old.base }
 {
     match end_item(alloc, volume, folder.dir, &folder.item, now) {
         Ok(()) => Ok(()),
@@ -74,6 +75,7 @@ pub(crate) fn leave(
         ≡ Ok (volume_of volume.new.current, opens now folders.new.items)) }
     ensures err { IfErr result (IsLayFault
         (left parent (volume_of volume.old.current) (opens now folders.old.items)) volume.new.current) }
+    ensures base { volume.new.base ≡ volume.old.base }
 {
     while let Some(folder) = folders.pop() {
         if is_at(parent, folder.place) {

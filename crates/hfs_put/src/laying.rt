@@ -54,6 +54,7 @@ fn end_file(
         (filling item.now.kind dir (bare item.now) now) ≡ Ok (volume_of volume.new.current)) }
     ensures err { IfErr result (IsCallFault (all_accepted (volume_of volume.old.current)
         (filling item.now.kind dir (bare item.now) now)) volume.new.current) }
+    ensures base { volume.new.base ≡ volume.old.base }
 {
     match item.kind {
         ItemKind::Folder => Ok(()),
@@ -74,6 +75,7 @@ fn stand(
         (volume_of volume.old.current) (volume_of volume.new.current))) }
     ensures err { IfErr result (IsCallFault (standing now dir item.now (volume_of volume.old.current))
         volume.new.current) }
+    ensures base { volume.new.base ≡ volume.old.base }
 {
     make_item(alloc, volume, dir, item, now)?;
     let Some(id) = id_named(volume, dir, item.name.bytes()) else {
@@ -114,6 +116,7 @@ fn place_item(
         (volume_of volume.new.current) (opens now folders.new.items)) }
     ensures err { IfErr result (IsLayFault (placed_in target now place item.now
         (volume_of volume.old.current) (opens now folders.old.items)) volume.new.current) }
+    ensures base { volume.new.base ≡ volume.old.base }
 {
     let dir = folder_id(target, folders);
     match stand(alloc, volume, dir, item, now) {
@@ -150,6 +153,7 @@ fn lay_one(
         (volume_of volume.new.current) (opens now folders.new.items)) }
     ensures err { IfErr result (IsLayFault (one_laid target now place item.now
         (volume_of volume.old.current) (opens now folders.old.items)) volume.new.current) }
+    ensures base { volume.new.base ≡ volume.old.base }
 {
     leave(alloc, volume, folders, item.parent, now)?;
     place_item(alloc, volume, folders, target, now, place, item)
@@ -170,6 +174,7 @@ pub fn lay_items(
         (volume_of volume.new.current) ids.items) }
     ensures err { IfErr result (IsFaultOfLaying target now items.now
         (volume_of volume.old.current) volume.new.current) }
+    ensures base { volume.new.base ≡ volume.old.base }
 {
     let mut folders = Vec::new(alloc);
     let mut ids = Vec::new(alloc);

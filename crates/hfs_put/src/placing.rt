@@ -3,10 +3,11 @@ ghost use Rattle.std.specs.Prelude.{◌≡◌, ◌++◌, [], IfOk, OnOk};
 ghost use Rattle.std.specs.List.{cons_option};
 ghost use Rattle.hfs_check.specs.VolumeOf.{volume_of};
 ghost use Rattle.hfs_put.specs.Decisions.{inside};
-ghost use Rattle.hfs_put.specs.PlacedSources.{ArePlaced, decisions, destination, item_put, lock_code, refused_at};
+ghost use Rattle.hfs_put.specs.PlacedSources.{ArePlaced, decisions, destination, directory_lock_code, item_put, lock_code, refused_at};
 
 use crate::decisions::{Decision, Destination, decide};
 use bitflags::Flags;
+use hfs_fields::Mdb;
 use hfs_model::{HARDWARE_LOCKED, SOFTWARE_LOCKED};
 use hfs_put_calls::PutItem;
 use hfs_put_plan::Why;
@@ -31,12 +32,11 @@ pub enum PlacedSources {
     Refused(Vec<RefusedItem>),
 }
 
-/// The code by which a locked volume refuses each call that changes it: -44 where it is locked by hardware, else -46. None of a
-/// volume that isn't locked.
-pub fn lock_code(volume: &Volume) -> Option<i16>
-    ensures { result ≡ lock_code (volume_of volume.now.current) }
+/// The code that the locks of a volume's master directory block give.
+fn directory_lock_code(mdb: &Mdb) -> Option<i16>
+    ensures { result ≡ directory_lock_code mdb.now }
 {
-    let attributes = volume.directory().attributes.bits();
+    let attributes = mdb.attributes.bits();
     if attributes / 128 % 2 == 1 {
         return Some(HARDWARE_LOCKED);
     }
@@ -44,6 +44,14 @@ pub fn lock_code(volume: &Volume) -> Option<i16>
         return Some(SOFTWARE_LOCKED);
     }
     None
+}
+
+/// The code by which a locked volume refuses each call that changes it: -44 where it is locked by hardware, else -46. None of a
+/// volume that isn't locked.
+pub fn lock_code(volume: &Volume) -> Option<i16>
+    ensures { result ≡ lock_code (volume_of volume.now.current) }
+{
+    directory_lock_code(&volume.directory())
 }
 
 /// The folder into which an item comes: the target, or what comes of its parent.
@@ -98,6 +106,7 @@ fn note(
 /// Finds the place of each item of a list that is to come into the folder `target`, in the order of the walk: the item itself, where
 /// it can be put, with its kind, name, facts, lengths, and how it gets its place; else why it can't. Where a file stands in the place of
 /// a file it is replaced if `replace` says so. Each item is looked up once. The only error is want of memory.
+#[tactic(auto, using(crate::proofs::PlacedLists::so_far_next, crate::proofs::PlacedLists::so_far_put, crate::proofs::PlacedLists::so_far_told, crate::proofs::PlacedLists::placed_all))]
 pub fn place_sources(
     alloc: Global,
     volume: &Volume,

@@ -129,10 +129,10 @@ module _ (total : ℕ) (blocks : Blocks) (sound : AreBlocksSound total blocks) (
     abbrev es : List Extent
     es = file_extents blocks run.fork (file_record_of of.r.1)
 
-    at-run : IsRunOf mdb run.item run.fork es run
+    pub at-run : IsRunOf mdb run.item run.fork es run
     at-run = is-run mdb run.item run.fork 0 es run of.extents
 
-    inside : run.place + run.len ≤ 512 * total
+    pub inside : run.place + run.len ≤ 512 * total
     inside =
         let at = at-run in
         let within = each_from_all (IsExtentWithin mdb.allocation_blocks) es (sound-fork of.r of.there of.kind run.fork).within in
@@ -162,22 +162,10 @@ module _ (total : ℕ) (blocks : Blocks) (sound : AreBlocksSound total blocks) (
         (cases_lt n ((run_in mdb at-run.e).first + (run_in mdb at-run.e).count)))
         (cases_lt n (run_in mdb at-run.e).first)
 
-  -- ---- an image in which the bytes are laid
+  -- ---- an image whose runs hold the bytes
 
-  module _ (old : List ℕ) (count : block_count old ≡ total) (long : OfTheirFiles forks AreLongAs (catalog_in blocks)) where
-    abbrev new : List ℕ
-    new = laid arrivals runs old
-
-    all-inside : AreInside (length old) runs
-    all-inside = each_of _ runs (λ run i. let fits = inside run (each_in _ runs run are.only i) in omega (arith, fits, count))
-
-    all-hold : Each (Holds arrivals new) runs
-    all-hold = each-laid arrivals runs old all-inside (apart-in-turn runs are.apart)
-
-    others : (n : ℕ) → Each (IsOther n) (blocks_of_files (has_forks forks) blocks) → block_at new n ≡ block_at old n
-    others n apart =
-        outside-laid arrivals runs old all-inside (512 * n) 512 (each_of _ runs (λ run i. outside run (each_in _ runs run are.only i) n apart))
-
+  module _ (old new : List ℕ) (len : length new ≡ length old) (all-hold : Each (Holds arrivals new) runs)
+      (elsewhere : (n : ℕ) → Each (IsOutside (512 * n) 512) runs → block_at new n ≡ block_at old n) (long : OfTheirFiles forks AreLongAs (catalog_in blocks)) where
     -- a fork of a file
     module _ (r : Record) (there : In r (catalog_in blocks)) (file : is_file r.1 ≡ true) (place : ℕ) (have : HaveForksOf blocks place (file_record_of r.1) runs)
         (a : Arrival) (at : slice_get arrivals place ≡ Some a) where
@@ -231,4 +219,8 @@ module _ (total : ℕ) (blocks : Blocks) (sound : AreBlocksSound total blocks) (
         }
 
     pub are-laid : AreForksLaid forks blocks old new
-    are-laid = record { len = length-laid arrivals runs old all-inside; hold = each_of _ (catalog_in blocks) both-held; others = others }
+    are-laid = record {
+      len = len;
+      hold = each_of _ (catalog_in blocks) both-held;
+      others = λ n apart. elsewhere n (each_of _ runs (λ run i. outside run (each_in _ runs run are.only i) n apart));
+    }

@@ -3,4 +3,6 @@ mod LaidAt
 mod RunBlocks
 mod FilesAt
 mod LaidFiles
+mod BesideRuns
+mod SavedRuns
 mod PutOver

@@ -1,5 +1,5 @@
 -- What goes out of a list that was put on a copy.
-use Rattle.std.proofs.Common.{◌≡◌, ℕ, ◌/◌, ◌<◌, List, [], ◌∷◌, ◌++◌, length, map, IsSome, Ok, refl, sym, ap, subst, ◌∙◌}
+use Rattle.std.proofs.Common.{◌≡◌, ℕ, ◌/◌, ◌<◌, List, [], ◌∷◌, ◌++◌, length, map, Bool, true, false, cond, Some, None, IsSome, Ok, refl, sym, ap, subst, ◌∙◌}
 use Rattle.std.specs.List.{flat_map}
 use Rattle.hfs_scans.specs.Each.{Each}
 use Rattle.hfs_blocks.specs.declared.run.Run.{Run}
@@ -9,7 +9,6 @@ use Rattle.hfs_catalog.specs.Records.{Catalog}
 use Rattle.hfs_check.specs.Agree.{AgreesBut}
 use Rattle.hfs_check.specs.VolumeOf.{volume_of}
 use Rattle.hfs_volume.specs.Image.{ImageValue, patched}
-use Rattle.hfs_volume.proofs.SavedPieces.{length-laid_over}
 use Rattle.hfs_working.specs.Working.{IsWorkingCopy}
 use Rattle.hfs_needed_runs.specs.GivenBack.{AreChangedZeros, AreKeptOf}
 use Rattle.hfs_needed_runs.specs.Keeping.{AreKept}
@@ -24,9 +23,10 @@ use Rattle.hfs_put_laws.specs.Forks.{AreForksLaid}
 use Rattle.hfs_put_laws.specs.Saved.{IsDifference, IsPut}
 use Rattle.hfs_put_laws.proofs.CameForks.{are-long}
 use Rattle.hfs_put_laws.proofs.SavedPuts.{saved_is_put}
+use Rattle.hfs_put_image.specs.Beside.{is_in_runs, AreBeside}
 use Rattle.hfs_put_image.specs.LaidRuns.{laid}
 use Rattle.hfs_put_image.specs.PutImages.{IsPutOver}
-use Rattle.hfs_put_image.proofs.LaidFiles.{are-laid}
+use Rattle.hfs_put_image.proofs.SavedRuns.{saved-laid}
 
 -- ---- the blocks that go out
 
@@ -50,29 +50,38 @@ module _ (volume : ImageValue) (patch : Numbered) (written : List ℕ) (agrees :
 
 -- ---- the whole
 
-module _ (volume : ImageValue) (target now : ℕ) (items : List PutItem) (patch : Numbered) (runs : List ForkRun) (ids : List ℕ)
+module _ (volume : ImageValue) (target now : ℕ) (items : List PutItem) (patch kept : Numbered) (runs : List ForkRun) (ids : List ℕ)
     (calls : AreLaid target now items (volume_of volume.base) (volume_of volume.current) ids) (agrees : AgreesBut volume.written volume.base volume.current)
-    (kept : AreKeptOf volume [] [] patch) (makes : patched patch volume.base ≡ volume.current)
-    (are : AreForkRuns (block_at volume.current) items ids runs) where
+    (of : AreKeptOf volume [] [] patch) (makes : patched patch volume.base ≡ volume.current)
+    (are : AreForkRuns (block_at volume.current) items ids runs) (beside : AreBeside runs patch kept) where
+  total-is : block_count volume.base ≡ block_count volume.current
+  total-is = ap (λ (n : ℕ). n / 512) (sym agrees.len)
+
   module _ (arrivals : List Arrival) (image : List ℕ) (same : map item_of arrivals ≡ items) (whole : Each IsWhole arrivals) (is : IsWorkingCopy volume.base image) where
-    abbrev middle : List ℕ
-    middle = patched patch image
+    abbrev saved : List ℕ
+    saved = patched kept (laid arrivals runs image)
 
-    count : block_count middle ≡ block_count volume.current
-    count = ap (λ (n : ℕ). n / 512)
-        (length-laid_over (changes patch) image
-        (subst (λ (len : ℕ). AreWithin (changes patch) (len / 512)) (sym is.len) (patch-within volume patch volume.written agrees kept makes))
-        ∙ is.len ∙ sym agrees.len)
-
-    there : AreForksLaid (came arrivals ids []) (block_at volume.current) middle (laid arrivals runs middle)
-    there = are-laid (block_count volume.current) (block_at volume.current) agrees.sound.blocks arrivals ids
+    there : AreForksLaid (came arrivals ids []) (block_at volume.current) (patched patch image) saved
+    there = saved-laid (block_count volume.current) (block_at volume.current) agrees.sound.blocks arrivals ids
         (forks_are_theirs (volume_of volume.base) target now arrivals (record { volume = volume_of volume.current; ids = ids }) (calls arrivals same)) runs
-        (subst (λ (own : List PutItem). AreForkRuns (block_at volume.current) own ids runs) (sym same) are) middle count
+        (subst (λ (own : List PutItem). AreForkRuns (block_at volume.current) own ids runs) (sym same) are) image
+        (ap (λ (n : ℕ). n / 512) is.len ∙ total-is) patch kept
+        (subst (AreWithin (changes patch)) total-is (patch-within volume patch volume.written agrees of makes)) beside
         (are-long target now arrivals ids volume.base volume.current whole agrees.sound (calls arrivals same))
 
-    puts : IsPut target now arrivals ids volume.written image (laid arrivals runs middle)
-    puts = saved_is_put target now arrivals ids volume.written volume.base volume.current image (laid arrivals runs middle) patch is whole
-        (record { laid = calls arrivals same; agrees = agrees }) (is-difference volume patch volume.written agrees kept makes) there
+    puts : IsPut target now arrivals ids volume.written image saved
+    puts = saved_is_put target now arrivals ids volume.written volume.base volume.current image saved patch is whole
+        (record { laid = calls arrivals same; agrees = agrees }) (is-difference volume patch volume.written agrees of makes) there
 
-  pub is-put-over : IsPutOver volume.base target now items patch runs ids
+  pub is-put-over : IsPutOver volume.base target now items kept runs ids
   is-put-over = record { written = volume.written; puts = puts }
+
+  pub kept-within : AreWithin (changes kept) (block_count volume.base)
+  kept-within n b found = patch-within volume patch volume.written agrees of makes n b (by (is_in_runs runs n) (sym (beside n) ∙ found))
+    where
+      by : (t : Bool) → cond t None (changes patch n) ≡ Some b → changes patch n ≡ Some b
+      by true e = absurd (none-some e)
+        where
+          none-some : None ≡ Some b → ⊥
+          none-some e = cc
+      by false e = e

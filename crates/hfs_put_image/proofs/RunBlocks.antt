@@ -78,7 +78,7 @@ drop-on (suc k) m [] = drop-none m ∙ sym (drop-none (suc k + m))
     drop-none (suc n) = refl
 drop-on (suc k) m (x ∷ xs) = drop-on k m xs ∙ ap (λ (n : ℕ). drop n (x ∷ xs)) (let e : suc (k + m) ≡ suc k + m = omega arith in e)
 
-joined-range : (image : List ℕ) (n k : ℕ) → joined (map (block_at image) (range_with_len n k)) ≡ take (512 * k) (drop (512 * n) image)
+pub joined-range : (image : List ℕ) (n k : ℕ) → joined (map (block_at image) (range_with_len n k)) ≡ take (512 * k) (drop (512 * n) image)
 joined-range image n zero = ap (λ (m : ℕ). take m (drop (512 * n) image)) (let e : 0 ≡ 512 * zero = omega arith in e)
 joined-range image n (suc k) =
     ap (λ (l : List ℕ). take 512 (drop (512 * n) image) ++ l)

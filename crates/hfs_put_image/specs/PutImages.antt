@@ -13,10 +13,10 @@ use Rattle.hfs_put_laws.specs.Saved.{IsPut}
 use Rattle.hfs_put_image.specs.LaidRuns.{laid}
 
 -- A list was put on a copy of an image, with these IDs; these blocks go out, and these runs are those of its files' forks. Whatever bytes come for the
--- list, and whatever image has the copy's working blocks: the image with these blocks over it, and with the bytes laid in these runs, holds what the File
+-- list, and whatever image has the copy's working blocks: the image with the bytes laid in these runs, and with these blocks over it, holds what the File
 -- Manager makes of the image's volume by the list, but for the bytes of forks of other files.
 pub record IsPutOver (copy : List ℕ) (target now : ℕ) (items : List PutItem) (patch : Numbered) (runs : List ForkRun) (ids : List ℕ) : Type 0 where
   -- the blocks of forks that calls wrote
   pub written : List ℕ
   pub puts : (arrivals : List Arrival) (image : List ℕ) → map item_of arrivals ≡ items → Each IsWhole arrivals → IsWorkingCopy copy image
-      → IsPut target now arrivals ids written image (laid arrivals runs (patched patch image))
+      → IsPut target now arrivals ids written image (patched patch (laid arrivals runs image))

@@ -6,6 +6,8 @@ ghost use Rattle.hfs_check.specs.VolumeOf.{volume_of};
 ghost use Rattle.hfs_put.specs.Laying.{IsFaultOfLaying};
 ghost use Rattle.hfs_put_image.specs.PutImages.{IsPutOver};
 
+use crate::beside::beside_runs;
+use hfs_blocks::Blocks;
 use hfs_changed_blocks::ChangedBlocks;
 use hfs_needed_runs::kept_blocks;
 use hfs_put::{LayFault, fork_runs, lay_items};
@@ -17,7 +19,7 @@ use std::alloc::Global;
 /// What goes out of a list that was put on a copy of an image.
 #[derive(Drop)]
 pub struct PutBlocks {
-    /// The blocks that are to be laid over the image.
+    /// The blocks that are to be laid over the image, none of which is in a run.
     pub patch: ChangedBlocks,
     /// Where the bytes of the list's forks are to stand then, in the order of their places.
     pub runs: Vec<ForkRun>,
@@ -26,8 +28,9 @@ pub struct PutBlocks {
 }
 
 /// Puts a list of items into folder `target` of a volume that was mounted over a copy of an image, at the moment `now`, by all calls but those that
-/// write forks. The image with the patch over it, and with the bytes of the list's forks laid in the runs, holds what the File Manager makes of its
-/// volume by the whole list, but for the bytes of forks of other files. Faults: those of `lay_items`.
+/// write forks. The image with the bytes of the list's forks laid in the runs, and with the patch over it, holds what the File Manager makes of its
+/// volume by the whole list, but for the bytes of forks of other files. No block of the patch begins in a run: one that a fork has got may be other than
+/// it was in the copy, as the last block but one of the image, which is read. Faults: those of `lay_items`.
 pub fn put_items(
     alloc: Global,
     volume: &mut Volume,
@@ -44,8 +47,9 @@ pub fn put_items(
         (volume_of volume.old.base) volume.new.current) }
 {
     let ids = lay_items(alloc, volume, target, now, items)?;
-    volume.agrees_with_base();
-    let patch = kept_blocks(alloc, volume, &[], &[])?;
+    let base = volume.base()?;
+    let changed = kept_blocks(alloc, volume, &[], &[])?;
     let runs = fork_runs(alloc, volume, items, &ids)?;
+    let patch = beside_runs(alloc, &changed, &runs, base.blocks().count())?;
     Ok(PutBlocks { patch, runs, ids })
 }

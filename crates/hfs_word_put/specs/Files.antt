@@ -16,7 +16,7 @@ place_of start len sum_at = record { range = range_of start len; sum_at = sum_at
 -- What comes was put on a copy of the volume's image, which lies in the file from a byte on: of each file that has the bytes which were read, and of
 -- each host tree that has what was read. The file is to hold these blocks in the place of the image's, and the bytes of forks of what comes in
 -- their runs.
-pub record IsPutFile {S H : Type 0} (Files : S → List ℕ → Type 0) (Hosts : H → Tree → Type 0) (order : PutOrder) (start len : ℕ) (sum_at : Option ℕ) (made : PutImage S H) : Type 0 where
+pub record IsPutFile {S H W : Type 0} (Files : S → List ℕ → Type 0) (Hosts : H → Tree → Type 0) (order : PutOrder) (start len : ℕ) (sum_at : Option ℕ) (made : PutImage S H W) : Type 0 where
   pub copy : List ℕ
   pub put : PutBlocks
   pub copied : IsCopyOfEach (IsRangeOf (Files made.contents.file.forks.bytes) start len) len copy

@@ -1,6 +1,5 @@
 //! Where what comes gets its place on a volume.
-ghost use Rattle.std.specs.Prelude.{◌≡◌, ℕ, Err, Some, MatchResult, Ok, OnOk, None, IfErr, IfOk, map};
-ghost use Rattle.std.specs.Option.{option_map};
+ghost use Rattle.std.specs.Prelude.{◌≡◌, ℕ, Err, Some, MatchResult, Ok, OnOk, None, IfErr, IfOk, map, option_map};
 ghost use Rattle.hfs_check.specs.VolumeOf.{volume_of};
 ghost use Rattle.hfs_commands.specs.Entries.{entries_in};
 ghost use Rattle.hfs_put.specs.PlacedSources.{decisions, item_put, lock_code};
@@ -30,7 +29,7 @@ pub struct PlacedList {
 
 /// Finds the folder into which it comes.
 fn find_target(alloc: Global, volume: &Volume, to: Option<&str>) -> Result<u32, PutFault<'static>>
-    ensures { let found = target_folder (entries_in volume.now.current) (option_map (λ path. path.now) to) in
+    ensures { let found = target_folder (entries_in volume.now.current) (option_map (λ text. text.now) to.entry) in
         MatchResult result (λ target. found ≡ Ok target) (TellsAny (target_line found)) }
 {
     match target_folder(alloc, volume, to)? {

@@ -8,7 +8,7 @@ ghost use Rattle.hfs_word_put.specs.Faults.{IsUnsavedBy};
 ghost use Rattle.hfs_word_put.specs.Files.{IsPutFile, place_of};
 ghost use Rattle.hfs_word_put.specs.Put.{IsPutFault, IsPutOf, IsPutOn, IsUnput, IsUnputOn};
 
-use crate::contents::LaidFile;
+use crate::contents::{LaidFile, PutWatch};
 use crate::fault::PutFault;
 use crate::laying::lay_all;
 use crate::lines::PutSums;
@@ -44,8 +44,8 @@ pub struct PutItems {
 
 /// What a file is to hold in which something was put on a volume, and how much was put.
 #[derive(Drop)]
-pub struct PutImage<S, H> {
-    pub contents: ImageInFile<LaidFile<S, H>>,
+pub struct PutImage<'w, S, H, W> {
+    pub contents: ImageInFile<LaidFile<'w, S, H, W>>,
     pub sums: PutSums,
 }
 
@@ -93,14 +93,15 @@ pub fn put_items<T: HostTree>(
 
 /// What a file is to hold in which an image lies, on whose volume this was put. Fault: `CannotRead` of the path, where the image
 /// doesn't lie in the file.
-pub fn put_image<'a, S: WatchedBytes + Drop, H: PlacedFiles + Drop>(
+pub fn put_image<'a, 'w, S: WatchedBytes + Drop, H: PlacedFiles + Drop, W: PutWatch>(
     alloc: Global,
     image: WatchedRange<S>,
     sum_at: Option<u64>,
     path: &'a str,
     files: H,
     put: PutItems,
-) -> Result<PutImage<S, H>, Fault<'a>>
+    watch: &'w W,
+) -> Result<PutImage<'w, S, H, W>, Fault<'a>>
     requires small { image.bytes.len ≤ 2147483648 }
     requires within { AreWithin (changes put.list.blocks.patch) (image.bytes.len / 512) }
     ensures file { IfOk result (λ made. made.contents.file.forks.bytes ≡ image.bytes.bytes) }
@@ -134,7 +135,7 @@ pub fn put_image<'a, S: WatchedBytes + Drop, H: PlacedFiles + Drop>(
     Ok(PutImage {
         contents: ImageInFile {
             alloc,
-            file: LaidFile { forks },
+            file: LaidFile { forks, watch },
             place: ImagePlace { range, sum_at },
             patch,
         },
@@ -143,15 +144,17 @@ pub fn put_image<'a, S: WatchedBytes + Drop, H: PlacedFiles + Drop>(
 }
 
 /// Puts what comes on the volume of an image that lies in a file, which was opened by this path: what the file is to hold then. The
-/// bytes of forks are read as it is written. Faults, in this order: those of the image, then those of [`put_items`].
-pub fn put_sources<'a, S: WatchedBytes + Drop, T: HostTree + Drop>(
+/// bytes of forks are read as it is written, of which a watch is told. Faults, in this order: those of the image, then those of
+/// [`put_items`].
+pub fn put_sources<'a, 'w, S: WatchedBytes + Drop, T: HostTree + Drop, W: PutWatch>(
     alloc: Global,
     image: WatchedRange<S>,
     sum_at: Option<u64>,
     path: &'a str,
     tree: T,
     order: &PutOrder<'_>,
-) -> Result<PutImage<S, HostFiles<T>>, PutFault<'a>>
+    watch: &'w W,
+) -> Result<PutImage<'w, S, HostFiles<T>, W>, PutFault<'a>>
     ensures put { IfOk result (λ made. IsPutFile S.Holds (IsReadOf T.Holds T.File.Holds)
         order.now image.bytes.start image.bytes.len sum_at made) }
     ensures fault { IfErr result (IsPutFault path.entry) }
@@ -165,7 +168,7 @@ pub fn put_sources<'a, S: WatchedBytes + Drop, T: HostTree + Drop>(
     };
     let put = put_items(alloc, &mut volume, &mut tree, order)?;
     let files = HostFiles::new(alloc, tree);
-    match put_image(alloc, image, sum_at, path, files, put) {
+    match put_image(alloc, image, sum_at, path, files, put, watch) {
         Ok(made) => Ok(made),
         Err(fault) => Err(PutFault::Image(fault)),
     }
@@ -173,9 +176,9 @@ pub fn put_sources<'a, S: WatchedBytes + Drop, T: HostTree + Drop>(
 
 /// What it means that what a file is to hold was not written: where what comes couldn't be read, or had changed, that; else this
 /// fault.
-pub fn unsaved<'a, S: WatchedBytes + Drop, H: PlacedFiles + Drop>(
+pub fn unsaved<'a, S: WatchedBytes + Drop, H: PlacedFiles + Drop, W: PutWatch>(
     alloc: Global,
-    contents: ImageInFile<LaidFile<S, H>>,
+    contents: ImageInFile<LaidFile<'_, S, H, W>>,
     fault: Fault<'a>,
 ) -> PutFault<'a>
     ensures { IsUnsavedBy contents.file.forks.fault fault result }

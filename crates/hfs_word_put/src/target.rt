@@ -1,7 +1,6 @@
 //! The folder into which what comes is put.
-ghost use Rattle.std.specs.Prelude.{◌≡◌, IfOk};
+ghost use Rattle.std.specs.Prelude.{◌≡◌, IfOk, option_map};
 ghost use Rattle.std.specs.List.{fold};
-ghost use Rattle.std.specs.Option.{option_map};
 ghost use Rattle.hfs_commands.specs.ByPath.{path_reply};
 ghost use Rattle.hfs_commands.specs.Entries.{entries_in};
 ghost use Rattle.hfs_model.specs.Reading.{get_cat_info};
@@ -93,7 +92,7 @@ fn path_told(volume: &Volume, names: &[Name]) -> Reply
 }
 
 /// What is told of the item that the text of a path leads to.
-#[tactic(auto, using(hfs_commands::proofs::PathReplies::by_names, hfs_commands::proofs::PathReplies::by_none))]
+#[tactic(auto, using(crate::proofs::PathTargets::by_names, crate::proofs::PathTargets::by_none))]
 fn path_reply(alloc: Global, volume: &Volume, path: &str) -> Result<Reply, AllocError>
     ensures { IfOk result (λ reply. reply ≡ path_reply (entries_in volume.now.current) path.now) }
 {
@@ -139,7 +138,7 @@ pub fn target_folder(
     to: Option<&str>,
 ) -> Result<Result<u32, Reply>, AllocError>
     ensures { IfOk result (λ found. found
-        ≡ target_folder (entries_in volume.now.current) (option_map (λ path. path.now) to)) }
+        ≡ target_folder (entries_in volume.now.current) (option_map (λ text. text.now) to.entry)) }
 {
     match to {
         Some(path) => {

@@ -47,6 +47,7 @@ loop-item-preserved c =
       laid = subst (λ (ids : List ℕ). AreLeft target now items (put_from target now 0 old [] (map bare items)) ids w more (c.loop-item.item-index + 1)) (sym c.in_ok-push.ensures.items)
           (list_step target now items (put_from target now 0 old [] (map bare items)) c.loop-item.ids.items v w folders more c.loop-item.item-index id c.item-item.result
           c.loop-item-test.true c.item-item.is own c.loop-item.invariant.laid);
+      base = search rules;
     }
 
 pub returns-in_err-leave-clause-err : goal.returns-in_err-leave-clause-err

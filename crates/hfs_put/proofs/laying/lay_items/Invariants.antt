@@ -12,4 +12,5 @@ invariant-loop-item l = record {
   count : length l.ids.items ≡ l.item-index;
   laid : AreLeft l.target l.now l.items (put_from l.target l.now 0 (volume_of l.fn.volume.current) [] (map bare l.items)) l.ids.items (volume_of l.volume.current)
       (opens l.now l.folders.items) l.item-index;
+  base : l.volume.base ≡ l.fn.volume.base;
 }

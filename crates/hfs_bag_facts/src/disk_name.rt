@@ -1,10 +1,9 @@
 //! The name of the disk that a bag was taken of.
-ghost use Rattle.std.specs.Prelude.{◌≡◌, IfOk, codes, option_map};
-ghost use Rattle.hfs_bag_tags.specs.Lines.{first_value, lines};
+ghost use Rattle.std.specs.Prelude.{◌≡◌, IfOk, option_map};
 ghost use Rattle.hfs_sources.specs.Trees.{OfEachTree};
 ghost use Rattle.hfs_bag_facts.specs.Tags.{name_told, tag_text};
 
-use crate::tag_text::tag_text;
+use crate::tag_text::{tag_text, without_return};
 use hfs_bag_tags::external_identifier;
 use hfs_sources::{HostFault, HostTree};
 use std::alloc::Global;
@@ -23,7 +22,7 @@ pub fn bag_name<T: HostTree>(
 {
     let text = tag_text(alloc, tree, source, "bag-info.txt")?;
     match external_identifier(&text) {
-        Some(name) => Ok(Some(Vec::from_slice(alloc, name)?)),
+        Some(name) => Ok(Some(Vec::from_slice(alloc, without_return(name))?)),
         None => Ok(None),
     }
 }
