@@ -8,18 +8,20 @@ use hfs_laid_forks::HostFiles;
 use hfs_make::NewVolume;
 use hfs_make_items::new_items;
 use hfs_sources::HostTree;
-use hfs_word_put::{Listed, PutFault, PutImage, PutItems, need_digests, put_image};
+use hfs_word_put::{Listed, PutFault, PutImage, PutItems, PutWatch, need_digests, put_image};
 use std::alloc::Global;
 
-/// Makes a new volume with what comes: what the file with this path is to hold. The bytes of forks are read as it is written. Faults, in this order:
+/// Makes a new volume with what comes: what the file with this path is to hold. The bytes of forks are read as it is written, of
+/// which a watch is told. Faults, in this order:
 /// `BadName`, `BadSize`; what can't be read of what comes; what can't come to its place; `NoRoom`, or the first call that is refused;
 /// the first file with another digest than its bag tells. Or want of memory.
-pub fn make_volume<'a, T: HostTree + Drop>(
+pub fn make_volume<'a, 'w, T: HostTree + Drop, W: PutWatch>(
     alloc: Global,
     tree: T,
     path: &'a str,
     order: &MakeOrder<'_>,
-) -> Result<PutImage<SettledImage, HostFiles<T>>, PutFault<'a>> {
+    watch: &'w W,
+) -> Result<PutImage<'w, SettledImage, HostFiles<T>, W>, PutFault<'a>> {
     let mut tree = tree;
     let name = made_name(alloc, &mut tree, order)?;
     let size = made_size(order)?;
@@ -36,7 +38,7 @@ pub fn make_volume<'a, T: HostTree + Drop>(
     need_digests(alloc, &mut tree, &digests, &items)?;
     let files = HostFiles::new(alloc, tree);
     let put = PutItems { items, list };
-    match put_image(alloc, image, None, path, files, put) {
+    match put_image(alloc, image, None, path, files, put, watch) {
         Ok(made) => Ok(made),
         Err(fault) => Err(PutFault::Image(fault)),
     }
