@@ -5,8 +5,7 @@ ghost use Rattle.hfs_make_items.specs.Lists.{IsListOf, IsNewList, is_folder_kind
 
 use hfs_put_plan::EntryKind;
 use hfs_sources::{
-    HostFault, HostTree, Look, PutOptions, SourceItem, ToldItems, is_bag, list_folder,
-    list_sources,
+    HostFault, HostTree, Look, PutOptions, SourceItem, ToldItems, is_bag, list_folder, list_sources,
 };
 use std::alloc::Global;
 

@@ -13,8 +13,12 @@ use hfs_word_make::{MakeOrder, SettledImage, made_lines, make_volume};
 use hfs_word_put::{PutImage, unsaved};
 
 /// What the file of a new volume is to hold.
-type Made<'w, 'r> =
-    PutImage<'w, SettledImage, HostFiles<SystemTree<'r, HostRuntime>>, ByteProgress<'r>>;
+type Made<'w, 'r> = PutImage<
+    'w,
+    SettledImage,
+    HostFiles<SystemTree<'r, HostRuntime>>,
+    ByteProgress<'r>,
+>;
 
 /// Makes a new volume of files and folders, and prints how much came. It is written before; where that fails, or something can't be
 /// put, only that is printed.

@@ -10,7 +10,9 @@ use hfs_put_image::put_items;
 use hfs_source::{PlacedBytes, RangeBytes};
 use hfs_sources::SourceItem;
 use hfs_volume::Volume;
-use hfs_word_put::{PlacedList, PutFault, PutList, mount_image, of_lay, place_all, put_sums, wants_of};
+use hfs_word_put::{
+    PlacedList, PutFault, PutList, mount_image, of_lay, place_all, put_sums, wants_of,
+};
 use std::alloc::Global;
 
 /// A new volume's image, and what is put on it.
