@@ -1,6 +1,6 @@
 //! What comes into a new volume out of trees in memory.
 use super::*;
-use hfs_make::NewItem;
+use hfs_make::{MakeFault, NewItem, VolumeName};
 use hfs_put_plan::EntryKind;
 use hfs_sources::{HostNode, HostTime, Look, MemoryTree, NothingTold, PutOptions, SourceItem};
 
@@ -64,13 +64,20 @@ fn nodes<'a>(info: &'a [u8]) -> [HostNode<'a>; 9] {
     ]
 }
 
+/// Whether this name was read; an empty one is none.
+fn is_read_as(read: Result<VolumeName, MakeFault>, name: &[u8]) -> bool {
+    let Ok(found) = read else {
+        return name.is_empty();
+    };
+    found.name.bytes() == name
+}
+
 /// Whether the sources give a volume this name; an empty one is none.
 fn gives_name(rt: &HostRuntime, info: &[u8], sources: &[&str], name: &[u8]) -> bool {
     let nodes = nodes(info);
     let mut tree = MemoryTree { nodes: &nodes };
     match found_name(rt.alloc(), &mut tree, sources) {
-        Ok(Ok(found)) => found.name.bytes() == name,
-        Ok(Err(_)) => name.is_empty(),
+        Ok(read) => is_read_as(read, name),
         Err(_) => false,
     }
 }
