@@ -2,7 +2,9 @@
 use super::*;
 use hfs_make::{MakeFault, NewItem, VolumeName};
 use hfs_put_plan::EntryKind;
-use hfs_sources::{HostNode, HostTime, Look, MemoryTree, NothingTold, PutOptions, SourceItem};
+use hfs_sources::{
+    HostFault, HostNode, HostTime, Look, MemoryTree, NothingTold, PutOptions, SourceItem,
+};
 
 /// A node of a tree.
 fn node<'a>(
@@ -73,26 +75,44 @@ fn is_read_as(read: Result<VolumeName, MakeFault>, name: &[u8]) -> bool {
 }
 
 /// Whether the sources give a volume this name; an empty one is none.
-fn gives_name(rt: &HostRuntime, info: &[u8], sources: &[&str], name: &[u8]) -> bool {
+fn gives_name(
+    rt: &HostRuntime,
+    info: &[u8],
+    sources: &[&str],
+    name: &[u8],
+) -> Result<bool, HostFault> {
     let nodes = nodes(info);
     let mut tree = MemoryTree { nodes: &nodes };
-    match found_name(rt.alloc(), &mut tree, sources) {
-        Ok(read) => is_read_as(read, name),
-        Err(_) => false,
-    }
+    let read = found_name(rt.alloc(), &mut tree, sources)?;
+    Ok(is_read_as(read, name))
 }
 
 #[test]
 fn sources_give_names(rt: HostRuntime) {
     let info = b"External-Identifier: D \\5c\n";
-    assert!(rt; gives_name(&rt, info, &["My=20Disk"], b"My Disk"));
-    assert!(rt; gives_name(&rt, info, &["bag"], b"D \\"));
-    assert!(rt; gives_name(&rt, b"Bag-Software-Agent: x\n", &["bag"], b"bag"));
-    assert!(rt; gives_name(&rt, b"External-Identifier: a\\3ab\n", &["bag"], b""));
-    assert!(rt; gives_name(&rt, b"External-Identifier: \xff\n", &["bag"], b""));
-    assert!(rt; gives_name(&rt, info, &["My=20Disk/f"], b""));
-    assert!(rt; gives_name(&rt, info, &["bag", "My=20Disk"], b""));
-    assert!(rt; gives_name(&rt, info, &[], b""));
+    assert!(rt; matches!(gives_name(&rt, info, &["My=20Disk"], b"My Disk"), Ok(true)));
+    assert!(rt; matches!(gives_name(&rt, info, &["bag"], b"D \\"), Ok(true)));
+    assert!(rt;
+        matches!(
+            gives_name(&rt, b"Bag-Software-Agent: x\n", &["bag"], b"bag"),
+            Ok(true)
+        )
+    );
+    assert!(rt;
+        matches!(
+            gives_name(&rt, b"External-Identifier: a\\3ab\n", &["bag"], b""),
+            Ok(true)
+        )
+    );
+    assert!(rt;
+        matches!(
+            gives_name(&rt, b"External-Identifier: \xff\n", &["bag"], b""),
+            Ok(true)
+        )
+    );
+    assert!(rt; matches!(gives_name(&rt, info, &["My=20Disk/f"], b""), Ok(true)));
+    assert!(rt; matches!(gives_name(&rt, info, &["bag", "My=20Disk"], b""), Ok(true)));
+    assert!(rt; matches!(gives_name(&rt, info, &[], b""), Ok(true)));
     let nodes = nodes(info);
     let mut tree = MemoryTree { nodes: &nodes };
     assert!(rt; found_name(rt.alloc(), &mut tree, &["none"]).is_err());
