@@ -1,11 +1,8 @@
 -- What goes out of a list that was put on a copy.
-use Rattle.std.proofs.Common.{◌≡◌, ℕ, ◌/◌, ◌<◌, List, [], ◌∷◌, ◌++◌, length, map, Bool, true, false, cond, Some, None, IsSome, Ok, refl, sym, ap, subst, ◌∙◌}
-use Rattle.std.specs.List.{flat_map}
+use Rattle.std.proofs.Common.{◌≡◌, ℕ, ◌/◌, ◌<◌, List, [], ◌∷◌, length, map, Bool, true, false, cond, Some, None, Result, Ok, Err, IfOk, refl, sym, ap, subst, ◌∙◌}
 use Rattle.hfs_scans.specs.Each.{Each}
-use Rattle.hfs_blocks.specs.declared.run.Run.{Run}
-use Rattle.hfs_blocks.specs.Blocks.{block_at, block_count, length-block_at, run_of}
+use Rattle.hfs_blocks.specs.Blocks.{block_at, block_count, length-block_at}
 use Rattle.hfs_blocks.specs.Layers.{Numbered, changes, AreWithin}
-use Rattle.hfs_catalog.specs.Records.{Catalog}
 use Rattle.hfs_check.specs.Agree.{AgreesBut}
 use Rattle.hfs_check.specs.VolumeOf.{volume_of}
 use Rattle.hfs_volume.specs.Image.{ImageValue, patched}
@@ -48,6 +45,18 @@ module _ (volume : ImageValue) (patch : Numbered) (written : List ℕ) (agrees :
   pub is-difference : IsDifference patch volume.base volume.current
   is-difference = record { within = patch-within; makes = makes; differ = λ n some same. are-kept.only n some same }
 
+module _ (volume : ImageValue) (patch kept : Numbered) (runs : List ForkRun) (agrees : AgreesBut volume.written volume.base volume.current)
+    (of : AreKeptOf volume [] [] patch) (makes : patched patch volume.base ≡ volume.current) (beside : AreBeside runs patch kept) where
+  pub kept-within : AreWithin (changes kept) (block_count volume.base)
+  kept-within n b found = patch-within volume patch volume.written agrees of makes n b (by (is_in_runs runs n) (sym (beside n) ∙ found))
+    where
+      by : (t : Bool) → cond t None (changes patch n) ≡ Some b → changes patch n ≡ Some b
+      by true e = absurd (none-some e)
+        where
+          none-some : None ≡ Some b → ⊥
+          none-some e = cc
+      by false e = e
+
 -- ---- the whole
 
 module _ (volume : ImageValue) (target now : ℕ) (items : List PutItem) (patch kept : Numbered) (runs : List ForkRun) (ids : List ℕ)
@@ -76,12 +85,6 @@ module _ (volume : ImageValue) (target now : ℕ) (items : List PutItem) (patch 
   pub is-put-over : IsPutOver volume.base target now items kept runs ids
   is-put-over = record { written = volume.written; puts = puts }
 
-  pub kept-within : AreWithin (changes kept) (block_count volume.base)
-  kept-within n b found = patch-within volume patch volume.written agrees of makes n b (by (is_in_runs runs n) (sym (beside n) ∙ found))
-    where
-      by : (t : Bool) → cond t None (changes patch n) ≡ Some b → changes patch n ≡ Some b
-      by true e = absurd (none-some e)
-        where
-          none-some : None ≡ Some b → ⊥
-          none-some e = cc
-      by false e = e
+pub if-ok : {T E : Type 0} (r : Result T E) (P Q : T → Type 0) → ((x : T) → P x → Q x) → IfOk r P → IfOk r Q
+if-ok (Ok x) P Q f p = f x p
+if-ok (Err e) P Q f p = tt

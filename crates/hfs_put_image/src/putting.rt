@@ -3,8 +3,9 @@ ghost use Rattle.std.specs.Prelude.{◌≡◌, IfOk, IfErr};
 ghost use Rattle.hfs_blocks.specs.Blocks.{block_count};
 ghost use Rattle.hfs_blocks.specs.Layers.{changes, AreWithin};
 ghost use Rattle.hfs_check.specs.VolumeOf.{volume_of};
+ghost use Rattle.hfs_put.specs.ForkRuns.{AreRunsApart};
 ghost use Rattle.hfs_put.specs.Laying.{IsFaultOfLaying};
-ghost use Rattle.hfs_put_image.specs.PutImages.{IsPutOver};
+ghost use Rattle.hfs_put_image.specs.PutImages.{AreGoingOut, IsPutOver};
 
 use crate::beside::beside_runs;
 use hfs_blocks::Blocks;
@@ -14,7 +15,7 @@ use hfs_put::{LayFault, fork_runs, lay_items};
 use hfs_put_calls::PutItem;
 use hfs_sources::ForkRun;
 use hfs_volume::Volume;
-use std::alloc::Global;
+use std::alloc::{AllocError, Global};
 
 /// What goes out of a list that was put on a copy of an image.
 #[derive(Drop)]
@@ -25,6 +26,17 @@ pub struct PutBlocks {
     pub runs: Vec<ForkRun>,
     /// The IDs of the items, in the order of the list.
     pub ids: Vec<u32>,
+}
+
+/// The blocks that go out of a volume: each that is other than it was when the volume was mounted, but for those that begin in one of
+/// the runs. The only error is want of memory.
+fn going_out(alloc: Global, volume: &Volume, runs: &[ForkRun]) -> Result<ChangedBlocks, AllocError>
+    requires { AreRunsApart runs.now }
+    ensures { IfOk result (AreGoingOut volume.now runs.now) }
+{
+    let base = volume.base()?;
+    let changed = kept_blocks(alloc, volume, &[], &[])?;
+    beside_runs(alloc, &changed, runs, base.blocks().count())
 }
 
 /// Puts a list of items into folder `target` of a volume that was mounted over a copy of an image, at the moment `now`, by all calls but those that
@@ -47,9 +59,7 @@ pub fn put_items(
         (volume_of volume.old.base) volume.new.current) }
 {
     let ids = lay_items(alloc, volume, target, now, items)?;
-    let base = volume.base()?;
-    let changed = kept_blocks(alloc, volume, &[], &[])?;
     let runs = fork_runs(alloc, volume, items, &ids)?;
-    let patch = beside_runs(alloc, &changed, &runs, base.blocks().count())?;
+    let patch = going_out(alloc, volume, &runs)?;
     Ok(PutBlocks { patch, runs, ids })
 }
