@@ -12,7 +12,7 @@ loop-place-preserved c =
     let kept : c.make_any.new.volume.base ≡ c.args.volume.now.base = search rules in
     record {
       calls = row-step (making c.args.dir c.args.item.now c.args.now) (volume_of c.args.volume.now.current) (volume_of c.loop-place.volume.current) (volume_of c.make_any.new.volume.current)
-    c.loop-place.place c.in_ok-call.call c.in_ok-call.ensures c.in_ok-make_any.ensures.ok c.loop-place.invariant.calls;
+          c.loop-place.place c.in_ok-call.call c.in_ok-call.ensures c.in_ok-make_any.ensures.ok c.loop-place.invariant.calls;
       base = kept;
     }
 

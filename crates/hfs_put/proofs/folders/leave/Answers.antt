@@ -21,5 +21,8 @@ loop-folder-preserved c =
     let all = left c.args.parent (volume_of c.args.volume.now.current) (opens c.args.now c.args.folders.now.items) in
     let test : is_at c.args.parent c.in-Some.folder.place ≡ false = search rules in
     let kept : c.leave_one.new.volume.base ≡ c.args.volume.now.base = search rules in
-    record { left_is = left_step c.args.parent c.args.now all (volume_of c.loop-folder.volume.current) (volume_of c.leave_one.new.volume.current) c.pop.new.self.items c.loop-folder.folders.items
-    c.in-Some.folder c.in-Some.ensures.items test c.in_ok-leave_one.ensures.ok c.loop-folder.invariant.left_is; base = kept }
+    record {
+      left_is = left_step c.args.parent c.args.now all (volume_of c.loop-folder.volume.current) (volume_of c.leave_one.new.volume.current) c.pop.new.self.items c.loop-folder.folders.items
+          c.in-Some.folder c.in-Some.ensures.items test c.in_ok-leave_one.ensures.ok c.loop-folder.invariant.left_is;
+      base = kept;
+    }
