@@ -1,5 +1,5 @@
 -- Bytes with zeros behind their end.
-use Rattle.std.proofs.Common.{◌≡◌, ◌∙◌, ℕ, ◌+◌, ◌-◌, ◌<◌, ◌≤◌, List, [], ◌∷◌, ◌++◌, length, take, drop, replicate, Option, ap, sym, refl, min, inl, inr, arith}
+use Rattle.std.proofs.Common.{◌≡◌, ◌∙◌, ℕ, ◌+◌, ◌-◌, ◌<◌, ◌≤◌, List, [], ◌++◌, length, take, drop, replicate, Option, ap, sym, min, inl, inr, arith}
 use Rattle.std.proofs.lemmas.Bool.{cases_lt}
 use Rattle.std.proofs.lemmas.List.{append-nil, append_assoc, length-take, length-drop, length-append, length-replicate, take-append-le, drop-append-le, drop-drop, drop-take, take-take, take_all, drop_all, drop_at, take-replicate, drop-replicate, replicate-append-replicate}
 use Rattle.std.specs.Prelude.{slice_get}

@@ -1,7 +1,7 @@
 -- Pieces of a file in which forks are laid.
-use Rattle.std.proofs.Common.{◌≡◌, ◌∙◌, ℕ, ◌+◌, ◌-◌, ◌<◌, ◌≤◌, Bool, true, false, cond, leb, ltb, List, [], ◌∷◌, ◌++◌, length, take, drop, replicate, Option, Some, None, ap, sym, refl, subst, min, inl, inr, arith}
-use Rattle.std.specs.Prelude.{IsTrue, find, slice_get}
-use Rattle.std.proofs.lemmas.Bool.{and_parts, leb-true, ltb-true, ltb-false, cases_Bool}
+use Rattle.std.proofs.Common.{◌≡◌, ◌∙◌, ℕ, ◌+◌, ◌-◌, ◌≤◌, Bool, true, cond, leb, ltb, List, [], ◌∷◌, ◌++◌, length, take, drop, replicate, Some, ap, sym, refl, subst, inl, inr, arith}
+use Rattle.std.specs.Prelude.{slice_get}
+use Rattle.std.proofs.lemmas.Bool.{and_parts, leb-true, ltb-false, cases_Bool}
 use Rattle.std.proofs.lemmas.List.{length-take, length-drop, length-append, length-replicate, take-append-le, drop-append-le, drop-drop, drop-take, take-take}
 use Rattle.std.proofs.lemmas.Option.{none-some}
 use Rattle.std.proofs.Math.Seq.{drop-append-add}
@@ -9,7 +9,7 @@ use Rattle.hfs_sources.specs.Items.{PlannedItem}
 use Rattle.hfs_sources.specs.Trees.{Tree}
 use Rattle.hfs_sources.specs.declared.fork_run.ForkRun.{ForkRun}
 use Rattle.hfs_laid_forks.specs.Laid.{filled, bytes_of, run_bytes, laid_at, laid}
-use Rattle.hfs_laid_forks.specs.Runs.{are_apart, end_of, last_end, lie_in, next_run}
+use Rattle.hfs_laid_forks.specs.Runs.{are_apart, end_of, last_end, next_run}
 
 -- ---- bytes that are laid at a place
 

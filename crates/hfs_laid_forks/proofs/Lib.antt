@@ -1,4 +1,6 @@
-mod LaidLemmas
+pub mod LaidLemmas
 mod FilledLemmas
 mod OrderLemmas
 mod PieceLemmas
+mod FailureLemmas
+pub mod ImageLemmas

@@ -1,9 +1,9 @@
 -- Runs that lie one behind the other.
-use Rattle.std.proofs.Common.{◌≡◌, ◌∙◌, ℕ, zero, suc, ◌+◌, ◌<◌, ◌≤◌, Bool, true, false, ◌&&◌, leb, ltb, List, [], ◌∷◌, length, drop, get_or, Option, Some, None, ap, sym, refl, subst, inl, inr, arith}
-use Rattle.std.specs.Prelude.{find, slice_get}
+use Rattle.std.proofs.Common.{◌≡◌, ◌∙◌, ℕ, zero, suc, ◌+◌, ◌<◌, ◌≤◌, Bool, true, false, ◌&&◌, leb, ltb, List, [], ◌∷◌, length, drop, get_or, Some, ap, sym, refl, subst, inl, inr, arith}
+use Rattle.std.specs.Prelude.{find, slice_get, Contains}
 use Rattle.std.specs.List.Sorted.{IsNonDecreasingBy, IsPartitionedBy, IsPartitionPoint}
 use Rattle.std.proofs.lemmas.Bool.{and_parts, and_left, leb-true, leb-false, le-leb, lt-leb, le-ltb, lt-ltb, ltb-true, cases_Bool, cond-true, cond-false}
-use Rattle.std.proofs.lemmas.List.{drop_more, get_or_read}
+use Rattle.std.proofs.lemmas.List.{drop_more}
 use Rattle.std.proofs.lemmas.List.Sorted.{IsPartitionedBy-leb}
 use Rattle.std.proofs.lemmas.Option.{none-some}
 use Rattle.hfs_sources.specs.declared.fork_run.ForkRun.{ForkRun}
@@ -82,4 +82,15 @@ next-ends (first ∷ runs) byte run is = elim (cases_Bool (ltb byte (end_of firs
       let same : first ≡ run = same-run first run found in
       subst (λ (r : ForkRun). byte < end_of r) same (ltb-true byte (end_of first) here)
   | inr past ↦ next-ends runs byte run (sym (cond-false (ltb byte (end_of first)) (Some first) (next_run runs byte) past) ∙ is)
+]
+
+pub next-is-one : (runs : List ForkRun) (byte : ℕ) (run : ForkRun) → next_run runs byte ≡ Some run → Contains runs run
+next-is-one [] byte run is = absurd (none-some run is)
+next-is-one (first ∷ runs) byte run is = elim (cases_Bool (ltb byte (end_of first))) [
+  | inl here ↦
+      let found : Some first ≡ Some run = sym (cond-true (ltb byte (end_of first)) (Some first) (next_run runs byte) here) ∙ is in
+      (0, omega arith, same-run first run found)
+  | inr past ↦
+      let rest = next-is-one runs byte run (sym (cond-false (ltb byte (end_of first)) (Some first) (next_run runs byte) past) ∙ is) in
+      (suc rest.0, (let lt = rest.1 in omega (arith, lt)), rest.2)
 ]

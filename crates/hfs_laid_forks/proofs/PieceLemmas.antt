@@ -1,5 +1,5 @@
 -- The piece that begins at a byte.
-use Rattle.std.proofs.Common.{◌≡◌, ◌∙◌, ℕ, ◌+◌, ◌-◌, ◌<◌, ◌≤◌, true, List, length, take, drop, min, Option, Some, None, ap, sym, subst, inl, inr, arith, leb, ◌&&◌}
+use Rattle.std.proofs.Common.{◌≡◌, ◌∙◌, ℕ, ◌+◌, ◌-◌, ◌<◌, ◌≤◌, true, List, length, take, drop, Some, None, ap, sym, subst, inl, inr, arith, leb}
 use Rattle.std.specs.Prelude.{IsTrue}
 use Rattle.std.proofs.lemmas.Bool.{and_parts, cases_lt, leb-true}
 use Rattle.std.proofs.lemmas.Option.{none-some}
@@ -7,10 +7,11 @@ use Rattle.hfs_sources.specs.Items.{PlannedItem}
 use Rattle.hfs_sources.specs.Trees.{Tree}
 use Rattle.hfs_sources.specs.declared.fork_run.ForkRun.{ForkRun}
 use Rattle.hfs_laid_forks.specs.Laid.{laid}
-use Rattle.hfs_laid_forks.specs.Pieces.{IsPieceAt, piece_bytes, piece_len}
+use Rattle.hfs_laid_forks.specs.Pieces.{IsInRun, IsPieceAt, piece_bytes, piece_len}
 use Rattle.hfs_laid_forks.specs.Runs.{are_apart, end_of, last_end, lie_in, next_run}
 use Rattle.hfs_laid_forks.specs.declared.piece.Piece.{Piece}
 use Rattle.hfs_laid_forks.specs.declared.piece.Piece.TheVariants.{Own, OfRun}
+use Rattle.hfs_laid_forks.proofs.OrderLemmas.{next-is-one}
 use Rattle.hfs_laid_forks.proofs.LaidLemmas.{before-laid, length-laid, own-laid, run-laid, same-run}
 
 lies-apart : (start : ℕ) (runs : List ForkRun) (file : List ℕ) → IsTrue (lie_in start runs file) → (are_apart 0 runs ≡ true) × (start + last_end 0 runs ≤ length file)
@@ -62,3 +63,18 @@ piece-next start at count more runs run piece inside found before gap within roo
           (ap (λ n. take more (drop n (laid start host items runs file))) (sym there)
           ∙ run-laid start host items file 0 byte more run runs both.0 both.1 found in_run short)
     ]
+
+-- and where it is one of the run's, it lies there
+pub piece-in : (start at count more : ℕ) (runs : List ForkRun) (run : ForkRun) (piece : Piece) → start ≤ at → next_run runs (at - start) ≡ Some run
+    → (at - start < run.place → piece ≡ Own count) → (run.place ≤ at - start → piece ≡ OfRun run (at - start - run.place) more)
+    → (run.place ≤ at - start → at - start + more ≤ end_of run) → IsInRun start runs at piece
+piece-in start at count more runs run piece inside found before within room = elim (cases_lt (at - start) run.place) [
+  | inl less ↦ subst (IsInRun start runs at) (sym (before less)) tt
+  | inr in_run ↦
+      let short = room in_run in
+      subst (IsInRun start runs at) (sym (within in_run)) (record {
+        is_one = next-is-one runs (at - start) run found;
+        there = omega (arith, inside, in_run);
+        within = omega (arith, short, in_run);
+      })
+]

@@ -1,7 +1,7 @@
 -- A tree of a host, of which one file may be open.
-use Rattle.std.specs.Prelude.{◌≡◌, ℕ, List, Option, Some, None, ⊤}
+use Rattle.std.specs.Prelude.{ℕ, List, Option, Some, None, ⊤}
 use Rattle.hfs_source.specs.Images.{OfEach}
-use Rattle.hfs_sources.specs.Trees.{OfEachTree, Tree}
+use Rattle.hfs_sources.specs.Trees.{Tree}
 
 -- a tree, the file of it that is open, and the path by which the last was opened
 pub record ReadTree (T F : Type 0) : Type 0 where

@@ -1,5 +1,5 @@
 -- Pieces of a file in which forks are laid.
-use Rattle.std.specs.Prelude.{◌≡◌, ℕ, ◌+◌, ◌≤◌, ⊤, IsTrue, List, take, drop}
+use Rattle.std.specs.Prelude.{◌≡◌, ℕ, ◌+◌, ◌≤◌, ⊤, IsTrue, List, Contains, take, drop}
 use Rattle.hfs_sources.specs.Items.{PlannedItem}
 use Rattle.hfs_sources.specs.Trees.{Tree}
 use Rattle.hfs_sources.specs.declared.fork_run.ForkRun.{ForkRun}
@@ -24,7 +24,13 @@ IsPieceAt start runs at piece =
     (host : Tree) (items : List PlannedItem) (file : List ℕ) → IsTrue (lie_in start runs file)
     → take (piece_len piece) (drop at (laid start host items runs file)) ≡ piece_bytes host items file at piece
 
--- a piece of a run lies in it
-abbrev pub IsInRun : Piece → Type 0
-IsInRun (Own count) = ⊤
-IsInRun (OfRun run from count) = from + count ≤ run.len
+-- byte `at` of the file is byte `from` of one of the runs, which has so many from there on
+pub record IsPartOfRun (start : ℕ) (runs : List ForkRun) (at : ℕ) (run : ForkRun) (from count : ℕ) : Type 0 where
+  pub is_one : Contains runs run
+  pub there : start + run.place + from ≡ at
+  pub within : from + count ≤ run.len
+
+-- a piece of a run is a part of it
+abbrev pub IsInRun : ℕ → List ForkRun → ℕ → Piece → Type 0
+IsInRun start runs at (Own count) = ⊤
+IsInRun start runs at (OfRun run from count) = IsPartOfRun start runs at run from count

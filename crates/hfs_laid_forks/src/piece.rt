@@ -45,7 +45,6 @@ fn piece_before(run: ForkRun, byte: u64, room: usize) -> Piece
     requires room { 0 < room }
     ensures before { byte < run.place → result ≡ Own (min room (run.place - byte)) }
     ensures some { 0 < piece_len result }
-    ensures within { IsInRun result }
     ensures in_run { run.place ≤ byte → result ≡ OfRun run (byte - run.place) (min room (end_of run - byte)) }
 {
     if byte < run.place {
@@ -63,7 +62,7 @@ pub(crate) fn piece_at(runs: &[ForkRun], start: u64, at: u64, room: usize) -> Pi
     ensures bytes { IsPieceAt start runs.now at result }
     ensures some { 0 < piece_len result }
     ensures few { piece_len result ≤ room }
-    ensures inside { IsInRun result }
+    ensures inside { IsInRun start runs.now at result }
 {
     if at < start {
         return Piece::Own(least(room, start - at));

@@ -1,9 +1,10 @@
 //! Reading a file in which the forks of files of a host are laid.
-ghost use Rattle.std.specs.Prelude.{◌≡◌, ⊤, OnOk, Some, length};
+ghost use Rattle.std.specs.Prelude.{◌≡◌, ◌<◌, IsOk, OnErr, OnOk, Some, length};
 ghost use Rattle.std.specs.Option.{option_or};
-ghost use Rattle.hfs_source.specs.Images.{HasAt, OfEach};
+ghost use Rattle.hfs_source.specs.Images.{FailsWhere, HasAt, OfEach};
 ghost use Rattle.hfs_sources.specs.Trees.{OfEachTree};
 ghost use Rattle.hfs_laid_forks.specs.Again.{AreUnchanged};
+ghost use Rattle.hfs_laid_forks.specs.Failures.{FailsLaid, FailsTold};
 ghost use Rattle.hfs_laid_forks.specs.Images.{laid_images};
 ghost use Rattle.hfs_laid_forks.specs.Pieces.{IsInRun, IsPieceAt, piece_len};
 
@@ -41,11 +42,18 @@ impl<B: PlacedBytes + Drop, H: PlacedFiles + Drop> LaidForks<B, H> {
     /// Reads a piece of the bytes from byte `at` on.
     fn read_piece(&mut self, at: u64, piece: &Piece, into: &mut [u8]) -> io::Result<()>
         requires piece { IsPieceAt self.old.start self.old.runs.items at piece.now }
-        requires inside { IsInRun piece.now }
+        requires inside { IsInRun self.old.start self.old.runs.items at piece.now }
         requires room { length into.old ≡ piece_len piece.now }
+        requires some { 0 < length into.old }
         ensures read { OnOk result (OfEach (laid_images B.Holds H.Holds self.new) (HasAt at into.new)) }
         ensures held { OfEach (laid_images B.Holds H.Holds self.new)
             (laid_images B.Holds H.Holds self.old) }
+        ensures fails { OnErr result (FailsLaid (B.Fails self.old.bytes)
+            self.old.start self.old.runs.items at (length into.old)) }
+        ensures later { FailsWhere (FailsLaid (B.Fails self.new.bytes) self.new.start self.new.runs.items)
+            (FailsLaid (B.Fails self.old.bytes) self.old.start self.old.runs.items) }
+        ensures told { OnErr result (FailsTold self.new.fault (B.Fails self.old.bytes) at (length into.old)) }
+        ensures own { FailsWhere (B.Fails self.new.bytes) (B.Fails self.old.bytes) }
     {
         match piece {
             Piece::Own(_) => self.bytes.read_at(at, into),
@@ -63,21 +71,26 @@ impl<B: PlacedBytes + Drop, H: PlacedFiles + Drop> LaidForks<B, H> {
 impl<B: PlacedBytes + Drop, H: PlacedFiles + Drop> PlacedBytes for LaidForks<B, H> {
     ghost Holds = { λ laid. laid_images B.Holds H.Holds laid };
 
-    ghost Fails = { λ _ _ _. ⊤ };
+    ghost Fails = { λ laid. FailsLaid (B.Fails laid.bytes) laid.start laid.runs.items };
 
     fn len(&self) -> u64 {
         self.bytes.len()
     }
 
-    fn read_at(&mut self, place: u64, into: &mut [u8]) -> io::Result<()> {
-        let len = self.bytes.len();
-        if len < place || len - place < into.len() as u64 {
-            return if into.is_empty() {
-                Ok(())
-            } else {
-                Err(io::Error::from(ErrorKind::UnexpectedEof))
-            };
-        }
+    fn read_at(&mut self, place: u64, into: &mut [u8]) -> io::Result<()>
+        ensures read { OnOk result (OfEach (laid_images B.Holds H.Holds self.new) (HasAt place into.new)) }
+        ensures held { OfEach (laid_images B.Holds H.Holds self.new)
+            (laid_images B.Holds H.Holds self.old) }
+        ensures fails { OnErr result (FailsLaid (B.Fails self.old.bytes)
+            self.old.start self.old.runs.items place (length into.old)) }
+        ensures later { FailsWhere (FailsLaid (B.Fails self.new.bytes) self.new.start self.new.runs.items)
+            (FailsLaid (B.Fails self.old.bytes) self.old.start self.old.runs.items) }
+        ensures nothing { length into.old ≡ 0 → IsOk result }
+        ensures told { OnErr result (FailsTold self.new.fault (B.Fails self.old.bytes) place (length into.old)) }
+    {
+        let Some(_) = place.checked_add(into.len() as u64) else {
+            return Err(io::Error::from(ErrorKind::UnexpectedEof));
+        };
         let mut done = 0;
         while done < into.len() {
             let at = place + done as u64;

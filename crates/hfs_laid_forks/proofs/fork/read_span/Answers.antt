@@ -1,5 +1,5 @@
 -- What was read, and zeros behind it.
-use Rattle.std.proofs.Common.{rules, ◌≡◌, ◌∙◌, ◌+◌, ◌-◌, ◌++◌, List, length, replicate, min, ap, refl, subst, arith}
+use Rattle.std.proofs.Common.{rules, ◌≡◌, ◌∙◌, ◌+◌, ◌-◌, ◌++◌, length, replicate, min, ap, refl, subst, arith}
 use Rattle.std.proofs.lemmas.Result.{on_ok_weaker}
 use Rattle.hfs_source.specs.Images.{HasAt}
 use Rattle.hfs_laid_forks.proofs.FilledLemmas.{span-filled, zeros-behind}
