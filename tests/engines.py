@@ -25,7 +25,8 @@ from pathlib import Path
 
 import collect
 import rows
-from collect import COLLECT, Differs, Place, ensure, ensure_same, held, named_volume, small_volume
+from collect import COLLECT, Place, held, named_volume, small_volume
+from driver.wanted import Difference, ensure, ensure_same
 from rows import COLUMNS, done, lists_of, whole_images
 
 MANUAL = Path(__file__).resolve().parent.parent / 'docs' / 'MANUAL.md'
@@ -155,18 +156,11 @@ class Engines:
 
 def beside_collect(engines, place, part):
     """The images of a part of tests/collect.py, where all of them have digests or none."""
-    holds = collect.holds
-
-    def holds_and_loads(where, wanted, name='c.db'):
-        holds(where, wanted, name)
+    def load(where, wanted, name):
         found = held(where, name)
         if len({row[0][2] is None for row in wanted}) == 1:
             engines.compare(where, [found[row[0][0]] for row in wanted], where.folder / name)
-    collect.holds = holds_and_loads
-    try:
-        part(place)
-    finally:
-        collect.holds = holds
+    collect.beside(place, part, load)
 
 
 def hostile_names(place):
@@ -284,7 +278,7 @@ def main():
             (Path(top) / name).mkdir()
         try:
             cluster = Cluster(Path(top) / 'cluster')
-        except Differs as differs:
+        except Difference as differs:
             print(f'skipped: no server: {differs}')
             return
         try:
@@ -299,7 +293,7 @@ def main():
                 os.chmod(folder, 0o755)
                 try:
                     part(Place(folder))
-                except Differs as differs:
+                except Difference as differs:
                     sys.exit(f'engines differ, {name}: {differs}')
                 shutil.rmtree(folder)
             if words.rows:
