@@ -130,12 +130,12 @@ class Engines:
         """Wants the rows of these images in each engine."""
         names = [it[0][0] for it in wanted]
         words = [*([] if wanted[0][0][2] is not None else ['--no-digest']), '--', *names]
-        lists = lists_of(wanted)
+        lists, errors = lists_of(wanted), rows.wrong_sums(wanted)
         with tempfile.TemporaryDirectory() as folder:
             os.chmod(folder, 0o755)
-            (Path(folder) / 'rows.jsonl').write_bytes(done(place, *words))
+            (Path(folder) / 'rows.jsonl').write_bytes(done(place, *words, errors=errors))
             for table in COLUMNS:
-                (Path(folder) / f'{table}.csv').write_bytes(done(place, '--format', 'csv', '--table', table, *words))
+                (Path(folder) / f'{table}.csv').write_bytes(done(place, '--format', 'csv', '--table', table, *words, errors=errors))
             name = self.cluster.new()
             self.cluster.run(self.blocks['tables'], '/', name)
             for _ in range(2):
