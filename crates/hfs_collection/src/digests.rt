@@ -48,17 +48,16 @@ fn with_digest<S: PlacedBlocks + Drop>(
     let mut digest = DigestWriter::new();
     let (dir, name) = (info.parent, info.name.bytes());
     let (told, image) = image.write_fork(alloc, dir, name, fork, &mut digest);
-    let value = match told {
-        Ok(Ok(())) => digest_text(alloc, &digest.finish()),
-        Ok(Err(_)) => Ok(RowValue::Empty),
-        Err(CopyFault::Memory) => return (image, Err(CollectFault::NoMemory)),
+    match told {
+        Ok(Ok(())) => match digest_text(alloc, &digest.finish()) {
+            Ok(value) => (image, Ok(value)),
+            Err(_) => (image, Err(CollectFault::NoMemory)),
+        },
+        Ok(Err(_)) => (image, Ok(RowValue::Empty)),
+        Err(CopyFault::Memory) => (image, Err(CollectFault::NoMemory)),
         Err(CopyFault::ReadFailed | CopyFault::BrokenOff | CopyFault::WriteFailed) => {
-            return (image, Err(CollectFault::ReadFailed));
+            (image, Err(CollectFault::ReadFailed))
         }
-    };
-    match value {
-        Ok(value) => (image, Ok(value)),
-        Err(_) => (image, Err(CollectFault::NoMemory)),
     }
 }
 
@@ -73,9 +72,15 @@ fn fork_digest<S: PlacedBlocks + Drop>(
         ≡ found_digest (named_fork (entries_of (volume_of bytes)) info.now.parent info.now.name fork))) }
     ensures narrows { OfEach (S.Holds image.new) (S.Holds image.old) }
 {
-    replace_with(image, (alloc, info, fork), |image, (alloc, info, fork)| {
-        with_digest(image, alloc, info, fork)
-    })
+    replace_with(
+        image,
+        info,
+        |image, info|
+            ensures digest { IfOk result.1 (λ value. OfEach (S.Holds result.0) (λ bytes. value
+                ≡ found_digest (named_fork (entries_of (volume_of bytes)) info.now.parent info.now.name fork))) }
+            ensures narrows { OfEach (S.Holds result.0) (S.Holds image) }
+        { with_digest(image, alloc, info, fork) },
+    )
 }
 
 /// The digests of both forks of an item, where they are to be taken: a folder has none.
