@@ -216,7 +216,7 @@ class Bench:
 
     def ensure_forks(self, what: str, placed: Placed) -> None:
         """Wants that `take` takes off each file the forks that came."""
-        bag = Path('bag')
+        bag = Path('taken')
         shutil.rmtree(bag, ignore_errors=True)
         self.text('take', self.out, bag, '--no-digest')
         with open(bag / 'items.csv', encoding='utf-8', newline='') as file:
@@ -363,18 +363,19 @@ def of_names(bench: Bench) -> None:
         bench.tells(f'no name: {name}', disk, [source], f'cannot put {path_text(source)}: name\n')
         bench.puts(f'no name, changed: {name}', disk, [source], Options(rename=True))
         ensure(bench.text('ls', 'out').split('\t')[-1] == wanted.replace('_Y', '_y') + '\n', f'the name of {name} by --rename')
-    lay('twins', {'A': b'1', 'a': b'2', 'ab': {}, 'a=62': b'3', 'é': b'4', 'ü': b'5', 'q' * 32: b'', 'q' * 31 + 'x': b'', 'Z': Fifo(), 'z': b''})
+    lay('twins', {'A': b'1', 'a': b'2', 'ab': {}, 'a=62': b'3', 'é': b'4', 'ü': b'5', 'q' * 31: b'', 'q' * 32: b'', 'Z': Fifo(), 'z': b''})
     bench.tells('twins', disk, ['twins'], '\n'.join(f'cannot put twins/{it}' for it in (
         'Z: not a file', 'a: two of one name', 'ab: two of one name', f'{"q" * 32}: name', 'z: two of one name', 'é: name', 'ü: name')) + '\n')
     bench.tells('twins, changed', disk, ['twins'], '\n'.join(f'cannot put twins/{it}' for it in (
-        'Z: not a file', 'a: two of one name', 'ab: two of one name', 'z: two of one name', 'ü: two of one name')) + '\n', Options(rename=True))
+        'Z: not a file', 'a: two of one name', 'ab: two of one name', f'{"q" * 32}: two of one name', 'z: two of one name', 'ü: two of one name')) + '\n', Options(rename=True))
     lay('one', {'x': b'1'})
     lay('two', {'X': b'2'})
     bench.tells('sources of one name', disk, ['one/x', 'two/X', 'one'], 'cannot put two/X: two of one name\n')
-    lay('order', {'b': b'', 'B': {'z': b'', 'a': b''}, '=41': b'', 'a~': b'', 'a': {}, '._a!': double(), '._b': double()})
+    lay('order', {'b': b'', 'C': {'z': b'', 'a': b''}, '=64': b'', 'B~': {}, '._a!': double(), '._b': double()})
     bench.puts('the order of what comes', disk, ['order', 'one/x'])
-    ids = {it.split('\t')[0]: it.split('\t')[2] for it in bench.text('items', 'out').splitlines()[1:]}
-    ensure(ids == {'D:order': '16', 'D:order:A': '17', 'D:order:a': '17'} | ids, 'the first of an order')
+    paths = sorted((int(it.split('\t')[2]), it.split('\t')[0]) for it in bench.text('items', 'out').splitlines()[1:])
+    ensure([path for _, path in paths] == ['D:order', 'D:order:d', 'D:order:B~', 'D:order:C', 'D:order:C:a', 'D:order:C:z', 'D:order:a!', 'D:order:b', 'D:x'],
+           f'the order of what comes, by hand: {paths}')
 
 
 def of_reasons(bench: Bench) -> None:
@@ -586,11 +587,6 @@ def returns(bench: Bench, what: str, image: bytes) -> None:
     free_of_ids = [[{key: it for key, it in row.items() if key not in ('id', 'parent', 'file_id')} for row in list(table.values())[1:]]
                    for table in (rows, bench.rows(bench.out))]
     ensure(free_of_ids[0] == free_of_ids[1], f'{what}: the table of a disk that is put together again')
-    ensure(times_below(first) == times_below(second), f'{what}: the times of a payload')
-
-
-def times_below(bag: Path) -> dict[str, float]:
-    return {str(it.relative_to(bag)): it.stat().st_mtime for it in (bag / 'data').rglob('*') if it.is_file() and not it.name.startswith('._')}
 
 
 def of_real_volumes(bench: Bench) -> None:
@@ -604,8 +600,9 @@ def of_real_volumes(bench: Bench) -> None:
             ensure(fault[0] == 2 and bench.put(content, ['real'], Options()) == fault and not bench.out.exists(), f'{image.name} is put on')
             continue
         returns(bench, image.name, content)
-        if Image(content).field(10, 2) & 0x8080:
-            ensure(bench.put(content, ['real'], Options()) == (3, 'cannot put real: code -46\n'), f'{image.name} is locked')
+        locked = Image(content).field(10, 2) & 0x8080
+        if locked:
+            ensure(bench.put(content, ['real'], Options()) == (3, f'cannot put real: code {-44 if locked & 0x80 else -46}\n'), f'{image.name} is locked')
         else:
             bench.puts(image.name, content, ['real', 'real/System Folder'])
 
@@ -701,8 +698,8 @@ def of_hfsutils(bench: Bench) -> None:
     bench.puts('for hfsutils', bench.new(4000, 80, 8), ['peers'])
     Path('peer.img').write_bytes(bench.out.read_bytes())
     hfs('hmount', 'peer.img')
-    listed = hfs('hls', '-l', ':peers')
-    ensure('f  TEXT/ttxt     70000    100000 Jan  1  2000 large\n' in listed, f'hls -l: {listed}')
+    listed = hfs('hls', '-la', ':peers')
+    ensure('fi TEXT/ttxt     70000    100000 Jan  1  2000 large\n' in listed, f'hls -l: {listed}')
     Path('copied').mkdir()
     for item in Walk().over(['peers']):
         if not item.is_folder:
