@@ -35,6 +35,8 @@ from inside import with_volume
 from volumes import WRAPPINGS, content, found, turned_sum
 
 NOW = 3_000_000_000
+# The most bytes of a script.
+SCRIPT_LIMIT = 16_777_216
 # The Finder bytes of an item by hand, and those of a MacBinary file, which has the first half of them.
 FINDER_BYTES = bytes.fromhex('54455854747478744101010203040506101112131415161718191a1b1c1d1e1f')
 # The year 2000, by the clock of Unix.
@@ -140,10 +142,18 @@ class Bench:
         return saved
 
     def made(self, image: bytes, calls, now: int):
-        path, made = Path('called'), Path('made')
-        path.write_bytes(image)
-        self.script.write_text(script_of(calls), 'latin-1')
-        answers = read_answers(self.text('run', path, self.script, '--now', now, '--out', made))
+        """The answers to calls, by as many scripts as they take, and the volume behind them."""
+        made, answers, lines = Path('made'), [], [script_of([it]) for it in calls]
+        made.write_bytes(image)
+        while lines or not answers:
+            size, count = 0, 0
+            while count < len(lines) and size + len(lines[count]) <= SCRIPT_LIMIT:
+                size, count = size + len(lines[count]), count + 1
+            self.script.write_text(''.join(lines[:count]), 'latin-1')
+            answers += read_answers(self.text('run', made, self.script, '--now', now, '--out', made))
+            lines = lines[count:]
+            if not calls:
+                break
         return answers, made.read_bytes()
 
     def rows(self, path) -> dict[str, dict]:
@@ -555,7 +565,8 @@ def of_drawn(bench: Bench, seed: str, lists: int) -> None:
         disk = drawing.disk(bench)
         lay(folder, {'tree': drawing.folder(3), 'more': drawing.folder(1), 'alone': drawing.bytes(), '._alone': double()})
         sources = draw.sample([f'{folder}/tree', f'{folder}/more', f'{folder}/alone'], draw.randrange(1, 4))
-        standing = [(path, int(row['id'])) for path, row in bench.rows('called' if disk == Path('made').read_bytes() else 'new').items() if row['kind'] == 'folder']
+        bench.image.write_bytes(disk)
+        standing = [(path, int(row['id'])) for path, row in bench.rows(bench.image).items() if row['kind'] == 'folder']
         how = Options(macbinary=draw.random() < 0.5, replace=draw.random() < 0.6, rename=draw.random() < 0.4)
         if draw.random() < 0.3 and len(standing) > 1:
             how.to, how.target = draw.choice(standing)
