@@ -30,7 +30,7 @@ from driver.keeping import ensure
 from driver.programs import REAL_VOLUMES, Difference, Program, built
 from driver.putting import Disk, Placed
 from driver.sources import DATES, FINDER, LONGEST, RESOURCE, CannotRead, NotText, Walk, apple_double, letters_of, mac_binary, read_mac_binary
-from forks import Shape, in_larger_blocks, scattered
+from forks import Shape, ensure_no_new_faults, in_larger_blocks, scattered
 from inside import with_volume
 from volumes import WRAPPINGS, content, found, turned_sum
 
@@ -156,6 +156,11 @@ class Bench:
                 break
         return answers, made.read_bytes()
 
+    def lay(self, name: str, content: bytes) -> Path:
+        path = Path(name)
+        path.write_bytes(content)
+        return path
+
     def rows(self, path) -> dict[str, dict]:
         table = list(csv.DictReader(io.StringIO(self.text('items', path, '--format', 'csv'), newline='')))
         rows = {row['path']: row for row in table}
@@ -222,6 +227,7 @@ class Bench:
         ensure((report['files'], report['folders']) == (str(kinds.count('file')), str(kinds.count('folder') - 1)), f'{what}: check counts {report}')
         ensure(report['free'] == placed.lines.split()[-1], f'{what}: check finds {report["free"]} free blocks')
         self.ensure_forks(what, placed)
+        ensure_no_new_faults(self, image, saved)
         self.came += len(placed.items)
 
     def ensure_forks(self, what: str, placed: Placed) -> None:
@@ -840,6 +846,7 @@ def main() -> int:
             return 1
         finally:
             os.chdir('/')
+    bench.skipped += [] if shutil.which('fsck.hfs') else ['fsck.hfs']
     left_out = f'; left out: {", ".join(bench.skipped)}' if bench.skipped else ''
     print(f'{bench.runs} runs, {bench.came} items put and read back, in {time.monotonic() - started:.0f} s{left_out}')
     return 0

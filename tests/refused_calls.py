@@ -95,8 +95,9 @@ class Trial:
         return Ran(ran.returncode, ran.stdout, ran.stderr, written, os.fstat(TOLD).st_size > 0)
 
     def is_told(self, ran, old):
-        """Whether want of memory is told, also for the words and for the name of a file beside FILE, and nothing was done."""
-        told = [(5, b'out of memory\n'), (4, f'cannot write {self.file}\n'.encode()), (1, b'the words are not text\n')]
+        """Whether want of memory is told, also for the words, for the name of a file beside FILE and for the list of a folder, and nothing was done."""
+        told = [(5, b'out of memory\n'), (4, f'cannot write {self.file}\n'.encode()), (1, b'the words are not text\n'),
+                (4, f'cannot read {self.folder / "tree"}\n'.encode())]
         return (ran.status, ran.printed) in told and not ran.errors and ran.written == old
 
     def refuse_each(self, words, wanted, given=None, old=None, is_part=lambda ran: False):
@@ -282,7 +283,7 @@ def extract(trial, _line):
 
 def put(trial, _line):
     """A folder with a file of both forks that is put on a volume, both ways, as the calls of a script make it; and one that can't be put."""
-    content, tree = small('folder'), trial.folder / 'tree'
+    content, tree = named(trial, 'new'), trial.folder / 'tree'
     head = bytes.fromhex('000516070002000000000000000000000000000000000000000200000009000000320000002000000002000000520000000354455854') + bytes(28)
     tree.mkdir()
     for path, what in ((tree / 'g', b'x' * 600), (tree / '._g', head + b'RES')):
@@ -290,8 +291,8 @@ def put(trial, _line):
     for path in (tree / 'g', tree):
         os.utime(path, (0, 0))
     facts = f'{UNIX}\t{UNIX}\t0'
-    lines = ['1\tmkdir\t2\ttree\n', '1\tcreate\t18\tg\n', f'1\twrite\t18\tg\tdata\t0\t{"78" * 600}\n', '1\twrite\t18\tg\tres\t0\t524553\n',
-             f'1\tsetinfo\t18\tg\t{facts}\t54455854{"00" * 28}\n', f'1\tsetinfo\t2\ttree\t{facts}\t{"00" * 32}\n']
+    lines = ['1\tmkdir\t2\ttree\n', '1\tcreate\t16\tg\n', f'1\twrite\t16\tg\tdata\t0\t{"78" * 600}\n', '1\twrite\t16\tg\tres\t0\t524553\n',
+             f'1\tsetinfo\t16\tg\t{facts}\t54455854{"00" * 28}\n', f'1\tsetinfo\t2\ttree\t{facts}\t{"00" * 32}\n']
     image = trial.lay('image', content)
     saved = files_behind(trial, image, lines)[-1]
     free = int.from_bytes(saved[1058:1060], 'big')
