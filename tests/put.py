@@ -489,6 +489,7 @@ def of_room(bench: Bench) -> None:
 
 SHAPES = (Shape(64, 40, 2, 1, 0), Shape(400, 40, 8, 1, 0.4), Shape(1600, 60, 12, 1, 0.3), Shape(1600, 60, 12, 4, 0.2), Shape(6000, 96, 24, 2, 0.3), Shape(6000, 96, 24, 8, 0.5))
 DRAWN = [*NAMES, 'a', 'A', 'ab', 'a=62', 'b', 'Read Me', 'READ ME', 'c', 'd', 'f1', 'f2', 'sub', 'Sub 2', 'x.bin', '=2Ex']
+STANDING = ('a', 'B', 'Sub', 'c', 'D', 'Plain', 'f1', 'From a binary', 'Read Me', '.x', 'x.bin', 'AB')
 LENGTHS = (0, 0, 1, 3, 511, 512, 513, 1000, 2048, 5000, 65_535, 65_536, 65_537, 140_000)
 
 
@@ -547,18 +548,19 @@ class Drawing:
         shape, draw = self.draw.choice(SHAPES), self.draw
         content = bench.new(shape.blocks, shape.nodes, shape.extents_nodes, name=draw.choice(('D', 'A disk', 'Back\\slash')))
         content = scattered(in_larger_blocks(content, shape.factor) if shape.factor > 1 else content, draw, shape.marked)
-        calls, folders, names = [], [2], set()
-        for number in range(16, 16 + draw.randrange(12)):
-            folder, name = draw.choice(folders), draw.choice(('tree', 'a', 'B', 'sub', 'c', 'plain', 'f1', 'From a binary'))
-            if (folder, name) in names:
-                break
-            names.add((folder, name))
-            if draw.random() < 0.4:
+        calls, folders, names, number = [], [2], set(), 16
+        for name in ('tree', 'Tree', 'alone', *draw.choices(STANDING, k=draw.randrange(25))):
+            folder = draw.choice(folders)
+            if draw.random() < 0.4 or (folder, name.upper()) in names:
+                continue
+            names.add((folder, name.upper()))
+            if draw.random() < (0.8 if name == 'tree' else 0.15):
                 calls.append(Call.of('mkdir', folder, name))
                 folders.append(number)
             else:
                 calls += [Call.of('create', folder, name), Call.of('write', folder, name, 'data', 0, draw.randbytes(draw.randrange(700)).hex())]
                 calls += [Call.of('lock', folder, name)] if draw.random() < 0.3 else []
+            number += 1
         return bench.changed(content, calls) if calls else content
 
 
@@ -573,7 +575,7 @@ def of_drawn(bench: Bench, seed: str, lists: int) -> None:
         sources = draw.sample([f'{folder}/tree', f'{folder}/more', f'{folder}/alone'], draw.randrange(1, 4))
         bench.image.write_bytes(disk)
         standing = [(path, int(row['id'])) for path, row in bench.rows(bench.image).items() if row['kind'] == 'folder']
-        how = Options(macbinary=draw.random() < 0.5, replace=draw.random() < 0.6, rename=draw.random() < 0.4)
+        how = Options(macbinary=draw.random() < 0.5, replace=draw.random() < 0.7, rename=draw.random() < 0.4)
         if draw.random() < 0.3 and len(standing) > 1:
             how.to, how.target = draw.choice(standing)
         saved = bench.puts(what, disk, sources, how)
