@@ -4,6 +4,7 @@ use Rattle.hfs_scans.specs.Each.{Each}
 use Rattle.hfs_blocks.specs.Blocks.{block_at, block_count, length-block_at}
 use Rattle.hfs_blocks.specs.Layers.{Numbered, changes, AreWithin}
 use Rattle.hfs_check.specs.Agree.{AgreesBut}
+use Rattle.hfs_check.specs.Parts.{mdb_in}
 use Rattle.hfs_check.specs.VolumeOf.{volume_of}
 use Rattle.hfs_volume.specs.Image.{ImageValue, patched}
 use Rattle.hfs_working.specs.Working.{IsWorkingCopy}
@@ -19,10 +20,10 @@ use Rattle.hfs_sources.specs.declared.fork_run.ForkRun.{ForkRun}
 use Rattle.hfs_put_laws.specs.Forks.{AreForksLaid}
 use Rattle.hfs_put_laws.specs.Saved.{IsDifference, IsPut}
 use Rattle.hfs_put_laws.proofs.CameForks.{are-long}
-use Rattle.hfs_put_laws.proofs.SavedPuts.{saved_is_put}
+use Rattle.hfs_put_laws.proofs.SavedPuts.{directory-is, saved_is_put}
 use Rattle.hfs_put_image.specs.Beside.{is_in_runs, AreBeside}
 use Rattle.hfs_put_image.specs.LaidRuns.{laid}
-use Rattle.hfs_put_image.specs.PutImages.{IsPutOver}
+use Rattle.hfs_put_image.specs.PutImages.{HasDirectory, IsPutOver}
 use Rattle.hfs_put_image.proofs.SavedRuns.{saved-laid}
 
 -- ---- the blocks that go out
@@ -82,8 +83,15 @@ module _ (volume : ImageValue) (target now : ℕ) (items : List PutItem) (patch 
     puts = saved_is_put target now arrivals ids volume.written volume.base volume.current image saved patch is whole
         (record { laid = calls arrivals same; agrees = agrees }) (is-difference volume patch volume.written agrees of makes) there
 
+    directory : mdb_in (block_at saved) ≡ mdb_in (block_at volume.current)
+    directory = directory-is target now arrivals ids volume.written volume.base volume.current image saved patch is whole
+        (record { laid = calls arrivals same; agrees = agrees }) (is-difference volume patch volume.written agrees of makes) there
+
   pub is-put-over : IsPutOver volume.base target now items kept runs ids
   is-put-over = record { written = volume.written; puts = puts }
+
+  pub has-directory : HasDirectory volume.base items kept runs (mdb_in (block_at volume.current))
+  has-directory = directory
 
 pub if-ok : {T E : Type 0} (r : Result T E) (P Q : T → Type 0) → ((x : T) → P x → Q x) → IfOk r P → IfOk r Q
 if-ok (Ok x) P Q f p = f x p

@@ -1,11 +1,12 @@
 //! A list of items is put on a mounted copy of an image.
 ghost use Rattle.std.specs.Prelude.{◌≡◌, IfOk, IfErr};
-ghost use Rattle.hfs_blocks.specs.Blocks.{block_count};
+ghost use Rattle.hfs_blocks.specs.Blocks.{block_at, block_count};
 ghost use Rattle.hfs_blocks.specs.Layers.{changes, AreWithin};
+ghost use Rattle.hfs_check.specs.Parts.{mdb_in};
 ghost use Rattle.hfs_check.specs.VolumeOf.{volume_of};
 ghost use Rattle.hfs_put.specs.ForkRuns.{AreRunsApart};
 ghost use Rattle.hfs_put.specs.Laying.{IsFaultOfLaying};
-ghost use Rattle.hfs_put_image.specs.PutImages.{AreGoingOut, IsPutOver};
+ghost use Rattle.hfs_put_image.specs.PutImages.{AreGoingOut, HasDirectory, IsPutOver};
 
 use crate::beside::beside_runs;
 use hfs_blocks::Blocks;
@@ -53,6 +54,8 @@ pub fn put_items(
     requires { volume.old.current ≡ volume.old.base }
     ensures put { IfOk result (λ put. IsPutOver volume.old.base target now items.now
         put.patch put.runs.items put.ids.items) }
+    ensures directory { IfOk result (λ put. HasDirectory volume.old.base items.now
+        put.patch put.runs.items (mdb_in (block_at volume.new.current))) }
     ensures within { IfOk result (λ put. AreWithin (changes put.patch) (block_count volume.old.base)) }
     ensures base { volume.new.base ≡ volume.old.base }
     ensures err { IfErr result (IsFaultOfLaying target now items.now

@@ -5,13 +5,15 @@ use hfs_fixtures::{FixtureFault, lay, new_image};
 use hfs_model::ItemKind;
 use hfs_put_calls::PutItem;
 use hfs_put_image::{PutBlocks, put_items};
-use hfs_volume_fixtures::mounted;
+use hfs_volume::mount;
 use std::alloc::Global;
 use std::test::Fail;
 
 /// What goes out of a list that is put on an image.
 fn put(alloc: Global, image: Vec<u8>, items: &[PutItem]) -> Result<PutBlocks, FixtureFault> {
-    let mut volume = mounted(alloc, image)?;
+    let Ok(mut volume) = mount(alloc, image) else {
+        return Err(FixtureFault::Unsound);
+    };
     match put_items(alloc, &mut volume, 2, 7, items) {
         Ok(put) => Ok(put),
         Err(_) => Err(FixtureFault::Unsound),
