@@ -9,3 +9,6 @@ mod naming;
 pub use crate::items::new_items;
 pub use crate::listing::list_new;
 pub use crate::naming::found_name;
+
+#[cfg(test)]
+mod tests;
