@@ -465,6 +465,15 @@ def of_places(bench: Bench) -> None:
             ensure(found == (3, f'cannot put {sources[0]}: code {code}\n') and not bench.out.exists(), f'a locked volume: {found}')
 
 
+def to_the_end(content: bytes) -> bytes:
+    """A new volume whose allocation blocks reach its last block, so that one lies under the alternate master directory block."""
+    image, more = bytearray(content), 2
+    for at in (18, 34):
+        place = slice(MDB + at, MDB + at + 2)
+        image[place] = (int.from_bytes(image[place], 'big') + more).to_bytes(2, 'big')
+    return bytes(image)
+
+
 def of_room(bench: Bench) -> None:
     """Want of blocks and of nodes: the numbers by hand, and nothing is written."""
     small = bench.new(64, 40, 2)
@@ -475,6 +484,10 @@ def of_room(bench: Bench) -> None:
     full = bench.changed(small, [Call.of('create', 2, 'a'), Call.of('seteof', 2, 'a', 'data', 8192)])
     bench.puts('a file of all blocks is replaced', full, ['room/a'], Options(replace=True))
     bench.tells('replaced by more', full, ['room/a', 'room/b'], 'cannot put room/b: room 0 17\n', Options(replace=True))
+    under = to_the_end(small)
+    lay('under', {'a': b'1' * 18 * 512})
+    bench.puts('blocks under the alternate', under, ['under/a'])
+    bench.tells('blocks under the alternate, and one more', under, ['room/b', 'under/a'], 'cannot put under/a: room 18 19\n')
     few = bench.new(400, 4, 2)
     lay('nodes', {f'{it:02}{"n" * 29}': b'' for it in range(40)})
     bench.puts('more items than the catalog has room for', few, ['nodes'])
