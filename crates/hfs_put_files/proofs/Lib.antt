@@ -1,0 +1,4 @@
+mod ComingForks
+mod ComingPlaces
+mod InImages
+mod WholeFiles
