@@ -22,6 +22,8 @@ from concurrent.futures import ProcessPoolExecutor
 from dataclasses import dataclass
 from pathlib import Path
 
+from driver.wanted import Difference
+
 VOLUMES = Path(__file__).resolve().parent / 'volumes'
 NOW = 7
 # Seconds from the clock of the Macintosh to that of Unix.
@@ -36,10 +38,6 @@ ASKED = ('v1\tdirinfo\t99\n', ['-120'])
 SCRIPT = '1\tcreate\t2\ta\n1\tlock\t2\ta\n2\tresolve\t99\nv1\tlist\t16\n'
 ANSWERS = ('1\t1\t0\tid 18\n1\t2\t0\t-\n2\t1\t-1300\t-\nv1\t1\t0\tlist 1\n'
            f'\tf 17 16 0 0 0 0 0 0 0 {"0" * 64} f\n')
-
-
-class Differs(Exception):
-    """What was met otherwise."""
 
 
 @dataclass
@@ -91,7 +89,7 @@ class Trial:
         written = self.file.read_bytes() if self.file.exists() else None
         beside = [it for it in os.listdir(self.folder) if it.startswith('file.')]
         if beside:
-            raise Differs(f'{words}, allocation {refuse}: {beside} is left')
+            raise Difference(f'{words}, allocation {refuse}: {beside} is left')
         return Ran(ran.returncode, ran.stdout, ran.stderr, written, os.fstat(TOLD).st_size > 0)
 
     def is_told(self, ran, old):
@@ -108,12 +106,12 @@ class Trial:
             ran = self.run(words, given, old, refuse)
             if ran.ending != wanted and not self.is_told(ran, old):
                 if not is_part(ran):
-                    raise Differs(f'{words}, allocation {refuse}: {ran.status}, prints {ran.printed[:300]!r}, tells {ran.errors[:300]!r}')
+                    raise Difference(f'{words}, allocation {refuse}: {ran.status}, prints {ran.printed[:300]!r}, tells {ran.errors[:300]!r}')
                 self.counts.parts += 1
             if not ran.is_refused:
                 break
         if ran.ending != wanted:
-            raise Differs(f'{words} without a refusal: {ran.status}, prints {ran.printed[:300]!r}')
+            raise Difference(f'{words} without a refusal: {ran.status}, prints {ran.printed[:300]!r}')
         self.counts.refused += refuse - 1
 
 
@@ -125,7 +123,7 @@ def named(trial, name):
     """The image of a small volume by its name."""
     if name == 'new':
         if trial.run(['new', trial.file, 'D', 64, 12, 2]).status != 0:
-            raise Differs('no new volume')
+            raise Difference('no new volume')
         return trial.file.read_bytes()
     if name != 'full':
         return small(name)
@@ -191,7 +189,7 @@ def run_calls(trial, line):
         whole = trial.run(words, given)
         found = [answer.split('\t')[2] for who in answers_of(whole.printed).values() for answer in who]
         if found != [*codes, *more] or whole.written != files[-1]:
-            raise Differs(f'{line}: the codes {found}')
+            raise Difference(f'{line}: the codes {found}')
         wanted = (0, whole.printed, b'', files[-1])
         trial.refuse_each(words, wanted, given, b'old\n', part_of(whole.printed, files))
 
@@ -323,7 +321,7 @@ def main(tool, library):
         with ProcessPoolExecutor(min(4, os.cpu_count() or 1)) as pool:
             for found in pool.map(attempt, jobs):
                 counts.add(found)
-    except Differs as differs:
+    except Difference as differs:
         sys.exit(f'refused calls: {differs}')
     print(f'{counts.refused} allocations of hfs_tool refused in turn: {counts.parts} runs answered a part, the others all or none')
 

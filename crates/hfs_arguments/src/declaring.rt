@@ -69,6 +69,7 @@ fn taking<'a>(alloc: Global, argument: &Argument) -> Result<Arg<'a>, AllocError>
     let bare = Arg::new(alloc, argument.name).help(argument.help);
     match argument.takes {
         Takes::Texts { unless } => several(bare, unless),
+        Takes::SomeTexts => Ok(some(bare)),
         Takes::Flag => Ok(bare.long(argument.name).action(ArgAction::SetTrue)),
         takes => Ok(with_default(
             with_name(taking_one(bare, takes), argument.name, takes),
@@ -83,6 +84,14 @@ fn several<'a>(argument: Arg<'a>, unless: &'static str) -> Result<Arg<'a>, Alloc
         .action(ArgAction::Append)
         .num_args(1..)
         .required_unless_present(unless)
+}
+
+/// An argument that takes texts, of which there has to be one.
+fn some<'a>(argument: Arg<'a>) -> Arg<'a> {
+    argument
+        .action(ArgAction::Append)
+        .num_args(1..)
+        .required(true)
 }
 
 /// An argument that takes one value.
@@ -104,7 +113,9 @@ fn taking_one<'a>(argument: Arg<'a>, takes: Takes) -> Arg<'a> {
         Takes::Text
         | Takes::AnyText
         | Takes::Texts { .. }
+        | Takes::SomeTexts
         | Takes::TextOption { .. }
+        | Takes::NeededTextOption { .. }
         | Takes::AnyTextOption { .. }
         | Takes::Flag => one,
     }

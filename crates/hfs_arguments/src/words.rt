@@ -45,6 +45,8 @@ pub enum Takes {
     Texts {
         unless: &'static str,
     },
+    /// Texts, of which there has to be one.
+    SomeTexts,
     /// A number from 0 to 4,294,967,295 that has to be there.
     Number,
     /// A number from 0 to 4,294,967,295, and which it is where none is given.
@@ -53,6 +55,10 @@ pub enum Takes {
     MaybeNumber,
     /// An option with a text.
     TextOption {
+        value: &'static str,
+    },
+    /// An option with a text that has to be given.
+    NeededTextOption {
         value: &'static str,
     },
     /// An option with a text that may begin with a hyphen.
@@ -85,7 +91,10 @@ pub enum Takes {
 impl Takes {
     /// Whether it has to be there.
     pub(crate) fn is_required(self) -> bool {
-        matches!(self, Takes::Text | Takes::AnyText | Takes::Number)
+        matches!(
+            self,
+            Takes::Text | Takes::AnyText | Takes::Number | Takes::NeededTextOption { .. }
+        )
     }
 
     /// Whether it may begin with a hyphen.
@@ -97,6 +106,7 @@ impl Takes {
     pub(crate) fn value_name(self) -> Option<&'static str> {
         match self {
             Takes::TextOption { value }
+            | Takes::NeededTextOption { value }
             | Takes::AnyTextOption { value }
             | Takes::ChoiceOption { value, .. }
             | Takes::NumberOption { value, .. }
@@ -105,6 +115,7 @@ impl Takes {
             Takes::Text
             | Takes::AnyText
             | Takes::Texts { .. }
+            | Takes::SomeTexts
             | Takes::Number
             | Takes::NumberOr(_)
             | Takes::MaybeNumber
@@ -121,9 +132,11 @@ impl Takes {
             Takes::Text
             | Takes::AnyText
             | Takes::Texts { .. }
+            | Takes::SomeTexts
             | Takes::Number
             | Takes::MaybeNumber
             | Takes::TextOption { .. }
+            | Takes::NeededTextOption { .. }
             | Takes::AnyTextOption { .. }
             | Takes::GivenNumberOption { .. }
             | Takes::CountOption { .. }

@@ -49,6 +49,14 @@ impl<'a> Line<'a> {
         }
     }
 
+    /// Says how many of how many bytes came.
+    pub fn show_bytes(&self, came: u64, bytes: u64) {
+        if self.is_shown {
+            self.is_written.set(true);
+            let _printed = eprint!(self.rt; "\r{came} of {bytes} bytes\x1b[K");
+        }
+    }
+
     /// Takes the line away.
     pub fn end(&self) {
         if self.is_written.get() {

@@ -4,6 +4,8 @@
 #![tactic(auto)]
 
 #[cfg(test)]
+mod bag_facts;
+#[cfg(test)]
 mod bags;
 #[cfg(test)]
 mod fixture;
@@ -11,6 +13,8 @@ mod fixture;
 mod forks;
 #[cfg(test)]
 mod incoming;
+#[cfg(test)]
+mod laid_forks;
 #[cfg(test)]
 mod names;
 #[cfg(test)]

@@ -1,4 +1,5 @@
 //! What comes out of a host's folders: the walk over a tree in memory.
+use hfs_model::Fork;
 use hfs_put_plan::{EntryKind, Why, why_not};
 use hfs_sources::{
     ForkSpan, HostNode, HostTime, Look, MemoryTree, NothingTold, PutOptions, SourceItem,
@@ -6,7 +7,7 @@ use hfs_sources::{
 };
 
 /// An AppleDouble file with three bytes of resource fork from byte 38 on.
-const DOUBLE: [u8; 41] = [
+pub(crate) const DOUBLE: [u8; 41] = [
     0, 5, 22, 7, 0, 2, 0, 0, 77, 97, 99, 32, 79, 83, 32, 88, 32, 32, 32, 32, 32, 32, 32, 32, 0, 1,
     0, 0, 0, 2, 0, 0, 0, 38, 0, 0, 0, 3, 82, 69, 83,
 ];
@@ -32,7 +33,12 @@ fn node<'a>(
     }
 }
 
-fn file<'a>(folder: &'a str, name: &'a str, path: &'a str, bytes: &'a [u8]) -> HostNode<'a> {
+pub(crate) fn file<'a>(
+    folder: &'a str,
+    name: &'a str,
+    path: &'a str,
+    bytes: &'a [u8],
+) -> HostNode<'a> {
     node(
         folder,
         name,
@@ -42,7 +48,7 @@ fn file<'a>(folder: &'a str, name: &'a str, path: &'a str, bytes: &'a [u8]) -> H
     )
 }
 
-fn folder<'a>(folder: &'a str, name: &'a str, path: &'a str) -> HostNode<'a> {
+pub(crate) fn folder<'a>(folder: &'a str, name: &'a str, path: &'a str) -> HostNode<'a> {
     node(folder, name, path, EntryKind::Folder, &[])
 }
 
@@ -107,6 +113,47 @@ fn a_folder_and_a_bag_are_walked(rt: HostRuntime) {
             assert!(rt; items.len() == ROWS.len(), "{} items", items.len());
             for (place, (item, wanted)) in items.iter().zip(ROWS.iter()).enumerate() {
                 assert!(rt; is_row(item, wanted), "item {place}");
+            }
+        }
+        Err(_) => panic!(rt; "the walk"),
+    }
+}
+
+/// What is wanted of the files in which an item's resource fork lies: its path, and that file's.
+type DoubleRow = (&'static str, Option<&'static str>);
+
+/// Those of a file beside which one belongs to it, of one that belongs to what isn't there, and of one alone.
+const DOUBLES: [DoubleRow; 3] = [
+    ("s/b", Some("s/._b")),
+    ("s/._z", Some("s/._z")),
+    ("s/a", None),
+];
+
+#[test]
+fn doubles_have_their_paths(rt: HostRuntime) {
+    let nodes = [
+        file("s", "._z", "s/._z", &DOUBLE),
+        file("s", "b", "s/b", b"hello"),
+        file("s", "._b", "s/._b", &DOUBLE),
+        file("s", "a", "s/a", b"a"),
+    ];
+    let mut tree = MemoryTree { nodes: &nodes };
+    let how = PutOptions {
+        macbinary: false,
+        rename: false,
+    };
+    let sources = ["s/b", "s/._z", "s/a"];
+    match list_sources(rt.alloc(), &mut tree, &NothingTold {}, how, &sources) {
+        Ok(items) => {
+            assert!(rt; items.len() == DOUBLES.len(), "{} items", items.len());
+            for (place, (item, wanted)) in items.iter().zip(DOUBLES.iter()).enumerate() {
+                assert!(rt; item.path() == wanted.0, "item {place}");
+                assert!(rt; item.double() == wanted.1, "item {place}");
+                assert!(rt;
+                    item.fork_path(Fork::DataFork) == Some(wanted.0),
+                    "item {place}"
+                );
+                assert!(rt; item.fork_path(Fork::ResFork) == wanted.1, "item {place}");
             }
         }
         Err(_) => panic!(rt; "the walk"),

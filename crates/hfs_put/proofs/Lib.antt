@@ -4,3 +4,11 @@ mod NamedIds
 mod FolderRows
 mod PlacedItems
 mod LaidLists
+mod Absences
+mod PlacedLists
+mod LockCodes
+mod FittingForks
+mod FileRecords
+pub mod ForkRunLists
+pub mod RunsApart
+pub mod RunMembers

@@ -18,6 +18,7 @@ fn make(alloc: Global, volume: &mut Volume, call: &Call) -> Result<(), CallFault
         (accepted (volume_of volume.old.current) call.now ≡ Ok (volume_of volume.new.current)) }
     ensures err { IfErr result
         (IsCallFault (accepted (volume_of volume.old.current) call.now) volume.new.current) }
+    ensures base { volume.new.base ≡ volume.old.base }
 {
     let reply = volume.call(alloc, call)?;
     if reply.code != 0 {
@@ -32,6 +33,7 @@ fn make_any(alloc: Global, volume: &mut Volume, call: Option<Call>) -> Result<()
         ≡ Ok (volume_of volume.new.current)) }
     ensures err { IfErr result (IsCallFault
         (all_accepted (volume_of volume.old.current) (cons_option call [])) volume.new.current) }
+    ensures base { volume.new.base ≡ volume.old.base }
 {
     match call {
         Some(call) => make(alloc, volume, &call),
@@ -51,6 +53,7 @@ pub(crate) fn make_item(
         (somes (making dir item.now now)) ≡ Ok (volume_of volume.new.current)) }
     ensures err { IfErr result (IsCallFault (all_accepted (volume_of volume.old.current)
         (somes (making dir item.now now))) volume.new.current) }
+    ensures base { volume.new.base ≡ volume.old.base }
 {
     for place in 0..MAKING_CALLS {
         let call = making_call(alloc, dir, item, now, place)?;
@@ -71,6 +74,7 @@ pub(crate) fn end_item(
         (somes (ending dir item.now now)) ≡ Ok (volume_of volume.new.current)) }
     ensures err { IfErr result (IsCallFault (all_accepted (volume_of volume.old.current)
         (somes (ending dir item.now now))) volume.new.current) }
+    ensures base { volume.new.base ≡ volume.old.base }
 {
     for place in 0..ENDING_CALLS {
         let call = ending_call(alloc, dir, item, now, place)?;

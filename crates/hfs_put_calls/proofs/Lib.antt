@@ -12,4 +12,6 @@ mod QuietCalls
 mod ReadyFiles
 mod PutFiles
 mod NewItems
-mod PutLists
+pub mod PutLists
+pub mod LaidZeros
+pub mod OwnForks

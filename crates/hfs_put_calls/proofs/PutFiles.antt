@@ -73,13 +73,13 @@ module _ (v w : Volume) (dir : ℕ) (name : List ℕ) (now : ℕ) (data_bytes re
   file = file_with_ends w.block_size (length data_bytes) (length resource_bytes)
 
   -- with these bytes in its forks
-  abbrev own : List ℕ → List ℕ → FileForks
+  abbrev pub own : List ℕ → List ℕ → FileForks
   own d r = record { id = ready.n; data_fork = d; resource_fork = r }
 
-  abbrev zeros : List ℕ → List ℕ
+  abbrev pub zeros : List ℕ → List ℕ
   zeros bytes = replicate (length bytes) 0
 
-  abbrev first : FileForks
+  abbrev pub first : FileForks
   first = own (zeros data_bytes) (zeros resource_bytes)
 
   -- zeros are what they have
@@ -99,7 +99,7 @@ module _ (v w : Volume) (dir : ℕ) (name : List ℕ) (now : ℕ) (data_bytes re
       (λ (ne : q ≡ ready.n → ⊥). ap (λ (o : Option FileForks). kind_with_forks o i.kind) (sym (forks-there first forks q ne)))
       (cases_eq q ready.n)
 
-  zeros-there : with_forks forks w ≡ with_forks (first ∷ forks) w
+  pub zeros-there : with_forks forks w ≡ with_forks (first ∷ forks) w
   zeros-there = ap (λ (items : Items). record w { items = items }) (mapped-same (by_forks forks) (by_forks (first ∷ forks)) w.items first-same)
 
   -- one fork, where it has zeros: it may be empty

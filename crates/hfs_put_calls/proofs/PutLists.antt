@@ -20,25 +20,25 @@ use Rattle.hfs_put_calls.proofs.ReadyFiles.{IsReady, IsBelow, below-next, making
 
 -- ---- results
 
-told : {A : Type 0} (place : ℕ) (r : Result A Reply) (x : A) → at_place place r ≡ Ok x → r ≡ Ok x
+pub told : {A : Type 0} (place : ℕ) (r : Result A Reply) (x : A) → at_place place r ≡ Ok x → r ≡ Ok x
 told {A} place (Ok y) x is = ap (λ (z : A). Ok z) (same_ok {E = Refused} y x is)
 told place (Err reply) x is = absurd (never_ok (record { place = place; reply = reply }) x is)
 
 -- ---- folders that are left
 
 -- what comes behind all that lies in the folder does the same whatever bytes the forks have
-abbrev IsQuietOpen : Open → Type 0
+abbrev pub IsQuietOpen : Open → Type 0
 IsQuietOpen o = Each IsQuiet o.ending
 
 -- these folders stay open
 abbrev stay : Volume → List Open → Result (Volume × List Open) Refused
 stay v os = Ok (v, os)
 
-abbrev over_left : List FileForks → Result (Volume × List Open) Refused → Result (Volume × List Open) Refused
+abbrev pub over_left : List FileForks → Result (Volume × List Open) Refused → Result (Volume × List Open) Refused
 over_left forks (Ok s) = Ok (with_forks forks s.0, s.1)
 over_left forks (Err refused) = Err refused
 
-left-over : (forks : List FileForks) (parent : Option ℕ) (folders : List Open) → Each IsQuietOpen folders → (v : Volume)
+pub left-over : (forks : List FileForks) (parent : Option ℕ) (folders : List Open) → Each IsQuietOpen folders → (v : Volume)
     → left parent (with_forks forks v) folders ≡ over_left forks (left parent v folders)
 left-over forks parent [] quiet v = refl
 left-over forks parent (o ∷ os) quiet v = at (is_at parent o.place) (λ w. left-over forks parent os quiet.1 w)
@@ -58,11 +58,11 @@ left-over forks parent (o ∷ os) quiet v = at (is_at parent o.place) (λ w. lef
         ∙ behind (all_accepted v o.ending) rest
 
 -- the others stay open, and no ID is given again
-record IsLeft (v : Volume) (s : Volume × List Open) : Type 0 where
-  next_id : v.next_id ≤ s.0.next_id
-  quiet : Each IsQuietOpen s.1
+pub record IsLeft (v : Volume) (s : Volume × List Open) : Type 0 where
+  pub next_id : v.next_id ≤ s.0.next_id
+  pub quiet : Each IsQuietOpen s.1
 
-left-is : (parent : Option ℕ) (folders : List Open) → Each IsQuietOpen folders → (v : Volume) (s : Volume × List Open)
+pub left-is : (parent : Option ℕ) (folders : List Open) → Each IsQuietOpen folders → (v : Volume) (s : Volume × List Open)
     → left parent v folders ≡ Ok s → IsLeft v s
 left-is parent [] quiet v s is = subst (λ (t : Volume × List Open). IsLeft v t) (same_ok {A = Volume × List Open} {E = Refused} (v, []) s is)
     (record { next_id = omega arith; quiet = tt })
@@ -83,7 +83,7 @@ left-is parent (o ∷ os) quiet v s is = at (is_at parent o.place) (λ w done. l
 -- ---- an item that is placed
 
 -- by its kind
-abbrev placed_by : ItemKind → ℕ → ℕ → ℕ → Arrival → Volume → List Open → Result Placed Refused
+abbrev pub placed_by : ItemKind → ℕ → ℕ → ℕ → Arrival → Volume → List Open → Result Placed Refused
 placed_by kind now place dir a v folders =
     at_place place
     (next (all_accepted v (somes (making_of kind dir a.item now))) (λ made.
@@ -100,7 +100,7 @@ placed_by kind now place dir a v folders =
       }) folders;
     }))))
 
-abbrev forks_with : ItemKind → Arrival → ℕ → List FileForks → List FileForks
+abbrev pub forks_with : ItemKind → Arrival → ℕ → List FileForks → List FileForks
 forks_with kind a id forks = cons_option (file_forks kind a id) forks
 
 abbrev over_placed : ItemKind → Arrival → List FileForks → Result Placed Refused → Result Placed Refused
@@ -142,7 +142,7 @@ module _ (now place dir : ℕ) (a : Arrival) (folders : List Open) (forks : List
   file_end = somes (ending_of File dir a.item now)
 
   -- with the lengths of its bytes
-  is-ready : IsWhole a → (w : Volume) → all_accepted v (somes (making_of File dir a.item now)) ≡ Ok w
+  pub is-ready : IsWhole a → (w : Volume) → all_accepted v (somes (making_of File dir a.item now)) ≡ Ok w
       → IsReady v w dir name now (length a.data_fork) (length a.resource_fork)
   is-ready whole w is =
       subst (λ (n : ℕ). IsReady v w dir name now (length a.data_fork) n) (sym whole.1)
@@ -183,9 +183,9 @@ module _ (now place dir : ℕ) (a : Arrival) (folders : List Open) (forks : List
 
   -- ---- and behind it
 
-  record IsPlaced (kind : ItemKind) (p : Placed) : Type 0 where
-    below : IsBelow (forks_with kind a p.id forks) p.volume
-    quiet : Each IsQuietOpen p.folders
+  pub record IsPlaced (kind : ItemKind) (p : Placed) : Type 0 where
+    pub below : IsBelow (forks_with kind a p.id forks) p.volume
+    pub quiet : Each IsQuietOpen p.folders
 
   folder-is : IsBelow forks v → Each IsQuietOpen folders → (p : Placed) → placed_by Folder now place dir (without_bytes a) v folders ≡ Ok p
       → IsPlaced Folder p
@@ -226,7 +226,7 @@ module _ (now place dir : ℕ) (a : Arrival) (folders : List Open) (forks : List
   placed-over-by Folder whole below = folder-over
   placed-over-by File whole below = file-over whole below
 
-  placed-is-by : (kind : ItemKind) → IsWhole a → IsBelow forks v → Each IsQuietOpen folders → (p : Placed)
+  pub placed-is-by : (kind : ItemKind) → IsWhole a → IsBelow forks v → Each IsQuietOpen folders → (p : Placed)
       → placed_by kind now place dir (without_bytes a) v folders ≡ Ok p → IsPlaced kind p
   placed-is-by Folder whole below quiet p is = folder-is below quiet p is
   placed-is-by File whole below quiet p is = file-is whole below quiet p is
@@ -239,10 +239,10 @@ over_put forks more (Err refused) = Err refused
 
 module _ (target now : ℕ) where
   -- no item is left
-  abbrev finished : Volume × List Open → Result Put Refused
+  abbrev pub finished : Volume × List Open → Result Put Refused
   finished s = Ok (record { volume = s.0; ids = [] })
 
-  abbrev ended : Placed → Put → Put
+  abbrev pub ended : Placed → Put → Put
   ended p rest = record { volume = rest.volume; ids = p.id ∷ rest.ids }
 
   -- what comes behind an item
@@ -305,7 +305,7 @@ module _ (target now : ℕ) where
       ∙ first a more forks place whole.0 (put-over more (place + 1) whole.1) v folders below quiet (left a.item.parent v folders) refl
 
 -- without forks that came
-none-came : (v : Volume) → with_forks [] v ≡ v
+pub none-came : (v : Volume) → with_forks [] v ≡ v
 none-came v = ap (λ (items : Items). record v { items = items }) (mapped-none v.items)
 
 pub put_is_laid : PutIsLaid

@@ -1,5 +1,5 @@
 -- What holds of these calls. Each statement is what a function of src/laws.rt ensures.
-use Rattle.std.specs.Prelude.{◌≡◌, ℕ, ◌≤◌, List, [], length, Result, Ok, Err}
+use Rattle.std.specs.Prelude.{◌≡◌, ℕ, ◌≤◌, ⊤, List, [], ◌∷◌, length, map, replicate, Some, IfSome, Result, Ok, Err}
 use Rattle.hfs_scans.specs.Each.{Each}
 use Rattle.hfs_model.specs.declared.call.Call.TheVariants as call
 use Rattle.hfs_model.specs.declared.reply.Value.TheVariants as value
@@ -9,8 +9,8 @@ use Rattle.hfs_model.specs.Volume.{Volume}
 use Rattle.hfs_put_calls.specs.declared.calls.TheConstants.{MAKING_CALLS, ENDING_CALLS}
 use Rattle.hfs_put_calls.specs.declared.items.PutItem.{PutItem}
 use Rattle.hfs_put_calls.specs.Calls.{making, ending}
-use Rattle.hfs_put_calls.specs.Put.{Arrival, Put, Refused, id_named, put_volume, laid_volume, came}
-use Rattle.hfs_put_calls.specs.WithForks.{with_forks}
+use Rattle.hfs_put_calls.specs.Put.{Arrival, Put, Refused, id_named, put_volume, laid_volume, file_forks, came}
+use Rattle.hfs_put_calls.specs.WithForks.{FileForks, forks_of, with_forks}
 
 -- no item has more calls than these numbers say
 pub record AreFew : Type 0 where
@@ -37,3 +37,23 @@ with_bytes arrivals (Err refused) = Err refused
 abbrev pub PutIsLaid : Type 0
 PutIsLaid = (v : Volume) (target now : ℕ) (arrivals : List Arrival) → Each IsWhole arrivals
     → put_volume v target now arrivals ≡ with_bytes arrivals (laid_volume v target now arrivals)
+
+-- zeros in place of its bytes
+abbrev pub with_zeros : Arrival → Arrival
+with_zeros a = record { item = a.item; data_fork = replicate (length a.data_fork) 0; resource_fork = replicate (length a.resource_fork) 0 }
+
+-- without the calls that write forks, the files that came have zeros in their forks, as many as bytes come
+abbrev pub LaidForksAreZeros : Type 0
+LaidForksAreZeros = (v : Volume) (target now : ℕ) (arrivals : List Arrival) (put : Put) → Each IsWhole arrivals → laid_volume v target now arrivals ≡ Ok put
+    → with_forks (came (map with_zeros arrivals) put.ids []) put.volume ≡ put.volume
+
+-- each file of these has its own bytes among those, under its ID
+abbrev pub AreTheirs : List FileForks → List Arrival → List ℕ → Type 0
+AreTheirs forks [] ids = ⊤
+AreTheirs forks (a ∷ more) [] = ⊤
+AreTheirs forks (a ∷ more) (id ∷ ids) = IfSome (file_forks a.item.kind a id) (λ (own : FileForks). forks_of forks id ≡ Some own) × AreTheirs forks more ids
+
+-- among the bytes that came each file of the list has its own, since no two files have one ID
+abbrev pub ForksAreTheirs : Type 0
+ForksAreTheirs = (v : Volume) (target now : ℕ) (arrivals : List Arrival) (put : Put) → laid_volume v target now arrivals ≡ Ok put
+    → AreTheirs (came arrivals put.ids []) arrivals put.ids

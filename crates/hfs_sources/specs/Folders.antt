@@ -7,7 +7,7 @@ use Rattle.hfs_put_plan.specs.declared.entries.Entry.{Entry}
 use Rattle.hfs_put_plan.specs.declared.entries.FolderItem.{FolderItem}
 use Rattle.hfs_sources.specs.declared.entry.Look.{Look}
 use Rattle.hfs_sources.specs.declared.plan.PutOptions.{PutOptions}
-use Rattle.hfs_sources.specs.Items.{PlannedItem, Told}
+use Rattle.hfs_sources.specs.Items.{PlannedItem, Told, planned_item}
 use Rattle.hfs_sources.specs.Paths.{behind_mark, double_path, entry_path}
 use Rattle.hfs_sources.specs.Plans.{plan_at}
 use Rattle.hfs_sources.specs.Trees.{Listed, Tree}
@@ -54,11 +54,9 @@ item_name entries item = item_name_by (entry_at entries item.own) (name_of (entr
 
 -- the item of a name in a folder
 abbrev pub named_item : Tree → Told → PutOptions → List ℕ → Option ℕ → List ℕ → Option Look → Option Look → PlannedItem
-named_item host told how folder parent name own double = record {
-  path = entry_path folder name;
-  parent = parent;
-  plan = plan_at host how (told (entry_path folder name)) own double name (entry_path folder name) (double_path folder name);
-}
+named_item host told how folder parent name own double =
+    planned_item (entry_path folder name) (double_path folder name) parent
+    (plan_at host how (told (entry_path folder name)) own double name (entry_path folder name) (double_path folder name))
 
 abbrev pub item_in : Tree → Told → PutOptions → List ℕ → Option ℕ → List Listed → FolderItem → PlannedItem
 item_in host told how folder parent entries item =

@@ -3,6 +3,7 @@ pub mod Trees
 pub mod Nodes
 pub mod Plans
 pub mod Items
+pub mod Forks
 pub mod Paths
 pub mod Folders
 pub mod Walks
@@ -10,3 +11,4 @@ pub mod HostSteps
 pub mod LoggedSteps
 pub mod Sources
 pub mod Laws
+pub mod Faults

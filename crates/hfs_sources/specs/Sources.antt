@@ -5,7 +5,7 @@ use Rattle.hfs_sources.specs.declared.entry.Look.{Look}
 use Rattle.hfs_sources.specs.declared.plan.ItemPlan.{ItemPlan}
 use Rattle.hfs_sources.specs.declared.plan.PutOptions.{PutOptions}
 use Rattle.hfs_sources.specs.Folders.{AreItemsIn}
-use Rattle.hfs_sources.specs.Items.{PlannedItem, Told}
+use Rattle.hfs_sources.specs.Items.{PlannedItem, Told, planned_item}
 use Rattle.hfs_sources.specs.Paths.{behind_mark, entry_path}
 use Rattle.hfs_sources.specs.Plans.{is_file, is_folder, plain_plan, plan_at}
 use Rattle.hfs_sources.specs.Trees.{Tree}
@@ -33,6 +33,19 @@ abbrev pub source_plan : Tree → Told → PutOptions → List ℕ → Look → 
 source_plan host told how source look (Some name) = named_plan host told how source look name
 source_plan host told how source look None = nameless (plain_plan how (told source) (Some look) None [] None)
 
+-- the path of what belongs to a source by its name: `._X` is that itself
+abbrev pub marked_double : Option (List ℕ) → List ℕ → List ℕ → List ℕ
+marked_double (Some own) source name = source
+marked_double None source name = beside source name
+
+abbrev pub source_double : List ℕ → Option (List ℕ) → List ℕ
+source_double source (Some name) = marked_double (behind_mark name) source name
+source_double source None = source
+
+abbrev pub source_item : Tree → Told → PutOptions → List ℕ → Look → PlannedItem
+source_item host told how source look =
+    planned_item source (source_double source (path_file_name source)) None (source_plan host told how source look (path_file_name source))
+
 -- a folder with `bagit.txt` and `data`
 abbrev pub is_bag : Tree → List ℕ → Look → Bool
 is_bag host source look =
@@ -40,8 +53,7 @@ is_bag host source look =
 
 abbrev pub GivesBy : Bool → Tree → Told → PutOptions → List ℕ → Look → List PlannedItem → Type 0
 GivesBy true host told how source look items = AreItemsIn host told how (entry_path source (codes "data")) None items
-GivesBy false host told how source look items =
-    items ≡ record { path = source; parent = None; plan = source_plan host told how source look (path_file_name source) } ∷ []
+GivesBy false host told how source look items = items ≡ source_item host told how source look ∷ []
 
 -- of a bag what lies in `data`, and else one item, where the source leads to anything
 abbrev pub GivesAt : Option Look → Tree → Told → PutOptions → List ℕ → List PlannedItem → Type 0
@@ -62,4 +74,10 @@ GiveAll host told how (source ∷ sources) items =
 pub record IsListing (host : Tree) (told : Told) (how : PutOptions) (sources : List (List ℕ)) (items : List PlannedItem) : Type 0 where
   pub top : List PlannedItem
   pub given : GiveAll host told how sources top
+  pub walked : IsWalk host told how 0 (with_twins top) items
+
+-- the whole list of what lies in a folder
+pub record IsFolderListing (host : Tree) (told : Told) (how : PutOptions) (path : List ℕ) (items : List PlannedItem) : Type 0 where
+  pub top : List PlannedItem
+  pub inside : AreItemsIn host told how path None top
   pub walked : IsWalk host told how 0 (with_twins top) items

@@ -1,5 +1,6 @@
 //! Why what was to be put could not be looked at.
 ghost use Rattle.std.specs.Prelude.{◌≡◌};
+ghost use Rattle.hfs_sources.specs.Faults.{IsUnread};
 ghost use Rattle.hfs_sources.specs.declared.fault.HostFault.TheVariants.{NoMemory};
 
 use std::alloc::{AllocError, AllocFailed, Global};
@@ -31,8 +32,10 @@ impl<T: Drop> From<AllocFailed<T>> for HostFault {
     }
 }
 
-/// The fault of what has a path and can't be read.
-pub(crate) fn cannot_read(alloc: Global, path: &str) -> HostFault {
+/// The fault of what has a path and can't be read; `NoMemory` where the path can't be kept.
+pub fn cannot_read(alloc: Global, path: &str) -> HostFault
+    ensures { IsUnread path.now result }
+{
     match String::from_str(alloc, path) {
         Ok(path) => HostFault::CannotRead(path),
         Err(_) => HostFault::NoMemory,

@@ -85,7 +85,7 @@ fn named_item<T: HostTree, B: ToldItems>(
         double_path: double_path.as_str(),
     };
     let plan = read_plan(alloc, tree, told, how, &at)?;
-    Ok(SourceItem::new(path, folder.place, plan))
+    Ok(SourceItem::new(path, double_path, folder.place, plan))
 }
 
 /// The items of a folder's entries in their order.

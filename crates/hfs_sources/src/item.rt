@@ -1,5 +1,7 @@
 //! Items that are to come.
-ghost use Rattle.std.specs.Prelude.{◌≡◌, IfOk, OnOk, string_bytes};
+ghost use Rattle.std.specs.Prelude.{◌≡◌, IfOk, MatchOption, None, OnOk, Some, string_bytes};
+ghost use Rattle.hfs_sources.specs.Forks.{fork_path, fork_span};
+ghost use Rattle.hfs_sources.specs.Items.{planned_item};
 ghost use Rattle.hfs_sources.specs.Plans.{double_at, header_at, plan_at, plan_by};
 ghost use Rattle.hfs_sources.specs.Trees.{OfEachTree};
 ghost use Rattle.hfs_sources.specs.Walks.{with_twin};
@@ -7,36 +9,58 @@ ghost use Rattle.hfs_sources.specs.Walks.{with_twin};
 use crate::contents::{read_double, read_header};
 use crate::entry::Look;
 use crate::fault::HostFault;
-use crate::plan::{ItemPlan, PutOptions, is_file, macbinary_plan, plain_plan};
+use crate::plan::{ForkSpan, ItemPlan, PutOptions, is_file, macbinary_plan, plain_plan};
 use crate::told::ToldItems;
 use crate::tree::HostTree;
 use hfs_incoming::{AppleDoubleFile, MacBinaryFile};
+use hfs_model::Fork;
 use std::alloc::Global;
 use std::marker::Model;
 
-/// An item that is to come. Contracts see its path on the host, the place of its parent among the items, and its plan.
+/// An item that is to come. Contracts see its path on the host, the path of what belongs to it by its name, the place of its parent
+/// among the items, and its plan.
 #[derive(Drop)]
 pub struct SourceItem {
     path: String,
+    double: Option<String>,
     parent: Option<usize>,
     plan: ItemPlan,
 }
 
 impl Model for SourceItem {
-    ghost use Rattle.std.specs.Prelude.{string_bytes};
+    ghost use Rattle.std.specs.Prelude.{option_map, string_bytes};
     ghost use Rattle.hfs_sources.specs.Items.{PlannedItem};
 
     ghost Value = { PlannedItem };
 
-    ghost view = { λ item. record { path = string_bytes item.path; parent = item.parent; plan = item.plan } };
+    ghost view = { λ item. record {
+      path = string_bytes item.path;
+      double = option_map string_bytes item.double;
+      parent = item.parent;
+      plan = item.plan;
+    } };
 }
 
 impl SourceItem {
-    /// An item.
-    pub(crate) fn new(path: String, parent: Option<usize>, plan: ItemPlan) -> SourceItem
-        ensures { result ≡ record { path = string_bytes path; parent = parent; plan = plan } }
+    /// An item by its path, and the path of what belongs to it where anything does.
+    pub(crate) fn new(
+        path: String,
+        double_path: String,
+        parent: Option<usize>,
+        plan: ItemPlan,
+    ) -> SourceItem
+        ensures { result ≡ planned_item (string_bytes path) (string_bytes double_path) parent plan }
     {
-        SourceItem { path, parent, plan }
+        let double = match plan.double {
+            Some(_) => Some(double_path),
+            None => None,
+        };
+        SourceItem {
+            path,
+            double,
+            parent,
+            plan,
+        }
     }
 
     /// Its path on the host.
@@ -46,11 +70,50 @@ impl SourceItem {
         self.path.as_str()
     }
 
+    /// The path on the host of what belongs to it by its name; none where nothing does, or where it is passed over.
+    pub fn double(&self) -> Option<&str>
+        ensures { MatchOption result (self.now.double ≡ None)
+            (λ path. self.now.double ≡ Some path.now) }
+    {
+        match &self.double {
+            Some(path) => Some(path.as_str()),
+            None => None,
+        }
+    }
+
     /// The place of the folder in which it lies, among the items of the walk; none of what the sources are themselves.
     pub fn parent(&self) -> Option<usize>
         ensures { result ≡ self.now.parent }
     {
         self.parent
+    }
+
+    /// The path on the host of the file in which one of its forks lies: of a MacBinary file both in its own, else the resource fork in
+    /// what belongs to it by its name. None where there is no such file.
+    pub fn fork_path(&self, fork: Fork) -> Option<&str>
+        ensures { MatchOption result (fork_path self.now fork ≡ None)
+            (λ path. fork_path self.now fork ≡ Some path.now) }
+    {
+        match fork {
+            Fork::DataFork => Some(self.path()),
+            Fork::ResFork => {
+                if self.plan().is_macbinary {
+                    Some(self.path())
+                } else {
+                    self.double()
+                }
+            }
+        }
+    }
+
+    /// Where in that file the fork lies.
+    pub fn fork_span(&self, fork: Fork) -> ForkSpan
+        ensures { result ≡ fork_span self.now.plan fork }
+    {
+        match fork {
+            Fork::DataFork => self.plan().data_fork,
+            Fork::ResFork => self.plan().resource_fork,
+        }
     }
 
     /// The same item, with a note whether one before it in its folder has its name.

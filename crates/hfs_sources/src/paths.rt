@@ -14,7 +14,7 @@ fn ends_in_slash(path: &str) -> bool
 
 /// The path of what has a name in a folder, whose path may end in a slash.
 #[tactic(auto, unfolding(crate::specs::Paths::entry_path))]
-pub(crate) fn entry_path(alloc: Global, folder: &str, name: &str) -> Result<String, AllocError>
+pub fn entry_path(alloc: Global, folder: &str, name: &str) -> Result<String, AllocError>
     ensures { IfOk result (λ path. string_bytes path ≡ entry_path folder.now name.now) }
 {
     if ends_in_slash(folder) {

@@ -69,7 +69,7 @@ fn is_folder_kind(kind: EntryKind) -> bool
 }
 
 /// Whether it is there, and a file.
-pub(crate) fn is_file(look: Option<Look>) -> bool
+pub fn is_file(look: Option<Look>) -> bool
     ensures { result ≡ is_file look }
 {
     match look {

@@ -1,6 +1,6 @@
 //! What sources give, each of which is the path of a file, of a folder, or of a bag.
 ghost use Rattle.std.specs.Prelude.{◌≡◌, IfOk, map, string_bytes};
-ghost use Rattle.hfs_sources.specs.Sources.{Gives, GivesBy, GiveAll, IsListing, beside, is_bag, named_plan, nameless, source_plan};
+ghost use Rattle.hfs_sources.specs.Sources.{Gives, GivesBy, GiveAll, IsFolderListing, IsListing, beside, is_bag, named_plan, nameless, source_double, source_item, source_plan};
 ghost use Rattle.hfs_sources.specs.Trees.{OfEachTree};
 ghost use Rattle.std.specs.Path.{path_file_name};
 
@@ -98,8 +98,40 @@ fn source_plan<T: HostTree, B: ToldItems>(
     }
 }
 
-/// Whether a source is a bag.
-fn is_bag<T: HostTree>(
+/// The path of what belongs by its name to a source.
+fn source_double(alloc: Global, source: &str) -> Result<String, AllocError>
+    ensures { IfOk result (λ path. string_bytes path ≡ source_double source.now (path_file_name source.now)) }
+{
+    match Path::new(source).file_name() {
+        Some(name) => match behind_mark(name) {
+            Some(_) => String::from_str(alloc, source),
+            None => beside(alloc, source, name),
+        },
+        None => String::from_str(alloc, source),
+    }
+}
+
+/// The item that a source is.
+fn source_item<T: HostTree, B: ToldItems>(
+    alloc: Global,
+    tree: &mut T,
+    told: &B,
+    how: PutOptions,
+    source: &str,
+    look: Look,
+) -> Result<SourceItem, HostFault>
+    ensures item { IfOk result (λ item. OfEachTree (T.Holds tree.new)
+        (λ host. item ≡ source_item host (B.told told.now) how source.now look)) }
+    ensures held { OfEachTree (T.Holds tree.new) (T.Holds tree.old) }
+{
+    let plan = source_plan(alloc, tree, told, how, source, look)?;
+    let path = String::from_str(alloc, source)?;
+    let double_path = source_double(alloc, source)?;
+    Ok(SourceItem::new(path, double_path, None, plan))
+}
+
+/// Whether a source is a bag, by what its path leads to: a folder with `bagit.txt` and `data`. Faults: as of [`HostTree::look`].
+pub fn is_bag<T: HostTree>(
     alloc: Global,
     tree: &mut T,
     source: &str,
@@ -140,10 +172,9 @@ fn given_by<T: HostTree, B: ToldItems>(
         };
         return items_in(alloc, tree, told, how, &folder);
     }
-    let plan = source_plan(alloc, tree, told, how, source, look)?;
-    let path = String::from_str(alloc, source)?;
+    let item = source_item(alloc, tree, told, how, source, look)?;
     let mut items = Vec::new(alloc);
-    items.push(SourceItem::new(path, None, plan))?;
+    items.push(item)?;
     Ok(items)
 }
 
@@ -201,5 +232,23 @@ pub fn list_sources<T: HostTree, B: ToldItems>(
     ensures held { OfEachTree (T.Holds tree.new) (T.Holds tree.old) }
 {
     let top = give_all(alloc, tree, told, how, sources)?;
+    walk(alloc, tree, told, how, top)
+}
+
+/// The list of all that lies in a folder, in the order of the walk, as [`list_sources`] lists what lies in the `data` of a bag.
+/// Faults: as [`list_sources`] has them.
+pub fn list_folder<T: HostTree, B: ToldItems>(
+    alloc: Global,
+    tree: &mut T,
+    told: &B,
+    how: PutOptions,
+    path: &str,
+) -> Result<Vec<SourceItem>, HostFault>
+    ensures items { IfOk result (λ items. OfEachTree (T.Holds tree.new)
+        (λ host. IsFolderListing host (B.told told.now) how path.now items.items)) }
+    ensures held { OfEachTree (T.Holds tree.new) (T.Holds tree.old) }
+{
+    let folder = FolderPlace { path, place: None };
+    let top = items_in(alloc, tree, told, how, &folder)?;
     walk(alloc, tree, told, how, top)
 }

@@ -3,7 +3,9 @@
 use crate::by_path::{print_fork_at, print_list_at, print_macbinary_at};
 use crate::by_volume::{tell_check, tell_fork, tell_info, tell_items, tell_list, tell_macbinary};
 use crate::extracting::extract_volume;
+use crate::making::make_new_volume;
 use crate::pages::print_page;
+use crate::putting::put_on_volume;
 use crate::rescuing::{list_remains, rescue_volume};
 use crate::running::run_script_of;
 use crate::saving::{save, save_as_read, tell};
@@ -55,6 +57,8 @@ pub fn obey<'a, T: Threads + Wait + Sync>(
         Words::New(volume) => write_new(rt, volume),
         Words::Repair(words) => write_repaired(rt, words),
         Words::Run(run) => run_script_of(rt, threads, run),
+        Words::Put(words) => put_on_volume(rt, words),
+        Words::Make(words) => make_new_volume(rt, words),
     }
 }
 
@@ -156,13 +160,14 @@ fn print_file(rt: &HostRuntime, file: &NeededFile) -> Result<u8, Fault<'static>>
 /// Prints the bytes of a file's fork of an opened image, piece by piece as they are read, or the code of the call that was refused.
 pub fn print_fork<'a, F: Read + Seek + Drop>(
     rt: &HostRuntime,
-    image: &mut PartImage<F>,
+    image: PartImage<F>,
     path: &'a str,
     dir: u32,
     name: &[u8],
     fork: Fork,
 ) -> Result<u8, Fault<'a>> {
-    match image.write_fork(rt.alloc(), dir, name, fork, &mut rt.stdout()) {
+    let (told, _) = image.write_fork(rt.alloc(), dir, name, fork, &mut rt.stdout());
+    match told {
         Ok(told) => print_refusal(rt, told),
         Err(fault) => Err(Fault::of_copy(fault, path)),
     }

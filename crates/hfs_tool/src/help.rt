@@ -34,9 +34,9 @@ The words info, check, ls, items, page, cat, extract, take and rescue
 read the N-th of them with --volume N, and the file as it is with
 --volume 0. Without --volume they take a bare volume as it is, or else
 the only volume inside, and rescue the only line, even one with 'no
-volume'; if there are several, none. info, run and repair take the file
-as it is, and so does every word that reads a pipe. With --volume N run
-and repair write the file with that volume changed.
+volume'; if there are several, none. info, run, repair and put take the
+file as it is, and so does every word that reads a pipe. With --volume N
+run, repair and put write the file with that volume changed.
 
 Not looked for: a map within a map or within a disk copy, Disk Copy 6
 and other compressed forms, MFS, and HFS Plus without a wrapper.";
@@ -72,6 +72,47 @@ alone:
                      made
   no place for a viewer
   cannot write FILE  the file is as it was";
+
+/// What the word `make` tells beside its arguments.
+pub(crate) const MAKES: &str = "The volume gets what put would put into its root, by the same lines.
+Of one folder that is no bag what lies in it comes. Its name: NAME; else
+the one that the one bag tells of its disk; else the last part of the
+one folder's path. Its catalog has room for what comes and more. Nothing
+is written, and the status is 2, at:
+  bad name   not 1 to 27 characters of an item name, or none at all
+  bad size   not whole blocks of 512 bytes, 64K to 2G
+  no room    no size up to 2G is enough; or SIZE is too small for the
+             two trees alone
+When FILE is written: made, and the lines of put.";
+
+/// What the word `put` tells beside its arguments.
+pub(crate) const PUTS: &str = "SOURCEs come in their order, and what is in a folder in the order of
+its names. ._X next to X is read as AppleDouble: type, creator, the
+Finder's bytes, dates and the resource fork of X. .DS_Store stays
+behind. In a name = and two hexadecimal digits are a byte, as take
+writes them; any other is read as UTF-8. A folder that is there takes
+what comes; a file that is there is refused, unless it is replaced.
+
+All is looked at before anything is written. For each item that can't
+be put a line is printed, at most 100, and FILE is not written:
+  cannot put PATH: not a file          a link, or a device
+  cannot put PATH: too large           more than 2,147,483,647 bytes
+  cannot put PATH: not AppleDouble     PATH is that of ._X
+  cannot put PATH: name                no item name
+  cannot put PATH: two of one name     in one folder
+  cannot put PATH: code N              -48 if something has its name;
+                                       -44 or -46 of a locked volume
+  cannot put PATH: digest              of a bag: not what its manifest
+                                       says
+  cannot put PATH: room FREE WANTED    the free blocks, and those that
+                                       all of it wants
+  cannot put PATH: full FREE DEPTH     a tree has too few free nodes
+  cannot put PATH: a name in it is not UTF-8
+  code N                               --to leads to no folder
+  cannot read PATH                     nothing is looked at after it
+
+When FILE is written: put, and how many files came, how many folders
+were made, how many bytes the forks have, how many blocks are free.";
 
 /// What the columns of the table are.
 pub(crate) const COLUMNS: &str = "The columns:
@@ -161,7 +202,8 @@ pub(crate) const AFTER_HELP: &str = "Exit statuses:
   1  the words are refused
   2  the image is refused, or the plan of a new volume, or a script
   3  ls or cat met a code other than 0: -37 bad name, -43 not found,
-     -120 not a folder; rescue found something damaged
+     -120 not a folder; rescue found something damaged; something can't
+     be put
   4  a file could not be read or written, or the file of extract or the
      folder of take or rescue is there already
   5  out of memory, no place for a viewer, or a line of a script not
@@ -185,12 +227,13 @@ Examples:
   hfs_tool new disk.img Archive 800K
   hfs_tool repair disk.img mended.img
   hfs_tool run disk.img calls.txt --now 3000000000 --out disk.img
+  hfs_tool put disk.img Letters game.bin --macbinary --out disk.img
 
 The text of a fault is printed where the result would have been: test
 the status.
 
-What new, repair and run --out write goes to FILE.0.new next to FILE,
-which is renamed over FILE when it is complete: after a fault FILE is as
-it was. FILE keeps its permissions, and its owner and group if the
+What new, repair, put and run --out write goes to FILE.0.new next to
+FILE, which is renamed over FILE when it is complete: after a fault FILE
+is as it was. FILE keeps its permissions, and its owner and group if the
 system allows it. It is not written if nobody may write to it, or if it
 is a link to no file.";

@@ -1,4 +1,4 @@
-//! A program that reads and checks HFS volumes, runs scripts on them, mends their counts, and makes new ones.
+//! A program that reads and checks HFS volumes, puts files on them, runs scripts on them, mends their counts, and makes new ones.
 #![tactic(auto)]
 
 mod by_path;
@@ -6,8 +6,10 @@ mod by_volume;
 mod commands;
 mod extracting;
 mod help;
+mod making;
 mod pages;
 mod progress;
+mod putting;
 mod reading;
 mod remaining;
 mod rescuing;

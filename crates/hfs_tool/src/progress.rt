@@ -4,6 +4,7 @@
 use hfs_commands::Gate;
 use hfs_console::Line;
 use hfs_take::Watch;
+use hfs_word_put::PutWatch;
 use std::cell::Cell;
 
 /// After how many calls of one worker the line is written.
@@ -104,6 +105,50 @@ impl Watch for ItemProgress<'_> {
         self.fresh.set(self.fresh.get().saturating_add(count));
         if self.number.get() <= self.all.get() && self.fresh.get() >= BYTES_SHOWN {
             self.show();
+        }
+    }
+}
+
+/// The progress of a file that is written: how many of its bytes were read.
+#[derive(Drop)]
+pub struct ByteProgress<'a> {
+    line: Line<'a>,
+    all: Cell<u64>,
+    came: Cell<u64>,
+    /// How many bytes came since the line was written.
+    fresh: Cell<u64>,
+}
+
+impl<'a> ByteProgress<'a> {
+    /// The progress that standard error shows.
+    pub fn on(rt: &'a HostRuntime) -> ByteProgress<'a> {
+        ByteProgress {
+            line: Line::on(rt),
+            all: Cell::new(0),
+            came: Cell::new(0),
+            fresh: Cell::new(0),
+        }
+    }
+
+    /// A file of so many bytes is written.
+    pub fn begin(&self, all: u64) {
+        self.all.set(all);
+    }
+
+    /// Takes the line away.
+    pub fn end(&self) {
+        self.line.end();
+    }
+}
+
+impl PutWatch for ByteProgress<'_> {
+    fn bytes_came(&self, count: u64) {
+        self.came.set(self.came.get().saturating_add(count));
+        self.fresh.set(self.fresh.get().saturating_add(count));
+        if self.fresh.get() >= BYTES_SHOWN {
+            self.fresh.set(0);
+            let all = self.all.get();
+            self.line.show_bytes(self.came.get().min(all), all);
         }
     }
 }

@@ -6,9 +6,11 @@ mod extract;
 mod info;
 mod items;
 mod list;
+mod make;
 mod new;
 mod page;
 mod places;
+mod put;
 mod repair;
 mod rescue;
 mod run;
@@ -27,8 +29,10 @@ use hfs_console::{VERSION, WordsFault, refused_words};
 use info::{info_command, info_words};
 use items::{items_command, items_words};
 use list::{list_command, list_words};
+use make::{make_command, make_words};
 use new::{new_command, new_words};
 use page::{page_command, page_words};
+use put::{put_command, put_words};
 use repair::{repair_command, repair_words};
 use rescue::{rescue_command, rescue_words};
 use run::{run_command, run_words};
@@ -40,7 +44,7 @@ use volumes::{volumes_command, volumes_words};
 const TOOL: Program = Program {
     word: Word {
         name: "hfs_tool",
-        about: "Reads and checks HFS volumes of old Macintoshes, takes files off them, runs scripts on them, mends their counts, and makes new ones. With no words: info on standard input",
+        about: "Reads and checks HFS volumes of old Macintoshes, takes files off them, puts files on them, runs scripts on them, mends their counts, and makes new ones. With no words: info on standard input",
         after_help: Some(AFTER_HELP),
         arguments: &[],
     },
@@ -61,7 +65,9 @@ fn command<'a>(alloc: Global) -> Result<Command<'a>, AllocError> {
     let with_rescue = with_word(with_take, rescue_command(alloc));
     let with_new = with_word(with_rescue, new_command(alloc));
     let with_repair = with_word(with_new, repair_command(alloc));
-    with_word(with_repair, run_command(alloc))
+    let with_run = with_word(with_repair, run_command(alloc));
+    let with_put = with_word(with_run, put_command(alloc));
+    with_word(with_put, make_command(alloc))
 }
 
 /// The program's command, with no word yet.
@@ -78,7 +84,7 @@ pub fn read_words<'a>(alloc: Global, words: &'a [String]) -> Result<Words<'a>, W
         });
     }
     let matches = matches_of(alloc, words)?;
-    Ok(words_of(&matches)?)
+    words_of(alloc, &matches)
 }
 
 /// What the program's command finds in the words.
@@ -118,14 +124,16 @@ fn is_collect(words: &[String]) -> bool {
 }
 
 /// What the words ask for, by what was found in them.
-fn words_of<'a>(matches: &ArgMatches<'a>) -> Result<Words<'a>, NoValue> {
+fn words_of<'a>(alloc: Global, matches: &ArgMatches<'a>) -> Result<Words<'a>, WordsFault> {
     match matches.subcommand() {
-        Some((word, inner)) => words_behind(word, inner),
+        Some(("put", inner)) => put_words(alloc, inner),
+        Some(("make", inner)) => make_words(alloc, inner),
+        Some((word, inner)) => Ok(words_behind(word, inner)?),
         None => Ok(Words::StandardInput),
     }
 }
 
-/// What the words ask for behind the first of them.
+/// What the words ask for behind the first of them, which takes no list.
 fn words_behind<'a>(word: &str, inner: &ArgMatches<'a>) -> Result<Words<'a>, NoValue> {
     match word {
         "info" => info_words(inner),

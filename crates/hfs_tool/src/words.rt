@@ -3,6 +3,7 @@
 use hfs_commands::Format;
 use hfs_model::Fork;
 use hfs_salvage::{BagWords, RescueWords};
+use hfs_sources::PutOptions;
 use hfs_take::TakeWords;
 
 /// What the words ask for.
@@ -58,10 +59,14 @@ pub enum Words<'a> {
     RescueList(RescueWords<'a>),
     /// `new FILE NAME BLOCKS NODES EXTENTS [--now N]`: a new volume.
     New(NewVolume<'a>),
+    /// `make FILE SOURCE.. [--name NAME] [--size SIZE] [--now N] [--macbinary] [--rename]`: a new volume with files and folders.
+    Make(MakeWords<'a>),
     /// `repair IMAGE FILE [--volume N]`: the image with its counts mended.
     Repair(RepairWords<'a>),
     /// `run IMAGE SCRIPT [--now N] [--out FILE] [--volume N]`: the calls of a script.
     Run(RunWords<'a>),
+    /// `put IMAGE SOURCE.. --out FILE [--to PATH] [--macbinary] [--replace] [--rename] [--now N] [--volume N]`: files and folders put on a volume.
+    Put(PutWords<'a>),
 }
 
 /// A page of a volume.
@@ -95,7 +100,7 @@ impl<'a> Words<'a> {
     /// The image that the words look at; none where they take standard input, or make a volume.
     pub fn looked_at(&self) -> Option<LookedAt<'a>> {
         let (path, volume) = match self {
-            Words::StandardInput | Words::New(_) => return None,
+            Words::StandardInput | Words::New(_) | Words::Make(_) => return None,
             Words::Info { image, volume }
             | Words::Check { image, volume }
             | Words::List { image, volume, .. }
@@ -112,6 +117,7 @@ impl<'a> Words<'a> {
             Words::RescueList(words) => (words.image, words.volume),
             Words::Repair(words) => (words.image, words.volume),
             Words::Run(run) => (run.image, run.volume),
+            Words::Put(words) => (words.image, words.volume),
         };
         Some(LookedAt { path, volume })
     }
@@ -216,4 +222,42 @@ pub struct RunWords<'a> {
     pub now: u32,
     /// The path of the file that the changed image is written to.
     pub out: Option<&'a str>,
+}
+
+/// Files and folders that are put on a volume.
+#[derive(Drop)]
+pub struct PutWords<'a> {
+    /// The path of the image.
+    pub image: &'a str,
+    /// The number of the volume in it, where one is asked for.
+    pub volume: Option<u64>,
+    /// The paths of what comes, in order.
+    pub sources: Vec<&'a str>,
+    /// The path of the file that the changed image is written to.
+    pub out: &'a str,
+    /// The path of the folder on the volume that they are put into; the root where it isn't given.
+    pub to: Option<&'a str>,
+    /// How what comes is looked at.
+    pub how: PutOptions,
+    /// Whether files that stand there are replaced.
+    pub replace: bool,
+    /// The moment of every change, in seconds since midnight of 1 January 1904; the clock's where it isn't given.
+    pub now: Option<u32>,
+}
+
+/// A new volume that is made of files and folders.
+#[derive(Drop)]
+pub struct MakeWords<'a> {
+    /// The path of the file that it is written to.
+    pub file: &'a str,
+    /// The paths of what comes, in order.
+    pub sources: Vec<&'a str>,
+    /// Its name; where it isn't given, that of what comes.
+    pub name: Option<&'a str>,
+    /// Its size; where it isn't given, the least that suffices.
+    pub size: Option<&'a str>,
+    /// How what comes is looked at.
+    pub how: PutOptions,
+    /// The moment of every change, in seconds since midnight of 1 January 1904; the clock's where it isn't given.
+    pub now: Option<u32>,
 }

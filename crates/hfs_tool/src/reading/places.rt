@@ -63,6 +63,10 @@ pub const NOW: Argument = Argument {
     excludes: &[],
 };
 
+/// What the help says of the file that gets a changed image.
+pub const OUT_HELP: &str =
+    "The file for the changed image; what it has is replaced; it may be the image";
+
 /// The number of the volume in an image, where one is given.
 pub fn volume_of(matches: &ArgMatches<'_>) -> Result<Option<u64>, NoValue> {
     match VOLUME.given_number(matches)? {

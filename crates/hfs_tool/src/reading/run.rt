@@ -1,6 +1,6 @@
 //! The word `run`.
 
-use super::places::{BARE_IMAGE, NOW, VOLUME, volume_of};
+use super::places::{BARE_IMAGE, NOW, OUT_HELP, VOLUME, volume_of};
 use crate::help::RUNS;
 use crate::words::{RunWords, Words};
 use clap::{ArgMatches, Command};
@@ -19,7 +19,7 @@ const SCRIPT: Argument = Argument {
 const OUT: Argument = Argument {
     name: "out",
     takes: Takes::TextOption { value: "FILE" },
-    help: "The file for the changed image; what it has is replaced; it may be the image",
+    help: OUT_HELP,
     excludes: &[],
 };
 

@@ -7,5 +7,7 @@ use Rattle.hfs_put.proofs.CallRows.{rest}
 use Rattle.hfs_put.proofs.calls.make_item.Given as goal
 
 abbrev pub invariant-loop-place : goal.invariant-loop-place
-invariant-loop-place l =
-    all_accepted (volume_of l.fn.volume.current) (somes (making l.dir l.item l.now)) ≡ rest (making l.dir l.item l.now) (volume_of l.volume.current) l.place
+invariant-loop-place l = record {
+  calls : all_accepted (volume_of l.fn.volume.current) (somes (making l.dir l.item l.now)) ≡ rest (making l.dir l.item l.now) (volume_of l.volume.current) l.place;
+  base : l.volume.base ≡ l.fn.volume.base;
+}

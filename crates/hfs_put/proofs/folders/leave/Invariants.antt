@@ -6,8 +6,10 @@ use Rattle.hfs_put.specs.Folders.{opens}
 use Rattle.hfs_put.proofs.folders.leave.Given as goal
 
 abbrev pub invariant-loop-folder : goal.invariant-loop-folder
-invariant-loop-folder l =
-    left l.parent (volume_of l.fn.volume.current) (opens l.now l.fn.folders.items) ≡ left l.parent (volume_of l.volume.current) (opens l.now l.folders.items)
+invariant-loop-folder l = record {
+  left_is : left l.parent (volume_of l.fn.volume.current) (opens l.now l.fn.folders.items) ≡ left l.parent (volume_of l.volume.current) (opens l.now l.folders.items);
+  base : l.volume.base ≡ l.fn.volume.base;
+}
 
 abbrev pub decreases-loop-folder : goal.decreases-loop-folder
 decreases-loop-folder l = length l.folders.items

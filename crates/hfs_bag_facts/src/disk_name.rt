@@ -1,0 +1,28 @@
+//! The name of the disk that a bag was taken of.
+ghost use Rattle.std.specs.Prelude.{◌≡◌, IfOk, option_map};
+ghost use Rattle.hfs_sources.specs.Trees.{OfEachTree};
+ghost use Rattle.hfs_bag_facts.specs.Tags.{name_told, tag_text};
+
+use crate::tag_text::{tag_text, without_return};
+use hfs_bag_tags::external_identifier;
+use hfs_sources::{HostFault, HostTree};
+use std::alloc::Global;
+
+/// The plain text of the name of the disk that a bag was taken of, by the first line of its `bag-info.txt` that tells it; none
+/// where none does, or where the source is no bag. It may be no text: `plain_item_name` of `hfs_incoming` takes one. Faults:
+/// `CannotRead` of what can't be read, `NoMemory`.
+pub fn bag_name<T: HostTree>(
+    alloc: Global,
+    tree: &mut T,
+    source: &str,
+) -> Result<Option<Vec<u8>>, HostFault>
+    ensures name { IfOk result (λ name. OfEachTree (T.Holds tree.new)
+        (λ host. option_map (λ text. text.items) name ≡ name_told host source.now)) }
+    ensures held { OfEachTree (T.Holds tree.new) (T.Holds tree.old) }
+{
+    let text = tag_text(alloc, tree, source, "bag-info.txt")?;
+    match external_identifier(&text) {
+        Some(name) => Ok(Some(Vec::from_slice(alloc, without_return(name))?)),
+        None => Ok(None),
+    }
+}

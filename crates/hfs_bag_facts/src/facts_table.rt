@@ -1,0 +1,70 @@
+//! Rows of a bag's table of items, by the paths of what they tell of.
+ghost use Rattle.std.specs.Prelude.{◌≡◌, OnOk};
+ghost use Rattle.csv.specs.Records.{fields_of};
+ghost use Rattle.hfs_bag_facts.specs.Later.{Tells};
+ghost use Rattle.hfs_bag_facts.specs.Told.{facts_of, path_field, told_by_row, told_by_table};
+
+use crate::by_path::ByPath;
+use crate::paths::path_behind;
+use csv::{ByteRecord, ReaderBuilder};
+use hfs_bag_tags::{ItemRow, bag_path, item_row};
+use hfs_put_plan::ToldFacts;
+use hfs_sources::HostFault;
+use std::alloc::{AllocError, Global};
+
+fn facts_of(row: ItemRow) -> ToldFacts
+    ensures { result ≡ facts_of row }
+{
+    ToldFacts {
+        locked: row.locked,
+        dates: row.dates,
+    }
+}
+
+/// The path of a row's item below the payload; empty where there is none.
+fn path_field(row: &ByteRecord) -> &[u8]
+    ensures { result.now ≡ path_field (fields_of row.now) }
+{
+    match bag_path(row) {
+        Some(path) => path,
+        None => &[],
+    }
+}
+
+/// Notes what a row tells, with this before its path: nothing, where it isn't as the row of an item is.
+fn note_row(
+    alloc: Global,
+    front: &str,
+    row: &ByteRecord,
+    facts: &mut ByPath<ToldFacts>,
+) -> Result<(), AllocError>
+    ensures { OnOk result (Tells (λ path. told_by_row front.now path (fields_of row.now)) facts.old facts.new) }
+{
+    let Some(item) = item_row(row) else {
+        return Ok(());
+    };
+    let path = path_behind(alloc, front, path_field(row))?;
+    facts.put(path, facts_of(item))
+}
+
+/// Notes what a table of items tells, with this before its paths. Fault: `NoMemory`.
+pub(crate) fn note_table(
+    alloc: Global,
+    front: &str,
+    text: &[u8],
+    facts: &mut ByPath<ToldFacts>,
+) -> Result<(), HostFault>
+    ensures { OnOk result (Tells (told_by_table front.now text.now) facts.old facts.new) }
+{
+    let reader = ReaderBuilder::new()
+        .has_headers(false)
+        .flexible(true)
+        .from_reader(alloc, text);
+    for row in reader.into_byte_records() {
+        let Ok(row) = row else {
+            return Err(HostFault::NoMemory);
+        };
+        note_row(alloc, front, &row, facts)?;
+    }
+    Ok(())
+}

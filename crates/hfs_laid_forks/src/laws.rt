@@ -1,0 +1,7 @@
+//! What laying forks in a file says of an image inside it.
+ghost use Rattle.hfs_laid_forks.specs.Laws.{AreLaidInImages};
+
+/// The law of forks that are laid in a file, from the first byte of an image in it on: the image gets them, and nothing else changes.
+pub fn laid_forks_laws()
+    ensures { AreLaidInImages }
+{}

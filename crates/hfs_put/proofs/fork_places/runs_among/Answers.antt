@@ -1,0 +1,13 @@
+-- Each record is one of the catalog's.
+use Rattle.std.proofs.Common.{◌≡◌, sym, subst, get_or}
+use Rattle.hfs_blocks.specs.Blocks.{block_at}
+use Rattle.hfs_catalog.specs.Records.{Catalog, Record}
+use Rattle.hfs_check.specs.Parts.{catalog_in}
+use Rattle.hfs_scans.specs.Members.{In}
+use Rattle.hfs_put.proofs.FileRecords.{in-at}
+use Rattle.hfs_put.proofs.fork_places.runs_among.Goals as goal
+
+pub push_record-requires-clause-there : goal.push_record-requires-clause-there
+push_record-requires-clause-there c =
+    subst (λ (rs : Catalog). In c.entry-item.result rs) c.requires.records
+    (subst (λ (r : Record). In r c.args.records.now) (sym c.entry-item.is) (in-at c.args.records.now c.loop-entry.entry-index c.entry-item.result c.loop-entry-test.true))

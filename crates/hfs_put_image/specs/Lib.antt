@@ -1,0 +1,3 @@
+pub mod LaidRuns
+pub mod Beside
+pub mod PutImages

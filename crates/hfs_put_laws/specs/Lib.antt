@@ -1,0 +1,3 @@
+pub mod Forks
+pub mod Lists
+pub mod Saved

@@ -1,0 +1,8 @@
+//! What comes of a list of items that is put on an image, of which the working blocks alone were read.
+#![tactic(auto)]
+
+mod laws;
+
+pub use crate::laws::{
+    alike_volumes_are_put_alike, differences_carry_over, laid_forks_are_read, saved_is_put,
+};

@@ -1,0 +1,12 @@
+pub mod Reasons
+pub mod Lines
+pub mod Faults
+pub mod Orders
+pub mod Targets
+pub mod Listed
+pub mod Placed
+pub mod Sums
+pub mod Laid
+pub mod Contents
+pub mod Put
+pub mod Files

@@ -1,0 +1,84 @@
+-- What is put on a volume in a file, and what the file is to hold then.
+use Rattle.std.specs.Prelude.{◌≡◌, ◌⊎◌, ◌≤◌, ◌/◌, ℕ, List, length, None, ⊤}
+use Rattle.std.specs.Borrow.{Bor}
+use Rattle.hfs_bag_facts.specs.Digests.{first_wrong}
+use Rattle.hfs_bag_facts.specs.Later.{Entries, told_at}
+use Rattle.hfs_blocks.specs.Blocks.{block_at, block_count}
+use Rattle.hfs_check.specs.VolumeOf.{volume_of}
+use Rattle.hfs_commands.specs.declared.fault.Fault.{Fault}
+use Rattle.hfs_commands.specs.declared.fault.Fault.TheVariants as why
+use Rattle.hfs_check.specs.declared.mount_fault.MountFault.{MountFault}
+use Rattle.hfs_put_image.specs.PutImages.{IsPutOver}
+use Rattle.hfs_put_image.specs.declared.putting.PutBlocks.{PutBlocks}
+use Rattle.hfs_source.specs.Images.{OfEach}
+use Rattle.hfs_sources.specs.Items.{PlannedItem}
+use Rattle.hfs_sources.specs.Trees.{OfEachTree, Tree}
+use Rattle.hfs_working.specs.Working.{IsWorkingCopy}
+use Rattle.hfs_word_put.specs.declared.fault.PutFault.{PutFault}
+use Rattle.hfs_word_put.specs.declared.fault.PutFault.TheVariants as told
+use Rattle.hfs_word_put.specs.declared.lines.PutSums.{PutSums}
+use Rattle.hfs_word_put.specs.declared.order.PutOrder.{PutOrder}
+use Rattle.hfs_word_put.specs.declared.placing.PlacedList.{PlacedList}
+use Rattle.hfs_word_put.specs.Laid.{IsUnlaid, wants_of}
+use Rattle.hfs_word_put.specs.Listed.{IsListed, IsUnlisted, IsUnverified}
+use Rattle.hfs_word_put.specs.Placed.{IsPlaced, TellsAny, refusal}
+use Rattle.hfs_word_put.specs.Sums.{put_sums}
+
+-- ---- the copy on which the calls are made
+
+-- the copy has the blocks that calls read and write of each of these images that has so many bytes
+pub record IsCopyOfEach (Holds : List ℕ → Type 0) (len : ℕ) (copy : List ℕ) : Type 0 where
+  pub small : len ≤ 2147483648
+  pub count : block_count copy ≡ len / 512
+  pub same : OfEach Holds (λ image. length image ≡ len → IsWorkingCopy copy image)
+
+-- an image that was opened by this path can't be read, or is too much, or is refused
+abbrev pub IsUnmounted : Bor (List ℕ) → Fault → Type 0
+IsUnmounted path found = (found ≡ why.CannotRead path) ⊎ ((found ≡ why.NoMemory) ⊎ ((fault : MountFault) × (found ≡ why.Refused fault)))
+
+-- ---- what is put
+
+-- the list was put on the volume of the copy: these blocks go out, and these forks are to be laid; so much was put
+pub record IsPutOn (order : PutOrder) (copy : List ℕ) (items : List PlannedItem) (put : PutBlocks) (sums : PutSums) : Type 0 where
+  pub list : PlacedList
+  pub placed : IsPlaced (volume_of copy) order items list
+  pub over : IsPutOver copy list.target order.now list.places.items put.patch put.runs.items put.ids.items
+  pub free : ℕ
+  pub sums_are : sums ≡ put_sums list.places.items free
+
+-- a call that puts the list was refused
+pub record IsRefusedOn (order : PutOrder) (copy : List ℕ) (items : List PlannedItem) (told : PutFault) : Type 0 where
+  pub list : PlacedList
+  pub placed : IsPlaced (volume_of copy) order items list
+  pub image : List ℕ
+  pub unlaid : IsUnlaid list order.now items (wants_of (block_at copy) list.places.items) (volume_of copy) image told
+
+-- the list was not put: something can't come to its place, which is looked for before all calls, or a call was refused
+abbrev pub IsUnputOn : PutOrder → List ℕ → List PlannedItem → PutFault → Type 0
+IsUnputOn order copy items told = TellsAny (refusal (volume_of copy) order items) told ⊎ IsRefusedOn order copy items told
+
+-- ---- what comes, and is put
+
+-- what comes was listed, has the digests that are told of it, and was put
+pub record IsPutOf (Hosts : Tree → Type 0) (order : PutOrder) (copy : List ℕ) (items : List PlannedItem) (put : PutBlocks) (sums : PutSums) : Type 0 where
+  pub digests : Entries (List ℕ)
+  pub listed : OfEachTree Hosts (IsListed order items digests)
+  pub verified : OfEachTree Hosts (λ host. first_wrong host (told_at digests) items ≡ None)
+  pub done : IsPutOn order copy items put sums
+
+-- what comes was listed, and not put; or it was, and a file has another digest
+pub record IsUnputList (Hosts : Tree → Type 0) (order : PutOrder) (copy : List ℕ) (told : PutFault) : Type 0 where
+  pub items : List PlannedItem
+  pub digests : Entries (List ℕ)
+  pub listed : OfEachTree Hosts (IsListed order items digests)
+  pub why : IsUnputOn order copy items told ⊎ IsUnverified Hosts digests items told
+
+-- why nothing was put on the volume of the copy
+abbrev pub IsUnput : (Tree → Type 0) → PutOrder → List ℕ → PutFault → Type 0
+IsUnput Hosts order copy told = IsUnlisted told ⊎ IsUnputList Hosts order copy told
+
+-- a fault that is told as one of the image is one of mounting it
+abbrev pub IsPutFault : Bor (List ℕ) → PutFault → Type 0
+IsPutFault path (told.Image found) = IsUnmounted path found
+IsPutFault path (told.CannotRead source) = ⊤
+IsPutFault path (told.Refused lines) = ⊤

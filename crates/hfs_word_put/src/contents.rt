@@ -1,0 +1,85 @@
+//! A file with what is put on its volume, which is looked at again with all that it is read from.
+ghost use Rattle.std.specs.Prelude.{◌≡◌, OnOk};
+ghost use Rattle.hfs_source.specs.Images.{OfEach};
+ghost use Rattle.hfs_laid_forks.specs.Failures.{FailsLaid};
+ghost use Rattle.hfs_laid_forks.specs.Images.{laid_images};
+ghost use Rattle.hfs_word_put.specs.Contents.{IsSettled};
+
+use hfs_commands::WatchedBytes;
+use hfs_laid_forks::{LaidForks, PlacedFiles};
+use hfs_source::PlacedBytes;
+use hfs_sources::HostFault;
+use std::io;
+use std::io::ErrorKind;
+
+/// Who is told of the bytes that are read while a file is written.
+pub trait PutWatch {
+    /// So many bytes more were read.
+    fn bytes_came(&self, count: u64);
+}
+
+/// The bytes of a file with the forks of what comes in their places, as far as the file and what comes are as they were. Each read is
+/// told to a watch.
+#[derive(Drop)]
+pub struct LaidFile<'a, S, H, W> {
+    pub forks: LaidForks<S, H>,
+    pub watch: &'a W,
+}
+
+impl<S: PlacedBytes + Drop, H: PlacedFiles + Drop, W: PutWatch> PlacedBytes
+    for LaidFile<'_, S, H, W> {
+    ghost Holds = { λ file. laid_images S.Holds H.Holds file.forks };
+
+    ghost Fails = { λ file. FailsLaid (S.Fails file.forks.bytes) file.forks.start file.forks.runs.items };
+
+    fn len(&self) -> u64 {
+        self.forks.len()
+    }
+
+    fn read_at(&mut self, place: u64, into: &mut [u8]) -> io::Result<()> {
+        self.forks.read_at(place, into)?;
+        self.watch.bytes_came(into.len() as u64);
+        Ok(())
+    }
+}
+
+impl<S: WatchedBytes + Drop, H: PlacedFiles + Drop, W: PutWatch> LaidFile<'_, S, H, W> {
+    /// Why what comes couldn't be read, or was found changed, the first time.
+    pub fn into_fault(self) -> Option<HostFault>
+        ensures { result ≡ self.entry.forks.fault }
+    {
+        let LaidFile {
+            mut forks,
+            watch: _,
+        } = self;
+        forks.take_fault()
+    }
+}
+
+/// Looks again at all files that come, and then at the file in which they are laid. What was found changed is kept.
+fn look_again<S: WatchedBytes + Drop, H: PlacedFiles + Drop>(
+    forks: &mut LaidForks<S, H>,
+) -> io::Result<()>
+    ensures settled { OnOk result (IsSettled S.settled H.Holds forks.new) }
+    ensures narrows { OfEach (laid_images S.Holds H.Holds forks.new)
+        (laid_images S.Holds H.Holds forks.old) }
+{
+    match forks.look_again() {
+        Ok(()) => forks.bytes.look_again(),
+        Err(fault) => {
+            if forks.fault.is_none() {
+                forks.fault = Some(fault);
+            }
+            Err(io::Error::from(ErrorKind::InvalidData))
+        }
+    }
+}
+
+impl<S: WatchedBytes + Drop, H: PlacedFiles + Drop, W: PutWatch> WatchedBytes
+    for LaidFile<'_, S, H, W> {
+    ghost settled = { λ file. IsSettled S.settled H.Holds file.forks };
+
+    fn look_again(&mut self) -> io::Result<()> {
+        look_again(&mut self.forks)
+    }
+}

@@ -1,0 +1,80 @@
+//! What comes, as far as the host tells it.
+ghost use Rattle.std.specs.Prelude.{◌≡◌, None, IfErr, IfOk, OnOk};
+ghost use Rattle.hfs_bag_facts.specs.Digests.{first_wrong};
+ghost use Rattle.hfs_bag_facts.specs.Later.{told_at};
+ghost use Rattle.hfs_sources.specs.Trees.{OfEachTree};
+ghost use Rattle.hfs_word_put.specs.Listed.{IsListed, IsUnlisted, IsUnverified};
+
+use crate::fault::PutFault;
+use crate::lines::refusal_line;
+use crate::order::PutOrder;
+use crate::reason::PutReason;
+use hfs_bag_facts::{BagFacts, ManifestDigests, first_wrong_file};
+use hfs_sources::{HostFault, HostTree, SourceItem, list_sources};
+use std::alloc::Global;
+
+/// What comes.
+#[derive(Drop)]
+pub struct Listed {
+    /// The items, in the order of the walk.
+    pub items: Vec<SourceItem>,
+    /// The digests that bags tell of their files.
+    pub digests: ManifestDigests,
+}
+
+/// Reads what the tags of bags tell, and lists what comes.
+fn read_list<T: HostTree>(
+    alloc: Global,
+    tree: &mut T,
+    order: &PutOrder<'_>,
+) -> Result<Listed, HostFault>
+    ensures listed { IfOk result (λ listed. OfEachTree (T.Holds tree.new)
+        (IsListed order.entry.now listed.items.items listed.digests)) }
+    ensures held { OfEachTree (T.Holds tree.new) (T.Holds tree.old) }
+{
+    let facts = BagFacts::read(alloc, tree, order.sources)?;
+    let digests = ManifestDigests::read(alloc, tree, order.sources)?;
+    let items = list_sources(alloc, tree, &facts, order.how, order.sources)?;
+    Ok(Listed { items, digests })
+}
+
+/// Lists what comes, with what bags tell of it. Faults: the first that can't be read; a folder in which a name is not UTF-8; want of
+/// memory.
+pub fn list_all<T: HostTree>(
+    alloc: Global,
+    tree: &mut T,
+    order: &PutOrder<'_>,
+) -> Result<Listed, PutFault<'static>>
+    ensures listed { IfOk result (λ listed. OfEachTree (T.Holds tree.new)
+        (IsListed order.entry.now listed.items.items listed.digests)) }
+    ensures held { OfEachTree (T.Holds tree.new) (T.Holds tree.old) }
+    ensures fault { IfErr result IsUnlisted }
+{
+    match read_list(alloc, tree, order) {
+        Ok(listed) => Ok(listed),
+        Err(fault) => Err(PutFault::of_host(alloc, fault)),
+    }
+}
+
+/// Looks that each file has the digest that its bag tells of it, for which the files of bags are read. Faults: the first that has
+/// another, or that can't be read; want of memory.
+pub fn need_digests<T: HostTree>(
+    alloc: Global,
+    tree: &mut T,
+    digests: &ManifestDigests,
+    items: &[SourceItem],
+) -> Result<(), PutFault<'static>>
+    ensures right { OnOk result (OfEachTree (T.Holds tree.new)
+        (λ host. first_wrong host (told_at digests.now) items.now ≡ None)) }
+    ensures held { OfEachTree (T.Holds tree.new) (T.Holds tree.old) }
+    ensures fault { IfErr result (IsUnverified (T.Holds tree.new) digests.now items.now) }
+{
+    match first_wrong_file(alloc, tree, digests, items) {
+        Ok(None) => Ok(()),
+        Ok(Some(path)) => {
+            let lines = refusal_line(alloc, path, PutReason::Digest);
+            Err(PutFault::of_lines(lines))
+        }
+        Err(fault) => Err(PutFault::of_host(alloc, fault)),
+    }
+}

@@ -1,0 +1,191 @@
+//! What comes is put on a volume in a file: what the file is to hold then.
+ghost use Rattle.std.specs.Prelude.{◌≡◌, ◌≤◌, ◌/◌, IfErr, IfOk, MatchResult};
+ghost use Rattle.hfs_blocks.specs.Blocks.{block_count};
+ghost use Rattle.hfs_blocks.specs.Layers.{changes, AreWithin};
+ghost use Rattle.hfs_sources.specs.Trees.{OfEachTree};
+ghost use Rattle.hfs_laid_forks.specs.Files.{IsReadOf};
+ghost use Rattle.hfs_word_put.specs.Faults.{IsUnsavedBy};
+ghost use Rattle.hfs_word_put.specs.Files.{IsPutFile, place_of};
+ghost use Rattle.hfs_word_put.specs.Put.{IsPutFault, IsPutOf, IsPutOn, IsUnput, IsUnputOn};
+
+use crate::contents::{LaidFile, PutWatch};
+use crate::fault::PutFault;
+use crate::laying::lay_all;
+use crate::lines::PutSums;
+use crate::listing::{Listed, list_all, need_digests};
+use crate::mounting::mount_image;
+use crate::order::PutOrder;
+use crate::placing::place_all;
+use crate::wants::put_sums;
+use hfs_commands::{ByteRange, Fault, ImageInFile, WatchedBytes, WatchedRange};
+use hfs_laid_forks::{HostFiles, LaidForks, PlacedFiles};
+use hfs_patched::ImagePlace;
+use hfs_put_image::PutBlocks;
+use hfs_source::RangeBytes;
+use hfs_sources::{HostTree, SourceItem};
+use hfs_volume::Volume;
+use std::alloc::Global;
+
+/// A list that was put on a volume.
+#[derive(Drop)]
+pub struct PutList {
+    /// The blocks that go out, and where the forks are to be laid.
+    pub blocks: PutBlocks,
+    /// How much was put.
+    pub sums: PutSums,
+}
+
+/// What came, and was put on a volume.
+#[derive(Drop)]
+pub struct PutItems {
+    pub items: Vec<SourceItem>,
+    pub list: PutList,
+}
+
+/// What a file is to hold in which something was put on a volume, and how much was put.
+#[derive(Drop)]
+pub struct PutImage<'w, S, H, W> {
+    pub contents: ImageInFile<LaidFile<'w, S, H, W>>,
+    pub sums: PutSums,
+}
+
+/// Puts a list on a volume that was mounted just now. Faults, in this order: what can't come to its place; the first call that is
+/// refused. Or want of memory.
+fn put_list(
+    alloc: Global,
+    volume: &mut Volume,
+    order: &PutOrder<'_>,
+    items: &[SourceItem],
+) -> Result<PutList, PutFault<'static>>
+    requires { volume.old.current ≡ volume.old.base }
+    ensures put { IfOk result (λ put. IsPutOn order.entry.now volume.old.base items.now put.blocks put.sums) }
+    ensures within { IfOk result (λ put. AreWithin (changes put.blocks.patch) (block_count volume.old.base)) }
+    ensures fault { IfErr result (IsUnputOn order.entry.now volume.old.base items.now) }
+{
+    let list = place_all(alloc, volume, order, items)?;
+    let blocks = lay_all(alloc, volume, &list, items, order.now)?;
+    let free = u32::from(volume.directory().free_blocks);
+    let sums = put_sums(&list.places, free);
+    Ok(PutList { blocks, sums })
+}
+
+/// Puts what comes on a volume that was mounted just now, by all calls but those that write forks. Faults, in this order: what can't
+/// be read of it; what can't come to its place; the first call that is refused; the first file with another digest than its bag
+/// tells. Or want of memory.
+pub fn put_items<T: HostTree>(
+    alloc: Global,
+    volume: &mut Volume,
+    tree: &mut T,
+    order: &PutOrder<'_>,
+) -> Result<PutItems, PutFault<'static>>
+    requires { volume.old.current ≡ volume.old.base }
+    ensures put { IfOk result (λ put. IsPutOf (T.Holds tree.new) order.entry.now volume.old.base
+        put.items.items put.list.blocks put.list.sums) }
+    ensures within { IfOk result (λ put. AreWithin (changes put.list.blocks.patch) (block_count volume.old.base)) }
+    ensures held { OfEachTree (T.Holds tree.new) (T.Holds tree.old) }
+    ensures fault { IfErr result (IsUnput (T.Holds tree.new) order.entry.now volume.old.base) }
+{
+    let Listed { items, digests } = list_all(alloc, tree, order)?;
+    let list = put_list(alloc, volume, order, &items)?;
+    need_digests(alloc, tree, &digests, &items)?;
+    Ok(PutItems { items, list })
+}
+
+/// What a file is to hold in which an image lies, on whose volume this was put. Fault: `CannotRead` of the path, where the image
+/// doesn't lie in the file.
+pub fn put_image<'a, 'w, S: WatchedBytes + Drop, H: PlacedFiles + Drop, W: PutWatch>(
+    alloc: Global,
+    image: WatchedRange<S>,
+    sum_at: Option<u64>,
+    path: &'a str,
+    files: H,
+    put: PutItems,
+    watch: &'w W,
+) -> Result<PutImage<'w, S, H, W>, Fault<'a>>
+    requires small { image.bytes.len ≤ 2147483648 }
+    requires within { AreWithin (changes put.list.blocks.patch) (image.bytes.len / 512) }
+    ensures file { IfOk result (λ made. made.contents.file.forks.bytes ≡ image.bytes.bytes) }
+    ensures files { IfOk result (λ made. made.contents.file.forks.files ≡ files) }
+    ensures items { IfOk result (λ made. made.contents.file.forks.items ≡ put.items) }
+    ensures runs { IfOk result (λ made. made.contents.file.forks.runs ≡ put.list.blocks.runs) }
+    ensures start { IfOk result (λ made. made.contents.file.forks.start ≡ image.bytes.start) }
+    ensures patch { IfOk result (λ made. made.contents.patch ≡ put.list.blocks.patch) }
+    ensures place { IfOk result (λ made. made.contents.place
+        ≡ place_of image.bytes.start image.bytes.len sum_at) }
+    ensures sums { IfOk result (λ made. made.sums ≡ put.list.sums) }
+    ensures fault { IfErr result (λ fault. fault ≡ Fault.CannotRead path.entry) }
+{
+    let PutItems { items, list } = put;
+    let PutList { blocks, sums } = list;
+    let PutBlocks {
+        patch,
+        runs,
+        ids: _,
+    } = blocks;
+    let WatchedRange { bytes } = image;
+    let RangeBytes {
+        bytes: file,
+        start,
+        len,
+    } = bytes;
+    let Some(forks) = LaidForks::new(alloc, file, files, items, runs, start) else {
+        return Err(Fault::CannotRead(path));
+    };
+    let range = ByteRange { start, len };
+    Ok(PutImage {
+        contents: ImageInFile {
+            alloc,
+            file: LaidFile { forks, watch },
+            place: ImagePlace { range, sum_at },
+            patch,
+        },
+        sums,
+    })
+}
+
+/// Puts what comes on the volume of an image that lies in a file, which was opened by this path: what the file is to hold then. The
+/// bytes of forks are read as it is written, of which a watch is told. Faults, in this order: those of the image, then those of
+/// [`put_items`].
+pub fn put_sources<'a, 'w, S: WatchedBytes + Drop, T: HostTree + Drop, W: PutWatch>(
+    alloc: Global,
+    image: WatchedRange<S>,
+    sum_at: Option<u64>,
+    path: &'a str,
+    tree: T,
+    order: &PutOrder<'_>,
+    watch: &'w W,
+) -> Result<PutImage<'w, S, HostFiles<T>, W>, PutFault<'a>>
+    ensures put { IfOk result (λ made. IsPutFile S.Holds (IsReadOf T.Holds T.File.Holds)
+        order.entry.now image.bytes.start image.bytes.len sum_at made) }
+    ensures fault { IfErr result (IsPutFault path.entry) }
+{
+    let mut image = image;
+    let mut tree = tree;
+    let len = image.bytes.len;
+    let mut volume = match mount_image(alloc, &mut image, len, path) {
+        Ok(volume) => volume,
+        Err(fault) => return Err(PutFault::Image(fault)),
+    };
+    let put = put_items(alloc, &mut volume, &mut tree, order)?;
+    let files = HostFiles::new(alloc, tree);
+    match put_image(alloc, image, sum_at, path, files, put, watch) {
+        Ok(made) => Ok(made),
+        Err(fault) => Err(PutFault::Image(fault)),
+    }
+}
+
+/// What it means that what a file is to hold was not written: where what comes couldn't be read, or had changed, that; else this
+/// fault.
+pub fn unsaved<'a, S: WatchedBytes + Drop, H: PlacedFiles + Drop, W: PutWatch>(
+    alloc: Global,
+    contents: ImageInFile<LaidFile<'_, S, H, W>>,
+    fault: Fault<'a>,
+) -> PutFault<'a>
+    ensures { IsUnsavedBy contents.entry.file.forks.fault fault.entry result }
+{
+    let ImageInFile { file, .. } = contents;
+    match file.into_fault() {
+        Some(why) => PutFault::of_host(alloc, why),
+        None => PutFault::Image(fault),
+    }
+}
