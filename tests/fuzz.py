@@ -272,6 +272,10 @@ class Words:
     def __init__(self, tool, work):
         self.tool, self.run_count = tool, 0
         self.image, self.other = os.path.join(work, 'fuzzed.image'), os.path.join(work, 'other.image')
+        self.sources = [os.path.join(work, name) for name in ('Read Me', 'Icon\r')]
+        for path, length in zip(self.sources, (700, 0)):
+            with open(path, 'wb') as file:
+                file.write(bytes(length))
         self.statuses = {}
 
     def run(self, word, *words, out=subprocess.PIPE, stdin=subprocess.DEVNULL, given=None):
@@ -387,6 +391,23 @@ class Words:
         status, printed = self.run('repair', self.other, self.other)
         self.expect(status == 0 and printed == b'sound\n' and self.read_other() == written, 'mended a mended volume')
 
+    def put(self, fault):
+        """A file of two blocks and one of none come onto a sound volume, or what is wanting is told."""
+        status, printed = self.run('put', self.image, *self.sources, '--rename', '--replace', '--now', '7', '--out', self.other)
+        self.same_image()
+        written = self.read_other()
+        if fault is not None:
+            self.expect(status == 2 and printed == fault and written is None, 'did not tell the fault that check tells')
+            return
+        if status != 0:
+            self.expect(status == 3 and printed.startswith(b'cannot put ') and written is None, 'refused to put, and wrote a file')
+            return
+        self.expect(written is not None and len(written) == len(self.content) and printed.startswith(b'put\nfiles 2\nfolders 0\nbytes 700\n'), 'wrote no volume')
+        with open(self.other, 'wb') as file:
+            file.write(written)
+        self.expect(self.run('check', self.other)[0] == 0, 'put files on a volume that is not sound then')
+        self.read_other()
+
     def new(self, draw):
         """A new volume of drawn numbers is sound, or is refused and not written."""
         name = draw.choice(['D', 'Archive', 'a:b', '', 'x' * 27, 'x' * 28, 'é'])
@@ -432,6 +453,7 @@ class Words:
         if fault is not None:
             self.cat(fault, 2, 'Read Me', draw.random() < 0.5, 0)
         self.repair(fault)
+        self.put(fault)
         if draw.random() < 0.1:
             self.new(draw)
             self.into_full_device()

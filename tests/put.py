@@ -26,10 +26,10 @@ from pathlib import Path
 
 from driver.calls import Call, read_answers, script_of
 from driver.image import MDB, Image
-from driver.keeping import ensure
-from driver.programs import REAL_VOLUMES, Difference, Program, built
+from driver.programs import REAL_VOLUMES, Program, built
 from driver.putting import Disk, Placed
 from driver.sources import DATES, FINDER, LONGEST, RESOURCE, CannotRead, NotText, Walk, apple_double, letters_of, mac_binary, read_mac_binary
+from driver.wanted import Difference, ensure
 from forks import Shape, ensure_no_new_faults, in_larger_blocks, scattered
 from inside import with_volume
 from volumes import WRAPPINGS, content, found, turned_sum

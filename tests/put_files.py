@@ -8,7 +8,6 @@ tests/put_files.py      runs $HFS_TOOL, or the program as it is built in crates/
 It prints how many runs there were; at a difference it says which, and ends with status 1. What can't be tried here is left out and named.
 """
 import os
-import pty
 import re
 import resource
 import shutil
@@ -20,10 +19,10 @@ import time
 from pathlib import Path
 
 import devices
-from driver.keeping import ensure
-from driver.programs import Difference
-from driver.sources import FINDER, RESOURCE, Walk, apple_double, mac_binary
-from put import FINDER_BYTES, NOW, Bench, Link, Options, lay
+from driver.programs import ended_at_terminal
+from driver.sources import FINDER, RESOURCE, apple_double, mac_binary
+from driver.wanted import Difference, ensure
+from put import FINDER_BYTES, NOW, Bench, Options, lay
 
 OLD = b'the old file'
 # A source is changed when FILE's new file is made, or at one of the writes into it.
@@ -267,7 +266,7 @@ def of_kills(files: Files) -> None:
         ended.add(found == wanted)
         for left in Path().glob('*.new'):
             left.unlink()
-    ensure(ended == {False, True}, 'runs are killed before they end, and behind it')
+    ensure(False in ended, 'no run is killed before it ends')
     files.bench.runs += 16
 
 
@@ -286,21 +285,10 @@ def of_memory(files: Files) -> None:
 
 def of_terminals(files: Files) -> None:
     """At a terminal one line says how far the run is; it is written over, and taken away at the end."""
-    terminal, other = pty.openpty()
-    run = subprocess.Popen([files.bench.tool.path, 'put', files.bench.image, 'small ones', '--out', files.bench.out], stdin=subprocess.DEVNULL, stdout=subprocess.PIPE,
-                           stderr=other)
-    os.close(other)
-    run.stdout.read()
-    said = b''
-    try:
-        while part := os.read(terminal, 4096):
-            said += part
-    except OSError:
-        # the program has ended, and with it the terminal's other side
-        pass
-    os.close(terminal)
+    words = ['put', files.bench.image, 'small ones', '--out', files.bench.out]
+    status, _, said = ended_at_terminal(files.bench.tool.path, words)
     shown = re.findall(r'\r([^\r\x1b]*)\x1b\[K', said.decode())
-    ensure(run.wait() == 0 and shown and shown[-1] == '' and all(shown[:-1]), f'what is told at a terminal: {said[:300]!r}')
+    ensure(status == 0 and shown and shown[-1] == '' and all(shown[:-1]), f'what is told at a terminal: {said[:300]!r}')
 
 
 def main() -> int:

@@ -63,12 +63,13 @@ is_alone() {
     [ -z "$(find "$here" -name '*.new')" ] || fail "$1: a file is left"
 }
 
-# The three words that write a file: their words for this one, and what they print.
+# The words that write a file: their words for this one, and what they print.
 word() {
     case $1 in
         new) words=(new "$2" D 64 6 2) printed='' ;;
         repair) words=(repair "$folder/wrong.img" "$2") printed='fixed drFilCnt 1 0\nsound\n' ;;
         run) words=(run "$folder/small.img" "$folder/script" --out "$2") printed='1\t1\t0\tid 16\n1\t2\t0\t-\n1\t3\t0\t-\n' ;;
+        put) words=(put "$folder/small.img" "$folder/source" --now 5 --out "$2") printed='put\nfiles 1\nfolders 0\nbytes 2\nfree 49\n' ;;
     esac
 }
 
@@ -95,12 +96,15 @@ printf '\000\000\000\001' | dd of="$folder/wrong.img" bs=1 seek=$((2 * 512 + 84)
 printf '1\tcreate\t2\ta\n1\twrite\t2\ta\tdata\t0\t6162\n1\tseteof\t2\ta\tres\t900\n' > "$folder/script"
 "$tool" run "$folder/small.img" "$folder/script" --out "$folder/run.img" > "$folder/printed"
 [ "$("$tool" ls "$folder/run.img" | cut -f 5)" = a ] || fail 'what run writes'
+printf ab > "$folder/source"
+"$tool" put "$folder/small.img" "$folder/source" --now 5 --out "$folder/put.img" > "$folder/printed"
+[ "$("$tool" cat "$folder/put.img" 2 source)" = ab ] || fail 'what put writes'
 
 # Whether a file may be written and by whom: without a permission for anybody no one writes it, root
 # neither.
 protection() {
     local name
-    for name in new repair run; do
+    for name in new repair run put; do
         for mode in 444 400 555 000; do
             lay "$mode"
             refused "$name" "$here/file.img" "over a file of mode $mode"
@@ -136,7 +140,7 @@ owned() {
 # Owner and group: root keeps both, a plain user the group, where it is one of theirs.
 owners() {
     local name
-    for name in new repair run; do
+    for name in new repair run put; do
         lay 644
         if [ -z "$plain" ]; then
             owned "$name" 1234:3456 640 '640 1234 3456'
@@ -162,7 +166,7 @@ owners() {
 # The second name of a file keeps the old bytes.
 second_links() {
     local name
-    for name in new repair run; do
+    for name in new repair run put; do
         lay 644
         rm -f "$here/second.img"
         ln "$here/file.img" "$here/second.img"
@@ -183,7 +187,7 @@ links() {
     ln -s round.img "$here/ring.img"
     ln -s ring.img "$here/round.img"
     mkfifo -m 666 "$here/pipe"
-    for name in new repair run; do
+    for name in new repair run put; do
         for link in link.img inner/link.img; do
             lay 640
             written "$name" "$here/$link" "$here/file.img"
@@ -212,7 +216,7 @@ links() {
 # What runs that were stopped left.
 leftovers() {
     local name n told
-    for name in new repair run; do
+    for name in new repair run put; do
         lay 644
         echo left > "$here/file.img.0.new"
         word "$name" "$here/file.img"
@@ -267,7 +271,9 @@ paths() {
     wants 4 "cannot read $shown\n" '' repair "$raw" "$here/out.img"
     wants 4 "cannot read $shown\n" '' run "$raw" "$folder/script"
     wants 4 "cannot read $shown\n" '' run "$folder/small.img" "$raw"
-    for name in new repair run; do
+    wants 4 "cannot read $shown\n" '' put "$raw" "$folder/source" --out "$here/out.img"
+    wants 4 "cannot read $shown\n" '' put "$folder/small.img" "$raw" --out "$here/out.img"
+    for name in new repair run put; do
         word "$name" "$raw/none"
         wants 4 "cannot write $shown/none\n" '' "${words[@]}"
         echo left > "$raw.0.new"
@@ -277,7 +283,7 @@ paths() {
     done
 }
 
-# The three words with a volume of 4 MB, for writes that take a while. The script writes both forks of a file, some 2 MB of them.
+# Three of the words with a volume of 4 MB, for writes that take a while. The script writes both forks of a file, some 2 MB of them.
 large_word() {
     case $1 in
         new) words=(new "$here/file.img" D 8192 40 4) printed='' ;;
