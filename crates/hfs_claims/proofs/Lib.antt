@@ -7,3 +7,4 @@ mod Running
 mod Firsts
 mod RowLemmas
 mod Chosen
+mod ByteLemmas

@@ -1,7 +1,6 @@
 -- Walking over blocks, from the first on, and noting the runs of free ones.
-use Rattle.std.proofs.Common.{◌≡◌, ℕ, zero, suc, ◌+◌, ◌-◌, ◌<◌, ◌≤◌, Bool, true, false, cond, eqb, List, [], ◌∷◌, ◌++◌, refl, sym, ap, ◌∙◌, subst, arith, append_assoc, inl, inr, get_or}
-use Rattle.std.specs.Prelude.{not, filter, map, ◌||◌}
-use Rattle.std.proofs.lemmas.List.FromFn.{get_or-map-range_with_len}
+use Rattle.std.proofs.Common.{◌≡◌, ℕ, zero, suc, ◌+◌, ◌-◌, ◌<◌, ◌≤◌, Bool, true, false, cond, eqb, List, [], ◌∷◌, ◌++◌, refl, sym, ap, ◌∙◌, subst, arith, append_assoc, inl, inr}
+use Rattle.std.specs.Prelude.{not, filter}
 use Rattle.std.specs.List.{All, range_with_len}
 use Rattle.std.proofs.lemmas.Bool.{eqb-true, eqb-false, cases_lt}
 use Rattle.std.proofs.lemmas.List.{append-nil}
@@ -9,7 +8,7 @@ use Rattle.std.proofs.lemmas.List.Elements.{All-nil, All-push, All-append, All-w
 use Rattle.std.proofs.lemmas.List.Concat.{flat_map-append}
 use Rattle.hfs_fields.specs.declared.extent.Extent.{Extent}
 use Rattle.hfs_space.specs.Extents.{extent_blocks}
-use Rattle.hfs_claims.specs.FreeRuns.{free_blocks, IsWhole, AreFreeRuns, run_before, is_in, is_taken, mark_at}
+use Rattle.hfs_claims.specs.FreeRuns.{free_blocks, IsWhole, AreFreeRuns, IsRunning, run_before, is_taken}
 use Rattle.hfs_claims.proofs.Counted.{taken-nothing}
 
 -- one more number
@@ -38,13 +37,6 @@ free_blocks-free used i free = free_blocks-next used i ∙ ap (λ l. free_blocks
 
 pub free_blocks-used : (used : ℕ → Bool) (i : ℕ) → used i ≡ true → free_blocks used (i + 1) ≡ free_blocks used i
 free_blocks-used used i is = free_blocks-next used i ∙ ap (λ l. free_blocks used i ++ l) (one-used used i is) ∙ append-nil (free_blocks used i)
-
--- among the first i blocks: the runs that have ended, and the free blocks directly before block i
-pub record IsRunning (used : ℕ → Bool) (n i count : ℕ) (runs : List Extent) : Type 0 where
-  pub few : count ≤ i
-  pub blocks : extent_blocks runs ++ range_with_len (i - count) count ≡ free_blocks used i
-  pub whole : All (IsWhole used n) runs
-  pub begins : 0 < i - count → used (i - count - 1) ≡ true
 
 pub running-none : (used : ℕ → Bool) (n : ℕ) → IsRunning used n 0 0 []
 running-none used n = record { few = omega arith; blocks = refl; whole = All-nil (IsWhole used n); begins = λ some. absurd (omega (arith, some)) }
@@ -108,6 +100,33 @@ module _ (used : ℕ → Bool) (n i count : ℕ) (runs : List Extent) (h : IsRun
   pub running-all : (end : ℕ) → i ≡ end → end ≡ n → AreFreeRuns used n (runs ++ run_before end count)
   running-all end at last = subst (λ (k : ℕ). AreFreeRuns used n (runs ++ run_before k count)) at (running-last (at ∙ last))
 
+-- ---- several blocks at once
+
+-- so many free ones
+pub running-frees : (used : ℕ → Bool) (n i count : ℕ) (runs : List Extent) (more : ℕ) → IsRunning used n i count runs
+    → ((k : ℕ) → i ≤ k → k < i + more → used k ≡ false) → IsRunning used n (i + more) (count + more) runs
+running-frees used n i count runs zero h free =
+    subst (λ (k : ℕ). IsRunning used n k (count + 0) runs) (let e : i ≡ i + 0 = omega arith in e)
+    (subst (λ (k : ℕ). IsRunning used n i k runs) (let e : count ≡ count + 0 = omega arith in e) h)
+running-frees used n i count runs (suc more) h free =
+    let before = running-frees used n i count runs more h (λ k from below. free k from (omega (arith, below))) in
+    let next = running-free used n (i + more) (count + more) runs before (free (i + more) (omega arith) (omega arith)) in
+    subst (λ (k : ℕ). IsRunning used n k (count + suc more) runs) (let e : i + more + 1 ≡ i + suc more = omega arith in e)
+    (subst (λ (k : ℕ). IsRunning used n (i + more + 1) k runs) (let e : count + more + 1 ≡ count + suc more = omega arith in e) next)
+
+-- so many that are in use, and one more
+pub running-useds : (used : ℕ → Bool) (n i count : ℕ) (runs : List Extent) (more : ℕ) → IsRunning used n i count runs → i + more ≤ n
+    → ((k : ℕ) → i ≤ k → k < i + more + 1 → used k ≡ true) → IsRunning used n (i + more + 1) 0 (runs ++ run_before i count)
+running-useds used n i count runs zero h within is =
+    subst (λ (k : ℕ). IsRunning used n k 0 (runs ++ run_before i count)) (let e : i + 1 ≡ i + 0 + 1 = omega arith in e)
+    (running-used used n i count runs h (omega (arith, within)) (is i (omega arith) (omega arith)))
+running-useds used n i count runs (suc more) h within is =
+    let all = runs ++ run_before i count in
+    let before = running-useds used n i count runs more h (omega (arith, within)) (λ k from below. is k from (omega (arith, below))) in
+    let next = running-used used n (i + more + 1) 0 all before (omega (arith, within)) (is (i + more + 1) (omega arith) (omega arith)) in
+    subst (λ (k : ℕ). IsRunning used n k 0 all) (let e : i + more + 1 + 1 ≡ i + suc more + 1 = omega arith in e)
+    (subst (λ (l : List Extent). IsRunning used n (i + more + 1 + 1) 0 l) (append-nil all) next)
+
 -- ---- tests that agree
 
 filter-same : (p q : ℕ → Bool) (a n : ℕ) → ((b : ℕ) → b < a + n → p b ≡ q b) → filter (λ b. not (p b)) (range_with_len a n) ≡ filter (λ b. not (q b)) (range_with_len a n)
@@ -125,12 +144,6 @@ AreFreeRuns-same p q n runs same h = record {
     ends = λ below. sym (same (e.first + e.count) below) ∙ w.ends below;
   }) runs h.whole;
 }
-
--- marks of a map are its tests
-pub left-same : {marks : List Bool} (used : ℕ → Bool) (n : ℕ) (e : Extent) (runs : List Extent) → marks ≡ map used (range_with_len 0 n) → AreFreeRuns (is_taken (mark_at marks) e) n runs → AreFreeRuns (is_taken used e) n runs
-left-same {marks} used n e runs are h =
-    AreFreeRuns-same (is_taken (mark_at marks) e) (is_taken used e) n runs
-    (λ b lt. ap (λ t. t || is_in e b) (ap (λ (l : List Bool). get_or l b true) are ∙ get_or-map-range_with_len used 0 n b b true lt (let z : 0 + b ≡ b = omega arith in z))) h
 
 -- where nothing is taken
 pub all-same : (used : ℕ → Bool) (n : ℕ) (runs : List Extent) → AreFreeRuns (is_taken used (record { first = 0; count = 0 })) n runs → AreFreeRuns used n runs

@@ -1,5 +1,5 @@
 -- Runs of free allocation blocks. Blocks here are allocation blocks, counted from 0; `used` says which are in use.
-use Rattle.std.specs.Prelude.{◌≡◌, ℕ, ◌+◌, ◌-◌, ◌<◌, ◌≤◌, Bool, true, not, ◌&&◌, ◌||◌, ◌==◌, nat_le, nat_lt, if◌then◌else◌, List, [], ◌∷◌, filter, slice_index_or}
+use Rattle.std.specs.Prelude.{◌≡◌, ℕ, ◌+◌, ◌-◌, ◌<◌, ◌≤◌, Bool, true, not, ◌&&◌, ◌||◌, ◌==◌, nat_le, nat_lt, if◌then◌else◌, List, [], ◌∷◌, ◌++◌, filter}
 use Rattle.std.specs.List.{All, range_with_len}
 use Rattle.hfs_fields.specs.declared.extent.Extent.{Extent}
 use Rattle.hfs_space.specs.Extents.{extent_blocks}
@@ -28,10 +28,17 @@ is_in e b = nat_le e.first b && nat_lt b (e.first + e.count)
 abbrev pub is_taken : (ℕ → Bool) → Extent → ℕ → Bool
 is_taken used e b = used b || is_in e b
 
--- whether a block is marked, by the marks of the first blocks
-abbrev pub mark_at : List Bool → ℕ → Bool
-mark_at marks b = slice_index_or marks b true
+-- one of the eight blocks from `first` on may be the extent's
+abbrev pub meets : Extent → ℕ → Bool
+meets e first = nat_lt e.first (first + 8) && nat_lt first (e.first + e.count)
 
 -- the run of `count` blocks directly before a block, if it has one
 abbrev pub run_before : ℕ → ℕ → List Extent
 run_before end count = if count == 0 then [] else record { first = end - count; count = count } ∷ []
+
+-- among the first i blocks: the runs that have ended, and the free blocks directly before block i
+pub record IsRunning (used : ℕ → Bool) (n i count : ℕ) (runs : List Extent) : Type 0 where
+  pub few : count ≤ i
+  pub blocks : extent_blocks runs ++ range_with_len (i - count) count ≡ free_blocks used i
+  pub whole : All (IsWhole used n) runs
+  pub begins : 0 < i - count → used (i - count - 1) ≡ true

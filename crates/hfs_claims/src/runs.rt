@@ -1,10 +1,12 @@
 //! The runs of free allocation blocks.
 
-ghost use Rattle.std.specs.Prelude.{◌≡◌, ◌<◌, ◌≤◌, ◌++◌, length, OnOk, IfOk};
+ghost use Rattle.std.specs.Prelude.{◌≡◌, ◌+◌, ◌/◌, ◌%◌, ◌<◌, ◌≤◌, ◌++◌, ◌||◌, min, OnOk, IfOk};
 ghost use Rattle.hfs_space.specs.Bitmap as bits;
 ghost use Rattle.hfs_space.specs.Extents as extents;
 ghost use Rattle.hfs_claims.specs.FreeRuns as spec;
 
+use crate::bits::is_set;
+use crate::rows::{BITS, turn_to};
 use hfs_blocks::Blocks;
 use hfs_fields::Extent;
 use hfs_space::Bitmap;
@@ -34,37 +36,83 @@ fn push_run(runs: &mut Vec<Extent>, end: u16, count: u16) -> Result<(), AllocErr
     Ok(())
 }
 
-/// Whether a block is marked, or is one of the extent's.
-fn is_taken(marks: &[bool], taken: Extent, block: u16) -> bool
-    requires { block < length marks.now }
-    ensures { result ≡ spec.is_taken (spec.mark_at marks.now) taken block }
+/// Whether one of the eight blocks from `first` on may be the extent's.
+fn meets(extent: Extent, first: u16) -> bool
+    ensures { result ≡ spec.meets extent first }
 {
-    marks[usize::from(block)] || is_in(taken, block)
+    let end = u32::from(extent.first) + u32::from(extent.count);
+    u32::from(extent.first) < u32::from(first) + 8 && u32::from(first) < end
 }
 
-/// The runs of the first `count` blocks that are neither marked nor the extent's.
-fn runs_beside(
-    alloc: Global,
-    marks: &[bool],
-    count: u16,
-    taken: Extent,
-) -> Result<Vec<Extent>, AllocError>
-    requires { length marks.now ≡ count }
-    ensures { IfOk result (λ runs. spec.AreFreeRuns
-        (spec.is_taken (spec.mark_at marks.now) taken) count runs.items) }
+/// Whether a block is marked, by the bytes in which its bit stands, or is one of the extent's.
+fn is_taken(bytes: &[u8; 512], taken: Extent, block: u16) -> bool
+    ensures { result ≡ (bits.is_marked bytes.now (block % 4096) || spec.is_in taken block) }
 {
-    let mut runs = Vec::new(alloc);
-    let mut free = 0;
-    for block in 0..count {
-        if is_taken(marks, taken, block) {
-            push_run(&mut runs, block, free)?;
+    is_set(bytes, usize::from(block % BITS)) || is_in(taken, block)
+}
+
+/// Passes the blocks of a byte of the bitmap one by one: how many free ones stand behind the last run. The only error is want of memory.
+fn pass_bits<B: Blocks>(
+    runs: &mut Vec<Extent>,
+    before: u16,
+    bitmap: &Bitmap<'_, B>,
+    bytes: &[u8; 512],
+    first: u16,
+    taken: Extent,
+) -> Result<u16, AllocError>
+    requires whole { first % 8 ≡ 0 }
+    requires within { first < bitmap.now.count }
+    requires here { bytes.now ≡ B.blocks bitmap.now.blocks.now (bitmap.now.start + first / 4096) }
+    requires running { spec.IsRunning (spec.is_taken
+        (bits.is_used (B.blocks bitmap.now.blocks.now) bitmap.now.start) taken)
+        bitmap.now.count first before runs.old.items }
+    ensures { IfOk result (λ free. spec.IsRunning (spec.is_taken
+        (bits.is_used (B.blocks bitmap.now.blocks.now) bitmap.now.start) taken)
+        bitmap.now.count (min bitmap.now.count (first + 8)) free runs.new.items) }
+{
+    let mut free = before;
+    for bit in 0..(bitmap.count - first).min(8) {
+        let block = first + bit;
+        if is_taken(bytes, taken, block) {
+            push_run(runs, block, free)?;
             free = 0;
         } else {
             free += 1;
         }
     }
-    push_run(&mut runs, count, free)?;
-    Ok(runs)
+    Ok(free)
+}
+
+/// Passes the blocks of a byte of the bitmap, at once where all of them are in use, or all free: how many free ones stand behind the
+/// last run. The only error is want of memory.
+fn pass_byte<B: Blocks>(
+    runs: &mut Vec<Extent>,
+    before: u16,
+    bitmap: &Bitmap<'_, B>,
+    bytes: &[u8; 512],
+    first: u16,
+    taken: Extent,
+) -> Result<u16, AllocError>
+    requires whole { first % 8 ≡ 0 }
+    requires within { first < bitmap.now.count }
+    requires here { bytes.now ≡ B.blocks bitmap.now.blocks.now (bitmap.now.start + first / 4096) }
+    requires running { spec.IsRunning (spec.is_taken
+        (bits.is_used (B.blocks bitmap.now.blocks.now) bitmap.now.start) taken)
+        bitmap.now.count first before runs.old.items }
+    ensures { IfOk result (λ free. spec.IsRunning (spec.is_taken
+        (bits.is_used (B.blocks bitmap.now.blocks.now) bitmap.now.start) taken)
+        bitmap.now.count (min bitmap.now.count (first + 8)) free runs.new.items) }
+{
+    let byte = bytes[usize::from(first % BITS / 8)];
+    let are_eight = bitmap.count - first >= 8;
+    if are_eight && byte == 0xFF {
+        push_run(runs, first, before)?;
+        return Ok(0);
+    }
+    if are_eight && byte == 0 && !meets(taken, first) {
+        return Ok(before + 8);
+    }
+    pass_bits(runs, before, bitmap, bytes, first, taken)
 }
 
 /// The runs of blocks that are free, and aren't the extent's.
@@ -78,8 +126,15 @@ pub(crate) fn free_runs_beside<B: Blocks>(
         bitmap.now.count runs.items) }
     ensures few { IfOk result (λ runs. extents.block_total runs.items < 65536) }
 {
-    let marks = bitmap.marks(alloc)?;
-    let runs = runs_beside(alloc, &marks, bitmap.count, taken)?;
+    let mut runs = Vec::new(alloc);
+    let mut free = 0;
+    let mut bytes = [0; 512];
+    for byte in 0..bitmap.count.div_ceil(8) {
+        let first = byte * 8;
+        turn_to(bitmap, 0, first, &mut bytes);
+        free = pass_byte(&mut runs, free, bitmap, &bytes, first, taken)?;
+    }
+    push_run(&mut runs, bitmap.count, free)?;
     Ok(runs)
 }
 
