@@ -14,7 +14,12 @@ pub(crate) const BITS: u16 = 4096;
 
 /// Sees that these are the bytes in which an allocation block's bit stands. They are read where it is the row's first block, or its
 /// bit the first of a block.
-pub(crate) fn turn_to<B: Blocks>(bitmap: &Bitmap<'_, B>, first: u16, block: u16, bytes: &mut [u8; 512])
+pub(crate) fn turn_to<B: Blocks>(
+    bitmap: &Bitmap<'_, B>,
+    first: u16,
+    block: u16,
+    bytes: &mut [u8; 512],
+)
     requires within { block < bitmap.now.count }
     requires before { block ≢ first → block % 4096 ≢ 0
         → bytes.old ≡ B.blocks bitmap.now.blocks.now (bitmap.now.start + block / 4096) }

@@ -2,7 +2,7 @@
 use Rattle.std.proofs.Common.{◌≡◌, ℕ, zero, suc, ◌+◌, ◌-◌, ◌≤◌, List, [], ◌∷◌, ◌++◌, length, take, drop, replicate, Option, Some, None, inl, inr, refl, sym, ap, ◌∙◌, arith}
 use Rattle.std.specs.Prelude.{slice_get}
 use Rattle.std.proofs.lemmas.Bool.{cases_lt}
-use Rattle.std.proofs.lemmas.List.{append_assoc, append-nil, length-append, length-replicate, length-take, take_at, take-append-le, drop-append-le, drop_all, take-replicate, drop-replicate, replicate-append-replicate}
+use Rattle.std.proofs.lemmas.List.{append_assoc, length-append, length-replicate, length-take, take_at, take-append-le, drop-append-le, drop_all, take-replicate, drop-replicate, replicate-append-replicate}
 use Rattle.std.proofs.Math.Seq.{drop-append-add, take-append-add}
 use Rattle.hfs_laid_forks.specs.Laid as forks
 use Rattle.hfs_laid_forks.specs.Laid.{bytes_of, filled, laid_at}

@@ -1,5 +1,5 @@
 -- The items of a list that get their places are as long as was planned.
-use Rattle.std.proofs.Common.{◌≡◌, ℕ, ◌+◌, Bool, List, [], ◌∷◌, ◌++◌, length, map, Option, Some, None, refl, sym, ap, ◌∙◌, arith}
+use Rattle.std.proofs.Common.{◌≡◌, ℕ, Bool, List, [], ◌∷◌, ◌++◌, length, map, Option, Some, None, refl, sym, ap, ◌∙◌, arith}
 use Rattle.std.specs.Prelude.{⊤}
 use Rattle.std.proofs.lemmas.Option.{none-some}
 use Rattle.hfs_laid_forks.proofs.LaidLemmas.{length-filled}
@@ -87,11 +87,10 @@ module _ (host : Tree) where
   pub arrivals-whole : (items : List PlannedItem) (places : List PutItem) → ArePlacesOf items places → Each IsWhole (arrivals_of host items places)
   arrivals-whole [] places are = tt
   arrivals-whole (item ∷ items) [] are = tt
-  arrivals-whole (item ∷ items) (place ∷ places) are =
-      (
-        (
-          length-filled item.plan.data_fork.len (fork_bytes host item DataFork) ∙ sym are.0.data_len,
-          length-filled item.plan.resource_fork.len (fork_bytes host item ResFork) ∙ sym are.0.resource_len,
-        ),
-        arrivals-whole items places are.1,
-      )
+  arrivals-whole (item ∷ items) (place ∷ places) are = (
+    (
+      length-filled item.plan.data_fork.len (fork_bytes host item DataFork) ∙ sym are.0.data_len,
+      length-filled item.plan.resource_fork.len (fork_bytes host item ResFork) ∙ sym are.0.resource_len,
+    ),
+    arrivals-whole items places are.1,
+  )

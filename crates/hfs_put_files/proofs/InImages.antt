@@ -52,8 +52,7 @@ module _ (arrivals : List Arrival) where
       let parts : length (laid_at run.place bytes below) ≡ length (take run.place below) + (length bytes + (length below - (run.place + length bytes))) =
       laid_at-parts run.place bytes below in
       let front = length-take run.place below in
-      let same : length below ≡ length file = omega (arith, e, parts, front, more) in
-      (
+      let same : length below ≡ length file = omega (arith, e, parts, front, more) in (
         elim (cases_lt 0 run.len) [
           | inr none ↦ inl (omega (arith, none))
           | inl some ↦ inr (omega (arith, e, parts, front, same, size, some))

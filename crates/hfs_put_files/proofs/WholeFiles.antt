@@ -1,6 +1,6 @@
 -- Files in which a list was put on the volume of an image.
-use Rattle.std.proofs.Common.{◌≡◌, ℕ, ◌+◌, ◌-◌, ◌/◌, ◌<◌, ◌≤◌, List, [], ◌++◌, length, take, drop, Option, Some, None, refl, sym, ap, subst, ◌∙◌, arith}
-use Rattle.std.proofs.lemmas.List.{append_assoc, length-append, length-drop, length-take, drop-drop, drop_at, take_at}
+use Rattle.std.proofs.Common.{◌≡◌, ℕ, ◌+◌, ◌/◌, ◌<◌, ◌≤◌, List, [], ◌++◌, length, take, drop, Option, Some, None, refl, sym, ap, subst, ◌∙◌, arith}
+use Rattle.std.proofs.lemmas.List.{append_assoc, length-append, length-drop, length-take, drop_at, take_at}
 use Rattle.std.specs.Int.{w32, to_be_bytes}
 use Rattle.hfs_blocks.specs.Blocks.{block_count}
 use Rattle.hfs_blocks.specs.Layers.{Numbered, changes, AreWithin}
