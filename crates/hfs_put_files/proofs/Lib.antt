@@ -1,4 +1,4 @@
 mod ComingForks
 mod ComingPlaces
 mod InImages
-mod WholeFiles
+pub mod WholeFiles

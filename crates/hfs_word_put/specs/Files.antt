@@ -2,9 +2,14 @@
 use Rattle.std.specs.Prelude.{◌≡◌, ℕ, List, Option}
 use Rattle.hfs_containers.specs.Ranges.{range_of}
 use Rattle.hfs_patched.specs.declared.in_file.ImagePlace.{ImagePlace}
+use Rattle.hfs_patched.specs.InFile.{LiesIn}
+use Rattle.hfs_put_files.specs.Arrivals.{arrivals_of}
+use Rattle.hfs_put_files.specs.PutFiles.{IsFilePut, IsSumBefore, put_file}
 use Rattle.hfs_put_image.specs.declared.putting.PutBlocks.{PutBlocks}
 use Rattle.hfs_source.specs.Images.{IsRangeOf}
+use Rattle.hfs_sources.specs.Items.{PlannedItem}
 use Rattle.hfs_sources.specs.Trees.{Tree}
+use Rattle.hfs_word_put.specs.declared.lines.PutSums.{PutSums}
 use Rattle.hfs_word_put.specs.declared.order.PutOrder.{PutOrder}
 use Rattle.hfs_word_put.specs.declared.putting.PutImage.{PutImage}
 use Rattle.hfs_word_put.specs.Put.{IsPutFrom}
@@ -13,14 +18,20 @@ use Rattle.hfs_word_put.specs.Put.{IsPutFrom}
 abbrev pub place_of : ℕ → ℕ → Option ℕ → ImagePlace
 place_of start len sum_at = record { range = range_of start len; sum_at = sum_at }
 
--- What comes was put on a copy of the volume's image, which has so many bytes and lies in the file from a byte on: of each file that has the bytes which
--- were read, and of each host tree that has what was read. The file is to hold these blocks in the place of the image's, and the bytes of forks of
--- what comes in their runs.
+-- What comes was put on a copy of the volume's image, which lies in the file so: of each file that has the bytes which were read, and of each host tree
+-- that has what was read.
+pub record IsPutInFile (Files : List ℕ → Type 0) (Hosts : Tree → Type 0) (order : PutOrder) (place : ImagePlace) (items : List PlannedItem) (put : PutBlocks) (sums : PutSums) : Type 0 where
+  pub from : IsPutFrom (IsRangeOf Files place.range.start place.range.len) Hosts order place.range.len items put sums
+  -- With these blocks in the place of the image's, and the bytes of forks of a tree in their runs, each such file in which the image lies, and its sum
+  -- before it, holds there what the File Manager makes of the image's volume by the list. Every other byte stays but for the sum's.
+  pub holds : (file : List ℕ) (host : Tree) → Files file → LiesIn place.range file → IsSumBefore place.sum_at place.range.start
+      → IsFilePut from.done.done.list.target order.now (arrivals_of host items from.done.done.list.places.items) put.ids.items place file
+      (put_file place put.patch host items put.runs.items file)
+
+-- The file is to hold these blocks in the place of the image's, and the bytes of forks of what comes in their runs.
 pub record IsPutFile {S H W : Type 0} (Files : S → List ℕ → Type 0) (Hosts : H → Tree → Type 0) (order : PutOrder) (len : ℕ) (sum_at : Option ℕ) (made : PutImage S H W) : Type 0 where
-  -- how long the range is that was read of the file
-  pub read : ℕ
   pub put : PutBlocks
-  pub from : IsPutFrom (IsRangeOf (Files made.contents.file.forks.bytes) made.contents.file.forks.start read) (Hosts made.contents.file.forks.files) order len
+  pub is : IsPutInFile (Files made.contents.file.forks.bytes) (Hosts made.contents.file.forks.files) order (place_of made.contents.file.forks.start len sum_at)
       made.contents.file.forks.items.items put made.sums
   pub patch : made.contents.patch ≡ put.patch
   pub runs : made.contents.file.forks.runs ≡ put.runs

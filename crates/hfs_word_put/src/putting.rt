@@ -194,7 +194,7 @@ pub fn put_image<'a, 'w, S: WatchedBytes + Drop, H: PlacedFiles + Drop, W: PutWa
 
 /// Puts what comes on the volume of an image that lies in a file, which was opened by this path: what the file is to hold then. The
 /// bytes of forks are read as it is written, of which a watch is told. Faults: those of [`put_on`]; `CannotRead` of the path, where
-/// the forks don't lie in the file.
+/// the forks don't lie in the file, or the image's range isn't as long as it was (which no source of bytes tells).
 pub fn put_sources<'a, 'w, S: WatchedBytes + Drop, T: HostTree + Drop, W: PutWatch>(
     alloc: Global,
     image: WatchedRange<S>,
@@ -211,6 +211,9 @@ pub fn put_sources<'a, 'w, S: WatchedBytes + Drop, T: HostTree + Drop, W: PutWat
     let mut tree = tree;
     let len = image.bytes.len;
     let put = put_on(alloc, &mut image, len, path, &mut tree, order)?;
+    if image.bytes.len != len {
+        return Err(PutFault::Image(Fault::CannotRead(path)));
+    }
     let files = HostFiles::new(alloc, tree);
     match put_image(alloc, image, len, sum_at, path, files, put, watch) {
         Ok(made) => Ok(made),

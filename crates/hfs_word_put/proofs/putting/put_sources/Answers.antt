@@ -1,10 +1,15 @@
 -- The file is made of what was put.
-use Rattle.hfs_word_put.proofs.MadeFiles.{put-file}
+use Rattle.std.proofs.Common.{◌≡◌, rules}
+use Rattle.hfs_word_put.proofs.MadeFiles.{at-length, put-file}
 use Rattle.hfs_word_put.proofs.putting.put_sources.Goals as goal
 
 pub returns-in-Ok : goal.returns-in-Ok
 returns-in-Ok g c =
+    let same : c.put_on.new.image.bytes.len ≡ c.args.image.bytes.len = search rules in
     put-file g.S.PlacedBytes.Holds g.T.HostTree.Holds g.T.File.PlacedBytes.Holds c.args.order.now c.args.image.bytes.len c.args.sum_at c.in-Ok.made
-    c.put_on.new.image.bytes.bytes c.put_on.new.image.bytes.start c.put_on.new.image.bytes.len c.new-files.result c.put_on.new.tree c.in_ok-put.put.items
+    c.put_on.new.image.bytes.bytes c.put_on.new.image.bytes.start c.new-files.result c.put_on.new.tree c.in_ok-put.put.items
     c.in_ok-put.put.list.blocks c.in_ok-put.put.list.sums c.new-files.ensures c.in-Ok.ensures.file c.in-Ok.ensures.files c.in-Ok.ensures.items c.in-Ok.ensures.runs
-    c.in-Ok.ensures.start c.in-Ok.ensures.patch c.in-Ok.ensures.place c.in-Ok.ensures.sums c.in_ok-put.ensures.put
+    c.in-Ok.ensures.start c.in-Ok.ensures.patch c.in-Ok.ensures.place c.in-Ok.ensures.sums c.in_ok-put.ensures.within
+    (at-length g.S.PlacedBytes.Holds (g.T.HostTree.Holds c.put_on.new.tree) c.put_on.new.image.bytes.bytes c.put_on.new.image.bytes.start
+    c.put_on.new.image.bytes.len c.args.image.bytes.len c.args.order.now c.in_ok-put.put.items.items c.in_ok-put.put.list.blocks c.in_ok-put.put.list.sums same
+    c.in_ok-put.ensures.put)
