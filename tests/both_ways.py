@@ -11,6 +11,8 @@ import subprocess
 import sys
 import tempfile
 
+from driver.programs import ended
+
 HERE = os.path.dirname(os.path.abspath(__file__))
 MDB = 1024
 # The kinds of volumes that tests/slow_volumes.py lays, and how many items each gets.
@@ -19,12 +21,6 @@ LAID = [('plain', 60), ('cut_catalog', 100), ('cut_catalog_shuffled', 300), ('cu
 PLACES = [('bitmap', 14, 2), ('blocks', 18, 2), ('block size', 20, 4), ('area', 28, 2), ('extents size', 130, 4), ('catalog size', 146, 4)]
 EXTENTS = [(f'{tree} extent {k} {part}', at + 4 * k + shift, 2) for tree, at in (('extents', 134), ('catalog', 150)) for k in range(3)
            for part, shift in (('first', 0), ('count', 2))]
-
-
-def told(tool, words, given=None):
-    run = subprocess.run([tool, *words], input=given, stdin=None if given is not None else subprocess.DEVNULL, stdout=subprocess.PIPE,
-                         stderr=subprocess.PIPE, timeout=60)
-    return run.returncode, run.stdout, run.stderr
 
 
 def with_number(image, at, width, number):
@@ -139,7 +135,7 @@ def unmarked(image):
 def words_on(tool, path):
     """The words that are tried on an image: of a sound one, some that reach a folder and both forks of a file."""
     words = [['check', path], ['ls', path], ['ls', path, '99999'], ['items', path], ['cat', path, '2', 'no such file']]
-    for kind, number, _, length, name in (line.split(b'\t') for line in told(tool, ['ls', path])[1].split(b'\n') if line.count(b'\t') == 4):
+    for kind, number, _, length, name in (line.split(b'\t') for line in ended(tool, ['ls', path])[1].split(b'\n') if line.count(b'\t') == 4):
         if kind == b'd':
             words.append(['ls', path, number.decode()])
         elif name.isascii() and not name.startswith(b'-'):
@@ -151,10 +147,10 @@ def words_on(tool, path):
 
 def compare(tool, path, words, image):
     """Whether these words tell the same three ways. A fault that names the file names the other path there."""
-    by_path = told(tool, words)
+    by_path = ended(tool, words)
     other = ['/dev/stdin' if word == path else word for word in words]
     wanted = (by_path[0], by_path[1].replace(path.encode(), b'/dev/stdin'), by_path[2])
-    if told(tool, other, image) != wanted:
+    if ended(tool, other, image) != wanted:
         return False
     with open(path, 'rb') as file:
         redirected = subprocess.run([tool, *other], stdin=file, stdout=subprocess.PIPE, stderr=subprocess.PIPE, timeout=60)
@@ -180,7 +176,7 @@ def repaired(tool, path, image):
     for words, given in ((['repair', path, out], None), (['repair', '/dev/stdin', out], image)):
         if os.path.exists(out):
             os.remove(out)
-        run = told(tool, words, given)
+        run = ended(tool, words, given)
         written = open(out, 'rb').read() if os.path.exists(out) else None
         told_of.append((run[0], run[1].replace(path.encode(), b'/dev/stdin'), run[2], written))
     return told_of[0] == told_of[1]
@@ -203,7 +199,7 @@ def fault_of_free_nodes(tool, path, base):
         for bytes_now in (base, image):
             with open(path, 'wb') as file:
                 file.write(bytes_now)
-            told_of.append([told(tool, words) for words in words_on(tool, path)])
+            told_of.append([ended(tool, words) for words in words_on(tool, path)])
         if told_of[0] != told_of[1]:
             return f'{how}: another thing is told'
     return None

@@ -35,8 +35,8 @@ from typing import Optional
 from driver.calls import Call, read_answers, script_of
 from driver.disk import Bench, Disk, finished, opened_bench
 from driver.image import BLOCK, MDB, changed_blocks
-from driver.keeping import ensure
-from driver.programs import ROOT, Difference, found_programs
+from driver.programs import ROOT, found_programs
+from driver.wanted import Difference, ensure
 
 VOLUMES = ROOT / 'tests' / 'volumes'
 FILE_COUNT = MDB + 84

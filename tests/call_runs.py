@@ -16,8 +16,8 @@ from driver.calls import Call
 from driver.disk import Bench, Disk, finished, opened_bench
 from driver.drawing import ROOT_ID, Drawing, parts
 from driver.image import MDB
-from driver.keeping import ensure
 from driver.programs import REAL_VOLUMES, found_programs
+from driver.wanted import ensure
 
 # How many nodes the catalogs of the new volumes have.
 NODES = (4, 5, 6, 7, 8, 10, 13, 17, 24, 40)

@@ -26,7 +26,6 @@ import shutil
 import signal
 import sqlite3
 import struct
-import stat
 import subprocess
 import sys
 import tempfile
@@ -36,6 +35,7 @@ from pathlib import Path
 from urllib.parse import quote
 
 from driver.programs import built
+from driver.wanted import Difference, ensure, ensure_same
 from images import SMALL, edited
 from remains.cases import all_cases
 from remains.runs import Bench
@@ -127,22 +127,6 @@ int posix_memalign(void **p, size_t a, size_t n) {
     return *p ? 0 : 12;
 }
 '''
-
-
-class Differs(Exception):
-    """What the program does isn't what it is to do."""
-
-
-def ensure(holds, what):
-    if not holds:
-        raise Differs(what)
-
-
-def ensure_same(found, wanted, what):
-    """A difference where two lists aren't the same, with the first row that isn't."""
-    for n, (one, other) in enumerate(zip(found, wanted)):
-        ensure(one == other, f'{what}, row {n}: {one!r} in place of {other!r}')
-    ensure(len(found) == len(wanted), f'{what}: {len(found)} rows in place of {len(wanted)}')
 
 
 def shown(path):
@@ -1219,6 +1203,57 @@ def terminal(place):
     ensure(told.replace(b'\r\n', b'\n') == wanted.encode(), f'a terminal is told {told!r}')
 
 
+# ---- what runs them
+
+def beside(place, part, behind):
+    """A part, with this done behind each comparison of a database with the rows that it is to have."""
+    global holds
+    compared = holds
+
+    def holds_and(where, wanted, name='c.db'):
+        compared(where, wanted, name)
+        behind(where, wanted, name)
+    holds = holds_and
+    try:
+        part(place)
+    finally:
+        holds = compared
+
+
+def refusing_library(top, left_out):
+    """The library that refuses reads and memory, or None without a C compiler, which is then told."""
+    if not shutil.which('cc'):
+        left_out.append('reads and memory that are refused, for want of a C compiler')
+        return None
+    source, library = Path(top) / 'refuse.c', Path(top) / 'refuse.so'
+    source.write_text(REFUSE)
+    subprocess.run(['cc', '-shared', '-fPIC', '-O1', '-o', library, source, '-ldl'], check=True)
+    return library
+
+
+def counts_of(parts, top, only, what):
+    """Each part, or the one of this name, in a folder of its own; what all of them counted."""
+    counts = {}
+    for name, part in parts:
+        if only and name != only:
+            continue
+        folder = Path(top) / name
+        folder.mkdir()
+        place = Place(folder)
+        began = time.time()
+        try:
+            part(place)
+        except Difference as differs:
+            sys.exit(f'{what}, {name}: {differs}')
+        if only or os.environ.get('COLLECT_TIMES'):
+            print(f'{name}: {time.time() - began:.1f} s')
+        for kind, count in place.counts.items():
+            counts[kind] = counts.get(kind, 0) + count
+        os.chmod(folder, 0o755)
+        shutil.rmtree(folder)
+    return counts
+
+
 def main():
     parser = argparse.ArgumentParser(description=__doc__, formatter_class=argparse.RawDescriptionHelpFormatter)
     parser.add_argument('--images', type=int, default=100, help='how many images are in the large run')
@@ -1227,18 +1262,12 @@ def main():
     parser.add_argument('--memory-step', type=int, default=97, help='each so many-th call for memory is refused')
     parser.add_argument('--only', help='only the part of this name')
     words = parser.parse_args()
-    left_out, told, counts = [], [], {}
+    left_out, told = [], []
     if not shutil.which('sqlite3'):
         left_out.append('.schema of sqlite3')
     with tempfile.TemporaryDirectory() as top:
         os.chmod(top, 0o755)
-        library = None
-        if shutil.which('cc'):
-            (Path(top) / 'refuse.c').write_text(REFUSE)
-            library = Path(top) / 'refuse.so'
-            subprocess.run(['cc', '-shared', '-fPIC', '-O1', '-o', library, Path(top) / 'refuse.c', '-ldl'], check=True)
-        else:
-            left_out.append('reads and memory that are refused, for want of a C compiler')
+        library = refusing_library(top, left_out)
         parts = [worked_example, cut_dumps, raw_sectors, rows_beside_words, damaged_disks, odd_paths, comparisons, refused_words, made_by_sqlite, other_tables, damaged_databases, other_programs, read_only,
                  few_files, unread_images, piped_images, full_output, terminal]
         parts = [(part.__name__, part) for part in parts]
@@ -1249,23 +1278,7 @@ def main():
                 refused_memory(place, library, words.memory_step) + refused_memory(place, library, words.memory_step, [(1024 + 87, b'\xff')])))))
         parts.append(('killed', lambda place: told.append('killed: {before} images as before, {whole} whole'.format(**killed(place, words.kills, words.seed)))))
         parts.append(('many_images', lambda place: told.append('{} images: {:.1f} s, again {:.1f} s'.format(words.images, *many_images(place, words.images)))))
-        for name, part in parts:
-            if words.only and name != words.only:
-                continue
-            folder = Path(top) / name
-            folder.mkdir()
-            place = Place(folder)
-            began = time.time()
-            try:
-                part(place)
-            except Differs as differs:
-                sys.exit(f'collect differs, {name}: {differs}')
-            if words.only or os.environ.get('COLLECT_TIMES'):
-                print(f'{name}: {time.time() - began:.1f} s')
-            for kind, count in place.counts.items():
-                counts[kind] = counts.get(kind, 0) + count
-            os.chmod(folder, 0o755)
-            shutil.rmtree(folder)
+        counts = counts_of(parts, top, words.only, 'collect differs')
     print(f"collections agree: {counts['databases']} databases with {counts['rows']} rows, {counts['faults']} refusals that leave all as it was; {'; '.join(told)}")
     if left_out:
         print(f'left out: {", ".join(left_out)}')

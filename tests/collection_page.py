@@ -23,8 +23,9 @@ from collections import defaultdict
 from pathlib import Path
 from urllib.parse import quote
 
-from collect import TABLES, Differs, ensure, ensure_same
+from collect import TABLES
 from driver.programs import built
+from driver.wanted import Difference, ensure, ensure_same
 from page import Document
 from volumes import entry
 
@@ -364,7 +365,7 @@ def main():
             most(pages)
             faults(pages)
             told = many(pages, words.volumes)
-        except Differs as differs:
+        except Difference as differs:
             print(f'a page of a collection differs: {differs}')
             return 1
     print(f'pages of collections agree: {pages.count} pages with {pages.volumes} volumes and {pages.contents} contents, {pages.faults} refusals; {told}')

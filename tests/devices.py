@@ -17,6 +17,7 @@ from dataclasses import dataclass, field
 from pathlib import Path
 
 from driver.programs import built
+from driver.wanted import Difference, ensure
 
 HERE = Path(__file__).resolve().parent
 TOOL = str(built('hfs_tool'))
@@ -123,10 +124,6 @@ ssize_t writev(int file, const struct iovec *parts, int count) {
 '''
 
 
-class Differs(Exception):
-    """What the program does isn't what is written."""
-
-
 @dataclass
 class Ran:
     """How a run ended, what it printed and told, and what was read of the image and of devices."""
@@ -179,7 +176,7 @@ class Bench:
         """Wants this status, these bytes on standard output, and these on standard error."""
         ran = self.run(words, given, image, **limits)
         if ran.ending != wanted:
-            raise Differs(f'{what}: {ran.status}, prints {ran.printed[:200]!r}, tells {ran.errors[:200]!r}')
+            raise Difference(f'{what}: {ran.status}, prints {ran.printed[:200]!r}, tells {ran.errors[:200]!r}')
         return ran
 
     def want_all(self, jobs):
@@ -187,11 +184,6 @@ class Bench:
         with ThreadPoolExecutor(4) as pool:
             for _ in pool.map(lambda job: job(), jobs):
                 pass
-
-
-def ensure(holds, what):
-    if not holds:
-        raise Differs(what)
 
 
 def edited(image, *edits):
@@ -419,7 +411,7 @@ def main():
                 part(bench, image)
             patched_pieces(bench)
             written_pieces(bench)
-        except Differs as differs:
+        except Difference as differs:
             sys.exit(f'devices: {differs}')
     print(f'{bench.runs} runs on devices that fail, or are slow, or are watched: as written')
 

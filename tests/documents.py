@@ -1,7 +1,8 @@
 #!/usr/bin/env python3
 """Looks whether the documents say what is there, and prints each place where they don't:
 
-- each crate of the program has a README and a row in docs/ARCHITECTURE.md, whose picture is what crates.txt says;
+- each crate of the program has a README, and one row in docs/CRATES.md, which has no other; the picture in docs/ARCHITECTURE.md is what crates.txt
+  says;
 - each word of the house that stands in a contract's definitions has its entry in the glossary;
 - each file that the documents name is there, and each heading that a link leads to; a page that begins with a list of its headings lists all of them;
 - each row of docs/PROMISES.md names a contract that is there: a function, a method of its type, a type, a law or a clause, of a crate that its section
@@ -9,7 +10,7 @@
   of specs/ and their fields;
 - so is each test that a row of it names;
 - no line of README.md, CONTRIBUTING.md, docs/ and tests/README.md is longer than 100 columns, but for the rows of tables;
-- README.md and docs/TIMES.md stay short.
+- README.md, docs/ARCHITECTURE.md and docs/TIMES.md stay short.
 """
 import collections
 import functools
@@ -22,7 +23,7 @@ from statements import modules_of
 
 ROOT = pathlib.Path(__file__).resolve().parent.parent
 PAGES = [ROOT / "README.md", ROOT / "CONTRIBUTING.md", *sorted((ROOT / "docs").glob("*.md")), ROOT / "tests/README.md", *sorted(ROOT.glob("crates/*/README.md"))]
-SHORT = {"README.md": 90, "docs/TIMES.md": 110}
+SHORT = {"README.md": 90, "docs/ARCHITECTURE.md": 300, "docs/TIMES.md": 110}
 NARROW = [ROOT / "README.md", ROOT / "CONTRIBUTING.md", *sorted((ROOT / "docs").glob("*.md")), ROOT / "tests/README.md"]
 HOUSE_WORDS = (
     "absorb agrees base beside book came choice claimed content covers desk entry exact fault frame front gate "
@@ -38,12 +39,14 @@ def chain():
 
 
 def crates_without_a_page():
-    page = (ROOT / "docs/ARCHITECTURE.md").read_text()
+    rows = re.findall(r"^\| \[`(\w+)`\]\(\.\./crates/\1/README\.md\) \|", (ROOT / "docs/CRATES.md").read_text(), re.M)
     for crate in chain():
         if not (ROOT / "crates" / crate / "README.md").is_file():
             yield f"crates/{crate} has no README.md"
-        if f"| `{crate}` |" not in page:
-            yield f"docs/ARCHITECTURE.md has no row of {crate}"
+        if rows.count(crate) != 1:
+            yield f"docs/CRATES.md has {rows.count(crate)} rows of {crate}, and is to have one, as others have it"
+    for crate in sorted(set(rows) - set(chain())):
+        yield f"docs/CRATES.md has a row of {crate}, which is no crate of the programs"
     if subprocess.run([sys.executable, ROOT / "scripts/layers.py", "--check"], stdout=subprocess.DEVNULL).returncode:
         yield "the picture in docs/ARCHITECTURE.md is not what crates.txt says: scripts/layers.py --write"
 
@@ -67,7 +70,9 @@ def is_there(name, every, page):
     files are meant."""
     if page.parent.parent.name == "crates" and name.startswith(("src/", "specs/", "proofs/")):
         return f"/{page.parent.relative_to(ROOT)}/{name}" in every
-    crate, _, rest = name.removeprefix("../").partition("/")
+    while name.startswith("../"):
+        name = name.removeprefix("../")
+    crate, _, rest = name.partition("/")
     return any(it.endswith(f"/{crate}/{rest}".rstrip("/")) or rest and it.startswith(f"/crates/{crate}/") and it.endswith(f"/{rest}") for it in every)
 
 

@@ -25,7 +25,8 @@ from pathlib import Path
 
 import collect
 import rows
-from collect import COLLECT, Differs, Place, ensure, ensure_same, held, named_volume, small_volume
+from collect import COLLECT, Place, held, named_volume, small_volume
+from driver.wanted import Difference, ensure, ensure_same
 from rows import COLUMNS, done, lists_of, whole_images
 
 MANUAL = Path(__file__).resolve().parent.parent / 'docs' / 'MANUAL.md'
@@ -129,12 +130,12 @@ class Engines:
         """Wants the rows of these images in each engine."""
         names = [it[0][0] for it in wanted]
         words = [*([] if wanted[0][0][2] is not None else ['--no-digest']), '--', *names]
-        lists = lists_of(wanted)
+        lists, errors = lists_of(wanted), rows.wrong_sums(wanted)
         with tempfile.TemporaryDirectory() as folder:
             os.chmod(folder, 0o755)
-            (Path(folder) / 'rows.jsonl').write_bytes(done(place, *words))
+            (Path(folder) / 'rows.jsonl').write_bytes(done(place, *words, errors=errors))
             for table in COLUMNS:
-                (Path(folder) / f'{table}.csv').write_bytes(done(place, '--format', 'csv', '--table', table, *words))
+                (Path(folder) / f'{table}.csv').write_bytes(done(place, '--format', 'csv', '--table', table, *words, errors=errors))
             name = self.cluster.new()
             self.cluster.run(self.blocks['tables'], '/', name)
             for _ in range(2):
@@ -155,18 +156,11 @@ class Engines:
 
 def beside_collect(engines, place, part):
     """The images of a part of tests/collect.py, where all of them have digests or none."""
-    holds = collect.holds
-
-    def holds_and_loads(where, wanted, name='c.db'):
-        holds(where, wanted, name)
+    def load(where, wanted, name):
         found = held(where, name)
         if len({row[0][2] is None for row in wanted}) == 1:
             engines.compare(where, [found[row[0][0]] for row in wanted], where.folder / name)
-    collect.holds = holds_and_loads
-    try:
-        part(place)
-    finally:
-        collect.holds = holds
+    collect.beside(place, part, load)
 
 
 def hostile_names(place):
@@ -284,7 +278,7 @@ def main():
             (Path(top) / name).mkdir()
         try:
             cluster = Cluster(Path(top) / 'cluster')
-        except Differs as differs:
+        except Difference as differs:
             print(f'skipped: no server: {differs}')
             return
         try:
@@ -299,7 +293,7 @@ def main():
                 os.chmod(folder, 0o755)
                 try:
                     part(Place(folder))
-                except Differs as differs:
+                except Difference as differs:
                     sys.exit(f'engines differ, {name}: {differs}')
                 shutil.rmtree(folder)
             if words.rows:

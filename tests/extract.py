@@ -17,7 +17,8 @@ import tempfile
 import time
 from pathlib import Path
 
-from driver.programs import built
+from driver.programs import built, ended
+from driver.wanted import Difference, ensure
 from volumes import WRAPPINGS, content, entry, found, in_disk_copy, in_macbinary, in_map
 
 HERE = Path(__file__).resolve().parent
@@ -68,28 +69,18 @@ int fsync(int file) {
 runs = 0
 
 
-class Differs(Exception):
-    """What the program does isn't what is wanted."""
-
-
-def ensure(holds, what):
-    if not holds:
-        raise Differs(what)
-
-
 def run(words, given=None, **how):
     """How a run of the words ends, what it prints, and what it tells."""
     global runs
     runs += 1
-    fed = {'input': given} if given is not None else {'stdin': subprocess.DEVNULL}
-    ran = subprocess.run([TOOL, *map(str, words)], stdout=subprocess.PIPE, stderr=subprocess.PIPE, timeout=300, **fed, **how)
-    return ran.returncode, ran.stdout.decode(), ran.stderr.decode()
+    status, printed, told = ended(TOOL, words, given, **how)
+    return status, printed.decode(), told.decode()
 
 
 def want(what, wanted, words, given=None, **how):
     ran = run(words, given, **how)
     if ran != wanted:
-        raise Differs(f'{what}: {ran}, and not {wanted}')
+        raise Difference(f'{what}: {ran}, and not {wanted}')
 
 
 def made(count, told=''):
@@ -399,7 +390,7 @@ def main():
             more_than_2_gb(bench, small, is_whole)
             skipped = failing(bench, small)
             stopped = killed(bench, small, chance)
-        except Differs as differs:
+        except Difference as differs:
             sys.exit(f'extract differs: {differs}')
     print(f'{runs} runs of extract: whole or not there; of 40 that were killed {stopped} left a part beside it' + (f', skipped: {skipped}' if skipped else ''))
 

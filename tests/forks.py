@@ -25,8 +25,9 @@ from pathlib import Path
 from driver.calls import Call, read_answers, script_of
 from driver.forks import FORKS, TOO_MANY, Forks
 from driver.image import BLOCK, MDB, Image
-from driver.keeping import ensure, ensure_kept
-from driver.programs import REAL_VOLUMES, Difference, Program, Programs, found_programs
+from driver.keeping import ensure_kept
+from driver.programs import REAL_VOLUMES, Program, Programs, found_programs
+from driver.wanted import Difference, ensure
 import slow_volumes
 
 NAMES = ('a', 'b', 'c', 'D e', 'f')

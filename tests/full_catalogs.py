@@ -18,8 +18,8 @@ from typing import Callable, Optional
 from driver.calls import Call, Room
 from driver.disk import Bench, Disk, State, finished, opened_bench
 from driver.image import BLOCK
-from driver.keeping import ensure
 from driver.programs import found_programs
+from driver.wanted import ensure
 
 # An order: a number below 65,537 for each turn below that, another one for each; and whether items go the other way round.
 ORDERS: dict[str, tuple[Callable[[int], int], bool]] = {

@@ -9,7 +9,6 @@ FOLDER has the images, WORK takes what is written meanwhile, and KEPT is the fil
 import os
 import random
 import shutil
-import struct
 import subprocess
 import sys
 import time

@@ -17,7 +17,7 @@ import sys
 import tempfile
 from pathlib import Path
 
-from driver.programs import built
+from driver.programs import built, ended, ended_at_terminal
 
 HERE = Path(__file__).resolve().parent
 TOOL = str(built('hfs_tool'))
@@ -132,31 +132,21 @@ DOUBLES = [
 
 def told(words, program=TOOL, **how):
     """The status of the words, what they print, and what they tell at a terminal."""
-    terminal, line = pty.openpty()
-    run = subprocess.Popen([program, *words], stdin=subprocess.DEVNULL, stdout=subprocess.PIPE, stderr=line, **how)
-    os.close(line)
-    printed, said = run.stdout.read(), b''
-    try:
-        while part := os.read(terminal, 4096):
-            said += part
-    except OSError:
-        # The program has ended, and with it the terminal's other side.
-        pass
-    os.close(terminal)
-    return run.wait(), printed.decode(), said.decode().replace('\r\n', '\n')
+    status, printed, said = ended_at_terminal(program, words, **how)
+    return status, printed.decode(), said.decode().replace('\r\n', '\n')
 
 
 def untold(words, program=TOOL, **how):
     """The same without a terminal."""
-    run = subprocess.run([program, *words], stdin=subprocess.DEVNULL, stdout=subprocess.PIPE, stderr=subprocess.PIPE, **how)
-    return run.returncode, run.stdout.decode(), run.stderr.decode()
+    status, printed, said = ended(program, words, **how)
+    return status, printed.decode(), said.decode()
 
 
 def want(words, status, printed, hint, program=TOOL, **how):
     """Wants this of words with a terminal, and the same but for the hint without one. The line of progress is left out."""
-    ended, text, said = told(words, program, **how)
+    status_told, text, said = told(words, program, **how)
     said = re.sub(r'\r[^\r]*\x1b\[K', '', said)
-    for found, wanted in (((ended, text, said), hint), (untold(words, program, **how), '')):
+    for found, wanted in (((status_told, text, said), hint), (untold(words, program, **how), '')):
         if found != (status, printed, wanted):
             sys.exit(f'hints: {words} ends with {found[0]}, prints {found[1]!r}, and tells {found[2]!r}')
 

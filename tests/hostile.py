@@ -30,8 +30,8 @@ import hostile_images
 from driver.calls import Call, script_of
 from driver.disk import Bench, Disk, opened_bench
 from driver.image import BLOCK
-from driver.keeping import ensure
 from driver.programs import found_programs
+from driver.wanted import ensure
 from hostile_images import ROOT
 from many_images import NOW, Calls, Job, attempt_by_pool
 

@@ -9,13 +9,13 @@ viewers and workers read all of each volume, and are answered the same.
 tests/images.py      runs $HFS_TOOL, or the program as it is built in crates/hfs_tool/out
 """
 import gzip
-import subprocess
 import sys
 import tempfile
 from concurrent.futures import ThreadPoolExecutor
 from pathlib import Path
 
-from driver.programs import built
+from driver.programs import built, ended
+from driver.wanted import Difference, ensure
 
 HERE = Path(__file__).resolve().parent
 TOOL = str(built('hfs_tool'))
@@ -27,23 +27,17 @@ FORK = bytes(k % 251 for k in range(2000))
 NAMES = ['f', 'F', 'g', 'd', 'q', 'a:b', '']
 
 
-class Differs(Exception):
-    """What the program tells isn't what is written."""
-
-
 def told(words, given=None):
     """The status of the words, and what they print."""
-    run = subprocess.run([TOOL, *words], input=given, stdin=subprocess.DEVNULL if given is None else None, stdout=subprocess.PIPE, stderr=subprocess.PIPE,
-                         timeout=60)
-    if run.stderr:
-        raise Differs(f'{words} writes to standard error: {run.stderr!r}')
-    return run.returncode, run.stdout
+    status, printed, errors = ended(TOOL, words, given, seconds=60)
+    ensure(not errors, f'{words} writes to standard error: {errors!r}')
+    return status, printed
 
 
 def want(words, status, printed, given=None):
     found = told(words, given)
     if found != (status, printed):
-        raise Differs(f'{words} ends with {found[0]} and prints {found[1]!r}')
+        raise Difference(f'{words} ends with {found[0]} and prints {found[1]!r}')
 
 
 def want_both_ways(word, path, behind, status, printed):
@@ -99,7 +93,7 @@ class Cases:
         is_sound = lines[0] == 'sound'
         wanted = text_of(lines if is_sound else ['refused ' + lines[0]])
         if status != (0 if is_sound else 2) or (not printed.startswith(wanted) if lines == ['sound'] else printed != wanted):
-            raise Differs(f'check ends with {status} and prints {printed!r}')
+            raise Difference(f'check ends with {status} and prints {printed!r}')
         want(['check', '/dev/stdin'], status, printed, image)
         want(['run', str(self.path), str(self.script)], status, b'' if is_sound else text_of(lines))
         self.check_repair(image, lines[0])
@@ -117,7 +111,7 @@ class Cases:
         else:
             is_right = status == 0 and may_be_count(fault) and printed.startswith(b'fixed ') and printed.endswith(b'\nsound\n')
         if not is_right:
-            raise Differs(f'repair ends with {status} and prints {printed!r}')
+            raise Difference(f'repair ends with {status} and prints {printed!r}')
 
     def repair(self, name, image, lines):
         """What `repair` tells; a volume that is repaired is the one that it was laid over, and one
@@ -125,13 +119,13 @@ class Cases:
         is_sound = lines[-1] == 'sound'
         want(['repair', str(self.path), str(self.path)], 0 if is_sound else 2, text_of(lines))
         if self.path.read_bytes() != (self.volumes[name] if is_sound else image):
-            raise Differs('other bytes behind the repair')
+            raise Difference('other bytes behind the repair')
 
     def info(self, line):
         """The line of the volume's name that `info` prints."""
         status, printed = told(['info', str(self.path)])
         if status != 0 or line.encode('ascii') not in printed.split(b'\n'):
-            raise Differs(f'info ends with {status} and prints {printed!r}')
+            raise Difference(f'info ends with {status} and prints {printed!r}')
 
     def run(self, text):
         """Does what a line says."""
@@ -170,8 +164,8 @@ def run_cases(volumes, folder):
         if line and not line.startswith('#'):
             try:
                 cases.line(line)
-            except Differs as difference:
-                raise Differs(f'images.txt, line {number}, {cases.tests[-1]}: {difference}') from None
+            except Difference as difference:
+                raise Difference(f'images.txt, line {number}, {cases.tests[-1]}: {difference}') from None
     return f'{cases.images} images in {len(cases.tests)} tests'
 
 
@@ -193,8 +187,8 @@ def run_heads(folder):
         path.write_bytes(image)
         try:
             want_both_ways('info', path, [], 0 if len(lines) > 1 else 2, text_of(lines))
-        except Differs as difference:
-            raise Differs(f'the head {name}: {difference}') from None
+        except Difference as difference:
+            raise Difference(f'the head {name}: {difference}') from None
         count += 1
     return f'{count} heads'
 
@@ -224,7 +218,7 @@ def run_changed(volumes, folder):
         path = folder / f'changed-{first}.img'
         for number in range(first, len(images), 2):
             if not is_checked_alike(path, images[number]):
-                raise Differs(f'changed image {number} is checked otherwise out of a pipe')
+                raise Difference(f'changed image {number} is checked otherwise out of a pipe')
 
     with ThreadPoolExecutor(2) as pool:
         list(pool.map(every_other, [0, 1]))
@@ -247,7 +241,7 @@ def replies_to(who, path, script, calls):
     script.write_text(''.join(f'{who}\t{call}\n' for call in calls), 'ascii')
     status, printed = told(['run', str(path), str(script)])
     if status != 0:
-        raise Differs(f'run ends with {status}')
+        raise Difference(f'run ends with {status}')
     return [reply.split('\t', 1)[1] for reply in ('\n' + printed.decode('latin-1')).split(f'\n{who}\t')[1:]]
 
 
@@ -260,7 +254,7 @@ def run_readers(volumes, folder):
             answered = [replies_to(who, path, script, calls) for who in ('1', 'v1')]
             for call, reply, other in zip(calls, *answered, strict=True):
                 if reply.rstrip('\n') != other.rstrip('\n'):
-                    raise Differs(f'{call} of {name} is answered {reply!r} to a worker, and {other!r} to a viewer')
+                    raise Difference(f'{call} of {name} is answered {reply!r} to a worker, and {other!r} to a viewer')
             count += len(calls)
     return f'{count} replies to viewers'
 
@@ -276,7 +270,7 @@ def main():
             want(['new', str(folder / 'new.img'), 'D', '64', '6', '2'], 0, b'')
             volumes |= {'New': (folder / 'new.img').read_bytes(), 'Nothing': b''}
             parts = [run_cases(volumes, folder), run_heads(folder), run_changed(volumes, folder), run_readers(volumes, folder)]
-        except Differs as difference:
+        except Difference as difference:
             print(difference)
             return 1
     print(', '.join(parts) + ': all as written')

@@ -13,7 +13,8 @@ import sys
 import tempfile
 from pathlib import Path
 
-from driver.programs import built
+from driver.programs import built, ended
+from driver.wanted import Difference, ensure
 from volumes import WRAPPINGS, content, entry, found, in_disk_copy, in_macbinary, in_map, in_sectors, turned_sum
 
 TOOL = str(built('hfs_tool'))
@@ -21,23 +22,13 @@ SCRIPT = b'1\tcreate\t2\tnew file\n1\twrite\t2\tnew file\tdata\t0\t616263\n1\tmk
 runs = 0
 
 
-class Differs(Exception):
-    """What the program does isn't what is wanted."""
-
-
-def ensure(holds, what):
-    if not holds:
-        raise Differs(what)
-
-
 def run(words, given=None, **how):
     """How a run of the words ends, and what it prints."""
     global runs
     runs += 1
-    fed = {'input': given} if given is not None else {'stdin': subprocess.DEVNULL}
-    ran = subprocess.run([TOOL, *map(str, words)], stdout=subprocess.PIPE, stderr=subprocess.PIPE, timeout=300, **fed, **how)
-    ensure(not ran.stderr, f'{words} writes {ran.stderr[:200]}')
-    return ran.returncode, ran.stdout
+    status, printed, told = ended(TOOL, words, given, **how)
+    ensure(not told, f'{words} writes {told[:200]}')
+    return status, printed
 
 
 def with_volume(data, start, size, how, volume):
@@ -230,7 +221,7 @@ def main():
                 wrapped(bench, image.read_bytes(), image.name)
             for part in (by_hand, order, far):
                 part(bench, small)
-        except Differs as differs:
+        except Difference as differs:
             sys.exit(f'inside differs: {differs}')
     print(f'{runs} runs of run and repair on volumes in files, without them, or refused: no other byte is changed')
 

@@ -25,7 +25,8 @@ import tempfile
 from datetime import datetime, timedelta
 from pathlib import Path
 
-from driver.programs import built
+from driver.programs import built, ended
+from driver.wanted import Difference, ensure, ensure_same
 
 HERE = Path(__file__).resolve().parent
 TOOL = str(built('hfs_tool'))
@@ -41,29 +42,11 @@ NO_FINDER = '0' * 64
 NO_TYPE = r'\00\00\00\00'
 
 
-class Differs(Exception):
-    """What the program prints isn't what it is to print."""
-
-
 def told(*words, given=None, errors=b''):
     """The status of the words, and what they print; on standard error this."""
-    how = {'stdin': subprocess.DEVNULL} if given is None else {'input': given}
-    run = subprocess.run([TOOL, *map(str, words)], stdout=subprocess.PIPE, stderr=subprocess.PIPE, timeout=600, **how)
-    if run.stderr != errors:
-        raise Differs(f'{words} writes to standard error: {run.stderr!r}')
-    return run.returncode, run.stdout
-
-
-def ensure(holds, what):
-    if not holds:
-        raise Differs(what)
-
-
-def ensure_same(found, wanted, what):
-    """A difference where two lists aren't the same, with the first line that isn't."""
-    for n, (one, other) in enumerate(zip(found, wanted), 1):
-        ensure(one == other, f'{what}, row {n}: {one!r} in place of {other!r}')
-    ensure(len(found) == len(wanted), f'{what}: {len(found)} rows in place of {len(wanted)}')
+    status, printed, said = ended(TOOL, words, given)
+    ensure(said == errors, f'{words} writes to standard error: {said!r}')
+    return status, printed
 
 
 def moment(date):
@@ -442,7 +425,7 @@ def main():
             image = compare_many(tables, words.items)
             if words.kept:
                 shutil.copy(image, words.kept)
-        except Differs as differs:
+        except Difference as differs:
             print(f'the tables differ: {differs}')
             return 1
         print(f'{tables.count} tables, {tables.rows} rows')

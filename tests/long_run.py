@@ -19,8 +19,9 @@ from driver.calls import Answer, Call, read_answers, script_of
 from driver.disk import Bench, Disk, State, difference_of, finished, opened_bench
 from driver.drawing import drawn_of
 from driver.image import Image
-from driver.keeping import ensure, ensure_kept
+from driver.keeping import ensure_kept
 from driver.programs import Program, found_programs
+from driver.wanted import ensure
 
 WORKERS, VIEWERS = range(1, 9), ('v1', 'v2', 'v3', 'v4')
 # The folders and files that each worker's folder begins with.

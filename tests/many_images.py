@@ -11,8 +11,8 @@ from typing import Iterable, Optional, Protocol, Sequence
 
 from driver.calls import Answer, Call, read_answers, script_of
 from driver.disk import Bench, State, read_plain
-from driver.keeping import ensure
-from driver.programs import Difference, Program, Programs
+from driver.programs import Program, Programs
+from driver.wanted import Difference, ensure
 
 # The processor seconds that a word may take of a small image, and how long it is waited for where
 # others work too.

@@ -12,7 +12,8 @@ import sys
 import tempfile
 from pathlib import Path
 
-from driver.programs import built
+from driver.programs import built, ended
+from driver.wanted import Difference, ensure
 
 TOOL = str(built('hfs_tool'))
 BLOCK = 512
@@ -31,21 +32,12 @@ PLANS = [
 ]
 
 
-class Differs(Exception):
-    """What the program writes isn't what is written here."""
-
-
-def ensure(holds, what):
-    if not holds:
-        raise Differs(what)
-
-
 def made(path, name, blocks, nodes, extents, *words):
     """The status of `new`, and what it prints."""
     path.unlink(missing_ok=True)
-    ran = subprocess.run([TOOL, 'new', path, name, str(blocks), str(nodes), str(extents), *words], stdin=subprocess.DEVNULL, capture_output=True, timeout=600)
-    ensure(not ran.stderr, f'new writes to standard error: {ran.stderr[:200]!r}')
-    return ran.returncode, ran.stdout.decode()
+    status, printed, said = ended(TOOL, ['new', path, name, blocks, nodes, extents, *words])
+    ensure(not said, f'new writes to standard error: {said[:200]!r}')
+    return status, printed.decode()
 
 
 class Laid:
@@ -174,7 +166,7 @@ def main():
             count = whole_volumes(path) + pieces(path)
             in_little_memory(path)
             refused = plans(path)
-        except Differs as differs:
+        except Difference as differs:
             print(f'new volumes: {differs}')
             return 1
     print(f'{count} new volumes and {refused} plans: as written')

@@ -30,10 +30,11 @@ from urllib.parse import quote, unquote
 
 from catalog_records import Catalog
 from driver.image import DATA_FORK, MDB, RESOURCE_FORK, extents_at
+from driver.wanted import Difference, ensure, ensure_same
 from hostile_images import (EXTENTS_KEY_LENGTH, FIRST_FREE, LEAF, ROOT, Plan, Tree, extent_bytes, extents_key, folder, many_extents, new_volume, node,
                             one_leaf, thread)
 from hostile_images import file as file_record
-from items import TOOL, Differs, ensure, ensure_same, moment, plain, told
+from items import TOOL, moment, plain, told
 from slow_volumes import Volume, cut_files
 from slow_volumes import plain as plain_volume
 from volumes import in_disk_copy, in_map
@@ -128,16 +129,16 @@ class Document(HTMLParser):
         self.declarations.append(decl)
 
     def handle_startendtag(self, tag, attributes):
-        raise Differs(f'<{tag}/>')
+        raise Difference(f'<{tag}/>')
 
     def handle_comment(self, data):
-        raise Differs(f'a comment {data!r}')
+        raise Difference(f'a comment {data!r}')
 
     def handle_pi(self, data):
-        raise Differs(f'<?{data}')
+        raise Difference(f'<?{data}')
 
     def unknown_decl(self, data):
-        raise Differs(f'<![{data}')
+        raise Difference(f'<![{data}')
 
 
 # ---- what a page is to say
@@ -586,7 +587,7 @@ def main():
                 for image in kept:
                     page = subprocess.run([TOOL, 'page', image], stdout=subprocess.PIPE, stderr=subprocess.DEVNULL, timeout=600).stdout
                     (words.kept / f'{image.stem}.html').write_bytes(page)
-        except Differs as differs:
+        except Difference as differs:
             print(f'the pages differ: {differs}')
             return 1
         print(f'{pages.count} pages, {pages.items} items, {sum(pages.parts.values())} cells, {each:.0f} bytes for an item')

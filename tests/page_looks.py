@@ -30,7 +30,8 @@ from itertools import combinations
 from pathlib import Path
 
 from collection_page import COLLECT, large
-from items import Differs, ensure, told
+from driver.wanted import Difference, ensure
+from items import told
 from page import VOLUMES, every_part
 from slow_volumes import Volume
 from slow_volumes import plain as plain_volume
@@ -388,7 +389,7 @@ def main():
                 look_at(browser, page, words.kept, words.open)
             if not words.pages:
                 look_at_own(browser, Path(home), words.kept, words.items, words.volumes)
-        except Differs as differs:
+        except Difference as differs:
             print(f'a page is not as it is to be: {differs}')
             return 1
         finally:

@@ -8,12 +8,11 @@ tests/paths.py      runs $HFS_TOOL, or the program as it is built in crates/hfs_
 """
 import gzip
 import re
-import subprocess
 import sys
 import tempfile
 from pathlib import Path
 
-from driver.programs import built
+from driver.programs import built, ended
 
 HERE = Path(__file__).resolve().parent
 TOOL = str(built('hfs_tool'))
@@ -70,9 +69,7 @@ FORKS = [
 
 def told(*words, given=None):
     """The status of the words, and what they print."""
-    how = {'stdin': subprocess.DEVNULL} if given is None else {'input': given}
-    run = subprocess.run([TOOL, *map(str, words)], stdout=subprocess.PIPE, stderr=subprocess.PIPE, timeout=120, **how)
-    return run.returncode, run.stdout
+    return ended(TOOL, words, given)[:2]
 
 
 def want(found, wanted, words):

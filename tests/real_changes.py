@@ -25,8 +25,8 @@ from catalog_records import DATES, FLAGS, FOLDER, LOCKED, Catalog, Record
 from driver.calls import Call, Room, read_answers, script_of
 from driver.disk import Bench, Disk, difference_of, finished, opened_bench
 from driver.image import BLOCK, MDB, Image, changed_blocks, extents_at, number_at
-from driver.keeping import ensure
 from driver.programs import found_programs
+from driver.wanted import ensure
 from real_volumes import SOUND, image_of
 from told import Item, Question, item_of, name_of, refused
 

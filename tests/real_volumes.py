@@ -24,8 +24,8 @@ from pathlib import Path
 from catalog_records import Catalog, Record
 from driver.calls import read_answers, script_of
 from driver.disk import Bench, opened_bench
-from driver.keeping import ensure
 from driver.programs import REAL_VOLUMES, Program, found_programs
+from driver.wanted import ensure
 from told import first_difference, name_of, questions
 
 # Seconds from the clock of the Macintosh to that of Unix.

@@ -3,7 +3,7 @@
 library that stands before malloc (tests/refused_memory.sh makes it, and calls this). The calls of
 volumes/refused.txt are run by an image's path, and out of a pipe with a viewer beside them, who
 reads what they read; then a script with two workers and a viewer, whose answers are known by hand;
-new volumes, reports, lists, forks, repairs, volumes that are changed where they lie and that are extracted, both ways.
+new volumes, reports, lists, forks, repairs, volumes that are changed where they lie and that are extracted, and what is put, both ways.
 
 Where the program tells want of memory, nothing else was printed, nothing was written, and no file
 lies beside; else it prints and writes what it does without a refusal; or a caller's lines from one
@@ -22,8 +22,12 @@ from concurrent.futures import ProcessPoolExecutor
 from dataclasses import dataclass
 from pathlib import Path
 
+from driver.wanted import Difference
+
 VOLUMES = Path(__file__).resolve().parent / 'volumes'
 NOW = 7
+# Seconds from the clock of the Macintosh to that of Unix.
+UNIX = 2_082_844_800
 # The descriptor on which the library tells that it refused.
 TOLD = 3
 READING = ('dirinfo', 'info', 'indexed', 'list', 'read')
@@ -34,10 +38,6 @@ ASKED = ('v1\tdirinfo\t99\n', ['-120'])
 SCRIPT = '1\tcreate\t2\ta\n1\tlock\t2\ta\n2\tresolve\t99\nv1\tlist\t16\n'
 ANSWERS = ('1\t1\t0\tid 18\n1\t2\t0\t-\n2\t1\t-1300\t-\nv1\t1\t0\tlist 1\n'
            f'\tf 17 16 0 0 0 0 0 0 0 {"0" * 64} f\n')
-
-
-class Differs(Exception):
-    """What was met otherwise."""
 
 
 @dataclass
@@ -89,12 +89,13 @@ class Trial:
         written = self.file.read_bytes() if self.file.exists() else None
         beside = [it for it in os.listdir(self.folder) if it.startswith('file.')]
         if beside:
-            raise Differs(f'{words}, allocation {refuse}: {beside} is left')
+            raise Difference(f'{words}, allocation {refuse}: {beside} is left')
         return Ran(ran.returncode, ran.stdout, ran.stderr, written, os.fstat(TOLD).st_size > 0)
 
     def is_told(self, ran, old):
-        """Whether want of memory is told, also for the words and for the name of a file beside FILE, and nothing was done."""
-        told = [(5, b'out of memory\n'), (4, f'cannot write {self.file}\n'.encode()), (1, b'the words are not text\n')]
+        """Whether want of memory is told, also for the words, for the name of a file beside FILE and for the list of a folder, and nothing was done."""
+        told = [(5, b'out of memory\n'), (4, f'cannot write {self.file}\n'.encode()), (1, b'the words are not text\n'),
+                (4, f'cannot read {self.folder / "tree"}\n'.encode())]
         return (ran.status, ran.printed) in told and not ran.errors and ran.written == old
 
     def refuse_each(self, words, wanted, given=None, old=None, is_part=lambda ran: False):
@@ -105,12 +106,12 @@ class Trial:
             ran = self.run(words, given, old, refuse)
             if ran.ending != wanted and not self.is_told(ran, old):
                 if not is_part(ran):
-                    raise Differs(f'{words}, allocation {refuse}: {ran.status}, prints {ran.printed[:300]!r}, tells {ran.errors[:300]!r}')
+                    raise Difference(f'{words}, allocation {refuse}: {ran.status}, prints {ran.printed[:300]!r}, tells {ran.errors[:300]!r}')
                 self.counts.parts += 1
             if not ran.is_refused:
                 break
         if ran.ending != wanted:
-            raise Differs(f'{words} without a refusal: {ran.status}, prints {ran.printed[:300]!r}')
+            raise Difference(f'{words} without a refusal: {ran.status}, prints {ran.printed[:300]!r}')
         self.counts.refused += refuse - 1
 
 
@@ -122,7 +123,7 @@ def named(trial, name):
     """The image of a small volume by its name."""
     if name == 'new':
         if trial.run(['new', trial.file, 'D', 64, 12, 2]).status != 0:
-            raise Differs('no new volume')
+            raise Difference('no new volume')
         return trial.file.read_bytes()
     if name != 'full':
         return small(name)
@@ -188,7 +189,7 @@ def run_calls(trial, line):
         whole = trial.run(words, given)
         found = [answer.split('\t')[2] for who in answers_of(whole.printed).values() for answer in who]
         if found != [*codes, *more] or whole.written != files[-1]:
-            raise Differs(f'{line}: the codes {found}')
+            raise Difference(f'{line}: the codes {found}')
         wanted = (0, whole.printed, b'', files[-1])
         trial.refuse_each(words, wanted, given, b'old\n', part_of(whole.printed, files))
 
@@ -278,6 +279,28 @@ def extract(trial, _line):
     trial.refuse_each(['extract', image, trial.file], (4, f'{trial.file} is there already\n'.encode(), b'', b'old\n'), None, b'old\n')
 
 
+def put(trial, _line):
+    """A folder with a file of both forks that is put on a volume, both ways, as the calls of a script make it; and one that can't be put."""
+    content, tree = named(trial, 'new'), trial.folder / 'tree'
+    head = bytes.fromhex('000516070002000000000000000000000000000000000000000200000009000000320000002000000002000000520000000354455854') + bytes(28)
+    tree.mkdir()
+    for path, what in ((tree / 'g', b'x' * 600), (tree / '._g', head + b'RES')):
+        path.write_bytes(what)
+    for path in (tree / 'g', tree):
+        os.utime(path, (0, 0))
+    facts = f'{UNIX}\t{UNIX}\t0'
+    lines = ['1\tmkdir\t2\ttree\n', '1\tcreate\t16\tg\n', f'1\twrite\t16\tg\tdata\t0\t{"78" * 600}\n', '1\twrite\t16\tg\tres\t0\t524553\n',
+             f'1\tsetinfo\t16\tg\t{facts}\t54455854{"00" * 28}\n', f'1\tsetinfo\t2\ttree\t{facts}\t{"00" * 32}\n']
+    image = trial.lay('image', content)
+    saved = files_behind(trial, image, lines)[-1]
+    free = int.from_bytes(saved[1058:1060], 'big')
+    wanted = (0, f'put\nfiles 1\nfolders 1\nbytes 603\nfree {free}\n'.encode(), b'', saved)
+    for given, source in ((None, image), (content, '/dev/stdin')):
+        trial.refuse_each(['put', source, tree, '--now', NOW, '--out', trial.file], wanted, given, b'old\n')
+    (tree / 'x:y').touch()
+    trial.refuse_each(['put', image, tree, '--out', trial.file], (3, f'cannot put {tree}/x:y: name\n'.encode(), b'', b'old\n'), None, b'old\n')
+
+
 def attempt(job):
     """What is counted of one trial, in a folder of its own."""
     tool, library, part, line = job
@@ -290,7 +313,7 @@ def attempt(job):
 
 def main(tool, library):
     lines = [it for it in (VOLUMES / 'refused.txt').read_text().splitlines() if not it.startswith('#')]
-    jobs = [(tool, library, run_calls, line) for line in lines] + [(tool, library, part, '') for part in (run_script, read_forks, tell, repair, inside, extract)]
+    jobs = [(tool, library, run_calls, line) for line in lines] + [(tool, library, part, '') for part in (run_script, read_forks, tell, repair, inside, extract, put)]
     counts = Counts()
     # the descriptor is taken before the pool takes any
     os.dup2(os.open(os.devnull, os.O_RDWR), TOLD)
@@ -298,7 +321,7 @@ def main(tool, library):
         with ProcessPoolExecutor(min(4, os.cpu_count() or 1)) as pool:
             for found in pool.map(attempt, jobs):
                 counts.add(found)
-    except Differs as differs:
+    except Difference as differs:
         sys.exit(f'refused calls: {differs}')
     print(f'{counts.refused} allocations of hfs_tool refused in turn: {counts.parts} runs answered a part, the others all or none')
 

@@ -9,7 +9,6 @@ tests/refused_disks.py      runs $HFS_TOOL, or the program as it is built in cra
 """
 import csv
 import json
-import subprocess
 import sys
 import tempfile
 import time
@@ -17,10 +16,11 @@ from pathlib import Path
 from typing import Optional
 
 import rescue
-from items import Differs as PageDiffers
+from driver.programs import ended
+from driver.wanted import Difference, ensure
 from remains.bag import COLUMNS, Remains, Rescued, Source, finder_of, plain, quoted, row_of
 from remains.places import Item
-from remains.runs import PATIENCE, PIPE, TOOL, Bench, Differs, ensure
+from remains.runs import PATIENCE, PIPE, TOOL, Bench
 from remains_pages import want_remains
 from volumes import WRAPPINGS
 from volumes import found as volumes_in
@@ -33,9 +33,7 @@ FLAGS = {'yes': True, 'no': False, '': None}
 
 def ran(*words, given: Optional[bytes] = None) -> tuple[int, bytes, bytes]:
     """The status of the words, what they print, and what they write to standard error."""
-    how = {'stdin': subprocess.DEVNULL} if given is None else {'input': given}
-    run = subprocess.run([TOOL, *map(str, words)], stdout=subprocess.PIPE, stderr=subprocess.PIPE, timeout=PATIENCE, **how)
-    return run.returncode, run.stdout, run.stderr
+    return ended(TOOL, words, given, PATIENCE)
 
 
 def same(found: tuple[int, bytes, bytes], wanted: tuple[int, bytes, bytes], what: str) -> None:
@@ -43,7 +41,7 @@ def same(found: tuple[int, bytes, bytes], wanted: tuple[int, bytes, bytes], what
         return
     for one, other in zip(found[1].split(b'\n'), wanted[1].split(b'\n')):
         ensure(one == other, f'{what}: {one[:300]!r} in place of {other[:300]!r}')
-    raise Differs(f'{what}: ends with {found[0]} and {found[2][:200]!r} in place of {wanted[0]} and {wanted[2][:200]!r}, {len(found[1])} bytes of {len(wanted[1])}')
+    raise Difference(f'{what}: ends with {found[0]} and {found[2][:200]!r} in place of {wanted[0]} and {wanted[2][:200]!r}, {len(found[1])} bytes of {len(wanted[1])}')
 
 
 class Shown:
@@ -145,8 +143,8 @@ class Refused(Bench):
         ensure((status, errors) == (shown.status, shown.errors), f'{what}: page ends with {status} and {errors[:200]!r}')
         try:
             want_remains(page, name, shown.remains, shown.errors.decode().removesuffix('\n'))
-        except PageDiffers as differs:
-            raise Differs(f'{what}: on the page {differs}') from differs
+        except Difference as differs:
+            raise Difference(f'{what}: on the page {differs}') from differs
         self.pages += 1
 
     def show_paths(self, image: Path, content: bytes, shown: Shown, what: str, words: tuple) -> None:
@@ -213,7 +211,7 @@ def main() -> int:
         for part in sys.argv[1:] or PARTS:
             try:
                 PARTS[part](bench)
-            except Differs as differs:
+            except Difference as differs:
                 print(f'what is shown of a refused disk differs, {part}: {differs}')
                 bench.keep(Path('rescue.kept'))
                 return 1

@@ -2,7 +2,7 @@
 takes it in: it runs nothing."""
 from collections import Counter
 
-from items import ensure, ensure_same
+from driver.wanted import ensure, ensure_same
 from page import EXTENTS, CATALOG, FIRST, FREE, LATER, MOST_CELLS, MOST_OPEN, PARTS, Document, cells_in, day_and_time, extents_in, items_list, size
 from remains.bag import COLUMNS, Remains, plain, row_of
 from remains.places import ROOT, Item, NamedFolder

@@ -31,10 +31,11 @@ from pathlib import Path
 from typing import Optional
 
 import hostile_images
+from driver.wanted import Difference, ensure
 from images import SMALL, edited
 from remains import bombs, cases, chance
 from remains.bag import Remains, Source
-from remains.runs import PIPE, TOOL, Bench, Differs, ensure, ensure_info, found_in, remove, same_text
+from remains.runs import PIPE, TOOL, Bench, ensure_info, found_in, remove, same_text
 from volumes import WRAPPINGS, entry, in_disk_copy
 from volumes import content as looked_into
 from volumes import found as volumes_in
@@ -540,7 +541,7 @@ def main() -> int:
         for part in words.only or PARTS:
             try:
                 doing[part]()
-            except Differs as differs:
+            except Difference as differs:
                 print(f'what remains differs, {part}: {differs}')
                 bench.keep(words.kept)
                 return 1

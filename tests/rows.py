@@ -16,13 +16,12 @@ import resource
 import shutil
 import signal
 import subprocess
-import sys
 import tempfile
 import time
-from pathlib import Path
 
 import collect
-from collect import COLLECT, P6, PROGRAM, REFUSE, VOLUMES, Differs, Place, ensure, ensure_same, held, named_volume, shown, small_volume
+from collect import COLLECT, P6, VOLUMES, counts_of, held, named_volume, refusing_library, small_volume
+from driver.wanted import ensure, ensure_same
 from rescue import small_volume as small_file
 
 IMAGE = 'path bytes sha256 program'.split()
@@ -188,16 +187,7 @@ def worked_example(place):
 
 def beside_collect(place, part):
     """The images of a part of tests/collect.py: behind each comparison of a database with what it is to have, the same rows as text."""
-    holds = collect.holds
-
-    def holds_and_tells(where, wanted, name='c.db'):
-        holds(where, wanted, name)
-        compare(where, [held(where, name)[rows[0][0]] for rows in wanted])
-    collect.holds = holds_and_tells
-    try:
-        part(place)
-    finally:
-        collect.holds = holds
+    collect.beside(place, part, lambda where, wanted, name: compare(where, [held(where, name)[rows[0][0]] for rows in wanted]))
 
 
 def damaged_images(place):
@@ -371,16 +361,10 @@ def main():
     parser.add_argument('--memory-step', type=int, default=7, help='each so many-th call for memory is refused')
     parser.add_argument('--only', help='only the part of this name')
     words = parser.parse_args()
-    left_out, told, counts = [], [], {}
+    left_out, told = [], []
     with tempfile.TemporaryDirectory() as top:
         os.chmod(top, 0o755)
-        library = None
-        if shutil.which('cc'):
-            (Path(top) / 'refuse.c').write_text(REFUSE)
-            library = Path(top) / 'refuse.so'
-            subprocess.run(['cc', '-shared', '-fPIC', '-O1', '-o', library, Path(top) / 'refuse.c', '-ldl'], check=True)
-        else:
-            left_out.append('reads and memory that are refused, for want of a C compiler')
+        library = refusing_library(top, left_out)
         parts = [('worked_example', worked_example), ('refused_words', refused_words), ('full_output', full_output)]
         parts += [(part.__name__, lambda place, part=part: beside_collect(place, part))
                   for part in (collect.worked_example, collect.cut_dumps, collect.raw_sectors, collect.rows_beside_words, collect.odd_paths)]
@@ -391,22 +375,7 @@ def main():
         if library:
             parts.append(('refused_memory', lambda place: told.append(f'{refused_memory(place, library, words.memory_step)} calls for memory refused')))
         parts.append(('killed', lambda place: told.append(f'{killed(place, words.kills, words.seed)} whole images of {words.kills} runs that were killed')))
-        for name, part in parts:
-            if words.only and name != words.only:
-                continue
-            folder = Path(top) / name
-            folder.mkdir()
-            place = Place(folder)
-            began = time.time()
-            try:
-                part(place)
-            except Differs as differs:
-                sys.exit(f'rows differ, {name}: {differs}')
-            if words.only or os.environ.get('COLLECT_TIMES'):
-                print(f'{name}: {time.time() - began:.1f} s')
-            for kind, count in place.counts.items():
-                counts[kind] = counts.get(kind, 0) + count
-            shutil.rmtree(folder)
+        counts = counts_of(parts, top, words.only, 'rows differ')
     print(f"rows agree: {counts['rows']} rows beside {counts['databases']} databases; {'; '.join(told)}")
     if left_out:
         print(f'left out: {", ".join(left_out)}')

@@ -13,6 +13,8 @@ import subprocess
 import sys
 import tempfile
 
+from driver.programs import ended
+
 HERE = os.path.dirname(os.path.abspath(__file__))
 # The kinds of volumes that tests/slow_volumes.py lays: how many items or extents each gets, and how many megabytes.
 LAID = [('plain', 60, 1), ('cut_catalog', 100, 1), ('cut_catalog_shuffled', 300, 1), ('cut_files', 100, 4), ('cut_file_empty', 60, 4)]
@@ -22,16 +24,10 @@ MANY_EXTENTS = ('cut_file', 60_000, 30)
 MOST = 65_536
 
 
-def told(words, given=None):
-    run = subprocess.run(words, input=given, stdin=None if given is not None else subprocess.DEVNULL, stdout=subprocess.PIPE, stderr=subprocess.PIPE,
-                         timeout=120)
-    return run.returncode, run.stdout, run.stderr
-
-
 def items_of(tool, path, folder=2, most=40):
     """Files and folders of a volume whose names can stand in a script, each as its kind, ID, lengths, folder and name."""
     found = []
-    for line in told([tool, 'ls', path, str(folder)])[1].split(b'\n'):
+    for line in ended(tool, ['ls', path, str(folder)])[1].split(b'\n'):
         fields = line.split(b'\t')
         if len(fields) != 5 or len(found) >= most:
             continue
@@ -128,10 +124,10 @@ def same(tool, path, image, script, work):
         file.write(script)
     results = []
     for given, source in ((None, path), (image, '/dev/stdin')):
-        for words in ([tool, 'run', source, text, '--now', '3000000000'], [tool, 'run', source, text, '--now', '3000000000', '--out', out]):
+        for words in (['run', source, text, '--now', '3000000000'], ['run', source, text, '--now', '3000000000', '--out', out]):
             if os.path.exists(out):
                 os.remove(out)
-            run = told(words, given)
+            run = ended(tool, words, given)
             written = open(out, 'rb').read() if os.path.exists(out) else None
             results.append((run[0], run[1].replace(path.encode(), b'/dev/stdin'), run[2], written))
     if open(path, 'rb').read() != image:
@@ -148,8 +144,8 @@ def over_itself(tool, path, image, script, work):
     for name, content in ((copy, image), (text, script), (out, image)):
         with open(name, 'wb') as file:
             file.write(content)
-    there = told([tool, 'run', path, text, '--out', out])
-    itself = told([tool, 'run', copy, text, '--out', copy])
+    there = ended(tool, ['run', path, text, '--out', out])
+    itself = ended(tool, ['run', copy, text, '--out', copy])
     if there != itself or open(out, 'rb').read() != open(copy, 'rb').read():
         return 'over itself another thing is answered or written'
     return None
@@ -164,12 +160,12 @@ def beside_a_deletion(tool, path, items, work):
     place, text = (item[4], item[5]), os.path.join(work, 'script')
     with open(text, 'wb') as file:
         file.write(line(1, 'read', *place, 'data', 0, MOST))
-    whole = told([tool, 'run', '/dev/stdin', text], open(path, 'rb').read())[1].split(b'\t', 2)[2]
+    whole = ended(tool, ['run', '/dev/stdin', text], open(path, 'rb').read())[1].split(b'\t', 2)[2]
     with open(text, 'wb') as file:
         file.write(line(1, 'unlock', *place) + line(1, 'delete', *place) + b''.join(line('v1', 'read', *place, 'data', 0, MOST) for _ in range(60)))
     seen = set()
     for _ in range(15):
-        status, printed, _ = told([tool, 'run', path, text])
+        status, printed, _ = ended(tool, ['run', path, text])
         # a line that gives bytes is followed by those, up to the next answer
         answers = printed.split(b'v1\t')[1:]
         for answer in answers:
@@ -190,7 +186,7 @@ def is_sparse(tool, path, image, work):
         file.truncate(len(image) + 300_000_000)
     with open(text, 'wb') as file:
         file.write(line(1, 'create', 2, 'a file of this script'))
-    status, printed, _ = told([tool, 'run', sparse, text, '--out', out])
+    status, printed, _ = ended(tool, ['run', sparse, text, '--out', out])
     if status != 0:
         return None if b'check' in printed or b'image' in printed else f'a sparse image ends with {status}'
     if os.path.getsize(out) != len(image) + 300_000_000:

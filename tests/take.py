@@ -20,7 +20,6 @@ import gzip
 import hashlib
 import io
 import os
-import pty
 import re
 import resource
 import shutil
@@ -35,7 +34,8 @@ from pathlib import Path
 import broken_off
 import slow_volumes
 from bags import NoBag, read_bag
-from driver.programs import built
+from driver.programs import built, ended, ended_at_terminal
+from driver.wanted import Difference, ensure, ensure_same
 
 HERE = Path(__file__).resolve().parent
 TOOL = str(built('hfs_tool'))
@@ -98,27 +98,11 @@ int pthread_create(pthread_t *made, const pthread_attr_t *how, void *(*begin)(vo
 '''
 
 
-class Differs(Exception):
-    """What is written isn't what it is to be."""
-
-
-def ensure(holds, what):
-    if not holds:
-        raise Differs(what)
-
-
-def ensure_same(found, wanted, what):
-    for n, (one, other) in enumerate(zip(found, wanted)):
-        ensure(one == other, f'{what}, {n}: {one!r} in place of {other!r}')
-    ensure(len(found) == len(wanted), f'{what}: {len(found)} in place of {len(wanted)}')
-
-
 def told(*words, given=None, cwd=None, errors='', **how):
     """The status of the words, and what they print; on standard error this."""
-    source = {'stdin': subprocess.DEVNULL} if given is None else {'input': given}
-    run = subprocess.run([TOOL, *map(str, words)], stdout=subprocess.PIPE, stderr=subprocess.PIPE, timeout=600, cwd=cwd, **source, **how)
-    ensure(run.stderr.decode('utf-8') == errors, f'{words} writes to standard error: {run.stderr[:300]!r}')
-    return run.returncode, run.stdout.decode('utf-8')
+    status, printed, said = ended(TOOL, words, given, cwd=cwd, **how)
+    ensure(said.decode('utf-8') == errors, f'{words} writes to standard error: {said[:300]!r}')
+    return status, printed.decode('utf-8')
 
 
 def fnv(content):
@@ -186,7 +170,7 @@ class Bags:
         try:
             files, size, tags = read_bag(bag)
         except NoBag as wrong:
-            raise Differs(f'{bag.name} is no whole bag: {wrong}') from None
+            raise Difference(f'{bag.name} is no whole bag: {wrong}') from None
         for sums in ('manifest-sha256.txt', 'tagmanifest-sha256.txt'):
             if (bag / sums).stat().st_size:
                 run = subprocess.run(['sha256sum', '-c', '--quiet', '--strict', sums], cwd=bag, capture_output=True, text=True, timeout=600)
@@ -603,7 +587,7 @@ def compare_killed(bags, image, here):
             try:
                 read_bag(bag)
             except NoBag as wrong:
-                raise Differs(f'a bag of a run that was killed: {wrong}') from None
+                raise Difference(f'a bag of a run that was killed: {wrong}') from None
         ensure(bag.exists() or not text, 'a bag that is told of and not there')
         for path in here.glob(f'killed-{n}*'):
             shutil.rmtree(path)
@@ -814,19 +798,8 @@ def compare_many(bags, items):
 
 def compare_progress(bags, image, items):
     """At a terminal one line, written over after each hundred items, and taken away at the end."""
-    terminal, line = pty.openpty()
-    run = subprocess.Popen([TOOL, 'take', image, bags.place('seen'), '--no-digest'], stdin=subprocess.DEVNULL, stdout=subprocess.PIPE, stderr=line)
-    os.close(line)
-    said = b''
-    run.stdout.read()
-    try:
-        while part := os.read(terminal, 4096):
-            said += part
-    except OSError:
-        # The program has ended, and with it the terminal's other side.
-        pass
-    os.close(terminal)
-    ensure(run.wait() == 0, 'a run at a terminal')
+    status, _, said = ended_at_terminal(TOOL, ['take', image, bags.place('seen'), '--no-digest'])
+    ensure(status == 0, 'a run at a terminal')
     shown = re.findall(r'\r(?:(\d+) of (\d+) items; of the last 0 of \d+ bytes)?\x1b\[K', said.decode())
     ensure_same(shown, [(str(n), str(items)) for n in range(100, items + 1, 100)] + [('', '')], 'what is told at a terminal')
 
@@ -853,7 +826,7 @@ def main():
             image = compare_many(bags, words.items)
             if words.kept:
                 shutil.copy(image, words.kept)
-        except Differs as differs:
+        except Difference as differs:
             print(f'the bags differ: {differs}')
             return 1
         left_out = f'; left out: {", ".join(bags.skipped)}' if bags.skipped else ''

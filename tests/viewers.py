@@ -14,7 +14,8 @@ from concurrent.futures import ThreadPoolExecutor
 from pathlib import Path
 
 from driver.calls import Answer, Call, read_answers, script_of
-from driver.programs import ROOT, Difference, Program, built
+from driver.programs import ROOT, Program, built
+from driver.wanted import Difference, ensure
 
 NOW = 9
 # How many lines a viewer has at least, in so many rounds or more; and how often it is run where it ends before the worker, with as many
@@ -52,11 +53,6 @@ LISTS = [
 ONE_FILE = (4, 'lock 2 f/unlock 2 f/rename 2 f g/delete 2 g')
 # The same, when it is written over the end of a block, cut, made longer, and renamed.
 WRITTEN_FILE = (6, 'write 2 f data 1534 61626364/seteof 2 f data 1600/seteof 2 f data 2031/write 2 f data 2031 65/write 2 f res 0 66/rename 2 f g')
-
-
-def ensure(holds: bool, what: str) -> None:
-    if not holds:
-        raise Difference(what)
 
 
 def calls_of(text: str) -> list[Call]:

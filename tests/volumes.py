@@ -17,7 +17,7 @@ import subprocess
 import sys
 import tempfile
 
-from driver.programs import built
+from driver.programs import built, ended
 
 P6 = '8a87ab0d0aabcd89bc3175134dae1fbd9e84c136bc25c294375b54fecd06434f'
 HERE = os.path.dirname(os.path.abspath(__file__))
@@ -208,11 +208,10 @@ WRAPPINGS = [
 # ---- what the program tells
 
 def told(words, given=None, errors=False):
-    run = subprocess.run([TOOL, *words], input=given, stdin=None if given is not None else subprocess.DEVNULL, stdout=subprocess.PIPE,
-                         stderr=subprocess.PIPE, timeout=300)
-    if run.stderr and not errors:
-        fail(f'{words} writes {run.stderr[:200]}')
-    return run.returncode, run.stdout
+    status, printed, said = ended(TOOL, words, given)
+    if said and not errors:
+        fail(f'{words} writes {said[:200]}')
+    return status, printed
 
 
 def fail(what):

@@ -10,8 +10,9 @@ from typing import Iterator, Optional, Sequence
 
 from driver.calls import Answer, Call, Room, read_answers, script_of
 from driver.image import Image
-from driver.keeping import ensure, ensure_kept
-from driver.programs import Difference, Program, Programs
+from driver.keeping import ensure_kept
+from driver.programs import Program, Programs
+from driver.wanted import Difference, ensure
 
 # The calls that may give nodes back when they are done. All others leave as many free nodes or fewer, and as many levels or more.
 GIVES_NODES = ('delete', 'dropid', 'move', 'rename')

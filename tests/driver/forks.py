@@ -4,8 +4,8 @@ from dataclasses import dataclass, field
 from typing import Optional
 
 from driver.calls import Call
-from driver.image import BITS, BLOCK, MDB, Image, Tree, number_at
-from driver.keeping import ensure
+from driver.image import BLOCK, Image, Tree, number_at
+from driver.wanted import ensure
 
 # The codes of a volume's locks, of which the first that is set counts: bits 7 and 15 of drAtrb.
 LOCKS = ((0x0080, -44), (0x8000, -46))

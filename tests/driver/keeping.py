@@ -2,17 +2,12 @@
 nodes of both trees that came, left or were written, and blocks of forks where calls wrote some. Index keys of the catalog that are exact
 stay so."""
 from driver.image import BLOCK, Image, Tree, changed_blocks
-from driver.programs import Difference
+from driver.wanted import ensure
 
 # The fields of the master directory block that calls change: drLsMod, drNmFls, drNxtCNID, drFreeBks, drNmRtDirs, drFilCnt, drDirCnt.
 COUNTS = ((6, 4), (12, 2), (30, 4), (34, 2), (82, 2), (84, 4), (88, 4))
 # The fields of a header node that calls change: bthDepth, bthRoot, bthNRecs, bthFNode, bthLNode, bthFree.
 HEADER = ((14, 2), (16, 4), (20, 4), (24, 4), (28, 4), (40, 4))
-
-
-def ensure(holds: bool, what: str) -> None:
-    if not holds:
-        raise Difference(what)
 
 
 def beside(block: bytes, fields) -> bytes:

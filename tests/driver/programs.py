@@ -1,8 +1,11 @@
 """The programs: where they are, and what they print of which words."""
 import os
+import pty
 import subprocess
 from dataclasses import dataclass
 from pathlib import Path
+
+from driver.wanted import Difference
 
 ROOT = Path(__file__).resolve().parents[2]
 # Volumes of other programs.
@@ -13,8 +16,29 @@ SECONDS = 600
 ENVIRONMENT = {'PATH': os.defpath}
 
 
-class Difference(Exception):
-    """What two programs, or a program and a hand, tell differently."""
+def ended(program, words, given=None, seconds=SECONDS, **how) -> tuple[int, bytes, bytes]:
+    """How a run of a program with these words ends, what it prints, and what it writes to standard error. On standard input it is given these
+    bytes, or nothing."""
+    fed = {'input': given} if given is not None else {'stdin': subprocess.DEVNULL}
+    words = (it if isinstance(it, bytes) else str(it) for it in words)
+    ran = subprocess.run([program, *words], stdout=subprocess.PIPE, stderr=subprocess.PIPE, timeout=seconds, **fed, **how)
+    return ran.returncode, ran.stdout, ran.stderr
+
+
+def ended_at_terminal(program, words, **how) -> tuple[int, bytes, bytes]:
+    """The same where standard error is a terminal."""
+    terminal, line = pty.openpty()
+    run = subprocess.Popen([program, *map(str, words)], stdin=subprocess.DEVNULL, stdout=subprocess.PIPE, stderr=line, **how)
+    os.close(line)
+    printed, said = run.stdout.read(), b''
+    try:
+        while part := os.read(terminal, 4096):
+            said += part
+    except OSError:
+        # The program has ended, and with it the terminal's other side.
+        pass
+    os.close(terminal)
+    return run.wait(), printed, said
 
 
 @dataclass(frozen=True)
@@ -32,15 +56,13 @@ class Program:
 
     def run(self, *words, given=None, seconds=SECONDS) -> Ran:
         """Runs the program with these words, and these bytes on standard input."""
-        how = {'input': given} if given is not None else {'stdin': subprocess.DEVNULL}
         try:
-            ran = subprocess.run([self.path, *map(str, words)], stdout=subprocess.PIPE, stderr=subprocess.PIPE,
-                                 timeout=seconds, close_fds=False, env=ENVIRONMENT, **how)
+            status, printed, errors = ended(self.path, words, given, seconds, close_fds=False, env=ENVIRONMENT)
         except subprocess.TimeoutExpired:
             raise Difference(f"{self.name} takes more than {seconds} s of '{' '.join(map(str, words))}'") from None
-        if ran.stderr:
-            raise Difference(f'{self.name} writes to standard error: {ran.stderr[:400]!r}')
-        return Ran(ran.returncode, ran.stdout.decode('latin-1'))
+        if errors:
+            raise Difference(f'{self.name} writes to standard error: {errors[:400]!r}')
+        return Ran(status, printed.decode('latin-1'))
 
     def text(self, *words) -> str:
         """What the program prints of these words, which it takes."""

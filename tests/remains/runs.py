@@ -7,7 +7,8 @@ from dataclasses import dataclass, field, replace
 from pathlib import Path
 from typing import Optional
 
-from driver.programs import built
+from driver.programs import built, ended
+from driver.wanted import Difference, ensure
 from remains.bag import Remains, Rescued, Source, info_lines
 
 HERE = Path(__file__).resolve().parents[1]
@@ -21,25 +22,15 @@ PIPE = '/dev/stdin'
 MOST_ITEMS, MOST_TEXT = 6, 30_000
 
 
-class Differs(Exception):
-    """The program does something else than it is to do."""
-
-
-def ensure(holds: bool, what: str) -> None:
-    if not holds:
-        raise Differs(what)
-
-
 def told(*words, given: Optional[bytes] = None, cwd=None, errors: str = '') -> tuple[int, bytes]:
     """The status of the words, and what they print. A run that ends by a signal, runs on or writes anything else to standard error differs."""
-    how = {'stdin': subprocess.DEVNULL} if given is None else {'input': given}
     try:
-        run = subprocess.run([TOOL, *map(str, words)], stdout=subprocess.PIPE, stderr=subprocess.PIPE, timeout=PATIENCE, cwd=cwd, **how)
+        status, printed, said = ended(TOOL, words, given, PATIENCE, cwd=cwd)
     except subprocess.TimeoutExpired:
-        raise Differs(f'{words} runs on') from None
-    ensure(run.returncode >= 0, f'{words} ends by the signal {-run.returncode}')
-    ensure(run.stderr == errors.encode(), f'{words} writes to standard error: {run.stderr[:300]!r}')
-    return run.returncode, run.stdout
+        raise Difference(f'{words} runs on') from None
+    ensure(status >= 0, f'{words} ends by the signal {-status}')
+    ensure(said == errors.encode(), f'{words} writes to standard error: {said[:300]!r}')
+    return status, printed
 
 
 def found_in(folder: Path) -> dict[str, Optional[bytes]]:
@@ -142,7 +133,7 @@ class Bench:
         """Tells of a difference and keeps the image, where the next ones are to be tried all the same."""
         try:
             yield
-        except Differs as differs:
+        except Difference as differs:
             if self.kept is None:
                 raise
             self.differences += 1
@@ -229,7 +220,7 @@ def same_text(found: tuple[int, bytes], wanted: tuple[int, bytes], what: str) ->
     lines, wanted_lines = found[1].split(b'\n'), wanted[1].split(b'\n')
     for number, (one, other) in enumerate(zip(lines, wanted_lines), 1):
         ensure(one == other, f'{what}: ends with {found[0]} in place of {wanted[0]}, line {number}: {one[:300]!r} in place of {other[:300]!r}')
-    raise Differs(f'{what}: ends with {found[0]} in place of {wanted[0]}, and prints {len(lines)} lines in place of {len(wanted_lines)}')
+    raise Difference(f'{what}: ends with {found[0]} in place of {wanted[0]}, and prints {len(lines)} lines in place of {len(wanted_lines)}')
 
 
 def ensure_info(content: bytes) -> None:

@@ -2,6 +2,7 @@
 use Rattle.std.specs.Prelude.{◌≡◌, ◌⊎◌, ℕ, Bool, true, false, if◌then◌else◌, List, Ok, Err}
 use Rattle.sqlite.specs.declared.error.Error.{Error}
 use Rattle.sqlite.specs.declared.error.Error.TheVariants.{SqliteFailure}
+use Rattle.sqlite.specs.declared.error.ErrorCode.{ErrorCode}
 use Rattle.sqlite.specs.declared.error.ErrorCode.TheVariants as code
 use Rattle.sqlite.specs.declared.types.Value.{Value}
 use Rattle.sqlite.specs.Reading.{IsReadError}
@@ -10,12 +11,30 @@ use Rattle.sqlite_value.specs.Order.{column}
 use Rattle.hfs_rows.specs.declared.fault.TakerFault.{TakerFault}
 use Rattle.hfs_rows.specs.declared.fault.TakerFault.TheVariants as taker
 use Rattle.hfs_database.specs.declared.fault.DatabaseFault.{DatabaseFault}
-use Rattle.hfs_database.specs.declared.fault.DatabaseFault.TheVariants.{CannotWrite, NoMemory}
+use Rattle.hfs_database.specs.declared.fault.DatabaseFault.TheVariants.{CannotOpen, CannotWrite, NoMemory}
+use Rattle.hfs_database.specs.declared.fault.Obstacle.{Obstacle}
+use Rattle.hfs_database.specs.declared.fault.Obstacle.TheVariants as obstacle
 
 -- whether memory was refused
 abbrev pub is_memory : Error → Bool
 is_memory (SqliteFailure code.OutOfMemory) = true
 is_memory _ = false
+
+-- what stands in the way where a database isn't opened for this reason
+abbrev pub obstacle_of : ErrorCode → Obstacle
+obstacle_of code.DatabaseBusy = obstacle.Busy
+obstacle_of code.DatabaseCorrupt = obstacle.Damaged
+obstacle_of code.CannotOpen = obstacle.System
+obstacle_of code.SystemIoFailure = obstacle.System
+obstacle_of code.Closed = obstacle.System
+obstacle_of _ = obstacle.Unreadable
+
+-- its fault where a database is opened
+abbrev pub opening_fault : Error → DatabaseFault
+opening_fault (SqliteFailure code.OutOfMemory) = NoMemory
+opening_fault (SqliteFailure code.DiskFull) = CannotWrite
+opening_fault (SqliteFailure why) = CannotOpen (obstacle_of why)
+opening_fault _ = CannotOpen obstacle.Unreadable
 
 -- its fault where a database is written, or what was written is read
 abbrev pub writing_fault : Error → DatabaseFault

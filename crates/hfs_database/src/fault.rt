@@ -57,7 +57,8 @@ fn is_memory(error: &Error) -> bool
 
 /// What stands in the way where a database isn't opened for this reason.
 fn obstacle_of(code: ErrorCode) -> Obstacle
-    ensures { TellsNoTables (CannotOpen result) }
+    ensures tables { TellsNoTables (CannotOpen result) }
+    ensures obstacle { result ≡ spec.obstacle_of code }
 {
     match code {
         ErrorCode::DatabaseBusy => Obstacle::Busy,
@@ -87,7 +88,8 @@ fn obstacle_of(code: ErrorCode) -> Obstacle
 
 /// What an error means where a database is opened. Where there is no room to make it, it can't be written.
 pub(crate) fn opening_fault(error: &Error) -> DatabaseFault
-    ensures { TellsNoTables result }
+    ensures tables { TellsNoTables result }
+    ensures fault { result ≡ spec.opening_fault error.now }
 {
     match error {
         Error::SqliteFailure(ErrorCode::OutOfMemory) => DatabaseFault::NoMemory,

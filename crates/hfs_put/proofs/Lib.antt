@@ -4,6 +4,7 @@ mod NamedIds
 mod FolderRows
 mod PlacedItems
 mod LaidLists
+mod Absences
 mod PlacedLists
 mod LockCodes
 mod FittingForks

@@ -31,6 +31,16 @@ IsLayFault r image lay_fault.NoMemory = ⊤
 IsLayFault r image (lay_fault.Absent place) = ⊤
 IsLayFault r image (lay_fault.Refused place reply) = (r ≡ Err (record { place = place; reply = reply })) ⊎ IsWanting image reply
 
+-- the item at this place alone may be told as absent, where this holds
+abbrev pub IsAbsentAt : ℕ → Type 0 → LayFault → Type 0
+IsAbsentAt place Fact lay_fault.NoMemory = ⊤
+IsAbsentAt place Fact (lay_fault.Absent at) = (at ≡ place) × Fact
+IsAbsentAt place Fact (lay_fault.Refused at reply) = ⊤
+
+-- no item is told as absent
+abbrev pub IsNoAbsence : LayFault → Type 0
+IsNoAbsence fault = IsAbsentAt 0 ⊥ fault
+
 abbrev pub fault_at : ℕ → CallFault → LayFault
 fault_at place call_fault.NoMemory = lay_fault.NoMemory
 fault_at place (call_fault.Refused reply) = lay_fault.Refused place reply

@@ -1,14 +1,17 @@
 -- What laying a list makes of a volume.
-use Rattle.std.specs.Prelude.{◌≡◌, ℕ, List, [], map, Option, Some, None, Result, Ok}
+use Rattle.std.specs.Prelude.{◌≡◌, ℕ, ◌+◌, List, [], ◌∷◌, map, take, slice_get, Option, Some, None, Result, Ok, ⊤}
 use Rattle.hfs_model.specs.declared.reply.Reply.{Reply}
 use Rattle.hfs_model.specs.declared.reply.Value.{Value}
 use Rattle.hfs_model.specs.declared.reply.Value.TheVariants as value
+use Rattle.hfs_model.specs.Children.{entries_of}
+use Rattle.hfs_model.specs.Reading.{get_cat_info}
 use Rattle.hfs_model.specs.Volume.{Volume}
 use Rattle.hfs_put_calls.specs.declared.items.PutItem.{PutItem}
 use Rattle.hfs_put_calls.specs.Accepted.{next, all_accepted}
 use Rattle.hfs_put_calls.specs.Calls.{somes, making}
 use Rattle.hfs_put_calls.specs.Put.{Arrival, Open, Placed, Refused, filling, folder_id, id_named, laid_volume, left, placed}
 use Rattle.hfs_put.specs.declared.faults.LayFault.{LayFault}
+use Rattle.hfs_put.specs.declared.faults.LayFault.TheVariants as fault
 use Rattle.hfs_put.specs.Faults.{IsLayFault}
 
 -- an item without bytes
@@ -35,6 +38,14 @@ standing now dir item v =
     next (all_accepted v (somes (making dir item now))) (λ made.
     next (all_accepted made (filling item.kind dir (bare item) now)) (λ done. Ok (done, id_named made dir item.name)))
 
+-- the ID that GetCatInfo tells of the folder's item of that name
+abbrev pub id_told : Volume → ℕ → List ℕ → Option ℕ
+id_told v dir name = id_in (get_cat_info (entries_of v) dir name).value
+
+-- the calls that make the item were accepted, and yet nothing is told of its name: it was to be kept, and isn't there
+abbrev pub LacksName : ℕ → ℕ → PutItem → Volume → Volume → Type 0
+LacksName now dir item v w = (all_accepted v (somes (making dir item now)) ≡ Ok w) × (id_told w dir item.name ≡ None)
+
 abbrev pub Stands : ℕ → ℕ → PutItem → Volume → Volume → ℕ → Type 0
 Stands now dir item v w id = standing now dir item v ≡ Ok (w, id)
 
@@ -52,7 +63,33 @@ one_laid target now place item v folders = next (left item.parent v folders) (λ
 abbrev pub IsOneLaid : ℕ → ℕ → ℕ → PutItem → Volume → List Open → Volume → List Open → ℕ → Type 0
 IsOneLaid target now place item v folders w opens id = one_laid target now place item v folders ≡ Ok (record { volume = w; id = id; folders = opens })
 
+-- where they are left, it is made in the innermost one that is open then, and nothing is told of its name
+pub record LacksOne (target now : ℕ) (item : PutItem) (v : Volume) (folders : List Open) (w : Volume) : Type 0 where
+  pub behind : Volume × List Open
+  pub left_is : left item.parent v folders ≡ Ok behind
+  pub lacks : LacksName now (folder_id target behind.1) item behind.0 w
+
 -- ---- the list
+
+-- the volume behind the first items of the list, and the folders that are open then
+abbrev pub front_laid : ℕ → ℕ → ℕ → Volume → List Open → List PutItem → Result (Volume × List Open) Refused
+front_laid target now place v folders [] = Ok (v, folders)
+front_laid target now place v folders (item ∷ items) =
+    next (one_laid target now place item v folders) (λ (p : Placed). front_laid target now (place + 1) p.volume p.folders items)
+
+-- the items before this place are laid, and the one at it is lacking
+pub record LacksItem (target now : ℕ) (items : List PutItem) (v w : Volume) (place : ℕ) : Type 0 where
+  pub front : Volume × List Open
+  pub laid : front_laid target now 0 v [] (take place items) ≡ Ok front
+  pub item : PutItem
+  pub there : slice_get items place ≡ Some item
+  pub lacks : LacksOne target now item front.0 front.1 w
+
+-- an item is told as absent only where it is lacking
+abbrev pub IsAbsence : ℕ → ℕ → List PutItem → Volume → Volume → LayFault → Type 0
+IsAbsence target now items v w fault.NoMemory = ⊤
+IsAbsence target now items v w (fault.Absent place) = LacksItem target now items v w place
+IsAbsence target now items v w (fault.Refused place reply) = ⊤
 
 abbrev pub item_of : Arrival → PutItem
 item_of a = a.item

@@ -2,7 +2,7 @@
 ghost use Rattle.std.specs.Prelude.{◌≡◌, ℕ, Ok, OnOk, IfErr};
 ghost use Rattle.hfs_check.specs.VolumeOf.{volume_of};
 ghost use Rattle.hfs_put_calls.specs.Put.{folder_id, is_at, left};
-ghost use Rattle.hfs_put.specs.Faults.{IsLayFault};
+ghost use Rattle.hfs_put.specs.Faults.{IsLayFault, IsNoAbsence};
 ghost use Rattle.hfs_put.specs.Folders.{LeavesOne, one_left, opens};
 
 use crate::calls::end_item;
@@ -43,6 +43,7 @@ pub(crate) fn folder_id(target: u32, folders: &[OpenFolder]) -> u32
 }
 
 /// Leaves a folder: makes the calls that come behind all that lies in it.
+#[tactic(auto, using(crate::proofs::Absences::none_is_absent))]
 fn leave_one(
     alloc: Global,
     volume: &mut Volume,
@@ -53,6 +54,7 @@ fn leave_one(
         (volume_of volume.new.current)) }
     ensures err { IfErr result (IsLayFault (one_left now folder.now (volume_of volume.old.current))
         volume.new.current) }
+    ensures absent { IfErr result IsNoAbsence }
     ensures base { volume.new.base ≡ volume.old.base }
 {
     match end_item(alloc, volume, folder.dir, &folder.item, now) {
@@ -75,6 +77,7 @@ pub(crate) fn leave(
         ≡ Ok (volume_of volume.new.current, opens now folders.new.items)) }
     ensures err { IfErr result (IsLayFault
         (left parent (volume_of volume.old.current) (opens now folders.old.items)) volume.new.current) }
+    ensures absent { IfErr result IsNoAbsence }
     ensures base { volume.new.base ≡ volume.old.base }
 {
     while let Some(folder) = folders.pop() {

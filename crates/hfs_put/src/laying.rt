@@ -1,12 +1,12 @@
 //! A list of items is laid on a mounted volume.
-ghost use Rattle.std.specs.Prelude.{◌≡◌, ℕ, Ok, OnOk, IfOk, IfErr, IfSome};
+ghost use Rattle.std.specs.Prelude.{◌≡◌, ℕ, Ok, OnOk, IfOk, IfErr, IfNone, IfSome};
 ghost use Rattle.hfs_check.specs.VolumeOf.{volume_of};
 ghost use Rattle.hfs_put_calls.specs.Accepted.{all_accepted};
-ghost use Rattle.hfs_put_calls.specs.Put.{filling, id_named, opened};
-ghost use Rattle.hfs_put.specs.Faults.{IsCallFault, IsLayFault};
+ghost use Rattle.hfs_put_calls.specs.Put.{filling, folder_id, id_named, opened};
+ghost use Rattle.hfs_put.specs.Faults.{IsAbsentAt, IsCallFault, IsLayFault};
 ghost use Rattle.hfs_put.specs.declared.faults.LayFault.TheVariants as lay_fault;
 ghost use Rattle.hfs_put.specs.Folders.{open_of, opens};
-ghost use Rattle.hfs_put.specs.Laying.{AreLaid, IsFaultOfLaying, IsOneLaid, IsPlaced, Stands, bare, id_in, one_laid, placed_in, standing};
+ghost use Rattle.hfs_put.specs.Laying.{AreLaid, IsAbsence, IsFaultOfLaying, IsOneLaid, IsPlaced, LacksName, LacksOne, Stands, bare, id_in, id_told, one_laid, placed_in, standing};
 
 use crate::calls::{end_item, make_item};
 use crate::faults::{CallFault, LayFault, fault_at};
@@ -36,7 +36,8 @@ fn id_in(value: &Value) -> Option<u32>
 /// The ID of a folder's item of that name.
 #[tactic(auto, using(crate::proofs::NamedIds::named))]
 fn id_named(volume: &Volume, dir: u32, name: &[u8]) -> Option<u32>
-    ensures { IfSome result (λ id. id ≡ id_named (volume_of volume.now.current) dir name.now) }
+    ensures named { IfSome result (λ id. id ≡ id_named (volume_of volume.now.current) dir name.now) }
+    ensures told { result ≡ id_told (volume_of volume.now.current) dir name.now }
 {
     let reply = volume.get_cat_info(dir, name);
     id_in(&reply.value)
@@ -63,7 +64,7 @@ fn end_file(
 }
 
 /// Makes an item, a file with all but its bytes: its ID, or none where it is a folder to be kept that isn't there.
-#[tactic(auto, using(crate::proofs::PlacedItems::stands, crate::proofs::PlacedItems::make_fault, crate::proofs::PlacedItems::end_fault))]
+#[tactic(auto, using(crate::proofs::Absences::lacks_name, crate::proofs::PlacedItems::stands, crate::proofs::PlacedItems::make_fault, crate::proofs::PlacedItems::end_fault))]
 fn stand(
     alloc: Global,
     volume: &mut Volume,
@@ -72,6 +73,8 @@ fn stand(
     now: u32,
 ) -> Result<Option<u32>, CallFault>
     ensures ok { IfOk result (λ id. IfSome id (Stands now dir item.now
+        (volume_of volume.old.current) (volume_of volume.new.current))) }
+    ensures absent { IfOk result (λ id. IfNone id (LacksName now dir item.now
         (volume_of volume.old.current) (volume_of volume.new.current))) }
     ensures err { IfErr result (IsCallFault (standing now dir item.now (volume_of volume.old.current))
         volume.new.current) }
@@ -101,7 +104,7 @@ fn open(folders: &mut Vec<OpenFolder>, folder: OpenFolder) -> Result<(), LayFaul
 }
 
 /// Puts the item at a place of the list into the innermost open folder, or into the target: its ID.
-#[tactic(auto, using(crate::proofs::PlacedItems::is_placed, crate::proofs::PlacedItems::placed_fault))]
+#[tactic(auto, using(crate::proofs::Absences::lacks_there, crate::proofs::Absences::call_tells_none, crate::proofs::Absences::memory_is_absent, crate::proofs::PlacedItems::is_placed, crate::proofs::PlacedItems::placed_fault))]
 fn place_item(
     alloc: Global,
     volume: &mut Volume,
@@ -114,6 +117,9 @@ fn place_item(
     ensures ok { IfOk result (IsPlaced target now place item.now
         (volume_of volume.old.current) (opens now folders.old.items)
         (volume_of volume.new.current) (opens now folders.new.items)) }
+    ensures absent { IfErr result (IsAbsentAt place
+        (LacksName now (folder_id target (opens now folders.old.items)) item.now
+        (volume_of volume.old.current) (volume_of volume.new.current))) }
     ensures err { IfErr result (IsLayFault (placed_in target now place item.now
         (volume_of volume.old.current) (opens now folders.old.items)) volume.new.current) }
     ensures base { volume.new.base ≡ volume.old.base }
@@ -138,7 +144,7 @@ fn place_item(
 }
 
 /// Puts the item at a place of the list, once the folders are left in which it doesn't lie: its ID.
-#[tactic(auto, using(crate::proofs::PlacedItems::left_fault_first, crate::proofs::PlacedItems::one_is))]
+#[tactic(auto, using(crate::proofs::Absences::lacks_one, crate::proofs::Absences::other_is_absent, crate::proofs::PlacedItems::left_fault_first, crate::proofs::PlacedItems::one_is))]
 fn lay_one(
     alloc: Global,
     volume: &mut Volume,
@@ -151,6 +157,9 @@ fn lay_one(
     ensures ok { IfOk result (IsOneLaid target now place item.now
         (volume_of volume.old.current) (opens now folders.old.items)
         (volume_of volume.new.current) (opens now folders.new.items)) }
+    ensures absent { IfErr result (IsAbsentAt place (LacksOne target now item.now
+        (volume_of volume.old.current) (opens now folders.old.items)
+        (volume_of volume.new.current))) }
     ensures err { IfErr result (IsLayFault (one_laid target now place item.now
         (volume_of volume.old.current) (opens now folders.old.items)) volume.new.current) }
     ensures base { volume.new.base ≡ volume.old.base }
@@ -161,7 +170,7 @@ fn lay_one(
 
 /// Puts a list of items into a folder of a volume by all calls but those that write forks, at a moment: the IDs of the items, in
 /// the order of the list. Faults: the first call that is refused, with the place of its item, where those before it have been
-/// made; `Absent` where a folder is to be kept that isn't there; want of memory.
+/// made; `Absent` where an item is to be kept that isn't there; want of memory.
 #[tactic(auto, using(crate::proofs::LaidLists::laid_all, crate::proofs::LaidLists::fault_all))]
 pub fn lay_items(
     alloc: Global,
@@ -172,6 +181,8 @@ pub fn lay_items(
 ) -> Result<Vec<u32>, LayFault>
     ensures ok { IfOk result (λ ids. AreLaid target now items.now (volume_of volume.old.current)
         (volume_of volume.new.current) ids.items) }
+    ensures absent { IfErr result (IsAbsence target now items.now
+        (volume_of volume.old.current) (volume_of volume.new.current)) }
     ensures err { IfErr result (IsFaultOfLaying target now items.now
         (volume_of volume.old.current) volume.new.current) }
     ensures base { volume.new.base ≡ volume.old.base }

@@ -1,5 +1,5 @@
 -- The runs in which a block begins, and the blocks of a patch beside them.
-use Rattle.std.proofs.Common.{◌≡◌, ⊎_elim, inl, inr, ℕ, ◌+◌, ◌-◌, ◌*◌, ◌<◌, ◌≤◌, Bool, true, false, cond, ◌&&◌, leb, ltb, List, [], ◌∷◌, length, get_or, Option, Some, None, Result, Ok, Err, OnOk, refl, sym, ap, ◌∙◌, subst, arith}
+use Rattle.std.proofs.Common.{◌≡◌, ⊎_elim, inl, inr, ℕ, ◌+◌, ◌-◌, ◌<◌, ◌≤◌, Bool, true, false, cond, ◌&&◌, leb, ltb, List, [], length, get_or, Option, Some, None, refl, sym, ap, ◌∙◌, subst, arith}
 use Rattle.std.specs.List.{list_any}
 use Rattle.std.specs.List.Sorted.{IsNonDecreasingBy, IsPartitionedBy, IsPartitionPoint}
 use Rattle.std.proofs.lemmas.Bool.{cases_eq, eq-eqb, ne_eqb, le-leb, lt-ltb, leb-true, leb-false, ltb-true, cases_lt, cases_Bool, and_parts}
@@ -141,7 +141,3 @@ beside-all runs patch kept count k within all h n = ⊎_elim
     by : (o : Option (List ℕ)) → changes patch n ≡ o → count ≤ n → changes patch n ≡ None
     by None e le = e
     by (Some b) e le = let lt : n < count = (within n b e).0 in absurd (omega (arith, lt, le))
-
-pub on-ok : {T E : Type 0} (r : Result T E) (P Q : Type 0) → (P → Q) → OnOk r P → OnOk r Q
-on-ok (Ok x) P Q f p = f p
-on-ok (Err e) P Q f p = tt

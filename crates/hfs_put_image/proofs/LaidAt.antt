@@ -1,7 +1,7 @@
 -- Bytes with others in the place of some, run after run.
-use Rattle.std.proofs.Common.{◌≡◌, ◌⊎◌, inl, inr, ⊎_elim, ℕ, zero, suc, ◌+◌, ◌≤◌, List, [], ◌∷◌, ◌++◌, append_assoc, length, take, drop, min, refl, sym, ap, subst, ◌∙◌, arith}
+use Rattle.std.proofs.Common.{◌≡◌, ◌⊎◌, ⊎_elim, ℕ, zero, suc, ◌+◌, ◌≤◌, List, [], ◌∷◌, ◌++◌, append_assoc, length, take, drop, refl, sym, ap, ◌∙◌, arith}
 use Rattle.std.specs.Prelude.{◌-◌, ⊤}
-use Rattle.std.proofs.lemmas.List.{length-append, length-take, length-drop, length-take-le, drop-append-le, take-append-le, drop-take}
+use Rattle.std.proofs.lemmas.List.{length-append, length-drop, length-take-le, drop-append-le, take-append-le, drop-take}
 use Rattle.std.proofs.lemmas.Slice.{drop-append-drop}
 use Rattle.std.proofs.Math.Seq.{drop-append_seam, take-append_seam}
 use Rattle.hfs_scans.specs.Each.{Each}
@@ -9,7 +9,7 @@ use Rattle.hfs_scans.proofs.ElementLemmas.{each-both, each-mono}
 use Rattle.hfs_put_calls.specs.Put.{Arrival}
 use Rattle.hfs_sources.specs.declared.fork_run.ForkRun.{ForkRun}
 use Rattle.hfs_put_image.specs.LaidRuns.{run_bytes, laid_at, laid}
-use Rattle.hfs_put_image.proofs.Filled.{pad, filled-pad, length-pad}
+use Rattle.hfs_put_image.proofs.Filled.{filled-pad, length-pad}
 
 take-fewer : (n m : ℕ) (xs : List ℕ) → n ≤ m → take n (take m xs) ≡ take n xs
 take-fewer zero m xs le = refl

@@ -1,9 +1,8 @@
 -- Where the runs of a list's files lie, and what stands in the blocks of these files when their bytes are laid in the runs.
-use Rattle.std.proofs.Common.{◌≡◌, ◌⊎◌, inl, inr, ⊎_elim, ℕ, zero, suc, ◌+◌, ◌*◌, ◌/◌, ◌%◌, ◌<◌, ◌≤◌, Bool, true, false, cond, List, [], ◌∷◌, ◌++◌, length, map, take, drop, slice_get, replicate, Option, Some, None, is_some, refl, sym, ap, subst, ◌∙◌, arith, true≢false}
-use Rattle.std.specs.Prelude.{◌-◌, ◌&&◌, slice_index_or}
-use Rattle.std.specs.List.{flat_map, range_with_len}
+use Rattle.std.proofs.Common.{◌≡◌, inl, inr, ⊎_elim, ℕ, suc, ◌+◌, ◌*◌, ◌/◌, ◌%◌, ◌<◌, ◌≤◌, Bool, true, cond, List, [], ◌∷◌, ◌++◌, length, map, drop, slice_get, Option, Some, is_some, refl, sym, ap, subst, ◌∙◌, arith}
+use Rattle.std.specs.Prelude.{◌-◌, ◌&&◌}
+use Rattle.std.specs.List.{flat_map}
 use Rattle.std.proofs.lemmas.Bool.{cases_lt}
-use Rattle.std.proofs.lemmas.Nat.{div-mul-add}
 use Rattle.std.proofs.Math.Nat.{add-mul, mul_assoc, mul_comm, mul-le-mul_right}
 use Rattle.hfs_fields.specs.Records.{is_file, item_id, dir_record_of, file_record_of}
 use Rattle.hfs_fields.specs.declared.extent.Extent.{Extent}
@@ -12,26 +11,26 @@ use Rattle.hfs_fields.specs.declared.mdb.Mdb.{Mdb}
 use Rattle.hfs_scans.specs.Each.{Each}
 use Rattle.hfs_scans.specs.Members.{In}
 use Rattle.hfs_scans.proofs.MemberLemmas.{each_in}
-use Rattle.hfs_blocks.specs.Blocks.{block_at, block_count, run_of}
+use Rattle.hfs_blocks.specs.Blocks.{block_at, run_of}
 use Rattle.hfs_btree.specs.Sound.{IsOther}
 use Rattle.hfs_model.specs.declared.call.Fork.{Fork}
 use Rattle.hfs_model.specs.declared.call.Fork.TheVariants.{DataFork, ResFork}
 use Rattle.hfs_space.specs.declared.fork_kind.ForkKind.TheVariants.{Data, Resource}
 use Rattle.hfs_space.specs.Extents.{AreExtentsWithin, IsExtentWithin, block_total}
 use Rattle.hfs_space.specs.ForkLaws.{block_numbers}
-use Rattle.hfs_space.specs.Forks.{HasArea, blocks_each, joined, run_in}
+use Rattle.hfs_space.specs.Forks.{blocks_each, run_in}
 use Rattle.hfs_space.specs.Owners.{forks_of_file}
 use Rattle.hfs_space.specs.Sound.{IsForkSound}
 use Rattle.hfs_space.proofs.Decided.{each_from_all}
-use Rattle.hfs_catalog.specs.Records.{Record, Catalog}
+use Rattle.hfs_catalog.specs.Records.{Record}
 use Rattle.hfs_changes.proofs.Made.{file-not_dir}
 use Rattle.hfs_check.specs.Parts.{Blocks, mdb_in, overflow_in, catalog_in}
-use Rattle.hfs_check.specs.Sound.{AreBlocksSound, IsSound}
+use Rattle.hfs_check.specs.Sound.{AreBlocksSound}
 use Rattle.hfs_needed.specs.Laws.{blocks_of_fork}
 use Rattle.hfs_volume.specs.Mounted.{fork_record}
 use Rattle.hfs_volume.specs.Sharing.{file_extents}
 use Rattle.hfs_volume.proofs.OwnedStay.{each_of}
-use Rattle.hfs_put.specs.ForkRuns.{fork_runs_of, IsFileAt, IsForkRun, HaveForksOf, HaveFileOf, AreRunsApart, AreForkRuns}
+use Rattle.hfs_put.specs.ForkRuns.{fork_runs_of, IsForkRun, HaveForksOf, AreRunsApart, AreForkRuns}
 use Rattle.hfs_put.specs.Laying.{item_of}
 use Rattle.hfs_put_calls.specs.Laws.{AreTheirs}
 use Rattle.hfs_put_calls.specs.Put.{Arrival, came}
@@ -39,10 +38,10 @@ use Rattle.hfs_put_calls.specs.WithForks.{FileForks, forks_of}
 use Rattle.hfs_sources.specs.declared.fork_run.ForkRun.{ForkRun}
 use Rattle.hfs_put_laws.specs.Forks.{file_blocks, record_blocks, blocks_of_files, has_forks, OfTheirFiles, AreLongAs, HoldBytes, HoldForks, AreForksLaid}
 use Rattle.hfs_put_laws.proofs.Located.{range-in}
-use Rattle.hfs_put_image.specs.LaidRuns.{fork_bytes, laid}
+use Rattle.hfs_put_image.specs.LaidRuns.{fork_bytes}
 use Rattle.hfs_put_image.proofs.Filled.{pad, pad-whole}
-use Rattle.hfs_put_image.proofs.FilesAt.{IsArrivalAt, arrival-at, forks_for, same-forks, somewhere}
-use Rattle.hfs_put_image.proofs.LaidAt.{AreApart, AreInside, IsOutside, Holds, length-laid, each-laid, outside-laid}
+use Rattle.hfs_put_image.proofs.FilesAt.{arrival-at, forks_for, same-forks, somewhere}
+use Rattle.hfs_put_image.proofs.LaidAt.{AreApart, IsOutside, Holds}
 use Rattle.hfs_put_image.proofs.RunBlocks.{IsRunOf, is-run, fork-joined}
 
 -- ---- runs apart, as they stand in the list

@@ -1,12 +1,10 @@
 -- What goes out of a list that was put on a copy.
-use Rattle.std.proofs.Common.{◌≡◌, ℕ, ◌/◌, ◌<◌, List, [], ◌∷◌, ◌++◌, length, map, Bool, true, false, cond, Some, None, IsSome, Ok, refl, sym, ap, subst, ◌∙◌}
-use Rattle.std.specs.List.{flat_map}
+use Rattle.std.proofs.Common.{◌≡◌, ℕ, ◌/◌, ◌<◌, List, [], ◌∷◌, length, map, Bool, true, false, cond, Some, None, Result, Ok, Err, IfOk, refl, sym, ap, subst, ◌∙◌}
 use Rattle.hfs_scans.specs.Each.{Each}
-use Rattle.hfs_blocks.specs.declared.run.Run.{Run}
-use Rattle.hfs_blocks.specs.Blocks.{block_at, block_count, length-block_at, run_of}
+use Rattle.hfs_blocks.specs.Blocks.{block_at, block_count, length-block_at}
 use Rattle.hfs_blocks.specs.Layers.{Numbered, changes, AreWithin}
-use Rattle.hfs_catalog.specs.Records.{Catalog}
 use Rattle.hfs_check.specs.Agree.{AgreesBut}
+use Rattle.hfs_check.specs.Parts.{mdb_in}
 use Rattle.hfs_check.specs.VolumeOf.{volume_of}
 use Rattle.hfs_volume.specs.Image.{ImageValue, patched}
 use Rattle.hfs_working.specs.Working.{IsWorkingCopy}
@@ -22,10 +20,10 @@ use Rattle.hfs_sources.specs.declared.fork_run.ForkRun.{ForkRun}
 use Rattle.hfs_put_laws.specs.Forks.{AreForksLaid}
 use Rattle.hfs_put_laws.specs.Saved.{IsDifference, IsPut}
 use Rattle.hfs_put_laws.proofs.CameForks.{are-long}
-use Rattle.hfs_put_laws.proofs.SavedPuts.{saved_is_put}
+use Rattle.hfs_put_laws.proofs.SavedPuts.{directory-is, saved_is_put}
 use Rattle.hfs_put_image.specs.Beside.{is_in_runs, AreBeside}
 use Rattle.hfs_put_image.specs.LaidRuns.{laid}
-use Rattle.hfs_put_image.specs.PutImages.{IsPutOver}
+use Rattle.hfs_put_image.specs.PutImages.{HasDirectory, IsPutOver}
 use Rattle.hfs_put_image.proofs.SavedRuns.{saved-laid}
 
 -- ---- the blocks that go out
@@ -47,6 +45,18 @@ module _ (volume : ImageValue) (patch : Numbered) (written : List ℕ) (agrees :
 
   pub is-difference : IsDifference patch volume.base volume.current
   is-difference = record { within = patch-within; makes = makes; differ = λ n some same. are-kept.only n some same }
+
+module _ (volume : ImageValue) (patch kept : Numbered) (runs : List ForkRun) (agrees : AgreesBut volume.written volume.base volume.current)
+    (of : AreKeptOf volume [] [] patch) (makes : patched patch volume.base ≡ volume.current) (beside : AreBeside runs patch kept) where
+  pub kept-within : AreWithin (changes kept) (block_count volume.base)
+  kept-within n b found = patch-within volume patch volume.written agrees of makes n b (by (is_in_runs runs n) (sym (beside n) ∙ found))
+    where
+      by : (t : Bool) → cond t None (changes patch n) ≡ Some b → changes patch n ≡ Some b
+      by true e = absurd (none-some e)
+        where
+          none-some : None ≡ Some b → ⊥
+          none-some e = cc
+      by false e = e
 
 -- ---- the whole
 
@@ -73,15 +83,16 @@ module _ (volume : ImageValue) (target now : ℕ) (items : List PutItem) (patch 
     puts = saved_is_put target now arrivals ids volume.written volume.base volume.current image saved patch is whole
         (record { laid = calls arrivals same; agrees = agrees }) (is-difference volume patch volume.written agrees of makes) there
 
+    directory : mdb_in (block_at saved) ≡ mdb_in (block_at volume.current)
+    directory = directory-is target now arrivals ids volume.written volume.base volume.current image saved patch is whole
+        (record { laid = calls arrivals same; agrees = agrees }) (is-difference volume patch volume.written agrees of makes) there
+
   pub is-put-over : IsPutOver volume.base target now items kept runs ids
   is-put-over = record { written = volume.written; puts = puts }
 
-  pub kept-within : AreWithin (changes kept) (block_count volume.base)
-  kept-within n b found = patch-within volume patch volume.written agrees of makes n b (by (is_in_runs runs n) (sym (beside n) ∙ found))
-    where
-      by : (t : Bool) → cond t None (changes patch n) ≡ Some b → changes patch n ≡ Some b
-      by true e = absurd (none-some e)
-        where
-          none-some : None ≡ Some b → ⊥
-          none-some e = cc
-      by false e = e
+  pub has-directory : HasDirectory volume.base items kept runs (mdb_in (block_at volume.current))
+  has-directory = directory
+
+pub if-ok : {T E : Type 0} (r : Result T E) (P Q : T → Type 0) → ((x : T) → P x → Q x) → IfOk r P → IfOk r Q
+if-ok (Ok x) P Q f p = f x p
+if-ok (Err e) P Q f p = tt

@@ -1,7 +1,7 @@
 -- The runs of a fork's extents, and the bytes of their blocks.
-use Rattle.std.proofs.Common.{◌≡◌, inl, inr, ⊎_elim, ℕ, zero, suc, ◌+◌, ◌*◌, ◌<◌, ◌≤◌, Bool, true, false, cond, eqb, List, [], ◌∷◌, ◌++◌, length, map, take, drop, slice_get, Option, Some, None, refl, sym, ap, subst, ◌∙◌, arith, true≢false}
+use Rattle.std.proofs.Common.{◌≡◌, inl, inr, ⊎_elim, ℕ, zero, suc, ◌+◌, ◌*◌, ◌<◌, Bool, true, false, cond, List, [], ◌∷◌, ◌++◌, map, take, drop, slice_get, Some, None, refl, sym, ap, ◌∙◌, arith, true≢false}
 use Rattle.std.specs.Prelude.{◌==◌}
-use Rattle.std.specs.List.{cons_option, flat_map, range_with_len, sum_by}
+use Rattle.std.specs.List.{cons_option, range_with_len}
 use Rattle.std.proofs.lemmas.Bool.{eqb-true, eq-eqb}
 use Rattle.std.proofs.lemmas.Grind.{flat_map-append}
 use Rattle.std.proofs.lemmas.List.{map-append}
@@ -17,10 +17,10 @@ use Rattle.hfs_model.specs.declared.call.Fork.{Fork}
 use Rattle.hfs_space.specs.Extents.{block_total}
 use Rattle.hfs_space.specs.ForkLaws.{block_numbers}
 use Rattle.hfs_space.specs.Forks.{blocks_each, joined, run_in}
-use Rattle.hfs_put.specs.ForkRuns.{run_at, runs_from}
+use Rattle.hfs_put.specs.ForkRuns.{runs_from}
 use Rattle.hfs_put_calls.specs.Put.{Arrival}
 use Rattle.hfs_sources.specs.declared.fork_run.ForkRun.{ForkRun}
-use Rattle.hfs_put_image.specs.LaidRuns.{fork_bytes, filled}
+use Rattle.hfs_put_image.specs.LaidRuns.{fork_bytes}
 use Rattle.hfs_put_image.proofs.Filled.{pad, filled-pad, pad-parts, pad-zero}
 use Rattle.hfs_put_image.proofs.LaidAt.{Holds}
 

@@ -1,13 +1,12 @@
 -- An image in which bytes are laid in runs, with the blocks of a patch beside them over it.
-use Rattle.std.proofs.Common.{◌≡◌, ◌⊎◌, inl, inr, ⊎_elim, ℕ, zero, suc, ◌+◌, ◌*◌, ◌/◌, ◌<◌, ◌≤◌, Bool, true, false, cond, List, [], ◌∷◌, length, map, take, drop, Option, Some, None, unwrap_or, refl, sym, ap, subst, ◌∙◌, arith}
+use Rattle.std.proofs.Common.{◌≡◌, ⊎_elim, ℕ, zero, suc, ◌+◌, ◌*◌, ◌/◌, ◌<◌, ◌≤◌, Bool, true, false, cond, List, [], ◌∷◌, length, map, take, drop, Option, Some, None, unwrap_or, refl, sym, ap, subst, ◌∙◌, arith}
 use Rattle.std.specs.Prelude.{◌||◌}
 use Rattle.std.specs.List.{list_any, range_with_len}
-use Rattle.std.proofs.lemmas.Bool.{cases_lt}
 use Rattle.hfs_scans.specs.Each.{Each}
 use Rattle.hfs_scans.specs.Members.{In}
 use Rattle.hfs_scans.proofs.MemberLemmas.{each_in}
 use Rattle.hfs_blocks.specs.Blocks.{block_at, block_count}
-use Rattle.hfs_blocks.specs.Layers.{Numbered, Changes, changes, AreWithin, over}
+use Rattle.hfs_blocks.specs.Layers.{Numbered, changes, AreWithin, over}
 use Rattle.hfs_space.specs.Forks.{joined, run_in}
 use Rattle.hfs_check.specs.Parts.{Blocks, mdb_in, catalog_in}
 use Rattle.hfs_check.specs.Sound.{AreBlocksSound}
@@ -21,7 +20,7 @@ use Rattle.hfs_put_calls.specs.Laws.{AreTheirs}
 use Rattle.hfs_put_calls.specs.Put.{Arrival, came}
 use Rattle.hfs_sources.specs.declared.fork_run.ForkRun.{ForkRun}
 use Rattle.hfs_put_laws.specs.Forks.{AreForksLaid, AreLongAs, OfTheirFiles}
-use Rattle.hfs_put_image.specs.Beside.{is_of_run, is_in_runs, block_beside, AreBeside}
+use Rattle.hfs_put_image.specs.Beside.{is_of_run, is_in_runs, AreBeside}
 use Rattle.hfs_put_image.specs.LaidRuns.{laid}
 use Rattle.hfs_put_image.proofs.BesideRuns.{before-run, behind-run, in-run}
 use Rattle.hfs_put_image.proofs.LaidAt.{AreInside, Holds, IsOutside, each-laid, length-laid, outside-laid}

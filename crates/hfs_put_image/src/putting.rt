@@ -1,10 +1,12 @@
 //! A list of items is put on a mounted copy of an image.
 ghost use Rattle.std.specs.Prelude.{◌≡◌, IfOk, IfErr};
-ghost use Rattle.hfs_blocks.specs.Blocks.{block_count};
+ghost use Rattle.hfs_blocks.specs.Blocks.{block_at, block_count};
 ghost use Rattle.hfs_blocks.specs.Layers.{changes, AreWithin};
+ghost use Rattle.hfs_check.specs.Parts.{mdb_in};
 ghost use Rattle.hfs_check.specs.VolumeOf.{volume_of};
+ghost use Rattle.hfs_put.specs.ForkRuns.{AreRunsApart};
 ghost use Rattle.hfs_put.specs.Laying.{IsFaultOfLaying};
-ghost use Rattle.hfs_put_image.specs.PutImages.{IsPutOver};
+ghost use Rattle.hfs_put_image.specs.PutImages.{AreGoingOut, HasDirectory, IsPutOver};
 
 use crate::beside::beside_runs;
 use hfs_blocks::Blocks;
@@ -14,7 +16,7 @@ use hfs_put::{LayFault, fork_runs, lay_items};
 use hfs_put_calls::PutItem;
 use hfs_sources::ForkRun;
 use hfs_volume::Volume;
-use std::alloc::Global;
+use std::alloc::{AllocError, Global};
 
 /// What goes out of a list that was put on a copy of an image.
 #[derive(Drop)]
@@ -25,6 +27,17 @@ pub struct PutBlocks {
     pub runs: Vec<ForkRun>,
     /// The IDs of the items, in the order of the list.
     pub ids: Vec<u32>,
+}
+
+/// The blocks that go out of a volume: each that is other than it was when the volume was mounted, but for those that begin in one of
+/// the runs. The only error is want of memory.
+fn going_out(alloc: Global, volume: &Volume, runs: &[ForkRun]) -> Result<ChangedBlocks, AllocError>
+    requires { AreRunsApart runs.now }
+    ensures { IfOk result (AreGoingOut volume.now runs.now) }
+{
+    let base = volume.base()?;
+    let changed = kept_blocks(alloc, volume, &[], &[])?;
+    beside_runs(alloc, &changed, runs, base.blocks().count())
 }
 
 /// Puts a list of items into folder `target` of a volume that was mounted over a copy of an image, at the moment `now`, by all calls but those that
@@ -41,15 +54,15 @@ pub fn put_items(
     requires { volume.old.current ≡ volume.old.base }
     ensures put { IfOk result (λ put. IsPutOver volume.old.base target now items.now
         put.patch put.runs.items put.ids.items) }
+    ensures directory { IfOk result (λ put. HasDirectory volume.old.base items.now
+        put.patch put.runs.items (mdb_in (block_at volume.new.current))) }
     ensures within { IfOk result (λ put. AreWithin (changes put.patch) (block_count volume.old.base)) }
     ensures base { volume.new.base ≡ volume.old.base }
     ensures err { IfErr result (IsFaultOfLaying target now items.now
         (volume_of volume.old.base) volume.new.current) }
 {
     let ids = lay_items(alloc, volume, target, now, items)?;
-    let base = volume.base()?;
-    let changed = kept_blocks(alloc, volume, &[], &[])?;
     let runs = fork_runs(alloc, volume, items, &ids)?;
-    let patch = beside_runs(alloc, &changed, &runs, base.blocks().count())?;
+    let patch = going_out(alloc, volume, &runs)?;
     Ok(PutBlocks { patch, runs, ids })
 }

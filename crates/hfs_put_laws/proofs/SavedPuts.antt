@@ -13,7 +13,7 @@ use Rattle.hfs_alike.specs.Alike.{AreAlike, bare_volume, no_file}
 use Rattle.hfs_space.specs.declared.fork_kind.ForkKind.TheVariants.{Data, Resource}
 use Rattle.hfs_catalog.specs.Records.{Record, Catalog}
 use Rattle.hfs_check.specs.Agree.{AgreesBut}
-use Rattle.hfs_check.specs.Parts.{Blocks, catalog_in}
+use Rattle.hfs_check.specs.Parts.{Blocks, mdb_in, catalog_in}
 use Rattle.hfs_check.specs.VolumeOf.{volume_of}
 use Rattle.hfs_check.proofs.Stays.{agreements_join}
 use Rattle.hfs_needed.specs.Needed.{AgreeOn}
@@ -126,6 +126,12 @@ module _ (target now : ℕ) (arrivals : List Arrival) (ids written copy current 
 
   saved-files : blocks_of_files (has_forks forks) (block_at middle) ≡ blocks_of_files (has_forks forks) (block_at saved)
   saved-files = sym (files-are (block_at middle) (block_at saved) (laid.same forks middle saved carried.agrees.sound long there) (has_forks forks))
+
+  -- the master directory block is that of the copy behind the calls
+  pub directory-is : mdb_in (block_at saved) ≡ mdb_in (block_at current)
+  directory-is =
+      own.mdb-is (block_at middle) (block_at saved) (laid.same forks middle saved carried.agrees.sound long there)
+      ∙ own.mdb-is (block_at current) (block_at middle) same
 
   pub is-put : IsPut target now arrivals ids written image saved
   is-put = record {

@@ -23,10 +23,10 @@ fn runs(alloc: Global) -> Result<Vec<ForkRun>, FixtureFault> {
     }
 }
 
-/// Whether a run is as wanted: the block where it begins, how many blocks it has, and its item's place.
+/// Whether a run is as wanted: the byte where it begins, how many bytes it has, and its item's place.
 fn is_run(run: &ForkRun, wanted: &(u64, u64, usize, Fork)) -> bool {
-    run.place == 512 * wanted.0
-        && run.len == 512 * wanted.1
+    run.place == wanted.0
+        && run.len == wanted.1
         && run.item == wanted.2
         && run.fork == wanted.3
         && run.offset == 0
@@ -36,9 +36,9 @@ fn is_run(run: &ForkRun, wanted: &(u64, u64, usize, Fork)) -> bool {
 fn forks_lie_in_their_places(rt: HostRuntime) -> Result<(), Fail> {
     let runs = runs(rt.alloc())?;
     let wanted = [
-        (46, 2, 0, Fork::DataFork),
-        (48, 1, 0, Fork::ResFork),
-        (49, 2, 2, Fork::ResFork),
+        (46 * 512, 2 * 512, 0, Fork::DataFork),
+        (48 * 512, 512, 0, Fork::ResFork),
+        (49 * 512, 2 * 512, 2, Fork::ResFork),
     ];
     assert!(rt; runs.len() == 3);
     assert!(rt;

@@ -8,3 +8,5 @@ mod fork_places;
 mod items;
 #[cfg(test)]
 mod placing;
+#[cfg(test)]
+mod put_image;

@@ -1,7 +1,8 @@
 -- What was read of an image is a copy of each that has it.
 use Rattle.std.proofs.Common.{◌≡◌, ◌≤◌, ℕ, ◌/◌, List, length, Some, None, sym, ◌∙◌, ap, subst}
 use Rattle.hfs_blocks.specs.Blocks.{block_count}
-use Rattle.hfs_check.specs.Sound.{IsImageLength}
+use Rattle.hfs_check.specs.Sound.{IsImageLength, IsSound}
+use Rattle.hfs_sparse.specs.Seen.{IsSeen}
 use Rattle.hfs_commands.specs.Running.{IsRunnable}
 use Rattle.hfs_sparse.specs.Sparse.{IsOf}
 use Rattle.hfs_volume.specs.Image.{copy_of}
@@ -37,3 +38,13 @@ module _ (Holds : List ℕ → Type 0) (len : ℕ) (working : WorkingVolume) (is
 pub copy_of_each : (Holds : List ℕ → Type 0) (len : ℕ) (working : WorkingVolume) (base : List ℕ) → base ≡ copy_of working.read len → IsRunnable Holds len working
     → IsCopyOfEach Holds len base
 copy_of_each Holds len working base e is = subst (IsCopyOfEach Holds len) (sym e) (read-copy Holds len working is)
+
+-- what was read of an image that was opened is a volume on which calls can be made
+pub runnable : (Holds : List ℕ → Type 0) (len : ℕ) (working : WorkingVolume) → IsWorkingOf None (len / 512) working → IsSeen Holds working.read
+    → IsSound (copy_of working.read len) → IsRunnable Holds len working
+runnable Holds len working is seen sound = record {
+  is = is;
+  seen = seen;
+  sound = sound;
+  small = subst (λ (n : ℕ). n ≤ 2147483648) (length-copy working.read len is.within) sound.len.most;
+}

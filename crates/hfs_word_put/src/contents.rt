@@ -1,5 +1,6 @@
 //! A file with what is put on its volume, which is looked at again with all that it is read from.
-ghost use Rattle.std.specs.Prelude.{◌≡◌};
+ghost use Rattle.std.specs.Prelude.{◌≡◌, OnOk};
+ghost use Rattle.hfs_source.specs.Images.{OfEach};
 ghost use Rattle.hfs_laid_forks.specs.Failures.{FailsLaid};
 ghost use Rattle.hfs_laid_forks.specs.Images.{laid_images};
 ghost use Rattle.hfs_word_put.specs.Contents.{IsSettled};
@@ -45,7 +46,7 @@ impl<S: PlacedBytes + Drop, H: PlacedFiles + Drop, W: PutWatch> PlacedBytes
 impl<S: WatchedBytes + Drop, H: PlacedFiles + Drop, W: PutWatch> LaidFile<'_, S, H, W> {
     /// Why what comes couldn't be read, or was found changed, the first time.
     pub fn into_fault(self) -> Option<HostFault>
-        ensures { result ≡ self.forks.fault }
+        ensures { result ≡ self.entry.forks.fault }
     {
         let LaidFile {
             mut forks,
@@ -55,20 +56,30 @@ impl<S: WatchedBytes + Drop, H: PlacedFiles + Drop, W: PutWatch> LaidFile<'_, S,
     }
 }
 
+/// Looks again at all files that come, and then at the file in which they are laid. What was found changed is kept.
+fn look_again<S: WatchedBytes + Drop, H: PlacedFiles + Drop>(
+    forks: &mut LaidForks<S, H>,
+) -> io::Result<()>
+    ensures settled { OnOk result (IsSettled S.settled H.Holds forks.new) }
+    ensures narrows { OfEach (laid_images S.Holds H.Holds forks.new)
+        (laid_images S.Holds H.Holds forks.old) }
+{
+    match forks.look_again() {
+        Ok(()) => forks.bytes.look_again(),
+        Err(fault) => {
+            if forks.fault.is_none() {
+                forks.fault = Some(fault);
+            }
+            Err(io::Error::from(ErrorKind::InvalidData))
+        }
+    }
+}
+
 impl<S: WatchedBytes + Drop, H: PlacedFiles + Drop, W: PutWatch> WatchedBytes
     for LaidFile<'_, S, H, W> {
     ghost settled = { λ file. IsSettled S.settled H.Holds file.forks };
 
-    /// Looks again at all files that come, and then at the file itself.
     fn look_again(&mut self) -> io::Result<()> {
-        match self.forks.look_again() {
-            Ok(()) => self.forks.bytes.look_again(),
-            Err(fault) => {
-                if self.forks.fault.is_none() {
-                    self.forks.fault = Some(fault);
-                }
-                Err(io::Error::from(ErrorKind::InvalidData))
-            }
-        }
+        look_again(&mut self.forks)
     }
 }

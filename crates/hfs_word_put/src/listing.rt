@@ -29,7 +29,7 @@ fn read_list<T: HostTree>(
     order: &PutOrder<'_>,
 ) -> Result<Listed, HostFault>
     ensures listed { IfOk result (λ listed. OfEachTree (T.Holds tree.new)
-        (IsListed order.now listed.items.items listed.digests)) }
+        (IsListed order.entry.now listed.items.items listed.digests)) }
     ensures held { OfEachTree (T.Holds tree.new) (T.Holds tree.old) }
 {
     let facts = BagFacts::read(alloc, tree, order.sources)?;
@@ -46,7 +46,7 @@ pub fn list_all<T: HostTree>(
     order: &PutOrder<'_>,
 ) -> Result<Listed, PutFault<'static>>
     ensures listed { IfOk result (λ listed. OfEachTree (T.Holds tree.new)
-        (IsListed order.now listed.items.items listed.digests)) }
+        (IsListed order.entry.now listed.items.items listed.digests)) }
     ensures held { OfEachTree (T.Holds tree.new) (T.Holds tree.old) }
     ensures fault { IfErr result IsUnlisted }
 {

@@ -9,16 +9,15 @@ ghost use Rattle.hfs_volume.specs.Image.{copy_of};
 ghost use Rattle.hfs_working.specs.Opened.{IsWorkingOf};
 ghost use Rattle.hfs_word_put.specs.Put.{IsCopyOfEach, IsUnmounted};
 
-use hfs_check::MountFault;
 use hfs_commands::Fault;
 use hfs_needed::NeededFault;
 use hfs_sparse::BlockSource;
-use hfs_texts::IMAGE_LIMIT;
 use hfs_volume::Volume;
 use hfs_working::{WorkingVolume, mount_read, open_working};
 use std::alloc::Global;
 
 /// Reads the blocks that calls read and write of an image of `len` bytes, which was opened by this path, and makes all checks.
+#[tactic(auto, using(crate::proofs::Copies::runnable))]
 fn open_image<'a, S: BlockSource>(
     alloc: Global,
     source: &mut S,
@@ -31,9 +30,6 @@ fn open_image<'a, S: BlockSource>(
         → OfEach (S.Holds source.new) (λ image. length image ≡ len → fault_of image ≡ Some why)) }
     ensures narrows { OfEach (S.Holds source.new) (S.Holds source.old) }
 {
-    if len > IMAGE_LIMIT as u64 {
-        return Err(Fault::Refused(MountFault::TooLarge));
-    }
     match open_working(alloc, source, len) {
         Ok(working) => Ok(working),
         Err(NeededFault::Refused(why)) => Err(Fault::Refused(why)),
@@ -58,7 +54,6 @@ fn mount(alloc: Global, working: WorkingVolume, len: u64) -> Result<Volume, Faul
 
 /// Reads the blocks that calls read and write of an image of `len` bytes, which was opened by this path, makes all checks, and mounts
 /// its volume over them, with zeros in the place of all other blocks. Faults: `CannotRead` of the path; `Refused`; `NoMemory`.
-#[tactic(auto, using(crate::proofs::Copies::copy_of_each))]
 pub fn mount_image<'a, S: BlockSource>(
     alloc: Global,
     source: &mut S,
@@ -73,5 +68,6 @@ pub fn mount_image<'a, S: BlockSource>(
     ensures narrows { OfEach (S.Holds source.new) (S.Holds source.old) }
 {
     let working = open_image(alloc, source, len, path)?;
-    mount(alloc, working, len)
+    let volume = mount(alloc, working, len)?;
+    Ok(volume)
 }

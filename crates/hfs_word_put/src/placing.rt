@@ -88,8 +88,8 @@ pub fn place_all(
     order: &PutOrder<'_>,
     items: &[SourceItem],
 ) -> Result<PlacedList, PutFault<'static>>
-    ensures { MatchResult result (IsPlaced (volume_of volume.now.current) order.now items.now)
-        (TellsAny (refusal (volume_of volume.now.current) order.now items.now)) }
+    ensures { MatchResult result (IsPlaced (volume_of volume.now.current) order.entry.now items.now)
+        (TellsAny (refusal (volume_of volume.now.current) order.entry.now items.now)) }
 {
     let target = find_target(alloc, volume, order.to)?;
     need_unlocked(alloc, volume, items)?;

@@ -58,9 +58,9 @@ fn put_list(
     items: &[SourceItem],
 ) -> Result<PutList, PutFault<'static>>
     requires { volume.old.current ≡ volume.old.base }
-    ensures put { IfOk result (λ put. IsPutOn order.now volume.old.base items.now put.blocks put.sums) }
+    ensures put { IfOk result (λ put. IsPutOn order.entry.now volume.old.base items.now put.blocks put.sums) }
     ensures within { IfOk result (λ put. AreWithin (changes put.blocks.patch) (block_count volume.old.base)) }
-    ensures fault { IfErr result (IsUnputOn order.now volume.old.base items.now) }
+    ensures fault { IfErr result (IsUnputOn order.entry.now volume.old.base items.now) }
 {
     let list = place_all(alloc, volume, order, items)?;
     let blocks = lay_all(alloc, volume, &list, items, order.now)?;
@@ -79,11 +79,11 @@ pub fn put_items<T: HostTree>(
     order: &PutOrder<'_>,
 ) -> Result<PutItems, PutFault<'static>>
     requires { volume.old.current ≡ volume.old.base }
-    ensures put { IfOk result (λ put. IsPutOf (T.Holds tree.new) order.now volume.old.base
+    ensures put { IfOk result (λ put. IsPutOf (T.Holds tree.new) order.entry.now volume.old.base
         put.items.items put.list.blocks put.list.sums) }
     ensures within { IfOk result (λ put. AreWithin (changes put.list.blocks.patch) (block_count volume.old.base)) }
     ensures held { OfEachTree (T.Holds tree.new) (T.Holds tree.old) }
-    ensures fault { IfErr result (IsUnput (T.Holds tree.new) order.now volume.old.base) }
+    ensures fault { IfErr result (IsUnput (T.Holds tree.new) order.entry.now volume.old.base) }
 {
     let Listed { items, digests } = list_all(alloc, tree, order)?;
     let list = put_list(alloc, volume, order, &items)?;
@@ -156,7 +156,7 @@ pub fn put_sources<'a, 'w, S: WatchedBytes + Drop, T: HostTree + Drop, W: PutWat
     watch: &'w W,
 ) -> Result<PutImage<'w, S, HostFiles<T>, W>, PutFault<'a>>
     ensures put { IfOk result (λ made. IsPutFile S.Holds (IsReadOf T.Holds T.File.Holds)
-        order.now image.bytes.start image.bytes.len sum_at made) }
+        order.entry.now image.bytes.start image.bytes.len sum_at made) }
     ensures fault { IfErr result (IsPutFault path.entry) }
 {
     let mut image = image;
@@ -181,7 +181,7 @@ pub fn unsaved<'a, S: WatchedBytes + Drop, H: PlacedFiles + Drop, W: PutWatch>(
     contents: ImageInFile<LaidFile<'_, S, H, W>>,
     fault: Fault<'a>,
 ) -> PutFault<'a>
-    ensures { IsUnsavedBy contents.file.forks.fault fault result }
+    ensures { IsUnsavedBy contents.entry.file.forks.fault fault.entry result }
 {
     let ImageInFile { file, .. } = contents;
     match file.into_fault() {

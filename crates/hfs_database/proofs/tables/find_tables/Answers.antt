@@ -2,7 +2,7 @@
 use Rattle.std.proofs.Common.{◌≡◌, ◌∙◌, ap, sym, subst, ℕ, List, codes}
 use Rattle.sqlite.specs.Held.{state}
 use Rattle.hfs_database.specs.declared.tables.Found.{Found}
-use Rattle.hfs_database.specs.Tables.{FindsPart, both, data_index, image_table, item_table, part_of, resource_index, volume_table}
+use Rattle.hfs_database.specs.Tables.{FindsPart, both, part_of}
 use Rattle.hfs_database.proofs.TableLemmas.{finds_by}
 use Rattle.hfs_database.proofs.tables.find_tables.Goals as goal
 

@@ -1,7 +1,8 @@
 -- A block of the patch that begins in no run is put in.
-use Rattle.std.proofs.Common.{◌≡◌, true, false, rules}
+use Rattle.std.proofs.Common.{◌≡◌, false, rules}
 use Rattle.hfs_put_image.specs.Beside.{is_in_runs}
-use Rattle.hfs_put_image.proofs.BesideRuns.{puts-beside, on-ok}
+use Rattle.hfs_put_image.proofs.BesideRuns.{puts-beside}
+use Rattle.hfs_working.proofs.Kept.{on-ok}
 use Rattle.hfs_put_image.proofs.beside.keep_block.Goals as goal
 
 pub returns-in-Some : goal.returns-in-Some
