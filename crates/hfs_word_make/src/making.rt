@@ -38,7 +38,7 @@ pub fn make_volume<'a, 'w, T: HostTree + Drop, W: PutWatch>(
     need_digests(alloc, &mut tree, &digests, &items)?;
     let files = HostFiles::new(alloc, tree);
     let put = PutItems { items, list };
-    match put_image(alloc, image, None, path, files, put, watch) {
+    match put_image(alloc, image, len, None, path, files, put, watch) {
         Ok(made) => Ok(made),
         Err(fault) => Err(PutFault::Image(fault)),
     }

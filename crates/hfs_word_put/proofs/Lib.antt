@@ -1,3 +1,4 @@
 mod Copies
 mod PathTargets
 mod Places
+mod MadeFiles

@@ -1,9 +1,10 @@
 -- What is put on a volume in a file, and what the file is to hold then.
-use Rattle.std.specs.Prelude.{◌≡◌, ◌⊎◌, ◌≤◌, ◌/◌, ℕ, List, length, None, ⊤}
+use Rattle.std.specs.Prelude.{◌≡◌, ◌⊎◌, ◌≤◌, ◌/◌, ℕ, List, length, None}
 use Rattle.std.specs.Borrow.{Bor}
 use Rattle.hfs_bag_facts.specs.Digests.{first_wrong}
 use Rattle.hfs_bag_facts.specs.Later.{Entries, told_at}
 use Rattle.hfs_blocks.specs.Blocks.{block_at, block_count}
+use Rattle.hfs_check.specs.Parts.{mdb_in}
 use Rattle.hfs_check.specs.VolumeOf.{volume_of}
 use Rattle.hfs_commands.specs.declared.fault.Fault.{Fault}
 use Rattle.hfs_commands.specs.declared.fault.Fault.TheVariants as why
@@ -15,7 +16,7 @@ use Rattle.hfs_sources.specs.Items.{PlannedItem}
 use Rattle.hfs_sources.specs.Trees.{OfEachTree, Tree}
 use Rattle.hfs_working.specs.Working.{IsWorkingCopy}
 use Rattle.hfs_word_put.specs.declared.fault.PutFault.{PutFault}
-use Rattle.hfs_word_put.specs.declared.fault.PutFault.TheVariants as told
+use Rattle.hfs_word_put.specs.declared.fault.PutFault.TheVariants as fault
 use Rattle.hfs_word_put.specs.declared.lines.PutSums.{PutSums}
 use Rattle.hfs_word_put.specs.declared.order.PutOrder.{PutOrder}
 use Rattle.hfs_word_put.specs.declared.placing.PlacedList.{PlacedList}
@@ -34,17 +35,16 @@ pub record IsCopyOfEach (Holds : List ℕ → Type 0) (len : ℕ) (copy : List �
 
 -- an image that was opened by this path can't be read, or is too much, or is refused
 abbrev pub IsUnmounted : Bor (List ℕ) → Fault → Type 0
-IsUnmounted path found = (found ≡ why.CannotRead path) ⊎ ((found ≡ why.NoMemory) ⊎ ((fault : MountFault) × (found ≡ why.Refused fault)))
+IsUnmounted path found = (found ≡ why.CannotRead path) ⊎ ((found ≡ why.NoMemory) ⊎ ((refusal : MountFault) × (found ≡ why.Refused refusal)))
 
 -- ---- what is put
 
--- the list was put on the volume of the copy: these blocks go out, and these forks are to be laid; so much was put
-pub record IsPutOn (order : PutOrder) (copy : List ℕ) (items : List PlannedItem) (put : PutBlocks) (sums : PutSums) : Type 0 where
+-- the list was put on the volume of the copy, which is this one then: these blocks go out, and these forks are to be laid; so much was put
+pub record IsPutOn (order : PutOrder) (copy current : List ℕ) (items : List PlannedItem) (put : PutBlocks) (sums : PutSums) : Type 0 where
   pub list : PlacedList
   pub placed : IsPlaced (volume_of copy) order items list
   pub over : IsPutOver copy list.target order.now list.places.items put.patch put.runs.items put.ids.items
-  pub free : ℕ
-  pub sums_are : sums ≡ put_sums list.places.items free
+  pub sums_are : sums ≡ put_sums list.places.items (mdb_in (block_at current)).free_blocks
 
 -- a call that puts the list was refused
 pub record IsRefusedOn (order : PutOrder) (copy : List ℕ) (items : List PlannedItem) (told : PutFault) : Type 0 where
@@ -64,7 +64,8 @@ pub record IsPutOf (Hosts : Tree → Type 0) (order : PutOrder) (copy : List ℕ
   pub digests : Entries (List ℕ)
   pub listed : OfEachTree Hosts (IsListed order items digests)
   pub verified : OfEachTree Hosts (λ host. first_wrong host (told_at digests) items ≡ None)
-  pub done : IsPutOn order copy items put sums
+  pub current : List ℕ
+  pub done : IsPutOn order copy current items put sums
 
 -- what comes was listed, and not put; or it was, and a file has another digest
 pub record IsUnputList (Hosts : Tree → Type 0) (order : PutOrder) (copy : List ℕ) (told : PutFault) : Type 0 where
@@ -77,8 +78,22 @@ pub record IsUnputList (Hosts : Tree → Type 0) (order : PutOrder) (copy : List
 abbrev pub IsUnput : (Tree → Type 0) → PutOrder → List ℕ → PutFault → Type 0
 IsUnput Hosts order copy told = IsUnlisted told ⊎ IsUnputList Hosts order copy told
 
--- a fault that is told as one of the image is one of mounting it
-abbrev pub IsPutFault : Bor (List ℕ) → PutFault → Type 0
-IsPutFault path (told.Image found) = IsUnmounted path found
-IsPutFault path (told.CannotRead source) = ⊤
-IsPutFault path (told.Refused lines) = ⊤
+-- what comes was put on a copy of each of these images that has so many bytes
+pub record IsPutFrom (Range : List ℕ → Type 0) (Hosts : Tree → Type 0) (order : PutOrder) (len : ℕ) (items : List PlannedItem) (put : PutBlocks) (sums : PutSums) : Type 0 where
+  pub copy : List ℕ
+  pub copied : IsCopyOfEach Range len copy
+  pub done : IsPutOf Hosts order copy items put sums
+
+-- the image was not mounted, and that is told
+abbrev pub IsImageFault : Bor (List ℕ) → PutFault → Type 0
+IsImageFault path told = (found : Fault) × (told ≡ fault.Image found) × IsUnmounted path found
+
+-- nothing was put on a copy of each of these images that has so many bytes
+pub record IsUnputCopy (Range : List ℕ → Type 0) (Hosts : Tree → Type 0) (order : PutOrder) (len : ℕ) (told : PutFault) : Type 0 where
+  pub copy : List ℕ
+  pub copied : IsCopyOfEach Range len copy
+  pub unput : IsUnput Hosts order copy told
+
+-- why nothing was put on an image that was opened by this path
+abbrev pub IsUnputFrom : Bor (List ℕ) → (List ℕ → Type 0) → (Tree → Type 0) → PutOrder → ℕ → PutFault → Type 0
+IsUnputFrom path Range Hosts order len told = IsImageFault path told ⊎ IsUnputCopy Range Hosts order len told

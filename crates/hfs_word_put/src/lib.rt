@@ -24,7 +24,9 @@ pub use crate::moment::date_of;
 pub use crate::mounting::mount_image;
 pub use crate::order::PutOrder;
 pub use crate::placing::{PlacedList, place_all};
-pub use crate::putting::{PutImage, PutItems, PutList, put_image, put_items, put_sources, unsaved};
+pub use crate::putting::{
+    PutImage, PutItems, PutList, put_image, put_items, put_on, put_sources, unsaved,
+};
 pub use crate::reason::PutReason;
 pub use crate::target::target_folder;
 pub use crate::wants::{put_sums, wanted_of};

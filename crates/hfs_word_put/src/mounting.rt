@@ -17,7 +17,6 @@ use hfs_working::{WorkingVolume, mount_read, open_working};
 use std::alloc::Global;
 
 /// Reads the blocks that calls read and write of an image of `len` bytes, which was opened by this path, and makes all checks.
-#[tactic(auto, using(crate::proofs::Copies::runnable))]
 fn open_image<'a, S: BlockSource>(
     alloc: Global,
     source: &mut S,

@@ -1,12 +1,15 @@
 //! What comes is put on a volume in a file: what the file is to hold then.
-ghost use Rattle.std.specs.Prelude.{◌≡◌, ◌≤◌, ◌/◌, IfErr, IfOk, MatchResult};
-ghost use Rattle.hfs_blocks.specs.Blocks.{block_count};
+ghost use Rattle.std.specs.Prelude.{◌≡◌, ◌≤◌, ◌/◌, IfErr, IfOk, OnOk};
+ghost use Rattle.hfs_blocks.specs.Blocks.{block_at, block_count};
+ghost use Rattle.hfs_check.specs.Parts.{mdb_in};
+ghost use Rattle.hfs_source.specs.Images.{OfEach};
 ghost use Rattle.hfs_blocks.specs.Layers.{changes, AreWithin};
 ghost use Rattle.hfs_sources.specs.Trees.{OfEachTree};
 ghost use Rattle.hfs_laid_forks.specs.Files.{IsReadOf};
 ghost use Rattle.hfs_word_put.specs.Faults.{IsUnsavedBy};
 ghost use Rattle.hfs_word_put.specs.Files.{IsPutFile, place_of};
-ghost use Rattle.hfs_word_put.specs.Put.{IsPutFault, IsPutOf, IsPutOn, IsUnput, IsUnputOn};
+ghost use Rattle.hfs_word_put.specs.Put.{IsPutFrom, IsPutOf, IsPutOn, IsUnput, IsUnputFrom, IsUnputOn};
+ghost use Rattle.hfs_word_put.specs.Sums.{put_sums};
 
 use crate::contents::{LaidFile, PutWatch};
 use crate::fault::PutFault;
@@ -20,9 +23,11 @@ use crate::wants::put_sums;
 use hfs_commands::{ByteRange, Fault, ImageInFile, WatchedBytes, WatchedRange};
 use hfs_laid_forks::{HostFiles, LaidForks, PlacedFiles};
 use hfs_patched::ImagePlace;
+use hfs_put_calls::PutItem;
 use hfs_put_image::PutBlocks;
 use hfs_source::RangeBytes;
 use hfs_sources::{HostTree, SourceItem};
+use hfs_sparse::BlockSource;
 use hfs_volume::Volume;
 use std::alloc::Global;
 
@@ -49,6 +54,13 @@ pub struct PutImage<'w, S, H, W> {
     pub sums: PutSums,
 }
 
+/// How much was put of a list on a volume.
+fn sums_of(volume: &Volume, places: &[PutItem]) -> PutSums
+    ensures { result ≡ put_sums places.now (mdb_in (block_at volume.now.current)).free_blocks }
+{
+    put_sums(places, u32::from(volume.directory().free_blocks))
+}
+
 /// Puts a list on a volume that was mounted just now. Faults, in this order: what can't come to its place; the first call that is
 /// refused. Or want of memory.
 fn put_list(
@@ -58,15 +70,20 @@ fn put_list(
     items: &[SourceItem],
 ) -> Result<PutList, PutFault<'static>>
     requires { volume.old.current ≡ volume.old.base }
-    ensures put { IfOk result (λ put. IsPutOn order.entry.now volume.old.base items.now put.blocks put.sums) }
-    ensures within { IfOk result (λ put. AreWithin (changes put.blocks.patch) (block_count volume.old.base)) }
+    ensures put { IfOk result (λ put. IsPutOn order.entry.now volume.old.base volume.new.current
+        items.now put.blocks put.sums) }
+    ensures within { IfOk result (λ put. AreWithin (changes put.blocks.patch)
+        (block_count volume.old.base)) }
     ensures fault { IfErr result (IsUnputOn order.entry.now volume.old.base items.now) }
 {
     let list = place_all(alloc, volume, order, items)?;
-    let blocks = lay_all(alloc, volume, &list, items, order.now)?;
-    let free = u32::from(volume.directory().free_blocks);
-    let sums = put_sums(&list.places, free);
-    Ok(PutList { blocks, sums })
+    match lay_all(alloc, volume, &list, items, order.now) {
+        Ok(blocks) => {
+            let sums = sums_of(volume, &list.places);
+            Ok(PutList { blocks, sums })
+        }
+        Err(fault) => Err(fault),
+    }
 }
 
 /// Puts what comes on a volume that was mounted just now, by all calls but those that write forks. Faults, in this order: what can't
@@ -81,29 +98,61 @@ pub fn put_items<T: HostTree>(
     requires { volume.old.current ≡ volume.old.base }
     ensures put { IfOk result (λ put. IsPutOf (T.Holds tree.new) order.entry.now volume.old.base
         put.items.items put.list.blocks put.list.sums) }
-    ensures within { IfOk result (λ put. AreWithin (changes put.list.blocks.patch) (block_count volume.old.base)) }
+    ensures within { IfOk result (λ put. AreWithin (changes put.list.blocks.patch)
+        (block_count volume.old.base)) }
     ensures held { OfEachTree (T.Holds tree.new) (T.Holds tree.old) }
     ensures fault { IfErr result (IsUnput (T.Holds tree.new) order.entry.now volume.old.base) }
 {
     let Listed { items, digests } = list_all(alloc, tree, order)?;
     let list = put_list(alloc, volume, order, &items)?;
-    need_digests(alloc, tree, &digests, &items)?;
-    Ok(PutItems { items, list })
+    match need_digests(alloc, tree, &digests, &items) {
+        Ok(()) => Ok(PutItems { items, list }),
+        Err(fault) => Err(fault),
+    }
 }
 
-/// What a file is to hold in which an image lies, on whose volume this was put. Fault: `CannotRead` of the path, where the image
-/// doesn't lie in the file.
+/// Puts what comes on the volume of an image of `len` bytes, which was opened by this path. Faults, in this order: those of
+/// [`mount_image`], then those of [`put_items`].
+pub fn put_on<'a, S: BlockSource, T: HostTree>(
+    alloc: Global,
+    image: &mut S,
+    len: u64,
+    path: &'a str,
+    tree: &mut T,
+    order: &PutOrder<'_>,
+) -> Result<PutItems, PutFault<'a>>
+    ensures put { IfOk result (λ put. IsPutFrom (S.Holds image.new) (T.Holds tree.new)
+        order.entry.now len put.items.items put.list.blocks put.list.sums) }
+    ensures small { OnOk result (len ≤ 2147483648) }
+    ensures within { IfOk result (λ put. AreWithin (changes put.list.blocks.patch) (len / 512)) }
+    ensures fault { IfErr result (IsUnputFrom path.entry (S.Holds image.new) (T.Holds tree.new)
+        order.entry.now len) }
+    ensures narrows { OfEach (S.Holds image.new) (S.Holds image.old) }
+{
+    let mut volume = match mount_image(alloc, image, len, path) {
+        Ok(volume) => volume,
+        Err(fault) => return Err(PutFault::Image(fault)),
+    };
+    match put_items(alloc, &mut volume, tree, order) {
+        Ok(put) => Ok(put),
+        Err(fault) => Err(fault),
+    }
+}
+
+/// What a file is to hold in which an image of `len` bytes lies, on whose volume this was put. Fault: `CannotRead` of the path, where
+/// the forks don't lie in the file.
 pub fn put_image<'a, 'w, S: WatchedBytes + Drop, H: PlacedFiles + Drop, W: PutWatch>(
     alloc: Global,
     image: WatchedRange<S>,
+    len: u64,
     sum_at: Option<u64>,
     path: &'a str,
     files: H,
     put: PutItems,
     watch: &'w W,
 ) -> Result<PutImage<'w, S, H, W>, Fault<'a>>
-    requires small { image.bytes.len ≤ 2147483648 }
-    requires within { AreWithin (changes put.list.blocks.patch) (image.bytes.len / 512) }
+    requires small { len ≤ 2147483648 }
+    requires within { AreWithin (changes put.list.blocks.patch) (len / 512) }
     ensures file { IfOk result (λ made. made.contents.file.forks.bytes ≡ image.bytes.bytes) }
     ensures files { IfOk result (λ made. made.contents.file.forks.files ≡ files) }
     ensures items { IfOk result (λ made. made.contents.file.forks.items ≡ put.items) }
@@ -111,7 +160,7 @@ pub fn put_image<'a, 'w, S: WatchedBytes + Drop, H: PlacedFiles + Drop, W: PutWa
     ensures start { IfOk result (λ made. made.contents.file.forks.start ≡ image.bytes.start) }
     ensures patch { IfOk result (λ made. made.contents.patch ≡ put.list.blocks.patch) }
     ensures place { IfOk result (λ made. made.contents.place
-        ≡ place_of image.bytes.start image.bytes.len sum_at) }
+        ≡ place_of image.bytes.start len sum_at) }
     ensures sums { IfOk result (λ made. made.sums ≡ put.list.sums) }
     ensures fault { IfErr result (λ fault. fault ≡ Fault.CannotRead path.entry) }
 {
@@ -126,7 +175,7 @@ pub fn put_image<'a, 'w, S: WatchedBytes + Drop, H: PlacedFiles + Drop, W: PutWa
     let RangeBytes {
         bytes: file,
         start,
-        len,
+        ..
     } = bytes;
     let Some(forks) = LaidForks::new(alloc, file, files, items, runs, start) else {
         return Err(Fault::CannotRead(path));
@@ -144,8 +193,8 @@ pub fn put_image<'a, 'w, S: WatchedBytes + Drop, H: PlacedFiles + Drop, W: PutWa
 }
 
 /// Puts what comes on the volume of an image that lies in a file, which was opened by this path: what the file is to hold then. The
-/// bytes of forks are read as it is written, of which a watch is told. Faults, in this order: those of the image, then those of
-/// [`put_items`].
+/// bytes of forks are read as it is written, of which a watch is told. Faults: those of [`put_on`]; `CannotRead` of the path, where
+/// the forks don't lie in the file.
 pub fn put_sources<'a, 'w, S: WatchedBytes + Drop, T: HostTree + Drop, W: PutWatch>(
     alloc: Global,
     image: WatchedRange<S>,
@@ -155,20 +204,15 @@ pub fn put_sources<'a, 'w, S: WatchedBytes + Drop, T: HostTree + Drop, W: PutWat
     order: &PutOrder<'_>,
     watch: &'w W,
 ) -> Result<PutImage<'w, S, HostFiles<T>, W>, PutFault<'a>>
-    ensures put { IfOk result (λ made. IsPutFile S.Holds (IsReadOf T.Holds T.File.Holds)
-        order.entry.now image.bytes.start image.bytes.len sum_at made) }
-    ensures fault { IfErr result (IsPutFault path.entry) }
+    ensures { IfOk result (IsPutFile S.Holds (IsReadOf T.Holds T.File.Holds)
+        order.entry.now image.bytes.len sum_at) }
 {
     let mut image = image;
     let mut tree = tree;
     let len = image.bytes.len;
-    let mut volume = match mount_image(alloc, &mut image, len, path) {
-        Ok(volume) => volume,
-        Err(fault) => return Err(PutFault::Image(fault)),
-    };
-    let put = put_items(alloc, &mut volume, &mut tree, order)?;
+    let put = put_on(alloc, &mut image, len, path, &mut tree, order)?;
     let files = HostFiles::new(alloc, tree);
-    match put_image(alloc, image, sum_at, path, files, put, watch) {
+    match put_image(alloc, image, len, sum_at, path, files, put, watch) {
         Ok(made) => Ok(made),
         Err(fault) => Err(PutFault::Image(fault)),
     }
