@@ -1,167 +1,95 @@
-//! A new volume on which what comes is put.
+//! What comes is put on a new volume; where the nodes of its catalog don't suffice, on one with twice as many.
+ghost use Rattle.std.specs.Prelude.{◌≡◌, ◌^◌, ◌/◌, ◌<◌, IfErr, IfOk, IfSome, MatchOption, length};
+ghost use Rattle.hfs_blocks.specs.Layers.{changes, AreWithin};
+ghost use Rattle.hfs_format.specs.Image.{image_bytes};
+ghost use Rattle.hfs_word_make.specs.Filled.{IsFilled, IsFullIn, IsPutIn, IsUnfilled};
+ghost use Rattle.hfs_word_make.specs.Planned.{IsTimes};
+
+use crate::laying::lay_list;
+use crate::mounting::mount_new;
 use crate::order::MakeOrder;
 use crate::refusing::of_make;
-use crate::settled_image::SettledImage;
-use hfs_commands::{Fault, WatchedRange};
+use crate::unplanned::unplanned;
 use hfs_make::{MakeFault, NewImage, NewVolume, plan_volume};
-use hfs_model::Value;
-use hfs_put::LayFault;
-use hfs_put_image::put_items;
-use hfs_source::{PlacedBytes, RangeBytes};
 use hfs_sources::SourceItem;
-use hfs_volume::Volume;
-use hfs_word_put::{
-    PlacedList, PutFault, PutList, mount_image, of_lay, place_all, put_sums, wants_of,
-};
+use hfs_word_put::{PutFault, PutList, place_all};
 use std::alloc::Global;
 
 /// A new volume's image, and what is put on it.
 #[derive(Drop)]
 pub(crate) struct FilledImage {
-    pub(crate) image: WatchedRange<SettledImage>,
+    pub(crate) image: NewImage,
     pub(crate) list: PutList,
 }
 
-/// Whether a tree's nodes were wanting.
-fn is_full(fault: &LayFault) -> bool {
-    match fault {
-        LayFault::Refused { place: _, reply } => match reply.value {
-            Value::Full { .. } => true,
-            Value::Nothing
-            | Value::Id(_)
-            | Value::One(_)
-            | Value::Many(_)
-            | Value::Bytes(_)
-            | Value::Room { .. }
-            | Value::ExtentNodes { .. }
-            | Value::Place { .. } => false,
-        },
-        LayFault::Absent { .. } => false,
-        LayFault::NoMemory => false,
-    }
-}
-
-/// The image of a new volume as one that is read by its places.
-fn range_of(image: NewImage) -> Result<WatchedRange<SettledImage>, PutFault<'static>> {
-    let image = SettledImage { image };
-    let len = PlacedBytes::len(&image);
-    match RangeBytes::new(image, 0, len) {
-        Ok(bytes) => Ok(WatchedRange { bytes }),
-        Err(_) => Err(PutFault::Image(Fault::NoMemory)),
-    }
-}
-
-/// Puts a placed list on a volume; none where the nodes of its catalog don't suffice.
-fn lay_list(
-    alloc: Global,
-    volume: &mut Volume,
-    list: &PlacedList,
-    items: &[SourceItem],
-    now: u32,
-) -> Result<Option<PutList>, PutFault<'static>> {
-    let wants = wants_of(volume, &list.places);
-    match put_items(alloc, volume, list.target, now, &list.places) {
-        Ok(blocks) => {
-            let free = u32::from(volume.directory().free_blocks);
-            let sums = put_sums(&list.places, free);
-            Ok(Some(PutList { blocks, sums }))
-        }
-        Err(fault) => {
-            if is_full(&fault) {
-                Ok(None)
-            } else {
-                Err(of_lay(alloc, fault, items, wants))
-            }
-        }
-    }
-}
-
-/// Puts what comes on a new volume; none where the nodes of its catalog don't suffice.
-fn fill_image<'a>(
+/// Puts what comes on a new volume; none where the nodes of its catalog don't suffice. Faults: what can't come to its place; the first
+/// call that is refused for another reason. Or want of memory.
+fn fill<'a>(
     alloc: Global,
     image: NewImage,
     path: &'a str,
     order: &MakeOrder<'_>,
     items: &[SourceItem],
-) -> Result<Option<FilledImage>, PutFault<'a>> {
-    let mut image = range_of(image)?;
-    let len = image.bytes.len;
-    let mut volume = match mount_image(alloc, &mut image, len, path) {
+) -> Result<Option<PutList>, PutFault<'a>>
+    ensures put { IfOk result (λ put.
+        MatchOption put (IsFullIn order.entry.now items.now (image_bytes image.planned))
+        (IsPutIn order.entry.now items.now (image_bytes image.planned))) }
+    ensures within { IfOk result (λ put. IfSome put (λ put. AreWithin
+        (changes put.blocks.patch) (length (image_bytes image.planned) / 512))) }
+    ensures fault { IfErr result
+        (IsUnfilled path.entry order.entry.now items.now (image_bytes image.planned)) }
+{
+    let mut volume = match mount_new(alloc, image, path) {
         Ok(volume) => volume,
         Err(fault) => return Err(PutFault::Image(fault)),
     };
     let list = place_all(alloc, &volume, &order.put_order(), items)?;
-    let Some(list) = lay_list(alloc, &mut volume, &list, items, order.now)? else {
-        return Ok(None);
-    };
-    Ok(Some(FilledImage { image, list }))
-}
-
-/// Looks whether what comes can be put at all, on a volume of its name on which nothing lies.
-fn need_placed<'a>(
-    alloc: Global,
-    wanted: &NewVolume<'_>,
-    path: &'a str,
-    order: &MakeOrder<'_>,
-    items: &[SourceItem],
-) -> Result<(), PutFault<'a>> {
-    let empty = NewVolume {
-        name: wanted.name,
-        size: None,
-        items: &[],
-        catalog_times: 1,
-        moment: wanted.moment,
-    };
-    let planned = match plan_volume(alloc, &empty) {
-        Ok(planned) => planned,
-        Err(fault) => return Err(of_make(fault)),
-    };
-    let mut image = range_of(NewImage { planned })?;
-    let len = image.bytes.len;
-    let volume = match mount_image(alloc, &mut image, len, path) {
-        Ok(volume) => volume,
-        Err(fault) => return Err(PutFault::Image(fault)),
-    };
-    place_all(alloc, &volume, &order.put_order(), items)?;
-    Ok(())
-}
-
-/// What it means that no volume is planned: where something can't be put, that.
-fn unplanned<'a>(
-    alloc: Global,
-    fault: MakeFault,
-    wanted: &NewVolume<'_>,
-    path: &'a str,
-    order: &MakeOrder<'_>,
-    items: &[SourceItem],
-) -> PutFault<'a> {
-    match need_placed(alloc, wanted, path, order, items) {
-        Ok(()) => of_make(fault),
-        Err(refused) => refused,
+    match lay_list(alloc, &mut volume, &list, items, order.now) {
+        Ok(put) => Ok(put),
+        Err(fault) => Err(fault),
     }
 }
 
-/// How often a catalog that doesn't suffice is planned with twice as many nodes: 2 ^ 32 times the nodes are more than any volume has.
-const MOST_TIMES: u32 = 32;
+/// How often at most the nodes of a catalog are doubled that doesn't suffice: 2 ^ 31 times the nodes are more than any volume has.
+const MOST_DOUBLED: u32 = 32;
 
-/// Plans a new volume and puts what comes on it; where the nodes of the catalog don't suffice, again with twice as many.
+/// The volume that is wanted, with the nodes of its catalog doubled so often.
+fn doubled_volume<'a>(wanted: &NewVolume<'a>, doubled: u32) -> NewVolume<'a>
+    requires { doubled < 32 }
+    ensures { IsTimes wanted.now (2 ^ doubled) result }
+{
+    NewVolume {
+        name: wanted.name,
+        size: wanted.size,
+        items: wanted.items,
+        catalog_times: 2_u32.pow(doubled),
+        moment: wanted.moment,
+    }
+}
+
+/// Plans a new volume and puts what comes on it; where the nodes of the catalog don't suffice, again with twice as many. Faults: what
+/// can't come to its place; `NoRoom`; the first call that is refused for another reason. Or want of memory.
 pub(crate) fn filled_image<'a>(
     alloc: Global,
     wanted: &NewVolume<'_>,
     path: &'a str,
     order: &MakeOrder<'_>,
     items: &[SourceItem],
-) -> Result<FilledImage, PutFault<'a>> {
-    let mut volume = *wanted;
-    for _ in 0..MOST_TIMES {
-        let planned = match plan_volume(alloc, &volume) {
+) -> Result<FilledImage, PutFault<'a>>
+    ensures filled { IfOk result (λ filled.
+        IsFilled wanted.now order.entry.now items.now filled.image.planned filled.list) }
+    ensures within { IfOk result (λ filled. AreWithin (changes filled.list.blocks.patch)
+        (length (image_bytes filled.image.planned) / 512)) }
+{
+    for doubled in 0..MOST_DOUBLED {
+        let planned = match plan_volume(alloc, &doubled_volume(wanted, doubled)) {
             Ok(planned) => planned,
             Err(fault) => return Err(unplanned(alloc, fault, wanted, path, order, items)),
         };
-        if let Some(filled) = fill_image(alloc, NewImage { planned }, path, order, items)? {
-            return Ok(filled);
+        let image = NewImage { planned };
+        if let Some(list) = fill(alloc, image, path, order, items)? {
+            return Ok(FilledImage { image, list });
         }
-        volume.catalog_times = volume.catalog_times.saturating_mul(2);
     }
     Err(of_make(MakeFault::NoRoom))
 }

@@ -2,13 +2,16 @@
 #![tactic(auto)]
 
 mod filling;
+mod laying;
 mod lines;
 mod listing;
 mod making;
+mod mounting;
 mod naming;
 mod order;
 mod refusing;
 mod settled_image;
+mod unplanned;
 
 pub use crate::lines::made_lines;
 pub use crate::listing::list_all_new;

@@ -1,15 +1,77 @@
 //! A new volume is made of files and folders.
+ghost use Rattle.std.specs.Prelude.{◌≡◌, ◌/◌, ◌≤◌, IfErr, IfOk, None, OnOk, length};
+ghost use Rattle.hfs_blocks.specs.Layers.{changes, AreWithin};
+ghost use Rattle.hfs_commands.specs.declared.fault.Fault.TheVariants as why;
+ghost use Rattle.hfs_format.specs.Image.{image_bytes};
+ghost use Rattle.hfs_laid_forks.specs.Files.{IsReadOf};
+ghost use Rattle.hfs_sources.specs.Trees.{OfEachTree};
+ghost use Rattle.hfs_word_make.specs.Made.{IsMade, IsMadeFile};
+ghost use Rattle.hfs_word_put.specs.Files.{place_of};
+
 use crate::filling::{FilledImage, filled_image};
 use crate::listing::list_all_new;
 use crate::naming::{made_name, made_size};
 use crate::order::MakeOrder;
 use crate::settled_image::SettledImage;
-use hfs_laid_forks::HostFiles;
-use hfs_make::NewVolume;
+use hfs_commands::{Fault, WatchedRange};
+use hfs_laid_forks::{HostFiles, PlacedFiles};
+use hfs_make::{NewImage, NewVolume};
 use hfs_make_items::new_items;
+use hfs_source::{PlacedBytes, RangeBytes};
 use hfs_sources::HostTree;
 use hfs_word_put::{Listed, PutFault, PutImage, PutItems, PutWatch, need_digests, put_image};
 use std::alloc::Global;
+
+/// A new volume's image, and what was put on it.
+#[derive(Drop)]
+struct MadeList {
+    image: NewImage,
+    put: PutItems,
+}
+
+/// Puts what comes on a new volume, by all calls but those that write forks. Faults: those of [`make_volume`].
+fn make_list<'a, T: HostTree>(
+    alloc: Global,
+    tree: &mut T,
+    path: &'a str,
+    order: &MakeOrder<'_>,
+) -> Result<MadeList, PutFault<'a>>
+    ensures made { IfOk result (λ made. IsMade (T.Holds tree.new) order.entry.now
+        made.put.items.items made.image.planned made.put.list) }
+    ensures within { IfOk result (λ made. AreWithin (changes made.put.list.blocks.patch)
+        (length (image_bytes made.image.planned) / 512)) }
+    ensures held { OfEachTree (T.Holds tree.new) (T.Holds tree.old) }
+{
+    let name = made_name(alloc, tree, order)?;
+    let size = made_size(order)?;
+    let Listed { items, digests } = list_all_new(alloc, tree, order)?;
+    let new = new_items(alloc, &items)?;
+    let wanted = NewVolume {
+        name,
+        size,
+        items: &new,
+        catalog_times: 1,
+        moment: order.now,
+    };
+    let FilledImage { image, list } = filled_image(alloc, &wanted, path, order, &items)?;
+    need_digests(alloc, tree, &digests, &items)?;
+    let put = PutItems { items, list };
+    Ok(MadeList { image, put })
+}
+
+/// The image of a new volume as a file that it fills. Its error doesn't come: the range is the whole image.
+fn range_of(image: NewImage) -> Result<WatchedRange<SettledImage>, Fault<'static>>
+    ensures image { IfOk result (λ range. range.bytes.bytes.image ≡ image) }
+    ensures start { IfOk result (λ range. range.bytes.start ≡ 0) }
+    ensures fault { IfErr result (λ fault. fault ≡ why.NoMemory) }
+{
+    let image = SettledImage { image };
+    let len = PlacedBytes::len(&image);
+    match RangeBytes::new(image, 0, len) {
+        Ok(bytes) => Ok(WatchedRange { bytes }),
+        Err(_) => Err(Fault::NoMemory),
+    }
+}
 
 /// Makes a new volume with what comes: what the file with this path is to hold. The bytes of forks are read as it is written, of
 /// which a watch is told. Faults, in this order:
@@ -21,24 +83,18 @@ pub fn make_volume<'a, 'w, T: HostTree + Drop, W: PutWatch>(
     path: &'a str,
     order: &MakeOrder<'_>,
     watch: &'w W,
-) -> Result<PutImage<'w, SettledImage, HostFiles<T>, W>, PutFault<'a>> {
+) -> Result<PutImage<'w, SettledImage, HostFiles<T>, W>, PutFault<'a>>
+    ensures { IfOk result (IsMadeFile (IsReadOf T.Holds T.File.Holds) order.entry.now) }
+{
     let mut tree = tree;
-    let name = made_name(alloc, &mut tree, order)?;
-    let size = made_size(order)?;
-    let Listed { items, digests } = list_all_new(alloc, &mut tree, order)?;
-    let new = new_items(alloc, &items)?;
-    let wanted = NewVolume {
-        name,
-        size,
-        items: &new,
-        catalog_times: 1,
-        moment: order.now,
+    let MadeList { image, put } = make_list(alloc, &mut tree, path, order)?;
+    let len = PlacedBytes::len(&image);
+    let range = match range_of(image) {
+        Ok(range) => range,
+        Err(fault) => return Err(PutFault::Image(fault)),
     };
-    let FilledImage { image, list } = filled_image(alloc, &wanted, path, order, &items)?;
-    need_digests(alloc, &mut tree, &digests, &items)?;
     let files = HostFiles::new(alloc, tree);
-    let put = PutItems { items, list };
-    match put_image(alloc, image, len, None, path, files, put, watch) {
+    match put_image(alloc, range, len, None, path, files, put, watch) {
         Ok(made) => Ok(made),
         Err(fault) => Err(PutFault::Image(fault)),
     }

@@ -1,4 +1,7 @@
 //! What a new volume is made of, and how.
+ghost use Rattle.std.specs.Prelude.{◌≡◌};
+ghost use Rattle.hfs_word_make.specs.Orders.{put_order};
+
 use hfs_sources::PutOptions;
 use hfs_word_put::PutOrder;
 
@@ -19,7 +22,9 @@ pub struct MakeOrder<'a> {
 
 impl<'a> MakeOrder<'a> {
     /// How what comes is put: into the root of a volume on which nothing lies yet.
-    pub(crate) fn put_order(&self) -> PutOrder<'a> {
+    pub(crate) fn put_order(&self) -> PutOrder<'a>
+        ensures { result ≡ put_order self.now }
+    {
         PutOrder {
             sources: self.sources,
             to: None,
