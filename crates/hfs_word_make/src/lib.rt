@@ -18,3 +18,6 @@ pub use crate::listing::list_all_new;
 pub use crate::making::make_volume;
 pub use crate::order::MakeOrder;
 pub use crate::settled_image::SettledImage;
+
+#[cfg(test)]
+mod tests;
