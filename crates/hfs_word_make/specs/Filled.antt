@@ -1,14 +1,9 @@
 -- What comes is put on a new volume.
-use Rattle.std.specs.Prelude.{◌≡◌, ◌⊎◌, ◌<◌, ℕ, Bool, true, false, List, Option, Some, None}
+use Rattle.std.specs.Prelude.{◌≡◌, ◌⊎◌, ℕ, Bool, true, false, List}
 use Rattle.std.specs.Borrow.{Bor}
 use Rattle.hfs_blocks.specs.Blocks.{block_at}
 use Rattle.hfs_check.specs.Parts.{mdb_in}
 use Rattle.hfs_check.specs.VolumeOf.{volume_of}
-use Rattle.hfs_format.specs.Image.{image_bytes}
-use Rattle.hfs_format.specs.declared.planned_image.PlannedImage.{PlannedImage}
-use Rattle.hfs_make.specs.declared.fault.MakeFault.{MakeFault}
-use Rattle.hfs_make.specs.declared.fault.MakeFault.TheVariants.{NoRoom}
-use Rattle.hfs_make.specs.declared.new_volume.NewVolume.{NewVolume}
 use Rattle.hfs_model.specs.Volume.{Volume}
 use Rattle.hfs_model.specs.declared.reply.Value.{Value}
 use Rattle.hfs_model.specs.declared.reply.Value.TheVariants as value
@@ -19,13 +14,11 @@ use Rattle.hfs_put_image.specs.PutImages.{IsPutOver}
 use Rattle.hfs_sources.specs.Items.{PlannedItem}
 use Rattle.hfs_working.specs.Working.{IsWorkingCopy}
 use Rattle.hfs_word_make.specs.declared.order.MakeOrder.{MakeOrder}
-use Rattle.hfs_word_make.specs.Faults.{told_of}
 use Rattle.hfs_word_make.specs.Orders.{put_order}
-use Rattle.hfs_word_make.specs.Planned.{IsPlannedAt, IsUnplannedAt}
 use Rattle.hfs_word_put.specs.declared.fault.PutFault.{PutFault}
 use Rattle.hfs_word_put.specs.declared.placing.PlacedList.{PlacedList}
 use Rattle.hfs_word_put.specs.declared.putting.PutList.{PutList}
-use Rattle.hfs_word_put.specs.Placed.{IsPlaced, TellsAny, refusal}
+use Rattle.hfs_word_put.specs.Placed.{IsPlaced}
 use Rattle.hfs_word_put.specs.Put.{IsImageFault, IsPutOn, IsUnputOn}
 use Rattle.hfs_word_put.specs.Sums.{put_sums}
 
@@ -89,22 +82,3 @@ pub record IsUnputIn (order : MakeOrder) (items : List PlannedItem) (image : Lis
 -- or the image was not mounted
 abbrev pub IsUnfilled : Bor (List ℕ) → MakeOrder → List PlannedItem → List ℕ → PutFault → Type 0
 IsUnfilled path order items image told = IsImageFault path told ⊎ IsUnputIn order items image told
-
--- ---- the plan that suffices
-
--- the catalog was doubled so often, and its nodes didn't suffice
-pub record WasFull (wanted : NewVolume) (order : MakeOrder) (items : List PlannedItem) (doubled : ℕ) : Type 0 where
-  pub image : PlannedImage
-  pub planned : IsPlannedAt wanted doubled image
-  pub full : IsFullIn order items (image_bytes image)
-
--- and so it was each time before
-abbrev pub WasFullBefore : NewVolume → MakeOrder → List PlannedItem → ℕ → Type 0
-WasFullBefore wanted order items doubled = (before : ℕ) → before < doubled → WasFull wanted order items before
-
--- the first of these plans that suffices, and what was put on its volume
-pub record IsFilled (wanted : NewVolume) (order : MakeOrder) (items : List PlannedItem) (image : PlannedImage) (put : PutList) : Type 0 where
-  pub doubled : ℕ
-  pub before : WasFullBefore wanted order items doubled
-  pub planned : IsPlannedAt wanted doubled image
-  pub list : IsPutIn order items (image_bytes image) put

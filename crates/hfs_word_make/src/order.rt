@@ -23,7 +23,7 @@ pub struct MakeOrder<'a> {
 impl<'a> MakeOrder<'a> {
     /// How what comes is put: into the root of a volume on which nothing lies yet.
     pub(crate) fn put_order(&self) -> PutOrder<'a>
-        ensures { result ≡ put_order self.now }
+        ensures { result ≡ put_order self.entry.now }
     {
         PutOrder {
             sources: self.sources,
