@@ -1,5 +1,5 @@
 -- What a file is to hold, by its parts.
-use Rattle.std.proofs.Common.{◌≡◌, ◌∙◌, ℕ, ◌+◌, ◌-◌, ◌/◌, ◌≤◌, List, [], Option, None, Vec, Global, length, take, drop, refl, sym, subst, ap, arith, length-take, length-drop}
+use Rattle.std.proofs.Common.{◌≡◌, ◌∙◌, ℕ, ◌/◌, List, [], Option, None, Vec, Global, length, drop, refl, sym, subst, ap, arith, length-take, length-drop}
 use Rattle.hfs_blocks.specs.Layers.{changes, AreWithin}
 use Rattle.hfs_containers.specs.Ranges.{bytes_in}
 use Rattle.hfs_laid_forks.specs.Files.{IsReadOf, ReadTree}
