@@ -75,3 +75,9 @@ pub record IsListing (host : Tree) (told : Told) (how : PutOptions) (sources : L
   pub top : List PlannedItem
   pub given : GiveAll host told how sources top
   pub walked : IsWalk host told how 0 (with_twins top) items
+
+-- the whole list of what lies in a folder
+pub record IsFolderListing (host : Tree) (told : Told) (how : PutOptions) (path : List ℕ) (items : List PlannedItem) : Type 0 where
+  pub top : List PlannedItem
+  pub inside : AreItemsIn host told how path None top
+  pub walked : IsWalk host told how 0 (with_twins top) items

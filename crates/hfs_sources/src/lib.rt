@@ -29,7 +29,7 @@ pub use crate::log::{HostLog, Step};
 pub use crate::memory::{HostNode, MemoryTree};
 pub use crate::paths::entry_path;
 pub use crate::plan::{ForkSpan, ItemPlan, PutOptions, is_file};
-pub use crate::sources::{is_bag, list_sources};
+pub use crate::sources::{is_bag, list_folder, list_sources};
 pub use crate::system_tree::SystemTree;
 pub use crate::told::{NothingTold, ToldItems};
 pub use crate::tree::HostTree;

@@ -1,6 +1,6 @@
 //! What sources give, each of which is the path of a file, of a folder, or of a bag.
 ghost use Rattle.std.specs.Prelude.{◌≡◌, IfOk, map, string_bytes};
-ghost use Rattle.hfs_sources.specs.Sources.{Gives, GivesBy, GiveAll, IsListing, beside, is_bag, named_plan, nameless, source_double, source_item, source_plan};
+ghost use Rattle.hfs_sources.specs.Sources.{Gives, GivesBy, GiveAll, IsFolderListing, IsListing, beside, is_bag, named_plan, nameless, source_double, source_item, source_plan};
 ghost use Rattle.hfs_sources.specs.Trees.{OfEachTree};
 ghost use Rattle.std.specs.Path.{path_file_name};
 
@@ -232,5 +232,23 @@ pub fn list_sources<T: HostTree, B: ToldItems>(
     ensures held { OfEachTree (T.Holds tree.new) (T.Holds tree.old) }
 {
     let top = give_all(alloc, tree, told, how, sources)?;
+    walk(alloc, tree, told, how, top)
+}
+
+/// The list of all that lies in a folder, in the order of the walk, as [`list_sources`] lists what lies in the `data` of a bag.
+/// Faults: as [`list_sources`] has them.
+pub fn list_folder<T: HostTree, B: ToldItems>(
+    alloc: Global,
+    tree: &mut T,
+    told: &B,
+    how: PutOptions,
+    path: &str,
+) -> Result<Vec<SourceItem>, HostFault>
+    ensures items { IfOk result (λ items. OfEachTree (T.Holds tree.new)
+        (λ host. IsFolderListing host (B.told told.now) how path.now items.items)) }
+    ensures held { OfEachTree (T.Holds tree.new) (T.Holds tree.old) }
+{
+    let folder = FolderPlace { path, place: None };
+    let top = items_in(alloc, tree, told, how, &folder)?;
     walk(alloc, tree, told, how, top)
 }

@@ -22,13 +22,13 @@ use std::alloc::Global;
 
 /// How many allocation blocks are free, and how many a list wants.
 #[derive(Clone, Copy)]
-struct BlockWants {
-    free: u32,
-    wanted: u64,
+pub struct BlockWants {
+    pub free: u32,
+    pub wanted: u64,
 }
 
 /// What is free on a volume, and what a list wants.
-fn wants_of(volume: &Volume, places: &[PutItem]) -> BlockWants
+pub fn wants_of(volume: &Volume, places: &[PutItem]) -> BlockWants
     ensures { result ≡ wants_of (block_at volume.now.current) places.now }
 {
     let directory = volume.directory();
@@ -60,7 +60,7 @@ fn reason_of_reply(reply: &Reply, wants: BlockWants) -> PutReason
 }
 
 /// What it means that a list was not laid.
-fn of_lay(
+pub fn of_lay(
     alloc: Global,
     fault: LayFault,
     items: &[SourceItem],

@@ -17,14 +17,16 @@ mod wants;
 
 pub use crate::contents::{LaidFile, PutWatch};
 pub use crate::fault::PutFault;
-pub use crate::laying::lay_all;
+pub use crate::laying::{BlockWants, lay_all, of_lay, wants_of};
 pub use crate::lines::{PutSums, line_at, put_lines, refusal_line, refused_lines};
 pub use crate::listing::{Listed, list_all, need_digests};
 pub use crate::moment::date_of;
 pub use crate::mounting::mount_image;
 pub use crate::order::PutOrder;
 pub use crate::placing::{PlacedList, place_all};
-pub use crate::putting::{PutImage, PutItems, PutList, put_items, put_on, put_sources, unsaved};
+pub use crate::putting::{
+    PutImage, PutItems, PutList, put_image, put_items, put_on, put_sources, unsaved,
+};
 pub use crate::reason::PutReason;
 pub use crate::target::target_folder;
 pub use crate::wants::{put_sums, wanted_of};

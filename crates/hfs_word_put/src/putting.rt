@@ -141,7 +141,7 @@ pub fn put_on<'a, S: BlockSource, T: HostTree>(
 
 /// What a file is to hold in which an image of `len` bytes lies, on whose volume this was put. Fault: `CannotRead` of the path, where
 /// the forks don't lie in the file.
-fn put_image<'a, 'w, S: WatchedBytes + Drop, H: PlacedFiles + Drop, W: PutWatch>(
+pub fn put_image<'a, 'w, S: WatchedBytes + Drop, H: PlacedFiles + Drop, W: PutWatch>(
     alloc: Global,
     image: WatchedRange<S>,
     len: u64,

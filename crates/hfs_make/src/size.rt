@@ -1,0 +1,25 @@
+//! The size of a new volume where nobody names it.
+ghost use Rattle.std.specs.Prelude.{◌≡◌, ◌≤◌, MatchOption};
+ghost use Rattle.hfs_make.specs.Sizes as spec;
+ghost use Rattle.hfs_make.specs.Sizes.{HasNoSize, IsChosenSize};
+
+use crate::items::NewItem;
+use crate::least::least_blocks;
+
+/// How many blocks a volume has at least whose files want so many.
+#[tactic(auto, unfolding(crate::specs::Sizes::roomy_blocks))]
+fn roomy_blocks(least: u32) -> u32
+    requires { least ≤ 4194304 }
+    ensures { result ≡ spec.roomy_blocks least }
+{
+    ((11 * least + 9) / 10).max(least + 200)
+}
+
+/// The blocks of 512 bytes of a volume with a catalog of so many nodes in which these items come to lie: the least number that holds
+/// all, and a tenth more and 102,400 bytes more than the least that does. None where none up to 2 GB is such.
+pub fn chosen_blocks(nodes: u32, items: &[NewItem]) -> Option<u32>
+    ensures { MatchOption result (HasNoSize nodes items.now) (IsChosenSize nodes items.now) }
+{
+    let least = least_blocks(nodes, items, 0)?;
+    least_blocks(nodes, items, roomy_blocks(least))
+}

@@ -1,0 +1,17 @@
+//! What the word `make` does: a new volume with files and folders of a host.
+#![tactic(auto)]
+
+mod filling;
+mod lines;
+mod listing;
+mod making;
+mod naming;
+mod order;
+mod refusing;
+mod settled_image;
+
+pub use crate::lines::made_lines;
+pub use crate::listing::list_all_new;
+pub use crate::making::make_volume;
+pub use crate::order::MakeOrder;
+pub use crate::settled_image::SettledImage;
