@@ -53,12 +53,15 @@ fn save_made<'a>(
     progress.begin(contents.file.len());
     let saved = save_read(rt, words.file, words.file, &mut contents);
     progress.end();
-    tell(rt, &saved.leftover);
     match saved.written {
         Ok(()) => {
             print_lines(rt, lines.as_str())?;
+            tell(rt, &saved.leftover);
             Ok(Status::Done.number())
         }
-        Err(fault) => print_fault(rt, unsaved(rt.alloc(), contents, fault)),
+        Err(fault) => {
+            tell(rt, &saved.leftover);
+            print_fault(rt, unsaved(rt.alloc(), contents, fault))
+        }
     }
 }

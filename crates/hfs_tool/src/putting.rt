@@ -88,13 +88,16 @@ fn save_put<'a>(
     progress.begin(contents.file.len());
     let saved = save_read(rt, words.out, words.image, &mut contents);
     progress.end();
-    tell(rt, &saved.leftover);
     match saved.written {
         Ok(()) => {
             print_lines(rt, lines.as_str())?;
+            tell(rt, &saved.leftover);
             Ok(Status::Done.number())
         }
-        Err(fault) => print_fault(rt, unsaved(rt.alloc(), contents, fault)),
+        Err(fault) => {
+            tell(rt, &saved.leftover);
+            print_fault(rt, unsaved(rt.alloc(), contents, fault))
+        }
     }
 }
 
