@@ -19,7 +19,6 @@ import shutil
 import socket
 import subprocess
 import sys
-import tempfile
 import time
 from dataclasses import dataclass
 from pathlib import Path
@@ -29,7 +28,7 @@ from driver.image import MDB, Image
 from driver.programs import REAL_VOLUMES, Program, built
 from driver.putting import Disk, Placed
 from driver.sources import DATES, FINDER, LONGEST, RESOURCE, CannotRead, NotText, Walk, apple_double, letters_of, mac_binary, read_mac_binary
-from driver.wanted import Difference, ensure
+from driver.wanted import agrees_in_a_folder, ensure
 from forks import Shape, ensure_no_new_faults, in_larger_blocks, scattered
 from inside import with_volume
 from volumes import WRAPPINGS, content, found, turned_sum
@@ -843,6 +842,12 @@ def of_depth(bench: Bench, depth: int) -> None:
     bench.puts('folders deep in one another', disk, ['deep'])
 
 
+def try_all(bench: Bench, given: argparse.Namespace) -> None:
+    for part in (by_hand, of_doubles, of_mac_binary, of_names, of_reasons, of_places, of_room, of_bags, of_volumes_inside, of_real_volumes, of_own_files, of_faults,
+                 of_hfsutils, of_unar, lambda it: of_depth(it, 200), lambda it: of_drawn(it, given.seed, given.lists)):
+        part(bench)
+
+
 def main() -> int:
     parser = argparse.ArgumentParser(description=__doc__, formatter_class=argparse.RawDescriptionHelpFormatter)
     parser.add_argument('--lists', type=int, default=60, help='how many drawn trees')
@@ -850,17 +855,8 @@ def main() -> int:
     given = parser.parse_args()
     sys.setrecursionlimit(10_000)
     bench, started = Bench(), time.monotonic()
-    with tempfile.TemporaryDirectory() as folder:
-        os.chdir(folder)
-        try:
-            for part in (by_hand, of_doubles, of_mac_binary, of_names, of_reasons, of_places, of_room, of_bags, of_volumes_inside, of_real_volumes, of_own_files, of_faults,
-                         of_hfsutils, of_unar, lambda it: of_depth(it, 200), lambda it: of_drawn(it, given.seed, given.lists)):
-                part(bench)
-        except Difference as differs:
-            print(f'put differs: {differs}')
-            return 1
-        finally:
-            os.chdir('/')
+    if not agrees_in_a_folder('put', lambda: try_all(bench, given)):
+        return 1
     bench.skipped += [] if shutil.which('fsck.hfs') else ['fsck.hfs']
     left_out = f'; left out: {", ".join(bench.skipped)}' if bench.skipped else ''
     print(f'{bench.runs} runs, {bench.came} items put and read back, in {time.monotonic() - started:.0f} s{left_out}')

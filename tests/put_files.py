@@ -14,14 +14,13 @@ import shutil
 import signal
 import subprocess
 import sys
-import tempfile
 import time
 from pathlib import Path
 
 import devices
 from driver.programs import ended_at_terminal
 from driver.sources import FINDER, RESOURCE, apple_double, mac_binary
-from driver.wanted import Difference, ensure
+from driver.wanted import agrees_in_a_folder, ensure
 from put import FINDER_BYTES, NOW, Bench, Options, lay
 
 OLD = b'the old file'
@@ -291,24 +290,21 @@ def of_terminals(files: Files) -> None:
     ensure(status == 0 and shown and shown[-1] == '' and all(shown[:-1]), f'what is told at a terminal: {said[:300]!r}')
 
 
+def try_all(bench: Bench) -> None:
+    files = Files(bench)
+    if shutil.which('cc'):
+        of_changes(files)
+        of_reads(files)
+    else:
+        bench.skipped.append('sources that change, and reads that fail')
+    for part in (of_permissions, of_full_disks, of_few_files, of_kills, of_memory, of_terminals):
+        part(files)
+
+
 def main() -> int:
     bench, started = Bench(), time.monotonic()
-    with tempfile.TemporaryDirectory() as folder:
-        os.chdir(folder)
-        try:
-            files = Files(bench)
-            if shutil.which('cc'):
-                of_changes(files)
-                of_reads(files)
-            else:
-                bench.skipped.append('sources that change, and reads that fail')
-            for part in (of_permissions, of_full_disks, of_few_files, of_kills, of_memory, of_terminals):
-                part(files)
-        except Difference as differs:
-            print(f'put differs: {differs}')
-            return 1
-        finally:
-            os.chdir('/')
+    if not agrees_in_a_folder('put', lambda: try_all(bench)):
+        return 1
     left_out = f'; left out: {", ".join(bench.skipped)}' if bench.skipped else ''
     print(f'{bench.runs} runs beside sources that change and disks that fail, in {time.monotonic() - started:.0f} s{left_out}')
     return 0

@@ -1,8 +1,24 @@
 """What is wanted of a program, and the difference where it does otherwise."""
+import os
+import tempfile
 
 
 class Difference(Exception):
     """What a program does is not what another program or a hand says."""
+
+
+def agrees_in_a_folder(word: str, run) -> bool:
+    """Whether what is run in a new folder finds no difference; else that is printed, of this word."""
+    with tempfile.TemporaryDirectory() as folder:
+        os.chdir(folder)
+        try:
+            run()
+        except Difference as differs:
+            print(f'{word} differs: {differs}')
+            return False
+        finally:
+            os.chdir('/')
+    return True
 
 
 def ensure(holds: bool, what: str) -> None:
