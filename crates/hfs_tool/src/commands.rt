@@ -3,6 +3,7 @@
 use crate::by_path::{print_fork_at, print_list_at, print_macbinary_at};
 use crate::by_volume::{tell_check, tell_fork, tell_info, tell_items, tell_list, tell_macbinary};
 use crate::extracting::extract_volume;
+use crate::making::make_new_volume;
 use crate::pages::print_page;
 use crate::putting::put_on_volume;
 use crate::rescuing::{list_remains, rescue_volume};
@@ -57,6 +58,7 @@ pub fn obey<'a, T: Threads + Wait + Sync>(
         Words::Repair(words) => write_repaired(rt, words),
         Words::Run(run) => run_script_of(rt, threads, run),
         Words::Put(words) => put_on_volume(rt, words),
+        Words::Make(words) => make_new_volume(rt, words),
     }
 }
 

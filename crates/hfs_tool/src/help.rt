@@ -73,6 +73,18 @@ alone:
   no place for a viewer
   cannot write FILE  the file is as it was";
 
+/// What the word `make` tells beside its arguments.
+pub(crate) const MAKES: &str = "The volume gets what put would put into its root, by the same lines.
+Of one folder that is no bag what lies in it comes. Its name: NAME; else
+the one that the one bag tells of its disk; else the last part of the
+one folder's path. Its catalog has room for what comes and more. Nothing
+is written, and the status is 2, at:
+  bad name   not 1 to 27 characters of an item name, or none at all
+  bad size   not whole blocks of 512 bytes, 64K to 2G
+  no room    no size up to 2G is enough; or SIZE is too small for the
+             two trees alone
+When FILE is written: made, and the lines of put.";
+
 /// What the word `put` tells beside its arguments.
 pub(crate) const PUTS: &str = "SOURCEs come in their order, and what is in a folder in the order of
 its names. ._X next to X is read as AppleDouble: type, creator, the

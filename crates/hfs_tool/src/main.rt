@@ -6,6 +6,7 @@ mod by_volume;
 mod commands;
 mod extracting;
 mod help;
+mod making;
 mod pages;
 mod progress;
 mod putting;

@@ -31,7 +31,7 @@ pub fn put_on_volume<'a>(rt: &HostRuntime, words: &PutWords<'a>) -> Result<u8, F
 }
 
 /// The moment of the calls: the one that is given, or the clock's. A clock that is set before 1970 counts as at its beginning.
-fn moment(rt: &HostRuntime, given: Option<u32>) -> u32 {
+pub fn moment(rt: &HostRuntime, given: Option<u32>) -> u32 {
     match given {
         Some(now) => now,
         None => match SystemTime::now(rt) {
@@ -102,7 +102,7 @@ fn save_put<'a>(
 }
 
 /// Prints why nothing was put, and answers the exit status. A fault of the image is handed on.
-fn print_fault<'a>(rt: &HostRuntime, fault: PutFault<'a>) -> Result<u8, Fault<'a>> {
+pub fn print_fault<'a>(rt: &HostRuntime, fault: PutFault<'a>) -> Result<u8, Fault<'a>> {
     let status = fault.status();
     match fault {
         PutFault::Image(why) => Err(why),

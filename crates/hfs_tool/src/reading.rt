@@ -6,6 +6,7 @@ mod extract;
 mod info;
 mod items;
 mod list;
+mod make;
 mod new;
 mod page;
 mod places;
@@ -28,6 +29,7 @@ use hfs_console::{VERSION, WordsFault, refused_words};
 use info::{info_command, info_words};
 use items::{items_command, items_words};
 use list::{list_command, list_words};
+use make::{make_command, make_words};
 use new::{new_command, new_words};
 use page::{page_command, page_words};
 use put::{put_command, put_words};
@@ -64,7 +66,8 @@ fn command<'a>(alloc: Global) -> Result<Command<'a>, AllocError> {
     let with_new = with_word(with_rescue, new_command(alloc));
     let with_repair = with_word(with_new, repair_command(alloc));
     let with_run = with_word(with_repair, run_command(alloc));
-    with_word(with_run, put_command(alloc))
+    let with_put = with_word(with_run, put_command(alloc));
+    with_word(with_put, make_command(alloc))
 }
 
 /// The program's command, with no word yet.
@@ -124,6 +127,7 @@ fn is_collect(words: &[String]) -> bool {
 fn words_of<'a>(alloc: Global, matches: &ArgMatches<'a>) -> Result<Words<'a>, WordsFault> {
     match matches.subcommand() {
         Some(("put", inner)) => put_words(alloc, inner),
+        Some(("make", inner)) => make_words(alloc, inner),
         Some((word, inner)) => Ok(words_behind(word, inner)?),
         None => Ok(Words::StandardInput),
     }

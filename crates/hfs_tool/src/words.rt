@@ -59,6 +59,8 @@ pub enum Words<'a> {
     RescueList(RescueWords<'a>),
     /// `new FILE NAME BLOCKS NODES EXTENTS [--now N]`: a new volume.
     New(NewVolume<'a>),
+    /// `make FILE SOURCE.. [--name NAME] [--size SIZE] [--now N] [--macbinary] [--rename]`: a new volume with files and folders.
+    Make(MakeWords<'a>),
     /// `repair IMAGE FILE [--volume N]`: the image with its counts mended.
     Repair(RepairWords<'a>),
     /// `run IMAGE SCRIPT [--now N] [--out FILE] [--volume N]`: the calls of a script.
@@ -98,7 +100,7 @@ impl<'a> Words<'a> {
     /// The image that the words look at; none where they take standard input, or make a volume.
     pub fn looked_at(&self) -> Option<LookedAt<'a>> {
         let (path, volume) = match self {
-            Words::StandardInput | Words::New(_) => return None,
+            Words::StandardInput | Words::New(_) | Words::Make(_) => return None,
             Words::Info { image, volume }
             | Words::Check { image, volume }
             | Words::List { image, volume, .. }
@@ -239,6 +241,23 @@ pub struct PutWords<'a> {
     pub how: PutOptions,
     /// Whether files that stand there are replaced.
     pub replace: bool,
+    /// The moment of every change, in seconds since midnight of 1 January 1904; the clock's where it isn't given.
+    pub now: Option<u32>,
+}
+
+/// A new volume that is made of files and folders.
+#[derive(Drop)]
+pub struct MakeWords<'a> {
+    /// The path of the file that it is written to.
+    pub file: &'a str,
+    /// The paths of what comes, in order.
+    pub sources: Vec<&'a str>,
+    /// Its name; where it isn't given, that of what comes.
+    pub name: Option<&'a str>,
+    /// Its size; where it isn't given, the least that suffices.
+    pub size: Option<&'a str>,
+    /// How what comes is looked at.
+    pub how: PutOptions,
     /// The moment of every change, in seconds since midnight of 1 January 1904; the clock's where it isn't given.
     pub now: Option<u32>,
 }

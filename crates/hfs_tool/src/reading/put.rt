@@ -34,7 +34,7 @@ const TO: Argument = Argument {
 };
 
 /// The choice that MacBinary files are taken apart.
-const MACBINARY: Argument = Argument {
+pub const MACBINARY: Argument = Argument {
     name: "macbinary",
     takes: Takes::Flag,
     help: "Takes MacBinary files apart: name, type, creator, lock, dates and both forks",
@@ -50,7 +50,7 @@ const REPLACE: Argument = Argument {
 };
 
 /// The choice that names are changed.
-const RENAME: Argument = Argument {
+pub const RENAME: Argument = Argument {
     name: "rename",
     takes: Takes::Flag,
     help: "Makes an item name of any other: _ for each character that none has, cut to 31",
@@ -58,7 +58,7 @@ const RENAME: Argument = Argument {
 };
 
 /// The moment of every change.
-const CLOCK_NOW: Argument = Argument {
+pub const CLOCK_NOW: Argument = Argument {
     name: "now",
     takes: Takes::GivenNumberOption { value: "N" },
     help: "The moment, in seconds since midnight of 1 January 1904; the clock's if left out",
@@ -103,7 +103,7 @@ pub fn put_words<'a>(alloc: Global, matches: &ArgMatches<'a>) -> Result<Words<'a
 }
 
 /// How what comes is to be looked at.
-fn options_of(matches: &ArgMatches<'_>) -> Result<PutOptions, NoValue> {
+pub fn options_of(matches: &ArgMatches<'_>) -> Result<PutOptions, NoValue> {
     Ok(PutOptions {
         macbinary: MACBINARY.is_given(matches)?,
         rename: RENAME.is_given(matches)?,
