@@ -1,2 +1,3 @@
 mod FillLemmas
 mod MadeVolumes
+mod SoundPlans
