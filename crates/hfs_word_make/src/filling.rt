@@ -117,7 +117,7 @@ fn filled_at<'a>(
     match fill(alloc, image, path, order, items) {
         Ok(Some(list)) => Ok(Some(FilledImage { image, list })),
         Ok(None) => Ok(None),
-        Err(fault) => Err(fault),
+        Err(refused) => Err(refused),
     }
 }
 
