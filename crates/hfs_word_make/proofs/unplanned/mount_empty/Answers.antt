@@ -6,7 +6,7 @@ use Rattle.hfs_word_make.proofs.unplanned.mount_empty.Goals as goal
 
 pub returns-in-Err-clause-fault : goal.returns-in-Err-clause-fault
 returns-in-Err-clause-fault c =
-    inl (c.in-Err.fault, (c.of_make.ensures, record { volume = c.empty_volume.result; emptied = c.empty_volume.ensures; why = c.in-Err.ensures }))
+    inl (c.in-Err.fault, c.of_make.ensures, record { volume = c.empty_volume.result; emptied = c.empty_volume.ensures; why = c.in-Err.ensures })
 
 pub returns-in-Ok-mount_new-clause-copy : goal.returns-in-Ok-mount_new-clause-copy
 returns-in-Ok-mount_new-clause-copy c = record {
