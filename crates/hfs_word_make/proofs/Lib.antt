@@ -1,3 +1,4 @@
 mod FillLemmas
+mod DoublingLemmas
 mod MadeVolumes
 mod SoundPlans

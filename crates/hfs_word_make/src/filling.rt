@@ -9,9 +9,8 @@ ghost use Rattle.hfs_word_make.specs.Planned.{IsDoubled, IsTimes};
 use crate::laying::lay_list;
 use crate::mounting::mount_new;
 use crate::order::MakeOrder;
-use crate::refusing::of_make;
 use crate::unplanned::unplanned;
-use hfs_make::{MakeFault, NewImage, NewVolume, plan_volume};
+use hfs_make::{NewImage, NewVolume, plan_volume};
 use hfs_sources::SourceItem;
 use hfs_word_put::{PutFault, PutList, place_all};
 use std::alloc::Global;
@@ -52,7 +51,7 @@ fn fill<'a>(
     }
 }
 
-/// How often at most the nodes of a catalog are doubled that doesn't suffice: 2 ^ 31 times the nodes are more than any volume has.
+/// How often the nodes of a catalog are doubled at most, and once more: no volume has 2 ^ 31 times the nodes that a catalog wants.
 const MOST_DOUBLED: u32 = 32;
 
 /// The volume that is wanted, with the nodes of its catalog doubled so often.
@@ -117,7 +116,7 @@ fn filled_at<'a>(
     match fill(alloc, image, path, order, items) {
         Ok(Some(list)) => Ok(Some(FilledImage { image, list })),
         Ok(None) => Ok(None),
-        Err(fault) => Err(fault),
+        Err(refused) => Err(refused),
     }
 }
 
@@ -144,5 +143,5 @@ pub(crate) fn filled_image<'a>(
             return Ok(filled);
         }
     }
-    Err(of_make(MakeFault::NoRoom))
+    unreachable!()
 }
