@@ -1,5 +1,6 @@
 -- What comes is put on a new volume, or its catalog is full, by what was laid on a copy.
-use Rattle.std.proofs.Common.{◌≡◌, ◌≤◌, ◌/◌, ℕ, List, length, Option, Some, None, IfSome, MatchOption, sym, ap, subst, inl, inr}
+use Rattle.std.proofs.Common.{◌≡◌, ◌≤◌, ◌/◌, ℕ, List, length, Option, Some, None, IfSome, MatchOption, Result, Ok, Err, sym, ap, subst, inl, inr}
+use Rattle.std.specs.Result.{IsErrAnd, IfErr, MatchResult}
 use Rattle.hfs_blocks.specs.Blocks.{block_at, block_count}
 use Rattle.hfs_blocks.specs.Layers.{changes, AreWithin}
 use Rattle.hfs_check.specs.VolumeOf.{volume_of}
@@ -46,6 +47,26 @@ pub placed-on : {base current : List ℕ} {order put : PutOrder} {items : List P
 placed-on {base = base} {put = put} {items = items} {list = list} fresh is placed =
     subst (λ (order : PutOrder). IsPlaced (volume_of base) order items list) is
     (subst (λ (image : List ℕ). IsPlaced (volume_of image) put items list) fresh placed)
+
+pub refused-on : (base current : List ℕ) (order put : PutOrder) (items : List PlannedItem) (told : PutFault) → current ≡ base → put ≡ order
+    → TellsAny (refusal (volume_of current) put items) told → TellsAny (refusal (volume_of base) order items) told
+refused-on base current order put items told fresh is lines =
+    subst (λ (order : PutOrder). TellsAny (refusal (volume_of base) order items) told) is
+    (subst (λ (image : List ℕ). TellsAny (refusal (volume_of image) put items) told) fresh lines)
+
+-- ---- a fault that is passed on
+
+pub passed-on : {A : Type 0} (result : Result A PutFault) (told : PutFault) (P : PutFault → Type 0) → IsErrAnd result (λ found. found ≡ told) → P told
+    → IfErr result P
+passed-on (Ok x) told P is p = tt
+passed-on (Err found) told P is p = subst P (sym is) p
+
+pub passed-match : {A : Type 0} (result : Result A PutFault) (told : PutFault) (Q : A → Type 0) (P : PutFault → Type 0)
+    → IsErrAnd result (λ found. found ≡ told) → P told → MatchResult result Q P
+passed-match (Ok x) told Q P is p = absurd is
+passed-match (Err found) told Q P is p = subst P (sym is) p
+
+-- ---- sizes
 
 -- an image has at most 2 GB that has a sound copy
 pub small-in : (image copy : List ℕ) → IsWorkingCopy copy image → length image ≤ 2147483648

@@ -26,21 +26,21 @@ pub(crate) struct FilledImage {
 /// call that is refused for another reason. Or want of memory.
 fn fill<'a>(
     alloc: Global,
-    image: NewImage,
+    image: &NewImage,
     path: &'a str,
     order: &MakeOrder<'_>,
     items: &[SourceItem],
 ) -> Result<Option<PutList>, PutFault<'a>>
     ensures put { IfOk result (λ put.
-        MatchOption put (IsFullIn order.entry.now items.now (image_bytes image.planned))
-        (IsPutIn order.entry.now items.now (image_bytes image.planned))) }
+        MatchOption put (IsFullIn order.entry.now items.now (image_bytes image.now.planned))
+        (IsPutIn order.entry.now items.now (image_bytes image.now.planned))) }
     ensures within { IfOk result (λ put. IfSome put (λ put. AreWithin
-        (changes put.blocks.patch) (length (image_bytes image.planned) / 512))) }
-    ensures small { OnOk result (length (image_bytes image.planned) ≤ 2147483648) }
+        (changes put.blocks.patch) (length (image_bytes image.now.planned) / 512))) }
+    ensures small { OnOk result (length (image_bytes image.now.planned) ≤ 2147483648) }
     ensures fault { IfErr result
-        (IsUnfilled path.entry order.entry.now items.now (image_bytes image.planned)) }
+        (IsUnfilled path.entry order.entry.now items.now (image_bytes image.now.planned)) }
 {
-    let mut volume = match mount_new(alloc, image, path) {
+    let mut volume = match mount_new(alloc, *image, path) {
         Ok(volume) => volume,
         Err(fault) => return Err(PutFault::Image(fault)),
     };
@@ -113,7 +113,7 @@ fn filled_at<'a>(
         (IsUnfilledAt path.entry wanted.now order.entry.now items.now doubled) }
 {
     let image = planned_at(alloc, wanted, doubled, path, order, items)?;
-    match fill(alloc, image, path, order, items) {
+    match fill(alloc, &image, path, order, items) {
         Ok(Some(list)) => Ok(Some(FilledImage { image, list })),
         Ok(None) => Ok(None),
         Err(refused) => Err(refused),
