@@ -1,4 +1,5 @@
 mod FillLemmas
 mod DoublingLemmas
+mod MadeLists
 mod MadeVolumes
 mod SoundPlans

@@ -23,8 +23,8 @@ use Rattle.hfs_working.specs.Working.{IsWorkingCopy}
 use Rattle.hfs_word_make.specs.declared.order.MakeOrder.{MakeOrder}
 use Rattle.hfs_word_make.specs.declared.settled_image.SettledImage.{SettledImage}
 use Rattle.hfs_word_make.specs.Filled.{IsPutIn}
-use Rattle.hfs_word_make.specs.Listed.{IsNewListed}
-use Rattle.hfs_word_make.specs.Made.{IsListedFor, IsMadeFile, IsMadeOf, IsMadeVolume, own_place}
+use Rattle.hfs_word_make.specs.Made.{IsMadeFile, IsMadeOf, IsMadeVolume, own_place}
+use Rattle.hfs_word_make.proofs.MadeLists.{listed-then}
 use Rattle.hfs_word_put.specs.declared.placing.PlacedList.{PlacedList}
 use Rattle.hfs_word_put.specs.declared.putting.PutImage.{PutImage}
 use Rattle.hfs_word_put.specs.declared.putting.PutList.{PutList}
@@ -32,7 +32,7 @@ use Rattle.hfs_word_put.specs.Files.{place_of}
 
 -- ---- fewer trees
 
-listed-narrowed : (Hosts Then : Tree → Type 0) (order : MakeOrder) (items : List PlannedItem) (planned : PlannedImage) (list : PutList)
+narrowed : (Hosts Then : Tree → Type 0) (order : MakeOrder) (items : List PlannedItem) (planned : PlannedImage) (list : PutList)
     → ((host : Tree) → Then host → Hosts host) → (is : IsMadeOf Hosts order items planned list) → IsListedFor Then order items is.digests is.wanted
 listed-narrowed Hosts Then order items planned list fewer is = record {
   volume = record {
@@ -50,7 +50,7 @@ narrowed : (Hosts Then : Tree → Type 0) (order : MakeOrder) (items : List Plan
 narrowed Hosts Then order items planned list fewer is = record {
   wanted = is.wanted;
   digests = is.digests;
-  listed = listed-narrowed Hosts Then order items planned list fewer is;
+  listed = listed-then Hosts Then order items is.digests is.wanted fewer is.listed;
   filled = is.filled;
   verified = λ host h. is.verified host (fewer host h);
 }

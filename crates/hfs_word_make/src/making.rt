@@ -1,5 +1,5 @@
 //! A new volume is made of files and folders.
-ghost use Rattle.std.specs.Prelude.{◌≡◌, ◌/◌, ◌≤◌, IfErr, IfOk, length};
+ghost use Rattle.std.specs.Prelude.{◌≡◌, ◌/◌, ◌<◌, ◌≤◌, ◌^◌, IfErr, IfOk, OnOk, length};
 ghost use Rattle.hfs_blocks.specs.Layers.{changes, AreWithin};
 ghost use Rattle.hfs_format.specs.Image.{image_bytes};
 ghost use Rattle.hfs_laid_forks.specs.Files.{IsReadOf};
@@ -39,6 +39,7 @@ fn make_list<'a, T: HostTree>(
     ensures within { IfOk result (λ made. AreWithin (changes made.put.list.blocks.patch)
         (length (image_bytes made.image.planned) / 512)) }
     ensures held { OfEachTree (T.Holds tree.new) (T.Holds tree.old) }
+    ensures dated { OnOk result (order.entry.now.now < 2 ^ 32) }
     ensures made { IfOk result (λ made. IsMadeOf (T.Holds tree.new) order.entry.now
         made.put.items.items made.image.planned made.put.list) }
     ensures fault { IfErr result
@@ -55,10 +56,18 @@ fn make_list<'a, T: HostTree>(
         catalog_times: 1,
         moment: order.now,
     };
-    let FilledImage { image, list } = filled_image(alloc, &wanted, path, order, &items)?;
-    need_digests(alloc, tree, &digests, &items)?;
-    let put = PutItems { items, list };
-    Ok(MadeList { image, put })
+    let filled = match filled_image(alloc, &wanted, path, order, &items) {
+        Ok(filled) => filled,
+        Err(fault) => return Err(fault),
+    };
+    let FilledImage { image, list } = filled;
+    match need_digests(alloc, tree, &digests, &items) {
+        Ok(()) => {
+            let put = PutItems { items, list };
+            Ok(MadeList { image, put })
+        }
+        Err(fault) => Err(fault),
+    }
 }
 
 /// The image of a new volume as a file that it fills.
@@ -92,7 +101,11 @@ pub fn make_volume<'a, 'w, T: HostTree + Drop, W: PutWatch>(
     ensures fault { IfErr result (IsUnmade T.Holds path.entry order.entry.now tree) }
 {
     let mut tree = tree;
-    let MadeList { image, put } = make_list(alloc, &mut tree, path, order)?;
+    let list = match make_list(alloc, &mut tree, path, order) {
+        Ok(list) => list,
+        Err(fault) => return Err(fault),
+    };
+    let MadeList { image, put } = list;
     let len = PlacedBytes::len(&image);
     let files = HostFiles::new(alloc, tree);
     match put_image(alloc, range_of(image), len, None, path, files, put, watch) {

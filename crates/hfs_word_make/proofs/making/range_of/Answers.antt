@@ -1,5 +1,5 @@
 -- The range is the whole image.
-use Rattle.std.proofs.Common.{absurd, arith, refl}
+use Rattle.std.proofs.Common.{arith, refl}
 use Rattle.hfs_word_make.proofs.making.range_of.Goals as goal
 
 pub unreachable-requires : goal.unreachable-requires
