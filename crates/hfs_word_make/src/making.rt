@@ -49,12 +49,13 @@ fn make_list<'a, T: HostTree>(
     let size = made_size(order)?;
     let Listed { items, digests } = list_all_new(alloc, tree, order)?;
     let new = new_items(alloc, &items)?;
+    let moment = order.now;
     let wanted = NewVolume {
         name,
         size,
         items: &new,
         catalog_times: 1,
-        moment: order.now,
+        moment,
     };
     let filled = match filled_image(alloc, &wanted, path, order, &items) {
         Ok(filled) => filled,

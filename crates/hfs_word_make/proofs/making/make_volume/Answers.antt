@@ -30,8 +30,8 @@ returns-in-Ok-put_image-clause-held g c =
     (unopened g.T.HostTree.Holds g.T.File.PlacedBytes.Holds c.in-Ok-put_image.made.contents.file.forks.files c.make_list.new.tree
     (c.in-Ok-put_image.ensures.files ∙ c.new-files.ensures) host h)
 
-pub returns-clause-fault : goal.returns-clause-fault
-returns-clause-fault g c = record {
+pub returns-in-Err-put_image-clause-fault : goal.returns-in-Err-put_image-clause-fault
+returns-in-Err-put_image-clause-fault g c = record {
   left = c.make_list.new.tree;
   held = c.make_list.ensures.held;
   unmade = inr (record {
