@@ -13,7 +13,7 @@ use crate::order::MakeOrder;
 use crate::settled_image::SettledImage;
 use hfs_commands::WatchedRange;
 use hfs_laid_forks::HostFiles;
-use hfs_make::{NewImage, NewVolume};
+use hfs_make::{NewImage, NewItem, NewVolume, VolumeName, VolumeSize};
 use hfs_make_items::new_items;
 use hfs_source::{PlacedBytes, RangeBytes};
 use hfs_sources::HostTree;
@@ -25,6 +25,29 @@ use std::alloc::Global;
 struct MadeList {
     image: NewImage,
     put: PutItems,
+}
+
+/// The volume that is wanted for these items, its catalog with as many nodes as they want.
+fn wanted_volume(
+    name: VolumeName,
+    size: Option<VolumeSize>,
+    items: &[NewItem],
+    moment: u32,
+) -> NewVolume<'_>
+    ensures name { result.name ≡ name }
+    ensures size { result.size ≡ size }
+    ensures items { result.items.now ≡ items.now }
+    ensures moment { result.moment ≡ moment }
+    ensures once { result.catalog_times ≡ 1 }
+    ensures dated { moment < 2 ^ 32 }
+{
+    NewVolume {
+        name,
+        size,
+        items,
+        catalog_times: 1,
+        moment,
+    }
 }
 
 /// Puts what comes on a new volume, by all calls but those that write forks. Faults: those of [`make_volume`].
@@ -49,14 +72,7 @@ fn make_list<'a, T: HostTree>(
     let size = made_size(order)?;
     let Listed { items, digests } = list_all_new(alloc, tree, order)?;
     let new = new_items(alloc, &items)?;
-    let moment = order.now;
-    let wanted = NewVolume {
-        name,
-        size,
-        items: &new,
-        catalog_times: 1,
-        moment,
-    };
+    let wanted = wanted_volume(name, size, &new, order.now);
     let filled = match filled_image(alloc, &wanted, path, order, &items) {
         Ok(filled) => filled,
         Err(fault) => return Err(fault),
