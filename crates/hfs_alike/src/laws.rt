@@ -17,7 +17,7 @@ pub fn alike_wanting()
     ensures { AlikeWanting }
 {}
 
-/// Behind the entries of a journal they are the same so.
+/// After the entries of a journal they are the same so.
 pub fn alike_after()
     ensures { AlikeAfter }
 {}

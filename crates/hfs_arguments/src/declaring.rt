@@ -5,14 +5,14 @@ use clap::{Arg, ArgAction, Command, value_parser};
 use std::alloc::{AllocError, Global};
 
 impl Program {
-    /// The program's command, with its version and its own arguments, and no words yet. Error: want of memory.
+    /// The program's command, with its version and its own arguments, and no words yet. Error: out of memory.
     pub fn command<'a>(&self, alloc: Global) -> Result<Command<'a>, AllocError> {
         Ok(self.word.command(alloc)?.version(self.version))
     }
 }
 
 impl Word {
-    /// The word's command, with its arguments. Error: want of memory.
+    /// The word's command, with its arguments. Error: out of memory.
     pub fn command<'a>(&self, alloc: Global) -> Result<Command<'a>, AllocError> {
         let mut command = Ok(bare_command(alloc, self));
         for i in 0..self.arguments.len() {
@@ -22,7 +22,7 @@ impl Word {
     }
 }
 
-/// A command with one word more, the last in its help, where memory sufficed for both. Error: want of memory.
+/// A command with one word more, the last in its help, where memory sufficed for both. Error: out of memory.
 pub fn with_word<'a>(
     command: Result<Command<'a>, AllocError>,
     word: Result<Command<'a>, AllocError>,

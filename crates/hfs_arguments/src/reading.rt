@@ -34,7 +34,7 @@ impl Argument {
         matches.get_str(self.name)
     }
 
-    /// The texts of an argument of which there may be any number, in the order in which they are given. The only error is want of
+    /// The texts of an argument of which there may be any number, in the order in which they are given. Fails only when out of
     /// memory.
     pub fn texts<'a>(
         &self,

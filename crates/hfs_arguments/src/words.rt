@@ -15,7 +15,7 @@ pub struct Word {
     pub name: &'static str,
     /// What it does, in a line of help.
     pub about: &'static str,
-    /// What its help says behind its arguments.
+    /// What its help says after its arguments.
     pub after_help: Option<&'static str>,
     /// Its arguments, in the order of its help.
     pub arguments: &'static [Argument],

@@ -1,4 +1,4 @@
-//! The whole of a bag, and its halves: the payload, and the tag files behind it.
+//! The whole of a bag, and its halves: the payload, and the tag files after it.
 ghost use Rattle.std.specs.Prelude.{◌≡◌, ◌++◌, IfErr, IfOk, OnErr, OnOk};
 ghost use Rattle.hfs_shelves.specs.Entries.{IsBeginning};
 ghost use Rattle.hfs_source.specs.Images.{OfEach};
@@ -18,9 +18,9 @@ use crate::tags::give_tags;
 use hfs_shelves::Shelf;
 use std::alloc::Global;
 
-/// Gives a shelf the payload of a bag, in the order of the source's items, and answers what is kept of it for the tag files, which
-/// [`give_tag_files`] gives behind it. At a fault what was given is a beginning of the payload. Faults: the source's, the shelf's, memory was
-/// refused; `TooLarge`.
+/// Gives a shelf the payload of a bag, in the order of the source's items, and answers what is kept of it for the tag files,
+/// which [`give_tag_files`] gives after it. At a fault what was given is a beginning of the payload. Faults: the source's, the
+/// shelf's, memory was refused; `TooLarge`.
 pub fn give_payload<S: Shelf, B: BagSource>(
     alloc: Global,
     shelf: &mut S,

@@ -29,8 +29,9 @@ pub enum SourceFault {
     Memory,
 }
 
-/// A volume's items below the root, one after the other, each behind the folder that holds it, with the bytes of their forks in pieces. Contracts know
-/// the items by each image that has the bytes which were read; and they know which faults a source of this kind may answer.
+/// A volume's items below the root, one after the other, each after the folder that holds it, with the bytes of their forks in
+/// pieces. Contracts know the items by each image that has the bytes which were read; and they know which faults a source of this
+/// kind may answer.
 pub trait BagSource {
     /// The images that have the bytes which were read so far: over memory one, over a file each that it may be.
     ghost Holds: { Self → List ℕ → Type 0 };
@@ -56,14 +57,14 @@ pub trait BagSource {
             (λ image. HasRestarted (state self.old image) (state self.new image))) Fails }
         ensures narrows { OfEach (Holds self.new) (Holds self.old) };
 
-    /// What is told of the next item, or None behind the last one.
+    /// What is told of the next item, or None after the last one.
     fn next_item(&mut self) -> Result<Option<BagHead>, SourceFault>
         ensures taken { MatchResult result (λ head. OfEach (Holds self.new)
             (λ image. TakesItem (state self.old image) (state self.new image) head)) Fails }
         ensures fewer { IfOk result (IsFewer (items_left self.old) (items_left self.new)) }
         ensures narrows { OfEach (Holds self.new) (Holds self.old) };
 
-    /// Appends the path, below the payload, of the folder that holds the item that came last, with a slash behind it.
+    /// Appends the path, below the payload, of the folder that holds the item that came last, with a slash after it.
     fn push_above(&self, text: &mut String) -> Result<(), AllocError>
         ensures { OnOk result (OfEach (Holds self.now)
             (λ image. string_bytes text.new ≡ string_bytes text.old ++ (state self.now image).item.above)) };

@@ -37,7 +37,7 @@ impl<V: Copy + Drop> ByPath<V> {
         self.values.get(path).copied()
     }
 
-    /// Gives a path this value, in place of the one that it has. `Err` only where memory is wanting.
+    /// Gives a path this value, in place of the one that it has. `Err` only when out of memory.
     pub(crate) fn put(&mut self, path: Vec<u8>, value: V) -> Result<(), AllocError>
         ensures { OnOk result (Tells (told_of path.items value) self.old self.new) }
     {

@@ -3,7 +3,7 @@ ghost use Rattle.std.specs.Prelude.{◌≡◌, ◌++◌, IfOk};
 
 use std::alloc::{AllocError, Global};
 
-/// The bytes of a path that begins so, with this behind, which may be no text.
+/// The bytes of a path that begins so, with this after, which may be no text.
 pub(crate) fn path_behind(alloc: Global, front: &str, rest: &[u8]) -> Result<Vec<u8>, AllocError>
     ensures { IfOk result (λ path. path.items ≡ front.now ++ rest.now) }
 {

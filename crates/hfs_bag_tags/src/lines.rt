@@ -12,7 +12,7 @@ fn line_feed(text: &[u8]) -> Option<usize>
     text.iter().position(|byte| *byte == b'\n')
 }
 
-/// The first line of a text that isn't empty, and what stands behind it and its line feed.
+/// The first line of a text that isn't empty, and what stands after it and its line feed.
 pub fn next_line(text: &[u8]) -> (&[u8], &[u8])
     requires { 0 < length text.now }
     ensures lines { lines text.now ≡ result.0.now ∷ lines result.1.now }
@@ -24,7 +24,7 @@ pub fn next_line(text: &[u8]) -> (&[u8], &[u8])
     }
 }
 
-/// What stands behind a label with which a line begins.
+/// What stands after a label with which a line begins.
 fn behind_label<'a>(label: &[u8], line: &'a [u8]) -> Option<&'a [u8]>
     ensures { MatchOption result (behind_label label.now line.now ≡ None)
         (λ found. behind_label label.now line.now ≡ Some found.now) }

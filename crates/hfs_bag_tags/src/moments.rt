@@ -74,7 +74,7 @@ fn leap_days(year: u32, month: u32) -> u64
     }
 }
 
-/// The days from 1 January 1904 to that of a year so many years behind it: each fourth is a leap year, since 2000 is one.
+/// The days from 1 January 1904 to that of a year so many years after it: each fourth is a leap year, since 2000 is one.
 #[tactic(auto, using(crate::proofs::DaysCounted::years_counted))]
 fn days_of_years(years: u32) -> u64
     requires { years ≤ 139 }
@@ -134,7 +134,7 @@ fn is_time(text: &[u8]) -> bool
     two_at(11, text) < 24 && two_at(14, text) < 60 && two_at(17, text) < 60
 }
 
-/// The seconds behind midnight.
+/// The seconds after midnight.
 #[tactic(auto, unfolding(crate::specs::Moments::seconds_in))]
 fn seconds_in(text: &[u8]) -> u32
     requires { length text.now ≡ 19 }

@@ -21,8 +21,8 @@ fn middle(from: usize, to: usize) -> usize
     from + (to - from) / 2
 }
 
-/// The place of an index node's first record whose key is above this one, or behind the last. The search for the key goes on
-/// in the child of the record before it.
+/// The place of an index node's first record whose key is above this one, or after the last. The search for the key goes on in
+/// the child of the record before it.
 pub fn first_above<K: Key>(node: &NodeView<'_>, key: &K) -> usize
     requires index { Each (λ entry. K.is_index entry ≡ true) node.now.records }
     requires rising { IsRisingFor K.Key key.now node.now.records }

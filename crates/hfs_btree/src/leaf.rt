@@ -56,7 +56,7 @@ pub fn entry_in(bytes: &[u8; 512], place: usize) -> Option<&[u8]>
     }
 }
 
-/// The place of the first record whose key isn't below this one, or behind the last.
+/// The place of the first record whose key isn't below this one, or after the last.
 pub fn place_in<K: Key>(bytes: &[u8; 512], key: &K) -> usize
     requires { Each (λ entry. K.is_leaf entry ≡ true) (records_of (node_of bytes.now)) }
     ensures within { result ≤ length (records_of (node_of bytes.now)) }
@@ -74,8 +74,8 @@ pub fn place_in<K: Key>(bytes: &[u8; 512], key: &K) -> usize
     node.len()
 }
 
-/// Goes on to the next leaf where this one, which has `count` records, has none from the place on. Answers the place
-/// there, and how many leaves are at most behind.
+/// Goes on to the next leaf where this one, which has `count` records, has none from the place on. Answers the place there, and
+/// how many leaves are at most after.
 pub(crate) fn settle<K: Key, N: Nodes>(
     nodes: &N,
     bytes: &mut [u8; 512],

@@ -32,7 +32,7 @@ pub fn read_header<N: Nodes>(nodes: &N) -> Header
     }
 }
 
-/// The place of an index node's first record whose key is above this one, or behind the last, whatever the order of its keys.
+/// The place of an index node's first record whose key is above this one, or after the last, whatever the order of its keys.
 pub fn place_above<K: Key>(node: &NodeView<'_>, key: &K) -> usize
     requires { Each (λ entry. K.is_index entry ≡ true) node.now.records }
     ensures { result ≡ prefix_len (is_not_above K.Key key.now) node.now.records }
@@ -179,8 +179,8 @@ fn pair_in<K: Key>(alloc: Global, entry: &[u8]) -> Result<(K, Vec<u8>), AllocErr
 
 /// The first pair whose key is above this one, or None where there is none. The key itself need not be in the tree.
 ///
-/// It reads the header node, one node of each level, and at the end of a leaf the one behind it. It takes memory for
-/// the answer alone.
+/// It reads the header node, one node of each level, and at the end of a leaf the one after it. It takes memory for the answer
+/// alone.
 pub fn next_after<K: Key, N: Nodes>(
     alloc: Global,
     nodes: &N,

@@ -19,7 +19,7 @@ use std::marker::{Model, PhantomData};
 pub struct Pair<'a, K> {
     /// The key.
     pub key: K,
-    /// The bytes of the record behind the key.
+    /// The bytes of the record after the key.
     pub body: &'a [u8],
 }
 

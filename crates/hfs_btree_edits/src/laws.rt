@@ -8,7 +8,7 @@ pub fn insertions_take_few_nodes<K: Key>()
     ensures { InsertionsTakeFewNodes K K.Key }
 {}
 
-/// An edit leaves alone what stands in the file behind the tree's nodes.
+/// An edit leaves alone what stands in the file after the tree's nodes.
 pub fn edits_keep_the_rest<K: Key>()
     ensures { EditsKeepTheRest K K.Key }
 {}

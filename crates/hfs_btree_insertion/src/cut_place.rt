@@ -21,10 +21,10 @@ fn bytes_if(counts: bool, bytes: usize) -> usize
     if counts { bytes } else { 0 }
 }
 
-/// Whether a node with `size` bytes of records, to which one of `len` bytes comes, is cut behind the first `before` of them: the
-/// rest leaves room for the new one, and a cut behind the next record, of `here` bytes, would leave none, or parts that differ
-/// more. `come` is what the new one adds to the first part in both cuts. Where the parts differ as much in both, the cut is
-/// behind the next record if the new one comes behind that.
+/// Whether a node with `size` bytes of records, to which one of `len` bytes comes, is cut after the first `before` of them: the
+/// rest leaves room for the new one, and a cut after the next record, of `here` bytes, would leave none, or parts that differ
+/// more. `come` is what the new one adds to the first part in both cuts. Where the parts differ as much in both, the cut is after
+/// the next record if the new one comes after that.
 fn is_middle(before: usize, here: usize, come: usize, size: usize, len: usize) -> bool
     requires before { before ≤ size }
     requires here { here ≤ 142 }
@@ -79,8 +79,8 @@ fn half_place(node: &NodeView<'_>, size: usize, at: usize, len: usize) -> usize
     unreachable!()
 }
 
-/// The same, but that the last record of the level's last node goes to the new node alone where the new one comes behind it:
-/// so nodes are full where keys rise.
+/// The same, but that the last record of the level's last node goes to the new node alone where the new one comes after it: so
+/// nodes are full where keys rise.
 fn part_place(node: &NodeView<'_>, size: usize, at: usize, len: usize) -> usize
     requires size { size ≡ size_of node.now.records }
     requires over { 354 < size }

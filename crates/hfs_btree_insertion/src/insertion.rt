@@ -53,7 +53,7 @@ fn make_room<K: Key, S: NodesMut>(
 }
 
 /// Lowers index keys on the way to a key where some are to be lowered, and answers whether a record of `len` bytes with this key
-/// comes behind all others, and the last leaf has no room for it. Where none is, `low` is the leaf for the key, which was read
+/// comes after all others, and the last leaf has no room for it. Where none is, `low` is the leaf for the key, which was read
 /// into `bytes`.
 fn lower_way<K: Key, S: NodesMut>(
     alloc: Global,
@@ -83,9 +83,9 @@ fn lower_way<K: Key, S: NodesMut>(
 
 /// Puts the pair into the tree, none of whose keys is equal to its own in the order, and one of which is below it.
 ///
-/// A node that has no room is cut in two, and a root that is cut gets a new root above it; but where the record comes behind
-/// all others, the leaves stay, and it begins a new one. It takes nodes that are free: at most one for each level, and one for
-/// a new root. Where the leaf has room and no index key is to be lowered, which is
+/// A node that has no room is cut in two, and a root that is cut gets a new root above it; but where the record comes after all
+/// others, the leaves stay, and it begins a new one. It takes nodes that are free: at most one for each level, and one for a new
+/// root. Where the leaf has room and no index key is to be lowered, which is
 /// the rule, it goes down the tree once.
 ///
 /// Errors: `AllocError` where memory was refused. Then nothing is known of the nodes, which are to be thrown away.

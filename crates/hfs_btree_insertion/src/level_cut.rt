@@ -27,9 +27,9 @@ fn level_len<K: Key>(len: usize, above: u16) -> usize
     }
 }
 
-/// Cuts the child that a record of index node `parent` names, which stands so many levels above the leaves: its second part
-/// goes to node `m`, a stray one, and a record behind that one names it. The part on the way to the key has room for a record
-/// of `len` bytes.
+/// Cuts the child that a record of index node `parent` names, which stands so many levels above the leaves: its second part goes
+/// to node `m`, a stray one, and a record after that one names it. The part on the way to the key has room for a record of `len`
+/// bytes.
 fn cut_child<K: Key, S: NodesMut>(
     alloc: Global,
     nodes: &mut S,

@@ -42,7 +42,7 @@ impl<B: Blocks> Editing<'_, B> {
         }
     }
 
-    /// What CreateFileId makes of the volume. The only error is want of memory.
+    /// What CreateFileId makes of the volume. Fails only when out of memory.
     pub(crate) fn create_file_id(
         &self,
         alloc: Global,
@@ -73,7 +73,7 @@ impl<B: Blocks> Editing<'_, B> {
         Ok(Ok(self.change_to_id(patch, file.id, now)))
     }
 
-    /// What DeleteFileId makes of the volume. The only error is want of memory.
+    /// What DeleteFileId makes of the volume. Fails only when out of memory.
     pub(crate) fn delete_file_id(
         &self,
         alloc: Global,

@@ -59,7 +59,7 @@ impl<B: Blocks> Editing<'_, B> {
         }
     }
 
-    /// What SetEof makes of the volume. The only error is want of memory.
+    /// What SetEof makes of the volume. Fails only when out of memory.
     pub(crate) fn set_eof(
         &self,
         alloc: Global,
@@ -82,7 +82,7 @@ impl<B: Blocks> Editing<'_, B> {
         Ok(edit_of(edit))
     }
 
-    /// What WriteFork makes of the volume. The only error is want of memory.
+    /// What WriteFork makes of the volume. Fails only when out of memory.
     pub(crate) fn write_fork(
         &self,
         alloc: Global,

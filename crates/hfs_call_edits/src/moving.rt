@@ -36,7 +36,7 @@ impl<B: Blocks> Editing<'_, B> {
         choosing_moving::item_to_move(&self.nodes(), self.mdb, dir, name, new_dir)
     }
 
-    /// What CatMove makes of the volume. The only error is want of memory.
+    /// What CatMove makes of the volume. Fails only when out of memory.
     pub(crate) fn cat_move(
         &self,
         alloc: Global,

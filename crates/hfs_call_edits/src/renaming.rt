@@ -33,7 +33,7 @@ impl<B: Blocks> Editing<'_, B> {
         self.lacks_one()
     }
 
-    /// What Rename makes of the volume. The only error is want of memory.
+    /// What Rename makes of the volume. Fails only when out of memory.
     pub(crate) fn rename(
         &self,
         alloc: Global,

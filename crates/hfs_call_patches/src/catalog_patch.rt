@@ -32,7 +32,7 @@ pub(crate) fn open_catalog<'a, B: Blocks>(
     }
 }
 
-/// The patch of a catalog's nodes with these counts in the volume's master directory block. The only error is want of memory.
+/// The patch of a catalog's nodes with these counts in the volume's master directory block. Fails only when out of memory.
 pub(crate) fn close_catalog<B: Blocks>(
     below: &B,
     runs: &[Run],

@@ -54,7 +54,7 @@ fn without_file(mdb: &Mdb, dir: u32, free_blocks: u16, now: u32) -> Mdb
     }
 }
 
-/// The patch in which the bits of the extents' blocks are clear. The only error is want of memory.
+/// The patch in which the bits of the extents' blocks are clear. Fails only when out of memory.
 fn clear_bits<B: Blocks>(
     alloc: Global,
     below: &B,
@@ -77,7 +77,7 @@ fn clear_bits<B: Blocks>(
     Ok(patch)
 }
 
-/// The patch in which the extents tree has no record of this file. The only error is want of memory.
+/// The patch in which the extents tree has no record of this file. Fails only when out of memory.
 fn drop_records<B: Blocks>(
     alloc: Global,
     below: &B,
@@ -98,8 +98,8 @@ fn drop_records<B: Blocks>(
     Ok(nodes.patch)
 }
 
-/// The patch in which the item under a key went from the catalog, and then its folder got so many children. The only error is
-/// want of memory.
+/// The patch in which the item under a key went from the catalog, and then its folder got so many children. Fails only when out
+/// of memory.
 fn drop_item_over<B: Blocks>(
     alloc: Global,
     below: &B,
@@ -129,7 +129,7 @@ fn drop_item_over<B: Blocks>(
 }
 
 /// The patch that deletes a file, of this key and this record, from its folder, which has so many children; and the volume's
-/// counts afterwards. The only error is want of memory.
+/// counts afterwards. Fails only when out of memory.
 pub fn patch_delete_file<B: Blocks>(
     alloc: Global,
     below: &B,

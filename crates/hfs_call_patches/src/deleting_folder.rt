@@ -28,8 +28,8 @@ pub fn without_folder(mdb: &Mdb, dir: u32, now: u32) -> Mdb
     }
 }
 
-/// The patch that deletes a folder, of this key and this record, from its own, which has so many children. The only error is
-/// want of memory.
+/// The patch that deletes a folder, of this key and this record, from its own, which has so many children. Fails only when out of
+/// memory.
 pub fn patch_delete_folder<B: Blocks>(
     alloc: Global,
     below: &B,

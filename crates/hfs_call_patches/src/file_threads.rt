@@ -17,7 +17,7 @@ use hfs_catalog_edits::{add_thread, drop_thread, set_record};
 use hfs_fields::{CatKey, FileRecord, ThreadKind};
 use std::alloc::{AllocError, Global};
 
-/// Makes the thread of a file that has none, and sets the bit. The only error is want of memory.
+/// Makes the thread of a file that has none, and sets the bit. Fails only when out of memory.
 pub(crate) fn add_file_thread<N: NodesMut>(
     alloc: Global,
     nodes: &mut N,
@@ -51,7 +51,7 @@ pub(crate) fn add_file_thread<N: NodesMut>(
     )
 }
 
-/// Drops the thread of a file, and clears the bit. The only error is want of memory.
+/// Drops the thread of a file, and clears the bit. Fails only when out of memory.
 pub(crate) fn drop_file_thread<N: NodesMut>(
     alloc: Global,
     nodes: &mut N,

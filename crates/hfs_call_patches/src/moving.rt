@@ -49,7 +49,7 @@ pub fn counts_moved(mdb: &Mdb, moving: &Moving, now: u32) -> Mdb
     }
 }
 
-/// The patch that puts an item under another folder. The only error is want of memory.
+/// The patch that puts an item under another folder. Fails only when out of memory.
 pub fn patch_move<B: Blocks>(
     alloc: Global,
     below: &B,

@@ -19,8 +19,8 @@ use hfs_catalog_edits::set_record_at;
 use hfs_fields::{CatKey, Mdb};
 use std::alloc::{AllocError, Global};
 
-/// The patch that puts an item's record in the place of the one under this key, which is of its kind and stands at this
-/// place, and these counts into the master directory block. It has that block and one node. The only error is want of memory.
+/// The patch that puts an item's record in the place of the one under this key, which is of its kind and stands at this place,
+/// and these counts into the master directory block. It has that block and one node. Fails only when out of memory.
 pub(crate) fn patch_record<B: Blocks>(
     alloc: Global,
     below: &B,

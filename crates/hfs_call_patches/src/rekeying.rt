@@ -24,7 +24,7 @@ pub struct Rekeying {
 }
 
 /// The nodes of a sound volume's catalog, over a patch in which an item stands under its other key, and its thread, if it has
-/// one, leads there. The only error is want of memory.
+/// one, leads there. Fails only when out of memory.
 pub(crate) fn open_rekeyed<'a, B: Blocks>(
     alloc: Global,
     below: &'a B,

@@ -49,8 +49,8 @@ pub(crate) fn at_time(mdb: &Mdb, now: u32) -> Mdb
     }
 }
 
-/// The patch that gives a file that SetFInfo chooses, of this key and this record, which stands at this
-/// place, other first Finder bytes. The only error is want of memory.
+/// The patch that gives a file that SetFInfo chooses, of this key and this record, which stands at this place, other first Finder
+/// bytes. Fails only when out of memory.
 pub fn patch_set_f_info<B: Blocks>(
     alloc: Global,
     below: &B,
@@ -85,8 +85,8 @@ pub fn patch_set_f_info<B: Blocks>(
     )
 }
 
-/// The patch that gives a file that SetCatInfo chooses, of this key and this record, which stands at this
-/// place, other dates and Finder bytes. The only error is want of memory.
+/// The patch that gives a file that SetCatInfo chooses, of this key and this record, which stands at this place, other dates and
+/// Finder bytes. Fails only when out of memory.
 pub fn patch_set_file_info<B: Blocks>(
     alloc: Global,
     below: &B,
@@ -126,8 +126,8 @@ pub fn patch_set_file_info<B: Blocks>(
     )
 }
 
-/// The patch that gives a folder that SetCatInfo chooses, of this key and this record, which stands at this
-/// place, other dates and Finder bytes. The only error is want of memory.
+/// The patch that gives a folder that SetCatInfo chooses, of this key and this record, which stands at this place, other dates
+/// and Finder bytes. Fails only when out of memory.
 pub fn patch_set_folder_info<B: Blocks>(
     alloc: Global,
     below: &B,
@@ -167,8 +167,8 @@ pub fn patch_set_folder_info<B: Blocks>(
     )
 }
 
-/// The patch that locks a file that SetFLock chooses, of this key and this record, which stands at this
-/// place, or unlocks it. The only error is want of memory.
+/// The patch that locks a file that SetFLock chooses, of this key and this record, which stands at this place, or unlocks it.
+/// Fails only when out of memory.
 pub fn patch_set_lock<B: Blocks>(
     alloc: Global,
     below: &B,

@@ -35,7 +35,7 @@ impl CatalogRecord {
         &self.key
     }
 
-    /// The bytes behind the key.
+    /// The bytes after the key.
     pub fn body(&self) -> &[u8]
         ensures { result.now ≡ self.now.1 }
     {

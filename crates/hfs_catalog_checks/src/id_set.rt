@@ -38,7 +38,7 @@ impl IdSet {
         self.ids.contains(&id)
     }
 
-    /// Puts an ID into the set. `Err` only where memory is wanting.
+    /// Puts an ID into the set. `Err` only when out of memory.
     pub(crate) fn add(&mut self, id: u32) -> Result<(), AllocError>
         ensures { OnOk result (AddsNumber id self.old self.new) }
     {

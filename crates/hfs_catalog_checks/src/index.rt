@@ -51,8 +51,8 @@ impl<'a> Model for IndexedCatalog<'a> {
 }
 
 impl<'a> IndexedCatalog<'a> {
-    /// The catalog with these records. It reads each once, and takes memory for an index of the items. `Err` only where
-    /// memory is wanting.
+    /// The catalog with these records. It reads each once, and takes memory for an index of the items. `Err` only when out of
+    /// memory.
     pub fn of(alloc: Global, records: &'a [CatalogRecord]) -> Result<IndexedCatalog<'a>, AllocError>
         ensures { IfOk result (λ catalog. catalog ≡ records.now) }
     {

@@ -109,8 +109,8 @@ fn is_parent_right(
     Ok(true)
 }
 
-/// The number of the first record of an item, other than the root, whose parent is no folder, or whose chain of parents
-/// does not reach the root. What one chain shows is known for the next. `Err` only where memory is wanting.
+/// The number of the first record of an item, other than the root, whose parent is no folder, or whose chain of parents does not
+/// reach the root. What one chain shows is known for the next. `Err` only when out of memory.
 pub(crate) fn first_wrong_parent(
     alloc: Global,
     catalog: &IndexedCatalog<'_>,

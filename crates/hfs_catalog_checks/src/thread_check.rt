@@ -64,7 +64,7 @@ fn first_unthreaded_by(ids: &IdSet, catalog: &[CatalogRecord]) -> Option<usize>
     None
 }
 
-/// The number of the first folder's record without a thread. `Err` only where memory is wanting.
+/// The number of the first folder's record without a thread. `Err` only when out of memory.
 pub(crate) fn first_unthreaded(
     alloc: Global,
     catalog: &[CatalogRecord],

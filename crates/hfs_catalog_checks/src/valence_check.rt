@@ -20,7 +20,7 @@ struct Siblings {
     count: usize,
 }
 
-/// Counts a record under its parent, if it is a file's or a folder's: with its siblings, where it stands behind them.
+/// Counts a record under its parent, if it is a file's or a folder's: with its siblings, where it stands after them.
 fn count_child(
     counts: &mut Numbers,
     siblings: Siblings,
@@ -43,8 +43,8 @@ fn count_child(
     Ok(Siblings { parent, count: 1 })
 }
 
-/// How many files and folders have each ID as their parent. A count is looked up once for children that stand together.
-/// `Err` only where memory is wanting.
+/// How many files and folders have each ID as their parent. A count is looked up once for children that stand together. `Err`
+/// only when out of memory.
 pub fn child_counts(alloc: Global, catalog: &[CatalogRecord]) -> Result<Numbers, AllocError>
     ensures { IfOk result (λ counts. (id : ℕ) → count_of counts id ≡ valence_of catalog.now id) }
 {
@@ -88,10 +88,10 @@ fn first_wrong_valence(counts: &Numbers, catalog: &[CatalogRecord]) -> Option<us
     None
 }
 
-/// The number of the first record, from 0 on, of a folder whose valence (dirVal) is not the number of the files' and
-/// folders' records under its ID. None where each valence is right.
+/// The number of the first record, from 0 on, of a folder whose valence (dirVal) is not the number of the files' and folders'
+/// records under its ID. None where each valence is right.
 ///
-/// It reads each record twice, and takes memory for a count for each parent. `Err` only where memory is wanting.
+/// It reads each record twice, and takes memory for a count for each parent. `Err` only when out of memory.
 #[tactic(auto, unfolding(crate::specs::Faults::valence_fault))]
 pub fn valence_fault(alloc: Global, catalog: &[CatalogRecord]) -> Result<Option<usize>, AllocError>
     ensures { IfOk result (λ fault. fault ≡ valence_fault catalog.now) }

@@ -43,7 +43,7 @@ fn check_contents<B: Blocks, E: Nodes, C: Nodes>(
     check_numbers(alloc, blocks, mdb, extents, &records)
 }
 
-/// The checks behind those of the two trees, which lie in these runs. Ok gives all extents that somebody owns.
+/// The checks after those of the two trees, which lie in these runs. Ok gives all extents that somebody owns.
 fn check_behind_trees<B: Blocks>(
     alloc: Global,
     blocks: &B,

@@ -11,8 +11,7 @@ pub fn sound_images_are_lawful()
     ensures { SoundImagesAreLawful }
 {}
 
-/// Of an image that agrees with a base, each byte in no block that calls change is the base's, also behind the last whole
-/// block.
+/// Of an image that agrees with a base, each byte in no block that calls change is the base's, also after the last whole block.
 pub fn bytes_stay()
     ensures { BytesStay }
 {}

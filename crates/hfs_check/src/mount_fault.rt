@@ -29,11 +29,11 @@ pub enum MountFault {
     Check {
         /// 3 to 12.
         number: u8,
-        /// Where it first fails, counted from 0. Of check 3 or 4 it is the number of a node, and 0 where what fails is no
-        /// node of the tree's levels. Of 5 to 9 it is the number of a record among those of the catalog's leaves, and how
-        /// many these are where what fails is none of them. Of 10 it is the number of the count, 1 to 4. Of 11 it is the
-        /// number of a record among those of the catalog's leaves and, behind these, of the extents tree's leaves. Of 12 it
-        /// is the number of an allocation block, and how many these are where the number of free ones is wrong.
+        /// Where it first fails, counted from 0. Of check 3 or 4 it is the number of a node, and 0 where what fails is no node of
+        /// the tree's levels. Of 5 to 9 it is the number of a record among those of the catalog's leaves, and how many these are
+        /// where what fails is none of them. Of 10 it is the number of the count, 1 to 4. Of 11 it is the number of a record
+        /// among those of the catalog's leaves and, after these, of the extents tree's leaves. Of 12 it is the number of an
+        /// allocation block, and how many these are where the number of free ones is wrong.
         place: u64,
     },
     /// Memory was refused, which says nothing of the image.

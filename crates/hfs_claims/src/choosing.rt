@@ -46,8 +46,8 @@ fn some_of(alloc: Global, extent: Extent) -> Result<Vec<Extent>, AllocError>
     Ok(extents)
 }
 
-/// So many of the blocks that are free beside a row's: of the lowest run that has them all; where none has, of the runs by
-/// their lengths. Where too few are free, how many are. The only other error is want of memory.
+/// So many of the blocks that are free beside a row's: of the lowest run that has them all; where none has, of the runs by their
+/// lengths. Where too few are free, how many are. The only other error is running out of memory.
 fn pieces_beside<B: Blocks>(
     alloc: Global,
     bitmap: &Bitmap<'_, B>,

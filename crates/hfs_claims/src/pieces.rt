@@ -64,8 +64,8 @@ fn sort_by_length(runs: &mut Vec<Extent>)
     runs.sort_unstable_by(|x, y| by_length(x, y));
 }
 
-/// Adds `count` blocks of the lowest run that has so many; where none has, the first `count` of the runs by their lengths. The
-/// only error is want of memory.
+/// Adds `count` blocks of the lowest run that has so many; where none has, the first `count` of the runs by their lengths. Fails
+/// only when out of memory.
 pub(crate) fn pieces_of(
     alloc: Global,
     mut runs: Vec<Extent>,

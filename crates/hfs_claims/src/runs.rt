@@ -51,7 +51,8 @@ fn is_taken(bytes: &[u8; 512], taken: Extent, block: u16) -> bool
     is_set(bytes, usize::from(block % BITS)) || is_in(taken, block)
 }
 
-/// Passes the blocks of a byte of the bitmap one by one: how many free ones stand behind the last run. The only error is want of memory.
+/// Passes the blocks of a byte of the bitmap one by one: how many free ones stand after the last run. Fails only when out of
+/// memory.
 fn pass_bits<B: Blocks>(
     runs: &mut Vec<Extent>,
     before: u16,
@@ -83,8 +84,8 @@ fn pass_bits<B: Blocks>(
     Ok(free)
 }
 
-/// Passes the blocks of a byte of the bitmap, at once where all of them are in use, or all free: how many free ones stand behind the
-/// last run. The only error is want of memory.
+/// Passes the blocks of a byte of the bitmap, at once where all of them are in use, or all free: how many free ones stand after
+/// the last run. Fails only when out of memory.
 fn pass_byte<B: Blocks>(
     runs: &mut Vec<Extent>,
     before: u16,
@@ -138,8 +139,8 @@ pub(crate) fn free_runs_beside<B: Blocks>(
     Ok(runs)
 }
 
-/// The runs of free allocation blocks, in order, each as long as can be. Each block of the bitmap is read once. The only error
-/// is want of memory.
+/// The runs of free allocation blocks, in order, each as long as can be. Each block of the bitmap is read once. Fails only when
+/// out of memory.
 ///
 /// Source: Inside Macintosh: Files, chapter 2, 'Volume bitmap'.
 pub fn free_runs<B: Blocks>(

@@ -63,7 +63,7 @@ const COMPARE: Argument = Argument {
     excludes: &["no-digest"],
 };
 
-/// What the help says behind the arguments.
+/// What the help says after the arguments.
 const COLLECTIONS: &str = "For each image a line is printed: its path, how many volumes it has, how
 many of these are refused, how many files there are, and how many of
 them are damaged. An image that was collected before, under the same

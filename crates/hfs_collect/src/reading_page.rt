@@ -29,7 +29,7 @@ const BASE: Argument = Argument {
     excludes: &[],
 };
 
-/// What the help says behind the arguments.
+/// What the help says after the arguments.
 const PAGE_HELP: &str = "The page is one self-contained HTML document: it loads nothing from
 elsewhere, and can be put on a web site as it is. It has a line for each
 volume: its image, its name, how many files there are and how many of

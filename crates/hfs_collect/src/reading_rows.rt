@@ -51,7 +51,7 @@ const NO_DIGEST: Argument = Argument {
     excludes: &[],
 };
 
-/// What the help says behind the arguments.
+/// What the help says after the arguments.
 const ROWS_HELP: &str = "The rows are those that the database would have, with keys that hold
 without one: image_path and image_sha256 of volumes and items, and
 volume_number of items. Without --table an image's lines come together,

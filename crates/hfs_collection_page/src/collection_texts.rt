@@ -5,7 +5,7 @@
 pub struct CollectionTexts<'a> {
     /// In the head, what pages of disks wear too.
     pub shared_style: &'a [u8],
-    /// Behind that, the style of such a page alone.
+    /// After that, the style of such a page alone.
     pub style: &'a [u8],
     /// Before the volumes: links to both parts, a heading, and the field of the search.
     pub columns: &'a [u8],

@@ -101,7 +101,7 @@ fn push_volume(
     push_bytes(page, b"</li>\n")
 }
 
-/// Appends what stands before the line at this place: behind each 100 lines a list ends, and the next one begins.
+/// Appends what stands before the line at this place: after each 100 lines a list ends, and the next one begins.
 #[tactic(auto, unfolding(crate::specs::Lines::break_text))]
 fn push_break(page: &mut Vec<u8>, place: usize) -> Result<(), AllocError>
     ensures { OnOk result (Gains page.old page.new (break_text place)) }

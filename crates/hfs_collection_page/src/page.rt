@@ -44,7 +44,7 @@ fn push_front(
     push_bytes(page, texts.columns)
 }
 
-/// Appends all that stands behind the lines of contents.
+/// Appends all that stands after the lines of contents.
 fn push_end(page: &mut Vec<u8>, texts: &CollectionTexts<'_>) -> Result<(), AllocError>
     ensures { OnOk result (Gains page.old page.new (end_text texts.now)) }
 {
@@ -76,7 +76,7 @@ fn push_page(
 }
 
 /// The page of a collection with these rows of volumes and of contents, each once, in their order. A row has the texts that a
-/// listing of its database gives; what is no text is left out. The only error is want of memory.
+/// listing of its database gives; what is no text is left out. Fails only when out of memory.
 pub fn collection_page(
     alloc: Global,
     texts: &CollectionTexts<'_>,

@@ -83,7 +83,7 @@ fn put_piece<W: Write>(
     put_digits(writer, replies.bytes_to(piece.asked), room)
 }
 
-/// Writes the pieces of the answers, and what stands behind them.
+/// Writes the pieces of the answers, and what stands after them.
 fn put_pieces<W: Write>(writer: &mut W, answers: &Answers, room: &mut [u8]) -> io::Result<()>
     requires { 2 ≤ length room.old }
     ensures ok { OnOk result (Appends (W.contents writer.old) (W.contents writer.new) (text_of_pieces answers.now)) }

@@ -75,7 +75,7 @@ impl Status {
 pub enum Fault<'a> {
     /// The words are no UTF-8.
     WordsNotText,
-    /// The image is refused, and not for want of memory.
+    /// The image is refused, and not for lack of memory.
     Refused(MountFault),
     /// A file has fewer volumes than this number, which is counted from 1.
     NoVolume(u64),
@@ -103,7 +103,7 @@ pub enum Fault<'a> {
     NoPlace,
     /// A file, or `stdin`, was not read.
     CannotRead(&'a str),
-    /// A read of a file failed behind a part of what was printed of it, so that nothing more is printed.
+    /// A read of a file failed after a part of what was printed of it, so that nothing more is printed.
     BrokenOff(&'a str),
     /// A file was not written.
     CannotWrite(&'a str),

@@ -91,9 +91,9 @@ fn write_table<W: Write>(
     put_piece(writer, &mut text)
 }
 
-/// Writes the table of all items of each image that has the bytes which were read of one that was opened: a line for each, the root first, behind
-/// each folder its children in name order, and behind each child what lies in it. Faults: `OutputFailed` and `NoMemory`, and then a part of
-/// the table may have gone out, from its beginning on.
+/// Writes the table of all items of each image that has the bytes which were read of one that was opened: a line for each, the
+/// root first, after each folder its children in name order, and after each child what lies in it. Faults: `OutputFailed` and
+/// `NoMemory`, and then a part of the table may have gone out, from its beginning on.
 pub fn write_items<W: Write, S: PlacedBlocks + Drop>(
     alloc: Global,
     writer: &mut W,

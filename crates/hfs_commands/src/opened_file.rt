@@ -34,8 +34,8 @@ impl<F: Read + Seek> StoredFile<F> {
         }
     }
 
-    /// The same bytes once more, where all are held: no byte is copied. None of a file, which is opened anew. The only error is want of
-    /// memory.
+    /// The same bytes once more, where all are held: no byte is copied. None of a file, which is opened anew. Fails only when out
+    /// of memory.
     pub fn again(&self) -> Result<Option<StoredFile<F>>, AllocError>
         ensures held { IfOk result (λ found. IfSome found (λ again. stored_bytes again ≡ stored_bytes self.now)) }
         ensures whole { IfOk result (λ found. IfNone found (stored_bytes self.now ≡ None)) }

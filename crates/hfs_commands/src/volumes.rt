@@ -176,9 +176,10 @@ fn push_lines<S: ReadAt>(
     Ok(())
 }
 
-/// The lines of the volumes that lie in a file of `len` bytes, or in as many bytes of user data, counted from 1: number, how it lies, the byte where it
-/// begins, its bytes, the plain text of its name, with tabs between; behind these whether a disk copy's sum is right, whether there is no volume in the
-/// range, and how many raw sectors have no user data, where that isn't 0. None where there is no line. Errors: a read failed, memory was refused.
+/// The lines of the volumes that lie in a file of `len` bytes, or in as many bytes of user data, counted from 1: number, how it
+/// lies, the byte where it begins, its bytes, the plain text of its name, with tabs between; after these whether a disk copy's
+/// sum is right, whether there is no volume in the range, and how many raw sectors have no user data, where that isn't 0. None
+/// where there is no line. Errors: a read failed, memory was refused.
 pub fn volume_lines<S: ReadAt>(
     alloc: Global,
     source: &mut S,

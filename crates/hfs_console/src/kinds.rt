@@ -48,7 +48,7 @@ fn filled(len: u64) -> u64 {
     len.div_ceil(HEAD).saturating_mul(HEAD)
 }
 
-/// Where the resource fork of a file begins that is MacBinary: behind both headers and the data fork.
+/// Where the resource fork of a file begins that is MacBinary: after both headers and the data fork.
 fn resource_fork<F: Read + Seek>(part: &mut Part<F>) -> u64 {
     let lengths = piece_at(part, 83);
     let second = piece_at(part, 120);
@@ -88,7 +88,7 @@ fn part_place<F: Read + Seek>(part: &mut Part<F>, kind: u32) -> Option<u64> {
     None
 }
 
-/// The creator in the Finder's bytes of an AppleDouble file, behind the type; zeros where it has none.
+/// The creator in the Finder's bytes of an AppleDouble file, after the type; zeros where it has none.
 fn creator_in<F: Read + Seek>(part: &mut Part<F>) -> Piece {
     match part_place(part, FINDER_BYTES) {
         Some(finder) => piece_at(part, finder.saturating_add(4)),

@@ -14,7 +14,7 @@ use std::io;
 /// Why words give no typed command.
 #[derive(Drop)]
 pub enum WordsFault {
-    /// Clap says why: help that was asked for, refused words, or want of memory, told apart by its kind.
+    /// Clap says why: help that was asked for, refused words, or out of memory, told apart by its kind.
     Clap(Error),
     /// Clap took words that lack what is read of them, under this name: the program's own fault.
     NoValue(&'static str),
@@ -72,8 +72,8 @@ pub fn refused(rt: &HostRuntime, fault: &Fault<'_>) -> u8
     fault.status().after(print_fault(rt, fault))
 }
 
-/// Prints a fault alone on its line, and what a refusal means on standard error. After standard
-/// output failed nothing more is printed, and behind a part of a fork the fault goes to standard error.
+/// Prints a fault alone on its line, and what a refusal means on standard error. After standard output failed nothing more is
+/// printed, and after a part of a fork the fault goes to standard error.
 fn print_fault(rt: &HostRuntime, fault: &Fault<'_>) -> io::Result<()> {
     match fault {
         Fault::OutputFailed => Ok(()),

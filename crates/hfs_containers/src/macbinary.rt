@@ -29,7 +29,7 @@ fn filled(len: u16) -> u64
     (u64::from(len) + 127) / 128 * 128
 }
 
-/// The data fork of a file of `len` bytes with this header: behind it, and behind a second one whose length it tells.
+/// The data fork of a file of `len` bytes with this header: after it, and after a second one whose length it tells.
 #[tactic(auto, unfolding(crate::specs::MacBinary::data_fork_of))]
 fn data_fork_of(len: u64, head: &[u8; 128]) -> Option<ByteRange>
     ensures fork { result ≡ data_fork_of len head.now }

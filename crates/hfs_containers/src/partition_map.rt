@@ -14,7 +14,7 @@ use hfs_sparse::SparseFault;
 /// The letters PM, with which each entry begins.
 const SIGNATURE: u16 = 0x504d;
 
-/// The type of a partition that holds an HFS volume, with the zero byte behind it.
+/// The type of a partition that holds an HFS volume, with the zero byte after it.
 const HFS_TYPE: &[u8] = b"Apple_HFS\0";
 
 /// The most entries that are looked at.

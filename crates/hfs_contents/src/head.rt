@@ -13,7 +13,7 @@ use std::io;
 /// How many bytes are read: what tells where volumes lie stands before that.
 const HEAD: u64 = 131_072;
 
-/// The first bytes of an image of `len` bytes. Contracts see zeros behind them, which can't be read.
+/// The first bytes of an image of `len` bytes. Contracts see zeros after them, which can't be read.
 #[derive(Drop)]
 pub(crate) struct HeadBytes<'a> {
     pub(crate) bytes: &'a [u8],

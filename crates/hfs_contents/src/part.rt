@@ -52,7 +52,7 @@ fn content_len(layout: Layout, len: u64) -> u64
     }
 }
 
-/// Where a range is taken to begin: one of no bytes may lie anywhere, behind the end too.
+/// Where a range is taken to begin: one of no bytes may lie anywhere, past the end too.
 #[tactic(auto, using(crate::proofs::PartLemmas::empty_range))]
 fn start_of(range: ByteRange) -> u64
     ensures { (content : List ℕ) → bytes_in (range_of result range.len) content ≡ bytes_in range content }

@@ -33,7 +33,7 @@ fn first_row<S: Alter>(
     }
 }
 
-/// The digest that a row has behind the number of bytes, where it has one.
+/// The digest that a row has after the number of bytes, where it has one.
 #[tactic(auto, using(crate::proofs::FaultLemmas::unread_at))]
 fn digest_in(row: &Row) -> Result<Option<String>, DatabaseFault>
     ensures fault { IfErr result (IsUnreadIn row.now) }
@@ -99,8 +99,8 @@ pub fn known_image<S: Alter>(
     }
 }
 
-/// The first path of the collection that comes behind this one in the order of their bytes, or the first of all. None where
-/// there is none. Faults: as of [`known_image`].
+/// The first path of the collection that comes after this one in the order of their bytes, or the first of all. None where there
+/// is none. Faults: as of [`known_image`].
 #[tactic(auto, using(crate::proofs::FaultLemmas::told_unanswered, crate::proofs::FaultLemmas::told_unread), unfolding(crate::specs::Asking::next_path_text))]
 pub fn next_path<S: Alter>(
     collection: &mut Collection<S>,

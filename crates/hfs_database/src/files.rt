@@ -95,7 +95,7 @@ fn place_of<R: Files>(rt: &R, path: &str) -> Place {
 }
 
 impl DatabaseFiles {
-    /// Those of the database at this path. The only error is want of memory.
+    /// Those of the database at this path. Fails only when out of memory.
     pub fn of<R: Files + AllocGlobal>(rt: &R, path: &str) -> Result<DatabaseFiles, AllocError> {
         let alloc = rt.alloc();
         let database = opened_path(rt, path)?;

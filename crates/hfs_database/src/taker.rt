@@ -111,7 +111,7 @@ impl<S: Alter> RowTaker for DatabaseTaker<'_, S> {
     }
 }
 
-/// Puts all rows of a source, one behind the other, within the transaction. Faults: the source's; `CannotWrite` where a row was
+/// Puts all rows of a source, one after the other, within the transaction. Faults: the source's; `CannotWrite` where a row was
 /// not taken, and the source told nothing of it.
 pub(crate) fn put_rows<S: Alter, R: RowSource>(
     alloc: Global,

@@ -40,7 +40,7 @@ pub(crate) fn push_parameters<'a>(
     Ok(())
 }
 
-/// A row's parameters behind the number of the row that it belongs to. Faults: as of one, `NoMemory`.
+/// A row's parameters after the number of the row that it belongs to. Faults: as of one, `NoMemory`.
 pub(crate) fn parameters_under<'a>(
     alloc: Global,
     owner: i64,

@@ -38,7 +38,7 @@ impl DigestWriter {
         }
     }
 
-    /// Takes these bytes, behind those that it was given before.
+    /// Takes these bytes, after those that it was given before.
     pub fn add(&mut self, bytes: &[u8])
         ensures { self.new ≡ self.old ++ bytes.now }
     {

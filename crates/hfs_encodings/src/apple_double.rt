@@ -26,7 +26,8 @@ impl AppleDoubleHead {
     /// How many bytes stand before the resource fork.
     pub const LENGTH: usize = 82;
 
-    /// The first 82 bytes of the file. With a resource fork of that length behind them they are the whole of it, from which both come back.
+    /// The first 82 bytes of the file. With a resource fork of that length after them they are the whole of it, from which both
+    /// come back.
     pub fn bytes(&self) -> [u8; 82]
         ensures bytes { result ≡ apple_double_head_bytes self.now }
         ensures back { (fork : List ℕ) → length fork ≡ self.now.resource_length → HoldsAppleDouble self.now fork (result ++ fork) }

@@ -45,7 +45,7 @@ impl MacBinaryHead {
     /// How many bytes the header has.
     pub const LENGTH: usize = 128;
 
-    /// The fields that the check is made of, one behind the other.
+    /// The fields that the check is made of, one after the other.
     #[tactic(auto, unfolding(crate::specs::MacBinary::macbinary_fields))]
     fn laid(&self) -> FieldRow
         ensures bytes { result ≡ macbinary_fields self.now }
@@ -80,8 +80,8 @@ impl MacBinaryHead {
         fields
     }
 
-    /// The header's 128 bytes. With both forks behind them, each filled up, they are the whole file, from which all comes back where the
-    /// file has a name.
+    /// The header's 128 bytes. With both forks after them, each filled up, they are the whole file, from which all comes back
+    /// where the file has a name.
     pub fn bytes(&self) -> [u8; 128]
         ensures bytes { result ≡ macbinary_head_bytes self.now }
         ensures back { (data_fork resource_fork : List ℕ) → 1 ≤ length self.now.name → length data_fork ≡ self.now.data_length → length resource_fork ≡ self.now.resource_length

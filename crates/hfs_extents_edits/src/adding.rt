@@ -30,7 +30,7 @@ fn has_room(header: &Header) -> bool
     header.records < 22
 }
 
-/// The least pair of the tree, if this key is below its own. The only error is want of memory.
+/// The least pair of the tree, if this key is below its own. Fails only when out of memory.
 fn least_above<N: Nodes>(
     alloc: Global,
     nodes: &N,
@@ -49,7 +49,7 @@ fn least_above<N: Nodes>(
     }
 }
 
-/// Puts a record below all others into the tree: it takes the place of the least one, which is inserted behind it.
+/// Puts a record below all others into the tree: it takes the place of the least one, which is inserted after it.
 fn add_below<S: NodesMut>(
     alloc: Global,
     nodes: &mut S,

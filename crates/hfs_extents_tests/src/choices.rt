@@ -87,7 +87,7 @@ fn is_refused(alloc: Global, front: &[u8; 8], wanted: u32, free: u32) -> Result<
 /// Blocks 0 to 41 are marked, 42 to 57 free.
 const NEW: [u8; 8] = [0xff, 0xff, 0xff, 0xff, 0xff, 0xc0, 0, 0];
 
-/// All 58 blocks are marked, and the bits behind them clear.
+/// All 58 blocks are marked, and the bits after them clear.
 const FULL: [u8; 8] = [0xff, 0xff, 0xff, 0xff, 0xff, 0xff, 0xff, 0xc0];
 
 /// Of blocks 42 to 57 these are free: 43, 45, 47, 49, 51.

@@ -37,7 +37,7 @@ fn the_first_blocks(rt: HostRuntime) -> Result<(), Fail> {
     Ok(())
 }
 
-/// The blocks behind the first `count` of that record.
+/// The blocks after the first `count` of that record.
 fn behind(alloc: Global, count: u32) -> Result<Vec<Extent>, AllocError> {
     if !are_within(&RECORD, 65_535) {
         return Ok(Vec::new(alloc));

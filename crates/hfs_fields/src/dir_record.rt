@@ -78,7 +78,7 @@ impl DirRecord {
         })
     }
 
-    /// The record's fields, one behind the other.
+    /// The record's fields, one after the other.
     #[tactic(auto, unfolding(crate::specs::RecordForms::dir_record_bytes))]
     fn laid(&self) -> FieldRow
         ensures bytes { result ≡ dir_record_bytes self.now }

@@ -1,4 +1,4 @@
-//! The bytes of a record or a block while its fields are laid one behind the other.
+//! The bytes of a record or a block while its fields are laid one after the other.
 ghost use Rattle.std.specs.Prelude.{◌≡◌, ◌+◌, ◌^◌, ◌<◌, ◌≤◌, ◌↔◌, [], ◌∷◌, ◌++◌, length, replicate, IsTrue};
 ghost use Rattle.byteorder.specs.Endian.{big_bytes};
 ghost use Rattle.hfs_fields.specs.Laid.{with_front};
@@ -6,7 +6,7 @@ ghost use Rattle.hfs_fields.specs.Laid.{with_front};
 use byteorder::{BigEndian, ByteOrder};
 use std::marker::Model;
 
-/// The fields that are laid so far, one behind the other: at most the 512 bytes of a block. It takes no memory.
+/// The fields that are laid so far, one after the other: at most the 512 bytes of a block. It takes no memory.
 #[derive(Drop)]
 pub struct FieldRow {
     length: usize,

@@ -63,7 +63,7 @@ impl ForkRecord {
         extents: [Extent { first: 0, count: 0 }; 3],
     };
 
-    /// The fork's three numbers, one behind the other.
+    /// The fork's three numbers, one after the other.
     fn laid(&self) -> FieldRow
         ensures bytes { result ≡ fork_bytes self.now }
         ensures length { length result ≡ 10 }
@@ -145,7 +145,7 @@ impl FileRecord {
         })
     }
 
-    /// The record's fields, one behind the other.
+    /// The record's fields, one after the other.
     #[tactic(auto, unfolding(crate::specs::RecordForms::file_record_bytes))]
     fn laid(&self) -> FieldRow
         ensures bytes { result ≡ file_record_bytes self.now }

@@ -71,7 +71,7 @@ impl ThreadRecord {
         })
     }
 
-    /// The record's fields, one behind the other.
+    /// The record's fields, one after the other.
     #[tactic(auto, unfolding(crate::specs::RecordForms::thread_record_bytes))]
     fn laid(&self) -> FieldRow
         ensures bytes { result ≡ thread_record_bytes self.now }

@@ -31,7 +31,7 @@ pub struct NewFileWriter<P: PlacedWriter> {
     leaves_holes: bool,
     /// How many bytes there are, with those that were left out.
     len: u64,
-    /// Whether the file may stand elsewhere than behind all bytes: the last of them were left out, or a step failed.
+    /// Whether the file may stand elsewhere than after all bytes: the last of them were left out, or a step failed.
     is_away: bool,
 }
 
@@ -64,7 +64,7 @@ impl<P: PlacedWriter> NewFileWriter<P> {
         }
     }
 
-    /// Writes some of these bytes behind what there is, and answers how many.
+    /// Writes some of these bytes after what there is, and answers how many.
     fn write_on(&mut self, more: &[u8]) -> io::Result<usize>
         ensures bound { WritesAtMost result more.now }
         ensures bytes { WriteAppends self.old self.new result more.now }
@@ -82,7 +82,7 @@ impl<P: PlacedWriter> NewFileWriter<P> {
         Ok(count)
     }
 
-    /// Goes on behind so many zeros, which are not written.
+    /// Goes on after so many zeros, which are not written.
     fn leave_out(&mut self, count: usize) -> io::Result<()>
         ensures zeros { OnOk result (Appends self.old self.new (replicate count 0)) }
         ensures kept { OnErr result (Keeps self.old self.new) }

@@ -1,11 +1,11 @@
-//! Images that are looked at again behind the last read.
+//! Images that are looked at again after the last read.
 ghost use Rattle.std.specs.Prelude.{◌≡◌, OnOk};
 ghost use Rattle.hfs_source.specs.Images.{OfEach};
 
 use hfs_sparse::BlockSource;
 use std::io;
 
-/// What can be looked at again behind the last read.
+/// What can be looked at again after the last read.
 pub trait Watched: BlockSource {
     /// The last thing that was done with it is a look, which told what its first look did.
     ghost settled: { Self → Type 0 };

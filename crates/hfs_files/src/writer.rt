@@ -14,7 +14,7 @@ pub trait PlacedWriter {
     /// Where the next write begins, if that is known.
     ghost place: { Self → Option ℕ };
 
-    /// Goes to a place, counted from 0, which may be behind the end.
+    /// Goes to a place, counted from 0, which may be past the end.
     fn go_to(&mut self, target: u64) -> io::Result<()>
         ensures place { OnOk result (place self.new ≡ Some target) }
         ensures bytes { bytes self.new ≡ bytes self.old };

@@ -98,8 +98,8 @@ pub(crate) fn finds_by<B: Blocks>(
     })
 }
 
-/// What is found of an image by the block that is taken for its directory; None where no block will do, or the image has fewer than
-/// 1,536 bytes or more than 2,147,483,648. The only error is want of memory.
+/// What is found of an image by the block that is taken for its directory; None where no block will do, or the image has fewer
+/// than 1,536 bytes or more than 2,147,483,648. Fails only when out of memory.
 pub fn find_in(alloc: Global, image: &[u8]) -> Result<Option<Finds>, AllocError>
     ensures { IfOk result (IsFoundIn image.now) }
 {

@@ -27,7 +27,7 @@ pub struct Finds {
     pub is_catalog_right: bool,
     /// The items, in their order.
     pub items: Vec<FoundRecord>,
-    /// Where they lie, and behind them the folders that only threads name.
+    /// Where they lie, and after them the folders that only threads name.
     pub places: Places,
     ghost within: { directory < total },
     ghost size: { 512 ≤ mdb.allocation_block_size },

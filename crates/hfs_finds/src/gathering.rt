@@ -116,7 +116,8 @@ fn side_by_side(file: &[Option<u16>], i: usize, b: u16) -> usize
     k
 }
 
-/// Reads the allocation block at place `i` of a file, and with it those at the places behind it that follow it. How many places they have.
+/// Reads the allocation block at place `i` of a file, and with it those at the places after it that follow it. How many places
+/// they have.
 #[tactic(auto, using(hfs_sparse::proofs::Seen::sees_itself))]
 fn fetch_from<S: BlockSource>(
     source: &mut S,

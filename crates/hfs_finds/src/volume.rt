@@ -137,8 +137,8 @@ fn block_total(extents: &[Extent; 3]) -> u32
     block_count(first) + block_count(second) + block_count(third)
 }
 
-/// What is found of a sound volume. None where its directory may be found elsewhere: its own extents of the catalog file have no block. The
-/// only error is want of memory.
+/// What is found of a sound volume. None where its directory may be found elsewhere: its own extents of the catalog file have no
+/// block. Fails only when out of memory.
 #[tactic(auto, using(crate::proofs::VolumeLemmas::opened_found))]
 pub(crate) fn finds_of_volume(
     alloc: Global,

@@ -16,8 +16,8 @@ use hfs_space::tree_runs;
 use std::alloc::{AllocError, Global};
 
 /// Writes bytes over the blocks of a fork that has these extents, from its byte `offset` on, into the patch over the volume's
-/// blocks. The bytes may reach behind the fork's length, but not behind its last block. The fork's other bytes stay, and so do
-/// all blocks that have none of these bytes.
+/// blocks. The bytes may reach after the fork's length, but not after its last block. The fork's other bytes stay, and so do all
+/// blocks that have none of these bytes.
 ///
 /// The work is that of going once through the extents, and of a search among them for each block that has one of these bytes.
 ///

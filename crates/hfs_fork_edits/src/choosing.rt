@@ -45,7 +45,7 @@ fn unless_past(fork: Fork, offset: u32, found: FoundFile) -> Result<FoundFile, i
     Ok(found)
 }
 
-/// What was found, unless there are too many bytes or they would end too far behind: -50. Then -39.
+/// What was found, unless there are too many bytes or they would end too far after: -50. Then -39.
 fn if_writable(
     fork: Fork,
     offset: u32,

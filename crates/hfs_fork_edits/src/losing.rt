@@ -31,9 +31,9 @@ fn free_with(mdb: &Mdb, lost: &[Extent]) -> u16
     mdb.allocation_blocks - (used - block_count(lost))
 }
 
-/// The bits, the extents, the file's record and the counts of a volume in which the fork keeps its first `count` blocks, and loses
-/// those of the extents `lost`. The patch lies over blocks that differ from the volume's only in those that the fork keeps. The only
-/// error is want of memory.
+/// The bits, the extents, the file's record and the counts of a volume in which the fork keeps its first `count` blocks, and
+/// loses those of the extents `lost`. The patch lies over blocks that differ from the volume's only in those that the fork keeps.
+/// Fails only when out of memory.
 pub(crate) fn lose<B: Blocks, Z: Blocks>(
     alloc: Global,
     volume: &ForkVolume<'_, B>,

@@ -34,8 +34,8 @@ pub(crate) struct Shortened {
     pub patch: Patch,
 }
 
-/// Adds blocks to a fork, in the extents tree whose nodes lie in these runs, over a patch. The only error but want of nodes is want of
-/// memory.
+/// Adds blocks to a fork, in the extents tree whose nodes lie in these runs, over a patch. The only error but want of nodes is
+/// running out of memory.
 pub(crate) fn lengthen_over<B: Blocks>(
     alloc: Global,
     below: &B,
@@ -77,7 +77,7 @@ pub(crate) fn lengthen_over<B: Blocks>(
     }
 }
 
-/// Leaves a fork its first `count` blocks, in the extents tree whose nodes lie in these runs, over a patch. The only error is want
+/// Leaves a fork its first `count` blocks, in the extents tree whose nodes lie in these runs, over a patch. Fails only when out
 /// of memory.
 pub(crate) fn shorten_over<B: Blocks>(
     alloc: Global,

@@ -15,7 +15,7 @@ use hfs_fork_calls::BlockSize;
 use hfs_model::Want;
 use std::alloc::{AllocError, Global};
 
-/// What is made of the volume, or the want of blocks or nodes. The only error is want of memory.
+/// What is made of the volume, or the want of blocks or nodes. Fails only when out of memory.
 pub(crate) fn resize<B: Blocks>(
     alloc: Global,
     volume: &ForkVolume<'_, B>,

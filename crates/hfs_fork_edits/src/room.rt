@@ -45,7 +45,7 @@ fn block_after(extents: &[Extent]) -> Option<u16>
 }
 
 /// The free blocks of a volume that come to a fork with these extents, which wants so many more, or how many are free where these
-/// are fewer. The only other error is want of memory.
+/// are fewer. The only other error is running out of memory.
 pub(crate) fn pieces_for<B: Blocks>(
     alloc: Global,
     blocks: &B,
@@ -79,7 +79,7 @@ fn room_wanted(room: Room) -> Want
 }
 
 /// The free blocks that come to a fork with these extents, which wants so many more, and its extents with them; or the want of
-/// blocks. The only other error is want of memory.
+/// blocks. The only other error is running out of memory.
 pub(crate) fn find_growing<B: Blocks>(
     alloc: Global,
     blocks: &B,

@@ -43,7 +43,7 @@ pub enum ForkRefusal {
     Want(Want),
 }
 
-/// The patch that a fork's edits make, and the volume's counts behind them.
+/// The patch that a fork's edits make, and the volume's counts after them.
 #[derive(Drop)]
 pub(crate) struct Settled {
     pub patch: Patch,

@@ -16,7 +16,7 @@ use hfs_fields::{ExtKey, Extent};
 use hfs_space::ForkKind;
 use std::alloc::{AllocError, Global};
 
-/// Puts a record of a fork, which begins at its block `block`, behind all others of it. Where there are free nodes enough for
+/// Puts a record of a fork, which begins at its block `block`, after all others of it. Where there are free nodes enough for
 /// more, there are for the others then.
 pub(crate) fn add_record<S: NodesMut>(
     alloc: Global,

@@ -24,7 +24,7 @@ pub(crate) fn byte_of(fork: ForkKind) -> u8
     }
 }
 
-/// Takes those records of a fork out of the extents tree that begin at its block `block` or behind it. Its records before that
+/// Takes those records of a fork out of the extents tree that begin at its block `block` or after it. Its records before that
 /// block stay, and so do the extents of every other fork.
 ///
 /// The work is that of a search and a removal for each record that goes, however many others there are.

@@ -37,7 +37,7 @@ pub(crate) fn record_body(extents: &[Extent; 3]) -> [u8; 12]
     bytes
 }
 
-/// Of the threes behind the first, how many begin before the fork's block `count`.
+/// Of the threes after the first, how many begin before the fork's block `count`.
 pub(crate) fn threes_left(extents: &[Extent], count: u32) -> usize
     requires some { 3 ≤ length extents.now }
     requires threes { AreThrees (drop 3 extents.now) }

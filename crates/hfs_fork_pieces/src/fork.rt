@@ -45,7 +45,7 @@ impl ForkPieces {
         start_of(pieces, pieces.len())
     }
 
-    /// Makes a piece of the base's fork, where the fork has no pieces yet. At want of memory nothing has changed.
+    /// Makes a piece of the base's fork, where the fork has no pieces yet. When out of memory nothing has changed.
     fn touch(&mut self) -> Result<(), AllocError>
         requires { ArePieces self.old }
         ensures ok { OnOk result (IsTouched self.old self.new) }
@@ -77,8 +77,8 @@ impl ForkPieces {
         self.pieces.replace(number, count, front)
     }
 
-    /// Makes the fork its first bytes, or adds zeros after them, so that it has so many. Takes no memory for zeros. At want of memory the
-    /// fork has the bytes that it had.
+    /// Makes the fork its first bytes, or adds zeros after them, so that it has so many. Takes no memory for zeros. When out of
+    /// memory the fork has the bytes that it had.
     pub fn set_length(&mut self, alloc: Global, count: u32) -> Result<(), AllocError>
         requires { ArePieces self.old }
         ensures ok { OnOk result (Makes (resized count) self.old self.new) }
@@ -94,8 +94,8 @@ impl ForkPieces {
         })
     }
 
-    /// Puts bytes of a call in the place of those from `offset` on, also past the end. They are shared from then on. At want of memory the
-    /// fork has the bytes that it had.
+    /// Puts bytes of a call in the place of those from `offset` on, also past the end. They are shared from then on. When out of
+    /// memory the fork has the bytes that it had.
     pub fn write(
         &mut self,
         alloc: Global,

@@ -288,7 +288,7 @@ fn large_trees_are_those_of_hformat(rt: HostRuntime) -> Result<(), Fail> {
         plan_of(rt.alloc(), b"D", 70_000, 32_704, 32_704)?,
     )?;
     let pieces: [(usize, usize, &[u8]); 11] = [
-        // the extents file begins behind the bitmap, whose 35,000 bits take 9 blocks
+        // the extents file begins after the bitmap, whose 35,000 bits take 9 blocks
         (12, 0, &[0, 0, 0, 1, 0, 0, 0, 0, 1, 0, 0, 3, 0, 0]),
         (12, 32, &[2, 0, 0, 7, 0, 0, 0x7f, 0xc0, 0, 0, 0x7f, 0xb7]),
         (12, 248, &[0xff, 0x80, 0]),

@@ -85,7 +85,7 @@ fn header_record(tree: &Header) -> FieldRow
     row
 }
 
-/// The node behind node `j` of those that hold the map; 0 behind the last.
+/// The node after node `j` of those that hold the map; 0 after the last.
 #[tactic(auto, unfolding(crate::specs::NewTrees::next_map_node))]
 fn next_map_node(tree: &Header, j: u32) -> u32
     requires { IsNewTree tree.now }
@@ -134,7 +134,7 @@ fn map_block(tree: &Header, j: u32) -> [u8; 512]
     row.into_block()
 }
 
-/// Node `j` of such a tree: its header node, its map nodes, and zeros behind them.
+/// Node `j` of such a tree: its header node, its map nodes, and zeros after them.
 #[tactic(auto, unfolding(crate::specs::NewTrees::tree_block))]
 pub fn tree_block(tree: &Header, j: u32) -> [u8; 512]
     requires { IsNewTree tree.now }

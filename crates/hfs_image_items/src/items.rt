@@ -29,7 +29,7 @@ use std::alloc::{AllocError, Global};
 /// An item that came.
 #[derive(Drop)]
 struct CameItem {
-    /// The path of the folder that holds it, with a slash behind it.
+    /// The path of the folder that holds it, with a slash after it.
     above: String,
     /// Its host name.
     name: String,
@@ -53,7 +53,7 @@ pub struct ImageItems<'a, S: PlacedBlocks, W: Watch> {
     all: u64,
 }
 
-/// The rows behind the root's, and what is told of the root. Error: memory was refused.
+/// The rows after the root's, and what is told of the root. Error: memory was refused.
 #[tactic(auto, using(crate::proofs::SourceLemmas::rows_behind, crate::proofs::SourceLemmas::begins_with, crate::proofs::RootLemmas::row_of_seen))]
 fn rows_below<S: PlacedBlocks + Drop>(
     alloc: Global,
@@ -202,7 +202,7 @@ fn open_stream<S: PlacedBlocks + Drop>(
     }
 }
 
-/// The items of an image, of which these rows are to come, behind that of the root.
+/// The items of an image, of which these rows are to come, after that of the root.
 fn begin<'a, S: PlacedBlocks + Drop, W: Watch>(
     alloc: Global,
     image: SeenImage<S>,

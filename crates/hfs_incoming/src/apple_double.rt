@@ -188,7 +188,7 @@ fn read_parts<S: PlacedBytes>(source: &mut S, len: u64) -> io::Result<Option<Fou
     read_entries(source, len, u16_at(&head, 24))
 }
 
-/// These bytes and zeros behind them, 32 in all.
+/// These bytes and zeros after them, 32 in all.
 fn with_zeros(bytes: &[u8]) -> [u8; 32]
     requires { length bytes.now ≤ 32 }
     ensures { result ≡ bytes.now ++ replicate (32 - length bytes.now) 0 }
@@ -201,7 +201,7 @@ fn with_zeros(bytes: &[u8]) -> [u8; 32]
     whole
 }
 
-/// The first 32 bytes of what the Finder keeps, with zeros behind where there are fewer.
+/// The first 32 bytes of what the Finder keeps, with zeros after where there are fewer.
 #[tactic(auto, unfolding(crate::specs::AppleDouble::finder_in), using(crate::proofs::Entries::finder_read))]
 fn read_finder<S: PlacedBytes>(
     source: &mut S,

@@ -64,7 +64,7 @@ fn filled_length(len: u32) -> u64
     u64::from(len) + padding(len as usize) as u64
 }
 
-/// Where the data fork lies: behind the header, and behind a second one whose length it tells.
+/// Where the data fork lies: after the header, and after a second one whose length it tells.
 #[tactic(auto, unfolding(crate::specs::MacBinary::data_place))]
 fn data_place(head: &[u8; 128]) -> ForkPlace
     ensures place { result ≡ data_place head.now }
@@ -76,7 +76,7 @@ fn data_place(head: &[u8; 128]) -> ForkPlace
     }
 }
 
-/// Where the resource fork lies: behind the data fork.
+/// Where the resource fork lies: after the data fork.
 #[tactic(auto, unfolding(crate::specs::MacBinary::resource_place))]
 fn resource_place(head: &[u8; 128]) -> ForkPlace
     ensures place { result ≡ resource_place head.now }
@@ -141,7 +141,7 @@ fn macbinary_with(len: u64, head: &[u8; 128]) -> Option<MacBinaryFile>
     }
 }
 
-/// What a file holds that is MacBinary II or III: header and forks as long as the header tells, and nothing behind them. None
+/// What a file holds that is MacBinary II or III: header and forks as long as the header tells, and nothing after them. None
 /// exactly where it isn't. Error: a read failed. See [`crate::macbinary_read_back`].
 #[tactic(auto, unfolding(crate::specs::MacBinary::macbinary_in))]
 pub fn read_macbinary<S: PlacedBytes>(source: &mut S) -> io::Result<Option<MacBinaryFile>>

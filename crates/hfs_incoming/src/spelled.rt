@@ -83,7 +83,7 @@ fn seen_character(character: char) -> u8
     }
 }
 
-/// The first character of a text, and what stands behind it.
+/// The first character of a text, and what stands after it.
 fn split_first(text: &str) -> Option<(char, &str)>
     ensures { MatchOption result (chars text.now ≡ [])
         (λ first. chars text.now ≡ first.0 ∷ chars first.1.now) }
@@ -95,7 +95,7 @@ fn split_first(text: &str) -> Option<(char, &str)>
     }
 }
 
-/// The byte that two characters say, where they are digits, and what stands behind them.
+/// The byte that two characters say, where they are digits, and what stands after them.
 #[tactic(auto, unfolding(crate::specs::Spelled::digits_in))]
 fn byte_of(spelling: Spelling, high: char, low: char, behind: &str) -> Option<(u8, &str)>
     ensures { MatchOption result (digits_in spelling (high ∷ low ∷ chars behind.now) ≡ None)
@@ -111,7 +111,7 @@ fn byte_of(spelling: Spelling, high: char, low: char, behind: &str) -> Option<(u
     }
 }
 
-/// The byte that two digits say at a text's beginning, and what stands behind them.
+/// The byte that two digits say at a text's beginning, and what stands after them.
 #[tactic(auto, unfolding(crate::specs::Spelled::digits_in))]
 fn digits_in(spelling: Spelling, text: &str) -> Option<(u8, &str)>
     ensures { MatchOption result (digits_in spelling (chars text.now) ≡ None)
@@ -126,7 +126,7 @@ fn digits_in(spelling: Spelling, text: &str) -> Option<(u8, &str)>
     }
 }
 
-/// The letter that begins with a character, and what stands behind it.
+/// The letter that begins with a character, and what stands after it.
 #[tactic(auto, using(crate::proofs::Letters::plain_first, crate::proofs::Letters::no_digits, crate::proofs::Letters::escape_first))]
 fn letter_at(spelling: Spelling, first: char, behind: &str) -> (u8, &str)
     ensures { seen_letters spelling (first ∷ chars behind.now)
@@ -141,7 +141,7 @@ fn letter_at(spelling: Spelling, first: char, behind: &str) -> (u8, &str)
     }
 }
 
-/// The first letter of a text, and what stands behind it.
+/// The first letter of a text, and what stands after it.
 fn next_letter(spelling: Spelling, text: &str) -> Option<(u8, &str)>
     ensures { MatchOption result (chars text.now ≡ [])
         (λ next. seen_letters spelling (chars text.now)

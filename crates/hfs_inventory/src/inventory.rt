@@ -18,8 +18,9 @@ use std::marker::Model;
 /// The ID under which the root stands, which is no folder's.
 const ABOVE_ROOT: u32 = 1;
 
-/// The items that a catalog's records tell of, one after the other in the order of the table: the root first, behind each folder its children
-/// in name order, and behind each child what lies in it. Contracts see the path of the row that was last given, and the rows to come.
+/// The items that a catalog's records tell of, one after the other in the order of the table: the root first, after each folder
+/// its children in name order, and after each child what lies in it. Contracts see the path of the row that was last given, and
+/// the rows to come.
 ///
 /// Beside the records it takes memory for the folders on the way to an item alone.
 #[derive(Drop)]
@@ -72,7 +73,7 @@ fn enter(
 }
 
 impl Inventory {
-    /// The items of the records of a catalog, in the order of their keys. The only error is want of memory.
+    /// The items of the records of a catalog, in the order of their keys. Fails only when out of memory.
     pub fn new(alloc: Global, records: Vec<CatalogRecord>) -> Result<Inventory, AllocError>
         requires { Rises cat_cmp records.items }
         ensures { IfOk result (λ i. i.left ≡ catalog_rows records.items) }
@@ -90,7 +91,7 @@ impl Inventory {
         })
     }
 
-    /// What is told of the next item, or None behind the last one. The only error is want of memory, and then nothing is promised of
+    /// What is told of the next item, or None after the last one. Fails only when out of memory, and then nothing is promised of
     /// the rows to come.
     pub fn next(&mut self) -> Result<Option<Info>, AllocError>
         ensures { IfOk result (GivesRow self.old self.new) }

@@ -30,8 +30,9 @@ fn next_item(records: &[CatalogRecord], level: Level) -> Option<usize>
     None
 }
 
-/// The place of the record whose row comes next; of the levels those that have no row left go, and the last that stays goes on behind that
-/// record. In a lawful volume no folders lie deeper in one another than there are records; records that say otherwise end there.
+/// The place of the record whose row comes next; of the levels those that have no row left go, and the last that stays goes on
+/// after that record. In a lawful volume no folders lie deeper in one another than there are records; records that say otherwise
+/// end there.
 pub(crate) fn next_row(
     records: &[CatalogRecord],
     levels: &mut Vec<Level>,

@@ -54,7 +54,8 @@ impl Table {
         self.changed = now;
     }
 
-    /// Makes a fork of a file its first bytes, with zeros after them where it was shorter. At want of memory the items are as they were.
+    /// Makes a fork of a file its first bytes, with zeros after them where it was shorter. When out of memory the items are as
+    /// they were.
     pub fn set_eof(
         &mut self,
         alloc: Global,
@@ -79,7 +80,7 @@ impl Table {
         Ok(())
     }
 
-    /// Writes bytes over a fork of a file, which are shared from then on. At want of memory the items are as they were.
+    /// Writes bytes over a fork of a file, which are shared from then on. When out of memory the items are as they were.
     pub fn write_fork(
         &mut self,
         alloc: Global,
@@ -144,7 +145,7 @@ impl Table {
         self.changed = now;
     }
 
-    /// A new item of that kind. The only error is want of memory, and then the items are as they were.
+    /// A new item of that kind. Fails only when out of memory, and then the items are as they were.
     #[tactic(auto, unfolding(hfs_model::specs::Changes::create))]
     fn add(&mut self, kind: RowKind, dir: u32, name: &[u8], now: u32) -> Result<(), AllocError>
         requires table { IsTable self.old }
@@ -175,7 +176,7 @@ impl Table {
         Ok(())
     }
 
-    /// A new, empty file. The only error is want of memory, and then the items are as they were.
+    /// A new, empty file. Fails only when out of memory, and then the items are as they were.
     pub fn create(
         &mut self,
         alloc: Global,
@@ -192,7 +193,7 @@ impl Table {
         self.add(kind, dir, name, now)
     }
 
-    /// A new, empty folder. The only error is want of memory, and then the items are as they were.
+    /// A new, empty folder. Fails only when out of memory, and then the items are as they were.
     pub fn dir_create(&mut self, dir: u32, name: &[u8], now: u32) -> Result<(), AllocError>
         requires table { IsTable self.old }
         requires lawful { AreLawful (items_of self.old) self.old.next_id }
@@ -267,8 +268,8 @@ impl Table {
         }
     }
 
-    /// Takes in a change. One that is refused leaves the table, as do calls that read. The only error is want of memory,
-    /// and then the items are as they were.
+    /// Takes in a change. One that is refused leaves the table, as do calls that read. Fails only when out of memory, and then
+    /// the items are as they were.
     pub fn absorb(&mut self, alloc: Global, call: &Call) -> Result<(), AllocError>
         requires table { IsTable self.old }
         requires lawful { AreLawful (items_of self.old) self.old.next_id }

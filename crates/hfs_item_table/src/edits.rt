@@ -120,7 +120,7 @@ pub fn set_parent(rows: &mut BTreeMap<u32, Row>, id: u32, parent: u32)
     }
 }
 
-/// Puts an ID at another place. The only error is want of memory, and then each ID stands where it stood.
+/// Puts an ID at another place. Fails only when out of memory, and then each ID stands where it stood.
 pub fn move_name(
     names: &mut BTreeMap<Place, u32>,
     id: u32,

@@ -28,8 +28,8 @@ impl Table {
         if *next == id { Some(row) } else { None }
     }
 
-    /// The row of an ID, and `rows` go on behind it. It is found at once where it is their next, as is the row of an item that
-    /// was made right after the one looked up before.
+    /// The row of an ID, and `rows` go on after it. It is found at once where it is their next, as is the row of an item that was
+    /// made right after the one looked up before.
     pub(crate) fn row_among<'a>(
         &'a self,
         rows: &mut Range<'a, u32, Row>,

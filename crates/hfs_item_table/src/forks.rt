@@ -59,7 +59,7 @@ fn physical_length(block_size: u32, length: u32) -> u64
     }
 }
 
-/// Edits a fork. At want of memory it has the bytes that it had.
+/// Edits a fork. When out of memory it has the bytes that it had.
 fn edit_pieces(alloc: Global, pieces: &mut ForkPieces, edit: ForkEdit) -> Result<(), AllocError>
     requires pieces { ArePieces pieces.old }
     requires may { MayEdit edit pieces.old }
@@ -127,7 +127,7 @@ fn edit_file(
     }
 }
 
-/// Edits a fork of a row, which is modified now; a folder has none. At want of memory the fork has the bytes that it had.
+/// Edits a fork of a row, which is modified now; a folder has none. When out of memory the fork has the bytes that it had.
 fn edit_row(
     alloc: Global,
     row: &mut Row,

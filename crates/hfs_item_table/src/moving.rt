@@ -10,7 +10,7 @@ use hfs_fields::Name;
 use std::alloc::AllocError;
 
 impl Table {
-    /// Gives an item another name. The only error is want of memory, and then the items are as they were.
+    /// Gives an item another name. Fails only when out of memory, and then the items are as they were.
     pub fn rename(
         &mut self,
         dir: u32,
@@ -43,7 +43,7 @@ impl Table {
         Ok(())
     }
 
-    /// Puts an item into another folder. The only error is want of memory, and then the items are as they were.
+    /// Puts an item into another folder. Fails only when out of memory, and then the items are as they were.
     pub fn cat_move(
         &mut self,
         dir: u32,

@@ -20,7 +20,7 @@ pub struct Glance {
     pub directory: Piece,
     /// From byte 32,769: the first descriptor of a CD.
     pub descriptor: Piece,
-    /// From the byte that 512 stand behind: the trailer of a disk image.
+    /// From the byte that 512 stand after: the trailer of a disk image.
     pub trailer: Piece,
     /// The first types of its resources, and zeros.
     pub types: [u32; 16],

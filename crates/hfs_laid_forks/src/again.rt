@@ -1,4 +1,4 @@
-//! A second look at the files of a host, behind the last read.
+//! A second look at the files of a host, after the last read.
 ghost use Rattle.std.specs.Prelude.{◌≡◌, ◌↔◌, IsTrue, OnOk, Some};
 ghost use Rattle.hfs_sources.specs.Trees.{OfEachTree};
 ghost use Rattle.hfs_laid_forks.specs.Again.{AreUnchanged, IsAsSeen, IsUnchanged, seen_file};

@@ -10,7 +10,7 @@ use crate::piece::least;
 use hfs_sources::{ForkRun, ForkSpan, HostFault, SourceItem, cannot_read};
 use std::alloc::Global;
 
-/// Reads the bytes of a span of a file from byte `offset + from` of the span on, with zeros behind its end.
+/// Reads the bytes of a span of a file from byte `offset + from` of the span on, with zeros past its end.
 fn read_span<H: PlacedFiles>(
     alloc: Global,
     files: &mut H,
@@ -38,7 +38,7 @@ fn read_span<H: PlacedFiles>(
     files.read_at(alloc, path, place, &mut into[..count])
 }
 
-/// Reads the bytes of a run's fork of an item from a byte of the run on, with zeros behind the fork's end.
+/// Reads the bytes of a run's fork of an item from a byte of the run on, with zeros past the fork's end.
 fn read_fork<H: PlacedFiles>(
     alloc: Global,
     files: &mut H,

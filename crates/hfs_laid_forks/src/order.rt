@@ -4,7 +4,7 @@ ghost use Rattle.hfs_laid_forks.specs.Runs.{are_apart, end_of, last_end, next_ru
 
 use hfs_sources::ForkRun;
 
-/// The byte behind the last of some runs, each of which lies behind the one before it; none where they don't lie so.
+/// The byte after the last of some runs, each of which lies after the one before it; none where they don't lie so.
 pub(crate) fn apart_end(runs: &[ForkRun]) -> Option<u128>
     ensures { MatchOption result (are_apart 0 runs.now ≡ false)
         (λ end. (are_apart 0 runs.now ≡ true) × (end ≡ last_end 0 runs.now)) }
@@ -35,7 +35,7 @@ fn ended(runs: &[ForkRun], byte: u64) -> usize
     runs.partition_point(|run| is_ended(run, byte))
 }
 
-/// The first run that ends behind a byte, of some that lie in order. A binary search.
+/// The first run that ends after a byte, of some that lie in order. A binary search.
 pub(crate) fn next_run(runs: &[ForkRun], byte: u64) -> Option<ForkRun>
     requires { IsTrue (are_apart 0 runs.now) }
     ensures { result ≡ next_run runs.now byte }

@@ -18,7 +18,7 @@ use std::io;
 use std::io::ErrorKind;
 
 impl<B: PlacedBytes + Drop, H: PlacedFiles + Drop> LaidForks<B, H> {
-    /// Looks again at the files of all items, behind the last read. Faults: as of [`look_again`](crate::look_again).
+    /// Looks again at the files of all items, after the last read. Faults: as of [`look_again`](crate::look_again).
     pub fn look_again(&mut self) -> Result<(), HostFault>
         ensures same { OnOk result (OfEachTree (H.Holds self.new.files)
             (AreUnchanged self.new.items.items)) }

@@ -200,7 +200,7 @@ fn new_images_are_read_by_places(rt: HostRuntime) -> Result<(), Fail> {
     let planned = planned(rt.alloc(), "D", "", &none)?;
     let mut image = NewImage { planned };
     assert!(rt; PlacedBytes::len(&image) == 111_104);
-    // the master directory block: its moment, and behind these its name; 8 nodes of the extents file, and 3 of the catalog
+    // the master directory block: its moment, and after these its name; 8 nodes of the extents file, and 3 of the catalog
     assert!(rt; has(&mut image, 1_024, &[0x42, 0x44, 0, 0, 0, 77, 0, 0, 0, 77]));
     assert!(rt; has(&mut image, 1_060, &[1, b'D', 0]));
     assert!(rt; has(&mut image, 1_154, &[0, 0, 0x10, 0, 0, 0, 0, 8]));

@@ -30,8 +30,8 @@ pub(crate) fn file_runs<B: Blocks>(
     }
 }
 
-/// The runs of the catalog tree, behind an extents tree that is right but for its two counts. None where that tree or the catalog file is
-/// wrong.
+/// The runs of the catalog tree, after an extents tree that is right but for its two counts. None where that tree or the catalog
+/// file is wrong.
 pub(crate) fn catalog_runs<B: Blocks>(
     alloc: Global,
     blocks: &B,

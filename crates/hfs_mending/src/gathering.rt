@@ -78,7 +78,7 @@ fn gather_trees<S: BlockSource>(
     Ok(())
 }
 
-/// Reads the bitmap and the nodes of both trees, behind a master directory block that was read and is right.
+/// Reads the bitmap and the nodes of both trees, after a master directory block that was read and is right.
 fn gather_rest<S: BlockSource>(
     alloc: Global,
     source: &mut S,
@@ -102,9 +102,9 @@ fn gather_rest<S: BlockSource>(
     Ok(())
 }
 
-/// Reads the blocks that decide which counted numbers are wrong in an image of `count` blocks with these changed ones, and its first fault, each
-/// unless it was read before: the master directory block, the bitmap, and all nodes of both trees, free ones too. Nothing is read behind a
-/// part that is wrong. Errors: a read failed, memory was refused.
+/// Reads the blocks that decide which counted numbers are wrong in an image of `count` blocks with these changed ones, and its
+/// first fault, each unless it was read before: the master directory block, the bitmap, and all nodes of both trees, free ones
+/// too. Nothing is read after a part that is wrong. Errors: a read failed, memory was refused.
 #[tactic(auto, using(hfs_check::proofs::LawsProved::mdb_is_sound))]
 pub(crate) fn gather_mending<S: BlockSource>(
     alloc: Global,

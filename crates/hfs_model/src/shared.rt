@@ -21,7 +21,7 @@ impl Model for SharedBytes {
 }
 
 impl SharedBytes {
-    /// A copy of the bytes, which are shared from then on. `Err` only where memory is wanting.
+    /// A copy of the bytes, which are shared from then on. `Err` only when out of memory.
     pub fn from_slice(alloc: Global, bytes: &[u8]) -> Result<Self, AllocError>
         ensures { IfOk result (λ b. b ≡ bytes.now) }
     {
@@ -30,7 +30,7 @@ impl SharedBytes {
         })
     }
 
-    /// The bytes of a `Vec`, which are shared from then on: none is copied. `Err` only where memory is wanting.
+    /// The bytes of a `Vec`, which are shared from then on: none is copied. `Err` only when out of memory.
     pub fn from_vec(items: Vec<u8>) -> Result<Self, AllocError>
         ensures { IfOk result (λ b. b ≡ items.items) }
     {

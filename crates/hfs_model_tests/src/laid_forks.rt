@@ -64,7 +64,7 @@ fn runs() -> [ForkRun; 4] {
     ]
 }
 
-/// Twenty bytes of an image behind three of a header.
+/// Twenty bytes of an image after three of a header.
 const FILE: [u8; 23] = *b"...ABCDEFGHIJKLMNOPQRST";
 
 /// The same with the forks in them.

@@ -120,7 +120,7 @@ fn a_node_is_written_whole(rt: HostRuntime) -> Result<(), Fail> {
     Ok(())
 }
 
-/// Puts `x` behind the first of three records.
+/// Puts `x` after the first of three records.
 fn insert(alloc: Global, records: &mut Records) -> Result<bool, AllocError> {
     if records.is_empty() {
         return Ok(false);
@@ -145,7 +145,7 @@ fn replace(alloc: Global, records: &mut Records) -> Result<bool, AllocError> {
     Ok(old.as_slice() == b"c".as_slice() && are(records, &[b"x", b"b", b"y"]))
 }
 
-/// Cuts the node behind its first record.
+/// Cuts the node after its first record.
 fn cut(node: &mut Node) -> Result<bool, AllocError> {
     if node.records.is_empty() {
         return Ok(false);

@@ -56,7 +56,7 @@ fn bytes_are_laid_over_pieces(rt: HostRuntime) -> Result<(), Fail> {
     Ok(())
 }
 
-/// Ends that are set: no byte behind an old end comes back.
+/// Ends that are set: no byte past an old end comes back.
 #[test]
 fn pieces_get_other_ends(rt: HostRuntime) -> Result<(), Fail> {
     let alloc = rt.alloc();

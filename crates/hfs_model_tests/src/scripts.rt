@@ -66,7 +66,7 @@ fn two_lines(alloc: Global, caller: Caller, call: Call) -> Result<Vec<ScriptLine
     Ok(lines)
 }
 
-/// Whether a line behind one that has a text has none.
+/// Whether a line after one that has a text has none.
 fn is_unwritable(alloc: Global, caller: Caller, call: Call) -> Result<bool, AllocError> {
     let lines = two_lines(alloc, caller, call)?;
     match script_text(alloc, &lines, 5) {

@@ -12,7 +12,7 @@ pub(crate) const DOUBLE: [u8; 41] = [
     0, 0, 0, 2, 0, 0, 0, 38, 0, 0, 0, 3, 82, 69, 83,
 ];
 
-/// A node that was changed 1 second behind the beginning of 1970.
+/// A node that was changed 1 second after the beginning of 1970.
 fn node<'a>(
     folder: &'a str,
     name: &'a str,

@@ -88,7 +88,7 @@ fn push_host_character(text: &mut String, is_escaped: bool, character: u8) -> Re
     push_character(text, character)
 }
 
-/// Appends what stands for the characters behind the first.
+/// Appends what stands for the characters after the first.
 #[tactic(auto, unfolding(crate::specs::HostNames::host_rest))]
 fn push_host_rest(text: &mut String, characters: &[u8]) -> Result<(), AllocError>
     ensures { OnOk result (Gains text.old text.new (host_rest characters.now)) }

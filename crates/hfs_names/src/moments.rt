@@ -36,7 +36,7 @@ fn push_day(text: &mut String, day: Day) -> Result<(), AllocError>
     ]))
 }
 
-/// Appends the time so many seconds behind midnight as hh:mm:ss, at once.
+/// Appends the time so many seconds after midnight as hh:mm:ss, at once.
 #[tactic(auto, unfolding(crate::specs::Moments::time_text, crate::specs::Digits::two_digits), using(crate::proofs::AsciiLemmas::ascii_eight))]
 fn push_time(text: &mut String, seconds: u32) -> Result<(), AllocError>
     requires { seconds < 86400 }

@@ -68,7 +68,7 @@ fn is_extents_tree_right<B: Blocks>(
     }
 }
 
-/// The runs of the catalog tree, behind an extents tree that is right, which lies in these runs. None where the catalog file is
+/// The runs of the catalog tree, after an extents tree that is right, which lies in these runs. None where the catalog file is
 /// wrong.
 fn right_catalog_runs<B: Blocks>(
     alloc: Global,

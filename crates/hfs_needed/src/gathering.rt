@@ -77,7 +77,7 @@ fn gather_trees<S: BlockSource>(
     Ok(())
 }
 
-/// Reads what is needed behind a master directory block that was read and is right.
+/// Reads what is needed after a master directory block that was read and is right.
 fn gather_rest<S: BlockSource>(
     alloc: Global,
     source: &mut S,
@@ -103,8 +103,8 @@ fn gather_rest<S: BlockSource>(
 }
 
 /// The blocks that the checks and the report of an image of `count` blocks need, found by what was read before: the master
-/// directory block, its copy, the bitmap, and of the extents tree and the catalog the header node, the map nodes and those that the
-/// map marks. Nothing behind a part that is wrong is read, and no block twice.
+/// directory block, its copy, the bitmap, and of the extents tree and the catalog the header node, the map nodes and those that
+/// the map marks. Nothing after a part that is wrong is read, and no block twice.
 /// Errors: a read failed, memory was refused.
 #[tactic(auto, using(hfs_check::proofs::LawsProved::mdb_is_sound))]
 pub fn gather_needed<S: BlockSource>(

@@ -44,7 +44,7 @@ fn told_next<N: Nodes>(nodes: &N, told: Reply, name: &[u8]) -> Reply
     told
 }
 
-/// What is told behind all these names.
+/// What is told after all these names.
 fn told_behind<N: Nodes>(nodes: &N, root: Reply, below: &[Name]) -> Reply
     requires { IsCatalog (N.nodes nodes.now) }
     ensures { result

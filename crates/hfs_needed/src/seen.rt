@@ -157,10 +157,10 @@ impl<S: PlacedBlocks> SeenImage<S> {
         Inventory::new(alloc, records)
     }
 
-    /// Writes the bytes of a file's fork piece by piece, as they are read, at most 65,536 at a time: memory doesn't grow with the fork. Or answers
-    /// what a call that reads the fork answers where there is none: -37, -120 or -43, and nothing is written. Errors: a read failed or
-    /// memory was refused, before anything was written; a read failed behind bytes that were written, or the writer failed: then a part
-    /// of the fork may have gone out, from its beginning on, and nothing else.
+    /// Writes the bytes of a file's fork piece by piece, as they are read, at most 65,536 at a time: memory doesn't grow with the
+    /// fork. Or answers what a call that reads the fork answers where there is none: -37, -120 or -43, and nothing is written.
+    /// Errors: a read failed or memory was refused, before anything was written; a read failed after bytes that were written, or
+    /// the writer failed: then a part of the fork may have gone out, from its beginning on, and nothing else.
     pub fn write_fork<W: Write>(
         &mut self,
         alloc: Global,

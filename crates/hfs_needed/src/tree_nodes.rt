@@ -75,8 +75,8 @@ fn is_map(node: &NodeView) -> bool
     }
 }
 
-/// Reads node `n`. Where it is a map node, its part of the node map is added to `map`, and the node behind it, or 0, is the answer. None
-/// where it is no map node.
+/// Reads node `n`. Where it is a map node, its part of the node map is added to `map`, and the node after it, or 0, is the
+/// answer. None where it is no map node.
 fn fetch_map_node<S: BlockSource>(
     source: &mut S,
     read: &mut SparseBlocks,
@@ -208,7 +208,8 @@ fn marked_beside(runs: &[Run], map: &[u8], n: u32, end: u32) -> u32
     end - n
 }
 
-/// Reads node `n`, if the map marks it, and with it the marked nodes right behind it, up to node `end`. How many nodes it looked at.
+/// Reads node `n`, if the map marks it, and with it the marked nodes right after it, up to node `end`. How many nodes it looked
+/// at.
 #[tactic(auto, using(hfs_sparse::proofs::Seen::sees_itself))]
 fn fetch_marked_from<S: BlockSource>(
     source: &mut S,

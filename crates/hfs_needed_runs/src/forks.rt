@@ -214,10 +214,10 @@ fn fetch_forks<S: BlockSource>(
     Ok(())
 }
 
-/// Reads both forks of each file that a line of a script names by its folder and name, of whatever call, where a line of the script reads
-/// or writes a fork at all; a fork's blocks behind its end are read, too. So a read of a fork finds its bytes, and a block that is written in part
-/// has its others, also where the file was renamed or moved by then. At an error some of these blocks may have been read. Errors: a read
-/// failed, memory was refused.
+/// Reads both forks of each file that a line of a script names by its folder and name, of whatever call, where a line of the
+/// script reads or writes a fork at all; a fork's blocks past its end are read, too. So a read of a fork finds its bytes, and a
+/// block that is written in part has its others, also where the file was renamed or moved by then. At an error some of these
+/// blocks may have been read. Errors: a read failed, memory was refused.
 #[tactic(auto, using(hfs_sparse::proofs::Seen::sees_itself))]
 pub fn fetch_named_forks<S: BlockSource>(
     alloc: Global,

@@ -47,7 +47,8 @@ fn free_blocks_in(alloc: Global, volume: &Volume) -> Result<Vec<Run>, AllocError
     Ok(runs)
 }
 
-/// Where the free blocks of a volume lie, if there are files whose forks a script may have written. The only error is want of memory.
+/// Where the free blocks of a volume lie, if there are files whose forks a script may have written. Fails only when out of
+/// memory.
 pub(crate) fn free_blocks(
     alloc: Global,
     volume: &Volume,

@@ -115,8 +115,8 @@ fn keep_zeros_in<B: Blocks>(
 
 /// The blocks of a volume that go out: each that is other than it was when the volume was mounted, of the blocks in the runs of
 /// forks each of zeros, and of the free blocks each of zeros that is kept as changed. A block of zeros is as it was in a copy in
-/// which it wasn't read, and not in the image. Laid over the bytes as they were mounted, they make those that they are now.
-/// One of zeros takes a flag, and no bytes. The only error is want of memory.
+/// which it wasn't read, and not in the image. Laid over the bytes as they were mounted, they make those that they are now. One
+/// of zeros takes a flag, and no bytes. Fails only when out of memory.
 pub fn kept_blocks(
     alloc: Global,
     volume: &Volume,

@@ -7,8 +7,8 @@ pub fn named_forks_are_the_images()
     ensures { NamedForksAreTheImages }
 {}
 
-/// Over such a copy each reply to a worker is what the image answers behind the same calls: reads of forks too, where these are calls of the
-/// script's lines.
+/// Over such a copy each reply to a worker is what the image answers after the same calls: reads of forks too, where these are
+/// calls of the script's lines.
 pub fn workers_read_the_image()
     ensures { WorkersReadTheImage }
 {}

@@ -118,7 +118,7 @@ fn forks_of(alloc: Global, volume: &Volume, files: &ScriptFiles) -> Result<Vec<R
     forks_among(alloc, volume, files, &records)
 }
 
-/// Where the forks of these files lie in a volume as it is now, if there are such files. The only error is want of memory.
+/// Where the forks of these files lie in a volume as it is now, if there are such files. Fails only when out of memory.
 pub(crate) fn made_forks(
     alloc: Global,
     volume: &Volume,

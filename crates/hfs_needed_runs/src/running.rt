@@ -29,7 +29,7 @@ pub struct NeededRan {
     pub answers: Answers,
     /// Whether each line was answered.
     pub whole: bool,
-    /// Whether viewers were shown each change at once, and none later for want of memory.
+    /// Whether viewers were shown each change at once, and none later for lack of memory.
     pub shown: bool,
 }
 

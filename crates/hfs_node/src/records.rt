@@ -68,8 +68,7 @@ impl Records {
         record.as_slice()
     }
 
-    /// Puts a record behind the last one. Where memory is refused nothing changes, and the record comes
-    /// back.
+    /// Puts a record after the last one. Where memory is refused nothing changes, and the record comes back.
     pub fn push(&mut self, bytes: Vec<u8>) -> Result<(), AllocFailed<Vec<u8>>>
         ensures ok { OnOk result (self.new ≡ self.old ++ bytes.items ∷ []) }
         ensures err { OnErr result (self.new ≡ self.old) }
@@ -90,7 +89,7 @@ impl Records {
         self.items.insert(at, bytes)
     }
 
-    /// Takes the record at place `at`; those behind it move down by one.
+    /// Takes the record at place `at`; those after it move down by one.
     #[tactic(auto, using(crate::proofs::Lists::record_edits))]
     pub fn remove(&mut self, at: usize) -> Vec<u8>
         requires { at < length self.old }

@@ -72,7 +72,7 @@ impl RecordRow for ReplacedRow<'_> {
     }
 }
 
-/// The records of a node, with one more in front of the one at a place, or behind the last.
+/// The records of a node, with one more in front of the one at a place, or after the last.
 #[derive(Drop)]
 pub struct InsertedRow<'a> {
     /// The node.

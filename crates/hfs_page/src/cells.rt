@@ -83,8 +83,8 @@ fn cell_at(uses: &[BlockUse], per_cell: usize, first: usize) -> Cell
     }
 }
 
-/// The cells of a picture of blocks with these uses: one for each block, or for the least number of
-/// blocks with which there are no more than 4,096 cells. The only error is want of memory.
+/// The cells of a picture of blocks with these uses: one for each block, or for the least number of blocks with which there are
+/// no more than 4,096 cells. Fails only when out of memory.
 #[tactic(auto, unfolding(crate::specs::Cells::picture_cells))]
 pub fn picture_cells(alloc: Global, uses: &[BlockUse]) -> Result<Vec<Cell>, AllocError>
     ensures { IfOk result (λ cells. cells.items ≡ picture_cells uses.now) }

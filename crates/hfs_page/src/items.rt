@@ -235,7 +235,7 @@ fn push_item(
     }
 }
 
-/// How many folders stand open behind an item that lies in so many of those that do.
+/// How many folders stand open after an item that lies in so many of those that do.
 pub(crate) fn open_behind(depth: usize, info: &Info) -> usize
     ensures { result ≡ open_behind depth info.now }
 {

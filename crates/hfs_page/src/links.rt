@@ -64,7 +64,7 @@ fn last_byte(base: &[u8]) -> Option<u8>
     base.last().copied()
 }
 
-/// Appends a slash behind a URL that has some bytes and doesn't end with one.
+/// Appends a slash after a URL that has some bytes and doesn't end with one.
 fn push_slash(url: &mut Vec<u8>, base: &[u8]) -> Result<(), AllocError>
     ensures { OnOk result (Gains url.old url.new (slash_text base.now)) }
 {

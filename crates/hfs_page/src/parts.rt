@@ -15,7 +15,7 @@ pub enum Part {
     ExtentsTree,
     /// The catalog file.
     Catalog,
-    /// The extents of files' forks behind the first one that has a block.
+    /// The extents of files' forks after the first one that has a block.
     LaterExtents,
     /// The first extent that has a block, of each fork of a file.
     FirstExtents,

@@ -59,8 +59,8 @@ pub fn lay_all(uses: &mut [BlockUse], holdings: &[Holding])
     }
 }
 
-/// What each allocation block is used for, by all extents of the volume and by its bitmap. The work
-/// is that of the blocks and of the extents. The only error is want of memory.
+/// What each allocation block is used for, by all extents of the volume and by its bitmap. The work is that of the blocks and of
+/// the extents. Fails only when out of memory.
 #[tactic(auto, unfolding(crate::specs::Uses::block_uses))]
 pub fn block_uses<B: Blocks>(
     alloc: Global,

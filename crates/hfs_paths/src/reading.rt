@@ -10,11 +10,11 @@ use std::alloc::{AllocError, Global};
 /// How the next byte of a path's text is taken.
 #[derive(Clone, Copy)]
 pub enum Stage {
-    /// As a character of a name, or the colon behind one.
+    /// As a character of a name, or the colon after one.
     Character,
-    /// As the first digit behind a backslash.
+    /// As the first digit after a backslash.
     FirstDigit,
-    /// As the second digit, behind this first one.
+    /// As the second digit, after this first one.
     SecondDigit(u8),
     /// Not at all: what came before begins no path.
     Wrong,
@@ -25,7 +25,7 @@ pub enum Stage {
 struct Reading {
     /// The names with their colons.
     names: Vec<Name>,
-    /// The bytes of the name behind them.
+    /// The bytes of the name after them.
     name: Vec<u8>,
     stage: Stage,
 }
@@ -95,7 +95,7 @@ fn read_character(reading: &mut Reading, byte: u8) -> Result<(), AllocError>
     push_byte(reading, byte)
 }
 
-/// Takes a byte as the second digit behind a backslash.
+/// Takes a byte as the second digit after a backslash.
 #[tactic(auto, unfolding(crate::specs::Paths::with_second_digit))]
 fn read_second_digit(reading: &mut Reading, first: u8, byte: u8) -> Result<(), AllocError>
     ensures { OnOk result (read_of reading.new ≡ with_second_digit first byte (read_of reading.old)) }
@@ -160,11 +160,10 @@ fn no_names(alloc: Global) -> Result<Option<Vec<Name>>, AllocError>
     Ok(Some(names))
 }
 
-/// The names that the text of a Mac path tells, from the volume's down: `:` stands between them, a
-/// backslash and two hexadecimal digits for the byte of this value, and any other byte for itself.
-/// The first name is empty where a path begins with `:`, and the only one of the path `:`. None
-/// where there is no text, a backslash has no digits, or a name more than 31 bytes. The only error is
-/// want of memory.
+/// The names that the text of a Mac path tells, from the volume's down: `:` stands between them, a backslash and two hexadecimal
+/// digits for the byte of this value, and any other byte for itself. The first name is empty where a path begins with `:`, and
+/// the only one of the path `:`. None where there is no text, a backslash has no digits, or a name more than 31 bytes. Fails only
+/// when out of memory.
 #[tactic(auto, unfolding(crate::specs::Paths::path_names))]
 pub fn path_names(alloc: Global, text: &[u8]) -> Result<Option<Vec<Name>>, AllocError>
     ensures { IfOk result (λ found. option_map names_of found ≡ path_names text.now) }

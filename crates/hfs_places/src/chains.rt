@@ -20,7 +20,7 @@ pub(crate) fn ups_of(alloc: Global, things: &Things) -> Result<Vec<Option<usize>
     Ok(ups)
 }
 
-/// The place that is noted for a place, None behind the last.
+/// The place that is noted for a place, None after the last.
 fn place_at(places: &[Option<usize>], i: usize) -> Option<usize>
     ensures { result ≡ spec.place_at places.now i }
 {

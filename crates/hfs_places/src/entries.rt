@@ -79,7 +79,7 @@ fn next_entry(
     Ok(text)
 }
 
-/// The entries of things, in order. The only error is want of memory.
+/// The entries of things, in order. Fails only when out of memory.
 #[tactic(auto, unfolding(crate::specs::Entries::entries_of))]
 pub(crate) fn entries_of(alloc: Global, things: &[Thing]) -> Result<Vec<String>, AllocError>
     ensures entries { IfOk result (λ entries. map string_bytes entries.items ≡ spec.entries_of

@@ -18,7 +18,7 @@ pub(crate) fn lies_apart(path: &str) -> bool
 }
 
 impl Frame<'_> {
-    /// The name of the thing at a place, and behind it those of the folders above it.
+    /// The name of the thing at a place, and after it those of the folders above it.
     pub(crate) fn names_up(
         &self,
         alloc: Global,

@@ -1,4 +1,4 @@
-//! Paths of things, each folder's made behind that of the folder above it.
+//! Paths of things, each folder's made after that of the folder above it.
 ghost use Rattle.std.specs.Prelude.{◌≡◌, ◌+◌, ◌-◌, ◌*◌, ◌<◌, ◌≤◌, ℕ, nat_lt, true, false, Some, None, map, length, set, slice_index_or, IfOk, IfSome, OnOk, string_bytes};
 ghost use Rattle.hfs_places.specs.Chains.{endless_of, place_at, ups_of, is_endless};
 ghost use Rattle.hfs_catalog_checks.specs.Indexes.{is_place};

@@ -71,8 +71,8 @@ fn folder_paths(
 }
 
 impl Places {
-    /// The places of items, and of the folders that threads name where no item is the folder of a number. The only error is want
-    /// of memory.
+    /// The places of items, and of the folders that threads name where no item is the folder of a number. Fails only when out of
+    /// memory.
     pub fn of(alloc: Global, items: &[Thing], namings: &[Thing]) -> Result<Places, AllocError>
         ensures { IfOk result (λ places. places ≡ things_of items.now namings.now) }
     {
@@ -111,7 +111,7 @@ impl Places {
         frame.path(alloc, &self.paths, i)
     }
 
-    /// The path of an item below the payload. The only error is want of memory.
+    /// The path of an item below the payload. Fails only when out of memory.
     #[tactic(auto, unfolding(crate::specs::Paths::payload_path))]
     pub fn payload_path(&self, alloc: Global, i: usize) -> Result<String, AllocError>
         requires { i < length self.now }
@@ -168,8 +168,8 @@ impl Places {
         }
     }
 
-    /// The names that lead to an item, from the root's down, of a volume of this name; none where its path below the payload, which is
-    /// this, leads to what is old or lost. The only error is want of memory.
+    /// The names that lead to an item, from the root's down, of a volume of this name; none where its path below the payload,
+    /// which is this, leads to what is old or lost. Fails only when out of memory.
     #[tactic(auto, using(crate::proofs::NameLemmas::turned))]
     pub fn names(
         &self,

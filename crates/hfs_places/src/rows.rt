@@ -38,7 +38,7 @@ impl Rows {
         self.rows.contains(row)
     }
 
-    /// Puts a row into the set. `Err` only where memory is wanting.
+    /// Puts a row into the set. `Err` only when out of memory.
     pub(crate) fn add(&mut self, row: Vec<u8>) -> Result<(), AllocError>
         ensures { OnOk result (AddsRow row self.old self.new) }
     {

@@ -51,7 +51,7 @@ fn note_folder(folders: &mut FolderPlaces, thing: &Thing, place: usize) -> Resul
     }
 }
 
-/// Puts one more thing behind the others.
+/// Puts one more thing after the others.
 fn push_thing(
     things: &mut Vec<Thing>,
     folders: &mut FolderPlaces,
@@ -67,7 +67,7 @@ fn push_thing(
     Ok(())
 }
 
-/// Puts a named folder behind the others, where there is no folder of its number.
+/// Puts a named folder after the others, where there is no folder of its number.
 fn push_named(
     things: &mut Vec<Thing>,
     folders: &mut FolderPlaces,
@@ -86,7 +86,7 @@ fn push_named(
     push_thing(things, folders, thing)
 }
 
-/// Puts items behind the others.
+/// Puts items after the others.
 fn push_items(
     things: &mut Vec<Thing>,
     folders: &mut FolderPlaces,
@@ -102,7 +102,7 @@ fn push_items(
     Ok(())
 }
 
-/// Puts named folders behind the others, where there is no folder of their numbers.
+/// Puts named folders after the others, where there is no folder of their numbers.
 fn push_namings(
     things: &mut Vec<Thing>,
     folders: &mut FolderPlaces,
@@ -120,7 +120,7 @@ fn push_namings(
 }
 
 impl Things {
-    /// The items, and behind them the folders that only a thread names.
+    /// The items, and after them the folders that only a thread names.
     pub(crate) fn of(
         alloc: Global,
         items: &[Thing],

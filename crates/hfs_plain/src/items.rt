@@ -68,7 +68,7 @@ fn item_of(alloc: Global, table: &Table, row: &Row) -> Result<Item, AllocError>
     })
 }
 
-/// The items of a table in the order of their IDs. The only error is want of memory.
+/// The items of a table in the order of their IDs. Fails only when out of memory.
 pub fn items_of(alloc: Global, table: &Table) -> Result<Vec<(u32, Item)>, AllocError>
     requires { IsTable table.now }
     ensures { IfOk result (λ items. items.items ≡ row_entries table.now) }

@@ -1,6 +1,6 @@
-//! The plain program as a program: `hfs_plain IMAGE SCRIPT [--now N]` makes the calls of a script by
-//! the definitions alone, on the volume that an image holds, and prints the answers as
-//! `hfs_tool run` does. Behind them it prints all that the volume has then.
+//! The plain program as a program: `hfs_plain IMAGE SCRIPT [--now N]` makes the calls of a script by the definitions alone, on
+//! the volume that an image holds, and prints the answers as
+//! `hfs_tool run` does. After them it prints all that the volume has then.
 #![tactic(auto)]
 
 mod answering;
@@ -55,9 +55,8 @@ fn refused(rt: &HostRuntime, fault: &Fault<'_>) -> u8 {
     }
 }
 
-/// Prints the answers to a script, and the volume behind them. Faults in their order: the image is
-/// not read, the script is not, a line of it doesn't read, it has other callers, the image is
-/// refused.
+/// Prints the answers to a script, and the volume after them. Faults in their order: the image is not read, the script is not, a
+/// line of it doesn't read, it has other callers, the image is refused.
 fn print_answers<'a>(rt: &HostRuntime, words: &Words<'a>) -> Result<(), Fault<'a>> {
     let image = load_image(rt, words.image)?;
     let script = load_script(rt, words.script)?;

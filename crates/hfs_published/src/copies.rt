@@ -64,8 +64,8 @@ impl Copies {
         self.front.changes() == self.writer.published().front.changes()
     }
 
-    /// Adds a change after all that were added, where it waits to be published. It answers whether it did: not where memory is
-    /// wanting.
+    /// Adds a change after all that were added, where it waits to be published. It answers whether it did: not when out of
+    /// memory.
     pub fn add(&mut self, call: Call) -> bool
         ensures { IsAllOrNothing result (with_call self.old call) self.old self.new }
     {
@@ -85,8 +85,8 @@ impl Copies {
         true
     }
 
-    /// Shows viewers all that waits, in one step, and answers whether nothing waits any more. Where memory is wanting, nothing
-    /// of it is shown, and all of it waits on.
+    /// Shows viewers all that waits, in one step, and answers whether nothing waits any more. When out of memory, nothing of it
+    /// is shown, and all of it waits on.
     pub fn publish<R: Wait>(&mut self, rt: &R) -> bool
         ensures published { IsAllOrNothing result (with_all_shown self.old) self.old self.new }
         ensures idle { self.old.all ≡ self.old.shown → result ≡ true }

@@ -23,7 +23,7 @@ mod entries;
 /// Why a pair was not made.
 #[derive(Clone, Copy, Debug)]
 pub enum PairFault {
-    /// Memory is wanting.
+    /// Out of memory.
     Memory,
     /// There was no place for a reader.
     NoPlace,
@@ -85,8 +85,8 @@ impl Pair {
         }
     }
 
-    /// Adds a change after all that were added, where it waits to be published. It answers whether it did: not where memory is
-    /// wanting.
+    /// Adds a change after all that were added, where it waits to be published. It answers whether it did: not when out of
+    /// memory.
     pub fn add(&mut self, call: &Call) -> bool
         ensures { IsAllOrNothing result (with_call self.old call.now) self.old self.new }
     {
@@ -99,8 +99,8 @@ impl Pair {
         }
     }
 
-    /// Shows viewers all that waits, in one step, and answers whether nothing waits any more. Where memory is wanting, nothing
-    /// of it is shown, and all of it waits on. Of a pair that nobody reads all is then published.
+    /// Shows viewers all that waits, in one step, and answers whether nothing waits any more. When out of memory, nothing of it
+    /// is shown, and all of it waits on. Of a pair that nobody reads all is then published.
     pub fn publish<R: Wait>(&mut self, rt: &R) -> bool
         ensures published { IsAllOrNothing result (with_all_shown self.old) self.old self.new }
         ensures idle { self.old.all ≡ self.old.shown → result ≡ true }

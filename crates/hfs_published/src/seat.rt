@@ -53,7 +53,7 @@ impl Seat {
     }
 
     /// Answers a call that reads, on the volume of the list that is taken now, which begins with the one that is given. `Memory`
-    /// where memory is wanting; `Gone` where there is no copy to read.
+    /// when out of memory; `Gone` where there is no copy to read.
     pub fn read(&mut self, front: &Front, alloc: Global, call: &Call) -> Result<Reply, ViewFault>
         requires book { self.old.book ≡ front.now.book }
         requires reading { IsTrue (is_reading call.now) }

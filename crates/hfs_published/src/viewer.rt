@@ -15,7 +15,7 @@ use std::marker::Model;
 /// Why a viewer gives no reply.
 #[derive(Clone, Copy, Debug)]
 pub enum ViewFault {
-    /// Memory is wanting. Only what makes a list or bytes can meet that.
+    /// Out of memory. Only what makes a list or bytes can meet that.
     Memory,
     /// There is no copy to read, as after the pair was ended.
     Gone,
@@ -65,8 +65,8 @@ impl Viewer {
         Viewer { seat: None, front }
     }
 
-    /// Answers a call that reads, on the volume of the list that is published now, which begins with all that this viewer saw
-    /// or was told of. `Memory` where memory is wanting; `Gone` where there is no copy to read, as after the pair was ended.
+    /// Answers a call that reads, on the volume of the list that is published now, which begins with all that this viewer saw or
+    /// was told of. `Memory` when out of memory; `Gone` where there is no copy to read, as after the pair was ended.
     pub fn read(&mut self, alloc: Global, call: &Call) -> Result<Reply, ViewFault>
         requires { IsTrue (is_reading call.now) }
         ensures ok { GivesReply call.now self.old self.new result }

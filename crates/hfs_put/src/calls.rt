@@ -62,7 +62,7 @@ pub(crate) fn make_item(
     Ok(())
 }
 
-/// Makes the calls that come behind the bytes of a file, or behind all that lies in a folder.
+/// Makes the calls that come after the bytes of a file, or after all that lies in a folder.
 pub(crate) fn end_item(
     alloc: Global,
     volume: &mut Volume,

@@ -42,7 +42,7 @@ pub(crate) fn folder_id(target: u32, folders: &[OpenFolder]) -> u32
     }
 }
 
-/// Leaves a folder: makes the calls that come behind all that lies in it.
+/// Leaves a folder: makes the calls that come after all that lies in it.
 #[tactic(auto, using(crate::proofs::Absences::none_is_absent))]
 fn leave_one(
     alloc: Global,

@@ -92,8 +92,8 @@ fn sort_runs(runs: &mut Vec<ForkRun>)
 }
 
 /// Where both forks of each file of a list lie in the image of a volume, by the IDs that laying the list answered: a run for each
-/// extent that has blocks, in the order of their places. A run has all bytes of its blocks, also those behind the fork's end. The catalog is
-/// read once. The only error is want of memory.
+/// extent that has blocks, in the order of their places. A run has all bytes of its blocks, also those past the fork's end. The
+/// catalog is read once. Fails only when out of memory.
 pub fn fork_runs(
     alloc: Global,
     volume: &Volume,

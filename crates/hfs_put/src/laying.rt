@@ -43,7 +43,7 @@ fn id_named(volume: &Volume, dir: u32, name: &[u8]) -> Option<u32>
     id_in(&reply.value)
 }
 
-/// Makes the calls that come behind a file's bytes; of a folder there are none yet.
+/// Makes the calls that come after a file's bytes; of a folder there are none yet.
 fn end_file(
     alloc: Global,
     volume: &mut Volume,
@@ -170,7 +170,7 @@ fn lay_one(
 
 /// Puts a list of items into a folder of a volume by all calls but those that write forks, at a moment: the IDs of the items, in
 /// the order of the list. Faults: the first call that is refused, with the place of its item, where those before it have been
-/// made; `Absent` where an item is to be kept that isn't there; want of memory.
+/// made; `Absent` where an item is to be kept that isn't there; out of memory.
 #[tactic(auto, using(crate::proofs::LaidLists::laid_all, crate::proofs::LaidLists::fault_all))]
 pub fn lay_items(
     alloc: Global,

@@ -103,9 +103,9 @@ fn note(
     }
 }
 
-/// Finds the place of each item of a list that is to come into the folder `target`, in the order of the walk: the item itself, where
-/// it can be put, with its kind, name, facts, lengths, and how it gets its place; else why it can't. Where a file stands in the place of
-/// a file it is replaced if `replace` says so. Each item is looked up once. The only error is want of memory.
+/// Finds the place of each item of a list that is to come into the folder `target`, in the order of the walk: the item itself,
+/// where it can be put, with its kind, name, facts, lengths, and how it gets its place; else why it can't. Where a file stands in
+/// the place of a file it is replaced if `replace` says so. Each item is looked up once. Fails only when out of memory.
 #[tactic(auto, using(crate::proofs::PlacedLists::so_far_next, crate::proofs::PlacedLists::so_far_put, crate::proofs::PlacedLists::so_far_told, crate::proofs::PlacedLists::placed_all))]
 pub fn place_sources(
     alloc: Global,

@@ -3,7 +3,7 @@ use hfs_fields::Name;
 use hfs_model::ItemKind;
 use hfs_put_plan::{ItemFacts, Placing};
 
-/// An item of a list that is put into a folder of a disk, each folder's items behind it in a row.
+/// An item of a list that is put into a folder of a disk, each folder's items after it in a row.
 #[derive(Clone, Copy)]
 pub struct PutItem {
     /// The place in the list of the folder that it lies in, counted from 0; none where that is the folder into which the list

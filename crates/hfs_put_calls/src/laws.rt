@@ -22,7 +22,7 @@ pub fn new_items_are_named()
     ensures { AreNewItemsNamed }
 {}
 
-/// No item is made by more than `MAKING_CALLS` calls, and no more than `ENDING_CALLS` come behind its bytes or what lies in it.
+/// No item is made by more than `MAKING_CALLS` calls, and no more than `ENDING_CALLS` come after its bytes or what lies in it.
 pub fn calls_are_few()
     ensures { AreFew }
 {}

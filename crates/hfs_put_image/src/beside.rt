@@ -50,7 +50,8 @@ fn keep_block(
     }
 }
 
-/// The blocks of a patch of a volume of `count` blocks, but for those that begin in one of the runs. The only error is want of memory.
+/// The blocks of a patch of a volume of `count` blocks, but for those that begin in one of the runs. Fails only when out of
+/// memory.
 pub(crate) fn beside_runs(
     alloc: Global,
     patch: &ChangedBlocks,

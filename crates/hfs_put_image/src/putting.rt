@@ -29,8 +29,8 @@ pub struct PutBlocks {
     pub ids: Vec<u32>,
 }
 
-/// The blocks that go out of a volume: each that is other than it was when the volume was mounted, but for those that begin in one of
-/// the runs. The only error is want of memory.
+/// The blocks that go out of a volume: each that is other than it was when the volume was mounted, but for those that begin in
+/// one of the runs. Fails only when out of memory.
 fn going_out(alloc: Global, volume: &Volume, runs: &[ForkRun]) -> Result<ChangedBlocks, AllocError>
     requires { AreRunsApart runs.now }
     ensures { IfOk result (AreGoingOut volume.now runs.now) }

@@ -8,7 +8,7 @@ const YEAR_1970: u64 = 2_082_844_800;
 /// The last date of a Macintosh.
 const LAST: u64 = 4_294_967_295;
 
-/// The date so many seconds behind the beginning of 1970.
+/// The date so many seconds after the beginning of 1970.
 #[tactic(auto, unfolding(crate::specs::Dates::date_since_1970))]
 pub fn date_since_1970(seconds: u64) -> u32
     ensures { result ≡ date_since_1970 seconds }

@@ -37,7 +37,7 @@ pub struct FolderItem {
 /// What the system of a host keeps of a folder's looks.
 const LOOKS: [u8; 9] = *b".DS_Store";
 
-/// Whether an entry belongs to the item whose name stands behind `._`.
+/// Whether an entry belongs to the item whose name stands after `._`.
 fn is_double(name: &[u8]) -> bool
     ensures { result ≡ is_double name.now }
 {
@@ -93,7 +93,7 @@ fn alone(place: usize, name: &[u8]) -> Option<FolderItem>
     }
 }
 
-/// The item of an entry and the one behind it, which belongs to it.
+/// The item of an entry and the one after it, which belongs to it.
 fn both(place: usize, name: &[u8]) -> Option<FolderItem>
     requires { place + 1 < 18446744073709551616 }
     ensures { result ≡ both place name.now }

@@ -69,7 +69,7 @@ impl Seen {
         self.rows.contains(row)
     }
 
-    /// Notes a row. `Err` only where memory is wanting.
+    /// Notes a row. `Err` only when out of memory.
     pub(crate) fn add(&mut self, row: Vec<u8>) -> Result<(), AllocError>
         ensures { OnOk result (AddsRow row self.old self.new) }
     {

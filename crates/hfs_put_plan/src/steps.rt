@@ -40,14 +40,15 @@ fn end_step(fork: Fork, len: u32) -> Option<FileStep>
     }
 }
 
-/// A file is locked behind all else.
+/// A file is locked last of all.
 fn lock_step(locked: bool) -> Option<FileStep>
     ensures { result ≡ lock_step locked }
 {
     if locked { Some(FileStep::Lock) } else { None }
 }
 
-/// The calls that put a file with so many bytes in its forks, in their order. Behind the ends of both forks their bytes are written.
+/// The calls that put a file with so many bytes in its forks, in their order. After the ends of both forks their bytes are
+/// written.
 pub fn file_steps(data_len: u32, resource_len: u32, locked: bool) -> [Option<FileStep>; 5]
     ensures { result ≡ file_steps data_len resource_len locked }
 {
@@ -60,7 +61,7 @@ pub fn file_steps(data_len: u32, resource_len: u32, locked: bool) -> [Option<Fil
     ]
 }
 
-/// The piece of a fork of so many bytes that the call writes which comes behind so many others; none where all are written.
+/// The piece of a fork of so many bytes that the call writes which comes after so many others; none where all are written.
 #[tactic(auto, unfolding(crate::specs::Steps::fork_piece))]
 pub fn fork_piece(len: u32, before: u32) -> Option<ForkPiece>
     ensures { result ≡ fork_piece len before }

@@ -28,7 +28,7 @@ fn see_next(
 }
 
 /// Of the names of one folder's items, in their order, whether each is that of one before it, without regard to the case of the
-/// letters from `a` to `z`. The only error is want of memory.
+/// letters from `a` to `z`. Fails only when out of memory.
 #[tactic(auto, unfolding(crate::specs::Twins::later_twins))]
 pub fn later_twins(alloc: Global, names: &[Name]) -> Result<Vec<bool>, AllocError>
     ensures { IfOk result (λ twins. twins.items ≡ later_twins names.now) }

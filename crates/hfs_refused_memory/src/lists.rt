@@ -52,10 +52,10 @@ const LOCK: Edit<'static> = Edit {
     bytes: &[0x81],
 };
 
-/// What is laid behind SetFInfo.
+/// What is laid after SetFInfo.
 const BETWEEN: [Edit<'static>; 2] = [MOMENT, INFO];
 
-/// What is laid behind both calls.
+/// What is laid after both calls.
 const AFTER: [Edit<'static>; 3] = [MOMENT, INFO, LOCK];
 
 /// Whether a list of both calls is run on a volume as it is said.
@@ -68,8 +68,8 @@ fn runs_on(alloc: Global, volume: &mut Volume) -> Result<bool> {
     Ok(are_made.is_none() && is_front)
 }
 
-/// Whether a list of SetFInfo and SetFLock of one file is run as it is said. Where memory is refused, the calls before the one that met it
-/// have been made: the bytes are those before both, between both or behind both, where the row of replies had no room.
+/// Whether a list of SetFInfo and SetFLock of one file is run as it is said. Where memory is refused, the calls before the one
+/// that met it have been made: the bytes are those before both, between both or after both, where the row of replies had no room.
 pub fn runs(alloc: Global) -> Result<bool> {
     let mut volume = small_volume(alloc)?;
     runs_on(alloc, &mut volume)

@@ -5,7 +5,7 @@ use hfs_volume::{MountFault, Refused, mount_repaired};
 use hfs_volume_fixtures::refused::{Edit, has_bytes, image_with};
 use std::alloc::Global;
 
-/// The image that a refusal for want of memory hands back, if it is this one.
+/// The image that a refusal for lack of memory hands back, if it is this one.
 fn given_back(refused: Refused, given: &[u8]) -> Option<Vec<u8>> {
     let Refused { fault, image } = refused;
     if fault == MountFault::Memory && image.as_slice() == given {

@@ -51,7 +51,7 @@ fn answered<K: Session>(
     }
 }
 
-/// Whether a reply gives the ID of the file that is made so many calls behind a new volume's beginning.
+/// Whether a reply gives the ID of the file that is made so many calls after a new volume's beginning.
 fn is_made(reply: &Reply, number: u64) -> bool {
     match &reply.value {
         Value::Id(id) => reply.code == 0 && u64::from(*id) == number.saturating_add(15),
@@ -127,7 +127,8 @@ fn shown<K: Session>(
     Ok(count)
 }
 
-/// What comes out behind the call of this number, after which so many are shown: each call is shown as it is made, or one of them with the next.
+/// What comes out after the call of this number, after which so many are shown: each call is shown as it is made, or one of them
+/// with the next.
 fn outcome_behind(before: Outcome, number: u64, shown: u64) -> Outcome {
     if shown == number {
         return before;

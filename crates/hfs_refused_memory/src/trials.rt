@@ -11,7 +11,7 @@ use std::thread::Threads;
 #[derive(Clone, Copy, Debug, PartialEq, Eq)]
 pub enum Outcome {
     AsSaid,
-    /// It was, and the publish behind the call of this number lagged.
+    /// It was, and the publish after the call of this number lagged.
     Lagged(u64),
     Otherwise,
 }

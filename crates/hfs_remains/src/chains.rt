@@ -139,7 +139,7 @@ fn owns_of(alloc: Global, records: &[OverflowRecord]) -> Result<Vec<u64>, AllocE
     Ok(owns)
 }
 
-/// The number at a place, 0 behind the last.
+/// The number at a place, 0 after the last.
 fn number_at(numbers: &[u64], i: usize) -> u64
     ensures { result ≡ spec.number_at numbers.now i }
 {
@@ -227,7 +227,7 @@ impl<'a> Model for Chains<'a> {
 }
 
 impl<'a> Chains<'a> {
-    /// The chains of records. The only error is want of memory.
+    /// The chains of records. Fails only when out of memory.
     pub fn of(alloc: Global, records: &'a [OverflowRecord]) -> Result<Chains<'a>, AllocError>
         ensures { IfOk result (λ chains. chains ≡ records.now) }
     {
@@ -280,7 +280,7 @@ fn push_extents(record: &OverflowRecord, extents: &mut Vec<Extent>) -> Result<()
 }
 
 /// The extents of a fork, where its record has these first ones and it wants so many blocks. It reads no more records than the
-/// fork has blocks of those that it wants. The only error is want of memory.
+/// fork has blocks of those that it wants. Fails only when out of memory.
 #[tactic(auto, unfolding(hfs_rescue::specs::OverflowRecords::fork_extents))]
 pub(crate) fn extents_of(
     alloc: Global,

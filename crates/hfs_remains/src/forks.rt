@@ -83,7 +83,7 @@ impl Fork {
         lesser(held, self.len)
     }
 
-    /// The blocks of the fork in order, None in the place of each that is missing. The only error is want of memory.
+    /// The blocks of the fork in order, None in the place of each that is missing. Fails only when out of memory.
     #[tactic(auto, unfolding(crate::specs::Forks::fork_places, crate::specs::Forks::fork_blocks))]
     pub fn places(
         &self,
@@ -131,7 +131,7 @@ fn there(total: u32, mdb: &Mdb, b: u32) -> Option<u16>
     }
 }
 
-/// Puts the blocks of an extent behind others, until so many are there.
+/// Puts the blocks of an extent after others, until so many are there.
 fn push_extent(
     places: &mut Vec<Option<u16>>,
     extent: Extent,

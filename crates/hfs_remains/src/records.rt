@@ -78,7 +78,7 @@ fn naming(found: &FoundRecord) -> Option<Thing>
     })
 }
 
-/// Puts the folder that a record names behind others, where it names one.
+/// Puts the folder that a record names after others, where it names one.
 fn push_naming(found: &FoundRecord, things: &mut Vec<Thing>) -> Result<(), AllocError>
     ensures { OnOk result (things.new.items ≡ things.old.items ++ option_to_list (spec.naming
         found.now)) }
@@ -92,7 +92,7 @@ fn push_naming(found: &FoundRecord, things: &mut Vec<Thing>) -> Result<(), Alloc
     }
 }
 
-/// The folders that records name, in the order of the records. The only error is want of memory.
+/// The folders that records name, in the order of the records. Fails only when out of memory.
 pub fn namings(alloc: Global, records: &[FoundRecord]) -> Result<Vec<Thing>, AllocError>
     ensures { IfOk result (λ things. things.items ≡ spec.namings_of records.now) }
 {
@@ -103,7 +103,7 @@ pub fn namings(alloc: Global, records: &[FoundRecord]) -> Result<Vec<Thing>, All
     Ok(things)
 }
 
-/// Items as things, in order. The only error is want of memory.
+/// Items as things, in order. Fails only when out of memory.
 pub fn things_of(alloc: Global, items: &[FoundRecord]) -> Result<Vec<Thing>, AllocError>
     ensures { IfOk result (λ things. things.items ≡ map spec.thing_of items.now) }
 {

@@ -195,7 +195,7 @@ impl<'a> Model for Salvage<'a> {
 }
 
 impl<'a> Salvage<'a> {
-    /// The forks of items, of which so many bytes are taken at most. The only error is want of memory.
+    /// The forks of items, of which so many bytes are taken at most. Fails only when out of memory.
     pub fn of(
         alloc: Global,
         trees: Trees<'a>,
@@ -251,8 +251,8 @@ impl<'a> Salvage<'a> {
         Ok(found)
     }
 
-    /// A fork of item `i`, counted from 0: how many of its bytes are taken, the blocks that hold them, and what is said of it. None
-    /// where the item is a folder. The only error is want of memory.
+    /// A fork of item `i`, counted from 0: how many of its bytes are taken, the blocks that hold them, and what is said of it.
+    /// None where the item is a folder. Fails only when out of memory.
     pub fn fork(
         &self,
         alloc: Global,
@@ -269,7 +269,7 @@ impl<'a> Salvage<'a> {
         Ok(Some(found))
     }
 
-    /// What is said of the two forks of item `i`, data before resources; None where it is a folder. The only error is want of
+    /// What is said of the two forks of item `i`, data before resources; None where it is a folder. Fails only when out of
     /// memory.
     pub fn verdicts(
         &self,

@@ -71,8 +71,8 @@ fn take_item(
     })
 }
 
-/// What is taken of each item's forks, in the order of the items, of so many bytes in all: a fork for which they are not enough is
-/// left, and those behind it are looked at. The only error is want of memory.
+/// What is taken of each item's forks, in the order of the items, of so many bytes in all: a fork for which they are not enough
+/// is left, and those after it are looked at. Fails only when out of memory.
 pub(crate) fn shares_of(
     alloc: Global,
     chains: &Chains<'_>,

@@ -6,8 +6,8 @@ ghost use Rattle.hfs_remains_page.specs.Dress.{IsRemainsDress};
 use crate::remains_texts::RemainsTexts;
 use hfs_page::{PageImage, standard_texts};
 
-/// The style behind that of all pages of disks. A wide page has what is said of forks in a column beside the others, a narrow one in a line
-/// below them.
+/// The style after that of all pages of disks. A wide page has what is said of forks in a column beside the others, a narrow one
+/// in a line below them.
 fn style() -> &'static [u8]
     ensures { Leads [] [] result.now }
 {

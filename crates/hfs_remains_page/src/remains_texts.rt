@@ -7,7 +7,7 @@ use hfs_page::PageTexts;
 pub struct RemainsTexts<'a> {
     /// The style, the script, the version and the image, as all pages of disks have them.
     pub page: PageTexts<'a>,
-    /// Behind that style, the style of such a page alone.
+    /// After that style, the style of such a page alone.
     pub style: &'a [u8],
     /// Before the items: their heading, the field of the search, and the heads of their columns.
     pub columns: &'a [u8],

@@ -229,7 +229,7 @@ fn push_flat(
     push_bytes(page, b"</li>\n")
 }
 
-/// Appends the row of a folder that lies in so many, behind the beginning of its element.
+/// Appends the row of a folder that lies in so many, after the beginning of its element.
 fn push_folder_row(
     alloc: Global,
     page: &mut Vec<u8>,
@@ -461,7 +461,7 @@ fn depth_at(opened: usize, step: Step) -> usize
     opened.min(step.depth)
 }
 
-/// How many folders stand open behind a node of this kind that lies in so many of those that do.
+/// How many folders stand open after a node of this kind that lies in so many of those that do.
 fn opened_by(kind: ItemKind, depth: usize) -> usize
     ensures { result ≡ open_by kind depth }
 {
@@ -471,7 +471,7 @@ fn opened_by(kind: ItemKind, depth: usize) -> usize
     }
 }
 
-/// How many folders stand open behind a node where so many do before it.
+/// How many folders stand open after a node where so many do before it.
 pub(crate) fn open_behind(found: &Found<'_>, opened: usize, step: Step) -> usize
     ensures { result ≡ spec.open_behind found.now opened step }
 {

@@ -134,7 +134,7 @@ fn push_walk_if(
     push_walk(alloc, things, lists, order, node)
 }
 
-/// The order of the tree: the root with what lies in it, what is lost, and what is old. The only error is want of memory.
+/// The order of the tree: the root with what lies in it, what is lost, and what is old. Fails only when out of memory.
 #[tactic(auto, unfolding(crate::specs::Trees::tree_order))]
 pub(crate) fn tree_order(alloc: Global, found: &Found<'_>) -> Result<Vec<Step>, AllocError>
     ensures { IfOk result (λ order. order.items ≡ spec.tree_order found.now.places.now) }

@@ -28,7 +28,7 @@ fn put_text<W: Write>(writer: &mut W, text: &mut Vec<u8>) -> Result<(), PageFaul
     Ok(())
 }
 
-/// Gathers the row of a node behind a text, and writes that where it has become long.
+/// Gathers the row of a node after a text, and writes that where it has become long.
 #[tactic(auto, using(crate::proofs::GatherLemmas::row_kept, crate::proofs::GatherLemmas::row_out, crate::proofs::GatherLemmas::nothing_out))]
 fn gather_row<W: Write>(
     alloc: Global,

@@ -41,7 +41,7 @@ fn catalog_extents<N: Nodes>(
 }
 
 /// The extents of the catalog file, with those that go on in the extents tree, where that tree is right but for its two counts.
-/// None exactly where it isn't. The only error is want of memory.
+/// None exactly where it isn't. Fails only when out of memory.
 pub fn mendable_catalog_file<B: Blocks>(
     alloc: Global,
     blocks: &B,
@@ -62,7 +62,7 @@ pub fn mendable_catalog_file<B: Blocks>(
 }
 
 /// The catalog tree, where its file lies in the volume, and it has its shape but for its two counts. None exactly where it
-/// hasn't. The only error is want of memory.
+/// hasn't. Fails only when out of memory.
 pub(crate) fn catalog_tree<B: Blocks>(
     alloc: Global,
     blocks: &B,
@@ -83,7 +83,7 @@ pub(crate) fn catalog_tree<B: Blocks>(
     tree_file::<CatKey, B>(alloc, blocks, mdb, &file, mdb.catalog_file_size)
 }
 
-/// The records of a catalog that has its shape but for its two counts. The only error is want of memory.
+/// The records of a catalog that has its shape but for its two counts. Fails only when out of memory.
 pub(crate) fn catalog_records<N: Nodes>(
     alloc: Global,
     nodes: &N,
@@ -99,8 +99,8 @@ pub(crate) fn catalog_records<N: Nodes>(
     read_records(alloc, &headed)
 }
 
-/// Whether the records of a catalog that has its shape but for its two counts are right: records, IDs, names, and order,
-/// parents and threads, on a volume whose next ID is `next`. The only error is want of memory.
+/// Whether the records of a catalog that has its shape but for its two counts are right: records, IDs, names, and order, parents
+/// and threads, on a volume whose next ID is `next`. Fails only when out of memory.
 pub(crate) fn are_records_right<N: Nodes>(
     alloc: Global,
     next: u32,

@@ -17,7 +17,7 @@ use hfs_check::{MountFault, check_extents_tree};
 use hfs_fields::{ExtKey, Mdb};
 use std::alloc::{AllocError, Global};
 
-/// Whether a check's answer is that nothing is wrong. The only error is want of memory.
+/// Whether a check's answer is that nothing is wrong. Fails only when out of memory.
 pub(crate) fn is_right(answer: Result<(), MountFault>) -> Result<bool, AllocError>
     ensures { (found : Option fault.MountFault) → Answers found answer
         → IfOk result (IsRight found) }
@@ -47,7 +47,7 @@ fn are_in_order<N: Nodes>(
 }
 
 /// The extents tree, where its file lies in the volume, and it is right but for its two counts. None exactly where it isn't.
-/// The only error is want of memory.
+/// Fails only when out of memory.
 pub(crate) fn extents_tree<B: Blocks>(
     alloc: Global,
     blocks: &B,

@@ -50,7 +50,7 @@ fn fix_of(number: &WrongNumber) -> Fix
     }
 }
 
-/// What is told of these numbers: each once, in the order of `FixPlace`. The only error is want of memory.
+/// What is told of these numbers: each once, in the order of `FixPlace`. Fails only when out of memory.
 pub(crate) fn fixes(alloc: Global, numbers: &[WrongNumber]) -> Result<Vec<Fix>, AllocError>
     ensures { IfOk result (λ fixes. AreFixes numbers.now fixes.items) }
 {

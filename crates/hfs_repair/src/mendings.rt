@@ -24,9 +24,9 @@ pub struct Mending {
 }
 
 impl Mending {
-    /// What a repair of an image writes and tells: the counted numbers that are wrong, where all before them is right; nothing where
-    /// something before them is wrong. A number that is too large for its field stays. The image is left as it is, and read a fixed
-    /// number of times. The only error is want of memory.
+    /// What a repair of an image writes and tells: the counted numbers that are wrong, where all before them is right; nothing
+    /// where something before them is wrong. A number that is too large for its field stays. The image is left as it is, and read
+    /// a fixed number of times. Fails only when out of memory.
     ///
     /// Source: Inside Macintosh: Files, chapter 2, 'Data Organization on Volumes'; docs/CHECKS.md has the ten numbers.
     pub fn of(alloc: Global, image: &[u8]) -> Result<Mending, AllocError>

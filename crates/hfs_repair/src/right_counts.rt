@@ -24,7 +24,7 @@ pub(crate) struct RightCounts {
     pub(crate) head: [u8; 512],
 }
 
-/// A header record with these fields, and behind them the bytes of the old one.
+/// A header record with these fields, and after them the bytes of the old one.
 fn header_entry(alloc: Global, header: &Header, old: &[u8]) -> Result<Vec<u8>, AllocError>
     requires { 30 ≤ length old.now }
     ensures fields { IfOk result (λ made. header_of made.items ≡ header.now) }
@@ -63,7 +63,7 @@ fn head_with<K: Key, N: Nodes>(
 }
 
 /// The two numbers of a tree in a file of `size` bytes that has its shape but for what its header record tells of them. None
-/// exactly where it hasn't. The only error is want of memory.
+/// exactly where it hasn't. Fails only when out of memory.
 pub(crate) fn right_counts<K: Key, N: Nodes>(
     alloc: Global,
     nodes: &N,

@@ -114,7 +114,7 @@ pub(crate) fn wrong_in_blocks<B: Blocks>(
 }
 
 /// The counted numbers that are wrong in an image which is right before them, in the order in which they are written; none where
-/// anything before them is wrong. One that is too large for its field is none of them. The only error is want of memory.
+/// anything before them is wrong. One that is too large for its field is none of them. Fails only when out of memory.
 pub(crate) fn wrong_numbers(alloc: Global, image: &[u8]) -> Result<Vec<WrongNumber>, AllocError>
     ensures { IfOk result (λ wrong. wrong.items ≡ wrong_in image.now) }
 {

@@ -101,7 +101,7 @@ fn records_of_tree(
     Ok(records)
 }
 
-/// Whether the catalog tree passes its check, whose file has these extents and these nodes. The only error is want of memory.
+/// Whether the catalog tree passes its check, whose file has these extents and these nodes. Fails only when out of memory.
 #[tactic(auto, unfolding(crate::specs::CatalogRecords::is_catalog_tree_right))]
 pub fn is_catalog_tree_right<B: Blocks>(
     alloc: Global,
@@ -176,8 +176,8 @@ fn scattered_records<B: Blocks>(
     Ok(records)
 }
 
-/// Whether a catalog has its shape, whose file has these extents and these nodes, and in each record a folder's or a file's under a
-/// name, or a thread's under an empty one. The only error is want of memory.
+/// Whether a catalog has its shape, whose file has these extents and these nodes, and in each record a folder's or a file's under
+/// a name, or a thread's under an empty one. Fails only when out of memory.
 #[tactic(auto, unfolding(crate::specs::CatalogRecords::is_catalog_right))]
 pub fn is_catalog_right<B: Blocks>(
     alloc: Global,
@@ -199,7 +199,7 @@ pub fn is_catalog_right<B: Blocks>(
 /// The records of a catalog whose file has these extents and these nodes: where it passes its check those of its last level, in
 /// order; else those of all its leaves, first of the leaves that are in use, then of the others, each in the order of their
 /// numbers; and where nodes are lacking or none of these is a catalog record also those of other blocks of the image that are
-/// leaves with nothing but catalog records. What has not the form of a catalog record is passed over. The only error is want of
+/// leaves with nothing but catalog records. What has not the form of a catalog record is passed over. Fails only when out of
 /// memory.
 #[tactic(auto, unfolding(crate::specs::CatalogRecords::catalog_records))]
 pub fn catalog_records<B: Blocks>(
@@ -220,8 +220,8 @@ pub fn catalog_records<B: Blocks>(
     }
 }
 
-/// Whether `catalog_records` looks at other blocks than the file's, whose extents and nodes these are: where the catalog does not pass
-/// its check, and its nodes that are there are lacking or have no record. The only error is want of memory.
+/// Whether `catalog_records` looks at other blocks than the file's, whose extents and nodes these are: where the catalog does not
+/// pass its check, and its nodes that are there are lacking or have no record. Fails only when out of memory.
 #[tactic(auto, unfolding(crate::specs::CatalogRecords::looks_elsewhere))]
 pub fn looks_elsewhere<B: Blocks>(
     alloc: Global,

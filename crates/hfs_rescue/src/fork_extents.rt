@@ -54,7 +54,7 @@ fn fork_places(
     Ok(places)
 }
 
-/// The place that is noted at a block, None behind the last.
+/// The place that is noted at a block, None after the last.
 fn place_at(places: &[Option<usize>], block: u32) -> Option<usize>
     ensures { result ≡ slice_index_or places.now block None }
 {
@@ -155,7 +155,7 @@ fn push_extents(entry: &OverflowRecord, extents: &mut Vec<Extent>) -> Result<(),
 
 /// The extents of a fork, where its record has these first ones and it wants so many blocks: these, and those of the records that
 /// go on with it, each from the block where the ones before it end, as long as there is one with a block and blocks are wanted.
-/// The only error is want of memory.
+/// Fails only when out of memory.
 #[tactic(auto, unfolding(crate::specs::OverflowRecords::fork_extents))]
 fn fork_extents(
     alloc: Global,
@@ -193,7 +193,7 @@ fn fork_extents(
 }
 
 /// All extents of the catalog file: the directory's three, and those of the records that go on with it, as long as there is one
-/// with a block. The only error is want of memory.
+/// with a block. Fails only when out of memory.
 #[tactic(auto, unfolding(crate::specs::OverflowRecords::catalog_extents))]
 pub fn catalog_extents(
     alloc: Global,

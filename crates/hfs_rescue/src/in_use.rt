@@ -33,7 +33,7 @@ fn is_map(node: &NodeView) -> bool
     }
 }
 
-/// Bit `n` of a map, clear behind its end.
+/// Bit `n` of a map, clear past its end.
 fn has_bit(map: &[u8], n: u64) -> bool
     ensures { result ≡ bit_of map.now n }
 {
@@ -45,8 +45,8 @@ fn has_bit(map: &[u8], n: u64) -> bool
     }
 }
 
-/// Reads node `n`. Where it is a map node, its part of the map is added, and the number of the node behind it is the answer.
-/// None where it is no map node.
+/// Reads node `n`. Where it is a map node, its part of the map is added, and the number of the node after it is the answer. None
+/// where it is no map node.
 fn read_map_node<B: Blocks>(
     nodes: &FileNodes<'_, B>,
     n: u32,
@@ -131,9 +131,9 @@ pub struct NodesInUse {
 }
 
 impl NodesInUse {
-    /// Reads the map of a tree: the third record of node 0, and the first records of the map nodes that hang on it, each once.
-    /// It is believed where node 0 is a header node with three records, the first of at least 18 bytes, and the map marks node 0
-    /// and the node that bthLNode names. The only error is want of memory.
+    /// Reads the map of a tree: the third record of node 0, and the first records of the map nodes that hang on it, each once. It
+    /// is believed where node 0 is a header node with three records, the first of at least 18 bytes, and the map marks node 0 and
+    /// the node that bthLNode names. Fails only when out of memory.
     pub fn of<B: Blocks>(alloc: Global, nodes: &FileNodes<'_, B>) -> Result<NodesInUse, AllocError>
         ensures { IfOk result (λ used. TellsUse (nodes_of (B.blocks nodes.now.blocks.now)
             nodes.now.mdb.now nodes.now.file.now) used.map) }

@@ -28,7 +28,7 @@ fn is_known(rows: &Rows, ids: &Numbers, row: &Vec<u8>, old: bool, id: u32) -> bo
     rows.has(row) || (old && ids.has(id))
 }
 
-/// Puts a record behind the items, where it is one more.
+/// Puts a record after the items, where it is one more.
 fn push_item(
     alloc: Global,
     found: FoundRecord,
@@ -53,8 +53,8 @@ fn push_item(
     Ok(())
 }
 
-/// The items among the records of a catalog, in order: the folders and files with a name, but for one that has the same parent, name
-/// and body as an item before it, and for an old one whose ID an item before it has. The only error is want of memory.
+/// The items among the records of a catalog, in order: the folders and files with a name, but for one that has the same parent,
+/// name and body as an item before it, and for an old one whose ID an item before it has. Fails only when out of memory.
 pub fn items_of(alloc: Global, records: Vec<FoundRecord>) -> Result<Vec<FoundRecord>, AllocError>
     ensures { IfOk result (λ items. items.items ≡ spec.items_of records.items) }
 {

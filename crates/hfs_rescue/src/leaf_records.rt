@@ -142,8 +142,8 @@ fn push_of_age<B: Blocks>(
     Ok(())
 }
 
-/// The records of all leaves of a tree: of those in use in the order of their numbers, and then of the others. The only error is
-/// want of memory.
+/// The records of all leaves of a tree: of those in use in the order of their numbers, and then of the others. Fails only when
+/// out of memory.
 #[tactic(auto, unfolding(crate::specs::LeafRecords::all_leaf_records))]
 pub fn all_leaf_records<B: Blocks>(
     alloc: Global,

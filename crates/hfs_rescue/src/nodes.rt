@@ -26,7 +26,7 @@ pub struct FileNodes<'a, B: Blocks> {
     ghost few: { length file.now < 2 ^ 40 },
 }
 
-/// The block at a place of a file, None where it is missing or behind the file's end.
+/// The block at a place of a file, None where it is missing or past the file's end.
 pub(crate) fn block_at(file: &[Option<u16>], place: usize) -> Option<u16>
     ensures { result ≡ slice_index_or file.now place None }
 {

@@ -120,7 +120,7 @@ fn records_of_leaves(
     Ok(records)
 }
 
-/// Whether a check found no fault. The only error is want of memory.
+/// Whether a check found no fault. Fails only when out of memory.
 fn has_passed(answer: Result<(), MountFault>) -> Result<bool, AllocError>
     ensures { IfOk result (λ right. (fault : Option MountFault) → Answers fault answer → right ≡
         is_none fault) }
@@ -138,7 +138,7 @@ fn has_passed(answer: Result<(), MountFault>) -> Result<bool, AllocError>
     }
 }
 
-/// Whether the extents tree passes its check, of whose file these are the nodes. The only error is want of memory.
+/// Whether the extents tree passes its check, of whose file these are the nodes. Fails only when out of memory.
 #[tactic(auto, unfolding(crate::specs::OverflowRecords::is_extents_tree_right))]
 pub fn is_extents_tree_right<B: Blocks>(
     alloc: Global,
@@ -160,8 +160,8 @@ pub fn is_extents_tree_right<B: Blocks>(
 }
 
 /// The records of the extents tree, of whose file these are the nodes: where it passes its check those of its last level, in
-/// order; else all of its leaves that have the form of one, first of the leaves that are in use, then of the others, each in
-/// the order of their numbers. The only error is want of memory.
+/// order; else all of its leaves that have the form of one, first of the leaves that are in use, then of the others, each in the
+/// order of their numbers. Fails only when out of memory.
 #[tactic(auto, unfolding(crate::specs::OverflowRecords::overflow_records))]
 pub fn overflow_records<B: Blocks>(
     alloc: Global,

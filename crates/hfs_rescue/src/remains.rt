@@ -63,7 +63,7 @@ fn found_of<B: Blocks>(
 }
 
 /// What is found of a volume by this directory: the blocks of the extents file that are there, the records of its tree, by these
-/// the blocks of the catalog file, and the records of the catalog. The only error is want of memory.
+/// the blocks of the catalog file, and the records of the catalog. Fails only when out of memory.
 pub fn find_remains<B: Blocks>(alloc: Global, blocks: &B, mdb: &Mdb) -> Result<Remains, AllocError>
     requires { 512 ≤ mdb.now.allocation_block_size }
     ensures remains { IfOk result (spec.AreRemains (B.total blocks.now) (B.blocks blocks.now)

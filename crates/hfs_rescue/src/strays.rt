@@ -94,7 +94,7 @@ fn push_stray<B: Blocks>(
 }
 
 /// The records of leaves in the blocks from block 3 on that are no node of the catalog, where a leaf has nothing but catalog
-/// records. Each block is read once. The only error is want of memory.
+/// records. Each block is read once. Fails only when out of memory.
 #[tactic(auto, unfolding(crate::specs::CatalogRecords::all_stray_records))]
 pub(crate) fn all_stray_records<B: Blocks>(
     alloc: Global,

@@ -33,7 +33,7 @@ fn take_block(marks: &mut [bool], b: u32) -> Option<u16>
     }
 }
 
-/// Takes the blocks of an extent, in order, behind those of a file.
+/// Takes the blocks of an extent, in order, after those of a file.
 fn take_extent(
     marks: &mut [bool],
     extent: Extent,
@@ -52,9 +52,9 @@ fn take_extent(
     Ok(())
 }
 
-/// The blocks of a tree's file that has these extents, in order, in an image of `total` logical blocks: None in the place of
-/// each that is missing. A block is missing where it is none of the directory's, where it doesn't lie whole in the image, and
-/// where it came before in this file. The only error is want of memory.
+/// The blocks of a tree's file that has these extents, in order, in an image of `total` logical blocks: None in the place of each
+/// that is missing. A block is missing where it is none of the directory's, where it doesn't lie whole in the image, and where it
+/// came before in this file. Fails only when out of memory.
 #[tactic(auto, unfolding(crate::specs::TreeFiles::file_blocks))]
 pub fn file_blocks(
     alloc: Global,

@@ -17,7 +17,7 @@ use std::alloc::{AllocError, Global};
 #[derive(Drop)]
 pub(crate) struct Came {
     pub(crate) planned: Planned,
-    /// The path of the folder that holds it, with a slash behind it.
+    /// The path of the folder that holds it, with a slash after it.
     pub(crate) above: String,
     /// Its entry.
     pub(crate) name: String,

@@ -67,9 +67,9 @@ fn write_next<S: BlockSource, W: Write>(
     }
 }
 
-/// Writes the bytes of a fork that was found, at most 65,536 at a time, as they are read: memory doesn't grow with them. Errors: a read
-/// failed or memory was refused, before anything was written; either behind bytes that were written (`BrokenOff`), or the writer
-/// failed: then a part of the fork may have gone out, from its first byte on, and nothing else.
+/// Writes the bytes of a fork that was found, at most 65,536 at a time, as they are read: memory doesn't grow with them. Errors:
+/// a read failed or memory was refused, before anything was written; either after bytes that were written (`BrokenOff`), or the
+/// writer failed: then a part of the fork may have gone out, from its first byte on, and nothing else.
 #[tactic(auto, using(crate::proofs::WritingLemmas::begun, crate::proofs::WritingLemmas::goes_on, crate::proofs::WritingLemmas::ended_front, crate::proofs::WritingLemmas::all_written, crate::proofs::WritingLemmas::nothing_written))]
 pub fn write_fork<S: BlockSource, W: Write>(
     alloc: Global,

@@ -12,7 +12,7 @@ pub struct Found<'a> {
     /// The directory.
     pub mdb: &'a Mdb,
     pub items: &'a [FoundRecord],
-    /// Where the items lie, and behind them the folders that only threads name.
+    /// Where the items lie, and after them the folders that only threads name.
     pub places: &'a Places,
     /// The forks of the items.
     pub salvage: &'a Salvage<'a>,

@@ -89,8 +89,8 @@ fn open_stream<'a>(
 }
 
 impl<'a, S: BlockSource + Drop> RescueItems<'a, S> {
-    /// What was found of an image, from its first item on; the bytes of forks are read from this source. The only error is want of memory, and
-    /// the source comes back.
+    /// What was found of an image, from its first item on; the bytes of forks are read from this source. Fails only when out of
+    /// memory, and the source comes back.
     pub fn new(alloc: Global, found: Found<'a>, source: S) -> Result<RescueItems<'a, S>, S>
         ensures found { IfOk result (λ made. made.found ≡ found.entry) }
         ensures source { IfOk result (λ made. made.source ≡ source) }

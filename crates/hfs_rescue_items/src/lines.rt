@@ -30,8 +30,8 @@ fn remains_line(
     Ok(line)
 }
 
-/// Appends the line of an item with this number, counted from 0, in the table of what remains: path below the payload, number, ID,
-/// what is said of both forks, with tabs between. The only error is want of memory.
+/// Appends the line of an item with this number, counted from 0, in the table of what remains: path below the payload, number,
+/// ID, what is said of both forks, with tabs between. Fails only when out of memory.
 pub fn push_remains_line(
     alloc: Global,
     text: &mut Vec<u8>,

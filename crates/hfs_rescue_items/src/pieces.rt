@@ -13,7 +13,7 @@ use std::alloc::{AllocError, Global};
 /// The most bytes that are read at once.
 const MOST_AT_ONCE: u32 = 65_536;
 
-/// The number of the logical block behind so many bytes from a block on; None where they end within one.
+/// The number of the logical block after so many bytes from a block on; None where they end within one.
 fn block_behind(first: u32, len: u32) -> Option<u32>
     ensures { IfSome result (λ next. 512 * next ≡ 512 * first + len) }
 {
@@ -71,7 +71,7 @@ fn push_part(pieces: &mut Vec<Piece>, first: Option<u32>, len: u32) -> Result<()
     Ok(())
 }
 
-/// The logical block behind 65,536 bytes that begin in this one; None where they are missing. Error: there is no such block.
+/// The logical block after 65,536 bytes that begin in this one; None where they are missing. Error: there is no such block.
 #[tactic(auto, using(crate::proofs::PieceLemmas::missing_goes_on, crate::proofs::PieceLemmas::block_goes_on))]
 fn first_behind(first: Option<u32>, len: u32) -> Result<Option<u32>, SourceFault>
     requires { len ≤ 65536 }
@@ -135,7 +135,7 @@ fn push_place(
     push_run(pieces, first, count)
 }
 
-/// So many bytes of a fork in these blocks, in pieces. Errors: memory was refused; a block lies behind all that can be read.
+/// So many bytes of a fork in these blocks, in pieces. Errors: memory was refused; a block lies past all that can be read.
 #[tactic(auto, using(hfs_remains::proofs::ForkByteLemmas::fork_whole))]
 pub(crate) fn pieces_of(
     alloc: Global,

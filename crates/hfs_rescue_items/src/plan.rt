@@ -17,7 +17,7 @@ use std::alloc::{AllocError, Global};
 /// What is made of a part of a thing's path.
 #[derive(Clone, Copy)]
 pub(crate) struct Planned {
-    /// The number of the item; that of a named folder is behind those of the items.
+    /// The number of the item; that of a named folder is after those of the items.
     pub(crate) place: usize,
     /// The bytes of its path between which the name stands of what is made.
     pub(crate) from: usize,
@@ -44,14 +44,14 @@ fn first_part(place: usize) -> Planned
     }
 }
 
-/// Where the name begins that goes on behind a byte: there, where this is a slash.
+/// Where the name begins that goes on after a byte: there, where this is a slash.
 fn from_behind(byte: u8, from: usize, to: usize) -> usize
     ensures { result ≡ if byte == 47 then to else from }
 {
     if byte == b'/' { to } else { from }
 }
 
-/// A part and one more byte of the path: behind a slash another name begins.
+/// A part and one more byte of the path: after a slash another name begins.
 #[tactic(auto, unfolding(crate::specs::Plan::part_behind))]
 fn part_behind(part: Planned, byte: u8) -> Planned
     requires { part.to < 2 ^ 63 }
@@ -331,8 +331,8 @@ fn plan_thing(alloc: Global, found: &Found<'_>, plan: &mut Plan, i: usize) -> Re
     Ok(())
 }
 
-/// What is made of all that was found: of each item in order what it is, each folder where it is first wanted, and the named folders
-/// behind them. The only error is want of memory.
+/// What is made of all that was found: of each item in order what it is, each folder where it is first wanted, and the named
+/// folders after them. Fails only when out of memory.
 #[tactic(auto, using(crate::proofs::PlanLemmas::plan_begun, crate::proofs::PlanLemmas::thing_more, crate::proofs::PlanLemmas::plan_ends, crate::proofs::PlanLemmas::knows_none, crate::proofs::PlanLemmas::all_none))]
 pub(crate) fn plan_of(alloc: Global, found: &Found<'_>) -> Result<Vec<Planned>, AllocError>
     ensures { IfOk result (λ plan. plan.items ≡ spec.whole_plan found.now) }

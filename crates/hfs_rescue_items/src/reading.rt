@@ -30,7 +30,7 @@ pub(crate) enum Reading<'a> {
     Remains(Lines<'a>),
 }
 
-/// Puts lines of the table of all items behind a piece, until it is whole or there are none.
+/// Puts lines of the table of all items after a piece, until it is whole or there are none.
 #[tactic(auto, using(crate::proofs::LineLemmas::line_more, crate::proofs::LineLemmas::lines_none, crate::proofs::LineLemmas::lines_whole))]
 fn push_items(
     alloc: Global,
@@ -57,7 +57,7 @@ fn push_items(
     Ok(())
 }
 
-/// Puts lines of the table of what remains behind a piece, until it is whole or there are none.
+/// Puts lines of the table of what remains after a piece, until it is whole or there are none.
 #[tactic(auto, using(crate::proofs::LineLemmas::line_more, crate::proofs::LineLemmas::lines_none, crate::proofs::LineLemmas::lines_whole))]
 fn push_remains(
     alloc: Global,

@@ -155,7 +155,7 @@ fn added(sums: FoundSums, more: FoundSums) -> FoundSums
     }
 }
 
-/// How much remains of all items. The only error is want of memory.
+/// How much remains of all items. Fails only when out of memory.
 #[tactic(auto, using(crate::proofs::SumLemmas::none_first, crate::proofs::SumLemmas::one_more, crate::proofs::SumLemmas::sums_are))]
 pub fn sums_of(alloc: Global, found: &Found<'_>) -> Result<FoundSums, AllocError>
     ensures { IfOk result (spec.AreSums found.now) }

@@ -8,7 +8,7 @@ use hfs_rescue::FoundRecord;
 pub(crate) struct Lines<'a> {
     /// The number of the item whose line is next.
     pub(crate) next: usize,
-    /// That item and those behind it.
+    /// That item and those after it.
     pub(crate) items: &'a [FoundRecord],
     ghost few: { next + length items.now < 2 ^ 64 },
 }

@@ -38,7 +38,7 @@ fn put_piece<W: Write>(writer: &mut W, text: &mut Vec<u8>) -> Result<(), TableFa
     Ok(())
 }
 
-/// Gathers the row of item `i` behind a text, where it is selected, and writes that where it has become long.
+/// Gathers the row of item `i` after a text, where it is selected, and writes that where it has become long.
 #[tactic(auto, using(crate::proofs::GatherLemmas::row_kept, crate::proofs::GatherLemmas::row_out, crate::proofs::GatherLemmas::nothing_out))]
 fn gather_row<W: Write>(
     alloc: Global,

@@ -81,8 +81,8 @@ fn close_by<K: Session, R: Wait>(
     }
 }
 
-/// Closes the shared volume by the first viewer, which learns all that the workers were told; with it what all were answered. The only
-/// error is want of memory.
+/// Closes the shared volume by the first viewer, which learns all that the workers were told; with it what all were answered.
+/// Fails only when out of memory.
 pub fn close<K: Session, R: Wait>(
     rt: &R,
     alloc: Global,

@@ -12,7 +12,7 @@ pub enum ScriptFault {
     TooLarge,
     /// The line of that number is the first that doesn't read, counted from 1.
     Line(u64),
-    /// The image is refused, and not for want of memory.
+    /// The image is refused, and not for lack of memory.
     Refused(MountFault),
     /// There was no place for a viewer.
     NoPlace,

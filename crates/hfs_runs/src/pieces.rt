@@ -22,7 +22,7 @@ pub struct Piece {
     pub asked: Asked,
 }
 
-/// The answers to a script, as pieces and what stands behind them.
+/// The answers to a script, as pieces and what stands after them.
 #[derive(Drop)]
 pub struct Answers {
     pub pieces: Vec<Piece>,
@@ -66,7 +66,7 @@ fn long_head(alloc: Global, asked: Asked, reply: &Reply) -> Result<Option<String
     }
 }
 
-/// Ends a piece behind a text and the head of a reply's lines, and answers the text that follows the digits.
+/// Ends a piece after a text and the head of a reply's lines, and answers the text that follows the digits.
 fn end_piece(
     alloc: Global,
     pieces: &mut Vec<Piece>,
@@ -84,7 +84,7 @@ fn end_piece(
     String::from_str(alloc, "\n")
 }
 
-/// The text with the lines of the answer to a call behind it, of which all but the last may have become a piece.
+/// The text with the lines of the answer to a call after it, of which all but the last may have become a piece.
 fn push_answer(
     alloc: Global,
     pieces: &mut Vec<Piece>,
@@ -107,7 +107,7 @@ fn push_answer(
     Ok(text)
 }
 
-/// The answers to the calls of these lines, in the script's order, and whether each was answered. The only error is want of memory.
+/// The answers to the calls of these lines, in the script's order, and whether each was answered. Fails only when out of memory.
 #[tactic(auto, unfolding(crate::specs::Answers::answers_text, crate::specs::Answers::is_whole))]
 pub fn answers_in_pieces(
     alloc: Global,

@@ -37,7 +37,7 @@ pub struct Ran {
     pub text: String,
     /// Whether each line was answered.
     pub whole: bool,
-    /// Whether viewers were shown each change at once, and none later for want of memory.
+    /// Whether viewers were shown each change at once, and none later for lack of memory.
     pub shown: bool,
 }
 
@@ -50,7 +50,7 @@ pub struct RanInPieces {
     pub answers: Answers,
     /// Whether each line was answered.
     pub whole: bool,
-    /// Whether viewers were shown each change at once, and none later for want of memory.
+    /// Whether viewers were shown each change at once, and none later for lack of memory.
     pub shown: bool,
 }
 

@@ -95,7 +95,7 @@ fn status_of(sums: &FoundSums, is_right: bool) -> u8
 }
 
 impl RescueAnswer {
-    /// What is told of an image of which this was found. The only error is want of memory.
+    /// What is told of an image of which this was found. Fails only when out of memory.
     pub(crate) fn of(
         alloc: Global,
         check: &CheckAnswer,

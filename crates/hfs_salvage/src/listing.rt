@@ -42,7 +42,7 @@ fn put_piece<W: Write>(writer: &mut W, text: &mut Vec<u8>) -> Result<(), Fault<'
     Ok(())
 }
 
-/// Gathers the line of an item with this number behind a text, and writes that where it has become long.
+/// Gathers the line of an item with this number after a text, and writes that where it has become long.
 fn gather_line<W: Write>(
     alloc: Global,
     writer: &mut W,
@@ -115,9 +115,9 @@ pub fn write_remains<S: PlacedBlocks, W: Write>(
     Ok(answer)
 }
 
-/// Writes a line for each item that remains of an image, and answers what is told of it behind these. Faults, the first that holds: the image can't
-/// be read; `NoVolume`, `SeveralVolumes`; the image's own, where there is no directory in it; memory was refused, `OutputFailed`: a part of the lines may
-/// have gone out then.
+/// Writes a line for each item that remains of an image, and answers what is told of it after these. Faults, the first that
+/// holds: the image can't be read; `NoVolume`, `SeveralVolumes`; the image's own, where there is no directory in it; memory was
+/// refused, `OutputFailed`: a part of the lines may have gone out then.
 pub fn list_rescue<'a, R: Files + AllocGlobal, W: Write>(
     rt: &R,
     writer: &mut W,

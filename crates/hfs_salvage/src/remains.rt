@@ -48,7 +48,7 @@ fn refused_check(alloc: Global, why: MountFault) -> Result<CheckAnswer, AllocErr
     })
 }
 
-/// What remains of an image that was looked at and is refused; None where nothing is found of it. The only error is want of memory.
+/// What remains of an image that was looked at and is refused; None where nothing is found of it. Fails only when out of memory.
 pub fn remains_of<S: PlacedBlocks + Drop>(
     alloc: Global,
     image: RefusedImage<S>,

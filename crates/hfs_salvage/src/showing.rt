@@ -165,7 +165,7 @@ pub fn write_found_folder<S: PlacedBlocks, W: Write>(
     write_end_rows(alloc, writer, image, &found, end)
 }
 
-/// The exit status behind a fork that is whole, or isn't.
+/// The exit status after a fork that is whole, or isn't.
 fn whole_status(is_whole: bool) -> u8
     ensures { result ≡ whole_status is_whole }
 {

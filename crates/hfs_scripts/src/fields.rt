@@ -34,7 +34,7 @@ pub(crate) fn read_32_bytes(field: &[u8]) -> Option<[u8; 32]>
     <[u8; 32] as FromHex>::from_hex(field).ok()
 }
 
-/// At most 65,536 bytes, each as two hexadecimal digits of either case. `Err` only where memory is wanting.
+/// At most 65,536 bytes, each as two hexadecimal digits of either case. `Err` only when out of memory.
 #[tactic(auto, unfolding(crate::specs::Fields::few_bytes_of))]
 pub(crate) fn read_bytes(alloc: Global, field: &[u8]) -> Result<Option<SharedBytes>, AllocError>
     ensures { IfOk result (λ bytes. bytes ≡ few_bytes_of field.now) }

@@ -89,7 +89,7 @@ fn read_fields(alloc: Global, fields: &[&[u8]], now: u32) -> Result<Option<Scrip
     }
 }
 
-/// The line that bytes without a line feed are, if they are one. `Err` only where memory is wanting.
+/// The line that bytes without a line feed are, if they are one. `Err` only when out of memory.
 #[tactic(auto, unfolding(crate::specs::Lines::line_of))]
 pub(crate) fn read_line(
     alloc: Global,

@@ -99,7 +99,7 @@ impl Script {
         most
     }
 
-    /// The calls of a caller, in order, and the script of the other callers' lines. `Err` only where memory is wanting.
+    /// The calls of a caller, in order, and the script of the other callers' lines. `Err` only when out of memory.
     pub fn part(self, alloc: Global, caller: Caller) -> Result<(Vec<Call>, Script), AllocError>
         ensures calls { IfOk result (λ parts. parts.0.items ≡ calls_of caller self) }
         ensures others { IfOk result (λ parts. parts.1 ≡ lines_of_others caller self) }

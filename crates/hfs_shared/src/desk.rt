@@ -16,7 +16,7 @@ mod closing;
 pub enum CallFault {
     /// The pass's number is not the next one of its worker, or there is no such worker; then `wanted` is 0.
     Stamp { wanted: u64, given: u64 },
-    /// Memory is wanting.
+    /// Out of memory.
     Memory,
 }
 
@@ -42,7 +42,7 @@ impl Model for Desk {
 }
 
 impl Desk {
-    /// A desk of a volume with no changed block, for so many workers. The volume comes back where memory is wanting.
+    /// A desk of a volume with no changed block, for so many workers. The volume comes back when out of memory.
     pub fn new(alloc: Global, volume: Volume, workers: u32) -> Result<Desk, Volume>
         requires workers { workers ≤ 8 }
         requires fresh { volume.current ≡ volume.base }

@@ -80,7 +80,7 @@ impl<K: Session> Locked<K> {
         self.shown as u64
     }
 
-    /// Shows all that waits, in one step, or nothing of it where memory is wanting; what is then published is told.
+    /// Shows all that waits, in one step, or nothing of it when out of memory; what is then published is told.
     pub fn publish<R: Wait>(&mut self, rt: &R) -> Told
         ensures desk { desk_of self.new ≡ desk_of self.old }
         ensures shown { CoversAllOrSame self.old self.new.shown }

@@ -17,7 +17,7 @@ use std::sync::Wait;
 /// Why a volume was not shared.
 #[derive(Clone, Copy, Debug)]
 pub enum Why {
-    /// Memory is wanting.
+    /// Out of memory.
     Memory,
     /// There was no place for a viewer.
     NoPlace,
@@ -51,7 +51,7 @@ impl Model for Parts {
 
 impl Parts {
     /// The parts of a volume for so many workers and viewers, with the passes of workers 1, 2 and so on, and with viewers that
-    /// have seen the volume as it is now. At a fault the volume is handed back: `Memory` where memory is wanting, `NoPlace` where
+    /// have seen the volume as it is now. At a fault the volume is handed back: `Memory` when out of memory, `NoPlace` where
     /// there was no place for a viewer.
     pub fn start<R: Wait>(
         rt: &R,
@@ -124,7 +124,7 @@ fn fault(why: Why, volume: Volume) -> StartFault
     StartFault { why, volume }
 }
 
-// A desk of the volume, which is mounted anew. It comes back where memory is wanting.
+// A desk of the volume, which is mounted anew. It comes back when out of memory.
 fn new_desk(alloc: Global, volume: Volume, workers: u32) -> Result<Desk, Volume>
     requires { workers ≤ 8 }
     ensures ok { IfOk result (λ d. d ≡ desk_state volume.current volume.current [] [] workers) }
@@ -137,7 +137,7 @@ fn new_desk(alloc: Global, volume: Volume, workers: u32) -> Result<Desk, Volume>
     }
 }
 
-// The passes of so many workers. None where memory is wanting.
+// The passes of so many workers. None when out of memory.
 fn first_passes(alloc: Global, workers: u32) -> Option<Vec<Pass>>
     requires { workers ≤ 8 }
     ensures { IfSome result (λ v. AreFirstPasses workers v.items) }

@@ -132,7 +132,7 @@ fn begin(alloc: Global, pass: &Pass) -> Done
     }
 }
 
-// What is done of jobs that are not begun. None where memory is wanting.
+// What is done of jobs that are not begun. None when out of memory.
 fn begin_all(alloc: Global, jobs: &Vec<(Pass, Vec<Call>)>) -> Option<Vec<Done>>
     ensures many { IfSome result (λ v. length v.items ≡ length jobs.now.items) }
     ensures passes { IfSome result (λ v. HaveTheirPasses jobs.now.items v.items) }

@@ -71,8 +71,8 @@ fn closed_one(rt: &impl Wait, alloc: Global) -> Result<Option<Closed>, Fail> {
     Ok(closed)
 }
 
-/// Whether a journal has ten calls that are made, and behind them the same ten that are refused, since the files are there; and all
-/// are shown.
+/// Whether a journal has ten calls that are made, and after them the same ten that are refused, since the files are there; and
+/// all are shown.
 fn is_made_once(closed: &Closed) -> bool {
     for (place, entry) in closed.journal.iter().enumerate() {
         let wanted = if place < 10 { 0 } else { -48 };

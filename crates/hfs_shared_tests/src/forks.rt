@@ -90,7 +90,7 @@ fn reads(alloc: Global, viewer: &mut Viewer, wanted: &[u8; 5]) -> bool
     }
 }
 
-/// Whether a viewer reads the old bytes behind a write, and behind a hundred more, and the new ones when it learned of them.
+/// Whether a viewer reads the old bytes after a write, and after a hundred more, and the new ones when it learned of them.
 fn reads_beside<K: Session>(
     rt: &impl Wait,
     alloc: Global,

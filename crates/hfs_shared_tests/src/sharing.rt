@@ -157,7 +157,7 @@ fn push_name(text: &mut Vec<u8>, name: &[u8]) -> Result<(), AllocError> {
     Ok(())
 }
 
-/// The names of these items, each with a space behind it.
+/// The names of these items, each with a space after it.
 fn names_of(alloc: Global, infos: &[Info]) -> Result<Vec<u8>, AllocError> {
     let mut text = Vec::new(alloc);
     for info in infos {
@@ -166,7 +166,7 @@ fn names_of(alloc: Global, infos: &[Info]) -> Result<Vec<u8>, AllocError> {
     Ok(text)
 }
 
-/// Whether these are the names of items, each with a space behind it.
+/// Whether these are the names of items, each with a space after it.
 fn are_names(alloc: Global, infos: &[Info], wanted: &[u8]) -> bool {
     match names_of(alloc, infos) {
         Ok(names) => *names.as_slice() == *wanted,
@@ -174,7 +174,7 @@ fn are_names(alloc: Global, infos: &[Info], wanted: &[u8]) -> bool {
     }
 }
 
-/// Whether a reply tells these names, each with a space behind it.
+/// Whether a reply tells these names, each with a space after it.
 fn tells(alloc: Global, reply: &Reply, wanted: &[u8]) -> bool {
     match &reply.value {
         Value::Many(infos) => are_names(alloc, infos.as_slice(), wanted),
@@ -189,7 +189,7 @@ fn tells(alloc: Global, reply: &Reply, wanted: &[u8]) -> bool {
     }
 }
 
-/// Whether these are the names of the root's children as a viewer lists them, each with a space behind it.
+/// Whether these are the names of the root's children as a viewer lists them, each with a space after it.
 pub fn lists(alloc: Global, viewer: &mut Viewer, wanted: &[u8]) -> bool
     ensures { viewer.new.book ≡ viewer.old.book }
 {

@@ -237,8 +237,8 @@ fn cannot_write_within(alloc: Global, folder: &str, path: &str) -> ShelfFault
     }
 }
 
-/// The first of the names under which a folder at this path is written, `PATH.0.new`, where anything
-/// has it: a run that was stopped left it. The only error is want of memory.
+/// The first of the names under which a folder at this path is written, `PATH.0.new`, where anything has it: a run that was
+/// stopped left it. Fails only when out of memory.
 pub fn left_folder<R: Files + AllocGlobal>(rt: &R, path: &str) -> Result<Option<String>, AllocError>
     ensures { IfOk result (λ left. IfSome left
         (λ name. string_bytes name ≡ new_folder_path path.now 0)) }

@@ -24,7 +24,7 @@ pub enum Step<'a> {
     MadeFolder(&'a str),
     /// A file is opened.
     Opened(&'a OpenOptions, &'a str),
-    /// Bytes are laid behind those of the file that was opened last.
+    /// Bytes are laid after those of the file that was opened last.
     Wrote(&'a [u8]),
     /// The file that was opened last gets this time.
     Timed(SystemTime),

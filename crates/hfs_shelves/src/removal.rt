@@ -23,10 +23,9 @@ pub(crate) enum Tried {
     Refused,
 }
 
-/// Removes a folder with all that lies in it, each folder when it holds nothing more. One folder is
-/// open at a time, and each is opened once, and once more for each folder in it. A link that lies in
-/// it is removed, not what it leads to. Where the system refuses, the rest stays. The only error is
-/// want of memory, and then it stays too.
+/// Removes a folder with all that lies in it, each folder when it holds nothing more. One folder is open at a time, and each is
+/// opened once, and once more for each folder in it. A link that lies in it is removed, not what it leads to. Where the system
+/// refuses, the rest stays. Fails only when out of memory, and then it stays too.
 #[tactic(auto, using(crate::proofs::RemovalLemmas::removals))]
 pub(crate) fn remove_folder<Y: FileSystem>(
     alloc: Global,

@@ -5,9 +5,9 @@ ghost use Rattle.hfs_shelves.specs.Entries.{ShelfEntry, IsBeginning, with_folder
 
 use crate::fault::ShelfFault;
 
-/// What takes folders and files: each is made by its path, and a file's bytes come in pieces, behind
-/// one another. Contracts know a shelf by the list of what it was given, by the path of the folder that
-/// it writes, and by the faults that a shelf of its kind may answer there.
+/// What takes folders and files: each is made by its path, and a file's bytes come in pieces, after one another. Contracts know a
+/// shelf by the list of what it was given, by the path of the folder that it writes, and by the faults that a shelf of its kind
+/// may answer there.
 pub trait Shelf {
     ghost given: { Self → List ShelfEntry };
 
@@ -32,8 +32,8 @@ pub trait Shelf {
         ensures fault { IfErr result (Fails (place self.old)) }
         ensures place { place self.new ≡ place self.old };
 
-    /// Lays these bytes behind those of the file that was made last. Faults: `CannotWrite` of its
-    /// path, also where nothing or a folder was made last; `NoMemory`.
+    /// Lays these bytes after those of the file that was made last. Faults: `CannotWrite` of its path, also where nothing or a
+    /// folder was made last; `NoMemory`.
     fn append(&mut self, piece: &[u8]) -> Result<(), ShelfFault>
         ensures whole { OnOk result (given self.new ≡ with_piece (given self.old) piece.now) }
         ensures part { OnErr result (IsBeginning (given self.new)

@@ -34,7 +34,7 @@ pub trait FileSystem {
     fn open_file(&mut self, how: &OpenOptions, path: &str) -> io::Result<()>
         ensures { Does result (opened (makes_file how.now) path.now) (did self.old) (did self.new) };
 
-    /// Lays bytes behind those of the file that was opened last. Where that fails, the file is let go of.
+    /// Lays bytes after those of the file that was opened last. Where that fails, the file is let go of.
     fn write(&mut self, bytes: &[u8]) -> io::Result<()>
         ensures { Does result (wrote bytes.now) (did self.old) (did self.new) };
 

@@ -5,7 +5,7 @@ ghost use Rattle.hfs_sources.specs.Looks.{host_date};
 use hfs_put_plan::{EntryKind, date_before_1970, date_since_1970};
 use std::marker::Model;
 
-/// When something was last changed: so many seconds behind the beginning of 1970, and nanoseconds behind these.
+/// When something was last changed: so many seconds after the beginning of 1970, and nanoseconds after these.
 #[derive(Clone, Copy)]
 pub struct HostTime {
     pub seconds: i64,

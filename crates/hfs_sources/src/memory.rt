@@ -20,7 +20,7 @@ pub struct HostNode<'a> {
     pub bytes: &'a [u8],
 }
 
-/// A tree that is its nodes in memory. Its only fault but want of memory is that of a file which isn't there.
+/// A tree that is its nodes in memory. Its only fault but running out of memory is that of a file which isn't there.
 #[derive(Drop)]
 pub struct MemoryTree<'a> {
     pub nodes: &'a [HostNode<'a>],

@@ -36,7 +36,7 @@ pub(crate) fn double_path(alloc: Global, folder: &str, name: &str) -> Result<Str
     }
 }
 
-/// What stands behind `._` in a name that begins so.
+/// What stands after `._` in a name that begins so.
 pub(crate) fn behind_mark(name: &str) -> Option<&str>
     ensures { MatchOption result (behind_mark name.now ≡ None)
         (λ found. behind_mark name.now ≡ Some found.now) }

@@ -216,7 +216,7 @@ fn give_all<T: HostTree, B: ToldItems>(
     Ok(items)
 }
 
-/// The list of all that is to come, in the order of the walk: of each source in turn the file, or the folder and behind it what
+/// The list of all that is to come, in the order of the walk: of each source in turn the file, or the folder and after it what
 /// lies in it, or what lies in the `data` of a bag. A link that is a source is followed, and none below it. What can't be put is
 /// listed, and nothing below it. Faults: `CannotRead` of what can't be read or is not there, `NotUtf8` of a folder, `NoMemory`;
 /// the first one ends it.

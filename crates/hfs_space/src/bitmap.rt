@@ -54,7 +54,8 @@ impl<B: Blocks> Bitmap<'_, B> {
         }
     }
 
-    /// For each allocation block whether it is marked as in use. Each block of the bitmap is read once. The only error is want of memory.
+    /// For each allocation block whether it is marked as in use. Each block of the bitmap is read once. Fails only when out of
+    /// memory.
     pub fn marks(&self, alloc: Global) -> Result<Vec<bool>, AllocError>
         ensures { GivesItems (spec.marks (B.blocks self.now.blocks.now) self.now.start self.now.count)
             result }
@@ -84,10 +85,10 @@ impl<B: Blocks> Bitmap<'_, B> {
         free
     }
 
-    /// Clears the bits of `count` allocation blocks from `first` on, in the volume's blocks with the patch over them. The
-    /// blocks of the bitmap that have these bits are in the patch afterwards. For want of memory some of the bits may still
-    /// be set; no other bit and no other block has changed then either. The patch gets blocks of the bitmap alone, which are
-    /// among the volume's.
+    /// Clears the bits of `count` allocation blocks from `first` on, in the volume's blocks with the patch over them. The blocks
+    /// of the bitmap that have these bits are in the patch afterwards. For lack of memory some of the bits may still be set; no
+    /// other bit and no other block has changed then either. The patch gets blocks of the bitmap alone, which are among the
+    /// volume's.
     pub fn release(&self, patch: &mut Patch, first: u16, count: u16) -> Result<(), AllocError>
         requires { first + count ≤ self.now.count }
         ensures cleared { OnOk result

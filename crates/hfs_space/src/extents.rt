@@ -69,11 +69,11 @@ fn next_extents<N: Nodes>(
     Ok(Some(extents))
 }
 
-/// All extents of a fork: the three of its record, and then, as long as the extents tree holds a record of the file and fork
-/// that has a block and whose first block is the number of blocks so far, that record's three.
+/// All extents of a fork: the three of its record, and then, as long as the extents tree holds a record of the file and fork that
+/// has a block and whose first block is the number of blocks so far, that record's three.
 ///
-/// The catalog file is file 4, and its data fork begins with the three extents of the master directory block. The extents
-/// file itself has only its three there. The only error is want of memory.
+/// The catalog file is file 4, and its data fork begins with the three extents of the master directory block. The extents file
+/// itself has only its three there. Fails only when out of memory.
 ///
 /// Source: Inside Macintosh: Files, chapter 2, 'Extents overflow file'.
 pub fn fork_extents<N: Nodes>(

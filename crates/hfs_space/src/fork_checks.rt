@@ -188,15 +188,14 @@ fn overflow_fault(
     Ok(None)
 }
 
-/// The first fault of a volume's extents, where `tree` is its extents tree, `files` are the files of its catalog and
-/// `records` is how many leaf records the catalog has. It is the number of the first file's record of which a fork's extents,
-/// those of its overflow records among them, don't lie in the volume or have no room for the fork's bytes. Where there is
-/// none, it is `records` and the number of the first record of the extents tree that has no block, that is of the bad
-/// blocks (file 5) and doesn't lie in the volume, or that is of another file and none of the records that the catalog file
-/// (file 4) or a file of the catalog goes on with.
+/// The first fault of a volume's extents, where `tree` is its extents tree, `files` are the files of its catalog and `records` is
+/// how many leaf records the catalog has. It is the number of the first file's record of which a fork's extents, those of its
+/// overflow records among them, don't lie in the volume or have no room for the fork's bytes. Where there is none, it is
+/// `records` and the number of the first record of the extents tree that has no block, that is of the bad blocks (file 5) and
+/// doesn't lie in the volume, or that is of another file and none of the records that the catalog file (file 4) or a file of the
+/// catalog goes on with.
 ///
-/// The work is that of some searches for each file, and of going once through the extents tree. The only error is want of
-/// memory.
+/// The work is that of some searches for each file, and of going once through the extents tree. Fails only when out of memory.
 ///
 /// Source: Inside Macintosh: Files, chapter 2, 'Extents overflow file'.
 pub fn fork_fault<N: Nodes>(

@@ -14,11 +14,11 @@ use std::alloc::{AllocError, Global};
 pub(crate) enum Edge {
     /// Its first block.
     First,
-    /// The block behind its last.
+    /// The block after its last.
     Behind,
 }
 
-/// The first block of an extent, or the one behind its last.
+/// The first block of an extent, or the one after its last.
 fn block_at(extent: Extent, edge: Edge) -> u32
     ensures { result ≡ edges.block_at edge extent }
 {

@@ -18,7 +18,7 @@ use std::alloc::AllocError;
 pub(crate) struct Held {
     /// Where each block stands among the bytes, counted in blocks; none for one of zeros.
     pub(crate) places: IndexMap<u32, Option<usize>>,
-    /// The bytes of the other blocks, and behind them what was read and isn't held yet.
+    /// The bytes of the other blocks, and after them what was read and isn't held yet.
     pub(crate) bytes: Vec<u8>,
     /// How many blocks of the bytes are held.
     pub(crate) count: usize,
@@ -32,7 +32,7 @@ fn is_zeros(block: &[u8]) -> bool
     block == [0; 512].as_slice()
 }
 
-/// Copies the block at place `from` to place `to`, not behind it.
+/// Copies the block at place `from` to place `to`, not after it.
 fn move_block(bytes: &mut Vec<u8>, from: usize, to: usize)
     requires before { to ≤ from }
     requires there { 512 * from + 512 ≤ length bytes.old.items }
@@ -47,7 +47,7 @@ fn move_block(bytes: &mut Vec<u8>, from: usize, to: usize)
 }
 
 impl Held {
-    /// Puts in block `n`, whose bytes stand at place `from`, behind the blocks that are held.
+    /// Puts in block `n`, whose bytes stand at place `from`, after the blocks that are held.
     fn put_in(&mut self, n: u32, from: usize) -> Result<(), AllocError>
         requires held { AreHeld self.old }
         requires behind { self.old.count ≤ from }
@@ -70,7 +70,7 @@ impl Held {
         Ok(())
     }
 
-    /// Puts in `count` blocks from number `first` on, whose bytes stand right behind the blocks that are held.
+    /// Puts in `count` blocks from number `first` on, whose bytes stand right after the blocks that are held.
     fn put_in_all(&mut self, first: u32, count: u32) -> Result<(), AllocError>
         requires held { AreHeld self.old }
         requires there { 512 * (self.old.count + count) ≤ length self.old.bytes.items }
@@ -89,7 +89,8 @@ impl Held {
         Ok(())
     }
 
-    /// Reads `count` blocks from number `first` on, by one read, to where they stand if they are put in: right behind those that are held.
+    /// Reads `count` blocks from number `first` on, by one read, to where they stand if they are put in: right after those that
+    /// are held.
     fn read_behind<S: BlockSource>(
         &mut self,
         source: &mut S,

@@ -19,7 +19,7 @@ pub enum CopyFault {
     Memory,
     /// A read failed, and nothing was written.
     ReadFailed,
-    /// A read failed behind bytes that were written.
+    /// A read failed after bytes that were written.
     BrokenOff,
     /// The writer failed.
     WriteFailed,

@@ -32,12 +32,12 @@ use hfs_model::{
 use std::alloc::{AllocError, Global};
 use std::marker::Model;
 
-/// A volume as a list of items in the order of their IDs. Contracts see the model volume: a finite map from ID to item,
-/// the next ID, the moment of the last change, two locks and the size of an allocation block.
+/// A volume as a list of items in the order of their IDs. Contracts see the model volume: a finite map from ID to item, the next
+/// ID, the moment of the last change, two locks and the size of an allocation block.
 ///
 /// Each call searches the whole list, some of them once for each item. The methods named for a call answer as
-/// [`PlainVolume::call`] does, and `docs/CALLS.md` says what that is. `Err` comes only where memory is wanting; then the
-/// volume is as it was.
+/// [`PlainVolume::call`] does, and `docs/CALLS.md` says what that is. `Err` comes only when out of memory; then the volume is as
+/// it was.
 #[derive(Drop)]
 pub struct PlainVolume {
     alloc: Global,
@@ -65,7 +65,7 @@ impl Model for PlainVolume {
 
 #[tactic(auto, using(crate::proofs::ById::entries_back))]
 impl PlainVolume {
-    /// A new volume, with its root alone, and allocation blocks of 512 bytes. `Err` only where memory is wanting.
+    /// A new volume, with its root alone, and allocation blocks of 512 bytes. `Err` only when out of memory.
     pub fn new(alloc: Global, name: Name, now: u32) -> Result<Self, AllocError>
         ensures { IfOk result (λ s. s ≡ new_volume name now) }
     {
@@ -99,8 +99,8 @@ impl PlainVolume {
         }
     }
 
-    /// Puts an item under an ID that is not below the next one, which rises to the one after it. So a volume is laid
-    /// item by item, in the order of the IDs. `Err` only where memory is wanting, and then the volume is as it was.
+    /// Puts an item under an ID that is not below the next one, which rises to the one after it. So a volume is laid item by
+    /// item, in the order of the IDs. `Err` only when out of memory, and then the volume is as it was.
     #[tactic(auto)]
     pub fn lay(&mut self, id: u32, item: Item) -> Result<(), AllocError>
         requires free { self.old.next_id ≤ id }
@@ -733,8 +733,8 @@ impl PlainVolume {
         }
     }
 
-    /// Answers the calls one after another, with their replies in order. `Err` only where memory is wanting: then some of
-    /// the first calls were made, and their replies are lost.
+    /// Answers the calls one after another, with their replies in order. `Err` only when out of memory: then some of the first
+    /// calls were made, and their replies are lost.
     #[tactic(auto)]
     pub fn run(&mut self, calls: &[Call]) -> Result<Vec<Reply>, AllocError>
         ensures ok { IfOk result (λ replies. (self.new, replies.items) ≡ run self.old calls.now) }

@@ -1,4 +1,4 @@
-//! A row in the table of a bag: in CSV, with the path below the payload behind all other fields.
+//! A row in the table of a bag: in CSV, with the path below the payload after all other fields.
 ghost use Rattle.std.specs.Prelude.{◌≡◌, ◌++◌, OnOk};
 ghost use Rattle.hfs_names.specs.Gains.{Gains};
 ghost use Rattle.hfs_table.specs.Lines.{bag_end, bag_head, bag_line, bag_path, csv_fields, own_bag_line, own_fields};

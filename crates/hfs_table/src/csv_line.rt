@@ -81,7 +81,7 @@ fn push_column(
     push_csv_field(text, field.as_bytes())
 }
 
-/// Appends the fields of columns, each behind a comma.
+/// Appends the fields of columns, each after a comma.
 fn push_columns(
     text: &mut Vec<u8>,
     field: &mut String,

@@ -67,7 +67,7 @@ fn put_null_member(writer: &mut Writer, column: Column) -> Result<(), AllocError
     writer.null()
 }
 
-/// Puts the members behind that of the path.
+/// Puts the members after that of the path.
 #[tactic(auto, unfolding(crate::specs::OwnLines::own_members))]
 fn put_own_members(
     alloc: Global,

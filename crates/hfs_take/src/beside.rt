@@ -59,8 +59,8 @@ pub(crate) fn digest_at_once<S: PlacedBlocks>(
     Ok(Some(digest))
 }
 
-/// Gives the payload of a bag, and makes the digest of the `len` bytes of an image, in a thread of its own or, where none can be begun, behind the
-/// payload. Faults: the payload's, and then the digest's.
+/// Gives the payload of a bag, and makes the digest of the `len` bytes of an image, in a thread of its own or, where none can be
+/// begun, after the payload. Faults: the payload's, and then the digest's.
 fn give_beside<R: Threads, D: ImageBlocks + Send, T: Shelf, B: BagSource>(
     threads: &R,
     alloc: Global,

@@ -50,7 +50,7 @@ fn add_piece<B: ImageBlocks>(
     Ok(count)
 }
 
-/// The number of the block behind those that were read at once. An image has fewer than 2^32 blocks.
+/// The number of the block after those that were read at once. An image has fewer than 2^32 blocks.
 fn block_behind(first: u32) -> Result<u32, SourceFault>
     ensures { IfOk result (λ next. next ≡ first + 128) }
 {

@@ -142,7 +142,8 @@ fn info_bytes(alloc: Global, head: &[u8; 1536]) -> Result<Vec<u8>, InfoFault>
     Ok(lines)
 }
 
-/// The lines of the master directory block in the first 1,536 bytes of a volume, and those of its check behind them. The only fault is want of memory.
+/// The lines of the master directory block in the first 1,536 bytes of a volume, and those of its check after them. The only
+/// fault is running out of memory.
 pub fn report_text(
     alloc: Global,
     head: &[u8; 1536],

@@ -95,7 +95,7 @@ fn push_field(
     push_value(text, cell(keys, values, column.origin))
 }
 
-/// Appends the fields of columns, each behind a comma.
+/// Appends the fields of columns, each after a comma.
 fn push_fields(
     text: &mut Vec<u8>,
     columns: &[Column],
@@ -130,7 +130,7 @@ pub(crate) fn push_csv_line(
     text.extend_from_slice(b"\r\n")
 }
 
-/// Appends the names of columns, each behind a comma.
+/// Appends the names of columns, each after a comma.
 fn push_names(text: &mut Vec<u8>, columns: &[Column]) -> Result<(), AllocError>
     ensures { OnOk result (text.new.items ≡ text.old.items
         ++ flat_map (λ column. codes "," ++ column.name.now) columns.now) }

@@ -118,7 +118,7 @@ fn push_end_line(
     }
 }
 
-/// Appends what stands behind the rows of the image with these keys. At a fault a part of it may have come.
+/// Appends what stands after the rows of the image with these keys. At a fault a part of it may have come.
 pub(crate) fn push_end(
     alloc: Global,
     text: &mut Vec<u8>,

@@ -14,7 +14,7 @@ use hfs_rows::{GivenRow, TakerFault};
 use std::alloc::Global;
 use std::io::Write;
 
-/// Writes a text, and behind it the end of the image with these keys. At a fault a beginning of it all was written.
+/// Writes a text, and after it the end of the image with these keys. At a fault a beginning of it all was written.
 pub(crate) fn write_end<W: Write>(
     alloc: Global,
     writer: &mut W,

@@ -50,8 +50,8 @@ impl<W: Write + Drop> TextTaker<W> {
         }
     }
 
-    /// Ends an image, of which all rows came or not, and writes what is still to be written: behind this the next image may come. At
-    /// a fault a beginning of it all was written. Faults: `CannotWrite`, also behind a fault; `NoMemory`.
+    /// Ends an image, of which all rows came or not, and writes what is still to be written: after this the next image may come.
+    /// At a fault a beginning of it all was written. Faults: `CannotWrite`, also after a fault; `NoMemory`.
     pub fn end(&mut self, is_whole: bool) -> Result<(), TakerFault>
         ensures form { self.new.form ≡ self.old.form }
         ensures written { OnOk result (Appends (W.contents self.old.start.value)

@@ -97,7 +97,7 @@ pub fn load_within<R: Read>(alloc: Global, reader: &mut R, limit: u64) -> Result
     Err(LoadFault::TooLarge)
 }
 
-/// Reads as many bytes as there is room for, behind those that are there. Answers whether the input ended.
+/// Reads as many bytes as there is room for, after those that are there. Answers whether the input ended.
 fn load_more<R: Read>(reader: &mut R, bytes: &mut Vec<u8>, room: usize) -> Result<bool, LoadFault>
     requires some { 0 < room }
     requires end { vec_len bytes.old + room < 2 ^ 64 }
@@ -133,7 +133,7 @@ fn make_room(bytes: &mut Vec<u8>, end: usize) -> Result<(), AllocError>
     Ok(())
 }
 
-/// Reads into the part of the bytes behind the first `start`, as `fill` does.
+/// Reads into the part of the bytes after the first `start`, as `fill` does.
 fn fill_behind<R: Read>(reader: &mut R, bytes: &mut [u8], start: usize) -> io::Result<usize>
     requires { start < length bytes.old }
     ensures front { take start bytes.new ≡ take start bytes.old }

@@ -167,7 +167,7 @@ fn push_numbers(text: &mut String, word: &str, first: u32, second: u32) -> Resul
     push_spaced(text, second)
 }
 
-/// Appends a value, and behind a list its items.
+/// Appends a value, and after a list its items.
 #[tactic(auto, unfolding(crate::specs::Answers::value_text))]
 fn push_value(text: &mut String, value: &Value) -> Result<(), AllocError>
     ensures { OnOk result (Gains text.old text.new (value_text value.now)) }
@@ -235,8 +235,8 @@ pub fn push_reply<S: Show + Drop>(
     text.push('\n')
 }
 
-/// The lines of an answer: the worker (or `v` and the viewer), the number of the call among its own, the code and the
-/// value, with tabs between; behind a list a line for each item. Each line ends with a line feed.
+/// The lines of an answer: the worker (or `v` and the viewer), the number of the call among its own, the code and the value, with
+/// tabs between; after a list a line for each item. Each line ends with a line feed.
 pub fn reply_text(
     alloc: Global,
     who: &str,

@@ -128,7 +128,7 @@ fn push_characters(text: &mut String, characters: &[u8]) -> Result<(), AllocErro
     Ok(())
 }
 
-/// Appends a character of a name, as two digits behind a backslash where it is not printable or a backslash.
+/// Appends a character of a name, as two digits after a backslash where it is not printable or a backslash.
 #[tactic(auto, unfolding(crate::specs::Lines::shown_character))]
 fn push_character(text: &mut String, character: u8) -> Result<(), AllocError>
     ensures { OnOk result (Gains text.old text.new (shown_character character)) }

@@ -102,7 +102,7 @@ pub fn print_help(rt: &HostRuntime) -> u8 {
     }
 }
 
-/// Whether a path stands behind the image of `ls` or `cat`, where the ID of a folder is wanted.
+/// Whether a path stands after the image of `ls` or `cat`, where the ID of a folder is wanted.
 pub fn has_bare_path(words: &[String]) -> bool {
     match (words.get(1), words.get(3)) {
         (Some(word), Some(place)) => {
@@ -112,7 +112,7 @@ pub fn has_bare_path(words: &[String]) -> bool {
     }
 }
 
-/// Whether the first word is that of another program, whatever stands behind it.
+/// Whether the first word is that of another program, whatever stands after it.
 fn is_collect(words: &[String]) -> bool {
     match words.get(1) {
         Some(word) => word.as_str() == "collect",
@@ -129,7 +129,7 @@ fn words_of<'a>(alloc: Global, matches: &ArgMatches<'a>) -> Result<Words<'a>, Wo
     }
 }
 
-/// What the words ask for behind the first of them, which takes no list.
+/// What the words ask for after the first of them, which takes no list.
 fn words_behind<'a>(word: &str, inner: &ArgMatches<'a>) -> Result<Words<'a>, NoValue> {
     match word {
         "info" => info_words(inner),

@@ -141,7 +141,7 @@ fn find(rt: &HostRuntime, refused: RefusedImage<Part>) -> Result<Remains<Part>, 
     }
 }
 
-/// Prints the table of what is found of a refused image, and behind it on standard error why it is refused.
+/// Prints the table of what is found of a refused image, and after it on standard error why it is refused.
 pub fn show_items<'a>(
     rt: &HostRuntime,
     image: &'a str,
@@ -156,8 +156,8 @@ pub fn show_items<'a>(
     tell_refused(rt, why, status)
 }
 
-/// Prints the page of what is found of a refused image, and behind it on standard error why it is refused; None where nothing is found,
-/// and nothing is printed.
+/// Prints the page of what is found of a refused image, and after it on standard error why it is refused; None where nothing is
+/// found, and nothing is printed.
 pub fn show_page<S: PlacedBlocks + Drop>(
     rt: &HostRuntime,
     image: &str,
@@ -178,7 +178,7 @@ pub fn show_page<S: PlacedBlocks + Drop>(
     }
 }
 
-/// Prints the rows of the folder of a refused image that a path leads to, or the code that refuses the path; and behind them on
+/// Prints the rows of the folder of a refused image that a path leads to, or the code that refuses the path; and after them on
 /// standard error why the image is refused.
 pub fn show_folder<'a>(
     rt: &HostRuntime,
@@ -201,8 +201,8 @@ fn kind_of(fork: Fork) -> ForkKind {
     }
 }
 
-/// Prints the bytes that are found of a fork of the file of a refused image that a path leads to, or the code that refuses the path; and
-/// behind them on standard error why the image is refused.
+/// Prints the bytes that are found of a fork of the file of a refused image that a path leads to, or the code that refuses the
+/// path; and after them on standard error why the image is refused.
 pub fn show_fork<'a>(
     rt: &HostRuntime,
     file: &ForkPathWords<'a>,

@@ -23,8 +23,8 @@ fn push_forks(
     push_verdict(alloc, text, resource)
 }
 
-/// Appends an item's line: its path below the payload, its number, its ID, and what is said of its two forks, data before resources
-/// (None of a folder), with tabs between. The only error is want of memory; a part of the line may have come then.
+/// Appends an item's line: its path below the payload, its number, its ID, and what is said of its two forks, data before
+/// resources (None of a folder), with tabs between. Fails only when out of memory; a part of the line may have come then.
 pub fn push_row(
     alloc: Global,
     text: &mut String,

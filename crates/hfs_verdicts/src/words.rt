@@ -63,8 +63,8 @@ fn joined(alloc: Global, words: &[String]) -> Result<String, AllocError>
     Ok(text)
 }
 
-/// Appends what is said of a fork: `left`, or each of `cut N`, `missing N` and `shared` that holds, with commas between, or `whole`.
-/// The only error is want of memory; a part of it may have come then.
+/// Appends what is said of a fork: `left`, or each of `cut N`, `missing N` and `shared` that holds, with commas between, or
+/// `whole`. Fails only when out of memory; a part of it may have come then.
 pub fn push_verdict(alloc: Global, text: &mut String, verdict: &Verdict) -> Result<(), AllocError>
     ensures { OnOk result (Gains text.old text.new (spec.verdict_text verdict.now)) }
 {

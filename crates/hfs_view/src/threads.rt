@@ -23,7 +23,7 @@ impl Model for ThreadIds {
 }
 
 impl ThreadIds {
-    /// The IDs of the threads among these records, each of which is read once. The only error is want of memory.
+    /// The IDs of the threads among these records, each of which is read once. Fails only when out of memory.
     pub fn of(alloc: Global, records: &[CatalogRecord]) -> Result<ThreadIds, AllocError>
         ensures { IfOk result (AreThreadsOf records.now) }
     {
@@ -46,7 +46,7 @@ impl ThreadIds {
         Ok(())
     }
 
-    /// Puts an ID into the set. The only error is want of memory.
+    /// Puts an ID into the set. Fails only when out of memory.
     fn add(&mut self, id: u32) -> Result<(), AllocError>
         ensures { OnOk result (AddsNumbers (nat_eq id) self.old self.new) }
     {

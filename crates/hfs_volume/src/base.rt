@@ -46,7 +46,7 @@ impl Model for Base {
 }
 
 impl Base {
-    /// The base of these bytes. Where memory is wanting they are handed back.
+    /// The base of these bytes. When out of memory they are handed back.
     pub fn new(alloc: Global, bytes: Vec<u8>) -> Result<Base, AllocFailed<Vec<u8>>>
         requires { length bytes.items ≤ 2147483648 }
         ensures bytes { IfOk result (λ base. base ≡ bytes.items) }
@@ -58,7 +58,7 @@ impl Base {
         })
     }
 
-    /// The base of the blocks that were read of an image of `len` bytes, with zeros in place of the others. Where memory is wanting
+    /// The base of the blocks that were read of an image of `len` bytes, with zeros in place of the others. When out of memory
     /// the blocks are handed back.
     pub fn of_read(
         alloc: Global,
@@ -119,8 +119,8 @@ impl Base {
         }
     }
 
-    /// Bytes of the allocation blocks of these extents, which lie one extent behind the other: those from `offset` on, `count` of
-    /// them or as many as there are. Where the allocation blocks lie is read off the master directory block. The only error is want
+    /// Bytes of the allocation blocks of these extents, which lie one extent after the other: those from `offset` on, `count` of
+    /// them or as many as there are. Where the allocation blocks lie is read off the master directory block. Fails only when out
     /// of memory.
     pub fn read(
         &self,
@@ -138,7 +138,7 @@ impl Base {
         read_extents(alloc, &blocks, &mdb, extents, offset, count)
     }
 
-    /// The same bytes once more, without a copy of them. The only error is want of memory.
+    /// The same bytes once more, without a copy of them. Fails only when out of memory.
     pub fn share(&self) -> Result<Base, AllocError>
         ensures { IfOk result (λ base. base ≡ self.now) }
     {

@@ -23,8 +23,8 @@ fn lacking(mdb: &Mdb, extents: &[Extent], wanted: u64) -> u64
     left
 }
 
-/// Bytes of the blocks of these extents, which lie one extent behind the other: those from `offset` on, `count` of them or as
-/// many as there are. The only error is want of memory.
+/// Bytes of the blocks of these extents, which lie one extent after the other: those from `offset` on, `count` of them or as many
+/// as there are. Fails only when out of memory.
 pub(crate) fn read_extents<B: Blocks>(
     alloc: Global,
     blocks: &B,

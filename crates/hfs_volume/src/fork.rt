@@ -15,8 +15,8 @@ use hfs_model::{END_OF_FILE, Fork, OwnedBytes, Reply, Value};
 use hfs_space::{ForkKind, fork_extents, read_fork};
 use std::alloc::{AllocError, Global};
 
-/// The reply of these bytes, which were read from an offset on of a fork that has `length` bytes: -39 where `count` of them
-/// end behind the fork.
+/// The reply of these bytes, which were read from an offset on of a fork that has `length` bytes: -39 where `count` of them end
+/// past the fork.
 fn part_reply(bytes: Vec<u8>, length: u32, offset: u32, count: u32) -> Reply
     ensures { result ≡ part_reply bytes.items length offset count }
 {
@@ -31,8 +31,8 @@ fn part_reply(bytes: Vec<u8>, length: u32, offset: u32, count: u32) -> Reply
     }
 }
 
-/// At most `count` bytes of a file's fork from an offset on, with -39 where the fork ends before `count` of them. Only the
-/// blocks that have one of these bytes are read. The only error is want of memory.
+/// At most `count` bytes of a file's fork from an offset on, with -39 where the fork ends before `count` of them. Only the blocks
+/// that have one of these bytes are read. Fails only when out of memory.
 pub(crate) fn read_part<B: Blocks, N: Nodes>(
     alloc: Global,
     blocks: &B,

@@ -39,7 +39,7 @@ impl Model for Image {
 }
 
 impl Image {
-    /// An image with nothing changed. Where memory is wanting the bytes are handed back.
+    /// An image with nothing changed. When out of memory the bytes are handed back.
     pub fn new(alloc: Global, bytes: Vec<u8>) -> Result<Image, AllocFailed<Vec<u8>>>
         requires { length bytes.items ≤ 2147483648 }
         ensures base { IfOk result (λ image. image.base ≡ bytes.items) }
@@ -76,7 +76,7 @@ impl Image {
         &self.changed
     }
 
-    /// The bytes as they were opened, without a copy of them. The only error is want of memory.
+    /// The bytes as they were opened, without a copy of them. Fails only when out of memory.
     pub fn base(&self) -> Result<Base, AllocError>
         ensures { IfOk result (λ base. base ≡ self.now.base) }
     {
@@ -166,7 +166,7 @@ impl Image {
         write_at(writer, count, &block[..rest])
     }
 
-    /// A copy of the bytes as they are now. The only error is want of memory.
+    /// A copy of the bytes as they are now. Fails only when out of memory.
     pub fn copy(&self, alloc: Global) -> Result<Vec<u8>, AllocError>
         ensures { IfOk result (λ bytes. bytes.items ≡ self.now.current) }
     {
@@ -177,8 +177,8 @@ impl Image {
         }
     }
 
-    /// The image with its bytes as they are now as those that it was opened with: nothing is changed. Takes no memory where nothing
-    /// was. Where memory is wanting the image is handed back.
+    /// The image with its bytes as they are now as those that it was opened with: nothing is changed. Takes no memory where
+    /// nothing was. When out of memory the image is handed back.
     pub fn opened_anew(self, alloc: Global) -> Result<Image, AllocFailed<Image>>
         ensures base { IfOk result (λ image. image.base ≡ self.current) }
         ensures current { IfOk result (λ image. image.current ≡ self.current) }

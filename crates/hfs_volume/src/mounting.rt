@@ -22,8 +22,8 @@ pub struct Refused {
     pub image: Vec<u8>,
 }
 
-/// Mounts the volume of an image: the whole volume, beginning with its boot blocks. Ok exactly where the image is sound,
-/// unless memory is wanting; else the first fault in the order of docs/CHECKS.md, with the image as it was given.
+/// Mounts the volume of an image: the whole volume, beginning with its boot blocks. Ok exactly where the image is sound, unless
+/// memory runs out; else the first fault in the order of docs/CHECKS.md, with the image as it was given.
 ///
 /// Source: Inside Macintosh: Files, chapter 2, "Data Organization on Volumes".
 pub fn mount(alloc: Global, image: Vec<u8>) -> Result<Volume, Refused>

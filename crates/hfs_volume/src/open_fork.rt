@@ -49,7 +49,7 @@ pub enum Opened<'a> {
 
 impl<'a> OpenFork<'a> {
     /// A file's fork with all its bytes left, where `tree` is the extents tree and `fork` what the file's record says of the
-    /// fork. The only error is want of memory.
+    /// fork. Fails only when out of memory.
     pub(crate) fn new<N: Nodes>(
         alloc: Global,
         blocks: ImageBlocks<'a>,
@@ -87,7 +87,7 @@ impl OpenFork<'_> {
         self.left
     }
 
-    /// Reads the next `count` bytes, or as many as are left. The only error is want of memory, and then none are read.
+    /// Reads the next `count` bytes, or as many as are left. Fails only when out of memory, and then none are read.
     pub fn read(&mut self, alloc: Global, count: u32) -> Result<Vec<u8>, AllocError>
         ensures bytes { IfOk result (λ bytes. bytes.items ≡ take count self.old) }
         ensures left { OnOk result (self.new ≡ drop count self.old) }

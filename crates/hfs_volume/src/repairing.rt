@@ -24,12 +24,12 @@ fn given_back(refused: Refused, puts: &[BytePut]) -> Refused
 }
 
 /// Mounts the volume of an image with its counted numbers mended: drNmFls, drFreeBks, drNmRtDirs, drFilCnt, drDirCnt, both trees'
-/// bthNRecs and bthFree, and the valences. Ok exactly where the repaired image is sound, unless memory is wanting, with that image
+/// bthNRecs and bthFree, and the valences. Ok exactly where the repaired image is sound, unless memory runs out, with that image
 /// as it was opened, and with the numbers that were wrong, each once, in the order of `FixPlace`; else the first fault of the
 /// repaired image, with the image as it was given. An image in which anything before these numbers is wrong is its own repair.
 ///
-/// While the repaired image is checked the mended numbers stand in its bytes; at a refusal they are exchanged back, which takes no
-/// memory.
+/// While the repaired image is checked the mended numbers stand in its bytes; at a refusal they are exchanged back, which takes
+/// no memory.
 ///
 /// Source: Inside Macintosh: Files, chapter 2, "Data Organization on Volumes"; docs/CHECKS.md has the ten numbers.
 pub fn mount_repaired(alloc: Global, image: Vec<u8>) -> Result<(Volume, Vec<Fix>), Refused>

@@ -70,7 +70,7 @@ fn next_changed(changed: &ChangedBlocks, n: u32, count: u32) -> u32
     count
 }
 
-/// The longest piece from block `n` on that lies in one place, and the block behind it.
+/// The longest piece from block `n` on that lies in one place, and the block after it.
 fn piece<'a>(changed: &'a ChangedBlocks, base: &'a [u8], n: u32, count: u32) -> (&'a [u8], u32)
     requires count { count ≡ block_count base.now }
     requires in_range { n < count }

@@ -79,7 +79,7 @@ impl Volume {
         }
     }
 
-    /// Answers a call that reads, as [`Call::is_reading`] says, by the volume as it is now. The only error is want of memory.
+    /// Answers a call that reads, as [`Call::is_reading`] says, by the volume as it is now. Fails only when out of memory.
     ///
     /// Source: Inside Macintosh: Files, chapter 2, "High-Level HFS Routines" and "Low-Level HFS Routines".
     pub fn read(&self, alloc: Global, call: &Call) -> Result<Reply, AllocError>
@@ -116,8 +116,7 @@ impl Volume {
     }
 
     /// Answers a call, and makes of the volume what it makes of it. At a code other than 0,
-    /// and where the call only reads, the volume stays as it is. The only error is want of memory, where the bytes stay as they
-    /// are.
+    /// and where the call only reads, the volume stays as it is. Fails only when out of memory, where the bytes stay as they are.
     ///
     /// Source: Inside Macintosh: Files, chapter 2, "High-Level HFS Routines" and "Low-Level HFS Routines".
     #[tactic(auto, using(hfs_model::proofs::LawsProved::reading_needs_none))]
@@ -138,8 +137,8 @@ impl Volume {
         self.change(alloc, call)
     }
 
-    /// Answers calls one after the other: the replies in order. The only error is want of memory, where the first of the calls
-    /// have been made, and no others.
+    /// Answers calls one after the other: the replies in order. Fails only when out of memory, where the first of the calls have
+    /// been made, and no others.
     pub fn run(&mut self, alloc: Global, calls: &[Call]) -> Result<Vec<Reply>, AllocError>
         ensures made { IfOk result (AreRepliesTo calls.now self.old.current self.new.current) }
         ensures broken { OnErr result
@@ -179,16 +178,16 @@ impl Volume {
         queries::get_indexed(&self.catalog_nodes(), dir, index)
     }
 
-    /// What is told of all the folder's children, in name order: -120 where `dir` isn't the ID of a folder. The only error
-    /// is want of memory.
+    /// What is told of all the folder's children, in name order: -120 where `dir` isn't the ID of a folder. Fails only when out
+    /// of memory.
     pub fn list(&self, alloc: Global, dir: u32) -> Result<Reply, AllocError>
         ensures { IfOk result (λ reply. reply ≡ list (entries_in self.now.current) dir) }
     {
         queries::list(alloc, &self.catalog_nodes(), dir, Detail::Full)
     }
 
-    /// The reply to `list` with `has_id` false in each item: no thread is looked up, which is most of the work of `list`. The
-    /// only error is want of memory.
+    /// The reply to `list` with `has_id` false in each item: no thread is looked up, which is most of the work of `list`. Fails
+    /// only when out of memory.
     pub fn list_in_brief(&self, alloc: Global, dir: u32) -> Result<Reply, AllocError>
         ensures { Gives (without_ids (list (entries_in self.now.current) dir)) result }
     {
@@ -203,9 +202,9 @@ impl Volume {
         queries::resolve_file_id(&self.catalog_nodes(), id)
     }
 
-    /// Bytes of a file's fork from an offset on, at most 65,536 of them: -50 where `count` is above that, -37, -120 and -43 as
-    /// in [`Volume::get_cat_info`], -43 where the item is a folder, and -39 with what there is where the fork ends before
-    /// `count` bytes. Only the blocks that have one of these bytes are read. The only error is want of memory.
+    /// Bytes of a file's fork from an offset on, at most 65,536 of them: -50 where `count` is above that, -37, -120 and -43 as in
+    /// [`Volume::get_cat_info`], -43 where the item is a folder, and -39 with what there is where the fork ends before `count`
+    /// bytes. Only the blocks that have one of these bytes are read. Fails only when out of memory.
     pub fn read_fork(
         &self,
         alloc: Global,
@@ -253,8 +252,8 @@ impl Volume {
         )
     }
 
-    /// Opens a file's fork, to be read from its beginning on: -37, -120 and -43 as in [`Volume::read_fork`]. The only error is
-    /// want of memory.
+    /// Opens a file's fork, to be read from its beginning on: -37, -120 and -43 as in [`Volume::read_fork`]. Fails only when out
+    /// of memory.
     pub fn open_fork(
         &self,
         alloc: Global,

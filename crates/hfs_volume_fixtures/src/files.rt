@@ -1,4 +1,4 @@
-//! Files of a mounted volume: calls by their text, where forks lie behind them, and how many blocks are changed.
+//! Files of a mounted volume: calls by their text, where forks lie after them, and how many blocks are changed.
 use crate::volumes::mounted;
 use hfs_fields::{Extent, FileRecord};
 use hfs_fixtures::FixtureFault;
@@ -71,7 +71,7 @@ pub fn lies_after(
     Ok(is_made && has_extents(alloc, &volume, id, fork, wanted)?)
 }
 
-/// How many blocks are changed behind the calls of a text on the volume of an image. None where a call has another code than 0.
+/// How many blocks are changed after the calls of a text on the volume of an image. None where a call has another code than 0.
 pub fn changed_after(
     alloc: Global,
     image: Vec<u8>,

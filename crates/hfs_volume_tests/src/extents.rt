@@ -31,7 +31,7 @@ const HIGHER_FIRST: &[u8] =
 /// What isn't used of an extents record.
 const NONE: (u16, u16) = (0, 0);
 
-/// Whether a fork lies there behind these calls on the sixteen files.
+/// Whether a fork lies there after these calls on the sixteen files.
 fn lies(
     alloc: Global,
     text: &[u8],
@@ -74,7 +74,7 @@ const FOUR_BYTES: &[u8] = b"1\twrite\t2\tf\tdata\t510\tffffffff\n";
 /// No byte.
 const EMPTIED: &[u8] = b"1\tseteof\t2\tf\tdata\t0\n";
 
-/// Whether the fork of the one file lies there behind the bytes and another call.
+/// Whether the fork of the one file lies there after the bytes and another call.
 fn one_lies(alloc: Global, text: &[u8], wanted: &[(u16, u16)]) -> Result<bool, FixtureFault> {
     let fork = (16, Fork::DataFork);
     lies_after(

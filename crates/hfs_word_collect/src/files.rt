@@ -61,7 +61,7 @@ pub fn can_open_database<R: Files>(rt: &R) -> bool {
     opened.0.is_ok() && opened.1.is_ok() && opened.2.is_ok()
 }
 
-/// The same bytes once more, where they are held. The only error is want of memory.
+/// The same bytes once more, where they are held. Fails only when out of memory.
 fn again<F: Read + Seek>(file: &StoredFile<F>) -> Result<Option<StoredFile<F>>, SparseFault>
     ensures same { IfOk result (λ found. IfSome found (IsSameAs file.now)) }
     ensures none { IfOk result (λ found. IfNone found (IsNotHeld file.now)) }
@@ -73,7 +73,7 @@ fn again<F: Read + Seek>(file: &StoredFile<F>) -> Result<Option<StoredFile<F>>, 
 }
 
 impl<R: Files + AllocGlobal, W> FileByPath<'_, R, W> {
-    /// What is held, once more. The only error is want of memory.
+    /// What is held, once more. Fails only when out of memory.
     fn lent(&self) -> Result<Option<StoredFile<R::File>>, SparseFault>
         ensures lent { IfOk result (λ found. IfSome found (IsLentOf self.now.held)) }
         ensures held { IfOk result (λ found. IfSome found (IsHeldIn self.now.held)) }

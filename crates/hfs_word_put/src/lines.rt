@@ -140,7 +140,7 @@ fn first_told(refused: &[RefusedItem]) -> &[RefusedItem]
     }
 }
 
-/// The lines of the items that can't be put: one for each of the first 100, and how many more there are. The only error is want of
+/// The lines of the items that can't be put: one for each of the first 100, and how many more there are. Fails only when out of
 /// memory.
 #[tactic(auto, unfolding(crate::specs::Lines::refused_lines))]
 pub fn refused_lines(
@@ -156,7 +156,8 @@ pub fn refused_lines(
     Ok(text)
 }
 
-/// The line of the item at a place of a list, which can't be put; none where there is no such item. The only error is want of memory.
+/// The line of the item at a place of a list, which can't be put; none where there is no such item. Fails only when out of
+/// memory.
 pub fn line_at(
     alloc: Global,
     items: &[SourceItem],
@@ -170,7 +171,7 @@ pub fn line_at(
     Ok(text)
 }
 
-/// The line of what has a path and can't be put. The only error is want of memory.
+/// The line of what has a path and can't be put. Fails only when out of memory.
 pub fn refusal_line(alloc: Global, path: &str, reason: PutReason) -> Result<String, AllocError>
     ensures { IfOk result (λ text. string_bytes text ≡ refusal_line path.now reason) }
 {
@@ -179,7 +180,7 @@ pub fn refusal_line(alloc: Global, path: &str, reason: PutReason) -> Result<Stri
     Ok(text)
 }
 
-/// The lines of what was put. The only error is want of memory.
+/// The lines of what was put. Fails only when out of memory.
 #[tactic(auto, unfolding(crate::specs::Lines::put_lines))]
 pub fn put_lines(alloc: Global, sums: &PutSums) -> Result<String, AllocError>
     ensures { IfOk result (λ text. string_bytes text ≡ put_lines sums.now) }

@@ -38,8 +38,8 @@ fn read_list<T: HostTree>(
     Ok(Listed { items, digests })
 }
 
-/// Lists what comes, with what bags tell of it. Faults: the first that can't be read; a folder in which a name is not UTF-8; want of
-/// memory.
+/// Lists what comes, with what bags tell of it. Faults: the first that can't be read; a folder in which a name is not UTF-8; out
+/// of memory.
 pub fn list_all<T: HostTree>(
     alloc: Global,
     tree: &mut T,
@@ -57,7 +57,7 @@ pub fn list_all<T: HostTree>(
 }
 
 /// Looks that each file has the digest that its bag tells of it, for which the files of bags are read. Faults: the first that has
-/// another, or that can't be read; want of memory.
+/// another, or that can't be read; out of memory.
 pub fn need_digests<T: HostTree>(
     alloc: Global,
     tree: &mut T,

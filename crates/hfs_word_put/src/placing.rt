@@ -80,8 +80,8 @@ fn find_places(
     }
 }
 
-/// Finds the folder of a volume into which a list comes, and how each item gets its place. Faults, in this order: there is no such
-/// folder; the volume is locked; all items that can't be put. Or want of memory.
+/// Finds the folder of a volume into which a list comes, and how each item gets its place. Faults, in this order: there is no
+/// such folder; the volume is locked; all items that can't be put. Or out of memory.
 pub fn place_all(
     alloc: Global,
     volume: &Volume,

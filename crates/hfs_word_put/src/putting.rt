@@ -62,7 +62,7 @@ fn sums_of(volume: &Volume, places: &[PutItem]) -> PutSums
 }
 
 /// Puts a list on a volume that was mounted just now. Faults, in this order: what can't come to its place; the first call that is
-/// refused. Or want of memory.
+/// refused. Or out of memory.
 fn put_list(
     alloc: Global,
     volume: &mut Volume,
@@ -86,9 +86,9 @@ fn put_list(
     }
 }
 
-/// Puts what comes on a volume that was mounted just now, by all calls but those that write forks. Faults, in this order: what can't
-/// be read of it; what can't come to its place; the first call that is refused; the first file with another digest than its bag
-/// tells. Or want of memory.
+/// Puts what comes on a volume that was mounted just now, by all calls but those that write forks. Faults, in this order: what
+/// can't be read of it; what can't come to its place; the first call that is refused; the first file with another digest than its
+/// bag tells. Or out of memory.
 pub fn put_items<T: HostTree>(
     alloc: Global,
     volume: &mut Volume,

@@ -50,7 +50,7 @@ impl PutReason {
     }
 }
 
-/// Appends a word and two numbers behind it.
+/// Appends a word and two numbers after it.
 fn push_two<F: Show + Drop, S: Show + Drop>(
     text: &mut String,
     word: &str,

@@ -46,7 +46,7 @@ fn told_next(volume: &Volume, told: Reply, name: &[u8]) -> Reply
     }
 }
 
-/// What is told behind all these names.
+/// What is told after all these names.
 fn told_behind(volume: &Volume, root: Reply, below: &[Name]) -> Reply
     ensures { result
         ≡ fold (path.told_next (get_cat_info (entries_in volume.now.current))) root below.now }
@@ -129,9 +129,9 @@ fn folder_of(reply: Reply) -> Result<u32, Reply>
     }
 }
 
-/// The folder of a volume into which what comes is put: the one that a path leads to, as `ls --path` takes it, or the root where none
-/// is given. Or the reply that refuses it: -43 where the path leads nowhere or is none, -120 where it leads to a file or through one.
-/// The only error is want of memory.
+/// The folder of a volume into which what comes is put: the one that a path leads to, as `ls --path` takes it, or the root where
+/// none is given. Or the reply that refuses it: -43 where the path leads nowhere or is none, -120 where it leads to a file or
+/// through one. Fails only when out of memory.
 pub fn target_folder(
     alloc: Global,
     volume: &Volume,

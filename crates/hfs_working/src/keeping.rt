@@ -26,8 +26,9 @@ fn keep_block(
     }
 }
 
-/// Those changed blocks of a volume of `count` blocks that were read. A block that was not read is none that calls change, unless they
-/// write a fork: where it is kept as changed, it is as it was in the copy, and the image has other bytes there. The only error is want of memory.
+/// Those changed blocks of a volume of `count` blocks that were read. A block that was not read is none that calls change, unless
+/// they write a fork: where it is kept as changed, it is as it was in the copy, and the image has other bytes there. Fails only
+/// when out of memory.
 pub fn kept_to(
     alloc: Global,
     changed: &ChangedBlocks,

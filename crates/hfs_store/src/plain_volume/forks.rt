@@ -60,8 +60,8 @@ impl PlainVolume {
     }
 
     /// Makes a file's fork its first `length` bytes, with zeros after them where it was shorter, and its physical length that of
-    /// the allocation blocks that these take. `Err` only where memory is wanting, and then the volume is as it was.
-    /// A lawful volume stays lawful.
+    /// the allocation blocks that these take. `Err` only when out of memory, and then the volume is as it was. A lawful volume
+    /// stays lawful.
     #[tactic(auto, unfolding(hfs_model::specs::ForkCalls::set_eof))]
     pub fn set_eof(
         &mut self,
@@ -88,8 +88,8 @@ impl PlainVolume {
         }
     }
 
-    /// Writes bytes into a file's fork from an offset on, which lengthens the fork where they go past its end. `Err` only where
-    /// memory is wanting, and then the volume is as it was.
+    /// Writes bytes into a file's fork from an offset on, which lengthens the fork where they go past its end. `Err` only when
+    /// out of memory, and then the volume is as it was.
     /// A lawful volume stays lawful.
     #[tactic(auto, unfolding(hfs_model::specs::ForkCalls::write_fork))]
     pub fn write_fork(

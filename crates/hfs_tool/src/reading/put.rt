@@ -74,7 +74,7 @@ const PUT: Word = Word {
     ],
 };
 
-/// How `put` is used: options may stand before what comes or behind it.
+/// How `put` is used: options may stand before what comes or after it.
 const USAGE: &str = "hfs_tool put [OPTIONS] --out <FILE> <IMAGE> <SOURCE>...";
 
 /// The command of `put`.
@@ -82,7 +82,7 @@ pub fn put_command<'a>(alloc: Global) -> Result<Command<'a>, AllocError> {
     Ok(PUT.command(alloc)?.override_usage(USAGE))
 }
 
-/// What `put` asks for. Faults: the program's own, or want of memory.
+/// What `put` asks for. Faults: the program's own, or out of memory.
 pub fn put_words<'a>(alloc: Global, matches: &ArgMatches<'a>) -> Result<Words<'a>, WordsFault> {
     let image = BARE_IMAGE.text(matches)?;
     let volume = volume_of(matches)?;

@@ -22,7 +22,7 @@ use hfs_space::fork_extents;
 use std::alloc::{AllocError, AllocFailed, Global};
 
 impl Volume {
-    /// The bytes as they were mounted, without a copy of them. The only error is want of memory.
+    /// The bytes as they were mounted, without a copy of them. Fails only when out of memory.
     pub fn base(&self) -> Result<Base, AllocError>
         ensures base { IfOk result (λ base. base ≡ self.now.base) }
         ensures sound { IsSound self.now.base }
@@ -50,8 +50,8 @@ impl Volume {
         self.image.changes()
     }
 
-    /// The volume with its bytes as they are now as those that it was mounted with: no block is changed. Where memory is wanting
-    /// the volume is handed back.
+    /// The volume with its bytes as they are now as those that it was mounted with: no block is changed. When out of memory the
+    /// volume is handed back.
     pub fn mounted_anew(self, alloc: Global) -> Result<Volume, AllocFailed<Volume>>
         ensures base { IfOk result (λ volume. volume.base ≡ self.current) }
         ensures current { IfOk result (λ volume. volume.current ≡ self.current) }
@@ -91,15 +91,14 @@ impl Volume {
         self.mdb.next_id
     }
 
-    /// The records of the catalog's leaves, in their order. Each leaf is read once. The only error is want of memory.
+    /// The records of the catalog's leaves, in their order. Each leaf is read once. Fails only when out of memory.
     pub fn records(&self, alloc: Global) -> Result<Vec<CatalogRecord>, AllocError>
         ensures { IfOk result (λ records. records.items ≡ catalog_in (block_at self.now.current)) }
     {
         read_records(alloc, &self.catalog_nodes())
     }
 
-    /// All extents of a fork of the file with this record, those of the extents tree among them. The only error is want of
-    /// memory.
+    /// All extents of a fork of the file with this record, those of the extents tree among them. Fails only when out of memory.
     #[tactic(auto, unfolding(crate::specs::Sharing::file_extents))]
     pub fn file_extents(
         &self,
@@ -115,9 +114,9 @@ impl Volume {
         fork_extents(alloc, &self.extents_nodes(), file.id, kind, &record.extents)
     }
 
-    /// All extents of a fork of the file of that ID, those of the extents tree among them. Their bytes in the base begin with those
-    /// of the fork, which is as long as its logical length. A file without a thread is looked for among all records. The only error
-    /// is want of memory.
+    /// All extents of a fork of the file of that ID, those of the extents tree among them. Their bytes in the base begin with
+    /// those of the fork, which is as long as its logical length. A file without a thread is looked for among all records. Fails
+    /// only when out of memory.
     pub fn extents(&self, alloc: Global, id: u32, fork: Fork) -> Result<Vec<Extent>, AllocError>
         requires { IsFileId (volume_of self.now.current) id }
         ensures extents { IfOk result (AreForkExtents self.now.current id fork) }
