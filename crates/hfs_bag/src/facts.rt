@@ -1,6 +1,6 @@
-//! What a bag tells of the image that it was taken from.
+//! What a bag says about the image that it was taken from.
 
-/// What a bag tells of the image that it was taken from, each text as it is to stand there.
+/// What a bag says about the image that it was taken from, each text as it is to stand there.
 #[derive(Clone, Copy)]
 pub struct BagFacts<'a> {
     /// The plain text of the root's name.
@@ -17,6 +17,6 @@ pub struct BagFacts<'a> {
     pub bytes: u64,
     /// Their SHA-256 digest, where it is to be told.
     pub digest: Option<[u8; 32]>,
-    /// What is told of the volume and of its check.
+    /// What is reported about the volume and of its check.
     pub report: &'a str,
 }

@@ -25,7 +25,7 @@ pub struct GivenPayload {
     pub(crate) bytes: u64,
 }
 
-/// Keeps what is told of an item that was given.
+/// Keeps what is reported about an item that was given.
 fn keep(given: &mut GivenPayload, told: ItemDigests, bytes: u64) -> Result<(), BagFault>
     ensures digests { OnOk result (given.new.digests.items ≡ given.old.digests.items ++ told ∷ []) }
     ensures bytes { OnOk result (given.new.bytes ≡ given.old.bytes + bytes) }
@@ -41,7 +41,7 @@ fn keep(given: &mut GivenPayload, told: ItemDigests, bytes: u64) -> Result<(), B
     Ok(())
 }
 
-/// Gives what there is of the next item, and answers whether there was one.
+/// Gives what there is of the next item, and returns whether there was one.
 fn give_next<S: Shelf, B: BagSource>(
     alloc: Global,
     shelf: &mut S,

@@ -13,7 +13,7 @@ pub enum BagKind {
     DoubleAlone,
 }
 
-/// What is told of an item before its forks are read.
+/// What is reported about an item before its forks are read.
 #[derive(Clone, Copy, Debug)]
 pub struct BagHead {
     pub kind: BagKind,

@@ -147,7 +147,7 @@ fn list_items<S: Shelf, B: BagSource>(
     Ok(())
 }
 
-/// Gives the manifest of all items, whose files have these digests, and answers its digest.
+/// Gives the manifest of all items, whose files have these digests, and returns its digest.
 pub(crate) fn give_manifest<S: Shelf, B: BagSource>(
     alloc: Global,
     shelf: &mut S,

@@ -30,10 +30,10 @@ pub enum SourceFault {
 }
 
 /// A volume's items below the root, one after the other, each after the folder that holds it, with the bytes of their forks in
-/// pieces. Contracts know the items by each image that has the bytes which were read; and they know which faults a source of this
+/// pieces. Contracts know the items by every image consistent with the bytes read; and they know which faults a source of this
 /// kind may answer.
 pub trait BagSource {
-    /// The images that have the bytes which were read so far: over memory one, over a file each that it may be.
+    /// The images consistent with the bytes read so far: over memory one, over a file each that it may be.
     ghost Holds: { Self → List ℕ → Type 0 };
 
     /// The items of such an image.
@@ -57,7 +57,7 @@ pub trait BagSource {
             (λ image. HasRestarted (state self.old image) (state self.new image))) Fails }
         ensures narrows { OfEach (Holds self.new) (Holds self.old) };
 
-    /// What is told of the next item, or None after the last one.
+    /// What is reported about the next item, or None after the last one.
     fn next_item(&mut self) -> Result<Option<BagHead>, SourceFault>
         ensures taken { MatchResult result (λ head. OfEach (Holds self.new)
             (λ image. TakesItem (state self.old image) (state self.new image) head)) Fails }

@@ -164,7 +164,7 @@ fn tag_manifest(alloc: Global, tags: &TagDigests) -> Result<String, AllocError>
     Ok(text)
 }
 
-/// Gives the table of what remains, where there is one, and answers its digest.
+/// Gives the table of what remains, where there is one, and returns its digest.
 fn give_remains<S: Shelf, B: BagSource>(
     alloc: Global,
     shelf: &mut S,
@@ -195,7 +195,7 @@ fn give_remains<S: Shelf, B: BagSource>(
     Ok(Some(digest))
 }
 
-/// Gives the manifest and the tables, and answers their digests.
+/// Gives the manifest and the tables, and returns their digests.
 fn give_first<S: Shelf, B: BagSource>(
     alloc: Global,
     shelf: &mut S,
@@ -225,7 +225,7 @@ fn give_first<S: Shelf, B: BagSource>(
     Ok((manifest, table, remains))
 }
 
-/// Gives the report, the facts and the declaration, and answers their digests.
+/// Gives the report, the facts and the declaration, and returns their digests.
 fn give_second<S: Shelf>(
     alloc: Global,
     shelf: &mut S,

@@ -1,4 +1,4 @@
-//! What the tables of bags tell of what lies in them.
+//! What the tables of bags say about what lies in them.
 ghost use Rattle.std.specs.Prelude.{IfOk, OnOk, map};
 ghost use Rattle.hfs_sources.specs.Trees.{OfEachTree};
 ghost use Rattle.hfs_bag_facts.specs.Later.{Tells, told_at};
@@ -28,7 +28,7 @@ impl Model for BagFacts {
     ghost view = { λ bags. bags.facts };
 }
 
-/// Notes what the table of a source tells, where that is a bag and has one.
+/// Notes what the table of a source says, where that is a bag and has one.
 fn note_source<T: HostTree>(
     alloc: Global,
     tree: &mut T,
@@ -46,9 +46,9 @@ fn note_source<T: HostTree>(
 }
 
 impl BagFacts {
-    /// What the tables of all sources tell that are bags: the `items.csv` of each, which is held while it is read. A row that isn't
-    /// as one of an item is tells nothing, and of two with one path the later counts. Faults: `CannotRead` of what can't be read,
-    /// `NoMemory`; the first one ends it.
+    /// What the tables of all sources say that are bags: the `items.csv` of each, which is held while it is read. A row that
+    /// isn't as one of an item is tells nothing, and of two with one path the later counts. Faults: `CannotRead` of what can't be
+    /// read, `NoMemory`; the first one ends it.
     pub fn read<T: HostTree>(
         alloc: Global,
         tree: &mut T,

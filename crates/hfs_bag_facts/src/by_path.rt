@@ -1,4 +1,4 @@
-//! What is told of files by their paths, in the order of the paths and not by hashes, since a host chooses its paths.
+//! What is reported about files by their paths, in the order of the paths and not by hashes, since a host chooses its paths.
 ghost use Rattle.std.specs.Prelude.{◌≡◌, [], OnOk};
 ghost use Rattle.hfs_bag_facts.specs.Later.{Tells, told_at, told_of};
 

@@ -28,7 +28,7 @@ impl Model for ManifestDigests {
     ghost view = { λ manifests. manifests.digests };
 }
 
-/// Notes what a line tells, with this before its path.
+/// Notes what a line says, with this before its path.
 fn note_line(
     alloc: Global,
     front: &str,
@@ -45,7 +45,7 @@ fn note_line(
     digests.put(path, digest)
 }
 
-/// Notes what the lines of a manifest tell, with this before their paths.
+/// Notes what the lines of a manifest say, with this before their paths.
 fn note_lines(
     alloc: Global,
     front: &str,
@@ -63,7 +63,7 @@ fn note_lines(
     Ok(())
 }
 
-/// Notes what the manifest of a source tells, where that is a bag and has one.
+/// Notes what the manifest of a source says, where that is a bag and has one.
 fn note_source<T: HostTree>(
     alloc: Global,
     tree: &mut T,
@@ -81,7 +81,7 @@ fn note_source<T: HostTree>(
 }
 
 impl ManifestDigests {
-    /// What the manifests of all sources tell that are bags: the `manifest-sha256.txt` of each, which is held while it is read. A
+    /// What the manifests of all sources say that are bags: the `manifest-sha256.txt` of each, which is held while it is read. A
     /// line that isn't as one of a manifest is tells nothing, and of two with one path the later counts. Faults: `CannotRead` of
     /// what can't be read, `NoMemory`; the first one ends it.
     pub fn read<T: HostTree>(

@@ -1,4 +1,4 @@
-//! Lines of texts, and what a line of a bag's description tells.
+//! Lines of texts, and what a line of a bag's description says.
 ghost use Rattle.std.specs.Prelude.{◌≡◌, ◌∷◌, ◌==◌, ◌<◌, MatchOption, None, Some, codes, length, position};
 ghost use Rattle.hfs_bag_tags.specs.Lines.{behind_label, first_value, lines};
 

@@ -9,7 +9,7 @@ use csv::ByteRecord;
 use hfs_incoming::FileDates;
 use hfs_model::ItemKind;
 
-/// What a row tells of an item that has it.
+/// What a row says about an item that has it.
 #[derive(Clone, Copy)]
 pub struct ItemRow {
     /// A folder or a file.
@@ -121,7 +121,7 @@ fn row_of(kind: ItemKind, row: &ByteRecord) -> Option<ItemRow>
     }
 }
 
-/// What a row tells of its item; none of what isn't the row of an item, as the head of the table isn't. See
+/// What a row says about its item; none of what isn't the row of an item, as the head of the table isn't. See
 /// [`crate::item_row_read_back`].
 #[tactic(auto, unfolding(crate::specs::Rows::item_row))]
 pub fn item_row(row: &ByteRecord) -> Option<ItemRow>

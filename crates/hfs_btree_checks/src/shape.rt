@@ -56,8 +56,8 @@ fn count_mapped<K: Key, N: Nodes>(
     }
 }
 
-/// Counts the leaf records and the free nodes of a tree in a file of `size` bytes that has its shape, but for what its
-/// header record tells of these two numbers.
+/// Counts the leaf records and the free nodes of a tree in a file of `size` bytes that has its shape, but for what its header
+/// record says about these two numbers.
 ///
 /// Errors: as `check_shape`, but for the last rule, which is that of the two numbers.
 ///

@@ -52,7 +52,7 @@ fn make_room<K: Key, S: NodesMut>(
     cut_levels(alloc, nodes, key, full, least, len)
 }
 
-/// Lowers index keys on the way to a key where some are to be lowered, and answers whether a record of `len` bytes with this key
+/// Lowers index keys on the way to a key where some are to be lowered, and returns whether a record of `len` bytes with this key
 /// comes after all others, and the last leaf has no room for it. Where none is, `low` is the leaf for the key, which was read
 /// into `bytes`.
 fn lower_way<K: Key, S: NodesMut>(

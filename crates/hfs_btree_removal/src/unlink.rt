@@ -54,7 +54,7 @@ fn link_backward<S: NodesMut>(
     store(nodes, n, &node)
 }
 
-/// Links the neighbours of node `n` to each other, and answers them.
+/// Links the neighbours of node `n` to each other, and returns them.
 pub(crate) fn unlink<S: NodesMut>(
     alloc: Global,
     nodes: &mut S,

@@ -87,7 +87,7 @@ pub(crate) fn file_to_change<N: Nodes>(
     }
 }
 
-/// The folder's file of that name, with the place of its record, or the code that refuses to set what is told of it.
+/// The folder's file of that name, with the place of its record, or the code that refuses to set what is reported about it.
 pub(crate) fn file_to_set<N: Nodes>(
     nodes: &N,
     mdb: &Mdb,
@@ -120,7 +120,7 @@ pub(crate) fn is_locked(item: &CatalogItem) -> bool
     }
 }
 
-/// The folder's item of that name, with the place of its record, or the code that refuses to set what is told of it.
+/// The folder's item of that name, with the place of its record, or the code that refuses to set what is reported about it.
 pub(crate) fn item_to_set<N: Nodes>(
     nodes: &N,
     mdb: &Mdb,

@@ -1,4 +1,4 @@
-//! The patches of the calls that set what is told of an item.
+//! The patches of the calls that set what is reported about an item.
 
 ghost use Rattle.std.specs.Prelude.{◌≡◌, IfOk, take, drop};
 ghost use Rattle.hfs_model.specs.Choices.{file_to_change, to_set_f_info, to_set_cat_info};

@@ -45,7 +45,7 @@ pub fn lookup<N: Nodes>(nodes: &N, dir: u32, name: &Name) -> Option<CatalogItem>
     named_at(&walk, dir, name)
 }
 
-/// A thread's record. None exactly where the body is no thread's, or its name's length is above 31.
+/// A thread's record. None exactly when the body is no thread's, or its name's length is above 31.
 fn thread_record(body: &[u8]) -> Option<ThreadRecord>
     ensures { SomeIff result (IsReadableThread body.now) (thread_record_of body.now) }
 {

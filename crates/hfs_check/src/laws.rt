@@ -1,7 +1,7 @@
 //! What holds of the checks of an image, each as the contract of a function that does nothing.
 ghost use Rattle.hfs_check.specs.Laws.{NoImageFault, SoundImagesAreLawful, BytesStay, BytesStayBut, AgreementsJoin};
 
-/// The checks of an image find no fault exactly where it is sound.
+/// The checks of an image find no fault exactly when it is sound.
 pub fn no_image_fault()
     ensures { NoImageFault }
 {}

@@ -1,4 +1,4 @@
-//! What a report tells of an image.
+//! What a report says about an image.
 ghost use Rattle.std.specs.Prelude.{◌≡◌, ◌<◌, ◌≤◌};
 ghost use Rattle.std.specs.Str.{bytes_eq};
 ghost use Rattle.hfs_check.specs.Parts.{mdb_in};
@@ -19,7 +19,7 @@ pub enum Alternate {
     Missing,
 }
 
-/// What is told of an image. Where it is refused, all numbers are 0 and the alternate is `Missing`.
+/// What is reported about an image. Where it is refused, all numbers are 0 and the alternate is `Missing`.
 #[derive(Clone, Copy, Debug, PartialEq, Eq)]
 pub struct Report {
     /// Why it is refused, if it is.

@@ -66,8 +66,8 @@ fn pieces_beside<B: Blocks>(
     Ok(Ok(pieces))
 }
 
-/// The free allocation blocks that come to a fork that wants `wanted` of them, as extents in the order in which they are added
-/// to it. `after` is the block directly after the fork's last one; None for a fork without blocks.
+/// The free allocation blocks that come to a fork that wants `wanted` of them, as extents in the order in which they are added to
+/// it. `after` is the block directly after the fork's last one; None for a fork without blocks.
 ///
 /// First come those from `after` on, as many in a row as are free. For the rest, the first blocks of the lowest run of free
 /// blocks that has so many; where none has, the runs by their lengths, the longest first and of equal ones the lowest, each
@@ -75,7 +75,7 @@ fn pieces_beside<B: Blocks>(
 ///
 /// Where the blocks from `after` on are enough, only their bits are read; else each block of the bitmap once.
 ///
-/// Errors: `Room` exactly where fewer blocks are free than are wanted. `AllocError` where memory was refused.
+/// Errors: `Room` exactly when fewer blocks are free than are wanted. `AllocError` where memory was refused.
 pub fn blocks_that_come<B: Blocks>(
     alloc: Global,
     bitmap: &Bitmap<'_, B>,

@@ -12,7 +12,7 @@ use hfs_word_collect::{
     next_path, open_image, rows_at,
 };
 
-/// What a row tells of the program that read an image.
+/// What a row says about the program that read an image.
 pub const PROGRAM: &str = "hfs_collect 1.0.0";
 
 /// Puts images into a database, or compares them with what it has of them.
@@ -107,7 +107,7 @@ pub fn close_database(
     }
 }
 
-/// Puts the images into the database, and answers the exit status.
+/// Puts the images into the database, and returns the exit status.
 fn run_collection(rt: &HostRuntime, words: &CollectWords<'_>) -> Result<u8, Stopped> {
     let files = files_of(rt, words)?;
     let mut database = open_database(rt, &files, true)?;
@@ -165,7 +165,7 @@ fn put_one(
     counts
 }
 
-/// Puts the image at this place of the words into the database and prints its line, and answers whether it could be read.
+/// Puts the image at this place of the words into the database and prints its line, and returns whether it could be read.
 fn collect_one(
     rt: &HostRuntime,
     database: &mut FileCollection,
@@ -207,7 +207,7 @@ fn print_unread(rt: &HostRuntime, path: &str) -> Result<(), Fault<'static>> {
     Ok(())
 }
 
-/// Compares the images with what the database has of them, and answers the exit status.
+/// Compares the images with what the database has of them, and returns the exit status.
 fn run_comparison(rt: &HostRuntime, words: &CollectWords<'_>) -> Result<u8, Stopped> {
     let files = files_of(rt, words)?;
     let mut database = open_collection(rt, &files)?;
@@ -227,7 +227,7 @@ fn run_comparison(rt: &HostRuntime, words: &CollectWords<'_>) -> Result<u8, Stop
     Ok(status.number())
 }
 
-/// Compares one image after the other, and answers whether one isn't as the database has it.
+/// Compares one image after the other, and returns whether one isn't as the database has it.
 fn compare_images(
     rt: &HostRuntime,
     database: &mut FileCollection,
@@ -244,7 +244,7 @@ fn compare_images(
     Ok(is_worse)
 }
 
-/// Compares all images of the database, in the order of their paths' bytes, and answers whether one isn't as the database has it.
+/// Compares all images of the database, in the order of their paths' bytes, and returns whether one isn't as the database has it.
 fn compare_all(
     rt: &HostRuntime,
     database: &mut FileCollection,
@@ -294,7 +294,7 @@ fn compare_at<W: ReadWatch>(
     }
 }
 
-/// Compares an image and prints its line, and answers whether it isn't as the database has it. The image is the `i`-th, counted
+/// Compares an image and prints its line, and returns whether it isn't as the database has it. The image is the `i`-th, counted
 /// from 0, of so many where that is known.
 fn compare_one(
     rt: &HostRuntime,

@@ -18,7 +18,7 @@ pub fn page<'a>(rt: &HostRuntime, words: &PageWords<'a>) -> Result<u8, Fault<'a>
     }
 }
 
-/// Prints which URLs links may begin with, and answers the exit status.
+/// Prints which URLs links may begin with, and returns the exit status.
 fn print_refused_base(rt: &HostRuntime) -> u8 {
     Status::WordsRefused.after(println!(rt;
         "--base wants a URL that begins with http: or https:, or is relative"

@@ -11,7 +11,7 @@ use hfs_word_collect::{
 };
 use std::io::Stdout;
 
-/// Prints the rows of the images, and answers the exit status. Faults go to standard error, where no program looks for rows.
+/// Prints the rows of the images, and returns the exit status. Faults go to standard error, where no program looks for rows.
 pub fn rows(rt: &HostRuntime, words: &RowsWords<'_>) -> u8 {
     match print_rows(rt, words) {
         Ok(status) => status.number(),
@@ -47,8 +47,8 @@ fn write_rows<W: ReadWatch>(
     write_image(taker, &mut rows)
 }
 
-/// Prints the rows of the image at this place of the words, and answers whether all of them came; where they don't, and where the sum of a disk copy is wrong, this is
-/// told on standard error.
+/// Prints the rows of the image at this place of the words, and returns whether all of them came; where they don't, and where the
+/// sum of a disk copy is wrong, this is told on standard error.
 fn print_image(
     rt: &HostRuntime,
     taker: &mut TextTaker<Stdout>,

@@ -27,7 +27,7 @@ pub type StoredRows<'a> = ImageRows<
     NotedFile<MemoryBytes<'a>, Brand, Stored<'a>>,
 >;
 
-/// What is told of an image beside its bytes.
+/// What is reported about an image beside its bytes.
 pub fn facts_of(path: &str) -> ImageFacts<'_> {
     ImageFacts {
         path,

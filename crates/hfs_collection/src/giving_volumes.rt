@@ -31,7 +31,7 @@ use hfs_source::{BlocksOf, PlacedBlocks, PlacedBytes};
 use hfs_sparse::{SeenBlocks, SparseFault};
 use std::alloc::Global;
 
-/// Gives the row of a sound volume and those of its items, and answers how many files are among them.
+/// Gives the row of a sound volume and those of its items, and returns how many files are among them.
 fn give_sound<S: PlacedBlocks + Drop, T: RowTaker>(
     alloc: Global,
     taker: &mut T,
@@ -133,7 +133,8 @@ fn sum_told<S: PlacedBytes>(source: &mut S, found: &FoundRange) -> Result<Option
     }
 }
 
-/// Where a volume lies that was found in an image, with this number; of a disk copy all bytes are read, to tell whether its sum is right.
+/// Where a volume lies that was found in an image, with this number; of a disk copy all bytes are read, to say whether its sum is
+/// right.
 fn place_in<S: PlacedBytes + Drop, K: PickedImage, F: ImageFile<S, K>>(
     file: &mut F,
     layout: Layout,

@@ -20,7 +20,7 @@ use hfs_rows::{RowTaker, RowValue, Table};
 use hfs_source::PlacedBytes;
 use std::alloc::{AllocError, Global};
 
-/// What is told of an image beside its bytes.
+/// What is reported about an image beside its bytes.
 #[derive(Clone, Copy)]
 pub struct ImageFacts<'a> {
     /// The path as it was given.
@@ -31,7 +31,7 @@ pub struct ImageFacts<'a> {
     pub takes_digests: bool,
 }
 
-/// What the first opening of an image tells.
+/// What the first opening of an image says.
 #[derive(Drop)]
 pub(crate) struct Look {
     /// How many bytes it has.
@@ -161,9 +161,10 @@ fn give_rows<S: PlacedBytes + Drop, K: PickedImage, F: ImageFile<S, K>, T: RowTa
     give_content::<S, K, F, T>(alloc, taker, file, layout, others, facts.takes_digests)
 }
 
-/// Gives a taker the rows of an image: its own, and for each volume that lies in it, or in the user data of its raw CD sectors, that volume's, with those of its
-/// items, or of what remains of them where it is refused; where no volume lies in it, those of the one that is lost. At a fault what was given is a beginning
-/// of them. It is proved of each picked image that has the bytes which were read. Faults: `ReadFailed`, and then the file is given up, `CannotWrite`, `NoMemory`.
+/// Gives a taker the rows of an image: its own, and for each volume that lies in it, or in the user data of its raw CD sectors,
+/// that volume's, with those of its items, or of what remains of them where it is refused; where no volume lies in it, those of
+/// the one that is lost. At a fault what was given is a beginning of them. It holds for every picked image consistent with the
+/// bytes read. Faults: `ReadFailed`, and then the file is given up, `CannotWrite`, `NoMemory`.
 pub fn give_image<S: PlacedBytes + Drop, K: PickedImage, F: ImageFile<S, K>, T: RowTaker>(
     alloc: Global,
     taker: &mut T,

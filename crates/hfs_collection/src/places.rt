@@ -37,7 +37,8 @@ fn way_of(container: Container, sum: Option<bool>) -> Way
 }
 
 impl VolumePlace {
-    /// That of a volume that was found, with this number and what is told of its sum, where so many sectors have no user data.
+    /// That of a volume that was found, with this number and what is reported about its sum, where so many sectors have no user
+    /// data.
     pub(crate) fn of(others: u64, number: u64, found: &FoundRange, sum: Option<bool>) -> VolumePlace
         ensures { result ≡ place_of others number found.now sum }
     {

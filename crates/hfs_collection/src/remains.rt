@@ -10,7 +10,7 @@ use hfs_model::Info;
 use hfs_rows::RowValue;
 use std::alloc::{AllocError, Global};
 
-/// What a row tells of a fork.
+/// What a row says about a fork.
 #[derive(Drop)]
 pub(crate) struct ForkTold {
     /// The digest of the bytes that are taken of it.

@@ -1,4 +1,4 @@
-//! What the rows of items tell of what remains of a refused volume.
+//! What the rows of items say about what remains of a refused volume.
 ghost use Rattle.std.specs.Prelude.{◌≡◌, ◌&&◌, Some, IfOk, string_bytes};
 ghost use Rattle.hfs_remains.specs.Verdicts.{FindsFork, shares_at};
 ghost use Rattle.hfs_rescue_items.specs.Found.{path_at};
@@ -26,7 +26,7 @@ use hfs_space::ForkKind;
 use hfs_verdicts::{Verdict, push_verdict};
 use std::alloc::{AllocError, Global};
 
-/// What is told of an item that remains.
+/// What is reported about an item that remains.
 #[derive(Drop)]
 pub(crate) struct ToldItem {
     /// The values of its row.
@@ -103,7 +103,7 @@ impl Remaining<'_> {
         }
     }
 
-    /// What a row tells of a fork that was found.
+    /// What a row says about a fork that was found.
     fn told<S: PlacedBlocks>(
         &self,
         alloc: Global,
@@ -125,7 +125,7 @@ impl Remaining<'_> {
         })
     }
 
-    /// What a row tells of a fork of an item: nothing of a folder.
+    /// What a row says about a fork of an item: nothing of a folder.
     fn told_fork<S: PlacedBlocks>(
         &self,
         alloc: Global,
@@ -151,7 +151,7 @@ impl Remaining<'_> {
         }
     }
 
-    /// What is told of an item, of which its record tells this.
+    /// What is reported about an item, of which its record tells this.
     #[tactic(auto, using(crate::proofs::RemainsGoing::values_told, crate::proofs::Counting::item_counted))]
     pub(crate) fn told_item<S: PlacedBlocks>(
         &self,

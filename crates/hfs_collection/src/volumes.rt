@@ -136,7 +136,7 @@ fn push_no_directory(values: &mut Vec<RowValue>) -> Result<(), AllocError>
     push_empty(values)
 }
 
-/// Appends what is told of the directory.
+/// Appends what is reported about the directory.
 fn push_directory(
     alloc: Global,
     values: &mut Vec<RowValue>,

@@ -15,7 +15,7 @@ use std::{fmt, io};
 /// How many names are tried for a file beside another.
 const NAMES: u32 = 100;
 
-/// A file that a run left that was stopped, by its path. Its `Display` is what is told of it.
+/// A file that a run left that was stopped, by its path. Its `Display` is what is reported about it.
 #[derive(Drop)]
 pub struct Leftover {
     pub path: String,

@@ -10,8 +10,8 @@ use hfs_queries::refusal;
 use hfs_source::PlacedBlocks;
 use std::alloc::{AllocError, Global};
 
-/// What is told of the item that a Mac path leads to, the volume's name first, in each image that has the bytes which were read
-/// of one that was opened: the reply to GetCatInfo of it, or to GetDirInfo of the root. A path that begins with `:` leaves the
+/// What is reported about the item that a Mac path leads to, the volume's name first, in every image consistent with the bytes
+/// read from the opened one: the reply to GetCatInfo of it, or to GetDirInfo of the root. A path that begins with `:` leaves the
 /// volume's name out, and `:` is the root. -43 where the text is no path, leads nowhere or begins with another name; -120 where
 /// it goes through a file. Fails only when out of memory.
 #[tactic(auto, using(crate::proofs::PathReplies::by_names, crate::proofs::PathReplies::by_none))]

@@ -1,4 +1,4 @@
-//! What is told of an image.
+//! What is reported about an image.
 ghost use Rattle.std.specs.Prelude.{◌≡◌, ◌++◌, IfErr, IfOk, OnOk, string_bytes};
 ghost use Rattle.hfs_commands.specs.Checks.{HasCheckLines, IsCheckFault, IsCheckStatus, alternate_text, check_lines, check_status, refused_line, sound_lines};
 ghost use Rattle.hfs_needed.specs.Failing.{SomeReadFails};
@@ -66,7 +66,7 @@ fn report_text(alloc: Global, report: &Report) -> Result<(u8, String), AllocErro
     }
 }
 
-/// What a check of an image tells.
+/// What a check of an image says.
 #[derive(Drop)]
 pub struct CheckAnswer {
     /// The first fault, in the order of docs/CHECKS.md, if there is one.
@@ -77,7 +77,7 @@ pub struct CheckAnswer {
     pub lines: String,
 }
 
-/// What a report tells.
+/// What a report says.
 pub fn report_answer(alloc: Global, report: &Report) -> Result<CheckAnswer, AllocError>
     ensures fault { IfOk result (λ told. told.fault ≡ report.now.fault) }
     ensures status { IfOk result (λ told. told.status ≡ check_status report.now) }
@@ -91,7 +91,7 @@ pub fn report_answer(alloc: Global, report: &Report) -> Result<CheckAnswer, Allo
     })
 }
 
-/// Checks an image, and gives its source back: what the report of each image tells that has the bytes which were read. Only the
+/// Checks an image, and gives its source back: what the report of each image says that has the bytes which were read. Only the
 /// blocks are read that its checks need. Errors: `ReadFailed` where a read of one of these blocks failed; `Memory` where it was
 /// refused. A fault of the image is no error: it is told of.
 pub fn needed_check_answer<S: PlacedBlocks + Drop>(

@@ -103,7 +103,7 @@ pub trait ReadContents {
     fn leaves_holes(&self) -> bool;
 }
 
-/// Writes all bytes of contents to a new file, which has them and no others then. Errors: as [`ReadContents::write_to`] has them.
+/// Writes all bytes of contents to a new file, which has them and no others then. Errors: as for [`ReadContents::write_to`].
 pub(crate) fn fill<C: ReadContents, P: PlacedWriter + Drop>(
     contents: &mut C,
     file: P,

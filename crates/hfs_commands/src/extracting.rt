@@ -25,7 +25,7 @@ fn buffer_of(alloc: Global, count: usize) -> Result<Vec<u8>, AllocError>
     vec![in alloc; 0; count]
 }
 
-/// Writes the bytes from a block on, as many as there is room for in `piece`.
+/// Writes the bytes from a block on, as many as `piece` has room for.
 fn write_piece<S: BlockSource, W: Write>(
     source: &mut S,
     first: u32,
@@ -50,7 +50,7 @@ fn write_piece<S: BlockSource, W: Write>(
     Ok(())
 }
 
-/// Writes `len` bytes of an image, in pieces of as many as there is room for in `buffer`.
+/// Writes `len` bytes of an image, in pieces of as many as `buffer` has room for.
 fn write_pieces<S: BlockSource, W: Write>(
     source: &mut S,
     len: u64,
@@ -131,7 +131,7 @@ impl<S: BlockSource> ReadContents for ImageContents<S> {
     }
 }
 
-/// Looks that a range of a file holds a volume. Faults: `NoVolumes` where it doesn't, a read failed.
+/// Checks that a range of a file holds a volume. Faults: `NoVolumes` where it doesn't, a read failed.
 pub fn need_volume<'a, S: ReadAt>(
     source: &mut S,
     range: ByteRange,

@@ -34,7 +34,7 @@ fn put_piece<W: Write>(writer: &mut W, text: &mut Vec<u8>) -> Result<(), Fault<'
     Ok(())
 }
 
-/// Appends the line of the next item, and answers whether there was one.
+/// Appends the line of the next item, and returns whether there was one.
 fn push_next(
     alloc: Global,
     text: &mut Vec<u8>,
@@ -91,8 +91,8 @@ fn write_table<W: Write>(
     put_piece(writer, &mut text)
 }
 
-/// Writes the table of all items of each image that has the bytes which were read of one that was opened: a line for each, the
-/// root first, after each folder its children in name order, and after each child what lies in it. Faults: `OutputFailed` and
+/// Writes the table of all items of every image consistent with the bytes read from the opened one: a line for each, the root
+/// first, after each folder its children in name order, and after each child what lies in it. Faults: `OutputFailed` and
 /// `NoMemory`, and then a part of the table may have gone out, from its beginning on.
 pub fn write_items<W: Write, S: PlacedBlocks + Drop>(
     alloc: Global,

@@ -84,9 +84,9 @@ pub fn children_text(alloc: Global, reply: &Reply) -> Result<(u8, String), Alloc
     }
 }
 
-/// Lists a folder by its ID, and answers the exit status and the lines: 0 and a line for each child in name order, or 3 and the
-/// code of the call; so of the volume of each image that has the bytes which were read of one that was opened. Fails only when
-/// out of memory.
+/// Lists a folder by its ID, and returns the exit status and the lines: 0 and a line for each child in name order, or 3 and the
+/// code of the call; so of the volume of every image consistent with the bytes read from the opened one. Fails only when out of
+/// memory.
 pub fn seen_list_text<S: PlacedBlocks + Drop>(
     alloc: Global,
     image: &SeenImage<S>,

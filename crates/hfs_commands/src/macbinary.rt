@@ -12,8 +12,9 @@ use hfs_model::{Info, ItemKind, NOT_FOUND, Reply, Value};
 use hfs_texts::put;
 use std::io::Write;
 
-/// Writes the MacBinary file of a file that a reply to GetCatInfo tells of, with these forks, and answers 0; or the code of a reply that tells
-/// of none (-43 of a folder), and nothing is written. The fault is `OutputFailed`, and then a part may have gone out, from the beginning on.
+/// Writes the MacBinary file of a file that a reply to GetCatInfo tells of, with these forks, and returns 0; or the code of a
+/// reply that tells of none (-43 of a folder), and nothing is written. The fault is `OutputFailed`, and then a part may have gone
+/// out, from the beginning on.
 pub fn put_macbinary<W: Write>(
     writer: &mut W,
     told: &Reply,

@@ -17,7 +17,7 @@ use std::sync::Arc;
 /// The bytes of a file that was opened, as they stand in it.
 #[derive(Drop)]
 pub enum StoredFile<F: Read + Seek> {
-    /// What can be sought in, to be read where it is needed.
+    /// What can be sought in, to be read on demand.
     Seekable(SeekableBytes<TrustedFile<F>>),
     /// All bytes of anything else, such as a pipe, which several may read.
     Whole(Arc<Vec<u8>>),

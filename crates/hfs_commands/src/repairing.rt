@@ -1,4 +1,4 @@
-//! What is told of a repair.
+//! What is reported about a repair.
 ghost use Rattle.std.specs.Prelude.{◌≡◌, IfOk, OnOk, length, string_bytes};
 ghost use Rattle.hfs_source.specs.Images.{OfEach};
 ghost use Rattle.hfs_texts.specs.Texts.{Gains};
@@ -98,7 +98,7 @@ fn mended_text(
     }
 }
 
-/// What a repair makes of an image that is read where it is needed, and what is told of it.
+/// What a repair makes of an image that is read on demand, and what is reported about it.
 #[derive(Drop)]
 pub struct RepairAnswer<S> {
     /// The repaired image, as what a file is to hold; or what it was read from, where it is refused.
@@ -111,10 +111,10 @@ pub struct RepairAnswer<S> {
     pub lines: String,
 }
 
-/// Mends the counted numbers of an image of `len` bytes, of which only the blocks are read that decide it, and tells of it: what is told is so of
-/// each image that has the bytes which were read. Its bytes are read once more when the repaired image is written. Errors: `ReadFailed`
-/// where a read of one of these blocks failed, or the source ends before one does; `Memory` where it was refused. A fault of the image is no
-/// error: it is told of.
+/// Mends the counted numbers of an image of `len` bytes, of which only the blocks are read that decide it, and tells of it: what
+/// is told holds for every image consistent with the bytes read. Its bytes are read once more when the repaired image is written.
+/// Errors: `ReadFailed` where a read of one of these blocks failed, or the source ends before one does; `Memory` where it was
+/// refused. A fault of the image is no error: it is told of.
 pub fn repair_answer<S: BlockSource + Drop>(
     alloc: Global,
     source: S,

@@ -122,9 +122,9 @@ fn start_fault(fault: ScriptFault) -> Fault<'static>
 }
 
 impl<S: BlockSource + Watched + Drop> RunImage<S> {
-    /// Reads the blocks that calls read and write of an image of `len` bytes, which was opened by this path, and makes all checks. Or tells why the
-    /// image is refused, which is a fault once the script was read. Faults: `CannotRead` where a read fails, `Refused(TooLarge)`,
-    /// `NoMemory`.
+    /// Reads the blocks that calls read and write of an image of `len` bytes, which was opened by this path, and makes all
+    /// checks. Or says why the image is refused, which is a fault once the script was read. Faults: `CannotRead` where a read
+    /// fails, `Refused(TooLarge)`, `NoMemory`.
     pub fn open<'a>(
         alloc: Global,
         source: S,

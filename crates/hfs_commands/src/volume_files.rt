@@ -42,7 +42,7 @@ fn whole_file<F: Read + Seek>(source: StoredFile<F>) -> Window<StoredFile<F>>
     }
 }
 
-/// All bytes of what can't be sought in. Faults: as [`open_file`] has them.
+/// All bytes of what can't be sought in. Faults: as for [`open_file`].
 #[tactic(auto, using(crate::proofs::WholeReads::whole_held))]
 pub(crate) fn loaded<'a, F: Read + Seek + Drop>(
     alloc: Global,
@@ -60,7 +60,7 @@ pub(crate) fn loaded<'a, F: Read + Seek + Drop>(
     }
 }
 
-/// All bytes of a file, to be read where they are needed if it can be sought in. Faults: as [`open_file`] has them.
+/// All bytes of a file, to be read on demand if it can be sought in. Faults: as for [`open_file`].
 pub(crate) fn opened<'a, F: Read + Seek + Drop>(
     alloc: Global,
     file: F,
@@ -88,9 +88,9 @@ fn has_places<F: OpenFile + Seek>(file: &mut F) -> bool {
     }
 }
 
-/// Opens a file as it is: where it has bytes and can be sought in, it is read where it is needed, and its length is what seeking to its end says; of
-/// anything else, such as a pipe, all bytes are read. Faults: `CannotRead` where it can't be opened or a read fails, `Refused(TooLarge)` where all
-/// bytes are read and are more than 2,147,483,648, `NoMemory`.
+/// Opens a file as it is: where it has bytes and can be sought in, it is read on demand, and its length is what seeking to its
+/// end says; of anything else, such as a pipe, all bytes are read. Faults: `CannotRead` where it can't be opened or a read fails,
+/// `Refused(TooLarge)` where all bytes are read and are more than 2,147,483,648, `NoMemory`.
 pub fn open_file<'a, R: Files + AllocGlobal>(
     rt: &R,
     path: &'a str,
@@ -138,7 +138,7 @@ fn stored_part<F: Read + Seek>(file: Window<StoredFile<F>>) -> FilePart<F>
 }
 
 /// Where what is asked for lies in a file of `len` bytes, or of user data, by the number of a range or without one, as
-/// [`find_asked`] says; `None` is the file as it is. Faults: as [`part_of`] has them.
+/// [`find_asked`] says; `None` is the file as it is. Faults: as for [`part_of`].
 #[tactic(auto, using(crate::proofs::PartLemmas::several_unnamed, crate::proofs::PartLemmas::missing_unnamed))]
 pub(crate) fn place_asked<'a, S: ReadAt>(
     alloc: Global,
@@ -224,9 +224,9 @@ fn chosen_part<'a, F: Read + Seek + Drop>(
     part_of(alloc, content, path, counted, None)
 }
 
-/// Opens what is asked for of an image: the volume with this number that lies in it, or in the user data of its raw sectors, 0 being the image as it is; without a number what
-/// [`find_asked`] chooses, where the image can be sought in, and else the image as it is. What can be sought in is read where it is needed. Faults: as
-/// [`open_file`] and [`part_of`] have them.
+/// Opens what is asked for of an image: the volume with this number that lies in it, or in the user data of its raw sectors, 0
+/// being the image as it is; without a number what [`find_asked`] chooses, where the image can be sought in, and else the image
+/// as it is. What can be sought in is read on demand. Faults: as [`open_file`] and [`part_of`] have them.
 pub fn open_asked<'a, R: Files + AllocGlobal>(
     rt: &R,
     path: &'a str,

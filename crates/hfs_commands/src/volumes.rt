@@ -1,4 +1,4 @@
-//! What is told of the volumes in a file.
+//! What is reported about the volumes in a file.
 ghost use Rattle.std.specs.Prelude.{◌≡◌, ◌++◌, IfOk, OnOk, string_bytes};
 ghost use Rattle.std.specs.Option.{option_map};
 ghost use Rattle.hfs_containers.specs.Ranges.{bytes_in};
@@ -98,7 +98,8 @@ fn push_place(text: &mut String, number: u64, found: &FoundRange) -> Result<(), 
     write!(text, "{}", found.range.len)
 }
 
-/// Appends the line of a range, with the name of its volume, what is told of its sum, and how many raw sectors have no user data.
+/// Appends the line of a range, with the name of its volume, what is reported about its sum, and how many raw sectors have no
+/// user data.
 #[tactic(auto, unfolding(crate::specs::Volumes::volume_line))]
 fn push_volume_line(
     text: &mut String,

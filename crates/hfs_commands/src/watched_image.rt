@@ -150,8 +150,8 @@ pub(crate) struct LookedFile<F: Read + Seek> {
     pub(crate) looks: Option<TrustedLooks<F, StoredFile<F>>>,
 }
 
-/// Opens a file by its path, to write it anew with changes. A regular file is looked at, and left to be read where it is needed;
-/// of anything else all bytes are held. Faults: as [`open_file`](crate::open_file) has them.
+/// Opens a file by its path, to write it anew with changes. A regular file is looked at, and left to be read on demand; of
+/// anything else all bytes are held. Faults: as for [`open_file`](crate::open_file).
 pub(crate) fn open_looked<'a, R: Files + AllocGlobal>(
     rt: &R,
     path: &'a str,
@@ -175,9 +175,8 @@ pub(crate) fn open_looked<'a, R: Files + AllocGlobal>(
     })
 }
 
-/// Opens an image by its path, to write it anew with changes: a regular file is looked at, and left to be read where it is
-/// needed, and of anything else all bytes are held. Faults: as [`open_file`](crate::open_file) has them; `NotWritten` where it is
-/// of raw CD sectors.
+/// Opens an image by its path, to write it anew with changes: a regular file is looked at, and left to be read on demand, and of
+/// anything else all bytes are held. Faults: as for [`open_file`](crate::open_file); `NotWritten` where it is of raw CD sectors.
 pub fn open_watched<'a, R: Files + AllocGlobal>(
     rt: &R,
     path: &'a str,

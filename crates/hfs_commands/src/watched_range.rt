@@ -23,7 +23,7 @@ pub trait WatchedBytes: PlacedBytes {
     /// The last thing that was done with it is a look, which told what its first look did.
     ghost settled: { Self → Type 0 };
 
-    /// Looks whether it is as it was when it was opened. Error: it isn't, or that can't be told.
+    /// Checks whether it is as it was when it was opened. Error: it isn't, or that can't be told.
     fn look_again(&mut self) -> io::Result<()>
         ensures settled { OnOk result (settled self.new) }
         ensures narrows { OfEach (Self.Holds self.new) (Self.Holds self.old) };
@@ -57,7 +57,7 @@ impl<S: WatchedBytes> Watched for WatchedRange<S> {
 }
 
 /// The bytes of a file, which is read as they are written, with changed blocks in place of those of an image in it, and with that
-/// image's sum made anew.
+/// image's sum recomputed.
 #[derive(Drop)]
 pub struct ImageInFile<S> {
     pub alloc: Global,
@@ -72,7 +72,7 @@ pub struct ImageInFile<S> {
 }
 
 impl<S> ImageInFile<S> {
-    /// The file in a range of which this image lies, with its changed blocks in place of its own, and with its sum made anew
+    /// The file in a range of which this image lies, with its changed blocks in place of its own, and with its sum recomputed
     /// where one stands in the file.
     pub fn of(image: PatchedImage<WatchedRange<S>>, sum_at: Option<u64>) -> ImageInFile<S>
         ensures file { result.file ≡ image.source.bytes.bytes }

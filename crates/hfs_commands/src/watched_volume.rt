@@ -45,7 +45,7 @@ impl<F: Read + Seek> WatchedVolume<F> {
     }
 }
 
-/// Looks that the sum which a disk copy's header tells is that of its data; a range that is no disk copy has none. Faults:
+/// Checks that the sum which a disk copy's header tells is that of its data; a range that is no disk copy has none. Faults:
 /// `SumWrong`; a read failed.
 fn need_right_sum<'a, S: ReadAt>(
     source: &mut S,

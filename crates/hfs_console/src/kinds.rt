@@ -56,7 +56,8 @@ fn resource_fork<F: Read + Seek>(part: &mut Part<F>) -> u64 {
     before_data.saturating_add(filled(u64::from(u32_at(&lengths, 0))))
 }
 
-/// The first types of the resources in the fork that begins at `fork`: its header tells where the map is, and the map where the list of types.
+/// The first types of the resources in the fork that begins at `fork`: its header says where the map is, and the map where the
+/// list of types.
 fn resource_types<F: Read + Seek>(part: &mut Part<F>, fork: u64) -> [u32; 16] {
     let header = piece_at(part, fork);
     let map = fork.saturating_add(u64::from(u32_at(&header, 4)));

@@ -43,7 +43,7 @@ impl From<NoValue> for WordsFault {
     }
 }
 
-/// Prints why words are refused, or the help that was asked for, and answers the exit status.
+/// Prints why words are refused, or the help that was asked for, and returns the exit status.
 pub fn refused_words(rt: &HostRuntime, fault: &WordsFault) -> u8 {
     match fault {
         WordsFault::Clap(error) => told_by_clap(rt, error),
@@ -56,7 +56,7 @@ pub fn refused_words(rt: &HostRuntime, fault: &WordsFault) -> u8 {
     }
 }
 
-/// Prints what clap says, and answers the exit status.
+/// Prints what clap says, and returns the exit status.
 fn told_by_clap(rt: &HostRuntime, error: &Error) -> u8 {
     match error.kind() {
         ErrorKind::OutOfMemory => refused(rt, &Fault::NoMemory),
@@ -65,7 +65,7 @@ fn told_by_clap(rt: &HostRuntime, error: &Error) -> u8 {
     }
 }
 
-/// Prints a fault, and answers its exit status, or that of a failed device where it was not printed.
+/// Prints a fault, and returns its exit status, or that of a failed device where it was not printed.
 pub fn refused(rt: &HostRuntime, fault: &Fault<'_>) -> u8
     ensures { (result ≡ status_number (status_of fault.now)) ⊎ (result ≡ 4) }
 {

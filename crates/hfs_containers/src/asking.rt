@@ -145,9 +145,9 @@ fn chosen_of<S: ReadAt>(
     Ok(only_one(&inside))
 }
 
-/// What is taken of a file of `len` bytes, or of user data, by the number of a range in it or without one: 0 is the file as it is. Without a number a bare
-/// volume is taken as it is, else the only range inside that counts; where none does the file as it is, and of several none. Errors as [`find_ranges`]
-/// has them.
+/// What is taken of a file of `len` bytes, or of user data, by the number of a range in it or without one: 0 is the file as it
+/// is. Without a number a bare volume is taken as it is, else the only range inside that counts; where none does the file as it
+/// is, and of several none. Errors as for [`find_ranges`].
 #[tactic(auto, unfolding(crate::specs::Asking::asked_in))]
 pub fn find_asked<S: ReadAt>(
     alloc: Global,

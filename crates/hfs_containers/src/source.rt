@@ -9,8 +9,8 @@ pub trait ReadAt {
     /// The file's bytes, where they are known. A file on a disk doesn't tell them.
     ghost known: { Self → Option (List ℕ) };
 
-    /// Reads the bytes from `place` on, counted from 0, as many as there is room for in `into`. Error: the read failed, or the
-    /// file ends before the room is full. Where there is no room nothing is read, and that is no error at any place.
+    /// Reads the bytes from `place` on, counted from 0, as many as `into` has room for. Error: the read failed, or the file ends
+    /// before the room is full. Where there is no room nothing is read, and that is no error at any place.
     fn read_at(&mut self, place: u64, into: &mut [u8]) -> io::Result<()>
         ensures read { OnOk result (HoldsFrom (known self.old) place into.new) }
         ensures known { known self.new ≡ known self.old }

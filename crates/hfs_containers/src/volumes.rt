@@ -31,8 +31,8 @@ fn signed_name(block: &[u8; 64]) -> Option<[u8; 28]>
     Some(name)
 }
 
-/// The name's field (drVN, a length byte and 27 characters) of the volume that a range holds. None exactly where it has fewer than 1,536
-/// bytes or another signature. Errors: the read failed, or the file ends before the range.
+/// The name's field (drVN, a length byte and 27 characters) of the volume that a range holds. None exactly when it has fewer than
+/// 1,536 bytes or another signature. Errors: the read failed, or the file ends before the range.
 pub fn volume_name<S: ReadAt>(
     source: &mut S,
     range: ByteRange,

@@ -10,7 +10,7 @@ use hfs_sparse::SparseFault;
 use std::alloc::Global;
 use std::io;
 
-/// How many bytes are read: what tells where volumes lie stands before that.
+/// How many bytes are read: what says where volumes lie stands before that.
 const HEAD: u64 = 131_072;
 
 /// The first bytes of an image of `len` bytes. Contracts see zeros after them, which can't be read.

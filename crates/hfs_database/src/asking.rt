@@ -45,7 +45,7 @@ fn digest_in(row: &Row) -> Result<Option<String>, DatabaseFault>
     }
 }
 
-/// What a row tells of an image.
+/// What a row says about an image.
 #[tactic(auto, using(crate::proofs::FaultLemmas::unread_at))]
 fn image_of(row: &Row) -> Result<KnownImage, DatabaseFault>
     ensures fault { IfErr result (IsUnreadIn row.now) }
@@ -80,7 +80,8 @@ fn parameter(text: &Option<String>) -> ValueRef<'_>
     }
 }
 
-/// What the collection tells of the image of this path, if it has it. Faults: `CannotWrite` where its row can't be read, `NoMemory`.
+/// What the collection says about the image of this path, if it has it. Faults: `CannotWrite` where its row can't be read,
+/// `NoMemory`.
 #[tactic(auto, using(crate::proofs::FaultLemmas::told_unanswered, crate::proofs::FaultLemmas::told_unread), unfolding(crate::specs::Asking::known_image_text))]
 pub fn known_image<S: Alter>(
     collection: &mut Collection<S>,

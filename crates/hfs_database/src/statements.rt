@@ -26,7 +26,7 @@ pub(crate) struct LastRows {
     pub(crate) volume: i64,
 }
 
-/// Runs a statement within the transaction, and answers the first row that it shows.
+/// Runs a statement within the transaction, and returns the first row that it shows.
 #[tactic(auto, using(crate::proofs::Keeping::keeps_itself))]
 fn shown_row<S: Alter>(
     conn: &mut Connection<S>,
@@ -76,7 +76,7 @@ fn number_of(row: &Row) -> Result<i64, TakerFault>
     }
 }
 
-/// Runs a statement that puts a row, and answers the row's number.
+/// Runs a statement that puts a row, and returns the row's number.
 #[tactic(auto, using(crate::proofs::Keeping::keeps_itself, crate::proofs::Keeping::keeps_then))]
 fn put<S: Alter>(
     conn: &mut Connection<S>,
@@ -128,7 +128,7 @@ fn replace_image<S: Alter>(
     Ok(id)
 }
 
-/// Puts the row of a volume of an image, and answers the row's number.
+/// Puts the row of a volume of an image, and returns the row's number.
 #[tactic(auto, using(crate::proofs::Keeping::keeps_itself, crate::proofs::Keeping::keeps_then), unfolding(crate::specs::Texts::put_volume_text))]
 fn put_volume<S: Alter>(
     alloc: Global,

@@ -82,7 +82,7 @@ impl Found {
     }
 }
 
-/// What a row tells of a table or an index that was looked for.
+/// What a row says about a table or an index that was looked for.
 fn told_in(row: &Row) -> Result<Found, DatabaseFault>
     ensures tells { IfOk result (Tells row.now) }
     ensures fault { IfErr result TellsNoTables }

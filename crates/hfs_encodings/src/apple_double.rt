@@ -41,7 +41,7 @@ impl AppleDoubleHead {
         head
     }
 
-    /// The head that a file begins with. None exactly where it has fewer than 82 bytes, or another layout than this one.
+    /// The head that a file begins with. None exactly when it has fewer than 82 bytes, or another layout than this one.
     #[tactic(auto, unfolding(crate::specs::AppleDouble::apple_double_head_of))]
     pub fn read(file: &[u8]) -> Option<AppleDoubleHead>
         ensures { SomeIff result (BeginsAppleDouble file.now) (apple_double_head_of file.now) }
@@ -60,7 +60,7 @@ impl AppleDoubleHead {
         })
     }
 
-    /// The resource fork of the file that begins with this head. None exactly where the file ends before it does.
+    /// The resource fork of the file that begins with this head. None exactly when the file ends before it does.
     pub fn resource_fork<'a>(&self, file: &'a [u8]) -> Option<&'a [u8]>
         ensures whole { IsSome result ↔ (82 + self.now.resource_length ≤ length file.now) }
         ensures fork { IfSome result (λ fork. fork.now ≡ resource_fork_at self.now.resource_length file.now) }

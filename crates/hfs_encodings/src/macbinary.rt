@@ -97,8 +97,8 @@ impl MacBinaryHead {
         head
     }
 
-    /// The header that a file begins with. None exactly where it has none of this form: its zeros, a name of 1 to 31 bytes, no second
-    /// header, a version that asks for no more than II, and the check.
+    /// The header that a file begins with. None exactly when it has none of this form: its zeros, a name of 1 to 31 bytes, no
+    /// second header, a version that asks for no more than II, and the check.
     #[tactic(auto, unfolding(crate::specs::MacBinary::macbinary_head_of))]
     pub fn read(file: &[u8]) -> Option<MacBinaryHead>
         ensures { SomeIff result (IsTrue (begins_macbinary file.now)) (macbinary_head_of file.now) }
@@ -118,7 +118,7 @@ impl MacBinaryHead {
         })
     }
 
-    /// The data fork of the file that begins with this header. None exactly where the file ends before it does.
+    /// The data fork of the file that begins with this header. None exactly when the file ends before it does.
     pub fn data_fork<'a>(&self, file: &'a [u8]) -> Option<&'a [u8]>
         ensures whole { IsSome result ↔ (128 + self.now.data_length ≤ length file.now) }
         ensures fork { IfSome result (λ fork. fork.now ≡ data_fork_at self.now file.now) }
@@ -126,7 +126,7 @@ impl MacBinaryHead {
         part(file, MacBinaryHead::LENGTH, self.data_length as usize)
     }
 
-    /// The resource fork of the file that begins with this header. None exactly where the file ends before it does.
+    /// The resource fork of the file that begins with this header. None exactly when the file ends before it does.
     pub fn resource_fork<'a>(&self, file: &'a [u8]) -> Option<&'a [u8]>
         ensures whole { IsSome result ↔ (resource_place self.now + self.now.resource_length ≤ length file.now) }
         ensures fork { IfSome result (λ fork. fork.now ≡ resource_fork_at self.now file.now) }
@@ -140,7 +140,7 @@ impl MacBinaryHead {
     }
 }
 
-/// The bytes of a file from a place on. None exactly where the file has fewer.
+/// The bytes of a file from a place on. None exactly when the file has fewer.
 fn part(file: &[u8], start: usize, len: usize) -> Option<&[u8]>
     requires { start + len < 2 ^ 63 }
     ensures whole { IsSome result ↔ (start + len ≤ length file.now) }

@@ -11,7 +11,7 @@ use hfs_btree::{Header, Key, child_of};
 use hfs_btree_edits::{NodesMut, store_replaced, viewed};
 use std::alloc::{AllocError, Global};
 
-/// Gives the first record of an index node this key, and answers the child that the record names.
+/// Gives the first record of an index node this key, and returns the child that the record names.
 fn set_first<K: Key, S: NodesMut>(
     alloc: Global,
     nodes: &mut S,
@@ -33,7 +33,7 @@ fn set_first<K: Key, S: NodesMut>(
     Ok(child)
 }
 
-/// Gives the first record of each index node of the left edge this key, and answers the first leaf.
+/// Gives the first record of each index node of the left edge this key, and returns the first leaf.
 fn set_edge<K: Key, S: NodesMut>(
     alloc: Global,
     nodes: &mut S,

@@ -50,7 +50,7 @@ fn the_empty_tree_again(rt: HostRuntime) -> Result<(), Fail> {
     Ok(())
 }
 
-/// Gives a record of a sound tree this body, and answers whether it has it then.
+/// Gives a record of a sound tree this body, and returns whether it has it then.
 fn change_sound(
     alloc: Global,
     nodes: &mut NodeTable,

@@ -56,7 +56,7 @@ impl DirRecord {
         }
     }
 
-    /// The record that the bytes begin with. None exactly where they are fewer than 70, or their type is not 1.
+    /// The record that the bytes begin with. None exactly when they are fewer than 70, or their type is not 1.
     #[tactic(auto, unfolding(crate::specs::Records::begins_dir, crate::specs::Records::dir_record_of))]
     pub fn read(bytes: &[u8]) -> Option<DirRecord>
         ensures { SomeIff result (IsTrue (begins_dir bytes.now)) (dir_record_of bytes.now) }

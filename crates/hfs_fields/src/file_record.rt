@@ -120,7 +120,7 @@ impl FileRecord {
         }
     }
 
-    /// The record that the bytes begin with. None exactly where they are fewer than 102, or their type is not 2.
+    /// The record that the bytes begin with. None exactly when they are fewer than 102, or their type is not 2.
     #[tactic(auto, unfolding(crate::specs::Records::begins_file, crate::specs::Records::file_record_of))]
     pub fn read(bytes: &[u8]) -> Option<FileRecord>
         ensures { SomeIff result (IsTrue (begins_file bytes.now)) (file_record_of bytes.now) }

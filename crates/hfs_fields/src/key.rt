@@ -42,7 +42,7 @@ fn characters_at(bytes: &[u8], at: usize) -> &[u8]
     &bytes[start..end]
 }
 
-/// The name at `at`: a length byte, and so many characters. None exactly where the length is above 31.
+/// The name at `at`: a length byte, and so many characters. None exactly when the length is above 31.
 pub(crate) fn name_at(bytes: &[u8], at: usize) -> Option<Name>
     requires length { at < length bytes.now }
     requires characters { HoldsName at bytes.now }
@@ -74,8 +74,8 @@ fn is_body_length(length: usize) -> bool
 }
 
 impl CatKey {
-    /// The key that the bytes begin with. None exactly where the bytes are too few, the name's length is above 31,
-    /// or the key's length has no room for the name or is above 37.
+    /// The key that the bytes begin with. None exactly when the bytes are too few, the name's length is above 31, or the key's
+    /// length has no room for the name or is above 37.
     #[tactic(auto, unfolding(crate::specs::Keys::is_cat_key, crate::specs::Keys::cat_key_of))]
     pub fn read(bytes: &[u8]) -> Option<CatKey>
         ensures { SomeIff result (IsTrue (is_cat_key bytes.now)) (cat_key_of bytes.now) }
@@ -90,8 +90,8 @@ impl CatKey {
         })
     }
 
-    /// The key of a leaf's record and the place where its body begins, counted in bytes from the record's beginning.
-    /// None exactly where the record has no such key or no body of a thread, a directory or a file.
+    /// The key of a leaf's record and the place where its body begins, counted in bytes from the record's beginning. None exactly
+    /// when the record has no such key or no body of a thread, a directory or a file.
     #[tactic(auto, unfolding(crate::specs::Keys::is_cat_leaf, crate::specs::Keys::is_cat_key, crate::specs::Keys::cat_body_start))]
     pub fn read_leaf(bytes: &[u8]) -> Option<(CatKey, usize)>
         ensures key { SomeIff result (IsTrue (is_cat_leaf bytes.now)) (cat_leaf_of bytes.now) }
@@ -106,7 +106,7 @@ impl CatKey {
     }
 
     /// The key of an index node's record, and the number of the node below it.
-    /// None exactly where the record has not 42 bytes, its key not the length 37, or its name more than 31 characters.
+    /// None exactly when the record has not 42 bytes, its key not the length 37, or its name more than 31 characters.
     #[tactic(auto, unfolding(crate::specs::Keys::is_cat_index, crate::specs::Keys::cat_child_of))]
     pub fn read_index(bytes: &[u8]) -> Option<(CatKey, u32)>
         ensures { SomeIff result (IsTrue (is_cat_index bytes.now)) (cat_index_of bytes.now) }
@@ -193,7 +193,7 @@ impl CatKey {
 }
 
 impl ExtKey {
-    /// The key that the bytes begin with. None exactly where the bytes are fewer than 8, or the key's length is not 7.
+    /// The key that the bytes begin with. None exactly when the bytes are fewer than 8, or the key's length is not 7.
     #[tactic(auto, unfolding(crate::specs::Keys::is_ext_key, crate::specs::Keys::ext_key_of))]
     pub fn read(bytes: &[u8]) -> Option<ExtKey>
         ensures { SomeIff result (IsTrue (is_ext_key bytes.now)) (ext_key_of bytes.now) }
@@ -208,7 +208,7 @@ impl ExtKey {
         })
     }
 
-    /// The key of a leaf's record. None exactly where the record has not 20 bytes, or its key not the length 7.
+    /// The key of a leaf's record. None exactly when the record has not 20 bytes, or its key not the length 7.
     #[tactic(auto, unfolding(crate::specs::Keys::is_ext_leaf, crate::specs::Keys::is_ext_key))]
     pub fn read_leaf(bytes: &[u8]) -> Option<(ExtKey, usize)>
         ensures key { SomeIff result (IsTrue (is_ext_leaf bytes.now)) (ext_key_of bytes.now, 8) }
@@ -222,7 +222,7 @@ impl ExtKey {
     }
 
     /// The key of an index node's record, and the number of the node below it.
-    /// None exactly where the record has not 12 bytes, or its key not the length 7.
+    /// None exactly when the record has not 12 bytes, or its key not the length 7.
     #[tactic(auto, unfolding(crate::specs::Keys::is_ext_index, crate::specs::Keys::ext_child_of))]
     pub fn read_index(bytes: &[u8]) -> Option<(ExtKey, u32)>
         ensures { SomeIff result (IsTrue (is_ext_index bytes.now)) (ext_index_of bytes.now) }

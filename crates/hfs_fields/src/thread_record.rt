@@ -52,8 +52,8 @@ impl ThreadRecord {
         }
     }
 
-    /// The record that the bytes begin with. None exactly where they are fewer than 46, their type is neither 3 nor 4,
-    /// or the name's length is above 31.
+    /// The record that the bytes begin with. None exactly when they are fewer than 46, their type is neither 3 nor 4, or the
+    /// name's length is above 31.
     #[tactic(auto, unfolding(crate::specs::Records::begins_thread, crate::specs::Records::thread_record_of))]
     pub fn read(bytes: &[u8]) -> Option<ThreadRecord>
         ensures { SomeIff result (IsTrue (begins_thread bytes.now)) (thread_record_of bytes.now) }

@@ -27,7 +27,7 @@ pub trait Looks<R> {
         ensures first { first self.new ≡ first self.old };
 }
 
-/// Looks whether a file is as the first look found it. Error: it isn't, or that can't be told.
+/// Checks whether a file is as the first look found it. Error: it isn't, or that can't be told.
 pub fn look_again<R, L: Looks<R>>(looks: &mut L, file: &R) -> io::Result<()>
     ensures settled { OnOk result (L.told looks.new file.now (L.first looks.new)) }
     ensures first { L.first looks.new ≡ L.first looks.old }
@@ -48,8 +48,8 @@ struct LastLook<R> {
     stamp: Stamp,
 }
 
-/// Another handle of a file that was opened, with its first look and its last. That the handle is one of the same file, and that the
-/// system tells how many bytes a file has and when it was changed, is trusted, and nothing else.
+/// Another handle of a file that was opened, with its first look and its last. That the handle is one of the same file, and that
+/// the system says how many bytes a file has and when it was changed, is trusted, and nothing else.
 #[derive(Drop)]
 pub struct TrustedLooks<F, R> {
     handle: F,

@@ -64,7 +64,7 @@ impl<P: PlacedWriter> NewFileWriter<P> {
         }
     }
 
-    /// Writes some of these bytes after what there is, and answers how many.
+    /// Writes some of these bytes after what there is, and returns how many.
     fn write_on(&mut self, more: &[u8]) -> io::Result<usize>
         ensures bound { WritesAtMost result more.now }
         ensures bytes { WriteAppends self.old self.new result more.now }

@@ -14,7 +14,7 @@ pub struct Stamp {
     pub modified: i64,
     /// And how many nanoseconds later.
     pub modified_nanoseconds: i64,
-    /// When these or what is told of the file changed last, which no program can set.
+    /// When these or what is reported about the file changed last, which no program can set.
     pub changed: i64,
     /// And how many nanoseconds later.
     pub changed_nanoseconds: i64,

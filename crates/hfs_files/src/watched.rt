@@ -10,7 +10,7 @@ pub trait Watched: BlockSource {
     /// The last thing that was done with it is a look, which told what its first look did.
     ghost settled: { Self → Type 0 };
 
-    /// Looks whether it is as it was when it was opened. Error: it isn't, or that can't be told.
+    /// Checks whether it is as it was when it was opened. Error: it isn't, or that can't be told.
     fn look_again(&mut self) -> io::Result<()>
         ensures settled { OnOk result (settled self.new) }
         ensures narrows { OfEach (Self.Holds self.new) (Self.Holds self.old) }

@@ -53,7 +53,7 @@ fn fetch_beginning<S: BlockSource>(
     Ok(())
 }
 
-/// Reads the blocks that tell whether block `n` serves for a directory.
+/// Reads the blocks that say whether block `n` serves for a directory.
 fn fetch_place<S: BlockSource>(
     source: &mut S,
     read: &mut SparseBlocks,
@@ -73,7 +73,7 @@ fn fetch_place<S: BlockSource>(
     Ok(())
 }
 
-/// Reads the blocks that tell which of the two blocks serves in which a directory belongs.
+/// Reads the blocks that say which of the two blocks serves in which a directory belongs.
 fn fetch_places<S: BlockSource>(
     source: &mut S,
     read: &mut SparseBlocks,
@@ -280,8 +280,9 @@ fn unless(elsewhere: bool, directory: u32) -> Option<u32>
     if elsewhere { None } else { Some(directory) }
 }
 
-/// Reads the blocks of an image of `count` blocks that are needed to find what there is of it: those that tell which of the two blocks
-/// serves in which a directory belongs, and by that one those of both trees' files. Errors: a read failed, memory was refused.
+/// Reads the blocks of an image of `count` blocks that are needed to find what there is of it: those that say which of the two
+/// blocks serves in which a directory belongs, and by that one those of both trees' files. Errors: a read failed, memory was
+/// refused.
 pub(crate) fn gather<S: BlockSource>(
     alloc: Global,
     source: &mut S,

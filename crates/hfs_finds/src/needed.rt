@@ -20,10 +20,11 @@ pub enum NeededFinds {
     Whole,
 }
 
-/// What is found of an image of `len` bytes by the block that is taken for its directory, where that is found in one of the two blocks in which
-/// a directory belongs, and the catalog passes its check, or is whole as far as its size says and has a record: then only the blocks
-/// are read that tell which of the two serves, and those of both trees' files, in runs of up to 64 KB. Anywhere else other blocks of the
-/// image are looked at, and all of them are to be read. Errors: a read failed, memory was refused.
+/// What is found of an image of `len` bytes by the block that is taken for its directory, where that is found in one of the two
+/// blocks in which a directory belongs, and the catalog passes its check, or is whole as far as its size says and has a record:
+/// then only the blocks are read that say which of the two serves, and those of both trees' files, in runs of up to 64 KB.
+/// Anywhere else other blocks of the image are looked at, and all of them are to be read. Errors: a read failed, memory was
+/// refused.
 pub fn needed_finds<S: BlockSource>(
     alloc: Global,
     source: &mut S,

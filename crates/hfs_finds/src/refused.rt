@@ -9,8 +9,8 @@ use hfs_check::MountFault;
 use hfs_source::PlacedBlocks;
 use hfs_sparse::SeenBlocks;
 
-/// An image that is refused: where its blocks are read from, why, and what is found of it; all this of each image that has the bytes which
-/// were read.
+/// An image that is refused: where its blocks are read from, why, and what is found of it; all this holds for every image
+/// consistent with the bytes read.
 #[derive(Drop)]
 pub struct RefusedImage<S: PlacedBlocks> {
     /// Where its blocks are read from.

@@ -24,7 +24,7 @@ pub struct LookedImage<S: PlacedBlocks> {
     pub source: SeenBlocks<S>,
     /// How many bytes it has.
     pub len: u64,
-    /// Its report, which tells why it is refused, if it is.
+    /// Its report, which says why it is refused, if it is.
     pub report: Report,
     /// What is found of it; None where there is no directory in it.
     pub found: Option<Finds>,

@@ -47,14 +47,14 @@ fn nodes_wanted<N: Nodes>(nodes: &N, coming: u32) -> Option<NodesWanted>
     None
 }
 
-/// Adds blocks to a fork, whose own record has the extents `first`, and answers the first three extents that it has then; the
+/// Adds blocks to a fork, whose own record has the extents `first`, and returns the first three extents that it has then; the
 /// others are in the extents tree. A piece that begins directly after the fork's last block lengthens its last extent. Any other
 /// comes to the next place, in a new record of three where all places are in use. The key of such a record has the number of the
 /// fork's blocks before it.
 ///
-/// Errors: `NodesWanted` exactly where the extents tree has fewer free nodes than the records that come may want
-/// (`extents_need`); nothing is written then. `AllocError` where memory was refused; then nothing is known of the nodes, which are
-/// to be thrown away.
+/// Errors: `NodesWanted` exactly when the extents tree has fewer free nodes than the records that come may want (`extents_need`);
+/// nothing is written then. `AllocError` where memory was refused; then nothing is known of the nodes, which are to be thrown
+/// away.
 ///
 /// Source: Inside Macintosh: Files, chapter 2, 'Extents overflow file'.
 pub fn lengthen_fork<S: NodesMut>(

@@ -57,7 +57,7 @@ fn put_at(extents: &mut Vec<Extent>, place: usize, piece: Extent) -> Result<(), 
     Ok(())
 }
 
-/// Adds a piece after the first `used` extents, and answers how many are in use then.
+/// Adds a piece after the first `used` extents, and returns how many are in use then.
 fn add_piece(extents: &mut Vec<Extent>, used: usize, piece: Extent) -> Result<usize, AllocError>
     requires used { used ≤ length extents.old.items }
     requires within { piece.first + piece.count ≤ 65535 }

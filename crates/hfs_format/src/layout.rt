@@ -17,7 +17,7 @@ pub struct TreeFile {
     pub nodes: u32,
 }
 
-/// Where the parts of a new volume lie, and what its blocks tell.
+/// Where the parts of a new volume lie, and what its blocks say.
 #[derive(Clone, Copy)]
 pub struct Layout {
     /// The volume's name, an item name of at most 27 characters.
@@ -86,8 +86,8 @@ fn tree_file(factor: u32, blocks: u16) -> TreeFile
     }
 }
 
-/// The files of so many nodes of the extents tree and of the catalog. None exactly where their allocation blocks are more than
-/// the volume has.
+/// The files of so many nodes of the extents tree and of the catalog. None exactly when their allocation blocks are more than the
+/// volume has.
 fn tree_files(
     factor: u32,
     room: u16,
@@ -109,7 +109,7 @@ fn tree_files(
     ))
 }
 
-/// The name of a volume. None exactly where it isn't an item name of at most 27 characters.
+/// The name of a volume. None exactly when it isn't an item name of at most 27 characters.
 fn volume_name(bytes: &[u8]) -> Option<Name>
     ensures name { SomeIff result (IsTrue (spec.is_volume_name bytes.now)) bytes.now }
     ensures short { IfSome result (λ name. length name ≤ 27) }

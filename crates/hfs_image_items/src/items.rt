@@ -41,7 +41,7 @@ struct CameItem {
 pub struct ImageItems<'a, S: PlacedBlocks, W: Watch> {
     alloc: Global,
     image: SeenImage<S>,
-    /// What is told of the root.
+    /// What is reported about the root.
     pub root: Info,
     /// The rows of the items that are to come.
     rows: Inventory,
@@ -53,7 +53,7 @@ pub struct ImageItems<'a, S: PlacedBlocks, W: Watch> {
     all: u64,
 }
 
-/// The rows after the root's, and what is told of the root. Error: memory was refused.
+/// The rows after the root's, and what is reported about the root. Error: memory was refused.
 #[tactic(auto, using(crate::proofs::SourceLemmas::rows_behind, crate::proofs::SourceLemmas::begins_with, crate::proofs::RootLemmas::row_of_seen))]
 fn rows_below<S: PlacedBlocks + Drop>(
     alloc: Global,
@@ -98,7 +98,7 @@ fn bag_kind(kind: ItemKind) -> BagKind
     }
 }
 
-/// What is told of an item whose forks lie there.
+/// What is reported about an item whose forks lie there.
 fn head_of(info: &Info, runs: &Option<FileRuns>) -> BagHead
     ensures { (image : List ℕ) → LieThere info.now runs.now image → (above name : List ℕ)
         → IsHead result (item_at (entries_in image) above name info.now) }

@@ -18,7 +18,7 @@ pub(crate) struct TableReading {
     pub(crate) is_begun: bool,
 }
 
-/// Appends the line of the next row, and answers whether there was one.
+/// Appends the line of the next row, and returns whether there was one.
 fn push_next(alloc: Global, piece: &mut Vec<u8>, rows: &mut Inventory) -> Result<bool, AllocError>
     ensures { IfOk result (λ more. AddsRow more piece.old.items piece.new.items rows.old.left
         rows.new.left) }

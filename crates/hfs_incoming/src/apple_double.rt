@@ -272,8 +272,8 @@ fn fork_of(part: Option<ForkPlace>) -> ForkPlace
     }
 }
 
-/// What a file holds that is AppleDouble, version 2: its parts may stand in any order, each of them inside the file. None exactly where
-/// it isn't. Error: a read failed. See [`crate::apple_double_read_back`].
+/// What a file holds that is AppleDouble, version 2: its parts may stand in any order, each of them inside the file. None exactly
+/// when it isn't. Error: a read failed. See [`crate::apple_double_read_back`].
 #[tactic(auto, using(crate::proofs::Entries::some_fail_later, crate::proofs::Entries::apple_double_none, crate::proofs::Entries::apple_double_some))]
 pub fn read_apple_double<S: PlacedBytes>(source: &mut S) -> io::Result<Option<AppleDoubleFile>>
     ensures found { IfOk result (λ found. OfEach (S.Holds source.new)

@@ -111,7 +111,7 @@ fn finder_info_in(head: &[u8; 128]) -> [u8; 16]
     info
 }
 
-/// What the header tells of a file that is MacBinary.
+/// What the header says about a file that is MacBinary.
 #[tactic(auto, unfolding(crate::specs::MacBinary::macbinary_of))]
 fn macbinary_of(head: &[u8; 128]) -> MacBinaryFile
     requires { slice_index head.now 1 ≤ 63 }
@@ -129,7 +129,7 @@ fn macbinary_of(head: &[u8; 128]) -> MacBinaryFile
     }
 }
 
-/// What the header tells of a file of so many bytes, where they are header and forks and nothing else.
+/// What the header says about a file of so many bytes, where they are header and forks and nothing else.
 #[tactic(auto, unfolding(crate::specs::MacBinary::macbinary_with))]
 fn macbinary_with(len: u64, head: &[u8; 128]) -> Option<MacBinaryFile>
     ensures { result ≡ macbinary_with len head.now }
@@ -142,7 +142,7 @@ fn macbinary_with(len: u64, head: &[u8; 128]) -> Option<MacBinaryFile>
 }
 
 /// What a file holds that is MacBinary II or III: header and forks as long as the header tells, and nothing after them. None
-/// exactly where it isn't. Error: a read failed. See [`crate::macbinary_read_back`].
+/// exactly when it isn't. Error: a read failed. See [`crate::macbinary_read_back`].
 #[tactic(auto, unfolding(crate::specs::MacBinary::macbinary_in))]
 pub fn read_macbinary<S: PlacedBytes>(source: &mut S) -> io::Result<Option<MacBinaryFile>>
     ensures found { IfOk result (λ found. OfEach (S.Holds source.new)

@@ -42,7 +42,8 @@ impl Model for Inventory {
     ghost invariant = { λ i. CanGoOn i.records.items i.path.items i.levels.items };
 }
 
-/// Appends the name of the item at a place to the path of its folder, and the level of what lies in it; answers what is told of it.
+/// Appends the name of the item at a place to the path of its folder, and the level of what lies in it; answers what is reported
+/// about it.
 fn enter(
     records: &[CatalogRecord],
     path: &mut Vec<Name>,
@@ -91,8 +92,8 @@ impl Inventory {
         })
     }
 
-    /// What is told of the next item, or None after the last one. Fails only when out of memory, and then nothing is promised of
-    /// the rows to come.
+    /// What is reported about the next item, or None after the last one. Fails only when out of memory, and then nothing is
+    /// promised of the rows to come.
     pub fn next(&mut self) -> Result<Option<Info>, AllocError>
         ensures { IfOk result (GivesRow self.old self.new) }
     {

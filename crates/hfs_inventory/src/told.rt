@@ -1,4 +1,4 @@
-//! What is told of an item by its record.
+//! What is reported about an item by its record.
 ghost use Rattle.std.specs.Prelude.{◌≡◌, ◌++◌, IsTrue};
 ghost use Rattle.hfs_fields.specs.Records.{is_item};
 ghost use Rattle.hfs_catalog.specs.Lookups.{catalog_item};
@@ -61,7 +61,7 @@ fn file_told(has_thread: bool, key: CatKey, file: &FileRecord) -> Info
     }
 }
 
-/// What is told of an item. Only of a file it is told whether it has a thread.
+/// What is reported about an item. Only of a file it is told whether it has a thread.
 fn item_told(item: &CatalogItem, has_thread: bool) -> Info
     ensures { result ≡ item_told has_thread item.now }
 {
@@ -71,7 +71,7 @@ fn item_told(item: &CatalogItem, has_thread: bool) -> Info
     }
 }
 
-/// What is told of the item of a record.
+/// What is reported about the item of a record.
 pub(crate) fn record_told(stored: &CatalogRecord, has_thread: bool) -> Info
     requires { IsTrue (is_item stored.now.1) }
     ensures { result ≡ item_told has_thread (catalog_item stored.now) }

@@ -112,7 +112,7 @@ impl Table {
         self.by_id.get(&id)
     }
 
-    /// What is told of the item of a row.
+    /// What is reported about the item of a row.
     #[tactic(auto, unfolding(hfs_model::specs::Replies::info_of))]
     fn info(&self, id: u32, row: &Row) -> Info
         requires table { IsTable self.now }
@@ -178,7 +178,7 @@ impl Table {
         }
     }
 
-    /// What is told of the folder of that ID.
+    /// What is reported about the folder of that ID.
     #[tactic(auto, unfolding(hfs_model::specs::Reading::get_dir_info))]
     pub fn get_dir_info(&self, dir: u32) -> Reply
         requires { IsTable self.now }
@@ -193,7 +193,7 @@ impl Table {
         }
     }
 
-    /// What is told of the folder's item of that name.
+    /// What is reported about the folder's item of that name.
     #[tactic(auto, unfolding(hfs_model::specs::Reading::get_cat_info))]
     pub fn get_cat_info(&self, dir: u32, name: &[u8]) -> Reply
         requires { IsTable self.now }
@@ -226,7 +226,7 @@ impl Table {
         }
     }
 
-    /// What is told of a folder's children, in name order.
+    /// What is reported about a folder's children, in name order.
     fn infos(&self, alloc: Global, dir: u32) -> Result<Vec<Info>, AllocError>
         requires table { IsTable self.now }
         requires lawful { IsLawful (volume_of self.now) }
@@ -244,7 +244,7 @@ impl Table {
         Ok(infos)
     }
 
-    /// What is told of the folder's children, in name order.
+    /// What is reported about the folder's children, in name order.
     #[tactic(auto, unfolding(hfs_model::specs::Reading::list))]
     pub fn list(&self, alloc: Global, dir: u32) -> Result<Reply, AllocError>
         requires table { IsTable self.now }
@@ -260,7 +260,7 @@ impl Table {
         Ok(success(Value::Many(Infos::new(infos))))
     }
 
-    /// What is told of the folder's child at that place in name order, counted from 0.
+    /// What is reported about the folder's child at that place in name order, counted from 0.
     fn info_at(&self, dir: u32, at: u32) -> Option<Info>
         requires table { IsTable self.now }
         requires lawful { IsLawful (volume_of self.now) }
@@ -281,8 +281,8 @@ impl Table {
         None
     }
 
-    /// What is told of the folder's child at that place in name order, counted from 1. The places before it are passed, and no
-    /// more is told. Takes no memory.
+    /// What is reported about the folder's child at that place in name order, counted from 1. The places before it are passed,
+    /// and no more is told. Takes no memory.
     #[tactic(auto, unfolding(hfs_model::specs::Reading::get_indexed))]
     pub fn get_indexed(&self, dir: u32, index: u32) -> Reply
         requires table { IsTable self.now }

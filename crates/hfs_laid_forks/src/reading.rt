@@ -29,7 +29,7 @@ impl<B: PlacedBytes + Drop, H: PlacedFiles + Drop> LaidForks<B, H> {
         self.files.look_again(self.alloc, &self.items)
     }
 
-    /// Keeps a fault of the tree, where none is kept yet, and answers one of a read.
+    /// Keeps a fault of the tree, where none is kept yet, and returns one of a read.
     fn noted(&mut self, fault: HostFault) -> io::Error
         ensures { self.new ≡ record self.old { fault = option_or self.old.fault (Some fault) } }
     {

@@ -42,7 +42,8 @@ fn name_in(source: NameSource<'_>) -> Option<Name>
     }
 }
 
-/// The name of a volume. Error: `BadName` exactly where there is none, or it isn't an item name of at most 27 characters; it is never cut.
+/// The name of a volume. Error: `BadName` exactly when there is none, or it isn't an item name of at most 27 characters; it is
+/// never cut.
 pub fn read_name(source: NameSource<'_>) -> Result<VolumeName, MakeFault>
     ensures { MatchResult result (IsNameOf source.entry) (IsBadName source.entry) }
 {

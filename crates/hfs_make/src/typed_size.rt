@@ -36,7 +36,7 @@ fn number_of(digits: &[u8]) -> Option<u64>
 }
 
 /// The size that a text names: bytes, or with `K`, `M` or `G` after 1,024, 1,048,576 or 1,073,741,824 bytes. Error: `BadSize`
-/// exactly where it names none, or one that isn't whole blocks of 512 bytes from 64 KB to 2 GB.
+/// exactly when it names none, or one that isn't whole blocks of 512 bytes from 64 KB to 2 GB.
 pub fn read_size(text: &str) -> Result<VolumeSize, MakeFault>
     ensures { MatchResult result (IsSizeOf text.now) (IsBadSize text.now) }
 {

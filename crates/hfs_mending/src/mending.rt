@@ -14,7 +14,7 @@ use hfs_repair::{Fix, Mending};
 use hfs_sparse::{BlockSource, SparseBlocks, SparseFault};
 use std::alloc::Global;
 
-/// What a repair of an image changes and tells, and what is then wrong with it.
+/// What a repair of an image changes and says, and what is then wrong with it.
 #[derive(Drop)]
 pub struct Mended {
     /// The blocks that the repair changes, as they are then.
@@ -25,7 +25,7 @@ pub struct Mended {
     pub fault: Option<MountFault>,
 }
 
-/// What is told of an image whose length is wrong: it is left as it is.
+/// What is reported about an image whose length is wrong: it is left as it is.
 fn unmended(alloc: Global, fault: MountFault) -> Mended
     ensures patch { result.patch ≡ [] }
     ensures fixes { result.fixes.items ≡ [] }
@@ -87,9 +87,10 @@ fn mend_blocks<S: BlockSource>(
     })
 }
 
-/// What a repair of an image of `len` bytes changes, tells and leaves, of which only the blocks are read that decide it: the master directory block, the bitmap,
-/// and all nodes of both trees. Errors: a read failed, or the image ends before that many bytes; memory was refused. A fault of the image is
-/// no error: it is told of. What is told is said of each image that has the bytes which were read.
+/// What a repair of an image of `len` bytes changes, tells and leaves, of which only the blocks are read that decide it: the
+/// master directory block, the bitmap, and all nodes of both trees. Errors: a read failed, or the image ends before that many
+/// bytes; memory was refused. A fault of the image is no error: it is told of. What is told holds for every image consistent with
+/// the bytes read.
 pub fn mend_needed<S: BlockSource>(
     alloc: Global,
     source: &mut S,

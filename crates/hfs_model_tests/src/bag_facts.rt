@@ -1,4 +1,4 @@
-//! What bags in a tree in memory tell of their items, and the digests of their files.
+//! What bags in a tree in memory say about their items, and the digests of their files.
 use crate::sources::{DOUBLE, file, folder};
 use hfs_bag_facts::{BagFacts, ManifestDigests, bag_name, first_wrong_file};
 use hfs_put_plan::ToldFacts;
@@ -114,7 +114,7 @@ fn has_facts(item: &SourceItem, path: &str, locked: bool, dates: (u32, u32, u32)
         && facts.dates.backup == dates.2
 }
 
-/// The items of this bag with what it tells of them.
+/// The items of this bag with what it says about them.
 fn told_items(alloc: Global, nodes: &[HostNode<'_>]) -> Result<Vec<SourceItem>, HostFault> {
     let mut tree = MemoryTree { nodes };
     let facts = BagFacts::read(alloc, &mut tree, &["bag"])?;

@@ -1,4 +1,4 @@
-//! What the tag files of a bag tell, and what folders of a host are to become on a disk.
+//! What the tag files of a bag say, and what folders of a host are to become on a disk.
 use csv::{ByteRecord, Error, Reader};
 use hfs_bag_tags::{ItemRow, bag_path, external_identifier, item_row, manifest_line, read_moment};
 use hfs_fields::Name;

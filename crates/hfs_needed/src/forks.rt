@@ -209,8 +209,8 @@ fn write_file<S: BlockSource, W: Write>(
     }
 }
 
-/// Writes the bytes of a file's fork of an image that was opened so, piece by piece, as they are read; or answers what a call that reads the
-/// fork answers where there is none: -37, -120 or -43, and nothing is written. Errors: as [`copy_runs`] has them.
+/// Writes the bytes of a file's fork of an image that was opened so, piece by piece, as they are read; or answers what a call
+/// that reads the fork answers where there is none: -37, -120 or -43, and nothing is written. Errors: as for [`copy_runs`].
 pub(crate) fn write_opened<S: BlockSource, W: Write>(
     alloc: Global,
     source: &mut S,

@@ -22,8 +22,8 @@ impl PickedFailures for Brand {
     ghost len = { 0 };
 }
 
-/// Blocks that are read from a source, with a note whether a read of bytes that it has failed. So what reads them needn't tell
-/// why: what is told of a fault stands on the note.
+/// Blocks that are read from a source, with a note whether a read of bytes that it has failed. So what reads them needn't say
+/// why: what is reported about a fault stands on the note.
 #[derive(Drop)]
 pub struct NotedBlocks<S: PlacedBlocks, K: PickedFailures> {
     blocks: S,

@@ -20,7 +20,7 @@ use hfs_sparse::SparseBlocks;
 /// The ID of the root.
 const ROOT: u32 = 2;
 
-/// What is told of the folder's item of that name. A name that no item may have leads nowhere.
+/// What is reported about the folder's item of that name. A name that no item may have leads nowhere.
 fn told_child<N: Nodes>(nodes: &N, dir: u32, name: &[u8]) -> Reply
     requires { IsCatalog (N.nodes nodes.now) }
     ensures { result ≡ spec.told_child (cat_info (catalog_of (N.nodes nodes.now))) dir name.now }
@@ -67,7 +67,7 @@ fn is_root_name(name: &[u8], root: &Value) -> bool
     }
 }
 
-/// What is told of the item that these names lead to.
+/// What is reported about the item that these names lead to.
 #[tactic(auto, unfolding(crate::specs::Paths::told_at))]
 fn path_told<N: Nodes>(nodes: &N, names: &[Name]) -> Reply
     requires { IsCatalog (N.nodes nodes.now) }
@@ -85,7 +85,7 @@ fn path_told<N: Nodes>(nodes: &N, names: &[Name]) -> Reply
     }
 }
 
-/// What is told of the item that these names lead to, where these blocks were read of a volume of `count` blocks.
+/// What is reported about the item that these names lead to, where these blocks were read of a volume of `count` blocks.
 pub(crate) fn told_in(read: &SparseBlocks, count: u32, trees: &VolumeTrees, names: &[Name]) -> Reply
     requires sound { AreBlocksSound count (sparse read.now) }
     requires trees { HasTrees count (sparse read.now) trees.now }

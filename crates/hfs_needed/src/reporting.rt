@@ -36,8 +36,8 @@ fn gathered_report<S: BlockSource>(
     }
 }
 
-/// Reports on an image of `len` bytes, of which only the blocks are read that its checks need: what the report on the whole image tells.
-/// Errors: a read failed, memory was refused.
+/// Reports on an image of `len` bytes, of which only the blocks are read that its checks need: what the report on the whole image
+/// says. Errors: a read failed, memory was refused.
 pub(crate) fn needed_report<S: BlockSource>(
     alloc: Global,
     source: &mut S,

@@ -1,4 +1,4 @@
-//! An image that is opened and checked once, of which what is answered holds for each image that has the bytes which were read.
+//! An image that is opened and checked once, whose answers hold for every image consistent with the bytes read.
 ghost use Rattle.std.specs.Prelude.{◌≡◌, ◌*◌, Err, IfErr, IfOk, None, OnErr, OnOk, length};
 ghost use Rattle.hfs_texts.specs.Writing.{AppendsFront};
 ghost use Rattle.hfs_blocks.specs.Blocks.{AreRunsWithin};
@@ -136,9 +136,9 @@ impl<S: PlacedBlocks> SeenImage<S> {
         list_in_brief(alloc, &volume.read, volume.count, &volume.sound.trees, dir)
     }
 
-    /// What is told of the item that the names of a path lead to, from the root's down: the reply to GetCatInfo of it, or to GetDirInfo of
-    /// the root. An empty first name stands for the root's. -43 where the first name isn't the root's or a name leads nowhere, -120
-    /// where the way goes through a file. Nothing is read.
+    /// What is reported about the item that the names of a path lead to, from the root's down: the reply to GetCatInfo of it, or
+    /// to GetDirInfo of the root. An empty first name stands for the root's. -43 where the first name isn't the root's or a name
+    /// leads nowhere, -120 where the way goes through a file. Nothing is read.
     pub fn item_at(&self, names: &[Name]) -> Reply
         ensures { OfEach (S.Holds self.now)
             (λ image. result ≡ path_told (entries_of (volume_of image)) names.now) }
@@ -204,8 +204,8 @@ impl<S: PlacedBlocks> SeenImage<S> {
         opened_runs(alloc, &self.volume, dir, name)
     }
 
-    /// Reads the blocks from number `first` on, as many as there is room for in `into`, by one read. Error: the read failed, or the image ends
-    /// before the room is full.
+    /// Reads the blocks from number `first` on, as many as `into` has room for, by one read. Error: the read failed, or the image
+    /// ends before the room is full.
     pub fn read_blocks(&mut self, first: u32, into: &mut [u8]) -> io::Result<()>
         ensures read { OnOk result (OfEach (S.Holds self.new) (HasAt (512 * first) into.new)) }
         ensures narrows { OfEach (S.Holds self.new) (S.Holds self.old) }
@@ -217,9 +217,9 @@ impl<S: PlacedBlocks> SeenImage<S> {
 }
 
 impl<S: PlacedBlocks + Drop> SeenImage<S> {
-    /// What is told of a file, and the bytes of both its forks, whose own blocks alone are read, and what they are read from; or
-    /// what a call that reads a fork answers where there is no such file: -37, -120 or -43. Errors: a read failed, memory was
-    /// refused.
+    /// What is reported about a file, and the bytes of both its forks, whose own blocks alone are read, and what they are read
+    /// from; or what a call that reads a fork answers where there is no such file: -37, -120 or -43. Errors: a read failed,
+    /// memory was refused.
     pub fn file(
         self,
         alloc: Global,
@@ -317,7 +317,8 @@ fn report_noted<K: PickedFailures, S: PlacedBlocks>(
     }
 }
 
-/// What is told of a file of an image of `len` bytes as [`SeenImage::file`] tells it, where the reads that may fail are picked.
+/// What is reported about a file of an image of `len` bytes as [`SeenImage::file`] tells it, where the reads that may fail are
+/// picked.
 fn file_noted<K: PickedFailures, S: PlacedBlocks + Drop>(
     alloc: Global,
     source: SeenBlocks<S>,

@@ -37,8 +37,8 @@ fn report_picked<K: PickedFailures, S: PlacedBlocks + Drop>(
     }
 }
 
-/// Reports on an image, of which only the blocks are read that its checks need, and gives the source back: what the report on each image tells
-/// that has the bytes which were read. Errors: a read failed, memory was refused.
+/// Reports on an image, of which only the blocks are read that its checks need, and gives the source back: what the report on
+/// each image says that has the bytes which were read. Errors: a read failed, memory was refused.
 pub fn seen_report<S: PlacedBlocks + Drop>(
     alloc: Global,
     source: SeenBlocks<S>,

@@ -40,8 +40,8 @@ fn fetch_node<S: BlockSource>(
     Ok(())
 }
 
-/// Reads node 0, and what it tells of the tree's map. None exactly where it isn't the header node of a tree with these keys in a file
-/// of `size` bytes.
+/// Reads node 0, and what it says about the tree's map. None exactly when it isn't the header node of a tree with these keys in a
+/// file of `size` bytes.
 fn fetch_head<K: Key, S: BlockSource>(
     alloc: Global,
     source: &mut S,

@@ -1,8 +1,8 @@
 //! What a run over a copy of an image answers, of the image itself, each as the contract of a function that does nothing.
 ghost use Rattle.hfs_needed_runs.specs.OnImage.{NamedForksAreTheImages, SavedIsMade, WorkersReadTheImage};
 
-/// What was read of an image for a script, with zeros elsewhere, has the image's working blocks, and the forks of all files that the script's
-/// lines name, of each image that has the bytes which were read.
+/// What was read of an image for a script, with zeros elsewhere, has the image's working blocks, and the forks of all files that
+/// the script's lines name, of every image consistent with the bytes read.
 pub fn named_forks_are_the_images()
     ensures { NamedForksAreTheImages }
 {}

@@ -51,7 +51,7 @@ pub fn push_items_word(page: &mut Vec<u8>, count: u32) -> Result<(), AllocError>
     }
 }
 
-/// Appends what is told of a folder.
+/// Appends what is reported about a folder.
 #[tactic(auto, unfolding(crate::specs::Items::folder_text))]
 fn push_folder(alloc: Global, page: &mut Vec<u8>, info: &Info) -> Result<(), AllocError>
     ensures { OnOk result (Gains page.old page.new (folder_text info.now)) }
@@ -117,7 +117,7 @@ fn push_file_name(
     push_bytes(page, b"</b>")
 }
 
-/// Appends what is told of a file.
+/// Appends what is reported about a file.
 #[tactic(auto, unfolding(crate::specs::Items::file_text))]
 fn push_file(
     alloc: Global,

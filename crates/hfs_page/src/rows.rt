@@ -23,7 +23,7 @@ pub enum PageFault {
     OutputFailed,
 }
 
-/// Appends the row of the next item, where so many folders stand open, and answers how many do after it; None after the last one.
+/// Appends the row of the next item, where so many folders stand open, and returns how many do after it; None after the last one.
 fn push_next(
     alloc: Global,
     text: &mut Vec<u8>,

@@ -111,9 +111,9 @@ fn write_head<S: PlacedBytes, W: Write>(
 
 /// Writes a file with the changed blocks in place of those of an image that lies in it, and with the image's new sum, for which
 /// the image is read once more; every other byte is the file's own. At most 1,048,576 bytes are held at a time. What was written
-/// is said of each file that has the bytes which were read. Errors: memory was refused, and nothing was written; a read failed,
-/// the image or its sum doesn't lie in the file, or the writer failed, where a part may have gone out, from the first byte on,
-/// and nothing else.
+/// holds for every file consistent with the bytes read. Errors: memory was refused, and nothing was written; a read failed, the
+/// image or its sum doesn't lie in the file, or the writer failed, where a part may have gone out, from the first byte on, and
+/// nothing else.
 pub fn write_file_with<S: PlacedBytes, W: Write>(
     alloc: Global,
     source: &mut S,

@@ -35,7 +35,7 @@ pub fn paths_tell_names()
     ensures { PathsTellNames }
 {}
 
-/// A chain of parents has no end exactly where it comes to one of its folders again.
+/// A chain of parents has no end exactly when it comes to one of its folders again.
 pub fn endless_chains_turn()
     ensures { EndlessChainsTurn }
 {}

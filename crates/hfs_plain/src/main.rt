@@ -47,7 +47,7 @@ fn obey(rt: &HostRuntime, words: &Words<'_>) -> u8 {
     }
 }
 
-/// Prints a fault, and answers its exit status, or that of a failed device where that fails.
+/// Prints a fault, and returns its exit status, or that of a failed device where that fails.
 fn refused(rt: &HostRuntime, fault: &Fault<'_>) -> u8 {
     match fault.print(rt) {
         Ok(()) => fault.status(),

@@ -64,8 +64,7 @@ impl Copies {
         self.front.changes() == self.writer.published().front.changes()
     }
 
-    /// Adds a change after all that were added, where it waits to be published. It answers whether it did: not when out of
-    /// memory.
+    /// Adds a change after all that were added, where it waits to be published. Returns whether it did: not when out of memory.
     pub fn add(&mut self, call: Call) -> bool
         ensures { IsAllOrNothing result (with_call self.old call) self.old self.new }
     {
@@ -85,7 +84,7 @@ impl Copies {
         true
     }
 
-    /// Shows viewers all that waits, in one step, and answers whether nothing waits any more. When out of memory, nothing of it
+    /// Shows viewers all that waits, in one step, and returns whether nothing waits any more. When out of memory, nothing of it
     /// is shown, and all of it waits on.
     pub fn publish<R: Wait>(&mut self, rt: &R) -> bool
         ensures published { IsAllOrNothing result (with_all_shown self.old) self.old self.new }
@@ -173,7 +172,7 @@ fn hand_over(writer: &mut PairWriter, change: Change) -> Option<Change>
     }
 }
 
-// Appends the change that is owed, if there is one, and answers whether none is owed any more.
+// Appends the change that is owed, if there is one, and returns whether none is owed any more.
 fn settle(writer: &mut PairWriter, owed: &mut Option<Change>) -> bool
     ensures desk { writer.new.desk ≡ writer.old.desk }
     ensures pending { waiting_in writer.new owed.new ≡ waiting_in writer.old owed.old }

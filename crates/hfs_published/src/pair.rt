@@ -85,8 +85,7 @@ impl Pair {
         }
     }
 
-    /// Adds a change after all that were added, where it waits to be published. It answers whether it did: not when out of
-    /// memory.
+    /// Adds a change after all that were added, where it waits to be published. Returns whether it did: not when out of memory.
     pub fn add(&mut self, call: &Call) -> bool
         ensures { IsAllOrNothing result (with_call self.old call.now) self.old self.new }
     {
@@ -99,7 +98,7 @@ impl Pair {
         }
     }
 
-    /// Shows viewers all that waits, in one step, and answers whether nothing waits any more. When out of memory, nothing of it
+    /// Shows viewers all that waits, in one step, and returns whether nothing waits any more. When out of memory, nothing of it
     /// is shown, and all of it waits on. Of a pair that nobody reads all is then published.
     pub fn publish<R: Wait>(&mut self, rt: &R) -> bool
         ensures published { IsAllOrNothing result (with_all_shown self.old) self.old self.new }

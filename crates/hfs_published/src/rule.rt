@@ -30,7 +30,7 @@ impl Outcome<Published, View> for Sees {
     ghost then = { Shown };
 }
 
-/// What the writer tells a reader.
+/// What the writer says a reader.
 pub struct Tells;
 
 impl Split<View> for Tells {

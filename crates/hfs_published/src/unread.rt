@@ -59,7 +59,7 @@ impl Unread {
         self.front.changes() == self.shown.changes()
     }
 
-    /// Adds a change after all that were added, and answers whether it did.
+    /// Adds a change after all that were added, and returns whether it did.
     pub fn add(&mut self, call: &Call) -> bool
         ensures { IsAllOrNothing result (with_call self.old call.now) self.old self.new }
     {

@@ -80,7 +80,7 @@ impl Viewer {
         Ok(reply)
     }
 
-    /// What is told of the folder of that ID, with the codes of `Volume::get_dir_info`.
+    /// What is reported about the folder of that ID, with the codes of `Volume::get_dir_info`.
     pub fn dir_info(&mut self, alloc: Global, dir: u32) -> Result<Reply, ViewFault>
         ensures ok { GivesReply (GetDirInfo dir) self.old self.new result }
         ensures err { OnErr result (self.new ≡ self.old) }
@@ -88,7 +88,7 @@ impl Viewer {
         self.read(alloc, &Call::GetDirInfo { dir })
     }
 
-    /// What is told of the folder's item of that name, with the codes of `Volume::get_cat_info`.
+    /// What is reported about the folder's item of that name, with the codes of `Volume::get_cat_info`.
     pub fn info(&mut self, alloc: Global, dir: u32, name: SharedBytes) -> Result<Reply, ViewFault>
         ensures ok { GivesReply (GetCatInfo dir name) self.old self.new result }
         ensures err { OnErr result (self.new ≡ self.old) }
@@ -96,7 +96,7 @@ impl Viewer {
         self.read(alloc, &Call::GetCatInfo { dir, name })
     }
 
-    /// What is told of the folder's child at that place in name order, counted from 1, with the codes of
+    /// What is reported about the folder's child at that place in name order, counted from 1, with the codes of
     /// `Volume::get_indexed`.
     pub fn indexed(&mut self, alloc: Global, dir: u32, index: u32) -> Result<Reply, ViewFault>
         ensures ok { GivesReply (GetIndexed dir index) self.old self.new result }
@@ -105,7 +105,7 @@ impl Viewer {
         self.read(alloc, &Call::GetIndexed { dir, index })
     }
 
-    /// What is told of all the folder's children, in name order, with the codes of `Volume::list`.
+    /// What is reported about all the folder's children, in name order, with the codes of `Volume::list`.
     pub fn list(&mut self, alloc: Global, dir: u32) -> Result<Reply, ViewFault>
         ensures ok { GivesReply (List dir) self.old self.new result }
         ensures err { OnErr result (self.new ≡ self.old) }

@@ -35,7 +35,7 @@ pub enum Decision {
     Untold,
 }
 
-/// What a value tells of one item.
+/// What a value says about one item.
 fn info_in(value: &Value) -> Option<Info>
     ensures { result ≡ info_in value.now }
 {
@@ -52,7 +52,7 @@ fn info_in(value: &Value) -> Option<Info>
     }
 }
 
-/// What is told of a folder's item of that name, where there is a name, and such an item.
+/// What is reported about a folder's item of that name, where there is a name, and such an item.
 fn info_named(volume: &Volume, dir: u32, name: Option<Name>) -> Option<Info>
     ensures { result ≡ info_named (volume_of volume.now.current) dir name }
 {

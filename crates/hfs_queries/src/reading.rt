@@ -60,7 +60,7 @@ pub fn folder_child<N: Nodes>(nodes: &N, dir: u32, name: &Name) -> Result<Catalo
     }
 }
 
-/// What is told of the folder of that ID.
+/// What is reported about the folder of that ID.
 pub fn get_dir_info<N: Nodes>(nodes: &N, dir: u32) -> Reply
     requires { IsCatalog (N.nodes nodes.now) }
     ensures { result ≡ dir_info (catalog_of (N.nodes nodes.now)) dir }
@@ -71,7 +71,7 @@ pub fn get_dir_info<N: Nodes>(nodes: &N, dir: u32) -> Reply
     }
 }
 
-/// What is told of the folder's item of that name.
+/// What is reported about the folder's item of that name.
 pub fn get_cat_info<N: Nodes>(nodes: &N, dir: u32, name: &[u8]) -> Reply
     requires { IsCatalog (N.nodes nodes.now) }
     ensures { result ≡ cat_info (catalog_of (N.nodes nodes.now)) dir name.now }
@@ -85,7 +85,7 @@ pub fn get_cat_info<N: Nodes>(nodes: &N, dir: u32, name: &[u8]) -> Reply
     }
 }
 
-/// What is told of the folder's children, in name order.
+/// What is reported about the folder's children, in name order.
 fn infos<N: Nodes>(
     alloc: Global,
     nodes: &N,
@@ -103,7 +103,7 @@ fn infos<N: Nodes>(
     Ok(infos)
 }
 
-/// What is told of the folder's child at that place in name order, counted from 1.
+/// What is reported about the folder's child at that place in name order, counted from 1.
 pub fn get_indexed<N: Nodes>(nodes: &N, dir: u32, index: u32) -> Reply
     requires { IsCatalog (N.nodes nodes.now) }
     ensures { result ≡ indexed (catalog_of (N.nodes nodes.now)) dir index }
@@ -120,7 +120,7 @@ pub fn get_indexed<N: Nodes>(nodes: &N, dir: u32, index: u32) -> Reply
     }
 }
 
-/// What is told of all the folder's children, in name order.
+/// What is reported about all the folder's children, in name order.
 pub fn list<N: Nodes>(
     alloc: Global,
     nodes: &N,

@@ -10,8 +10,8 @@ use hfs_source::PlacedBytes;
 use std::io;
 use std::io::ErrorKind;
 
-/// The user data of raw sectors: 2,048 bytes of each, one after the other, and zeros for a sector that has none. What is read of
-/// it is said of each file that has the bytes which were read.
+/// The user data of raw sectors: 2,048 bytes of each, one after the other, and zeros for a sector that has none. What is read
+/// from it holds for every file consistent with the bytes read.
 #[derive(Drop)]
 pub struct UserData<S> {
     /// The bytes of the sectors.

@@ -11,7 +11,7 @@ pub(crate) const SECTOR: u64 = 2_352;
 /// How many bytes of user data a sector has.
 pub(crate) const DATA: u64 = 2_048;
 
-/// How many bytes tell where a sector's user data begins.
+/// How many bytes say where a sector's user data begins.
 pub(crate) const HEAD: usize = 24;
 
 #[tactic(auto, unfolding(crate::specs::Sectors::has_pattern))]

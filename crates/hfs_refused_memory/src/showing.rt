@@ -15,7 +15,7 @@ use std::sync::Wait;
 /// node: it does in each of the two copies, when the 15th file is published, and when the 16th is.
 const NAMES: &[u8] = b"abcdefghijklmnop";
 
-/// The reply to one call, and what is told of it.
+/// The reply to one call, and what is reported about it.
 fn answered_once<K: Session>(
     rt: &impl Wait,
     alloc: Global,
@@ -31,8 +31,8 @@ fn answered_once<K: Session>(
     }
 }
 
-/// The reply to the call that makes a file in the root, and what is told of it. Where memory is refused to the call it is made once
-/// more.
+/// The reply to the call that makes a file in the root, and what is reported about it. Where memory is refused to the call it is
+/// made once more.
 fn answered<K: Session>(
     rt: &impl Wait,
     alloc: Global,
@@ -139,7 +139,7 @@ fn outcome_behind(before: Outcome, number: u64, shown: u64) -> Outcome {
     }
 }
 
-/// Makes each of the files, and answers how they are shown.
+/// Makes each of the files, and returns how they are shown.
 fn show_each<K: Session>(
     rt: &impl Wait,
     alloc: Global,

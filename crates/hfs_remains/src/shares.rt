@@ -25,7 +25,7 @@ pub struct FileShares {
     pub resource: Share,
 }
 
-/// Takes so many bytes, where there is room for all of them, and answers whether there was.
+/// Takes so many bytes, where there is room for all of them, and returns whether there was.
 fn take_bytes(room: &mut u64, bytes: u32) -> bool
     ensures taken { result ≡ nat_le bytes room.old }
     ensures room { room.new ≡ if nat_le bytes room.old then room.old - bytes else room.old }

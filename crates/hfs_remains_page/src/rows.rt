@@ -91,7 +91,7 @@ fn push_file_name(
     push_bytes(page, b"</b>")
 }
 
-/// Appends what is told of a file, and what is said of its forks.
+/// Appends what is reported about a file, and what is said of its forks.
 #[tactic(auto, unfolding(crate::specs::Rows::file_told))]
 fn push_file(
     alloc: Global,
@@ -158,7 +158,7 @@ fn push_folder_name(
     push_items_word(page, inside)
 }
 
-/// Appends what is told of a folder, and a note on it.
+/// Appends what is reported about a folder, and a note on it.
 #[tactic(auto, unfolding(crate::specs::Rows::folder_told))]
 fn push_folder(
     alloc: Global,
@@ -295,7 +295,7 @@ fn push_info_row(
     }
 }
 
-/// What an item tells of itself; None where there is no such item.
+/// What an item says about itself; None where there is no such item.
 fn told_at(found: &Found<'_>, i: usize) -> Option<Info>
     ensures { result ≡ told_at found.now.items.now i }
 {

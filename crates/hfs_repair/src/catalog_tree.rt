@@ -41,7 +41,7 @@ fn catalog_extents<N: Nodes>(
 }
 
 /// The extents of the catalog file, with those that go on in the extents tree, where that tree is right but for its two counts.
-/// None exactly where it isn't. Fails only when out of memory.
+/// None exactly when it isn't. Fails only when out of memory.
 pub fn mendable_catalog_file<B: Blocks>(
     alloc: Global,
     blocks: &B,
@@ -61,8 +61,8 @@ pub fn mendable_catalog_file<B: Blocks>(
     Ok(Some(file))
 }
 
-/// The catalog tree, where its file lies in the volume, and it has its shape but for its two counts. None exactly where it
-/// hasn't. Fails only when out of memory.
+/// The catalog tree, where its file lies in the volume, and it has its shape but for its two counts. None exactly when it hasn't.
+/// Fails only when out of memory.
 pub(crate) fn catalog_tree<B: Blocks>(
     alloc: Global,
     blocks: &B,

@@ -46,8 +46,8 @@ fn are_in_order<N: Nodes>(
     is_right(check_extents_tree(alloc, &headed, size))
 }
 
-/// The extents tree, where its file lies in the volume, and it is right but for its two counts. None exactly where it isn't.
-/// Fails only when out of memory.
+/// The extents tree, where its file lies in the volume, and it is right but for its two counts. None exactly when it isn't. Fails
+/// only when out of memory.
 pub(crate) fn extents_tree<B: Blocks>(
     alloc: Global,
     blocks: &B,

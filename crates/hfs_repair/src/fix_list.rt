@@ -1,4 +1,4 @@
-//! What a repair tells of the numbers that it mends.
+//! What a repair says about the numbers that it mends.
 
 ghost use Rattle.std.specs.Prelude.{◌≡◌, ◌<◌, ◌^◌, IfOk};
 ghost use Rattle.hfs_repair.specs.Fields.{value_of};
@@ -39,7 +39,7 @@ fn widened(value: FieldValue) -> u32
     }
 }
 
-/// What is told of a number.
+/// What is reported about a number.
 fn fix_of(number: &WrongNumber) -> Fix
     ensures { result ≡ spec.fix_of number.now }
 {
@@ -50,7 +50,7 @@ fn fix_of(number: &WrongNumber) -> Fix
     }
 }
 
-/// What is told of these numbers: each once, in the order of `FixPlace`. Fails only when out of memory.
+/// What is reported about these numbers: each once, in the order of `FixPlace`. Fails only when out of memory.
 pub(crate) fn fixes(alloc: Global, numbers: &[WrongNumber]) -> Result<Vec<Fix>, AllocError>
     ensures { IfOk result (λ fixes. AreFixes numbers.now fixes.items) }
 {

@@ -1,4 +1,4 @@
-//! What a repair tells of a number.
+//! What a repair says about a number.
 
 /// A counted number of a volume, by the place where the volume has it. The variants stand in the order in which a repair tells
 /// them, and valences among themselves in the order of their IDs.

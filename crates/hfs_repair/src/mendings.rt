@@ -1,4 +1,4 @@
-//! What a repair of an image writes, and what it tells.
+//! What a repair of an image writes, and what it says.
 
 ghost use Rattle.std.specs.Prelude.{◌≡◌, ◌≤◌, IfOk};
 ghost use Rattle.hfs_repair.specs.Fixes.{AreFixes};
@@ -14,7 +14,7 @@ use crate::wrong::{wrong_in_blocks, wrong_numbers};
 use hfs_blocks::Blocks;
 use std::alloc::{AllocError, Global};
 
-/// What a repair of an image writes, and what it tells.
+/// What a repair of an image writes, and what it says.
 #[derive(Drop)]
 pub struct Mending {
     /// The bytes that it writes. `exchange` makes the repaired image of the image by them.
@@ -24,7 +24,7 @@ pub struct Mending {
 }
 
 impl Mending {
-    /// What a repair of an image writes and tells: the counted numbers that are wrong, where all before them is right; nothing
+    /// What a repair of an image writes and says: the counted numbers that are wrong, where all before them is right; nothing
     /// where something before them is wrong. A number that is too large for its field stays. The image is left as it is, and read
     /// a fixed number of times. Fails only when out of memory.
     ///

@@ -62,8 +62,8 @@ fn head_with<K: Key, N: Nodes>(
     Ok(bytes)
 }
 
-/// The two numbers of a tree in a file of `size` bytes that has its shape but for what its header record tells of them. None
-/// exactly where it hasn't. Fails only when out of memory.
+/// The two numbers of a tree in a file of `size` bytes that has its shape but for what its header record says about them. None
+/// exactly when it hasn't. Fails only when out of memory.
 pub(crate) fn right_counts<K: Key, N: Nodes>(
     alloc: Global,
     nodes: &N,

@@ -21,7 +21,7 @@ pub(crate) struct TreeFile {
 }
 
 /// The tree in a file of `size` bytes in these extents, where the file lies in the volume and the tree has its shape but for what
-/// its header record counts. None exactly where one of both doesn't hold. Fails only when out of memory.
+/// its header record counts. None exactly when one of both doesn't hold. Fails only when out of memory.
 #[tactic(auto, using(crate::proofs::Openings::extents_within))]
 pub(crate) fn tree_file<K: Key, B: Blocks>(
     alloc: Global,

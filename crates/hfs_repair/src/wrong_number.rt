@@ -9,13 +9,13 @@ use crate::fixed::FixPlace;
 use std::alloc::AllocError;
 use std::marker::Model;
 
-/// A counted number that the volume tells wrong, and whose field can tell what is counted. Contracts see which number it is, and
+/// A counted number that the volume tells wrong, and whose field can say what is counted. Contracts see which number it is, and
 /// what is known of it.
 #[derive(Debug, Drop)]
 pub struct WrongNumber {
     /// Which number.
     place: FixPlace,
-    /// What the volume tells.
+    /// What the volume says.
     was: u32,
     /// What is counted.
     counted: FieldValue,
@@ -32,7 +32,7 @@ impl Model for WrongNumber {
     ghost view = { λ n. placed_number n.place n.was n.counted n.at };
 }
 
-/// Adds a number of two bytes, if it is wrong and its field can tell what is counted.
+/// Adds a number of two bytes, if it is wrong and its field can say what is counted.
 #[tactic(auto, unfolding(crate::specs::Placed::is_wrong, crate::specs::Placed::two_bytes))]
 pub(crate) fn push_short(
     wrong: &mut Vec<WrongNumber>,
@@ -59,7 +59,7 @@ pub(crate) fn push_short(
     Ok(())
 }
 
-/// Adds a number of four bytes, if it is wrong and its field can tell what is counted.
+/// Adds a number of four bytes, if it is wrong and its field can say what is counted.
 #[tactic(auto, unfolding(crate::specs::Placed::is_wrong, crate::specs::Placed::four_bytes))]
 pub(crate) fn push_long(
     wrong: &mut Vec<WrongNumber>,
@@ -94,7 +94,7 @@ impl WrongNumber {
         self.place
     }
 
-    /// What the volume tells.
+    /// What the volume says.
     pub(crate) fn was(&self) -> u32
         ensures { result ≡ self.now.1.was }
     {

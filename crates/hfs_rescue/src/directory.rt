@@ -39,7 +39,7 @@ fn is_block_size(mdb: &Mdb) -> bool
     512 <= mdb.allocation_block_size && mdb.allocation_block_size % 512 == 0
 }
 
-/// Whether the fields tell what an allocation block is, and that there is one.
+/// Whether the fields say what an allocation block is, and that there is one.
 fn will_do(mdb: &Mdb) -> bool
     ensures size { result ≡ true → 512 ≤ mdb.now.allocation_block_size }
     ensures is { result ≡ spec.will_do mdb.now }
@@ -64,8 +64,8 @@ fn first_extent(extents: &[Extent]) -> Option<Extent>
     extents.iter().copied().find(|e| e.count > 0)
 }
 
-/// The block that tells whether a tree begins whose file has these extents, in an image of `total` logical blocks; None where it isn't
-/// there, or the fields don't tell what an allocation block is.
+/// The block that says whether a tree begins whose file has these extents, in an image of `total` logical blocks; None where it
+/// isn't there, or the fields don't say what an allocation block is.
 pub fn beginning_of(total: u32, mdb: &Mdb, extents: &[Extent]) -> Option<u32>
     ensures block { result ≡ spec.beginning_of total mdb.now extents.now }
     ensures within { IfSome result (λ n. n < total) }

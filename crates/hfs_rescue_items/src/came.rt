@@ -130,7 +130,7 @@ fn modified_of(told: &Option<Info>) -> Option<u32>
     }
 }
 
-/// What is told of what comes of a part of a plan.
+/// What is reported about what comes of a part of a plan.
 fn head_of(alloc: Global, found: &Found<'_>, planned: Planned) -> Result<BagHead, AllocError>
     ensures { IfOk result (λ head. IsHead head (planned_item [] found.now planned)) }
 {
@@ -166,7 +166,7 @@ fn placed(alloc: Global, found: &Found<'_>, planned: Planned) -> Result<Came, So
     })
 }
 
-/// What comes of a part of a plan, and what is told of it.
+/// What comes of a part of a plan, and what is reported about it.
 pub(crate) fn came_of(
     alloc: Global,
     found: &Found<'_>,

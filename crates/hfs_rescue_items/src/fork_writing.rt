@@ -32,7 +32,7 @@ fn copy_fault(fault: SourceFault, is_begun: bool) -> CopyFault
     }
 }
 
-/// Reads the next bytes of a fork and writes them, and answers whether there were any.
+/// Reads the next bytes of a fork and writes them, and returns whether there were any.
 #[tactic(auto, using(crate::proofs::WritingLemmas::none_moved, crate::proofs::WritingLemmas::no_more, crate::proofs::WritingLemmas::piece_moved, crate::proofs::WritingLemmas::piece_fewer, crate::proofs::WritingLemmas::piece_front, crate::proofs::WritingLemmas::nothing_written))]
 fn write_next<S: BlockSource, W: Write>(
     source: &mut S,

@@ -69,7 +69,7 @@ impl Found<'_> {
         self.places.payload_path(alloc, i)
     }
 
-    /// What an item tells of itself; None where there is no such item.
+    /// What an item says about itself; None where there is no such item.
     #[tactic(auto, using(crate::proofs::ToldLemmas::told_past, crate::proofs::ToldLemmas::told_there))]
     pub(crate) fn told(&self, i: usize) -> Option<Info>
         ensures { result ≡ told_at self.now.items.now i }

@@ -47,7 +47,7 @@ fn push_found_row(
     push_own_row(alloc, text, format, &names, &info)
 }
 
-/// Whether an item lies in the folder of a number, by the names that lead to it and what it tells.
+/// Whether an item lies in the folder of a number, by the names that lead to it and what it says.
 fn lies_in(home: Option<u32>, names: &[Name], info: &Info) -> bool
     ensures { result ≡ spec.lies_in home names.now info.now }
 {

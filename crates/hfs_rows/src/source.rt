@@ -7,7 +7,7 @@ use crate::taker::RowTaker;
 /// What has rows for a taker. Contracts know a source by the rows that it gives: how the list of a taker that was given
 /// all of them stands to the one before. Giving them may read the source, so they are told by what it was and what it is then.
 pub trait RowSource {
-    /// What is told of the rows, once all are given.
+    /// What is reported about the rows, once all are given.
     type Told: Copy;
 
     /// Why they were not all given.

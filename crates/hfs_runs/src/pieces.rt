@@ -66,7 +66,7 @@ fn long_head(alloc: Global, asked: Asked, reply: &Reply) -> Result<Option<String
     }
 }
 
-/// Ends a piece after a text and the head of a reply's lines, and answers the text that follows the digits.
+/// Ends a piece after a text and the head of a reply's lines, and returns the text that follows the digits.
 fn end_piece(
     alloc: Global,
     pieces: &mut Vec<Piece>,

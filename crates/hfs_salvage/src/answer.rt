@@ -1,4 +1,4 @@
-//! What is told of an image of which something remains.
+//! What is reported about an image of which something remains.
 ghost use Rattle.std.specs.Prelude.{◌≡◌, ◌++◌, ℕ, List, Some, IfOk, OnOk, string_bytes};
 ghost use Rattle.hfs_commands.specs.Checks.{IsCheckFault};
 ghost use Rattle.hfs_finds.specs.Finds.{IsFoundIn};
@@ -13,7 +13,7 @@ use hfs_rescue_items::{Found, FoundSums, sums_of};
 use hfs_texts::push_line;
 use std::alloc::{AllocError, Global};
 
-/// What is told of an image of which something remains.
+/// What is reported about an image of which something remains.
 #[derive(Drop)]
 pub struct RescueAnswer {
     /// The exit status: 0 where all files are whole and the catalog is right, else 3.
@@ -95,7 +95,7 @@ fn status_of(sums: &FoundSums, is_right: bool) -> u8
 }
 
 impl RescueAnswer {
-    /// What is told of an image of which this was found. Fails only when out of memory.
+    /// What is reported about an image of which this was found. Fails only when out of memory.
     pub(crate) fn of(
         alloc: Global,
         check: &CheckAnswer,

@@ -1,4 +1,4 @@
-//! What a bag tells of the image from which it was rescued.
+//! What a bag says about the image from which it was rescued.
 ghost use Rattle.std.specs.Prelude.{◌≡◌, ◌*◌, ◌++◌, ℕ, List, Option, Some, replicate, IfOk, string_bytes};
 ghost use Rattle.std.specs.Option.{option_map};
 ghost use Rattle.hfs_commands.specs.Checks.{HasCheckLines};
@@ -19,7 +19,7 @@ use hfs_sparse::SeenBlocks;
 use hfs_take::{image_digest, image_name, plain_name, report_text};
 use std::alloc::{AllocError, Global};
 
-/// What a bag tells of an image before its items are read.
+/// What a bag says about an image before its items are read.
 #[derive(Drop)]
 pub(crate) struct Told {
     /// The name of its volume.
@@ -96,7 +96,7 @@ fn directory_text(alloc: Global, block: u32, is_unsure: bool) -> Result<Option<S
     Ok(Some(text))
 }
 
-/// What is told of the block of an image that was taken for its directory.
+/// What is reported about the block of an image that was taken for its directory.
 #[tactic(auto, using(crate::proofs::FactLemmas::directory_known))]
 fn directory_of(alloc: Global, finds: &Finds) -> Result<Option<String>, SourceFault>
     ensures { (known : Option (List ℕ)) (len : ℕ)
@@ -127,7 +127,7 @@ fn digest_of<S: PlacedBlocks>(
     Ok(Some(digest))
 }
 
-/// What a bag tells of an image before its items are read.
+/// What a bag says about an image before its items are read.
 pub(crate) fn told_of<S: PlacedBlocks>(
     alloc: Global,
     source: &mut SeenBlocks<S>,

@@ -98,14 +98,14 @@ fn give_found<S: PlacedBlocks + Drop, T: Shelf, W: Watch>(
 /// What became of giving a shelf the bag of what remains of an image, and what that was read from.
 #[derive(Drop)]
 pub struct GivenRemains<S: PlacedBlocks> {
-    /// What is told of the image, or why its bag was not given.
+    /// What is reported about the image, or why its bag was not given.
     pub answer: Result<RescueAnswer, BagFault>,
     pub source: SeenBlocks<S>,
 }
 
-/// Gives a shelf the bag of what remains of an image, as these words ask for it, and answers what is told of the image. At a fault what was given
-/// is a beginning of the bag. All this of each image that has the bytes which were read. Faults: reading the image, the shelf's, memory was
-/// refused; `TooLarge`.
+/// Gives a shelf the bag of what remains of an image, as these words ask for it, and returns what is reported about the image. At
+/// a fault what was given is a beginning of the bag. All this holds for every image consistent with the bytes read. Faults:
+/// reading the image, the shelf's, memory was refused; `TooLarge`.
 pub fn give_remains<S: PlacedBlocks + Drop, T: Shelf, W: Watch>(
     alloc: Global,
     shelf: &mut T,
@@ -166,7 +166,7 @@ fn not_given<S: PlacedBlocks>(fault: SourceFault, source: SeenBlocks<S>) -> Give
     }
 }
 
-/// What is told of an image, where its bag was given.
+/// What is reported about an image, where its bag was given.
 fn answered(came: Result<BagSums, BagFault>, answer: RescueAnswer) -> Result<RescueAnswer, BagFault>
     ensures { result ≡ told_after came answer }
 {

@@ -27,8 +27,8 @@ pub enum HoldFault {
     NoMemory,
 }
 
-/// An image in which a directory is found: where its blocks are read from, what its check tells, and what is found of it by its directory; all
-/// this of each image that has the bytes which were read.
+/// An image in which a directory is found: where its blocks are read from, what its check says, and what is found of it by its
+/// directory; all this holds for every image consistent with the bytes read.
 #[derive(Drop)]
 pub struct RescuedImage<S: PlacedBlocks> {
     pub(crate) source: SeenBlocks<S>,

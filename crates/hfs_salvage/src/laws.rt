@@ -19,8 +19,8 @@ pub fn sound_payloads_are_volumes()
     ensures { SoundPayloadsAreVolumes }
 {}
 
-/// What is told of an image is in its bag: as many files and folders as its plan has, each with an AppleDouble file, and as many
-/// bytes as its payload has.
+/// What is reported about an image is in its bag: as many files and folders as its plan has, each with an AppleDouble file, and
+/// as many bytes as its payload has.
 pub fn sums_are_of_bags()
     ensures { SumsAreOfBags }
 {}

@@ -87,8 +87,9 @@ fn write_lines<W: Write>(
 
 /// Writes the list of what was found of an image.
 ///
-/// A line for each item that remains, in their order; and answers what is told of the image. All this of each image that has the bytes which were
-/// read. Faults: memory was refused; `OutputFailed`, and then a part of the lines may have gone out, from the first on.
+/// A line for each item that remains, in their order; and returns what is reported about the image. All this holds for every
+/// image consistent with the bytes read. Faults: memory was refused; `OutputFailed`, and then a part of the lines may have gone
+/// out, from the first on.
 pub fn write_remains<S: PlacedBlocks, W: Write>(
     alloc: Global,
     writer: &mut W,
@@ -115,9 +116,9 @@ pub fn write_remains<S: PlacedBlocks, W: Write>(
     Ok(answer)
 }
 
-/// Writes a line for each item that remains of an image, and answers what is told of it after these. Faults, the first that
-/// holds: the image can't be read; `NoVolume`, `SeveralVolumes`; the image's own, where there is no directory in it; memory was
-/// refused, `OutputFailed`: a part of the lines may have gone out then.
+/// Writes a line for each item that remains of an image, and returns what is reported about it after these. Faults, the first
+/// that holds: the image can't be read; `NoVolume`, `SeveralVolumes`; the image's own, where there is no directory in it; memory
+/// was refused, `OutputFailed`: a part of the lines may have gone out then.
 pub fn list_rescue<'a, R: Files + AllocGlobal, W: Write>(
     rt: &R,
     writer: &mut W,

@@ -47,8 +47,8 @@ struct Unloaded<'a, S: PlacedBlocks> {
     source: SeenBlocks<S>,
 }
 
-/// What is found of the blocks that are asked for. A fault is that of each image that has the bytes which were read: where there is no directory in it, it
-/// is what its check tells.
+/// What is found of the blocks that are asked for. A fault is that of every image consistent with the bytes read: where there is
+/// no directory in it, it is what its check says.
 fn load_part<'a, S: PlacedBlocks + Drop>(
     alloc: Global,
     blocks: SeenBlocks<S>,
@@ -71,7 +71,7 @@ fn load_part<'a, S: PlacedBlocks + Drop>(
     }
 }
 
-/// What is asked for of an image, to be read, and what is told of where it lies.
+/// What is asked for of an image, to be read, and what is reported about where it lies.
 #[derive(Drop)]
 struct FoundRange<F: Read + Seek> {
     source: PartBlocks<F>,
@@ -83,7 +83,7 @@ struct FoundRange<F: Read + Seek> {
     sum: Option<bool>,
 }
 
-/// The blocks of what is asked for of an image: of exactly the range that the line tells. Faults: as [`find_part`] has them.
+/// The blocks of what is asked for of an image: of exactly the range that the line tells. Faults: as for [`find_part`].
 fn find_range<'a, R: Files + AllocGlobal>(
     rt: &R,
     words: &RescueWords<'a>,

@@ -21,7 +21,8 @@ pub(crate) fn fault_of(fault: SparseFault) -> HoldFault
     }
 }
 
-/// An image that was looked at, with what its check tells. Faults, with the source back: there is no directory in it, memory was refused.
+/// An image that was looked at, with what its check says. Faults, with the source back: there is no directory in it, memory was
+/// refused.
 pub(crate) fn rescued_image<S: PlacedBlocks + Drop>(
     alloc: Global,
     image: LookedImage<S>,

@@ -87,7 +87,7 @@ fn fault_of_page(fault: PageFault) -> Fault<'static>
     }
 }
 
-/// Writes the page of what was found of an image, with this fault, and answers the exit status of `rescue`.
+/// Writes the page of what was found of an image, with this fault, and returns the exit status of `rescue`.
 fn write_page<S: PlacedBlocks, W: Write>(
     alloc: Global,
     writer: &mut W,
@@ -117,9 +117,9 @@ fn write_page<S: PlacedBlocks, W: Write>(
     }
 }
 
-/// Writes the page of what was found of an image, with this fault in words, and answers the exit status of `rescue`. All this of each
-/// image that has the bytes which were read. Faults: memory was refused; `OutputFailed`, and then a part of the page may have gone
-/// out, from its beginning on.
+/// Writes the page of what was found of an image, with this fault in words, and returns the exit status of `rescue`. All this
+/// holds for every image consistent with the bytes read. Faults: memory was refused; `OutputFailed`, and then a part of the page
+/// may have gone out, from its beginning on.
 pub fn write_found_page<S: PlacedBlocks, W: Write>(
     alloc: Global,
     writer: &mut W,

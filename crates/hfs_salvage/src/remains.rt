@@ -35,7 +35,7 @@ pub struct Remains<S: PlacedBlocks> {
     image: RescuedImage<S>,
 }
 
-/// What the check of an image tells that is refused for this fault.
+/// What the check of an image says that is refused for this fault.
 fn refused_check(alloc: Global, why: MountFault) -> Result<CheckAnswer, AllocError>
     ensures fault { IfOk result (λ check. check.fault ≡ Some why) }
     ensures lines { IfOk result (λ check. string_bytes check.lines ≡ refused_line why) }

@@ -23,7 +23,7 @@ use hfs_take::{TakeFault, Watch};
 use std::alloc::Global;
 use std::rt::Files;
 
-/// A bag that has its place: what is told of its image, the system on which it lies, and what the image was read from.
+/// A bag that has its place: what is reported about its image, the system on which it lies, and what the image was read from.
 #[derive(Drop)]
 pub struct PlacedBag<Y, S: PlacedBlocks> {
     pub answer: RescueAnswer,
@@ -123,9 +123,10 @@ fn write_bag<'a, Y: FileSystem + Drop, S: PlacedBlocks + Drop, W: Watch>(
 
 /// Rescues what remains of an image that was opened, over any system, where nothing has the folder's name.
 ///
-/// By the last step of the system a folder has this place then, in which exactly the bag lies of each image that has the bytes which were read; and what is
-/// told of the image is answered. At a fault nothing has the place that did not have it, and what was written is taken away. Faults: `IsThere`; `CannotWrite` of the
-/// path that isn't written, the image can't be read in the middle, memory was refused.
+/// By the last step of the system a folder has this place then, in which exactly the bag lies of every image consistent with the
+/// bytes read; and what is reported about the image is answered. At a fault nothing has the place that did not have it, and what
+/// was written is taken away. Faults: `IsThere`; `CannotWrite` of the path that isn't written, the image can't be read in the
+/// middle, memory was refused.
 pub fn rescue_opened<'a, Y: FileSystem + Drop, S: PlacedBlocks + Drop, W: Watch>(
     alloc: Global,
     system: Y,
@@ -166,10 +167,10 @@ fn rescue_loaded<'a, R: Files + AllocGlobal, S: PlacedBlocks + Drop, W: Watch>(
     }
 }
 
-/// Makes a folder the bag of what remains of an image, and answers what is told of it. Faults, the first that holds: the image can't be read;
-/// `NoVolume`, `SeveralVolumes`; the image's own, where there is no directory in it; `IsThere`; `CannotWrite` of the path that isn't written, the image
-/// can't be read in the middle, memory was refused. At a fault the folder isn't there, and what was written is taken away, as far as the system and memory
-/// allow.
+/// Makes a folder the bag of what remains of an image, and returns what is reported about it. Faults, the first that holds: the
+/// image can't be read; `NoVolume`, `SeveralVolumes`; the image's own, where there is no directory in it; `IsThere`;
+/// `CannotWrite` of the path that isn't written, the image can't be read in the middle, memory was refused. At a fault the folder
+/// isn't there, and what was written is taken away, as far as the system and memory allow.
 pub fn rescue<'a, R: Files + AllocGlobal, W: Watch>(
     rt: &R,
     words: &BagWords<'a>,

@@ -50,7 +50,7 @@ pub fn image_fault<S: PlacedBlocks>(image: &RescuedImage<S>) -> Option<MountFaul
     image.check.fault
 }
 
-/// Writes the rows of what was found of an image that are selected, and answers the exit status of `rescue`.
+/// Writes the rows of what was found of an image that are selected, and returns the exit status of `rescue`.
 fn write_selected<S: PlacedBlocks, W: Write>(
     alloc: Global,
     writer: &mut W,
@@ -77,9 +77,9 @@ fn write_selected<S: PlacedBlocks, W: Write>(
     }
 }
 
-/// Writes the table of what was found of an image, a row for each item, in their order, and answers the exit status of `rescue`. All this
-/// of each image that has the bytes which were read. Faults: memory was refused; `OutputFailed`, and then a part of the table may
-/// have gone out, from its beginning on.
+/// Writes the table of what was found of an image, a row for each item, in their order, and returns the exit status of `rescue`.
+/// All this holds for every image consistent with the bytes read. Faults: memory was refused; `OutputFailed`, and then a part of
+/// the table may have gone out, from its beginning on.
 pub fn write_found_items<S: PlacedBlocks, W: Write>(
     alloc: Global,
     writer: &mut W,
@@ -105,7 +105,7 @@ pub fn write_found_items<S: PlacedBlocks, W: Write>(
     write_selected(alloc, writer, image, &found, Selection::All(format))
 }
 
-/// Writes the rows of the folder that an end of a path is, and answers the exit status of `rescue`, or the code where it is none.
+/// Writes the rows of the folder that an end of a path is, and returns the exit status of `rescue`, or the code where it is none.
 fn write_end_rows<S: PlacedBlocks, W: Write>(
     alloc: Global,
     writer: &mut W,
@@ -134,9 +134,9 @@ fn write_end_rows<S: PlacedBlocks, W: Write>(
     }
 }
 
-/// Writes the rows of what lies in the folder that a path leads to, which is read as the rows print it, and answers the exit status of `rescue`;
-/// or -43 where no item has that path, -120 where it is a file's, and nothing is written. All this of each image that has the
-/// bytes which were read. Faults: as [`write_found_items`] has them.
+/// Writes the rows of what lies in the folder that a path leads to, which is read as the rows print it, and returns the exit
+/// status of `rescue`; or -43 where no item has that path, -120 where it is a file's, and nothing is written. All this holds for
+/// every image consistent with the bytes read. Faults: as for [`write_found_items`].
 pub fn write_found_folder<S: PlacedBlocks, W: Write>(
     alloc: Global,
     writer: &mut W,
@@ -176,7 +176,7 @@ fn whole_status(is_whole: bool) -> u8
     }
 }
 
-/// What is told of a fork that is whole, or isn't; or the code where there is none.
+/// What is reported about a fork that is whole, or isn't; or the code where there is none.
 fn told_whole(whole: Option<bool>) -> Result<u8, Reply>
     ensures { result ≡ told_whole whole }
 {
@@ -186,8 +186,8 @@ fn told_whole(whole: Option<bool>) -> Result<u8, Reply>
     }
 }
 
-/// Writes the bytes that are taken of a fork of the item that an end of a path is, and answers whether it is whole, by the exit status, or the
-/// code where there is no fork.
+/// Writes the bytes that are taken of a fork of the item that an end of a path is, and returns whether it is whole, by the exit
+/// status, or the code where there is no fork.
 fn write_end_fork<S: BlockSource, W: Write>(
     alloc: Global,
     source: &mut S,
@@ -222,9 +222,9 @@ pub struct ShownFork<S: PlacedBlocks> {
     pub source: SeenBlocks<S>,
 }
 
-/// Writes the bytes that `rescue` takes of a fork of the item that a path leads to, which is read as the rows print it, and answers the exit
-/// status: 0 where the fork is whole, else 3; or -43 where no file has that path, and nothing is written. All this of each image that has
-/// the bytes which were read. Errors: as [`write_fork`](hfs_rescue_items::write_fork) has them.
+/// Writes the bytes that `rescue` takes of a fork of the item that a path leads to, which is read as the rows print it, and
+/// returns the exit status: 0 where the fork is whole, else 3; or -43 where no file has that path, and nothing is written. All
+/// this holds for every image consistent with the bytes read. Errors: as for [`write_fork`](hfs_rescue_items::write_fork).
 pub fn write_found_fork<S: PlacedBlocks + Drop, W: Write>(
     alloc: Global,
     writer: &mut W,

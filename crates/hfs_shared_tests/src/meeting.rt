@@ -24,7 +24,7 @@ struct Meeting<'a> {
 }
 
 impl Meeting<'_> {
-    /// Waits for what a worker is to wait for, and answers whether it came.
+    /// Waits for what a worker is to wait for, and returns whether it came.
     fn meets(&self, worker: u32) -> bool {
         waits_for(self.clock, &self.here, 8)
             && (worker != self.held || waits_for(self.clock, &self.answered, 14))

@@ -9,7 +9,8 @@ use std::marker::Brand;
 use std::sync::Wait;
 use std::test::Fail;
 
-/// Whether a viewer that learns what is told of the file `b`, and then of the file `a` that was made before it, lists both.
+/// Whether a viewer that learns what is reported about the file `b`, and then of the file `a` that was made before it, lists
+/// both.
 fn learns_both<K: Session>(
     rt: &impl Wait,
     alloc: Global,
@@ -81,7 +82,7 @@ fn told_lists_are_learned_in_any_order(rt: HostRuntime) -> Result<(), Fail> {
     Ok(())
 }
 
-/// Publishes what waits, and lets a viewer learn it: what is told of how many entries are shown, and are made.
+/// Publishes what waits, and lets a viewer learn it: what is reported about how many entries are shown, and are made.
 fn publish_to<K: Session>(
     rt: &impl Wait,
     guard: &mut Guard<'_, K>,
@@ -94,8 +95,8 @@ fn publish_to<K: Session>(
     (told.shown(), told.made())
 }
 
-/// While the lock is held: how many entries are shown before a publish and after it, and what is told of both numbers; and whether
-/// a viewer lists nothing before it, and the file `a` alone when it was told.
+/// While the lock is held: how many entries are shown before a publish and after it, and what is reported about both numbers; and
+/// whether a viewer lists nothing before it, and the file `a` alone when it was told.
 fn shown_under_lock<K: Session>(
     rt: &impl Wait,
     alloc: Global,

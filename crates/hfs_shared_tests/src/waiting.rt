@@ -12,7 +12,7 @@ fn pause(clock: &HostRuntime, turn: u32) {
     }
 }
 
-/// Waits until there are so many, and answers whether there are.
+/// Waits until there are so many, and returns whether there are.
 pub fn waits_for(clock: &HostRuntime, count: &AtomicU64, wanted: u64) -> bool {
     for turn in 0..100_000 {
         if count.load(Ordering::SeqCst) >= wanted {

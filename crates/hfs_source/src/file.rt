@@ -12,9 +12,9 @@ use crate::reader::PlacedReader;
 use std::io;
 use std::io::{Read, Seek, SeekFrom};
 
-/// What can be read and sought in, as a file, with the list of what was done with it. Each step does one thing and notes it. A file tells
-/// nothing of its bytes: that the system goes where it is told, tells where the end is, and gives the bytes from there on, is trusted,
-/// and nothing else. Of a reader that tells its place and its bytes each step is proved.
+/// What can be read and sought in, as a file, with the list of what was done with it. Each step does one thing and notes it. A
+/// file tells nothing of its bytes: that the system goes where it is told, says where the end is, and gives the bytes from there
+/// on, is trusted, and nothing else. Of a reader that tells its place and its bytes each step is proved.
 #[derive(Drop)]
 pub struct TrustedFile<F> {
     file: F,

@@ -9,7 +9,7 @@ use std::io::{Cursor, ErrorKind};
 
 /// A reader that stands at a place in an image's bytes, and can go to any other.
 pub trait PlacedReader {
-    /// The images that have the bytes which were read so far.
+    /// The images consistent with the bytes read so far.
     ghost Holds: { Self → List ℕ → Type 0 };
 
     /// Where a read may fail: from a place on, of so many bytes.
@@ -33,7 +33,7 @@ pub trait PlacedReader {
         ensures fails { OnErr result (AllFail (Fails self.old)) }
         ensures later { FailsWhere (Fails self.new) (Fails self.old) };
 
-    /// Reads the bytes from its place on, as many as there is room for in `into`, and stands right after them then. Error: the read
+    /// Reads the bytes from its place on, as many as `into` has room for, and stands right after them then. Error: the read
     /// failed, or the bytes end before the room is full; what stands there then, and where the reader stands, isn't stated.
     fn read_on(&mut self, into: &mut [u8]) -> io::Result<()>
         ensures read { OnOk result (IfSome (place self.old)

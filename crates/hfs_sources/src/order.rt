@@ -38,7 +38,7 @@ fn items_of(alloc: Global, entries: &[HostEntry]) -> Result<Vec<FolderItem>, All
     folder_items(alloc, named.as_slice())
 }
 
-/// Puts what lies in a folder in its order, and answers the items that it makes.
+/// Puts what lies in a folder in its order, and returns the items that it makes.
 pub(crate) fn ordered_items(
     alloc: Global,
     entries: &mut [HostEntry],

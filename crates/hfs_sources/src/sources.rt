@@ -236,7 +236,7 @@ pub fn list_sources<T: HostTree, B: ToldItems>(
 }
 
 /// The list of all that lies in a folder, in the order of the walk, as [`list_sources`] lists what lies in the `data` of a bag.
-/// Faults: as [`list_sources`] has them.
+/// Faults: as for [`list_sources`].
 pub fn list_folder<T: HostTree, B: ToldItems>(
     alloc: Global,
     tree: &mut T,

@@ -35,7 +35,7 @@ impl<'a, R: Files> SystemTree<'a, R> {
     }
 }
 
-/// What the system tells of a file or folder.
+/// What the system says about a file or folder.
 fn look_of(metadata: &Metadata) -> Look {
     let kind = if metadata.is_file() {
         EntryKind::File(metadata.len())
@@ -53,7 +53,7 @@ fn look_of(metadata: &Metadata) -> Look {
     }
 }
 
-/// What the system tells of a path; none where it says that nothing has it.
+/// What the system says about a path; none where it says that nothing has it.
 fn told_of(told: io::Result<Metadata>) -> io::Result<Option<Look>> {
     match told {
         Ok(metadata) => Ok(Some(look_of(&metadata))),

@@ -1,14 +1,14 @@
-//! What bags tell of what lies in them.
+//! What bags say about what lies in them.
 ghost use Rattle.std.specs.Prelude.{◌≡◌, ℕ, List, None, Option};
 ghost use Rattle.hfs_put_plan.specs.declared.facts.ToldFacts.{ToldFacts};
 
 use hfs_put_plan::ToldFacts;
 
-/// What is told of items by their paths on the host, which goes before all else that is known of lock and dates.
+/// What is reported about items by their paths on the host, which goes before all else that is known of lock and dates.
 pub trait ToldItems {
     ghost told: { Self → List ℕ → Option ToldFacts };
 
-    /// What is told of the item at a path.
+    /// What is reported about the item at a path.
     fn told(&self, path: &str) -> Option<ToldFacts>
         ensures { result ≡ told self.now path.now };
 }

@@ -10,11 +10,11 @@ pub trait BlockSource {
     /// The bytes of the whole image, where they are known. A file doesn't tell them.
     ghost image: { Self → Option (List ℕ) };
 
-    /// The images that have the bytes which were read so far: over memory one, over a file each that it may be.
+    /// The images consistent with the bytes read so far: over memory one, over a file each that it may be.
     ghost Holds: { Self → List ℕ → Type 0 };
 
-    /// Reads the blocks from number `first` on, counted from 0, as many as there is room for in `into`, by one read. Error: the read failed,
-    /// or the image ends before the room is full; what stands there then is not told.
+    /// Reads the blocks from number `first` on, counted from 0, as many as `into` has room for, by one read. Error: the read
+    /// failed, or the image ends before the room is full; what stands there then is not told.
     fn read_blocks(&mut self, first: u32, into: &mut [u8]) -> io::Result<()>
         ensures read { OnOk result (HoldsFrom (image self.old) (512 * first) into.new) }
         ensures image { image self.new ≡ image self.old }

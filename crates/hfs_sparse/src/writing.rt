@@ -28,8 +28,8 @@ pub enum CopyFault {
 /// The most blocks that are read at once.
 const MOST_AT_ONCE: u32 = 128;
 
-/// Writes what there is of the first `left` bytes in `count` blocks from number `first` on, and answers how many of them are left. At first there were
-/// `all`.
+/// Writes what there is of the first `left` bytes in `count` blocks from number `first` on, and returns how many of them are
+/// left. At first there were `all`.
 fn copy_piece<S: BlockSource, W: Write>(
     source: &mut S,
     first: u32,
@@ -72,8 +72,8 @@ fn copy_piece<S: BlockSource, W: Write>(
     Ok(left - most as u32)
 }
 
-/// Writes what there is of the first `left` bytes in the blocks of a run, piece by piece, and answers how many of them are left. At first there
-/// were `all`.
+/// Writes what there is of the first `left` bytes in the blocks of a run, piece by piece, and returns how many of them are left.
+/// At first there were `all`.
 fn copy_run<S: BlockSource, W: Write>(
     source: &mut S,
     run: &Run,

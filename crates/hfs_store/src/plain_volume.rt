@@ -183,28 +183,28 @@ impl PlainVolume {
         &self.items
     }
 
-    /// What is told of the folder of that ID.
+    /// What is reported about the folder of that ID.
     pub fn get_dir_info(&self, dir: u32) -> Reply
         ensures { result ≡ get_dir_info (entries_of self.now) dir }
     {
         reading::get_dir_info(self.entries(), dir)
     }
 
-    /// What is told of the folder's item of that name.
+    /// What is reported about the folder's item of that name.
     pub fn get_cat_info(&self, dir: u32, name: &[u8]) -> Reply
         ensures { result ≡ get_cat_info (entries_of self.now) dir name.now }
     {
         reading::get_cat_info(self.entries(), dir, name)
     }
 
-    /// What is told of the folder's child at that place in name order, counted from 1.
+    /// What is reported about the folder's child at that place in name order, counted from 1.
     pub fn get_indexed(&self, dir: u32, index: u32) -> Result<Reply, AllocError>
         ensures { Gives (get_indexed (entries_of self.now) dir index) result }
     {
         reading::get_indexed(self.alloc, self.entries(), dir, index)
     }
 
-    /// What is told of the folder's children, in name order.
+    /// What is reported about the folder's children, in name order.
     pub fn list(&self, dir: u32) -> Result<Reply, AllocError>
         ensures { Gives (list (entries_of self.now) dir) result }
     {
@@ -683,7 +683,7 @@ impl PlainVolume {
         }
     }
 
-    /// Answers a call that sets what is told of an item: its Finder bytes, its dates or its lock. No memory is wanting.
+    /// Answers a call that sets what is reported about an item: its Finder bytes, its dates or its lock. No memory is wanting.
     #[tactic(auto)]
     fn set(&mut self, call: &Call) -> Reply
         requires { IsTrue (is_setting call.now) }

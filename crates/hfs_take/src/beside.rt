@@ -94,8 +94,8 @@ fn give_beside<R: Threads, D: ImageBlocks + Send, T: Shelf, B: BagSource>(
     Ok((given, digest))
 }
 
-/// Gives the payload of a bag, and answers what is told of the image's digest, too: what was made of it, or what is made of the source beside it.
-/// Faults: the payload's, and then those of the digest.
+/// Gives the payload of a bag, and returns what is reported about the image's digest, too: what was made of it, or what is made
+/// of the source beside it. Faults: the payload's, and then those of the digest.
 #[tactic(auto, using(crate::proofs::DigestLemmas::planned_made))]
 pub(crate) fn give_first<R: Threads, S: PlacedBlocks + Send, T: Shelf, B: BagSource>(
     threads: &R,

@@ -1,4 +1,4 @@
-//! What a bag tells of the image that it was taken from.
+//! What a bag says about the image that it was taken from.
 ghost use Rattle.std.specs.Prelude.{◌≡◌, ◌++◌, IfOk, MatchResult, OnOk, string_bytes};
 ghost use Rattle.hfs_commands.specs.Volumes.{container_text, name_text};
 ghost use Rattle.hfs_image_items.specs.Faults.{WantsMemory};
@@ -94,8 +94,8 @@ fn push_told_others(text: &mut String, others: u64) -> Result<(), AllocError>
     write!(text, "{}", others)
 }
 
-/// The line of a volume in its file: number, how it lies, first byte, bytes, the plain text of its name, what is told of its sum, and how many raw sectors
-/// have no user data, with spaces between.
+/// The line of a volume in its file: number, how it lies, first byte, bytes, the plain text of its name, what is reported about
+/// its sum, and how many raw sectors have no user data, with spaces between.
 #[tactic(auto, unfolding(crate::specs::Facts::volume_text))]
 pub(crate) fn volume_text(
     alloc: Global,

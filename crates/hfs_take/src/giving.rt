@@ -65,7 +65,7 @@ fn item_count(report: &Report) -> u64 {
     u64::from(report.files) + u64::from(report.folders)
 }
 
-/// What a bag tells of an image before its items are read.
+/// What a bag says about an image before its items are read.
 #[derive(Drop)]
 struct Told {
     /// The last part of its path.
@@ -76,7 +76,7 @@ struct Told {
     digest: Option<[u8; 32]>,
 }
 
-/// What a bag tells of an image with this report before its items are read, with its digest where that is to be made at once.
+/// What a bag says about an image with this report before its items are read, with its digest where that is to be made at once.
 fn told_of<S: PlacedBlocks>(
     alloc: Global,
     image: &mut SeenImage<S>,
@@ -182,9 +182,10 @@ pub struct GivenBag<S: PlacedBlocks> {
     pub beside: Option<SeenBlocks<S>>,
 }
 
-/// Gives a shelf the bag of an image: the items of its volume, and what these words tell of it. The digest is made in a thread of its own where
-/// the image was opened a second time. At a fault what was given is a beginning of the bag. All this of each image that has the bytes which were
-/// read, by either opening. Faults: reading the image, the shelf's, memory was refused; `TooLarge`.
+/// Gives a shelf the bag of an image: the items of its volume, and what these words say about it. The digest is made in a thread
+/// of its own where the image was opened a second time. At a fault what was given is a beginning of the bag. All this holds for
+/// every image consistent with the bytes read, by either opening. Faults: reading the image, the shelf's, memory was refused;
+/// `TooLarge`.
 #[tactic(auto, using(crate::proofs::BagLemmas::nothing_given))]
 pub fn give_image<R: Threads, S: PlacedBlocks + Drop + Send, T: Shelf, W: Watch>(
     threads: &R,

@@ -13,7 +13,7 @@ use hfs_source::PlacedBlocks;
 use hfs_sparse::SeenBlocks;
 use std::alloc::Global;
 
-/// A sound image that was opened, and what is told of it before its forks are read.
+/// A sound image that was opened, and what is reported about it before its forks are read.
 #[derive(Drop)]
 pub struct TakenImage<S: PlacedBlocks> {
     pub opened: SeenImage<S>,
@@ -21,7 +21,7 @@ pub struct TakenImage<S: PlacedBlocks> {
     pub beside: Option<SeenBlocks<S>>,
     /// How many bytes it has.
     pub len: u64,
-    /// What its check tells.
+    /// What its check says.
     pub report: Report,
     /// Where it lies in its file, where it was looked for there: the line that a bag has of it.
     pub volume: Option<String>,

@@ -31,7 +31,7 @@ use std::os::unix::fs::MetadataExt;
 use std::rt::Files;
 use std::{fs, io};
 
-/// Bytes that may hold a volume, and what is told of where they lie in their file, where they are a range inside.
+/// Bytes that may hold a volume, and what is reported about where they lie in their file, where they are a range inside.
 #[derive(Drop)]
 pub struct FoundPart<F: Read + Seek> {
     pub bytes: Window<OpenedFile<F>>,
@@ -87,7 +87,7 @@ fn line_of<'a, F: Read + Seek>(
     }
 }
 
-/// A part of a file, and what is told of where it lies. Faults: a read failed, memory was refused.
+/// A part of a file, and what is reported about where it lies. Faults: a read failed, memory was refused.
 fn told_part<'a, F: Read + Seek + Drop>(
     alloc: Global,
     part: FilePart<F>,
@@ -115,8 +115,8 @@ fn told_part<'a, F: Read + Seek + Drop>(
     })
 }
 
-/// What is asked for of an image, by the number of a volume that lies in it or without one, as [`open_asked`] opens it, and what is told of where it lies.
-/// Faults: as [`open_asked`] has them.
+/// What is asked for of an image, by the number of a volume that lies in it or without one, as [`open_asked`] opens it, and what
+/// is reported about where it lies. Faults: as for [`open_asked`].
 #[tactic(auto, using(crate::proofs::PartLines::line_of_part, crate::proofs::PartLines::sum_of_part))]
 pub fn find_part<'a, R: Files + AllocGlobal>(
     rt: &R,
@@ -221,7 +221,7 @@ fn open_beside<R: Files>(
     }
 }
 
-/// What is asked for of an image, to be read, and what is told of where it lies.
+/// What is asked for of an image, to be read, and what is reported about where it lies.
 #[derive(Drop)]
 struct FoundBlocks<F: Read + Seek> {
     source: PartBlocks<F>,
@@ -235,8 +235,8 @@ struct FoundBlocks<F: Read + Seek> {
     sum: Option<bool>,
 }
 
-/// The blocks of what is asked for of an image, once more where its digest is to be made beside it: of exactly the range that the line tells. Faults: as
-/// [`open_asked`] has them.
+/// The blocks of what is asked for of an image, once more where its digest is to be made beside it: of exactly the range that the
+/// line tells. Faults: as for [`open_asked`].
 fn find_blocks<'a, R: Files + AllocGlobal>(
     rt: &R,
     words: &TakeWords<'a>,

@@ -143,9 +143,10 @@ fn write_bag<'a, Y: FileSystem + Drop, H: Threads, S: PlacedBlocks + Drop + Send
     }
 }
 
-/// Takes an image apart that was opened, over any system, where nothing has the folder's name. Exactly the bag of each image that has the bytes which were
-/// read has this place then, as the last that the system did. At a fault nothing has the place that did not have it, and what was written is taken away, as
-/// far as the system and memory allow. Faults: `IsThere`; as [`write_bag`] has them.
+/// Takes an image apart that was opened, over any system, where nothing has the folder's name. Exactly the bag of every image
+/// consistent with the bytes read has this place then, as the last that the system did. At a fault nothing has the place that did
+/// not have it, and what was written is taken away, as far as the system and memory allow. Faults: `IsThere`; as for
+/// [`write_bag`].
 pub fn take_opened<'a, Y: FileSystem + Drop, H: Threads, S: PlacedBlocks + Drop + Send, W: Watch>(
     alloc: Global,
     system: Y,

@@ -8,8 +8,8 @@ use std::io;
 use std::io::{ErrorKind, Read};
 use thiserror::Error;
 
-/// Reads until the buffer is full or the input ends, and answers how many bytes there are. At an error some of the
-/// input is read, and less than the buffer holds.
+/// Reads until the buffer is full or the input ends, and returns how many bytes there are. At an error some of the input is read,
+/// and less than the buffer holds.
 pub fn fill<R: Read>(reader: &mut R, buffer: &mut [u8]) -> io::Result<usize>
     requires { 0 < length buffer.old }
     ensures within { IfOk result (λ count. count ≤ length buffer.new) }

@@ -31,7 +31,7 @@ fn print_list_in<F: Read + Seek + Drop>(
     }
 }
 
-/// What is told of the file that a path leads to, or the reply that refuses it.
+/// What is reported about the file that a path leads to, or the reply that refuses it.
 fn file_at<'a, F: Read + Seek + Drop>(
     rt: &HostRuntime,
     image: &PartImage<F>,

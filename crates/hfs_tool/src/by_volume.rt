@@ -21,7 +21,7 @@ pub fn tell_info<'a>(
     }
 }
 
-/// Prints what is told of it. Each fault of the image is told after `refused`.
+/// Prints what is reported about it. Each fault of the image is told after `refused`.
 pub fn tell_check<'a>(
     rt: &HostRuntime,
     image: &'a str,

@@ -26,7 +26,7 @@ use std::io::{Read, Seek, Write};
 use std::sync::Wait;
 use std::thread::Threads;
 
-/// Does what the words ask for, and answers the exit status.
+/// Does what the words ask for, and returns the exit status.
 pub fn obey<'a, T: Threads + Wait + Sync>(
     rt: &HostRuntime,
     threads: &T,
@@ -80,7 +80,7 @@ pub fn print_info<'a, R: Read>(
     }
 }
 
-/// Prints lines with an exit status, where memory sufficed for them, and answers the status.
+/// Prints lines with an exit status, where memory sufficed for them, and returns the status.
 pub fn print_told(
     rt: &HostRuntime,
     told: Result<(u8, String), AllocError>,
@@ -92,7 +92,7 @@ pub fn print_told(
     Ok(status)
 }
 
-/// Prints what a check tells, and what a refusal means.
+/// Prints what a check says, and what a refusal means.
 pub fn print_checked(rt: &HostRuntime, told: &CheckAnswer) -> Result<u8, Fault<'static>> {
     print_lines(rt, told.lines.as_str())?;
     if let Some(why) = told.fault {
@@ -101,7 +101,7 @@ pub fn print_checked(rt: &HostRuntime, told: &CheckAnswer) -> Result<u8, Fault<'
     Ok(told.status)
 }
 
-/// Prints what a check of a part of a file tells that is read where it is needed.
+/// Prints what a check of a part of a file says that is read on demand.
 pub fn print_needed_check<'a, F: Read + Seek + Drop>(
     rt: &HostRuntime,
     path: &'a str,

@@ -26,7 +26,7 @@ pub fn print_page<'a>(rt: &HostRuntime, words: &PageWords<'a>) -> Result<u8, Fau
     }
 }
 
-/// Prints which URLs links may begin with, and answers the exit status.
+/// Prints which URLs links may begin with, and returns the exit status.
 fn print_refused_base(rt: &HostRuntime) -> u8 {
     Status::WordsRefused.after(println!(rt;
         "--base wants a URL that begins with http: or https:, or is relative"

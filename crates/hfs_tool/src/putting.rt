@@ -101,7 +101,7 @@ fn save_put<'a>(
     }
 }
 
-/// Prints why nothing was put, and answers the exit status. A fault of the image is handed on.
+/// Prints why nothing was put, and returns the exit status. A fault of the image is handed on.
 fn print_fault<'a>(rt: &HostRuntime, fault: PutFault<'a>) -> Result<u8, Fault<'a>> {
     let status = fault.status();
     match fault {

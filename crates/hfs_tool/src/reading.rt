@@ -94,7 +94,7 @@ fn help_of<'a>(alloc: Global) -> Result<ArgMatches<'a>, Error> {
     command(alloc)?.try_get_matches_from(&["hfs_tool", "--help"])
 }
 
-/// Prints the program's help, and answers the exit status.
+/// Prints the program's help, and returns the exit status.
 pub fn print_help(rt: &HostRuntime) -> u8 {
     match help_of(rt.alloc()) {
         Ok(_matches) => Status::Done.number(),

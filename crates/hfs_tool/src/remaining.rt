@@ -123,7 +123,7 @@ fn tell_refused(rt: &HostRuntime, why: MountFault, status: u8) -> Result<u8, Fau
     Ok(status)
 }
 
-/// Prints the code of a path that leads to nothing of the kind, and answers the exit status.
+/// Prints the code of a path that leads to nothing of the kind, and returns the exit status.
 fn print_end(rt: &HostRuntime, told: Result<u8, Reply>) -> Result<u8, Fault<'static>> {
     match told {
         Ok(status) => Ok(status),

@@ -150,7 +150,7 @@ fn print_answers(
     Ok(end(rt, whole, leftover))
 }
 
-/// Tells of a file beside the written one that was there already, and answers the exit status of a run.
+/// Tells of a file beside the written one that was there already, and returns the exit status of a run.
 fn end(rt: &HostRuntime, whole: bool, leftover: &Option<Leftover>) -> u8 {
     tell(rt, leftover);
     Status::of_run(whole).number()

@@ -1,12 +1,12 @@
-//! Files and folders that are written, and what is told of those beside them.
+//! Files and folders that are written, and what is reported about those beside them.
 
 use hfs_commands::{
     Contents, Fault, Leftover, ReadContents, Saved, save_file, save_new, save_read,
 };
 use hfs_take::left_folder;
 
-/// Writes a file, and answers which file beside it was left by a run that was stopped, if any was
-/// there. Where the write fails, that one is told before the fault.
+/// Writes a file, and returns which file beside it was left by a run that was stopped, if any was there. Where the write fails,
+/// that one is told before the fault.
 pub fn save<'a, C: Contents>(
     rt: &HostRuntime,
     file: &'a str,
@@ -45,7 +45,7 @@ pub fn left_beside(rt: &HostRuntime, folder: &str) -> Result<Option<Leftover>, F
     }
 }
 
-/// What is told of how a file was written.
+/// What is reported about how a file was written.
 fn written<'a>(rt: &HostRuntime, saved: Saved<'a>) -> Result<Option<Leftover>, Fault<'a>> {
     match saved.written {
         Ok(()) => Ok(saved.leftover),

@@ -45,7 +45,7 @@ fn print_sums(rt: &HostRuntime, sums: &BagSums) -> Result<u8, Fault<'static>> {
     Ok(Status::Done.number())
 }
 
-/// Prints why a folder was not made, and answers the exit status. A fault of the image is handed on.
+/// Prints why a folder was not made, and returns the exit status. A fault of the image is handed on.
 pub fn print_fault<'a>(rt: &HostRuntime, fault: TakeFault<'a>) -> Result<u8, Fault<'a>> {
     match fault {
         TakeFault::Image(why) => Err(why),

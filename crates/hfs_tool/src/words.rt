@@ -16,7 +16,7 @@ pub enum Words<'a> {
         image: &'a str,
         volume: Option<u64>,
     },
-    /// `check IMAGE [--volume N]`: what is told of the image.
+    /// `check IMAGE [--volume N]`: what is reported about the image.
     Check {
         image: &'a str,
         volume: Option<u64>,

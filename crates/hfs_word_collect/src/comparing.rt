@@ -111,8 +111,8 @@ fn read_first<S: PlacedBytes>(source: &mut S) -> io::Result<()>
     Ok(())
 }
 
-/// How an image that was opened compares with what the database has of its path, as [`compare_file`] says; `Missing` also where its
-/// first byte can't be read, and then the database isn't asked. It is said of each image that has the bytes which were read.
+/// How an image that was opened compares with what the database has of its path, as [`compare_file`] says; `Missing` also where
+/// its first byte can't be read, and then the database isn't asked. It holds for every image consistent with the bytes read.
 #[tactic(auto, using(crate::proofs::Comparisons::asked_missing, crate::proofs::Comparisons::compared_missing, crate::proofs::Comparisons::unread_missing, crate::proofs::Comparisons::read_before))]
 pub fn compare_image<D: Alter + Drop, S: PlacedBytes>(
     alloc: Global,

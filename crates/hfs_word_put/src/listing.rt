@@ -22,7 +22,7 @@ pub struct Listed {
     pub digests: ManifestDigests,
 }
 
-/// Reads what the tags of bags tell, and lists what comes.
+/// Reads what the tags of bags say, and lists what comes.
 fn read_list<T: HostTree>(
     alloc: Global,
     tree: &mut T,
@@ -38,8 +38,8 @@ fn read_list<T: HostTree>(
     Ok(Listed { items, digests })
 }
 
-/// Lists what comes, with what bags tell of it. Faults: the first that can't be read; a folder in which a name is not UTF-8; out
-/// of memory.
+/// Lists what comes, with what bags say about it. Faults: the first that can't be read; a folder in which a name is not UTF-8;
+/// out of memory.
 pub fn list_all<T: HostTree>(
     alloc: Global,
     tree: &mut T,
@@ -56,8 +56,8 @@ pub fn list_all<T: HostTree>(
     }
 }
 
-/// Looks that each file has the digest that its bag tells of it, for which the files of bags are read. Faults: the first that has
-/// another, or that can't be read; out of memory.
+/// Checks that each file has the digest that its bag tells of it, for which the files of bags are read. Faults: the first that
+/// has another, or that can't be read; out of memory.
 pub fn need_digests<T: HostTree>(
     alloc: Global,
     tree: &mut T,

@@ -38,7 +38,7 @@ fn find_target(alloc: Global, volume: &Volume, to: Option<&str>) -> Result<u32, 
     }
 }
 
-/// Looks that the volume isn't locked, where anything comes.
+/// Checks that the volume isn't locked, where anything comes.
 fn need_unlocked(
     alloc: Global,
     volume: &Volume,

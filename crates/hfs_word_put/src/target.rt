@@ -17,7 +17,7 @@ use std::alloc::{AllocError, Global};
 /// The ID of the root.
 const ROOT: u32 = 2;
 
-/// What is told of the folder's item of that name. A name that no item may have leads nowhere.
+/// What is reported about the folder's item of that name. A name that no item may have leads nowhere.
 fn told_child(volume: &Volume, dir: u32, name: &[u8]) -> Reply
     ensures { result ≡ path.told_child (get_cat_info (entries_in volume.now.current)) dir name.now }
 {
@@ -75,7 +75,7 @@ fn is_root_name(name: &[u8], root: &Value) -> bool
     }
 }
 
-/// What is told of the item that these names lead to.
+/// What is reported about the item that these names lead to.
 #[tactic(auto, unfolding(hfs_needed::specs::Paths::told_at))]
 fn path_told(volume: &Volume, names: &[Name]) -> Reply
     ensures { result ≡ path.path_told (entries_in volume.now.current) names.now }
@@ -91,7 +91,7 @@ fn path_told(volume: &Volume, names: &[Name]) -> Reply
     }
 }
 
-/// What is told of the item that the text of a path leads to.
+/// What is reported about the item that the text of a path leads to.
 #[tactic(auto, using(crate::proofs::PathTargets::by_names, crate::proofs::PathTargets::by_none))]
 fn path_reply(alloc: Global, volume: &Volume, path: &str) -> Result<Reply, AllocError>
     ensures { IfOk result (λ reply. reply ≡ path_reply (entries_in volume.now.current) path.now) }

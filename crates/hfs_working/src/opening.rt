@@ -89,9 +89,9 @@ fn open_blocks<S: BlockSource>(
     }
 }
 
-/// Reads the working blocks of an image of `len` bytes, and makes all checks: the blocks that the checks need, and the free nodes of both trees.
-/// What was read, with zeros elsewhere, is sound, and is a copy of the image over which calls can be made; it is of each image that has the
-/// bytes which were read. Errors: a read failed, memory was refused, or the image is refused.
+/// Reads the working blocks of an image of `len` bytes, and makes all checks: the blocks that the checks need, and the free nodes
+/// of both trees. What was read, with zeros elsewhere, is sound, and is a copy of the image over which calls can be made; it is
+/// of every image consistent with the bytes read. Errors: a read failed, memory was refused, or the image is refused.
 pub fn open_working<S: BlockSource>(
     alloc: Global,
     source: &mut S,
