@@ -41,7 +41,7 @@ fn move_piece<S: Shelf, B: BagSource>(
     Ok(true)
 }
 
-/// Gives all bytes that are left of a stream to the shelf, after those of the file that was made last, and to the digest.
+/// Gives the rest of a stream to the shelf, appended to the file that was made last, and to the digest.
 fn move_stream<S: Shelf, B: BagSource>(
     alloc: Global,
     shelf: &mut S,
@@ -66,7 +66,7 @@ fn move_stream<S: Shelf, B: BagSource>(
     Ok(())
 }
 
-/// Makes a file of these bytes and those of a stream after them, and returns its digest.
+/// Makes a file of these bytes and then those of a stream, and returns its digest.
 pub(crate) fn put_file<S: Shelf, B: BagSource>(
     alloc: Global,
     shelf: &mut S,

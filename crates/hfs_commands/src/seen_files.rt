@@ -21,7 +21,7 @@ pub type PartBlocks<F> = SeenBlocks<BlocksOf<RangeBytes<OpenedFile<F>>>>;
 /// A sound volume in a part of a file, whose answers hold for every file consistent with the bytes read.
 pub type PartImage<F> = SeenImage<BlocksOf<RangeBytes<OpenedFile<F>>>>;
 
-/// The part of a file, or none of it where it doesn't lie there.
+/// The part of a file, or an empty one if it doesn't lie in the file.
 fn range_of<F: Read + Seek>(part: Window<OpenedFile<F>>) -> RangeBytes<OpenedFile<F>>
     ensures bytes { result.bytes ≡ part.source }
     ensures part { IsPartOf (images_of part.source) part.range result.start result.len }
@@ -38,7 +38,7 @@ fn range_of<F: Read + Seek>(part: Window<OpenedFile<F>>) -> RangeBytes<OpenedFil
     }
 }
 
-/// The blocks of a part of a file. One that begins after the file's end has none.
+/// The blocks of a part of a file. There are none if the part begins past the file's end.
 pub fn part_blocks<F: Read + Seek>(part: Window<OpenedFile<F>>) -> PartBlocks<F>
     ensures bytes { result.blocks.bytes.bytes ≡ part.source }
     ensures part { IsPartOf (images_of part.source) part.range result.blocks.bytes.start

@@ -30,7 +30,7 @@ pub fn number_lines(alloc: Global, lines: &[ScriptLine]) -> Result<Vec<Asked>, A
     Ok(numbered)
 }
 
-// Counts one call more of a caller, and returns how many there are.
+// Counts one more call of a caller, and returns how many there are.
 #[tactic(auto, using(crate::proofs::Counting::worker_counted, crate::proofs::Counting::viewer_counted))]
 fn count_call(workers: &mut [u64; 9], viewers: &mut [u64; 9], caller: Caller) -> u64
     requires small { IsSmall caller }

@@ -1,4 +1,4 @@
-//! //! What closing returns.
+//! What closing returns.
 use hfs_model::Entry;
 use hfs_volume::Volume;
 

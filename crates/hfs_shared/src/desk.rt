@@ -1,4 +1,4 @@
-//! //! A volume with its journal.
+//! A volume with its journal.
 ghost use Rattle.std.specs.Prelude.{◌≡◌, ◌≤◌, ◌<◌, [], length, IfOk, OnErr, IfErr};
 ghost use Rattle.hfs_shared.specs.Desks.{DeskState, desk_state, pass_state, wanted, want_of, want_in, entry_of, IsHeadline, IsApplied};
 ghost use Rattle.hfs_shared.specs.Faults.{IsCallFault};
@@ -128,7 +128,7 @@ fn entry(worker: u32, stamp: u64, call: Call, reply: &Reply) -> Entry
     }
 }
 
-// // The room that a reply says was lacking.
+// The room that a reply says was lacking.
 fn want_of(reply: &Reply) -> Option<Want>
     ensures { result ≡ want_of reply.now }
 {
@@ -138,7 +138,7 @@ fn want_of(reply: &Reply) -> Option<Want>
     None
 }
 
-// // The room that a value says was lacking.
+// The room that a value says was lacking.
 fn want_in(value: &Value) -> Option<Want>
     ensures { result ≡ want_in value.now }
 {

@@ -1,4 +1,4 @@
-//! //! What the workers share: a volume with its journal, which has each call with its worker and its number, and the list of its
+//! What the workers share: a volume with its journal, which has each call with its worker and its number, and the list of its
 //! changes that viewers read.
 #![tactic(auto)]
 

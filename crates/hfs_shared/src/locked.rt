@@ -1,4 +1,4 @@
-//! //! What lies under the lock: the volume with its journal, and the published list of its changes.
+//! What lies under the lock: the volume with its journal, and the published list of its changes.
 ghost use Rattle.std.specs.Prelude.{◌≡◌, ◌⊎◌, ◌≤◌, [], length, drop, ◌-◌, IfOk, OnErr, IfErr};
 ghost use Rattle.hfs_check.specs.VolumeOf.{volume_of};
 ghost use Rattle.hfs_published.specs.Journals.{published, NoneAccepted};
@@ -23,7 +23,7 @@ mod closing;
 pub struct Locked<K: Session> {
     desk: Desk,
     pair: Pair,
-    // // How many entries' changes the pair has.
+    // How many entries' changes the pair has.
     added: usize,
     shown: usize,
     of: PhantomData<K>,
@@ -96,7 +96,7 @@ impl<K: Session> Locked<K> {
     }
 }
 
-// // Adds the changes of the next entries to the pair, as far as memory allows. Returns how many entries the pair then has.
+// Adds the changes of the next entries to the pair, as far as memory allows. Returns how many entries the pair then has.
 fn gather(pair: &mut Pair, journal: &[Entry], added: usize) -> usize
     requires { added ≤ length journal.now }
     ensures order { (added ≤ result) × (result ≤ length journal.now) }
@@ -106,7 +106,7 @@ fn gather(pair: &mut Pair, journal: &[Entry], added: usize) -> usize
     added + pair.add_entries(&journal[added..])
 }
 
-// // Shows what the pair has, if it has the changes of all entries. Returns how many entries the published list then covers.
+// Shows what the pair has, if it has the changes of all entries. Returns how many entries the published list then covers.
 fn show<R: Wait>(rt: &R, pair: &mut Pair, added: usize, made: usize, shown: usize) -> usize
     ensures shown { ((result ≡ made) × (added ≡ made)) ⊎ (result ≡ shown) }
     ensures lists { ShowsOf pair.old added shown pair.new result }

@@ -99,7 +99,7 @@ impl Parts {
     }
 }
 
-// // A desk over the volume, and the first passes.
+// A desk over the volume, and the first passes.
 fn begin(alloc: Global, volume: Volume, workers: u32) -> Result<(Desk, Vec<Pass>), StartFault>
     requires { workers ≤ 8 }
     ensures desk { IfOk result (λ r. r.0
@@ -124,7 +124,7 @@ fn fault(why: Why, volume: Volume) -> StartFault
     StartFault { why, volume }
 }
 
-// // A desk over the volume, which is mounted anew. When out of memory, the volume is handed back.
+// A desk over the volume, which is mounted anew. When out of memory, the volume is handed back.
 fn new_desk(alloc: Global, volume: Volume, workers: u32) -> Result<Desk, Volume>
     requires { workers ≤ 8 }
     ensures ok { IfOk result (λ d. d ≡ desk_state volume.current volume.current [] [] workers) }
@@ -137,7 +137,7 @@ fn new_desk(alloc: Global, volume: Volume, workers: u32) -> Result<Desk, Volume>
     }
 }
 
-// // The first passes of `workers` workers. None when out of memory.
+// The first passes of `workers` workers. None when out of memory.
 fn first_passes(alloc: Global, workers: u32) -> Option<Vec<Pass>>
     requires { workers ≤ 8 }
     ensures { IfSome result (λ v. AreFirstPasses workers v.items) }

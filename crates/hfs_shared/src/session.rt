@@ -1,4 +1,4 @@
-//! //! Which pair of copies a shared volume has, and over which image it was shared.
+//! Which pair of copies a shared volume has, and over which image it was shared.
 use std::marker::Brand;
 
 /// Names one pair of copies, by its history, and the image that was shared, whose volume opens the history.

@@ -28,7 +28,7 @@ pub trait Gate {
     fn after(&self, worker: u32, stamp: u64);
 }
 
-// // One call, with the gate's calls around it.
+// One call, with the gate's calls around it.
 fn call_at<K: Session, R: Wait, G: Gate>(
     shared: &Shared<K>,
     rt: &R,
@@ -49,7 +49,7 @@ fn call_at<K: Session, R: Wait, G: Gate>(
     answer
 }
 
-// // One call under the lock, with the gate's call between it and the publishing.
+// One call under the lock, with the gate's call between it and the publishing.
 fn call_inside<K: Session, R: Wait, G: Gate>(
     shared: &Shared<K>,
     rt: &R,
@@ -98,7 +98,7 @@ fn one_more<K: Session, R: Wait, G: Gate>(
     }
 }
 
-// // Makes a worker's calls, up to its first fault.
+// Makes a worker's calls, up to its first fault.
 fn work<K: Session, R: Wait, G: Gate>(
     shared: &Shared<K>,
     rt: &R,
@@ -121,7 +121,7 @@ fn work<K: Session, R: Wait, G: Gate>(
     done.fault = fault;
 }
 
-// // The result of a job that is not begun.
+// The result of a job that is not begun.
 fn begin(alloc: Global, pass: &Pass) -> Done
     ensures { result.pass ≡ pass.now }
 {
@@ -132,7 +132,7 @@ fn begin(alloc: Global, pass: &Pass) -> Done
     }
 }
 
-// // The results of jobs that are not begun. None when out of memory.
+// The results of jobs that are not begun. None when out of memory.
 fn begin_all(alloc: Global, jobs: &Vec<(Pass, Vec<Call>)>) -> Option<Vec<Done>>
     ensures many { IfSome result (λ v. length v.items ≡ length jobs.now.items) }
     ensures passes { IfSome result (λ v. HaveTheirPasses jobs.now.items v.items) }
@@ -170,7 +170,7 @@ pub fn run_workers<K: Session + Send + Sync, R: Threads + Wait + Sync, G: Gate +
     Ok(dones)
 }
 
-// // Does the jobs, each in a thread of its own.
+// Does the jobs, each in a thread of its own.
 fn run_all<K: Session + Send + Sync, R: Threads + Wait + Sync, G: Gate + Sync>(
     shared: &Shared<K>,
     rt: &R,

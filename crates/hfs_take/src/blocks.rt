@@ -12,7 +12,7 @@ pub trait ImageBlocks {
     /// The images consistent with the bytes read so far.
     ghost Holds: { Self → List ℕ → Type 0 };
 
-    /// Reads the blocks from number `first` on, as many as `into` has room for, by one read. Error: the read failed, or the image
+    /// Reads blocks from number `first` on, as many as `into` has room for, in one read. Error: the read failed, or the image
     /// ends before the room is full.
     fn read_from(&mut self, first: u32, into: &mut [u8]) -> io::Result<()>
         ensures seen { OnOk result (OfEach (Holds self.new) (HasAt (512 * first) into.new)) }

@@ -1,4 +1,4 @@
-//! //! The bytes of an image, or the blocks that were read from one: they never change, and their readers share them.
+//! The bytes of an image, or the blocks that were read from one: they never change, and their readers share them.
 
 ghost use Rattle.std.specs.Prelude.{◌≡◌, ◌/◌, ◌<◌, ◌≤◌, ◌^◌, length, IfOk, IfErr, IfSome, IfNone};
 ghost use Rattle.hfs_blocks.specs.Blocks.{block_at, block_count, length-block_at, few-block_count};
@@ -104,7 +104,7 @@ impl Base {
     pub fn blocks(&self) -> BaseBlocks<'_>
         ensures { result.base.now ≡ self.now }
     {
-        // // Once the bytes are counted, a proof knows how many there can be.
+        // Once the bytes are counted, a proof knows how many there can be.
         let _len = self.len();
         BaseBlocks { base: self }
     }

@@ -1,4 +1,4 @@
-//! //! Bytes of extents, starting at any offset.
+//! Bytes of extents, starting at any offset.
 
 ghost use Rattle.std.specs.Prelude.{◌≡◌, ◌-◌, ◌*◌};
 ghost use Rattle.hfs_space.specs.Extents.{block_total, AreExtentsWithin};

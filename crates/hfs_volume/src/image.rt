@@ -1,4 +1,4 @@
-//! //! An image: its bytes as they were opened, and the blocks that have changed since.
+//! An image: its bytes as they were opened, and the blocks that have changed since.
 
 ghost use Rattle.std.specs.Prelude.{◌≡◌, [], ◌++◌, ◌<◌, ◌≤◌, ◌^◌, length, IfOk, IfErr, OnOk, OnErr, nat_eq};
 ghost use Rattle.std.specs.List.{IsDistinct, flat_map};
@@ -59,7 +59,7 @@ impl Image {
         ensures changed { result.changed ≡ [] }
         ensures written { result.written ≡ [] }
     {
-        // // Once the bytes are counted, a proof knows how many there can be.
+        // Once the bytes are counted, a proof knows how many there can be.
         let _len = base.len();
         Image {
             base,
@@ -89,7 +89,7 @@ impl Image {
         ensures once { IsDistinct nat_eq self.now.changed }
         ensures others { IsSameBeside self.now }
     {
-        // // Once the blocks are counted, a proof knows how many there can be.
+        // Once the blocks are counted, a proof knows how many there can be.
         let _count = self.count();
         self.changed.len() as u32
     }
@@ -189,7 +189,7 @@ impl Image {
         if self.changed() == 0 {
             return Ok(self.as_opened(alloc));
         }
-        // // Once the blocks are counted, a proof knows how many there can be.
+        // Once the blocks are counted, a proof knows how many there can be.
         let _count = self.count();
         let Ok(bytes) = self.copy(alloc) else {
             return Err(AllocFailed { value: self });
@@ -220,7 +220,7 @@ impl Image {
     pub fn blocks(&self) -> ImageBlocks<'_>
         ensures { result.image.now ≡ self.now }
     {
-        // // Once the blocks are counted, a proof knows how many there can be.
+        // Once the blocks are counted, a proof knows how many there can be.
         let _count = self.count();
         ImageBlocks { image: self }
     }

@@ -1,4 +1,4 @@
-//! //! A file's fork, read from its beginning on.
+//! A file's fork, read from its beginning on.
 
 ghost use Rattle.std.specs.Prelude.{◌≡◌, ◌%◌, length, take, drop, IfOk, OnOk, OnErr};
 ghost use Rattle.hfs_blocks.specs.Blocks.{block_count};

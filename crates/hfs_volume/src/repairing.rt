@@ -1,4 +1,4 @@
-//! //! Mounting images in which only counts are wrong.
+//! Mounting images in which only counts are wrong.
 
 ghost use Rattle.std.specs.Prelude.{◌≡◌, [], IfOk, IfErr, OnOk};
 ghost use Rattle.hfs_check.specs.Sound.{IsSound};

@@ -1,4 +1,4 @@
-//! //! What a call that changes nothing answers.
+//! What a call that changes nothing answers.
 
 ghost use Rattle.std.specs.Prelude.{◌≡◌};
 ghost use Rattle.hfs_volume.specs.Steps.{refusal_reply};

@@ -1,4 +1,4 @@
-//! //! Writing an image to any writer, without taking memory.
+//! Writing an image to any writer, without taking memory.
 
 ghost use Rattle.std.specs.Prelude.{◌≡◌, ℕ, ◌-◌, ◌*◌, ◌<◌, ◌≤◌, IfErr, is_some, false, IsSome};
 ghost use Rattle.hfs_blocks.specs.Blocks.{block_count};

@@ -1,4 +1,4 @@
-//! //! What a change writes into a fork.
+//! What a change writes into a fork.
 
 ghost use Rattle.std.specs.Prelude.{◌≡◌};
 ghost use Rattle.hfs_volume.specs.Steps as spec;

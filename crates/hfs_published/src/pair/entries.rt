@@ -8,7 +8,7 @@ use crate::pair::Pair;
 use hfs_model::Entry;
 
 impl Pair {
-    /// Adds the accepted changes of the next entries of a journal, as far as there is memory. Returns how many of the entries are
+    /// Adds the accepted changes of the next entries of a journal, as far as memory allows. Returns how many of the entries are
     /// done.
     pub fn add_entries(&mut self, entries: &[Entry]) -> usize
         ensures within { result ≤ length entries.now }

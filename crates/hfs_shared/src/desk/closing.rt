@@ -1,4 +1,4 @@
-//! //! Taking a desk apart once all workers have given their passes back.
+//! Taking a desk apart once all workers have given their passes back.
 ghost use Rattle.std.specs.Prelude.{◌≡◌};
 ghost use Rattle.hfs_shared.specs.Closings.{HasPass, AreAllPasses, HasNoOthers, IsWhether};
 ghost use Rattle.hfs_shared.specs.Desks.{pass_state, IsHeadline};

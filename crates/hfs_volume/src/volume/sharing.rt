@@ -1,4 +1,4 @@
-//! //! What a mounted volume hands to readers that run next to its writer.
+//! What a mounted volume hands to readers that run next to its writer.
 
 ghost use Rattle.std.specs.Prelude.{◌≡◌, [], IfOk, IfErr};
 ghost use Rattle.hfs_blocks.specs.Blocks.{block_at};
@@ -37,7 +37,7 @@ impl Volume {
         ensures base { IsSound self.now.base }
         ensures agrees { AgreesBut self.now.written self.now.base self.now.current }
     {
-        // // Once a proof has seen the image, it knows what the volume keeps to.
+        // Once a proof has seen the image, it knows what the volume keeps to.
         let _image = &self.image;
     }
 
@@ -108,7 +108,7 @@ impl Volume {
     ) -> Result<Vec<Extent>, AllocError>
         ensures { GivesItems (file_extents (block_at self.now.current) fork file.now) result }
     {
-        // // Once a proof has seen the image, it knows what the volume keeps to.
+        // Once a proof has seen the image, it knows what the volume keeps to.
         let _image = &self.image;
         let (kind, record) = fork_record(file, fork);
         fork_extents(alloc, &self.extents_nodes(), file.id, kind, &record.extents)
@@ -123,7 +123,7 @@ impl Volume {
         ensures within { IfOk result (λ extents. AreExtentsIn self.now.base extents.items) }
         ensures bytes { IfOk result (BeginWithFork self.now id fork) }
     {
-        // // Once a proof has seen the image, it knows what the volume keeps to.
+        // Once a proof has seen the image, it knows what the volume keeps to.
         let _image = &self.image;
         let Some(item) = by_id(&self.catalog_nodes(), id) else {
             unreachable!()
