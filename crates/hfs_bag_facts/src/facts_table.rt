@@ -21,7 +21,7 @@ fn facts_of(row: ItemRow) -> ToldFacts
     }
 }
 
-/// The path of a row's item below the payload; empty where there is none.
+/// The path of a row's item below the payload; empty if there is none.
 fn path_field(row: &ByteRecord) -> &[u8]
     ensures { result.now ≡ path_field (fields_of row.now) }
 {

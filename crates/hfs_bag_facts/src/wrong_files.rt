@@ -63,7 +63,7 @@ fn wrong_at<'a, T: HostTree>(
     }
 }
 
-/// The path of an item's own file, where it has one.
+/// The path of an item's own file, if it has one.
 fn own_path(item: &SourceItem) -> Option<&str>
     ensures { option_map (λ p. p.now) result ≡ own_path item.now }
 {
@@ -74,7 +74,7 @@ fn own_path(item: &SourceItem) -> Option<&str>
     }
 }
 
-/// The path of the file that belongs to it by its name, where there is one that counts.
+/// The path of the file that belongs to it by its name, if there is one that counts.
 fn double_path(item: &SourceItem) -> Option<&str>
     ensures { option_map (λ p. p.now) result ≡ double_path item.now }
 {

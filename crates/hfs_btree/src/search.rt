@@ -109,7 +109,7 @@ fn body_in<'a, K: Key>(bytes: &'a [u8; 512], key: &K) -> Option<&'a [u8]>
     None
 }
 
-/// The body under the key, or None where the tree has no key that is equal to it in the order.
+/// The body under the key, or None if the tree has no key that is equal to it in the order.
 ///
 /// It reads the header node and one node of each level, and takes memory for the answer alone.
 pub fn find<K: Key, N: Nodes>(
@@ -177,7 +177,7 @@ fn pair_in<K: Key>(alloc: Global, entry: &[u8]) -> Result<(K, Vec<u8>), AllocErr
     Ok((key, body))
 }
 
-/// The first pair whose key is above this one, or None where there is none. The key itself need not be in the tree.
+/// The first pair whose key is above this one, or None if there is none. The key itself need not be in the tree.
 ///
 /// It reads the header node, one node of each level, and at the end of a leaf the one after it. It takes memory for the answer
 /// alone.

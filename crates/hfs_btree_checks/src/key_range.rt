@@ -36,7 +36,7 @@ fn greater<K: Key>(first: K, second: K) -> K
     }
 }
 
-/// The range of the keys of two ranges, each None where it has no keys.
+/// The range of the keys of two ranges, each None if it has no keys.
 pub(crate) fn joined<K: Key>(
     first: Option<KeyRange<K>>,
     second: Option<KeyRange<K>>,
@@ -67,8 +67,8 @@ fn lesser_in<K: Key>(first: K, entry: &[u8]) -> K
     }
 }
 
-/// The range of the keys of a range, None where it has no keys, and of a leaf's record. A key that is above the range is
-/// compared with its greatest alone, and the key of the record is copied only where the range takes it.
+/// The range of the keys of a range, None if it has no keys, and of a leaf's record. A key that is above the range is compared
+/// with its greatest alone, and the key of the record is copied only where the range takes it.
 pub(crate) fn widened<K: Key>(range: Option<KeyRange<K>>, entry: &[u8]) -> Option<KeyRange<K>>
     requires { K.is_leaf entry.now ≡ true }
     ensures { CoversAlso K.Key range entry.now result }

@@ -59,8 +59,8 @@ fn is_map(node: &NodeView) -> bool
     }
 }
 
-/// Checks the chain of map nodes from node `first` on, 0 where there is none, through at most `most` of them: marks each
-/// as met, adds their parts of the node map to `map` and their numbers to `own`.
+/// Checks the chain of map nodes from node `first` on, 0 if there is none, through at most `most` of them: marks each as met,
+/// adds their parts of the node map to `map` and their numbers to `own`.
 fn read_chain<N: Nodes>(
     nodes: &N,
     count: u32,

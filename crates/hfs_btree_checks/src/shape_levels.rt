@@ -82,9 +82,9 @@ fn last_node(level: &[u32]) -> u32
 /// The last level of a tree whose levels are all right.
 #[derive(Clone, Copy)]
 pub(crate) struct Leaves {
-    /// Its first node, 0 where there is none.
+    /// Its first node, 0 if there is none.
     pub first: u32,
-    /// Its last node, 0 where there is none.
+    /// Its last node, 0 if there is none.
     pub last: u32,
     /// How many records its nodes have, or `usize::MAX` where there are more.
     pub records: usize,

@@ -77,8 +77,8 @@ impl<'a, K: Key, N: Nodes> ShapedTree<'a, K, N> {
         check_keys::<K, N, T>(alloc, self.nodes, test)
     }
 
-    /// The number, counted from 0, of the first leaf record whose key doesn't rise above those of all leaf records before
-    /// it; None where the leaf keys strictly rise.
+    /// The number, counted from 0, of the first leaf record whose key doesn't rise above those of all leaf records before it;
+    /// None if the leaf keys strictly rise.
     ///
     /// It reads the header node and each leaf once, compares each key with the one before it, and takes no memory.
     ///
@@ -89,8 +89,8 @@ impl<'a, K: Key, N: Nodes> ShapedTree<'a, K, N> {
         rise_fault::<K, N>(self.nodes)
     }
 
-    /// The number of the leaf with the first key that doesn't rise above all leaf keys before it; None where the leaf keys
-    /// strictly rise. Of two keys that don't rise it is the leaf of the later.
+    /// The number of the leaf with the first key that doesn't rise above all leaf keys before it; None if the leaf keys strictly
+    /// rise. Of two keys that don't rise it is the leaf of the later.
     ///
     /// It reads the header node and each leaf once, and takes no memory.
     ///

@@ -10,7 +10,7 @@ use hfs_btree::Header;
 pub struct TreeCounts {
     /// The header record, which tells them as `records` and `free_nodes`.
     pub header: Header,
-    /// How many records the leaves have. None where they are more than the four bytes of bthNRecs can tell.
+    /// How many records the leaves have. None if they are more than the four bytes of bthNRecs can tell.
     pub records: Option<u32>,
     /// How many of the tree's nodes have a clear bit in the node map.
     pub free_nodes: u32,

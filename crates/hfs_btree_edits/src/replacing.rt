@@ -1,4 +1,4 @@
-//! Putting a pair in the place of another one.
+//! Putting a pair in place of another one.
 
 ghost use Rattle.std.specs.Prelude.{◌≡◌, OnOk, IsTrue, length};
 ghost use Rattle.hfs_btree.specs.Header.{body_at};
@@ -13,8 +13,8 @@ use crate::stored::{store_replaced, viewed};
 use hfs_btree::Key;
 use std::alloc::{AllocError, Global};
 
-/// Puts the pair in the place of the one whose key is equal to this one in the order, and whose place was found. The key is spelled as
-/// it is given.
+/// Puts the pair in place of the one whose key is equal to this one in the order, and whose place was found. The key is spelled
+/// as it is given.
 ///
 /// It writes one leaf, and reads none. At `AllocError` nothing is said of the nodes.
 pub fn replace_at<K: Key, N: NodesMut>(
@@ -37,7 +37,7 @@ pub fn replace_at<K: Key, N: NodesMut>(
     store_replaced(nodes, place.leaf, &leaf, place.at, made)
 }
 
-/// Puts the pair in the place of the one whose key is equal to this one in the order. The key is spelled as it is given.
+/// Puts the pair in place of the one whose key is equal to this one in the order. The key is spelled as it is given.
 ///
 /// It reads the header node and one node of each level, and writes one leaf. At `AllocError` nothing is said of the nodes.
 pub fn replace<K: Key, N: NodesMut>(

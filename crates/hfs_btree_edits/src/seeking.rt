@@ -24,7 +24,7 @@ pub struct RecordPlace {
     pub at: usize,
 }
 
-/// Which record of a leaf has this key, or None where none has.
+/// Which record of a leaf has this key, or None if none has.
 fn seek_in<K: Key>(bytes: &[u8; 512], key: &K) -> Option<usize>
     requires { Each (λ entry. K.is_leaf entry ≡ true) (records_of (node_of bytes.now)) }
     ensures none { IfNone result (lookup K.compare key.now (pairs_of K.Key bytes.now) ≡ None) }
@@ -58,7 +58,7 @@ pub fn place_of<K: Key>(bytes: &[u8; 512], key: &K) -> usize
     at
 }
 
-/// The place of the record with this key, or None where the tree has no key that is equal to it in the order.
+/// The place of the record with this key, or None if the tree has no key that is equal to it in the order.
 ///
 /// It reads the header node and one node of each level, and takes no memory.
 pub fn seek<K: Key, N: Nodes>(nodes: &N, key: &K) -> Option<RecordPlace>

@@ -98,7 +98,7 @@ pub fn store<S: NodesMut>(nodes: &mut S, n: u32, node: &Node) -> Result<(), Allo
     nodes.write(n, &bytes)
 }
 
-/// Writes node `n` as this one with another record in the place of one.
+/// Writes node `n` as this one with another record in place of one.
 pub fn store_replaced<S: NodesMut>(
     nodes: &mut S,
     n: u32,

@@ -37,8 +37,8 @@ fn put_last<S: NodesMut>(alloc: Global, nodes: &mut S, n: u32) -> Result<(), All
     put_header(alloc, nodes, &header)
 }
 
-/// Sets the backward link of the node that a new node `n` of a level stands in front of; where there is none and it is a
-/// leaf, the header record names it as the last.
+/// Sets the backward link of the node that a new node `n` of a level stands in front of; if there is none and it is a leaf, the
+/// header record names it as the last.
 fn link_right<S: NodesMut>(
     alloc: Global,
     nodes: &mut S,

@@ -88,7 +88,7 @@ fn lower_way<K: Key, S: NodesMut>(
 /// root. Where the leaf has room and no index key is to be lowered, which is
 /// the rule, it goes down the tree once.
 ///
-/// Errors: `AllocError` where memory was refused. Then nothing is known of the nodes, which are to be thrown away.
+/// Errors: `AllocError` if memory was refused. Then nothing is known of the nodes, which are to be thrown away.
 ///
 /// Source: Inside Macintosh: Files, chapter 2, 'B*-trees'.
 pub fn insert<K: Key, S: NodesMut>(

@@ -39,7 +39,7 @@ fn root_above<K: Key, N: Nodes>(
     })
 }
 
-/// Puts a node above the root, which names it, in the place of node `m`, a stray one, and makes it the root.
+/// Puts a node above the root, which names it, in place of node `m`, a stray one, and makes it the root.
 fn put_root<K: Key, S: NodesMut>(alloc: Global, nodes: &mut S, m: u32) -> Result<(), AllocError>
     requires sound { IsSound K.Key (S.nodes nodes.old) }
     requires some { 0 < depth_of (S.nodes nodes.old) }

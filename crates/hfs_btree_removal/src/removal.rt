@@ -42,10 +42,10 @@ fn take_out<K: Key, S: NodesMut>(
 
 /// Takes the pair with this key out of the tree.
 ///
-/// A node whose last record goes is freed: it is blank, and leaves the links of its level. A first key that changes is told
-/// to the nodes above. An index root with one record gives way to its child.
+/// A node whose last record goes is freed: it is blank, and leaves the links of its level. A first key that changes is told to
+/// the nodes above. An index root with one record gives way to its child.
 ///
-/// Errors: `AllocError` where memory was refused. Then nothing is known of the nodes, which are to be thrown away.
+/// Errors: `AllocError` if memory was refused. Then nothing is known of the nodes, which are to be thrown away.
 ///
 /// Source: Inside Macintosh: Files, chapter 2, 'B*-trees'.
 pub fn remove<K: Key, S: NodesMut>(alloc: Global, nodes: &mut S, key: &K) -> Result<(), AllocError>

@@ -31,7 +31,7 @@ pub(crate) struct PlacedFile {
     pub place: RecordPlace,
 }
 
-/// The item of a leaf's record. None where the record is a thread's.
+/// The item of a leaf's record. None if the record is a thread's.
 fn item_in(entry: &[u8]) -> Option<CatalogItem>
     requires { is_cat_leaf entry.now ≡ true }
     ensures { result ≡ item_at (Some (pair_of cat_keys entry.now)) }
@@ -42,7 +42,7 @@ fn item_in(entry: &[u8]) -> Option<CatalogItem>
     }
 }
 
-/// The item under a key. None where there is none, and where the record under the key is a thread's.
+/// The item under a key. None if there is none, and where the record under the key is a thread's.
 fn seek_item<N: Nodes>(nodes: &N, key: &CatKey) -> Option<PlacedItem>
     requires { IsCatalogTree (N.nodes nodes.now) }
     ensures named { item_part result
@@ -87,8 +87,9 @@ pub(crate) fn placed_folder<N: Nodes>(nodes: &N, dir: u32) -> Option<PlacedItem>
 /// The ID under which the root stands, which is no folder's.
 const ABOVE_ROOT: u32 = 1;
 
-/// The folder's item of that name, or the code that says why there is none: -120 where there is no such folder, -43 where it has no
-/// such item. Where there is an item it is found by one look-up, for what holds an item is a folder, but for 1, which holds the root.
+/// The folder's item of that name, or the code that says why there is none: -120 if there is no such folder, -43 if it has no
+/// such item. Where there is an item it is found by one look-up, for what holds an item is a folder, but for 1, which holds the
+/// root.
 pub(crate) fn placed_child<N: Nodes>(nodes: &N, dir: u32, name: &Name) -> Result<PlacedItem, i16>
     requires { IsCatalog (N.nodes nodes.now) }
     ensures chosen { item_chosen result

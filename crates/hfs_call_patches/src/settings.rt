@@ -19,7 +19,7 @@ use hfs_catalog::ItemRecord;
 use hfs_fields::{CatKey, DirRecord, FileRecord, Mdb};
 use std::alloc::{AllocError, Global};
 
-/// What SetCatInfo sets: three dates, in seconds since midnight of 1 January 1904, and all Finder bytes.
+/// What SetCatInfo sets: three dates, in seconds since midnight, 1 January 1904, and all Finder bytes.
 #[derive(Clone, Copy)]
 pub struct ItemSettings {
     pub created: u32,

@@ -29,8 +29,8 @@ fn named_at<N: Nodes>(walk: &Walk<'_, CatKey, N>, dir: u32, name: &Name) -> Opti
     }
 }
 
-/// The file or folder of that name, whatever its case, in a folder. None where the folder has none, and where there is
-/// no such folder.
+/// The file or folder of that name, whatever its case, in a folder. None if the folder has none, and where there is no such
+/// folder.
 ///
 /// It reads the header node and one node of each level, and takes no memory.
 pub fn lookup<N: Nodes>(nodes: &N, dir: u32, name: &Name) -> Option<CatalogItem>
@@ -80,7 +80,7 @@ fn first_key(parent: u32) -> CatKey
     CatKey { parent, name }
 }
 
-/// The thread of an ID: it says where the folder or file with that ID stands. None where the ID has no thread.
+/// The thread of an ID: it says where the folder or file with that ID stands. None if the ID has no thread.
 ///
 /// It reads the header node and one node of each level, and takes no memory.
 pub fn thread<N: Nodes>(nodes: &N, id: u32) -> Option<ThreadRecord>
@@ -126,10 +126,10 @@ fn is_at_end<N: Nodes>(walk: &Walk<'_, CatKey, N>) -> bool
     walk.pair().is_none()
 }
 
-/// The folder or file with that ID, or None where there is none.
+/// The folder or file with that ID, or None if there is none.
 ///
-/// Where the ID has a thread it is found by it, with two look-ups. A file need not have a thread; without one all
-/// records are read. It takes no memory.
+/// Where the ID has a thread it is found by it, with two look-ups. A file need not have a thread; without one all records are
+/// read. It takes no memory.
 pub fn by_id<N: Nodes>(nodes: &N, id: u32) -> Option<CatalogItem>
     requires tree { IsCatalogTree (N.nodes nodes.now) }
     requires records { Each IsRecord (catalog_of (N.nodes nodes.now)) }
@@ -207,8 +207,8 @@ fn is_item_at<N: Nodes>(walk: &Walk<'_, CatKey, N>) -> bool
     }
 }
 
-/// The file or folder at that place in a folder, in name order, counted from 0. None where the folder has no more than so
-/// many, and in what is no folder.
+/// The file or folder at that place in a folder, in name order, counted from 0. None if the folder has no more than so many, and
+/// in what is no folder.
 ///
 /// It reads each leaf up to that place once, and takes no memory.
 pub fn child_at<N: Nodes>(nodes: &N, dir: u32, place: u32) -> Option<CatalogItem>

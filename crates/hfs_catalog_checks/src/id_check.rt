@@ -55,8 +55,8 @@ fn missing_root(catalog: &IndexedCatalog<'_>) -> Option<usize>
     }
 }
 
-/// The number of the first record, from 0 on, of an item with a wrong ID; the number of records where none is the root's.
-/// None where the IDs are sound.
+/// The number of the first record, from 0 on, of an item with a wrong ID; the number of records where none is the root's. None if
+/// the IDs are sound.
 ///
 /// The root is a folder with the ID 2 under 1. Any other item has an ID from 16 on and below `next`, the volume's next ID
 /// (drNxtCNID), and does not stand under 1. Of two records with one ID the later is wrong.

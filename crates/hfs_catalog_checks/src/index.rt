@@ -74,14 +74,14 @@ impl<'a> IndexedCatalog<'a> {
         self.records.len()
     }
 
-    /// The place of the first record of a file or a folder with that ID, from 0 on. None where there is none.
+    /// The place of the first record of a file or a folder with that ID, from 0 on. None if there is none.
     pub(crate) fn place(&self, id: u32) -> Option<usize>
         ensures { result ≡ item_place self.now id }
     {
         self.places.get(id)
     }
 
-    /// The first record of a file or a folder with that ID. None where there is none.
+    /// The first record of a file or a folder with that ID. None if there is none.
     pub(crate) fn item(&self, id: u32) -> Option<&CatalogRecord>
         ensures { option_copied result ≡ item_with self.now id }
     {

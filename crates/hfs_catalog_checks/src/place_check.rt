@@ -37,7 +37,7 @@ fn first_misplaced(alloc: Global, catalog: &IndexedCatalog<'_>) -> Result<Option
 
 /// The number of the first record, from 0 on, that is out of order, an item's whose parent is no folder or whose chain of parents
 /// does not reach the root, a folder's without a thread, or a thread's that does not lead to its item. Where no record is, the
-/// number of records, unless the keys of the index nodes are `in_order`. None where all are right.
+/// number of records, unless the keys of the index nodes are `in_order`. None if all are right.
 ///
 /// Keys rise by the parent's ID and then by name without regard to case ("Inside Macintosh: Files", chapter 2, "Catalog file
 /// keys"). A thread is of its item's kind, names its parent, and has its name without regard to case. A file need not have a

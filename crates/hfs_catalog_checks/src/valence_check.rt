@@ -89,7 +89,7 @@ fn first_wrong_valence(counts: &Numbers, catalog: &[CatalogRecord]) -> Option<us
 }
 
 /// The number of the first record, from 0 on, of a folder whose valence (dirVal) is not the number of the files' and folders'
-/// records under its ID. None where each valence is right.
+/// records under its ID. None if each valence is right.
 ///
 /// It reads each record twice, and takes memory for a count for each parent. `Err` only when out of memory.
 #[tactic(auto, unfolding(crate::specs::Faults::valence_fault))]

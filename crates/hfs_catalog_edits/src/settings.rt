@@ -14,7 +14,7 @@ use hfs_catalog::ItemRecord;
 use hfs_fields::{CatKey, DirRecord};
 use std::alloc::{AllocError, Global};
 
-/// Writes a folder's or a file's record under its key, where there is one of the same kind, whose place was found. No node comes or
+/// Writes a folder's or a file's record under its key, if there is one of the same kind, whose place was found. No node comes or
 /// goes.
 ///
 /// At `AllocError` nothing is said of the nodes.
@@ -38,7 +38,7 @@ pub fn set_record_at<N: NodesMut>(
     }
 }
 
-/// Writes a folder's or a file's record under its key, where there is one of the same kind. No node comes or goes.
+/// Writes a folder's or a file's record under its key, if there is one of the same kind. No node comes or goes.
 ///
 /// At `AllocError` nothing is said of the nodes.
 pub fn set_record<N: NodesMut>(

@@ -15,7 +15,7 @@ use hfs_fields::{Extent, Mdb};
 use hfs_space::{ForkKind, fork_extents, is_tree_file, tree_runs};
 use std::alloc::{AllocError, Global};
 
-/// The runs of a tree's file that has these extents and this size in bytes. None where the file is wrong.
+/// The runs of a tree's file that has these extents and this size in bytes. None if the file is wrong.
 fn file_runs<B: Blocks>(
     alloc: Global,
     blocks: &B,

@@ -75,7 +75,7 @@ fn pieces_beside<B: Blocks>(
 ///
 /// Where the blocks from `after` on are enough, only their bits are read; else each block of the bitmap once.
 ///
-/// Errors: `Room` exactly when fewer blocks are free than are wanted. `AllocError` where memory was refused.
+/// Errors: `Room` exactly when fewer blocks are free than are wanted. `AllocError` if memory was refused.
 pub fn blocks_that_come<B: Blocks>(
     alloc: Global,
     bitmap: &Bitmap<'_, B>,

@@ -80,7 +80,7 @@ fn print_page_of<'a>(
     }
 }
 
-/// The bytes of a text, where there is one.
+/// The bytes of a text, if there is one.
 fn bytes_of<'a>(text: Option<&'a str>) -> Option<&'a [u8]> {
     match text {
         Some(text) => Some(text.as_bytes()),

@@ -138,7 +138,7 @@ fn put_both(
     Ok(())
 }
 
-/// Compares them, and puts the first in the place of the second.
+/// Compares them, and puts the first in place of the second.
 fn put_again(
     rt: &impl Abort,
     alloc: Global,

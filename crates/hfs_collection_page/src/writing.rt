@@ -52,8 +52,8 @@ fn page_of<S: Alter>(
 }
 
 /// Writes the page of a collection: a line for each volume that the database lists, and one for each content. Faults: the
-/// database can't be read, memory was refused, and nothing was written; or the writer failed: then a part of the page may have
-/// gone out, from its beginning on.
+/// database can't be read, memory was refused, and nothing was written; or the writer failed: then only the beginning of the page
+/// may have been written.
 pub fn write_collection_page<S: Alter, W: Write>(
     alloc: Global,
     collection: &mut Collection<S>,

@@ -58,7 +58,7 @@ fn file_reply(reply: Reply) -> Reply
     reply
 }
 
-/// As [`path_reply`], but -43 where the path leads to a folder, which has no forks.
+/// As [`path_reply`], but -43 if the path leads to a folder, which has no forks.
 #[tactic(auto, using(crate::proofs::PathReplies::of_file))]
 pub fn file_path_reply<S: PlacedBlocks + Drop>(
     alloc: Global,

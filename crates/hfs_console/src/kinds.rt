@@ -89,7 +89,7 @@ fn part_place<F: Read + Seek>(part: &mut Part<F>, kind: u32) -> Option<u64> {
     None
 }
 
-/// The creator in the Finder's bytes of an AppleDouble file, after the type; zeros where it has none.
+/// The creator in the Finder's bytes of an AppleDouble file, after the type; zeros if it has none.
 fn creator_in<F: Read + Seek>(part: &mut Part<F>) -> Piece {
     match part_place(part, FINDER_BYTES) {
         Some(finder) => piece_at(part, finder.saturating_add(4)),
@@ -97,7 +97,7 @@ fn creator_in<F: Read + Seek>(part: &mut Part<F>) -> Piece {
     }
 }
 
-/// The first types of the resources in an AppleDouble file; zeros where it has none.
+/// The first types of the resources in an AppleDouble file; zeros if it has none.
 fn types_in<F: Read + Seek>(part: &mut Part<F>) -> [u32; 16] {
     match part_place(part, RESOURCE_FORK) {
         Some(fork) => resource_types(part, fork),
@@ -155,7 +155,7 @@ fn double_path(rt: &HostRuntime, path: &str) -> Option<String> {
     }
 }
 
-/// What the AppleDouble file of this path says of the file beside it, where it is there.
+/// What the AppleDouble file of this path says of the file beside it, if it is there.
 fn beside_in(rt: &HostRuntime, path: &str) -> Beside {
     if !is_regular(rt, path) {
         return NOTHING;

@@ -114,7 +114,7 @@ fn is_bare(ranges: &[FoundRange]) -> bool
     }
 }
 
-/// The only one of these ranges, or the file as it is where there is none.
+/// The only one of these ranges, or the file as it is if there is none.
 fn only_one(inside: &[NumberedRange]) -> Asked
     ensures is { result ≡ only_one inside.now }
     ensures answers { IsAnswerTo None result }

@@ -165,8 +165,8 @@ pub fn find_in_layout<S: ReadAt>(
     }
 }
 
-/// The `n`-th range that is found in a file of `len` bytes, or in as many bytes of user data, counted from 1. None where there
-/// are fewer, and for 0. Errors as for [`find_ranges`].
+/// The `n`-th range that is found in a file of `len` bytes, or in as many bytes of user data, counted from 1. None if there are
+/// fewer, and for 0. Errors as for [`find_ranges`].
 #[tactic(auto, unfolding(crate::specs::Found::nth_found_by))]
 pub fn nth_range<S: ReadAt>(
     alloc: Global,

@@ -132,7 +132,7 @@ fn push_entries<S: ReadAt>(
     Ok(())
 }
 
-/// Appends the partitions of the map of a file of `len` bytes, where it has one.
+/// Appends the partitions of the map of a file of `len` bytes, if it has one.
 pub fn push_partitions<S: ReadAt>(
     source: &mut S,
     len: u64,

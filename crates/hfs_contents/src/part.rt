@@ -64,7 +64,7 @@ fn start_of(range: ByteRange) -> u64
 }
 
 impl<S: PlacedBytes + Drop, K: PickedImage> ImagePart<S, K> {
-    /// The range, where it lies in the content, or has no bytes. None where it doesn't.
+    /// The range, where it lies in the content, or has no bytes. None if it doesn't.
     pub fn range(source: S, layout: Layout, range: ByteRange) -> Option<ImagePart<S, K>>
         ensures range { IfSome result (λ part. OfEach (IsPartOf S.Holds K.image part)
             (λ bytes. bytes ≡ bytes_in range (content_of layout K.image))) }
@@ -85,7 +85,7 @@ impl<S: PlacedBytes + Drop, K: PickedImage> ImagePart<S, K> {
         })
     }
 
-    /// All of the content. None where it has 2^63 bytes or more.
+    /// All of the content. None if it has 2^63 bytes or more.
     pub fn whole(source: S, layout: Layout) -> Option<ImagePart<S, K>>
         ensures whole { IfSome result (λ part. OfEach (IsPartOf S.Holds K.image part)
             (λ bytes. bytes ≡ content_of layout K.image)) }

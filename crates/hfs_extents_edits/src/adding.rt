@@ -81,7 +81,7 @@ fn add_below<S: NodesMut>(
 /// The first record of all becomes a leaf, which is the root. One that fits into a leaf that is the root wants no node. Any other
 /// may want one on each level, and one for a new root: so many as `extents_need` says.
 ///
-/// Errors: `AllocError` where memory was refused. Then nothing is known of the nodes, which are to be thrown away.
+/// Errors: `AllocError` if memory was refused. Then nothing is known of the nodes, which are to be thrown away.
 ///
 /// Source: Inside Macintosh: Files, chapter 2, 'B*-trees' and 'Extents overflow file'.
 pub fn add<S: NodesMut>(

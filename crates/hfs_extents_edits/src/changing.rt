@@ -13,7 +13,7 @@ use std::alloc::{AllocError, Global};
 
 /// Gives the record with this key another body. No node comes or goes, and one leaf is written.
 ///
-/// Errors: `AllocError` where memory was refused. Then nothing is known of the nodes, which are to be thrown away.
+/// Errors: `AllocError` if memory was refused. Then nothing is known of the nodes, which are to be thrown away.
 pub fn change<S: NodesMut>(
     alloc: Global,
     nodes: &mut S,

@@ -56,8 +56,8 @@ fn set_edge<K: Key, S: NodesMut>(
     Ok(n)
 }
 
-/// Puts the pair, whose key is below all others, in the place of the least one. The first index keys of the left edge are made
-/// its key. It takes no node.
+/// Puts the pair, whose key is below all others, in place of the least one. The first index keys of the left edge are made its
+/// key. It takes no node.
 pub(crate) fn put_least<K: Key, S: NodesMut>(
     alloc: Global,
     nodes: &mut S,

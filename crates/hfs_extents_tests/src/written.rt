@@ -70,7 +70,7 @@ fn write_in<B: Blocks>(
     Ok(true)
 }
 
-/// Zeros over the fork's bytes from this one to its last; nothing where there are none.
+/// Zeros over the fork's bytes from this one to its last; nothing if there are none.
 fn clear_from<B: Blocks>(
     alloc: Global,
     blocks: &B,

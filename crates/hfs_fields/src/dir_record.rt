@@ -19,7 +19,7 @@ pub struct DirRecord {
     pub valence: u16,
     /// dirDirID: the folder's ID.
     pub id: u32,
-    /// dirCrDat: when it was made, in seconds since midnight of 1 January 1904.
+    /// dirCrDat: when it was made, in seconds since midnight, 1 January 1904.
     pub created: u32,
     /// dirMdDat: when it was last changed, in the same seconds.
     pub modified: u32,
@@ -37,7 +37,7 @@ impl DirRecord {
     /// How many bytes the record has.
     pub const LENGTH: usize = 70;
 
-    /// The record of a new folder: its ID, `now` as the dates of its making and of its last change, and zeros.
+    /// The record of a new folder: its ID, `now` as the date when it was made and last changed, and zeros.
     #[tactic(auto, unfolding(crate::specs::Records::new_dir))]
     pub fn new(id: u32, now: u32) -> DirRecord
         ensures { result ≡ new_dir id now }

@@ -1,4 +1,4 @@
-//! A thread record in the catalog: where an item stands, found by its ID.
+//! A thread record in the catalog: where an item is, found by its ID.
 ghost use Rattle.std.specs.Prelude.{◌≡◌, ◌≤◌, ◌++◌, length, drop, IsTrue};
 ghost use Rattle.std.specs.Option.{SomeIff};
 ghost use Rattle.hfs_fields.specs.Records.{begins_thread, thread_record_of, thread_kind_of, new_thread};
@@ -89,7 +89,7 @@ impl ThreadRecord {
         row
     }
 
-    /// Writes the record's 46 bytes, the name filled up with zero bytes.
+    /// Writes the record's 46 bytes, with the name padded with zero bytes.
     pub fn write(&self, bytes: &mut [u8])
         requires { 46 ≤ length bytes.old }
         ensures written { bytes.new ≡ thread_record_bytes self.now ++ drop 46 bytes.old }

@@ -11,7 +11,7 @@ use std::marker::Model;
 /// The most bytes that are looked at at once.
 const MOST_AT_ONCE: usize = 65_536;
 
-/// The largest of these bytes; 0 where there is none.
+/// The largest of these bytes; 0 if there is none.
 fn largest_of(bytes: &[u8]) -> u8
     ensures { result ≡ 0 → bytes.now ≡ replicate (length bytes.now) 0 }
 {

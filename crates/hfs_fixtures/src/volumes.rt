@@ -1,4 +1,4 @@
-//! The small volumes: a new one, and what others have in the place of its bytes, by hand.
+//! The small volumes: a new one, and what others have in place of its bytes, by hand.
 use crate::blocks::lay;
 use crate::fault::FixtureFault;
 use hfs_format::{FormatPlan, format};
@@ -75,7 +75,7 @@ fn planned(alloc: Global, blocks: u32, catalog_nodes: u32) -> Result<Vec<u8>, Fi
     Ok(format(alloc, plan)?)
 }
 
-/// Lays bytes in the place of an image's own.
+/// Lays bytes in place of an image's own.
 fn lay_all(image: &mut [u8], edits: &[Edit]) -> Result<(), FixtureFault> {
     for (block, at, bytes) in edits {
         lay(image, *block, *at, bytes)?;

@@ -92,10 +92,10 @@ fn two_parts<B: Blocks>(
 /// come to it, or over those that it gets where it is lengthened. The fork's other bytes stay, and so do all blocks that have
 /// none of these bytes.
 ///
-/// Memory is taken for each run of blocks and for two blocks at most, however many the zeros are. The work is that of going
-/// once through the extents, and of putting those that have zeros in order.
+/// Memory is taken for each run of blocks and for two blocks at most, however many the zeros are. The work is that of going once
+/// through the extents, and of putting those that have zeros in order.
 ///
-/// Errors: `AllocError` where memory was refused.
+/// Errors: `AllocError` if memory was refused.
 ///
 /// Source: Inside Macintosh: Files, chapter 2, 'Extents overflow file'.
 pub fn clear_fork<B: Blocks>(

@@ -21,7 +21,7 @@ use std::alloc::{AllocError, Global};
 ///
 /// The work is that of going once through the extents, and of a search among them for each block that has one of these bytes.
 ///
-/// Errors: `AllocError` where memory was refused. Then some of the bytes may not be written.
+/// Errors: `AllocError` if memory was refused. Then some of the bytes may not be written.
 ///
 /// Source: Inside Macintosh: Files, chapter 2, 'Extents overflow file'.
 pub fn write_fork<B: Blocks>(

@@ -75,8 +75,8 @@ pub(crate) fn write_runs<B: Blocks>(
     Ok(())
 }
 
-/// Writes zeros in the place of `count` bytes of a file whose blocks lie in these runs, from the file's byte `offset` on. Only
-/// the blocks that have one of these bytes change. At an error some of them may not be written.
+/// Writes zeros in place of `count` bytes of a file whose blocks lie in these runs, from the file's byte `offset` on. Only the
+/// blocks that have one of these bytes change. At an error some of them may not be written.
 pub(crate) fn clear_runs<B: Blocks>(
     below: &B,
     patch: &mut Patch,

@@ -11,14 +11,14 @@ use hfs_call_patches::Change;
 use hfs_model::Fork;
 use std::alloc::{AllocError, Global};
 
-/// What SetEof makes of a volume, or what refuses it: of the folder's file of that name, which isn't locked, in a volume that may be
-/// changed, the fork is its first `length` bytes, with zeros after them where it was shorter. `found` is that file, or the code that
-/// refuses to write it.
+/// What SetEof makes of a volume, or what refuses it: of the folder's file of that name, which isn't locked, in a volume that may
+/// be changed, the fork is its first `length` bytes, with zeros after them where it was shorter. `found` is that file, or the
+/// code that refuses to write it.
 ///
-/// The codes come first, in the order of `to_set_eof`; then the want of blocks, then that of nodes of the extents tree. At a refusal
-/// there is no change.
+/// The codes come first, in the order of `to_set_eof`; then the want of blocks, then that of nodes of the extents tree. At a
+/// refusal there is no change.
 ///
-/// Errors: `AllocError` where memory was refused. Then there is no change either.
+/// Errors: `AllocError` if memory was refused. Then there is no change either.
 ///
 /// Source: Inside Macintosh: Files, chapter 2, 'Manipulating File Forks' and 'Extents overflow file'.
 pub fn set_eof<B: Blocks>(

@@ -65,11 +65,12 @@ fn if_writable(
     }
 }
 
-/// The file whose fork SetEof makes so many bytes long, or the code that refuses it. `found` is the folder's file of that name, which
-/// isn't locked, in a volume that may be changed, or the code that refuses to write it: -44 or -46, -37, -120, -43, also of a folder,
+/// The file whose fork SetEof makes so many bytes long, or the code that refuses it. `found` is the folder's file of that name,
+/// which isn't locked, in a volume that may be changed, or the code that refuses to write it: -44 or -46, -37, -120, -43, also of
+/// a folder,
 /// -45.
 ///
-/// Errors: -50 where the length is above 2,147,483,647, also where the file wasn't found; else the code of `found`.
+/// Errors: -50 if the length is above 2,147,483,647, also where the file wasn't found; else the code of `found`.
 pub fn to_set_eof(found: Result<FoundFile, i16>, length: u32) -> Result<FoundFile, i16>
     ensures chooses { spec.ChoosesSetEof found length result }
     ensures found { IfOk result (λ file. found ≡ Ok file) }
@@ -79,8 +80,8 @@ pub fn to_set_eof(found: Result<FoundFile, i16>, length: u32) -> Result<FoundFil
 
 /// The file into whose fork WriteFork writes these bytes from an offset on, or the code that refuses it; `found` as for SetEof.
 ///
-/// Errors: -50 of more than 65,536 bytes, and where the last would stand past 2,147,483,647 of them, also where the file wasn't found;
-/// then the code of `found`; -39 where the fork ends before the offset.
+/// Errors: -50 of more than 65,536 bytes, and where the last would stand past 2,147,483,647 of them, also where the file wasn't
+/// found; then the code of `found`; -39 if the fork ends before the offset.
 pub fn to_write_fork(
     found: Result<FoundFile, i16>,
     fork: Fork,

@@ -29,7 +29,7 @@ pub(crate) fn block_count(extents: &[Extent]) -> u16
     extents.iter().map(|extent| extent.count).sum()
 }
 
-/// The block directly after the last one of a fork with these extents; None where they have none.
+/// The block directly after the last one of a fork with these extents; None if they have none.
 fn block_after(extents: &[Extent]) -> Option<u16>
     requires { AreExtentsWithin 65535 extents.now }
     ensures { result ≡ spec.block_after extents.now }

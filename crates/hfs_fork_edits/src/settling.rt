@@ -24,8 +24,8 @@ use hfs_fields::{CatKey, Extent, FileRecord, Mdb};
 use hfs_fork_calls::BlockSize;
 use std::alloc::{AllocError, Global};
 
-/// The patch in which a file's record stands in the place of the one under this key, and then these counts in the master
-/// directory block of `blocks`, of which no other byte changes. Fails only when out of memory.
+/// The patch in which a file's record stands in place of the one under this key, and then these counts in the master directory
+/// block of `blocks`, of which no other byte changes. Fails only when out of memory.
 fn settle<B: Blocks, Z: Blocks>(
     alloc: Global,
     blocks: &B,

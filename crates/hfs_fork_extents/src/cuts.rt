@@ -54,7 +54,7 @@ pub fn cut_all(extents: &mut Vec<Extent>, count: u32)
 
 /// The blocks of a fork's extents after the first `count`, as extents: those that a fork loses which is cut.
 ///
-/// Errors: `AllocError` where memory was refused.
+/// Errors: `AllocError` if memory was refused.
 pub fn surplus(alloc: Global, extents: &[Extent], count: u32) -> Result<Vec<Extent>, AllocError>
     requires { AreExtentsWithin 65535 extents.now }
     ensures extents { IfOk result (λ rest. rest.items ≡ spec.surplus count extents.now) }

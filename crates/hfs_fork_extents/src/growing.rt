@@ -53,8 +53,7 @@ fn nodes_wanted<N: Nodes>(nodes: &N, coming: u32) -> Option<NodesWanted>
 /// fork's blocks before it.
 ///
 /// Errors: `NodesWanted` exactly when the extents tree has fewer free nodes than the records that come may want (`extents_need`);
-/// nothing is written then. `AllocError` where memory was refused; then nothing is known of the nodes, which are to be thrown
-/// away.
+/// nothing is written then. `AllocError` if memory was refused; then nothing is known of the nodes, which are to be thrown away.
 ///
 /// Source: Inside Macintosh: Files, chapter 2, 'Extents overflow file'.
 pub fn lengthen_fork<S: NodesMut>(

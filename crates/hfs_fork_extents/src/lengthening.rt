@@ -24,7 +24,7 @@ fn used_places(extents: &[Extent]) -> usize
     used
 }
 
-/// The last of the first `used` extents; one that is not in use where there is none.
+/// The last of the first `used` extents; one that is not in use if there is none.
 fn last_used(extents: &[Extent], used: usize) -> Extent
     requires { used ≤ length extents.now }
     ensures { result ≡ spec.last_used extents.now used }
@@ -43,7 +43,7 @@ fn joins(extent: Extent, piece: Extent) -> bool
     extent.count > 0 && end == u32::from(piece.first)
 }
 
-/// Puts a piece at a place; where there is none, into a new record of three.
+/// Puts a piece at a place; if there is none, into a new record of three.
 fn put_at(extents: &mut Vec<Extent>, place: usize, piece: Extent) -> Result<(), AllocError>
     ensures { OnOk result (extents.new.items ≡ spec.with_place extents.old.items place piece) }
 {
@@ -81,7 +81,7 @@ fn add_piece(extents: &mut Vec<Extent>, used: usize, piece: Extent) -> Result<us
 /// that begins directly after the last extent's blocks lengthens that extent. Any other comes to the next place, in a new record
 /// of three where all places are in use. All other extents keep their places.
 ///
-/// Errors: `AllocError` where memory was refused. Then nothing is known of the extents, which are to be thrown away.
+/// Errors: `AllocError` if memory was refused. Then nothing is known of the extents, which are to be thrown away.
 ///
 /// Source: Inside Macintosh: Files, chapter 2, 'Extents overflow file'.
 pub fn lengthen(extents: &mut Vec<Extent>, pieces: &[Extent]) -> Result<(), AllocError>

@@ -29,7 +29,7 @@ pub(crate) fn byte_of(fork: ForkKind) -> u8
 ///
 /// The work is that of a search and a removal for each record that goes, however many others there are.
 ///
-/// Errors: `AllocError` where memory was refused. Then nothing is known of the nodes, which are to be thrown away.
+/// Errors: `AllocError` if memory was refused. Then nothing is known of the nodes, which are to be thrown away.
 ///
 /// Source: Inside Macintosh: Files, chapter 2, 'Extents overflow file'.
 pub fn cut_records<S: NodesMut>(

@@ -29,7 +29,7 @@ pub struct ShortFork {
 ///
 /// The work is that of going through the fork's records, and of a search and a removal for each one that goes.
 ///
-/// Errors: `AllocError` where memory was refused. Then nothing is known of the nodes, which are to be thrown away.
+/// Errors: `AllocError` if memory was refused. Then nothing is known of the nodes, which are to be thrown away.
 ///
 /// Source: Inside Macintosh: Files, chapter 2, 'Extents overflow file'.
 pub fn shorten_fork<S: NodesMut>(

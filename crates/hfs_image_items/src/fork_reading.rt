@@ -49,7 +49,7 @@ pub(crate) fn begin_fork(alloc: Global, found: &ForkRuns) -> Result<ForkReading,
     })
 }
 
-/// Reads so many bytes of the blocks from number `first` on in the place of a piece.
+/// Reads so many bytes of the blocks from number `first` on in place of a piece.
 fn fill_piece<S: PlacedBlocks>(
     image: &mut SeenImage<S>,
     first: u32,
@@ -69,7 +69,7 @@ fn fill_piece<S: PlacedBlocks>(
     }
 }
 
-/// Reads the next bytes of a fork, at most 65,536, in the place of a piece, and none where none are left.
+/// Reads the next bytes of a fork, at most 65,536, in place of a piece, and none where none are left.
 #[tactic(auto, using(crate::proofs::ReadLemmas::reads_none))]
 pub(crate) fn read_fork<S: PlacedBlocks>(
     image: &mut SeenImage<S>,

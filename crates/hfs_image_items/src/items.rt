@@ -242,8 +242,8 @@ pub struct Unbegun<S: PlacedBlocks> {
 }
 
 impl<'a, S: PlacedBlocks + Drop, W: Watch> ImageItems<'a, S, W> {
-    /// The items of an image, of which there are so many. Errors, with the image back: memory was refused; `ReadFailed` where there is no root, as in
-    /// no image that holds.
+    /// The items of an image, of which there are so many. Errors, with the image back: memory was refused; `ReadFailed` if there
+    /// is no root, as in no image that holds.
     pub fn new(
         alloc: Global,
         image: SeenImage<S>,

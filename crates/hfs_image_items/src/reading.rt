@@ -18,7 +18,7 @@ pub(crate) enum Reading {
     Table(TableReading),
 }
 
-/// Reads the next bytes of a stream in the place of a piece, and none where none are left.
+/// Reads the next bytes of a stream in place of a piece, and none where none are left.
 pub(crate) fn read_next<S: PlacedBlocks>(
     alloc: Global,
     image: &mut SeenImage<S>,

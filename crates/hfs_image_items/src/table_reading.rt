@@ -30,7 +30,7 @@ fn push_next(alloc: Global, piece: &mut Vec<u8>, rows: &mut Inventory) -> Result
     Ok(true)
 }
 
-/// Puts the lines of the next rows in the place of a piece, until it is whole or there are none.
+/// Puts the lines of the next rows in place of a piece, until it is whole or there are none.
 #[tactic(auto, using(crate::proofs::TableLemmas::row_more, crate::proofs::TableLemmas::rows_fewer, crate::proofs::TableLemmas::rows_done, crate::proofs::TableLemmas::rows_read))]
 fn read_rows(alloc: Global, rows: &mut Inventory, piece: &mut Vec<u8>) -> Result<(), AllocError>
     requires { piece.old.items ≡ [] }
@@ -45,7 +45,7 @@ fn read_rows(alloc: Global, rows: &mut Inventory, piece: &mut Vec<u8>) -> Result
     Ok(())
 }
 
-/// Reads the next text of the table in the place of a piece, and none where none is left. Error: memory was refused.
+/// Reads the next text of the table in place of a piece, and none where none is left. Error: memory was refused.
 #[tactic(auto, using(crate::proofs::TableLemmas::head_read))]
 pub(crate) fn read_table(
     alloc: Global,

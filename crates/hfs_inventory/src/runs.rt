@@ -9,8 +9,8 @@ ghost use Rattle.hfs_inventory.specs.Levels.{first_under};
 
 use hfs_catalog::{CatalogRecord, is_thread};
 
-/// The place of the first record under an ID, or under a later one where it has none, among records in the order of their keys. A binary
-/// search.
+/// The place of the first record under an ID, or under a later one if it has none, among records in the order of their keys. A
+/// binary search.
 pub(crate) fn place_of(records: &[CatalogRecord], id: u32) -> usize
     requires { Rises cat_cmp records.now }
     ensures bound { result ≤ length records.now }

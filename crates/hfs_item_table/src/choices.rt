@@ -109,7 +109,7 @@ impl Table {
         self.to_set_f_info(dir, name)
     }
 
-    /// How many bytes a fork of a row has, 0 of a folder.
+    /// How many bytes a fork of a row has; 0 for a folder.
     fn fork_len(&self, id: u32, row: &Row, fork: Fork) -> u32
         requires table { IsTable self.now }
         requires row { IsKindIn self.now id row.now.kind }

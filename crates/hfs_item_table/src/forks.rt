@@ -22,7 +22,7 @@ use std::collections::BTreeMap;
 pub enum ForkEdit<'a> {
     /// So many of them, with zeros after them where there were fewer.
     SetLength { count: u32 },
-    /// These in the place of those from a place on.
+    /// These in place of those from a place on.
     Write { offset: u32, bytes: &'a SharedBytes },
 }
 

@@ -60,8 +60,8 @@ fn success(value: Value) -> Reply
     Reply { code: 0, value }
 }
 
-/// The reply of these bytes, which were read from an offset on of a fork that has `length` bytes: -39 where `count` of them end
-/// past the fork.
+/// The reply of these bytes, which were read from an offset on of a fork that has `length` bytes: -39 if `count` of them end past
+/// the fork.
 fn part_reply(bytes: Vec<u8>, size: u32, offset: u32, count: u32) -> Reply
     ensures { result ≡ part_reply bytes.items size offset count }
 {

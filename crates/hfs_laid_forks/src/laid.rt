@@ -8,7 +8,7 @@ use hfs_source::PlacedBytes;
 use hfs_sources::{ForkRun, HostFault, SourceItem};
 use std::alloc::Global;
 
-/// The bytes of a file with the forks of items of a host's tree in the place of its own in some runs, and with zeros there past a
+/// The bytes of a file with the forks of items of a host's tree in place of its own in some runs, and with zeros there past a
 /// fork's end.
 #[derive(Drop)]
 pub struct LaidForks<B, H> {
@@ -37,7 +37,7 @@ fn is_inside(end: u128, start: u64, len: u64) -> bool
 }
 
 impl<B: PlacedBytes + Drop, H: Drop> LaidForks<B, H> {
-    /// The file with these forks laid in it. None where the runs don't lie one after the other in the file.
+    /// The file with these forks laid in it. None if the runs don't lie one after the other in the file.
     pub fn new(
         alloc: Global,
         bytes: B,

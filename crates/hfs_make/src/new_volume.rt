@@ -15,7 +15,7 @@ pub struct NewVolume<'a> {
     pub items: &'a [NewItem],
     /// How many times the nodes that these items want the catalog gets: once, and twice as often where that has not sufficed.
     pub catalog_times: u32,
-    /// The moment of all dates of the new volume, in seconds since midnight of 1 January 1904.
+    /// The moment of all dates of the new volume, in seconds since midnight, 1 January 1904.
     pub moment: u32,
     ghost once: { 1 ≤ catalog_times },
 }

@@ -54,8 +54,8 @@ fn image_of(plan: &FormatPlan) -> Result<PlannedImage, MakeFault>
     }
 }
 
-/// The image of a new volume, in which nothing lies yet. Errors: `NoRoom` where no volume of up to 2 GB holds all that is to come, or
-/// where the trees alone have no room in the size that is asked for; `Memory`.
+/// The image of a new volume, in which nothing lies yet. Errors: `NoRoom` if no volume of up to 2 GB holds all that is to come,
+/// or where the trees alone have no room in the size that is asked for; `Memory`.
 pub fn plan_volume(alloc: Global, volume: &NewVolume<'_>) -> Result<PlannedImage, MakeFault>
     ensures { MatchResult result (IsMadeFor volume.now) (IsPlanFault volume.now) }
 {

@@ -15,8 +15,8 @@ fn roomy_blocks(least: u32) -> u32
     ((11 * least + 9) / 10).max(least + 200)
 }
 
-/// The blocks of 512 bytes of a volume with a catalog of so many nodes in which these items come to lie: the least number that holds
-/// all, and a tenth more and 102,400 bytes more than the least that does. None where none up to 2 GB is such.
+/// The blocks of 512 bytes of a volume with a catalog of so many nodes in which these items come to lie: the least number that
+/// holds all, and a tenth more and 102,400 bytes more than the least that does. None if none up to 2 GB is such.
 pub fn chosen_blocks(nodes: u32, items: &[NewItem]) -> Option<u32>
     ensures { MatchOption result (HasNoSize nodes items.now) (IsChosenSize nodes items.now) }
 {

@@ -21,7 +21,7 @@ pub struct Mended {
     pub patch: Patch,
     /// The numbers that were wrong, each once, in the order of `FixPlace`.
     pub fixes: Vec<Fix>,
-    /// The first fault of the repaired image, where it has one.
+    /// The first fault of the repaired image, if it has one.
     pub fault: Option<MountFault>,
 }
 

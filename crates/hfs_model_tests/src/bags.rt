@@ -10,7 +10,7 @@ use hfs_put_plan::{
 use std::alloc::Global;
 use std::test::Fail;
 
-/// Whether plain text gives this name, which is an item name or stands in the place of one.
+/// Whether plain text gives this name, which is an item name or stands in place of one.
 fn gives(text: &str, is_item: bool, wanted: &[u8]) -> bool {
     match plain_item_name(text) {
         GivenName::Item(name) => is_item && name.bytes() == wanted,

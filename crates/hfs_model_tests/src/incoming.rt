@@ -5,7 +5,7 @@ use hfs_incoming::{
 };
 use hfs_source::MemoryBytes;
 
-/// Whether a host name gives this name, which is an item name or stands in the place of one.
+/// Whether a host name gives this name, which is an item name or stands in place of one.
 fn gives(text: &str, is_item: bool, wanted: &[u8]) -> bool {
     match host_item_name(text) {
         GivenName::Item(name) => is_item && name.bytes() == wanted,

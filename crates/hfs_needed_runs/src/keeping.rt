@@ -67,7 +67,7 @@ pub(crate) fn is_zeros(block: &[u8; 512]) -> bool
     block.as_slice() == [0; 512].as_slice()
 }
 
-/// Puts in block `n`, where it is one of zeros.
+/// Puts in block `n`, if it is one of zeros.
 fn keep_zeros<B: Blocks>(kept: &mut ChangedBlocks, now: &B, n: u32) -> Result<(), AllocError>
     requires { n < B.total now.now }
     ensures { OnOk result (GainsZeros (B.blocks now.now) (n ∷ []) kept.old kept.new) }

@@ -140,10 +140,9 @@ fn inventory(alloc: Global, records: Vec<CatalogRecord>) -> Result<Inventory, Pa
     }
 }
 
-/// Writes the page of a sound volume: what stands before the items, each item's row, and what
-/// stands after them. Beside the records of the catalog and what stands after the items, with the
-/// picture and the extents, 65,536 bytes and a row are in memory. Faults: memory was refused, or the
-/// writer failed; then a part of the page may have gone out, from its beginning on.
+/// Writes the page of a sound volume: what stands before the items, each item's row, and what stands after them. Beside the
+/// records of the catalog and what stands after the items, with the picture and the extents, 65,536 bytes and a row are in
+/// memory. Faults: memory was refused, or the writer failed; then only the beginning of the page may have been written.
 pub fn write_page<B: Blocks, W: Write>(
     alloc: Global,
     blocks: &B,

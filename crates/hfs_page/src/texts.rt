@@ -43,7 +43,7 @@ fn push_day_and_time(page: &mut Vec<u8>, moment: &[u8]) -> Result<(), AllocError
     push_escaped(page, time_of(moment))
 }
 
-/// Appends a date as YYYY-MM-DD hh:mm:ss; nothing where there is none.
+/// Appends a date as YYYY-MM-DD hh:mm:ss; nothing if there is none.
 #[tactic(auto, unfolding(crate::specs::Texts::date_text))]
 pub fn push_date(alloc: Global, page: &mut Vec<u8>, date: u32) -> Result<(), AllocError>
     ensures { OnOk result (Gains page.old page.new (date_text date)) }

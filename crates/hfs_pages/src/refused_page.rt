@@ -46,9 +46,8 @@ fn refusal_page(
     Ok(page)
 }
 
-/// Writes the page of an image that is refused: the fault and what it means, and nothing of the
-/// volume. Faults: memory was refused, and nothing was written, or the writer failed; then a part of
-/// the page may have gone out, from its beginning on.
+/// Writes the page of an image that is refused: the fault and what it means, and nothing of the volume. Faults: memory was
+/// refused, and nothing was written, or the writer failed; then only the beginning of the page may have been written.
 pub fn write_refused_page<W: Write>(
     alloc: Global,
     why: MountFault,

@@ -21,8 +21,8 @@ use std::io::Write;
 pub struct ImagePlace {
     /// Its bytes.
     pub range: ByteRange,
-    /// Where the sum of these bytes stands: the first of the four bytes before the image that it has. `None` where the file has
-    /// no such sum.
+    /// Where the sum of these bytes stands: the first of the four bytes before the image that it has. `None` if the file has no
+    /// such sum.
     pub sum_at: Option<u64>,
 }
 
@@ -112,8 +112,7 @@ fn write_head<S: PlacedBytes, W: Write>(
 /// Writes a file with the changed blocks in place of those of an image that lies in it, and with the image's new sum, for which
 /// the image is read once more; every other byte is the file's own. At most 1,048,576 bytes are held at a time. What was written
 /// holds for every file consistent with the bytes read. Errors: memory was refused, and nothing was written; a read failed, the
-/// image or its sum doesn't lie in the file, or the writer failed, where a part may have gone out, from the first byte on, and
-/// nothing else.
+/// image or its sum doesn't lie in the file, or the writer failed, where only the beginning may have been written.
 pub fn write_file_with<S: PlacedBytes, W: Write>(
     alloc: Global,
     source: &mut S,

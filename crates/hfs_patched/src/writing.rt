@@ -97,7 +97,7 @@ pub(crate) fn buffer_of(alloc: Global, count: usize) -> Result<Vec<u8>, AllocErr
 /// Writes the `len` bytes of an image with the changed blocks in place of its own, at most 1,048,576 at a time, as they are read.
 /// What was written holds for every image consistent with the bytes read. Errors:
 /// memory was refused, and nothing was written; a read failed, the image ends before that many bytes, or the writer failed, where
-/// a part may have gone out, from the first byte on, and nothing else.
+/// only the beginning may have been written.
 pub fn write_patched<S: BlockSource, W: Write>(
     alloc: Global,
     source: &mut S,

@@ -38,7 +38,7 @@ impl Model for Places {
         s.root };
 }
 
-/// The place of the root among things, None where it is lost.
+/// The place of the root among things, None if it is lost.
 fn root_of(things: &[Thing]) -> Option<usize>
     ensures { result ≡ spec.root_of things.now }
 {

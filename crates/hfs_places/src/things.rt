@@ -149,7 +149,7 @@ impl Things {
         self.things.len()
     }
 
-    /// The place of the folder of a number, None where there is none or it is the payload itself.
+    /// The place of the folder of a number, None if there is none or it is the payload itself.
     pub(crate) fn folder(&self, number: u32) -> Option<usize>
         ensures { result ≡ spec.folder_of self.now number }
     {

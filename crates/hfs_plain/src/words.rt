@@ -7,11 +7,11 @@ pub struct Words<'a> {
     pub image: &'a str,
     /// The path of the script.
     pub script: &'a str,
-    /// The moment of every change, in seconds since midnight of 1 January 1904.
+    /// The moment of every change, in seconds since midnight, 1 January 1904.
     pub now: u32,
 }
 
-/// What the words ask for, the first of which is the program's name. None where they aren't right.
+/// What the words ask for, the first of which is the program's name. None if they aren't right.
 pub fn words_of(words: &[String]) -> Option<Words<'_>> {
     match words {
         [_program, image, script] => Some(Words {

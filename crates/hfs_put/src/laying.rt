@@ -170,7 +170,7 @@ fn lay_one(
 
 /// Puts a list of items into a folder of a volume by all calls but those that write forks, at a moment: the IDs of the items, in
 /// the order of the list. Faults: the first call that is refused, with the place of its item, where those before it have been
-/// made; `Absent` where an item is to be kept that isn't there; out of memory.
+/// made; `Absent` if an item is to be kept that isn't there; out of memory.
 #[tactic(auto, using(crate::proofs::LaidLists::laid_all, crate::proofs::LaidLists::fault_all))]
 pub fn lay_items(
     alloc: Global,

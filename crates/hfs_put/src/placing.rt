@@ -46,7 +46,7 @@ fn directory_lock_code(mdb: &Mdb) -> Option<i16>
     None
 }
 
-/// The code by which a locked volume refuses each call that changes it: -44 where it is locked by hardware, else -46. None of a
+/// The code by which a locked volume refuses each call that changes it: -44 if it is locked by hardware, else -46. None of a
 /// volume that isn't locked.
 pub fn lock_code(volume: &Volume) -> Option<i16>
     ensures { result ≡ lock_code (volume_of volume.now.current) }
@@ -105,7 +105,7 @@ fn note(
 
 /// Finds the place of each item of a list that is to come into the folder `target`, in the order of the walk: the item itself,
 /// where it can be put, with its kind, name, facts, lengths, and how it gets its place; else why it can't. Where a file stands in
-/// the place of a file it is replaced if `replace` says so. Each item is looked up once. Fails only when out of memory.
+/// place of a file it is replaced if `replace` says so. Each item is looked up once. Fails only when out of memory.
 #[tactic(auto, using(crate::proofs::PlacedLists::so_far_next, crate::proofs::PlacedLists::so_far_put, crate::proofs::PlacedLists::so_far_told, crate::proofs::PlacedLists::placed_all))]
 pub fn place_sources(
     alloc: Global,

@@ -30,7 +30,7 @@ fn is_in_runs(runs: &[ForkRun], n: u32) -> bool
     byte - run.place < run.len
 }
 
-/// Puts in block `n` of a patch, where it has one, unless the block begins in one of the runs.
+/// Puts in block `n` of a patch, if it has one, unless the block begins in one of the runs.
 fn keep_block(
     kept: &mut ChangedBlocks,
     patch: &ChangedBlocks,

@@ -38,8 +38,9 @@ pub fn folder<N: Nodes>(nodes: &N, dir: u32) -> Option<CatalogItem>
 /// The ID under which the root stands, which is no folder's.
 const ABOVE_ROOT: u32 = 1;
 
-/// The folder's item of that name, or the code that says why there is none: -120 where there is no such folder, -43 where it has no
-/// such item. Where there is an item it is found by one look-up, for what holds an item is a folder, but for 1, which holds the root.
+/// The folder's item of that name, or the code that says why there is none: -120 if there is no such folder, -43 if it has no
+/// such item. Where there is an item it is found by one look-up, for what holds an item is a folder, but for 1, which holds the
+/// root.
 pub fn folder_child<N: Nodes>(nodes: &N, dir: u32, name: &Name) -> Result<CatalogItem, i16>
     requires { IsCatalog (N.nodes nodes.now) }
     ensures { result ≡ folder_child (catalog_of (N.nodes nodes.now)) dir name.now }
@@ -166,7 +167,7 @@ pub fn resolve_file_id<N: Nodes>(nodes: &N, id: u32) -> Reply
     }
 }
 
-/// The record of the folder's file of that name, or the reply that refuses it: -43 where the item is a folder.
+/// The record of the folder's file of that name, or the reply that refuses it: -43 if the item is a folder.
 pub fn file_named<N: Nodes>(nodes: &N, dir: u32, name: &[u8]) -> Result<FileRecord, Reply>
     requires { IsCatalog (N.nodes nodes.now) }
     ensures { result ≡ file_named (catalog_of (N.nodes nodes.now)) dir name.now }

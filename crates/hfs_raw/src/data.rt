@@ -22,7 +22,7 @@ pub struct UserData<S> {
 }
 
 impl<S: PlacedBytes> UserData<S> {
-    /// The user data of all sectors of these bytes. A sector that isn't whole is none.
+    /// The user data of all sectors of these bytes. A sector that isn't whole doesn't count.
     pub fn new(bytes: S) -> UserData<S>
         ensures bytes { result.bytes ≡ bytes }
         ensures sectors { OfEach (S.Holds bytes) (λ file. result.sectors ≡ sector_count file) }

@@ -8,8 +8,8 @@ use hfs_check::MountFault;
 use hfs_texts::Show;
 use std::alloc::AllocError;
 
-/// Appends what a refusal means: the hint for it, or where there is none the lengths that a volume may have. At an error a part of it
-/// may have come.
+/// Appends what a refusal means: the hint for it, or if there is none the lengths that a volume may have. At an error a part of
+/// it may have come.
 pub fn push_meaning(text: &mut String, why: MountFault) -> Result<(), AllocError>
     ensures { OnOk result (Gains text.old text.new (meaning_text why)) }
 {

@@ -7,7 +7,7 @@ use hfs_volume::{OpenFork, Opened, Volume};
 use hfs_volume_fixtures::refused::mounted;
 use std::alloc::{AllocError, Global};
 
-/// The data fork of `f`. None where the call is refused, or where memory is.
+/// The data fork of `f`. None if the call is refused, or where memory is.
 fn opened_once(alloc: Global, volume: &Volume) -> Option<OpenFork<'_>> {
     match volume.open_fork(alloc, 2, b"f", Fork::DataFork) {
         Ok(Opened::Fork(fork)) => Some(fork),
@@ -16,7 +16,7 @@ fn opened_once(alloc: Global, volume: &Volume) -> Option<OpenFork<'_>> {
     }
 }
 
-/// The data fork of `f`, opened. None where the call is refused, or where memory is refused twice.
+/// The data fork of `f`, opened. None if the call is refused, or where memory is refused twice.
 fn opened(alloc: Global, volume: &Volume) -> Option<OpenFork<'_>> {
     if let Some(fork) = opened_once(alloc, volume) {
         return Some(fork);
@@ -29,8 +29,8 @@ fn read(alloc: Global, fork: &mut OpenFork<'_>, count: u32) -> Result<Vec<u8>, A
     fork.read(alloc, count)
 }
 
-/// The next bytes of a fork. Where memory is refused as many must be left as before, and they are read once more; None where they aren't,
-/// or where memory is refused again.
+/// The next bytes of a fork. Where memory is refused as many must be left as before, and they are read once more; None if they
+/// aren't, or where memory is refused again.
 fn next(alloc: Global, fork: &mut OpenFork<'_>, count: u32) -> Option<Vec<u8>> {
     let left = fork.len();
     if let Ok(bytes) = read(alloc, fork, count) {

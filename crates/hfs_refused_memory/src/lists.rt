@@ -22,7 +22,7 @@ fn two_calls(alloc: Global) -> Result<Vec<Call>> {
     Ok(calls)
 }
 
-/// Whether each call of a list has the code 0. None where memory is refused.
+/// Whether each call of a list has the code 0. None if memory is refused.
 fn are_made(alloc: Global, volume: &mut Volume) -> Result<Option<bool>> {
     let calls = two_calls(alloc)?;
     match volume.run(alloc, &calls) {

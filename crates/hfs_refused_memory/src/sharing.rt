@@ -77,7 +77,7 @@ pub fn begun_on_new(
     begun(rt, alloc, new_volume(alloc)?, workers)
 }
 
-/// What closing gives. None where the passes are refused.
+/// What closing gives. None if the passes are refused.
 pub fn closed<K: Session>(
     rt: &impl Wait,
     shared: Shared<K>,

@@ -74,7 +74,7 @@ fn count_in(reply: &Reply) -> Option<u64> {
     }
 }
 
-/// How many files the viewer lists, which are `a`, `b` and so on. None where memory is refused, or it lists something else.
+/// How many files the viewer lists, which are `a`, `b` and so on. None if memory is refused, or it lists something else.
 fn listed_once(alloc: Global, viewer: &mut Viewer) -> Option<u64>
     ensures { viewer.new.book ≡ viewer.old.book }
 {

@@ -19,13 +19,13 @@ use std::alloc::{AllocError, Global};
 pub struct FoundFork {
     /// How many bytes are taken of it: none where it is left.
     pub length: u32,
-    /// The allocation blocks that hold these, in order, None in the place of each that is missing: it gives zeros.
+    /// The allocation blocks that hold these, in order, None in place of each that is missing: it gives zeros.
     pub places: Vec<Option<u16>>,
     /// What is said of it.
     pub verdict: Verdict,
 }
 
-/// How long a fork is that wants more bytes; None where it has as many as it wants.
+/// How long a fork is that wants more bytes; None if it has as many as it wants.
 fn cut_of(wanted: u32, length: u32) -> Option<u32>
     ensures { result ≡ if nat_lt length wanted then Some length else None }
 {

@@ -83,7 +83,7 @@ impl Fork {
         lesser(held, self.len)
     }
 
-    /// The blocks of the fork in order, None in the place of each that is missing. Fails only when out of memory.
+    /// The blocks of the fork in order, None in place of each that is missing. Fails only when out of memory.
     #[tactic(auto, unfolding(crate::specs::Forks::fork_places, crate::specs::Forks::fork_blocks))]
     pub fn places(
         &self,
@@ -115,7 +115,7 @@ fn fork_of(file: u32, kind: u8, record: &ForkRecord) -> Fork
     }
 }
 
-/// Block `b`, where it is there.
+/// Block `b`, if it is there.
 #[tactic(auto, unfolding(hfs_rescue::specs::Allocation::is_there))]
 fn there(total: u32, mdb: &Mdb, b: u32) -> Option<u16>
     ensures { result ≡ spec.there total mdb.now b }
@@ -151,7 +151,7 @@ fn push_extent(
     Ok(())
 }
 
-/// The blocks of extents, as many as are wanted, None in the place of each that is missing.
+/// The blocks of extents, as many as are wanted, None in place of each that is missing.
 fn places_in(
     alloc: Global,
     total: u32,

@@ -20,7 +20,7 @@ fn one_more(count: u8) -> u8
     if count < 2 { count + 1 } else { 2 }
 }
 
-/// One owner more of a block, where it is there.
+/// One owner more of a block, if it is there.
 fn add_owner(counts: &mut [u8], place: Option<u16>)
     requires { IfSome place (λ b. b < length counts.old) }
     ensures { spec.AddsOwners (place ∷ []) counts.old counts.new }

@@ -252,7 +252,7 @@ impl<'a> Salvage<'a> {
     }
 
     /// A fork of item `i`, counted from 0: how many of its bytes are taken, the blocks that hold them, and what is said of it.
-    /// None where the item is a folder. Fails only when out of memory.
+    /// None if the item is a folder. Fails only when out of memory.
     pub fn fork(
         &self,
         alloc: Global,
@@ -269,8 +269,7 @@ impl<'a> Salvage<'a> {
         Ok(Some(found))
     }
 
-    /// What is said of the two forks of item `i`, data before resources; None where it is a folder. Fails only when out of
-    /// memory.
+    /// What is said of the two forks of item `i`, data before resources; None if it is a folder. Fails only when out of memory.
     pub fn verdicts(
         &self,
         alloc: Global,

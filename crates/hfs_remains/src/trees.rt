@@ -14,7 +14,7 @@ pub struct Trees<'a> {
     pub mdb: &'a Mdb,
     /// The records of the extents tree.
     pub overflow: &'a [OverflowRecord],
-    /// The allocation blocks of the extents file in order, None in the place of each that is missing.
+    /// The allocation blocks of the extents file in order, None in place of each that is missing.
     pub extents_file: &'a [Option<u16>],
     /// Those of the catalog file.
     pub catalog_file: &'a [Option<u16>],

@@ -91,7 +91,7 @@ pub(crate) fn folders_of(alloc: Global, things: &[Thing]) -> Result<FolderNumber
     Ok(folders)
 }
 
-/// The place of the folder of a number among things, None where there is none or it is the payload itself.
+/// The place of the folder of a number among things, None if there is none or it is the payload itself.
 pub(crate) fn folder_of(things: &[Thing], folders: &FolderNumbers, number: u32) -> Option<usize>
     requires { KnowsFolders folders.now things.now }
     ensures { result ≡ all_things.folder_of things.now number }

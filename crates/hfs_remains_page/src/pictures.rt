@@ -22,7 +22,7 @@ use std::alloc::{AllocError, Global};
 /// How many cells stand in a row.
 const COLUMNS: usize = 64;
 
-/// The allocation blocks of both trees' files, None in the place of each that is missing.
+/// The allocation blocks of both trees' files, None in place of each that is missing.
 #[derive(Clone, Copy)]
 pub(crate) struct TreeFiles<'a> {
     pub(crate) extents: &'a [Option<u16>],

@@ -5,7 +5,7 @@ ghost use Rattle.hfs_remains_page.specs.Pictures as spec;
 use hfs_fields::Extent;
 use std::alloc::{AllocError, Global};
 
-/// The piece that begins with a block and goes on with another piece; None where it does not go on there.
+/// The piece that begins with a block and goes on with another piece; None if it does not go on there.
 fn joined(b: u16, next: Extent) -> Option<Extent>
     ensures { result ≡ spec.joined b next }
 {

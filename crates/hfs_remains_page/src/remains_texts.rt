@@ -2,7 +2,7 @@
 
 use hfs_page::PageTexts;
 
-/// What a page of remains says beside what was found: what all pages of disks say, and in the place of some of that its own.
+/// What a page of remains says beside what was found: what all pages of disks say, and in place of some of that its own.
 #[derive(Clone, Copy, Drop)]
 pub struct RemainsTexts<'a> {
     /// The style, the script, the version and the image, as all pages of disks have them.

@@ -295,7 +295,7 @@ fn push_info_row(
     }
 }
 
-/// What an item says about itself; None where there is no such item.
+/// What an item says about itself; None if there is no such item.
 fn told_at(found: &Found<'_>, i: usize) -> Option<Info>
     ensures { result ≡ told_at found.now.items.now i }
 {

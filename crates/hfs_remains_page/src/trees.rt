@@ -44,7 +44,7 @@ pub(crate) fn root_of(things: &[Thing]) -> Option<usize>
         .position(|thing| thing.folder == Some(2) && thing.parent == 1)
 }
 
-/// The node of the volume, which stands in the place of a root that is lost.
+/// The node of the volume, which stands in place of a root that is lost.
 fn volume_node(things: &[Thing]) -> usize
     ensures { result ≡ spec.volume_node things.now }
 {

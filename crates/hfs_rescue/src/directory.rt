@@ -64,7 +64,7 @@ fn first_extent(extents: &[Extent]) -> Option<Extent>
     extents.iter().copied().find(|e| e.count > 0)
 }
 
-/// The block that says whether a tree begins whose file has these extents, in an image of `total` logical blocks; None where it
+/// The block that says whether a tree begins whose file has these extents, in an image of `total` logical blocks; None if it
 /// isn't there, or the fields don't say what an allocation block is.
 pub fn beginning_of(total: u32, mdb: &Mdb, extents: &[Extent]) -> Option<u32>
     ensures block { result ≡ spec.beginning_of total mdb.now extents.now }
@@ -183,7 +183,7 @@ fn in_all_places<B: Blocks>(blocks: &B, beginning: Beginning) -> Option<u32>
     }
 }
 
-/// The number of the block that is taken for the directory of a volume of these blocks; None where none will do.
+/// The number of the block that is taken for the directory of a volume of these blocks; None if none will do.
 ///
 /// Of block 2 and the last block but one it is the first that will do and both of whose trees begin; where neither is such, of
 /// these and then of all others, from the last to the first, the first whose catalog begins; or else the first that will do. A

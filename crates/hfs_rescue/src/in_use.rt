@@ -46,7 +46,7 @@ fn has_bit(map: &[u8], n: u64) -> bool
 }
 
 /// Reads node `n`. Where it is a map node, its part of the map is added, and the number of the node after it is the answer. None
-/// where it is no map node.
+/// if it is no map node.
 fn read_map_node<B: Blocks>(
     nodes: &FileNodes<'_, B>,
     n: u32,
@@ -97,7 +97,7 @@ fn read_chain<B: Blocks>(
     Ok(())
 }
 
-/// The map of a tree's nodes; None where it can't be believed, since it doesn't mark node 0 and the last leaf.
+/// The map of a tree's nodes; None if it can't be believed, since it doesn't mark node 0 and the last leaf.
 #[tactic(auto, unfolding(crate::specs::InUse::map_of, crate::specs::InUse::is_map_believed, crate::specs::InUse::is_in_use))]
 fn read_map<B: Blocks>(
     alloc: Global,

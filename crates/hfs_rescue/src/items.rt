@@ -28,7 +28,7 @@ fn is_known(rows: &Rows, ids: &Numbers, row: &Vec<u8>, old: bool, id: u32) -> bo
     rows.has(row) || (old && ids.has(id))
 }
 
-/// Puts a record after the items, where it is one more.
+/// Puts a record after the items, if it is one more.
 fn push_item(
     alloc: Global,
     found: FoundRecord,

@@ -19,14 +19,14 @@ pub struct FileNodes<'a, B: Blocks> {
     pub blocks: &'a B,
     /// The directory, which says where the allocation blocks lie.
     pub mdb: &'a Mdb,
-    /// The allocation blocks of the file, None in the place of each that is missing.
+    /// The allocation blocks of the file, None in place of each that is missing.
     pub file: &'a [Option<u16>],
     ghost size: { 512 ≤ mdb.now.allocation_block_size },
     ghost there: { AreThere (B.total blocks.now) mdb.now file.now },
     ghost few: { length file.now < 2 ^ 40 },
 }
 
-/// The block at a place of a file, None where it is missing or past the file's end.
+/// The block at a place of a file, None if it is missing or past the file's end.
 pub(crate) fn block_at(file: &[Option<u16>], place: usize) -> Option<u16>
     ensures { result ≡ slice_index_or file.now place None }
 {

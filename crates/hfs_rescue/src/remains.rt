@@ -17,11 +17,11 @@ use std::alloc::{AllocError, Global};
 /// What is found of a volume.
 #[derive(Drop)]
 pub struct Remains {
-    /// The allocation blocks of the extents file in order, None in the place of each that is missing.
+    /// The allocation blocks of the extents file in order, None in place of each that is missing.
     pub extents_file: Vec<Option<u16>>,
     /// The records of the extents tree.
     pub overflow: Vec<OverflowRecord>,
-    /// The allocation blocks of the catalog file in order, None in the place of each that is missing.
+    /// The allocation blocks of the catalog file in order, None in place of each that is missing.
     pub catalog_file: Vec<Option<u16>>,
     /// The records of the catalog.
     pub found: Vec<FoundRecord>,

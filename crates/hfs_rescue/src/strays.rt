@@ -25,7 +25,7 @@ fn mark_place(marks: &mut [bool], place: Option<u16>)
     }
 }
 
-/// A mark for each allocation block of the directory, set where it is one of the file's.
+/// A mark for each allocation block of the directory, set if it is one of the file's.
 fn file_marks<B: Blocks>(alloc: Global, nodes: &FileNodes<'_, B>) -> Result<Vec<bool>, AllocError>
     ensures { IfOk result (λ marks. (b : ℕ) → mark_of marks.items b ≡ spec.has_block
         nodes.now.file.now b) }

@@ -7,7 +7,7 @@ use crate::allocation::is_there;
 use hfs_fields::{Extent, Mdb};
 use std::alloc::{AllocError, Global};
 
-/// A mark for each allocation block of the directory, set where it is there among `total` logical blocks.
+/// A mark for each allocation block of the directory, set if it is there among `total` logical blocks.
 fn marks_of(alloc: Global, total: u32, mdb: &Mdb) -> Result<Vec<bool>, AllocError>
     ensures marks { IfOk result (λ marks. spec.MarkThere total mdb.now marks.items) }
     ensures few { IfOk result (λ marks. length marks.items ≤ 65535) }
@@ -52,7 +52,7 @@ fn take_extent(
     Ok(())
 }
 
-/// The blocks of a tree's file that has these extents, in order, in an image of `total` logical blocks: None in the place of each
+/// The blocks of a tree's file that has these extents, in order, in an image of `total` logical blocks: None in place of each
 /// that is missing. A block is missing where it is none of the directory's, where it doesn't lie whole in the image, and where it
 /// came before in this file. Fails only when out of memory.
 #[tactic(auto, unfolding(crate::specs::TreeFiles::file_blocks))]

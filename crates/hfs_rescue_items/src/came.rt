@@ -66,7 +66,7 @@ fn is_alone(kind: BagKind) -> bool
     }
 }
 
-/// A fork of the item that a part of a plan is of; None where that has no bytes.
+/// A fork of the item that a part of a plan is of; None if that has no bytes.
 pub(crate) fn part_fork(
     alloc: Global,
     found: &Found<'_>,
@@ -120,7 +120,7 @@ fn finder_of(told: &Option<Info>) -> [u8; 32]
     }
 }
 
-/// When it was modified, in seconds from the beginning of 1970; None where that was before, or nothing is told.
+/// When it was modified, in seconds from the beginning of 1970; None if that was before, or nothing is told.
 fn modified_of(told: &Option<Info>) -> Option<u32>
     ensures { result ≡ modified_told told.now }
 {

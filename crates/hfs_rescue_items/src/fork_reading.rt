@@ -45,7 +45,7 @@ pub(crate) fn begin_fork(
     Ok(ForkReading { pieces, next: 0 })
 }
 
-/// Puts so many zeros in the place of a piece.
+/// Puts so many zeros in place of a piece.
 #[tactic(auto, using(crate::proofs::ReadLemmas::zeros_put))]
 fn fill_zeros(piece: &mut Vec<u8>, len: usize) -> Result<(), SourceFault>
     ensures { OnOk result (piece.new.items ≡ replicate len 0) }
@@ -57,7 +57,7 @@ fn fill_zeros(piece: &mut Vec<u8>, len: usize) -> Result<(), SourceFault>
     }
 }
 
-/// Reads so many bytes of the blocks from number `first` on in the place of a piece.
+/// Reads so many bytes of the blocks from number `first` on in place of a piece.
 fn fill_whole<S: BlockSource>(
     source: &mut S,
     first: u32,
@@ -78,7 +78,7 @@ fn fill_whole<S: BlockSource>(
     }
 }
 
-/// Reads so many bytes from the beginning of a logical block on in the place of a piece. Their blocks are read whole.
+/// Reads so many bytes from the beginning of a logical block on in place of a piece. Their blocks are read whole.
 fn fill_blocks<S: BlockSource>(
     source: &mut S,
     first: u32,
@@ -114,7 +114,7 @@ fn fill_piece<S: BlockSource>(
     }
 }
 
-/// Reads the next bytes of a fork, at most 65,536, in the place of a piece, and none where none are left.
+/// Reads the next bytes of a fork, at most 65,536, in place of a piece, and none where none are left.
 #[tactic(auto, using(crate::proofs::ReadLemmas::reads_none, crate::proofs::ReadLemmas::fewer_none))]
 pub(crate) fn read_fork<S: BlockSource>(
     source: &mut S,

@@ -31,7 +31,7 @@ fn remains_line(
 }
 
 /// Appends the line of an item with this number, counted from 0, in the table of what remains: path below the payload, number,
-/// ID, what is said of both forks, with tabs between. Fails only when out of memory.
+/// ID, what is said of both forks, separated by tabs. Fails only when out of memory.
 pub fn push_remains_line(
     alloc: Global,
     text: &mut Vec<u8>,

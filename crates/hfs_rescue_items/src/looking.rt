@@ -58,8 +58,8 @@ pub fn names_at(
 }
 
 impl Found<'_> {
-    /// The path below the payload of an item, or after the items of a named folder; no text where there is none. Fails only when
-    /// out of memory.
+    /// The path below the payload of an item, or after the items of a named folder; no text if there is none. Fails only when out
+    /// of memory.
     pub fn path(&self, alloc: Global, i: usize) -> Result<String, AllocError>
         ensures { IfOk result (λ path. string_bytes path ≡ path_at self.now.places.now i) }
     {
@@ -69,7 +69,7 @@ impl Found<'_> {
         self.places.payload_path(alloc, i)
     }
 
-    /// What an item says about itself; None where there is no such item.
+    /// What an item says about itself; None if there is no such item.
     #[tactic(auto, using(crate::proofs::ToldLemmas::told_past, crate::proofs::ToldLemmas::told_there))]
     pub(crate) fn told(&self, i: usize) -> Option<Info>
         ensures { result ≡ told_at self.now.items.now i }

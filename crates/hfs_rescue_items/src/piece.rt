@@ -4,7 +4,7 @@ ghost use Rattle.std.specs.Prelude.{◌≤◌};
 /// Bytes of a fork that stand side by side in the image, or whose blocks are missing.
 #[derive(Clone, Copy)]
 pub(crate) struct Piece {
-    /// The number of the logical block in which they begin; None where their blocks are missing.
+    /// The number of the logical block in which they begin; None if their blocks are missing.
     pub(crate) first: Option<u32>,
     /// How many there are.
     pub(crate) len: u32,

@@ -13,7 +13,7 @@ use std::alloc::{AllocError, Global};
 /// The most bytes that are read at once.
 const MOST_AT_ONCE: u32 = 65_536;
 
-/// The number of the logical block after so many bytes from a block on; None where they end within one.
+/// The number of the logical block after so many bytes from a block on; None if they end within one.
 fn block_behind(first: u32, len: u32) -> Option<u32>
     ensures { IfSome result (λ next. 512 * next ≡ 512 * first + len) }
 {
@@ -35,7 +35,8 @@ fn goes_on(piece: &Piece, first: Option<u32>) -> bool
     }
 }
 
-/// A piece and so many bytes that begin in this logical block, or are missing, as one piece; None where they aren't side by side, or are too many.
+/// A piece and so many bytes that begin in this logical block, or are missing, as one piece; None if they aren't side by side, or
+/// are too many.
 fn joined(piece: Piece, first: Option<u32>, len: u32) -> Option<Piece>
     ensures { IfSome result (λ both. (image : List ℕ) → piece_bytes image both
         ≡ piece_bytes image piece ++ first_bytes image first len) }
@@ -71,7 +72,7 @@ fn push_part(pieces: &mut Vec<Piece>, first: Option<u32>, len: u32) -> Result<()
     Ok(())
 }
 
-/// The logical block after 65,536 bytes that begin in this one; None where they are missing. Error: there is no such block.
+/// The logical block after 65,536 bytes that begin in this one; None if they are missing. Error: there is no such block.
 #[tactic(auto, using(crate::proofs::PieceLemmas::missing_goes_on, crate::proofs::PieceLemmas::block_goes_on))]
 fn first_behind(first: Option<u32>, len: u32) -> Result<Option<u32>, SourceFault>
     requires { len ≤ 65536 }
@@ -105,7 +106,7 @@ fn push_run(pieces: &mut Vec<Piece>, first: Option<u32>, count: u32) -> Result<(
     Ok(())
 }
 
-/// The logical block in which an allocation block begins; None where it is missing. Error: there is no such block.
+/// The logical block in which an allocation block begins; None if it is missing. Error: there is no such block.
 fn first_of(mdb: &Mdb, place: Option<u16>) -> Result<Option<u32>, SourceFault>
     ensures { IfOk result (λ first. first ≡ option_map (start_of mdb.now) place) }
 {

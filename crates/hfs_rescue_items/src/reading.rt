@@ -84,7 +84,7 @@ fn push_remains(
     Ok(())
 }
 
-/// Puts the head of the table of all items in the place of a piece, which is empty.
+/// Puts the head of the table of all items in place of a piece, which is empty.
 fn push_table_head(piece: &mut Vec<u8>) -> Result<(), SourceFault>
     ensures head { OnOk result (piece.new.items ≡ piece.old.items ++ bag_head) }
     ensures fault { IfErr result WantsMemory }
@@ -95,7 +95,7 @@ fn push_table_head(piece: &mut Vec<u8>) -> Result<(), SourceFault>
     }
 }
 
-/// Reads the next bytes of a stream in the place of a piece, and none where none are left.
+/// Reads the next bytes of a stream in place of a piece, and none where none are left.
 #[tactic(auto, using(crate::proofs::LineLemmas::lines_fewer))]
 pub(crate) fn read_next<'a, S: BlockSource>(
     alloc: Global,

@@ -37,7 +37,7 @@ fn is_root(item: &FoundRecord) -> bool
     is_folder(body) && item_id(body) == Some(2) && item.entry.key().parent == 1
 }
 
-/// The place of the root among items, the first such; None where it is lost.
+/// The place of the root among items, the first such; None if it is lost.
 fn root_of(items: &[FoundRecord]) -> Option<usize>
     ensures { result ≡ spec.root_of items.now }
 {

@@ -74,8 +74,8 @@ fn head(alloc: Global, selection: Selection) -> Result<Vec<u8>, TableFault>
     }
 }
 
-/// Writes the rows of what was found that are selected, in the order of the items, in pieces of 65,536 bytes and a row. Errors: memory was
-/// refused, the writer failed; then a part may have gone out, from the beginning on, and nothing else.
+/// Writes the rows of what was found that are selected, in the order of the items, in pieces of 65,536 bytes and a row. Errors:
+/// memory was refused, the writer failed; then only the beginning may have been written.
 pub fn write_rows<W: Write>(
     alloc: Global,
     writer: &mut W,

@@ -1,4 +1,4 @@
-//! What holds of scans, each as the contract of a function that does nothing.
+//! What holds for scans, each law as the contract of a function that does nothing.
 ghost use Rattle.hfs_scans.specs.Laws.{ScansAreWhole, ScansAreFirst};
 
 /// A scan finds nothing exactly when each element passes the test.

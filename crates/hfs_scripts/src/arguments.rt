@@ -11,7 +11,7 @@ ghost use Rattle.hfs_scripts.specs.Texts.{arguments, fork_text, fork_fields, rea
 use hfs_model::{Call, Fork, OwnedBytes, SharedBytes};
 use std::alloc::{AllocError, Global};
 
-/// The most fields that stand after a word.
+/// The most fields that follow a word.
 const MOST_FIELDS: usize = 6;
 
 /// A number without leading zeros.

@@ -9,7 +9,7 @@ use crate::words::Word;
 use hfs_model::{Call, Fork, SharedBytes};
 use std::alloc::{AllocError, Global};
 
-/// The item that DIR and NAME tell.
+/// The item that DIR and NAME name.
 #[derive(Drop)]
 pub(crate) struct Target {
     dir: u32,
@@ -249,7 +249,7 @@ fn read_written(
     }))
 }
 
-/// The call of a word with DIR and NAME alone after it; no call of another word.
+/// The call of a word that only takes DIR and NAME; None for another word.
 #[tactic(auto, unfolding(crate::specs::Calls::target_call))]
 fn on_target(word: Word, target: Target, now: u32) -> Option<Call>
     ensures { result ≡ target_call now word target }
@@ -278,7 +278,7 @@ fn on_target(word: Word, target: Target, now: u32) -> Option<Call>
     }
 }
 
-/// The call of a word with DIR and NAME alone after it; no call of another word.
+/// The call of a word that only takes DIR and NAME; None for another word.
 #[tactic(auto, unfolding(crate::specs::Calls::call_on_target))]
 fn read_on_target(
     alloc: Global,

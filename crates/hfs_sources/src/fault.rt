@@ -32,7 +32,7 @@ impl<T: Drop> From<AllocFailed<T>> for HostFault {
     }
 }
 
-/// The fault of what has a path and can't be read; `NoMemory` where the path can't be kept.
+/// The fault of what has a path and can't be read; `NoMemory` if the path can't be kept.
 pub fn cannot_read(alloc: Global, path: &str) -> HostFault
     ensures { IsUnread path.now result }
 {

@@ -34,7 +34,7 @@ fn look_of(entries: &[HostEntry], place: Option<usize>) -> Option<Look>
     }
 }
 
-/// The name of the entry at a place; none where there is none.
+/// The name of the entry at a place; none if there is none.
 fn name_of(entries: &[HostEntry], place: Option<usize>) -> &str
     ensures { result.now ≡ name_of (entry_at entries.now place) }
 {

@@ -88,8 +88,8 @@ impl SourceItem {
         self.parent
     }
 
-    /// The path on the host of the file in which one of its forks lies: of a MacBinary file both in its own, else the resource fork in
-    /// what belongs to it by its name. None where there is no such file.
+    /// The path on the host of the file in which one of its forks lies: of a MacBinary file both in its own, else the resource
+    /// fork in what belongs to it by its name. None if there is no such file.
     pub fn fork_path(&self, fork: Fork) -> Option<&str>
         ensures { MatchOption result (fork_path self.now fork ≡ None)
             (λ path. fork_path self.now fork ≡ Some path.now) }

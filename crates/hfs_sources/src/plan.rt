@@ -37,7 +37,7 @@ pub struct ItemPlan {
     pub double: Option<Look>,
     /// It is a MacBinary file, in which both forks lie. Else the resource fork lies in the file that belongs to it.
     pub is_macbinary: bool,
-    /// The name that it gets, where it has one.
+    /// The name that it gets, if it has one.
     pub name: Option<Name>,
     /// What is kept of it beside its forks.
     pub facts: ItemFacts,

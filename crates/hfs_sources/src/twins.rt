@@ -18,7 +18,7 @@ fn no_name() -> Name
     }
 }
 
-/// The name that an item gets; the empty one where it has none.
+/// The name that an item gets; the empty one if it has none.
 fn put_name_of(item: &SourceItem) -> Name
     ensures { result ≡ put_name_of item.now }
 {

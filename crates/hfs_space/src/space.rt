@@ -27,7 +27,7 @@ fn is_stray(marked: bool, owners: usize) -> bool
 
 /// The first fault of a volume's space, where `owned` is all extents that somebody owns: those of the files' forks, of the
 /// catalog file, of the extents file and of the bad blocks. It is the least allocation block that two own, or that one owns and
-/// the bitmap doesn't mark; and where there is none but drFreeBks isn't the number of clear bits, it is the number of allocation
+/// the bitmap doesn't mark; and if there is none but drFreeBks isn't the number of clear bits, it is the number of allocation
 /// blocks. A block may be marked though nobody owns it. Fails only when out of memory.
 ///
 /// Source: Inside Macintosh: Files, chapter 2, 'Volume bitmap'.

@@ -13,10 +13,10 @@ use std::alloc::AllocError;
 /// Clears the bits of the extents' allocation blocks in the bitmap's blocks with the patch over them: those of a file's two
 /// forks, as `file_extents` gives them. An extent without blocks clears nothing, wherever it lies.
 ///
-/// Where each block is in one extent alone and is marked, as the blocks of a sound volume's file are, so many more bits are
-/// clear afterwards as the extents have blocks.
+/// Where each block is in one extent alone and is marked, as the blocks of a sound volume's file are, so many more bits are clear
+/// afterwards as the extents have blocks.
 ///
-/// Errors: `AllocError` where memory was refused. Then some of the bits may still be set.
+/// Errors: `AllocError` if memory was refused. Then some of the bits may still be set.
 ///
 /// Source: Inside Macintosh: Files, chapter 2, 'Volume bitmap'.
 pub fn release_extents<B: Blocks>(

@@ -162,7 +162,7 @@ impl Held {
         Ok(())
     }
 
-    /// Copies block `n`, zeros where there is none.
+    /// Copies block `n`, zeros if there is none.
     pub(crate) fn copy_block(&self, n: u32, into: &mut [u8; 512])
         requires { AreHeld self.now }
         ensures { into.new ≡ sparse (held_blocks self.now) n }

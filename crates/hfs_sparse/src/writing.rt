@@ -121,8 +121,8 @@ fn buffer_of(alloc: Global, count: u32) -> Result<Vec<u8>, AllocError>
     vec![in alloc; 0; count as usize * 512]
 }
 
-/// Writes the first `size` bytes of the blocks of these runs, or all that there are, at most 65,536 at a time: memory doesn't grow with them. At
-/// an error a part may have gone out, from the first on, and nothing else.
+/// Writes the first `size` bytes of the blocks of these runs, or all that there are, at most 65,536 at a time: memory doesn't
+/// grow with them. At an error only the beginning may have been written.
 pub fn copy_runs<S: BlockSource, W: Write>(
     alloc: Global,
     source: &mut S,

@@ -70,7 +70,7 @@ fn push_number(text: &mut Vec<u8>, n: u64) -> Result<(), AllocError>
     text.extend_from_slice(buffer.format(n).as_bytes())
 }
 
-/// Appends a value's field, which is empty where there is none.
+/// Appends a value's field, which is empty if there is none.
 fn push_value(text: &mut Vec<u8>, value: Option<&RowValue>) -> Result<(), AllocError>
     ensures { OnOk result (text.new.items ≡ text.old.items
         ++ field (option_map_or (λ value. value.now) value.entry Empty)) }
@@ -112,7 +112,7 @@ fn push_fields(
     Ok(())
 }
 
-/// Appends a row's line. At an error a part of it may have come.
+/// Appends a row's line. At an error, a part of it may have been appended.
 pub(crate) fn push_csv_line(
     text: &mut Vec<u8>,
     columns: &[Column],

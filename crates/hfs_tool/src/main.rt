@@ -80,7 +80,8 @@ fn tell_looked_at(rt: &HostRuntime, words: &Words<'_>) {
     }
 }
 
-/// Prints why the words are refused, or the help that was asked for; and how an item is named by its path, where a path stands in the place of an ID.
+/// Prints why the words are refused, or the help that was asked for; and how an item is named by its path, where a path stands in
+/// place of an ID.
 fn refuse_words(rt: &HostRuntime, words: &[String], fault: &WordsFault) -> u8 {
     let status = refused_words(rt, fault);
     if status == Status::WordsRefused.number() && has_bare_path(words) {

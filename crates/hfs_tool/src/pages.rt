@@ -68,7 +68,7 @@ fn texts_of<'a>(words: &PageWords<'a>, name: &'a str, digest: Option<&'a str>) -
     standard_texts(VERSION.as_bytes(), image)
 }
 
-/// The bytes of a text, where there is one.
+/// The bytes of a text, if there is one.
 fn bytes_of<'a>(text: Option<&'a str>) -> Option<&'a [u8]> {
     match text {
         Some(text) => Some(text.as_bytes()),

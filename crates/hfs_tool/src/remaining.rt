@@ -156,7 +156,7 @@ pub fn show_items<'a>(
     tell_refused(rt, why, status)
 }
 
-/// Prints the page of what is found of a refused image, and after it on standard error why it is refused; None where nothing is
+/// Prints the page of what is found of a refused image, and after it on standard error why it is refused; None if nothing is
 /// found, and nothing is printed.
 pub fn show_page<S: PlacedBlocks + Drop>(
     rt: &HostRuntime,

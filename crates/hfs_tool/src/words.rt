@@ -192,7 +192,7 @@ pub struct NewVolume<'a> {
     pub catalog_nodes: u32,
     /// Nodes of the extents file.
     pub extents_nodes: u32,
-    /// The moment of its making, in seconds since midnight of 1 January 1904.
+    /// The moment of its making, in seconds since midnight, 1 January 1904.
     pub now: u32,
 }
 
@@ -216,7 +216,7 @@ pub struct RunWords<'a> {
     pub volume: Option<u64>,
     /// The path of the script.
     pub script: &'a str,
-    /// The moment of every change, in seconds since midnight of 1 January 1904.
+    /// The moment of every change, in seconds since midnight, 1 January 1904.
     pub now: u32,
     /// The path of the file that the changed image is written to.
     pub out: Option<&'a str>,
@@ -239,6 +239,6 @@ pub struct PutWords<'a> {
     pub how: PutOptions,
     /// Whether files that stand there are replaced.
     pub replace: bool,
-    /// The moment of every change, in seconds since midnight of 1 January 1904; the clock's where it isn't given.
+    /// The moment of every change, in seconds since midnight, 1 January 1904; the clock's where it isn't given.
     pub now: Option<u32>,
 }

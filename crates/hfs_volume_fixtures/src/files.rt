@@ -71,7 +71,7 @@ pub fn lies_after(
     Ok(is_made && has_extents(alloc, &volume, id, fork, wanted)?)
 }
 
-/// How many blocks are changed after the calls of a text on the volume of an image. None where a call has another code than 0.
+/// How many blocks are changed after the calls of a text on the volume of an image. None if a call has another code than 0.
 pub fn changed_after(
     alloc: Global,
     image: Vec<u8>,

@@ -58,10 +58,10 @@ impl<S: PlacedBytes + Drop, K: PickedImage, F: ImageFile<S, K>> RowSource
     }
 }
 
-/// Puts the rows of an image into the database, in the place of those that it had of the same path, and returns how much the
-/// image holds. None if it can't be opened or read as far as is wanted: then nothing has changed, and no transaction is under
-/// way. At a fault the open database shows what it showed; in the file are all rows, or nothing has changed. Faults:
-/// `CannotWrite`, `NoMemory`.
+/// Puts the rows of an image into the database, in place of those that it had of the same path, and returns how much the image
+/// holds. None if it can't be opened or read as far as is wanted: then nothing has changed, and no transaction is under way. At a
+/// fault the open database shows what it showed; in the file are all rows, or nothing has changed. Faults: `CannotWrite`,
+/// `NoMemory`.
 #[tactic(auto, using(crate::proofs::WrittenImages::unread_by))]
 pub fn collect_image<D: Alter + Drop, S: PlacedBytes + Drop, K: PickedImage, F: ImageFile<S, K>>(
     collection: &mut Collection<D>,

@@ -22,7 +22,7 @@ use std::alloc::Global;
 use std::io;
 use std::rt::Files;
 
-/// The hexadecimal digits of the digest of an image. None where a read fails.
+/// The hexadecimal digits of the digest of an image. None if a read fails.
 fn image_digits<S: PlacedBytes>(alloc: Global, source: &mut S) -> Result<Option<String>, RunFault>
     ensures digits { IfOk result (λ found. IfSome found (λ digits. OfEach (S.Holds source.new)
         (λ file. string_bytes digits ≡ encode_lower (sha256 file)))) }
@@ -73,8 +73,8 @@ pub fn compare_known<S: PlacedBytes>(
     }
 }
 
-/// How an image stands to what the database has of this path: `New` where it has no row of it, else by its length and its digest;
-/// `Missing` where a read fails. Faults: `CannotWrite` where the database can't be read, `NoMemory`.
+/// How an image stands to what the database has of this path: `New` if it has no row of it, else by its length and its digest;
+/// `Missing` if a read fails. Faults: `CannotWrite` if the database can't be read, `NoMemory`.
 #[tactic(auto, using(crate::proofs::Comparisons::asked_known, crate::proofs::Comparisons::asked_new, crate::proofs::Comparisons::compared_known, crate::proofs::Comparisons::compared_new, crate::proofs::Comparisons::known_read, crate::proofs::Comparisons::new_read, crate::proofs::Comparisons::fails_by_database, crate::proofs::Comparisons::fails_by_memory))]
 pub fn compare_file<D: Alter + Drop, S: PlacedBytes>(
     alloc: Global,
@@ -97,7 +97,7 @@ pub fn compare_file<D: Alter + Drop, S: PlacedBytes>(
     }
 }
 
-/// Reads the first byte of an image, where it has any.
+/// Reads the first byte of an image, if it has any.
 fn read_first<S: PlacedBytes>(source: &mut S) -> io::Result<()>
     ensures held { OfEach (S.Holds source.new) (S.Holds source.old) }
     ensures fails { OnErr result (SomeFail (S.Holds source.new) (S.Fails source.old)) }
@@ -135,8 +135,8 @@ pub fn compare_image<D: Alter + Drop, S: PlacedBytes>(
     compare_file(alloc, collection, path, source)
 }
 
-/// Opens the image of this path, whose length is told to the watch. None where it can't be opened; what can't be sought in, such as a pipe, is read
-/// whole and held.
+/// Opens the image of this path, whose length is told to the watch. None if it can't be opened; what can't be sought in, such as
+/// a pipe, is read whole and held.
 pub fn open_image<'a, R: Files + AllocGlobal, W: ReadWatch>(
     rt: &'a R,
     path: &'a str,

@@ -45,7 +45,7 @@ impl From<TakerFault> for RunFault {
 }
 
 impl RunFault {
-    /// What a fault of giving an image's rows means for the run. None where only the image can't be read, and the next one comes.
+    /// What a fault of giving an image's rows means for the run. None if only the image can't be read, and the next one comes.
     pub fn of_image(fault: CollectFault) -> Option<RunFault>
         ensures { result ≡ image_fault fault }
     {
