@@ -1,4 +1,4 @@
-//! Where the search for a key goes on in an index node whose keys rise, found by halves.
+//! Where the search for a key goes on in an index node with rising keys, found by binary search.
 
 ghost use Rattle.std.specs.Prelude.{◌≡◌, ℕ, ◌<◌, ◌≤◌, true, length};
 ghost use Rattle.std.specs.List.{prefix_len};
@@ -11,7 +11,7 @@ use crate::entry::{child_of, is_above};
 use crate::key::Key;
 use hfs_node::{NodeView, view};
 
-/// The middle of a row of places.
+/// The middle of a range of places.
 fn middle(from: usize, to: usize) -> usize
     requires some { from < to }
     requires few { to ≤ 248 }

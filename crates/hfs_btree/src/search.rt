@@ -111,7 +111,7 @@ fn body_in<'a, K: Key>(bytes: &'a [u8; 512], key: &K) -> Option<&'a [u8]>
 
 /// The body under the key, or None if the tree has no key that is equal to it in the order.
 ///
-/// It reads the header node and one node of each level, and takes memory for the answer alone.
+/// Reads the header node and one node of each level, and takes memory only for the body.
 pub fn find<K: Key, N: Nodes>(
     alloc: Global,
     nodes: &N,
@@ -179,8 +179,7 @@ fn pair_in<K: Key>(alloc: Global, entry: &[u8]) -> Result<(K, Vec<u8>), AllocErr
 
 /// The first pair whose key is above this one, or None if there is none. The key itself need not be in the tree.
 ///
-/// It reads the header node, one node of each level, and at the end of a leaf the one after it. It takes memory for the answer
-/// alone.
+/// Reads the header node, one node of each level, and at the end of a leaf the next one. Takes memory only for the pair.
 pub fn next_after<K: Key, N: Nodes>(
     alloc: Global,
     nodes: &N,

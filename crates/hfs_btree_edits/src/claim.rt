@@ -1,4 +1,4 @@
-//! A free node that is marked as in use.
+//! Marking a free node as in use.
 
 ghost use Rattle.std.specs.Prelude.{◌≡◌, ◌<◌, IfOk, OnOk};
 ghost use Rattle.hfs_btree.specs.Header.{free_nodes};

@@ -9,7 +9,7 @@ use crate::stored::{store_replaced, viewed};
 use hfs_btree::Header;
 use std::alloc::{AllocError, Global};
 
-/// A header record with these fields, and after them the bytes of the old one.
+/// A header record with these fields, followed by the bytes of the old one.
 fn rewritten(alloc: Global, header: &Header, old: &[u8]) -> Result<Vec<u8>, AllocError>
     requires { 30 ≤ length old.now }
     ensures fields { IfOk result (λ made. header_of made.items ≡ header.now) }

@@ -1,4 +1,4 @@
-//! A record that comes to the extents tree.
+//! Adding a record to the extents tree.
 
 ghost use Rattle.std.specs.Prelude.{◌≡◌, ◌+◌, ◌*◌, ◌^◌, ◌<◌, ◌≤◌, true, false, None, IfOk, OnOk, length};
 ghost use Rattle.hfs_fields.specs.Keys.{ext_cmp};
@@ -76,12 +76,12 @@ fn add_below<S: NodesMut>(
     insert(alloc, nodes, least, least_body)
 }
 
-/// Puts a record into the extents tree, none of whose keys is equal to its own, be the tree empty or the key below all others.
+/// Adds a record to the extents tree, none of whose keys is equal to its own; the tree may be empty, or the key below all others.
 ///
-/// The first record of all becomes a leaf, which is the root. One that fits into a leaf that is the root wants no node. Any other
-/// may want one on each level, and one for a new root: so many as `extents_need` says.
+/// The very first record becomes a leaf, which is the root. A record that fits into a leaf that is the root needs no node. Any
+/// other may need one on each level, and one for a new root: as many as `extents_need` says.
 ///
-/// Errors: `AllocError` if memory was refused. Then nothing is known of the nodes, which are to be thrown away.
+/// Errors: `AllocError` if memory was refused. Then nothing is known of the nodes, which must be thrown away.
 ///
 /// Source: Inside Macintosh: Files, chapter 2, 'B*-trees' and 'Extents overflow file'.
 pub fn add<S: NodesMut>(

@@ -12,7 +12,7 @@ use crate::parts::put_part;
 use hfs_blocks::{Blocks, Patch, Run, block_of};
 use std::alloc::AllocError;
 
-/// Writes bytes of a file whose blocks lie in these runs, from the file's byte `at` on. They stand in one block.
+/// Writes bytes of a file whose blocks lie in these runs, from the file's byte `at` on. They are in one block.
 fn put_in_file<B: Blocks>(
     below: &B,
     patch: &mut Patch,
@@ -37,7 +37,7 @@ fn put_in_file<B: Blocks>(
     Ok(())
 }
 
-/// How many of so many bytes from byte `at` on stand in one block with it.
+/// How many of `count` bytes from byte `at` on are in the same block.
 fn in_one_block(at: u64, count: u64) -> u64
     ensures { result ≡ min count (512 - at % 512) }
 {

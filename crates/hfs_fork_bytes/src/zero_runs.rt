@@ -60,7 +60,7 @@ impl Model for ZeroRuns {
 }
 
 impl ZeroRuns {
-    /// The blocks of these runs as zeros. Takes no memory.
+    /// These runs as blocks of zeros. Takes no memory.
     pub fn of(runs: Vec<Run>) -> ZeroRuns
         requires { AreOnce runs.items }
         ensures same { HaveSameBlocks runs.items result }

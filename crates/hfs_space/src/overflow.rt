@@ -94,7 +94,7 @@ fn next_record<N: Nodes>(
     }
 }
 
-/// All records of the extents tree, in order. Each leaf is read once. Fails only when out of memory.
+/// All records of the extents tree, in order. Reads each leaf once. Fails only when out of memory.
 pub(crate) fn overflow_records<N: Nodes>(
     alloc: Global,
     tree: &N,
