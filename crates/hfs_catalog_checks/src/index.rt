@@ -10,7 +10,7 @@ use hfs_catalog::{CatalogRecord, item_id};
 use std::alloc::{AllocError, Global};
 use std::marker::Model;
 
-/// Notes the place of a record under its ID, if it is a file's or a folder's, and the first with the ID.
+/// Notes the place of a record under its ID, if it is a file's or a folder's and the first with that ID.
 fn note_item(places: &mut Numbers, i: usize, r: &CatalogRecord) -> Result<(), AllocError>
     ensures { OnOk result (NotesItem places.old places.new i r.now) }
 {
@@ -20,7 +20,7 @@ fn note_item(places: &mut Numbers, i: usize, r: &CatalogRecord) -> Result<(), Al
     Ok(())
 }
 
-/// The place of each file's and folder's record by its ID; of two with one ID, that of the first.
+/// The place of each file's and folder's record by its ID; of two with the same ID, that of the first.
 fn item_places(alloc: Global, records: &[CatalogRecord]) -> Result<Numbers, AllocError>
     ensures { IfOk result (λ places. (id : ℕ) → number_of places id ≡ item_place records.now id) }
 {
@@ -51,7 +51,7 @@ impl<'a> Model for IndexedCatalog<'a> {
 }
 
 impl<'a> IndexedCatalog<'a> {
-    /// The catalog with these records. It reads each once, and takes memory for an index of the items. `Err` only when out of
+    /// The catalog with these records. Reads each once, and takes memory for an index of the items. `Err` only when out of
     /// memory.
     pub fn of(alloc: Global, records: &'a [CatalogRecord]) -> Result<IndexedCatalog<'a>, AllocError>
         ensures { IfOk result (λ catalog. catalog ≡ records.now) }
@@ -60,7 +60,7 @@ impl<'a> IndexedCatalog<'a> {
         Ok(IndexedCatalog { records, places })
     }
 
-    /// The records, in their order.
+    /// The records, in order.
     pub fn records(&self) -> &'a [CatalogRecord]
         ensures { result.now ≡ self.now }
     {

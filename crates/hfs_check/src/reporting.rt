@@ -12,7 +12,7 @@ use hfs_blocks::{Blocks, ImageBytes};
 use hfs_space::stray_count;
 use std::alloc::{AllocError, Global};
 
-/// The report of a sound volume.
+/// The report on a sound volume.
 fn sound_report<B: Blocks>(
     alloc: Global,
     blocks: &B,
@@ -36,7 +36,7 @@ fn sound_report<B: Blocks>(
     })
 }
 
-/// The report of an image that is refused.
+/// The report on an image that is refused.
 pub fn refused_report(fault: MountFault) -> Report
     ensures { result ≡ spec.refused_report fault }
 {
