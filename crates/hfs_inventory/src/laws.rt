@@ -1,4 +1,4 @@
-//! What holds of the definitions, each as the contract of a function that does nothing.
+//! What holds for the definitions, each law as the contract of a function that does nothing.
 ghost use Rattle.hfs_inventory.specs.Laws.{TablesAreInventories};
 
 /// The table of a lawful volume has each of its items exactly once, and after its folder.
