@@ -44,8 +44,8 @@ impl<B: Blocks> Editing<'_, B> {
         }
     }
 
-    /// The deletion of a folder, of this key and this record, from its own, which has so many children. Fails only when out of
-    /// memory.
+    /// The deletion of a folder, with this key and this record, from its own, which has this many children. Fails only when out
+    /// of memory.
     fn delete_folder(
         &self,
         alloc: Global,
@@ -81,8 +81,8 @@ impl<B: Blocks> Editing<'_, B> {
         })
     }
 
-    /// The deletion of a file, of this key and this record, from its folder, which has so many children. Fails only when out of
-    /// memory.
+    /// The deletion of a file, with this key and this record, from its folder, which has this many children. Fails only when out
+    /// of memory.
     fn delete_file(
         &self,
         alloc: Global,

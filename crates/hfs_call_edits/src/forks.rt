@@ -45,7 +45,7 @@ impl<B: Blocks> Editing<'_, B> {
         }
     }
 
-    /// The volume as those who write forks take it.
+    /// The volume in the form in which forks are written.
     fn fork_volume(&self) -> ForkVolume<'_, B>
         ensures volume { IsForkVolumeIn B.total B.blocks result.blocks.now
             result.mdb.now result.extents.now result.catalog.now }

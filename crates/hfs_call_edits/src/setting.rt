@@ -1,4 +1,4 @@
-//! What the calls that set make of a volume's blocks.
+//! What the calls that set something make of a volume's blocks.
 
 ghost use Rattle.hfs_model.specs.declared.call.Call.TheVariants as call;
 ghost use Rattle.hfs_changes.specs.SettingLaws.{lock_call};
@@ -97,7 +97,7 @@ impl<B: Blocks> Editing<'_, B> {
         }
     }
 
-    /// What SetFLock makes of the image, or RstFLock. Fails only when out of memory.
+    /// What SetFLock or RstFLock makes of the volume. Fails only when out of memory.
     pub(crate) fn set_lock(
         &self,
         alloc: Global,

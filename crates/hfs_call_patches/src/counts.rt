@@ -8,7 +8,7 @@ use hfs_blocks::{Blocks, Patch};
 use hfs_fields::Mdb;
 use std::alloc::AllocError;
 
-/// Puts the volume's master directory block with these counts into a patch: block 2, of which no other byte changes. Fails only
+/// Puts the volume's master directory block with these counts into a patch: block 2, in which no other byte changes. Fails only
 /// when out of memory.
 pub fn put_counts<B: Blocks>(below: &B, patch: &mut Patch, counts: &Mdb) -> Result<(), AllocError>
     requires { 2 < B.total below.now }

@@ -1,4 +1,4 @@
-//! The edits by which a fork loses its last blocks, over whose other blocks zeros and bytes were laid already.
+//! The edits that take its last blocks from a fork, over whose other blocks zeros and bytes have already been laid.
 
 ghost use Rattle.std.specs.Prelude.{◌≡◌, ◌+◌, ◌<◌, ◌≤◌, ◌^◌, length, IfOk};
 ghost use Rattle.hfs_blocks.specs.Layers.{changes, AreWithin};
@@ -22,7 +22,7 @@ use hfs_fields::{Extent, Mdb};
 use hfs_fork_calls::BlockSize;
 use std::alloc::{AllocError, Global};
 
-/// How many blocks are free where the blocks of these extents are free, too.
+/// How many blocks are free once the blocks of these extents are free as well.
 fn free_with(mdb: &Mdb, lost: &[Extent]) -> u16
     requires { mdb.now.free_blocks + block_total lost.now ≤ mdb.now.allocation_blocks }
     ensures { result ≡ mdb.now.free_blocks + block_total lost.now }

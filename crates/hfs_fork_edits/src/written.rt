@@ -34,7 +34,7 @@ fn last_written(from: u32, end: u32, offset: u32, count: u32) -> u32
     zeros.max(bytes)
 }
 
-/// The runs of a fork's blocks, which has these extents, from the first to the last that has one of the zeros, from the byte
+/// The runs of the blocks of a fork with these extents, from the first to the last that has one of the zeros, from the byte
 /// `from` up to `end`, or one of the `count` bytes from `offset` on. Fails only when out of memory.
 pub(crate) fn written_runs<B: Blocks>(
     alloc: Global,

@@ -20,7 +20,7 @@ pub enum NameSource<'a> {
     Nameless,
 }
 
-/// The name that was given, where it is an item name.
+/// The name that was given, if it is an item name.
 fn item_name(given: GivenName) -> Option<Name>
     ensures { result ≡ item_letters given }
 {
@@ -30,7 +30,7 @@ fn item_name(given: GivenName) -> Option<Name>
     }
 }
 
-/// The item name that is read from this.
+/// The item name that is read from this source.
 fn name_in(source: NameSource<'_>) -> Option<Name>
     ensures { result ≡ name_in source.entry }
 {

@@ -5,7 +5,7 @@ use hfs_sparse::BlockSource;
 use std::alloc::{AllocError, Global};
 use std::test::Fail;
 
-/// How many blocks a typed size has; 0 where it is refused.
+/// How many blocks a typed size has; 0 if it is refused.
 fn typed(text: &str) -> u32 {
     match read_size(text) {
         Ok(size) => size.blocks,
@@ -163,7 +163,7 @@ fn planned(
     plan_volume(alloc, &volume)
 }
 
-/// How many blocks a volume has; 0 where it is refused for want of room.
+/// How many blocks a volume has; 0 if it is refused for lack of room.
 fn planned_blocks(alloc: Global, size: &str, items: &[NewItem]) -> Result<u32, MakeFault> {
     match planned(alloc, "D", size, items) {
         Ok(image) => Ok(image.count()),

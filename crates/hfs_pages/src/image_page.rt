@@ -9,8 +9,8 @@ use hfs_source::PlacedBlocks;
 use std::alloc::Global;
 use std::io::Write;
 
-/// Writes the page of every image consistent with the bytes read from the opened one: what the volume is, its items, and a
-/// picture of its blocks. No block is read for it. Faults: memory was refused, or the writer failed; then only the beginning of
+/// Writes the page of every image consistent with the bytes read from the opened one: a description of the volume, its items, and
+/// a picture of its blocks. No block is read for it. Faults: memory was refused, or the writer failed; then only the beginning of
 /// the page may have been written.
 pub fn write_image_page<S: PlacedBlocks + Drop, W: Write>(
     alloc: Global,
