@@ -1,4 +1,4 @@
-//! Bytes that are put into blocks, each block as it was read or as it was changed before.
+//! Putting bytes into blocks, each block as it was read or as it was changed before.
 ghost use Rattle.std.specs.Prelude.{◌≡◌, ◌*◌, ◌<◌, ◌∷◌, [], OnOk, IfOk};
 ghost use Rattle.hfs_blocks.specs.Layers.{changes, AreWithin, KeepsWithin};
 ghost use Rattle.hfs_needed.specs.Gathered.{HasRead};

@@ -1,4 +1,4 @@
-//! Changed blocks that are laid over a piece of an image.
+//! Laying changed blocks over a piece of an image.
 ghost use Rattle.std.specs.Prelude.{◌≡◌, ◌+◌, ◌/◌, ◌≤◌, length, unwrap_or};
 ghost use Rattle.hfs_blocks.specs.Layers.{changes};
 ghost use Rattle.hfs_patched.specs.Patched.{patched_from};

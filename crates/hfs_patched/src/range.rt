@@ -105,7 +105,7 @@ pub(crate) fn write_range<S: PlacedBytes, W: Write>(
     Ok(())
 }
 
-/// The sum that goes on over the bytes of a range from its block `first` on, as many as `piece` has room for, with the changed
+/// The sum continued over the bytes of a range from its block `first` on, as many as `piece` has room for, with the changed
 /// blocks in place of their own.
 fn sum_piece<S: PlacedBytes>(
     source: &mut S,
@@ -128,8 +128,8 @@ fn sum_piece<S: PlacedBytes>(
     Ok(sum_from(sum, piece))
 }
 
-/// The sum of the bytes of a range with the changed blocks in place of its own. Error: a read failed, or the file ends before the
-/// range.
+/// The sum of the bytes of a range, with the changed blocks in place of its own. Error: a read failed, or the file ends before
+/// the range does.
 pub(crate) fn range_sum<S: PlacedBytes>(
     source: &mut S,
     range: ByteRange,

@@ -6,7 +6,7 @@ use hfs_places::Places;
 use hfs_remains::Salvage;
 use hfs_rescue::FoundRecord;
 
-/// What was found of an image: by its directory its items, in their order, with the place of each and what remains of their forks.
+/// What was found of an image by its directory: its items, in order, with the place of each and what remains of their forks.
 #[derive(Clone, Copy, Drop)]
 pub struct Found<'a> {
     /// The directory.

@@ -1,9 +1,9 @@
-//! Where reading a table stands.
+//! How far a table has been read.
 ghost use Rattle.std.specs.Prelude.{◌+◌, ◌^◌, ◌<◌, length};
 
 use hfs_rescue::FoundRecord;
 
-/// Where reading a table stands.
+/// How far a table has been read.
 #[derive(Clone, Copy, Drop)]
 pub(crate) struct Lines<'a> {
     /// The number of the item whose line is next.
