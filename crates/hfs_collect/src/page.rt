@@ -10,7 +10,8 @@ use hfs_console::VERSION;
 use hfs_word_collect::{DatabaseFiles, FileCollection, RunFault};
 use std::path::Path;
 
-/// Prints the page of a collection. Links that no URL of a server or of a page may begin are refused, as words are.
+/// Prints the page of a collection. A URL that no link to a server or from a page may begin with is refused, like a wrong command
+/// line.
 pub fn page<'a>(rt: &HostRuntime, words: &PageWords<'a>) -> Result<u8, Fault<'a>> {
     match words.base {
         Some(base) if !is_base(base.as_bytes()) => Ok(print_refused_base(rt)),
@@ -25,7 +26,7 @@ fn print_refused_base(rt: &HostRuntime) -> u8 {
     ))
 }
 
-/// Prints the page that the words ask for.
+/// Prints the page that the command line asks for.
 fn print_page_by<'a>(rt: &HostRuntime, words: &PageWords<'a>) -> Result<u8, Fault<'a>> {
     let Ok(files) = DatabaseFiles::of(rt, words.database) else {
         return Err(Fault::NoMemory);

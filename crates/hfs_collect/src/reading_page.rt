@@ -9,11 +9,11 @@ use std::alloc::{AllocError, Global};
 pub struct PageWords<'a> {
     /// The path of the database.
     pub database: &'a str,
-    /// The URL of the folder that has the pages of disks.
+    /// The URL of the folder with the pages of disks.
     pub base: Option<&'a str>,
 }
 
-/// The path of the database, which has to be one already.
+/// The path of the database, which must already be one.
 const DATABASE: Argument = Argument {
     name: "DATABASE",
     takes: Takes::Text,

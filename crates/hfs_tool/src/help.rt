@@ -1,6 +1,6 @@
-//! What the help says after the words and their options.
+//! The help about the words and their options.
 
-/// The program, as a bag says what it was made by.
+/// The name and version of the program, as a bag gives them.
 pub(crate) const PROGRAM: &str = "hfs_tool 1.0.0";
 
 /// What the numbers of checks mean.
@@ -184,7 +184,7 @@ directory (unsure if it is a guess), files, folders, the bytes of all,
 how many files are whole, and how many are damaged. The status is 3 if
 one of them is damaged, or the catalog is.";
 
-/// What stands after the help text.
+/// What follows the help text.
 pub(crate) const AFTER_HELP: &str = "Exit statuses:
   0  done
   1  the words are refused

@@ -1,4 +1,4 @@
-//! What is printed of images.
+//! What is printed about images.
 ghost use Rattle.std.specs.Prelude.{◌≡◌, IfOk, string_bytes};
 ghost use Rattle.hfs_word_collect.specs.Lines.{comparison_line, image_line};
 
