@@ -1,4 +1,4 @@
-//! Forks that are kept by pieces.
+//! Forks that are kept in pieces.
 ghost use Rattle.std.specs.Prelude.{◌<◌, OnOk};
 ghost use Rattle.hfs_fork_pieces.specs.Pieces.{ArePieces, fork_length};
 

@@ -1,6 +1,6 @@
 //! The program's words.
 
-/// What the words ask for.
+/// What the command line asks for.
 #[derive(Clone, Copy)]
 pub struct Words<'a> {
     /// The path of the image.
@@ -11,7 +11,7 @@ pub struct Words<'a> {
     pub now: u32,
 }
 
-/// What the words ask for, the first of which is the program's name. None if they aren't right.
+/// What the command line, whose first word is the program's name, asks for. None if it isn't right.
 pub fn words_of(words: &[String]) -> Option<Words<'_>> {
     match words {
         [_program, image, script] => Some(Words {
@@ -24,7 +24,7 @@ pub fn words_of(words: &[String]) -> Option<Words<'_>> {
     }
 }
 
-/// What the words ask for where they have a moment.
+/// What the command line asks for if it has a moment.
 fn timed<'a>(image: &'a str, script: &'a str, option: &str, now: &str) -> Option<Words<'a>> {
     if option != "--now" {
         return None;

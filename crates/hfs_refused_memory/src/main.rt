@@ -38,7 +38,7 @@ fn main(rt: HostRuntime) -> Result<()> {
     Ok(())
 }
 
-/// What is printed of an outcome.
+/// What is printed for an outcome.
 fn words_of(outcome: Outcome) -> &'static str {
     match outcome {
         Outcome::AsSaid | Outcome::Lagged(_) => "as said",
@@ -46,7 +46,7 @@ fn words_of(outcome: Outcome) -> &'static str {
     }
 }
 
-/// Tries what a line says, and prints its title and whether all was as it is said.
+/// Tries what a line says, and prints its title and whether everything was as promised.
 fn try_line<T: Threads + Wait + Sync>(
     rt: &(impl Print + Eprint),
     threads: &T,

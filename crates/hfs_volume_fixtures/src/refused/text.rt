@@ -4,7 +4,7 @@ use hfs_texts::{LoadFault, load};
 use std::alloc::Global;
 use std::io::Read;
 
-/// All that a reader gives.
+/// Everything that a reader gives.
 pub fn input<R: Read>(alloc: Global, reader: &mut R) -> Result<Vec<u8>> {
     match load(alloc, reader) {
         Ok(bytes) => Ok(bytes),
