@@ -126,7 +126,7 @@ impl DatabaseFiles {
         }
     }
 
-    /// What is there of them.
+    /// Which of them exist.
     pub(crate) fn before<R: Files>(&self, rt: &R) -> Before {
         Before {
             database: place_of(rt, self.database.as_str()),

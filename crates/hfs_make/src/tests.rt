@@ -92,7 +92,7 @@ fn names_are_read(rt: HostRuntime) {
     }
 }
 
-/// So many files with names of 8 characters and so many bytes in their data forks.
+/// `count` files with names of 8 characters and `data_len` bytes in their data forks.
 fn files(alloc: Global, count: u32, data_len: u64) -> Result<Vec<NewItem>, AllocError> {
     let mut items = Vec::new(alloc);
     for _ in 0..count {

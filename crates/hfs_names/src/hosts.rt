@@ -76,7 +76,7 @@ fn is_device_name(name: &[u8]) -> bool
     is_device(stem) || is_port(stem)
 }
 
-/// Appends a character, as `=` and two upper-case hexadecimal digits where it is escaped.
+/// Appends a character, as `=` and two upper-case hexadecimal digits if it is escaped.
 #[tactic(auto, unfolding(crate::specs::HostNames::host_character))]
 fn push_host_character(text: &mut String, is_escaped: bool, character: u8) -> Result<(), AllocError>
     ensures { OnOk result (Gains text.old text.new (host_character is_escaped character)) }

@@ -23,7 +23,7 @@ impl PickedFailures for Brand {
 }
 
 /// Blocks that are read from a source, with a note whether a read within its length failed. So code that reads them needn't say
-/// why it failed: the note tells a failed read from refused memory.
+/// why it failed: the note distinguishes a failed read from refused memory.
 #[derive(Drop)]
 pub struct NotedBlocks<S: PlacedBlocks, K: PickedFailures> {
     blocks: S,

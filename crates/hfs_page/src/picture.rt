@@ -125,7 +125,7 @@ fn push_class(alloc: Global, page: &mut Vec<u8>, label: &[u8], part: Part) -> Re
     push_told_count(alloc, page, label, usize::from(rank(part)))
 }
 
-/// Appends how many rows so many cells take.
+/// Appends how many rows this many cells take.
 fn push_rows(
     alloc: Global,
     page: &mut Vec<u8>,

@@ -260,7 +260,7 @@ fn push_cells(
     Ok(())
 }
 
-/// Appends how many rows so many cells take.
+/// Appends how many rows this many cells take.
 fn push_rows(
     alloc: Global,
     page: &mut Vec<u8>,

@@ -1,4 +1,4 @@
-//! What comes of a plan.
+//! What a plan gives.
 ghost use Rattle.std.specs.Prelude.{◌≡◌, ◌-◌, ℕ, List, [], drop, length, take, IfErr, IfOk, string_bytes};
 ghost use Rattle.hfs_bag.specs.Items.{IsHead};
 ghost use Rattle.hfs_rescue_items.specs.Bytes.{GivesBytes};
@@ -130,7 +130,7 @@ fn modified_of(told: &Option<Info>) -> Option<u32>
     }
 }
 
-/// The head of what comes of a part of a plan.
+/// The head of what a part of a plan gives.
 fn head_of(alloc: Global, found: &Found<'_>, planned: Planned) -> Result<BagHead, AllocError>
     ensures { IfOk result (λ head. IsHead head (planned_item [] found.now planned)) }
 {
@@ -166,7 +166,7 @@ fn placed(alloc: Global, found: &Found<'_>, planned: Planned) -> Result<Came, So
     })
 }
 
-/// What comes of a part of a plan, and its head.
+/// What a part of a plan gives, and its head.
 pub(crate) fn came_of(
     alloc: Global,
     found: &Found<'_>,

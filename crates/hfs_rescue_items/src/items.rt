@@ -68,7 +68,7 @@ fn all_lines<'a>(found: &Found<'a>) -> Lines<'a>
     }
 }
 
-/// A stream of what comes of a part of a plan, to be read from its first byte.
+/// A stream of what a part of a plan gives, to be read from its first byte.
 #[tactic(auto, using(crate::proofs::SourceLemmas::table_begun, crate::proofs::SourceLemmas::remains_begun))]
 fn open_stream<'a>(
     alloc: Global,

@@ -15,7 +15,7 @@ const NAMES: usize = 4_096;
 /// The result of removing what is in a folder.
 #[derive(Drop)]
 pub(crate) enum Tried {
-    /// The folder of this name is there.
+    /// There is a folder with this name.
     Folder(String),
     /// What was to be removed is gone.
     Gone,

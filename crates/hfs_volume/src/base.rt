@@ -23,7 +23,7 @@ use std::sync::Arc;
 pub(crate) enum BaseKind {
     /// All of them.
     Whole(Arc<Vec<u8>>),
-    /// The blocks that were read from an image of so many bytes; the others are zeros.
+    /// The blocks that were read from an image of this many bytes; the others are zeros.
     Read(Arc<SparseBlocks>, u64),
 }
 
