@@ -591,9 +591,8 @@ def of_hfsutils(table: Table) -> None:
     Path('peer.img').write_bytes(table.bench.out.read_bytes())
     mounted = hfs('hmount', 'peer.img')
     ensure("Volume name is \"Peers\"" in mounted, f'hmount: {mounted}')
-    listed = hfs('hls', '-la').splitlines()
-    ensure(listed == ['fi TEXT/ttxt         3         0 Jan  1  1970 empty', 'fi TEXT/ttxt     70000    100000 Jan  1  2000 large', 'd       30 items               Jan  1  2000 sub'],
-           f'hls -l: {listed}')
+    listed = [' '.join(it.split()) for it in hfs('hls', '-la').splitlines()]
+    ensure(listed == ['fi TEXT/ttxt 3 0 Jan 1 1970 empty', 'fi TEXT/ttxt 70000 100000 Jan 1 2000 large', 'd 30 items Jan 1 2000 sub'], f'hls -la: {listed}')
     Path('copied').mkdir()
     for item in asked.items:
         if not item.is_folder:
@@ -614,19 +613,22 @@ def of_hfsutils(table: Table) -> None:
 
 
 def of_unar(table: Table) -> None:
-    """A folder that unar unpacked: AppleDouble files of a MacBinary file, and of a BinHex file of macutils, where that is installed."""
+    """A folder that unar unpacked: AppleDouble files of a MacBinary file, and of one of the first kind as macutils makes them, which is no MacBinary here."""
     if not shutil.which('unar'):
         table.bench.skipped.append('unar')
         return
     lay('packed.bin', mac_binary(b'packed', FINDER_BYTES[:16], b'D' * 700, b'R' * 300))
-    packed = ['packed.bin']
-    if shutil.which('binhex'):
+    archives = ['packed.bin']
+    if shutil.which('binhex') and shutil.which('hexbin'):
         with open('packed.hqx', 'wb') as file:
-            subprocess.run(['binhex', 'packed.bin'], stdin=subprocess.DEVNULL, stdout=file, check=True)
-        packed.append('packed.hqx')
+            subprocess.run(['binhex', 'packed.bin'], stdin=subprocess.DEVNULL, stdout=file, stderr=subprocess.DEVNULL, check=True)
+        os.mkdir('hexbin')
+        subprocess.run(['hexbin', '../packed.hqx'], cwd='hexbin', stdin=subprocess.DEVNULL, stdout=subprocess.DEVNULL, stderr=subprocess.DEVNULL, check=True)
+        archives.append('hexbin/packed.bin')
+        ensure(table.makes('MacBinary of macutils', Making(['hexbin'], how=Options(macbinary=True))).text.startswith('made\nfiles 1\nfolders 0\nbytes 1280\n'), 'MacBinary of macutils')
     else:
         table.bench.skipped.append('macutils')
-    for archive in packed:
+    for archive in archives:
         shutil.rmtree('Unpacked', ignore_errors=True)
         subprocess.run(['unar', '-q', '-k', 'hidden', '-D', '-o', 'Unpacked', archive], check=True, stdout=subprocess.DEVNULL)
         table.makes(f'{archive} by unar', Making(['Unpacked']))
