@@ -6,7 +6,7 @@ drawn ones (driver/filling.py), `take`, `make` and `take` give the same payload,
 `rescue` takes off a disk whose names no sound one has comes back by `--rename`. hfsutils copies all off what was made; files of unar and hfsutils
 come in. FILE where it stands there, full disks, few open files, and runs that are killed: FILE is the old one or whole.
 
-tests/make.py [--folders N] [--disks N] [--seed WORD] [--large] [FOLDER..]      runs $HFS_TOOL, or the program as it is built in crates/hfs_tool/out
+tests/make.py [--folders N] [--disks N] [--bags N] [--seed WORD] [--large] [FOLDER..]      runs $HFS_TOOL, or the program as it is built in crates/hfs_tool/out
 
 The images of FOLDERs are taken apart and made again, too. --large makes a volume of 2 GB, and one of 100,000 files. It prints how many volumes were
 made; at a difference it says which, and ends with status 1. What isn't installed is left out and named.
@@ -32,7 +32,7 @@ from driver.sources import (DATES, FINDER, FOLDER, LONGEST, RESOURCE, CannotRead
                             read_mac_binary, seen)
 from driver.wanted import Difference, agrees_in_a_folder, ensure
 from forks import ensure_no_new_faults, in_larger_blocks, scattered
-from put import FINDER_BYTES, NOW, YEAR_2000, Bench, Dated, Fifo, Link, Options, double, first_difference, first_place, hfs, lay, manifest_of, path_text
+from put import FINDER_BYTES, NOW, YEAR_2000, Bench, Dated, Fifo, Link, Options, double, first_difference, first_place, hfs, lay, manifest_of, path_text, unpacked_by_unar
 
 MOST_BLOCKS = 4_194_304
 OLD = b'the old file'
@@ -575,6 +575,41 @@ def of_drawn_disks(table: Table, seed: str, count: int) -> None:
         table.returns(f'disk {number} of seed {seed}', disk)
 
 
+def of_changed_bags(table: Table, seed: str, count: int) -> None:
+    """Bags with some bytes changed, cut or doubled in their tags, their tables and their AppleDouble files: a sound volume comes of each, or nothing."""
+    bench = table.bench
+    bench.text('take', REAL_VOLUMES / 'hfsutils-800k.img', 'whole bag')
+    files = sorted(it for it in Path('whole bag').rglob('*') if it.is_file() and (it.parent.name == 'whole bag' or it.name.startswith('._')))
+    endings = set()
+    for number in range(count):
+        draw = random.Random(f'{seed} bag {number}')
+        shutil.rmtree('bag', ignore_errors=True)
+        shutil.copytree('whole bag', 'bag')
+        path = Path('bag', draw.choice(files).relative_to('whole bag'))
+        path.write_bytes(changed_bytes(draw, path.read_bytes()))
+        bench.out.unlink(missing_ok=True)
+        status, text = bench.run('make', bench.out, 'bag', '--name', 'D', '--now', NOW)
+        ensure(status in (0, 3) and (status == 0) == bench.out.exists() and text, f'bag {number} of seed {seed}, {path}: {status}, {text}')
+        ensure(status == 3 or bench.text('check', bench.out).startswith('sound\n'), f'bag {number} of seed {seed}, {path}: the volume is not sound')
+        endings.add(text.split('\n')[0].rpartition(': ')[2])
+    ensure(count < 30 or {'made', 'digest'} <= endings, f'what changed bags give: {endings}')
+
+
+def changed_bytes(draw: random.Random, content: bytes) -> bytes:
+    content = bytearray(content)
+    for _ in range(draw.choice((1, 1, 3))):
+        at, kind = draw.randrange(len(content) + 1), draw.randrange(4)
+        if kind == 0:
+            content[at:at + 1] = bytes([draw.randrange(256)])
+        elif kind == 1:
+            del content[at:at + draw.choice((1, 40, len(content)))]
+        elif kind == 2:
+            content[at:at] = draw.choice((b'"', b'\n', b'\r\n', b',', b'\0', b'\xff', b'999999999999999999999', bytes(3000)))
+        else:
+            content[at:at] = content[draw.randrange(len(content) + 1):][:draw.choice((1, 200, 5000))]
+    return bytes(content)
+
+
 # ---- other programs
 
 def of_hfsutils(table: Table) -> None:
@@ -613,27 +648,14 @@ def of_hfsutils(table: Table) -> None:
 
 
 def of_unar(table: Table) -> None:
-    """A folder that unar unpacked: AppleDouble files of a MacBinary file, and of one of the first kind as macutils makes them, which is no MacBinary here."""
-    if not shutil.which('unar'):
-        table.bench.skipped.append('unar')
-        return
-    lay('packed.bin', mac_binary(b'packed', FINDER_BYTES[:16], b'D' * 700, b'R' * 300))
-    archives = ['packed.bin']
-    if shutil.which('binhex') and shutil.which('hexbin'):
-        with open('packed.hqx', 'wb') as file:
-            subprocess.run(['binhex', 'packed.bin'], stdin=subprocess.DEVNULL, stdout=file, stderr=subprocess.DEVNULL, check=True)
-        os.mkdir('hexbin')
-        subprocess.run(['hexbin', '../packed.hqx'], cwd='hexbin', stdin=subprocess.DEVNULL, stdout=subprocess.DEVNULL, stderr=subprocess.DEVNULL, check=True)
-        archives.append('hexbin/packed.bin')
-        ensure(table.makes('MacBinary of macutils', Making(['hexbin'], how=Options(macbinary=True))).text.startswith('made\nfiles 1\nfolders 0\nbytes 1280\n'), 'MacBinary of macutils')
-    else:
-        table.bench.skipped.append('macutils')
-    for archive in archives:
-        shutil.rmtree('Unpacked', ignore_errors=True)
-        subprocess.run(['unar', '-q', '-k', 'hidden', '-D', '-o', 'Unpacked', archive], check=True, stdout=subprocess.DEVNULL)
+    """Folders that unar unpacked, and a MacBinary file of the first kind, which is a file like others."""
+    for archive in unpacked_by_unar(table.bench.skipped):
         table.makes(f'{archive} by unar', Making(['Unpacked']))
         row = table.bench.text('items', 'out').splitlines()[1].split('\t')
         ensure((row[0], row[4:6], row[13:15]) == ('Unpacked:packed', ['TEXT', 'ttxt'], ['700', '300']), f'{archive} by unar: {row}')
+    if Path('hexbin').exists():
+        asked = Making(['hexbin/packed.bin'], 'Disk', how=Options(macbinary=True))
+        ensure(table.makes('MacBinary of macutils', asked).text.startswith('made\nfiles 1\nfolders 0\nbytes 1280\n'), 'MacBinary of macutils')
 
 
 # ---- the files themselves
@@ -715,6 +737,7 @@ def try_all(table: Table, given: argparse.Namespace) -> None:
     of_disks(table, [REAL_VOLUMES, *given.images])
     of_drawn_folders(table, given.seed, given.folders)
     of_drawn_disks(table, given.seed, given.disks)
+    of_changed_bags(table, given.seed, given.bags)
     if table.is_large:
         of_very_large(table)
 
@@ -723,6 +746,7 @@ def main() -> int:
     parser = argparse.ArgumentParser(description=__doc__, formatter_class=argparse.RawDescriptionHelpFormatter)
     parser.add_argument('--folders', type=int, default=20, help='how many drawn folders')
     parser.add_argument('--disks', type=int, default=25, help='how many drawn disks')
+    parser.add_argument('--bags', type=int, default=30, help='how many bags with bytes changed')
     parser.add_argument('--seed', default='make')
     parser.add_argument('--large', action='store_true', help='also 2 GB, and 100,000 files')
     parser.add_argument('images', nargs='*', metavar='FOLDER', type=Path, help='folders of images that are taken apart and made again, too')

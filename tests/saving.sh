@@ -70,7 +70,7 @@ word() {
         repair) words=(repair "$folder/wrong.img" "$2") printed='fixed drFilCnt 1 0\nsound\n' ;;
         run) words=(run "$folder/small.img" "$folder/script" --out "$2") printed='1\t1\t0\tid 16\n1\t2\t0\t-\n1\t3\t0\t-\n' ;;
         put) words=(put "$folder/small.img" "$folder/source" --now 5 --out "$2") printed='put\nfiles 1\nfolders 0\nbytes 2\nfree 49\n' ;;
-        make) words=(make "$2" "$folder/source" --name D --size 64K --now 5) printed='made\nfiles 1\nfolders 0\nbytes 2\nfree 107\n' ;;
+        make) words=(make "$2" "$folder/source" --name D --size 64K --now 5) printed='made\nfiles 1\nfolders 0\nbytes 2\nfree 108\n' ;;
     esac
 }
 
