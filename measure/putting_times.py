@@ -1,10 +1,11 @@
 #!/usr/bin/env python3
-"""How long `put` takes, on a RAM disk, and its most memory.
+"""How long `put` and `make` take, on a RAM disk, and their most memory.
 
-measure/putting_times.py files         5,800 files of 20 MB in 200 folders, beside `cp -a` of these files and of the image, and `hcopy -r` folder by folder
+measure/putting_times.py files         5,800 files of 20 MB in 200 folders, beside `cp -a` of these files and of the image, and `hcopy -r` folder by folder;
+                                       a disk made of them, beside `cp -a` of them
 measure/putting_times.py fork [MB]     a file of 500 MB, or of so many, beside `cp` of it
 measure/putting_times.py small [MB]    a small file on a volume of 2,000 MB, or of so many, without holes, beside one Create by `run --out`
-measure/putting_times.py many [N]      100,000 empty files, or so many, in folders of 100: processor time and memory
+measure/putting_times.py many [N]      100,000 empty files, or so many, in folders of 100, put and made: processor time and memory
 
 Each runs seven times, a large one three times, in turns; the least time is told, with the seconds in the program and in the system of that run.
 """
@@ -51,6 +52,11 @@ def put(image: Path, source: Path, out: Path):
     return lambda: do(TOOL, 'put', image, source, '--out', out)
 
 
+def make(source: Path, out: Path):
+    """The job that makes a disk of a source."""
+    return lambda: do(TOOL, 'make', out, source)
+
+
 def files(folder: Path) -> None:
     image, bag, tree, empty, out, copied, peer = (folder / it for it in ('many.img', 'bag', 'tree', 'empty.img', 'out', 'copied', 'peer.img'))
     do('sh', ROOT / 'measure' / 'make_volume.sh', image)
@@ -73,8 +79,13 @@ def files(folder: Path) -> None:
         copied.mkdir()
         return do('cp', '-a', tree, empty, copied)
 
-    took = best(7, [('put', put(empty, tree, out), out), ('cp -a', copied_both, copied), *([('hcopy -r', copied_on, peer)] if shutil.which('hcopy') else [])])
-    print(', '.join(f'of {name} {took["put"] / it:.2f}' for name, it in took.items() if name != 'put'))
+    def copied_files() -> int:
+        return do('cp', '-a', tree, copied)
+
+    took = best(7, [('put', put(empty, tree, out), out), ('cp -a of both', copied_both, copied), ('make', make(tree, out), out), ('cp -a', copied_files, copied),
+                    *([('hcopy -r', copied_on, peer)] if shutil.which('hcopy') else [])])
+    for ours, others in (('put', ('cp -a of both', 'hcopy -r')), ('make', ('cp -a', 'hcopy -r'))):
+        print(', '.join(f'{ours} of {name} {took[ours] / took[name]:.2f}' for name in others if name in took))
 
 
 def fork(folder: Path, size: int) -> None:
@@ -109,7 +120,7 @@ def many(folder: Path, count: int) -> None:
             path.parent.mkdir(parents=True)
         path.touch()
     do(TOOL, 'new', image, 'Many', 400_000, 65_000, 8)
-    best(3, [('put', put(image, tree, out), out)])
+    best(3, [('put', put(image, tree, out), out), ('make', make(tree, out), out)])
 
 
 def main() -> None:
