@@ -14,6 +14,7 @@ made; at a difference it says which, and ends with status 1. What isn't installe
 import argparse
 import os
 import random
+import re
 import resource
 import shutil
 import signal
@@ -26,7 +27,7 @@ from typing import Optional
 
 from driver.filling import EXTENTS_NODES, Filling, volume_name
 from driver.image import BLOCK, Image
-from driver.programs import REAL_VOLUMES
+from driver.programs import REAL_VOLUMES, ended_at_terminal
 from driver.putting import ROOT, Disk, Placed
 from driver.sources import (DATES, FINDER, FOLDER, LONGEST, RESOURCE, CannotRead, Item, NotText, Walk, apple_double, is_bag, is_name_letter, last_part, letters_of, mac_binary,
                             read_mac_binary, seen)
@@ -718,6 +719,14 @@ def of_kills(table: Table) -> None:
     table.bench.runs += 13
 
 
+def of_terminals(table: Table) -> None:
+    """At a terminal one line says how far the run is; it is written over, and taken away at the end."""
+    status, _, said = ended_at_terminal(table.bench.tool.path, ['make', table.bench.out, 'slow'])
+    shown = re.findall(r'\r([^\r\x1b]*)\x1b\[K', said.decode())
+    size = table.bench.out.stat().st_size
+    ensure(status == 0 and shown == [*(f'{it} of {size} bytes' for it in range(1 << 22, size, 1 << 22)), ''], f'what is told at a terminal: {said[:300]!r}')
+
+
 # ---- all
 
 def of_very_large(table: Table) -> None:
@@ -732,7 +741,7 @@ def of_very_large(table: Table) -> None:
 
 
 def try_all(table: Table, given: argparse.Namespace) -> None:
-    for part in (of_names, of_what_comes, of_sizes, of_faults, of_moments, of_large_trees, of_twice_the_catalog, of_hfsutils, of_unar, of_own_files, of_full_disks, of_kills):
+    for part in (of_names, of_what_comes, of_sizes, of_faults, of_moments, of_large_trees, of_twice_the_catalog, of_hfsutils, of_unar, of_own_files, of_full_disks, of_kills, of_terminals):
         part(table)
     of_disks(table, [REAL_VOLUMES, *given.images])
     of_drawn_folders(table, given.seed, given.folders)
