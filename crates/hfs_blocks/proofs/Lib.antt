@@ -1,4 +1,4 @@
-pub mod Entering
+mod LaidLemmas
 mod FileRuns
 pub mod LayerLemmas
 mod PlaceLemmas

@@ -7,8 +7,8 @@ use Rattle.std.specs.Option.{option_or}
 use Rattle.std.proofs.lemmas.Bool.{cases_lt, cases_eq}
 use Rattle.std.proofs.lemmas.List.{get_or_append_left, get_or-take, get_or-drop, length-take-le, length-drop}
 use Rattle.std.proofs.lemmas.Option.{none-some, same_Some}
-use Rattle.hfs_blocks.specs.Layers.{Numbered, Changes, changes, numbers, with_change, over, AreWhole, HasJoined}
-use Rattle.hfs_blocks.proofs.Entering.{settled, over_or}
+use Rattle.hfs_blocks.specs.Layers.{Numbered, Changes, changes, numbers, with_change, over, AreWhole, AreWithin, HasChangesOf, HasJoined, IsLaid}
+use Rattle.hfs_blocks.proofs.LaidLemmas.{settled, over_or, within_or}
 use Rattle.hfs_blocks.specs.Places.{place_in, HasRow, HaveNone, HaveSamePlaces, ArePlaced}
 use Rattle.hfs_blocks.specs.Tables.{AreBlocks, IsTable, HaveRoom, UsesRoom, HasNumbers, HasLaid, HasNoneOf, AreBlocksOf, FollowFrom, HaveRowsFor}
 
@@ -441,3 +441,17 @@ module _ (p old new : Changes) (either : (k : ℕ) → new k ≡ option_or (p k)
 
   pub shows-laid : (below : ℕ → List ℕ) (k : ℕ) → over new below k ≡ over p (over old below) k
   shows-laid below k = ap (λ o. unwrap_or o (below k)) (either k) ∙ over_or (p k) (old k) (below k)
+
+-- the same of patches, one of which is known by other words
+module _ (theirs patch mid old new : Numbered) (e : theirs ≡ patch) (f : mid ≡ old) (laid : HasChangesOf (changes theirs) (changes mid) (changes new)) where
+  by-words : (k : ℕ) → changes new k ≡ option_or (changes patch k) (changes old k)
+  by-words k = laid k ∙ ap (λ (l : Numbered). option_or (changes l k) (changes mid k)) e ∙ ap (λ (l : Numbered). option_or (changes patch k) (changes l k)) f
+
+  pub lay-within : (total : ℕ) → AreWithin (changes patch) total → AreWithin (changes old) total → AreWithin (changes new) total
+  lay-within total = within_or (changes patch) (changes old) (changes new) total by-words
+
+  pub lay-joined : HasJoined (changes old) (changes patch) (changes new)
+  lay-joined = joined-laid (changes patch) (changes old) (changes new) by-words
+
+  pub lay-shows : (below : ℕ → List ℕ) → IsLaid below old patch new
+  lay-shows below = shows-laid (changes patch) (changes old) (changes new) by-words below
