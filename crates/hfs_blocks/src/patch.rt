@@ -4,7 +4,7 @@ ghost use Rattle.std.specs.Prelude.{◌≡◌, ◌+◌, ◌^◌, ◌≤◌, [], 
 ghost use Rattle.std.specs.List.{IsDistinct};
 ghost use Rattle.std.specs.Option.{option_copied};
 ghost use Rattle.hfs_blocks.specs.Layers.{changes, numbers, with_change, AreWhole, AreWithin, HasJoined, ShowsSame, IsLaid, KeepsWithin};
-ghost use Rattle.hfs_blocks.specs.Tables.{AreBlocks, HasLaid, HasNoneOf};
+ghost use Rattle.hfs_blocks.specs.Tables.{HasLaid, HasNoneOf};
 
 use crate::blocks::Blocks;
 use crate::patched::Patched;
@@ -100,8 +100,7 @@ impl Patch {
     /// Puts blocks that follow one another into the patch, the first as block `first`, in place of those that it has. At an error
     /// the patch is as it was.
     pub fn put_run(&mut self, first: u32, run: &[[u8; 512]]) -> Result<(), AllocError>
-        requires small { first + length run.now ≤ 2 ^ 32 }
-        requires whole { AreBlocks run.now }
+        requires { first + length run.now ≤ 2 ^ 32 }
         ensures written { OnOk result (HasLaid first (length run.now) run.now
             (changes self.old) (changes self.new)) }
         ensures kept { OnErr result (self.new ≡ self.old) }

@@ -112,6 +112,10 @@ KeepsBeside-wider ns at few many old new le keeps k none =
 
 -- ---- the bytes so far, and then those up to some end
 
+pub some-long : (bytes : List ℕ) (done more : ℕ) → done + more ≤ length bytes → length (take (done + more - done) (drop done bytes)) ≡ more
+some-long bytes done more fits =
+    length-take-le (done + more - done) (drop done bytes) (omega (arith, length-drop done bytes, fits)) ∙ (let e : done + more - done ≡ more = omega arith in e)
+
 pub HasPart-on : (ns : List ℕ) (offset : ℕ) (bytes : List ℕ) (done end : ℕ) (old mid new : ℕ → List ℕ) → done ≤ end → end ≤ length bytes → offset + length bytes ≤ 512 * length ns
     → HasPart ns offset (take done bytes) old mid → HasPart ns (offset + done) (take (end - done) (drop done bytes)) mid new → HasPart ns offset (take end bytes) old new
 HasPart-on ns offset bytes done end old mid new low high fits first next =

@@ -1,16 +1,16 @@
 -- The bytes are cut into blocks, which are put.
-use Rattle.std.proofs.Common.{◌≡◌, ◌+◌, ◌<◌, ◌≤◌, ◌/◌, ◌^◌, length, ap, ◌∙◌, arith}
-use Rattle.hfs_blocks.specs.Layers.{changes}
-use Rattle.hfs_fork_bytes.proofs.BlockSteps.{blocks-put, within-put, pieces-long}
+use Rattle.std.proofs.Common.{◌≡◌, ◌+◌, ◌<◌, ◌≤◌, ◌/◌, ◌^◌, length, sym, subst, arith}
+use Rattle.hfs_blocks.specs.Layers.{Numbered, changes, AreWithin}
+use Rattle.hfs_fork_bytes.proofs.BlockSteps.{blocks-put, within-put}
 use Rattle.hfs_fork_bytes.proofs.runs.put_blocks.Goals as goal
 
-pub put_run-requires-clause-small : goal.put_run-requires-clause-small
-put_run-requires-clause-small g c =
+pub put_run-requires : goal.put_run-requires
+put_run-requires g c =
     let few = g.met.B.Blocks.few c.args.below.now in
     omega (arith, few, c.requires.within, c.as_chunks.ensures.front_len)
 
-pub put_run-requires-clause-whole : goal.put_run-requires-clause-whole
-put_run-requires-clause-whole g c = pieces-long c.args.bytes.now _ c.as_chunks.ensures.front c.as_chunks.ensures.front_len
+pub returns-in_err-put_run-clause-within : goal.returns-in_err-put_run-clause-within
+returns-in_err-put_run-clause-within g c = λ was. subst (λ (p : Numbered). AreWithin (changes p) (g.B.Blocks.total c.args.below.now)) (sym c.in_err-put_run.ensures.kept) was
 
 pub returns-clause-part : goal.returns-clause-part
 returns-clause-part g c =

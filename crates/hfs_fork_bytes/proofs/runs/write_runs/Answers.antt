@@ -7,8 +7,8 @@ use Rattle.hfs_fork_bytes.proofs.PartSteps.{KeepsBeside-more, whole-next}
 use Rattle.hfs_fork_bytes.proofs.BlockSteps.{HasPart-on}
 use Rattle.hfs_fork_bytes.proofs.runs.write_runs.Goals as goal
 
-pub returns-in_err-write_some-clause-within : goal.returns-in_err-write_some-clause-within
-returns-in_err-write_some-clause-within g c = λ was. c.in_err-write_some.ensures.within (c.loop-done.invariant.within was)
+pub returns-in_err-done-clause-within : goal.returns-in_err-done-clause-within
+returns-in_err-done-clause-within g c = λ was. c.in_err-done.ensures.within (c.loop-done.invariant.within was)
 
 pub loop-done-preserved : goal.loop-done-preserved
 loop-done-preserved g c =
@@ -18,15 +18,15 @@ loop-done-preserved g c =
     let mid = over (changes c.loop-done.patch) below in
     let new = over (changes c.write_some.new.patch) below in
     let done = c.loop-done.done in
-    let end = c.in_ok-write_some.field-0 in
-    let further = c.in_ok-write_some.ensures.some in
-    let most = c.in_ok-write_some.ensures.few in
+    let end = c.in_ok-done.field-0 in
+    let further = c.in_ok-done.ensures.some in
+    let most = c.in_ok-done.ensures.few in
     record {
       few = most;
       begins = λ none. absurd (omega (arith, none, further));
-      part = HasPart-on ns c.args.offset c.args.bytes.now done end old mid new (omega (arith, further)) most c.requires.fits c.loop-done.invariant.part c.in_ok-write_some.ensures.part;
+      part = HasPart-on ns c.args.offset c.args.bytes.now done end old mid new (omega (arith, further)) most c.requires.fits c.loop-done.invariant.part c.in_ok-done.ensures.part;
       beside = KeepsBeside-more ns c.args.offset done (length c.args.bytes.now - done) (length c.args.bytes.now) old mid new (omega (arith, c.loop-done.invariant.few)) c.loop-done.invariant.beside
-          c.in_ok-write_some.ensures.beside;
-      whole = λ some. whole-next c.args.patch.now c.loop-done.patch c.write_some.new.patch done c.loop-done.invariant.begins c.loop-done.invariant.whole c.in_ok-write_some.ensures.whole;
-      within = λ was. c.in_ok-write_some.ensures.within (c.loop-done.invariant.within was);
+          c.in_ok-done.ensures.beside;
+      whole = λ some. whole-next c.args.patch.now c.loop-done.patch c.write_some.new.patch done c.loop-done.invariant.begins c.loop-done.invariant.whole c.in_ok-done.ensures.whole;
+      within = λ was. c.in_ok-done.ensures.within (c.loop-done.invariant.within was);
     }
