@@ -18,7 +18,7 @@ loop-done-preserved g c =
     let mid = over (changes c.loop-done.patch) below in
     let new = over (changes c.write_some.new.patch) below in
     let done = c.loop-done.done in
-    let end = c.in_ok-done.field-0 in
+    let end = c.in_ok-done.done in
     let further = c.in_ok-done.ensures.some in
     let most = c.in_ok-done.ensures.few in
     record {
