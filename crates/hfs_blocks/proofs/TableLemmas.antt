@@ -130,8 +130,7 @@ module _ (ns new_ns : List ℕ) (bs run new_bs : List (List ℕ)) (rows new_rows
       (omega (arith, there.0, came.len), came.old_stay i there.0 ∙ there.1))
       (λ (inside : (first ≤ n) × (n < first + length run)).
       let is : suc i ≡ place + (n - first) = sym at ∙ placed.set n inside.0 inside.1 in
-      let same : i ≡ length ns + (n - first) = omega (arith, is, next) in
-      (
+      let same : i ≡ length ns + (n - first) = omega (arith, is, next) in (
         omega (arith, same, came.len, inside.0, inside.1),
         ap (λ q. get_or new_ns q 0) same ∙ came.came (n - first) (omega (arith, inside.0, inside.1)) ∙ (let sum : first + (n - first) ≡ n = omega (arith, inside.0) in sum),
       ))
@@ -144,9 +143,9 @@ module _ (ns new_ns : List ℕ) (bs run new_bs : List (List ℕ)) (rows new_rows
       let is = t.stands i old in
       ap (place_in new_rows) (came.old_stay i old)
       ∙ ⊎_elim
-          (λ (apart : (q < first) ⊎ (first + length run ≤ q)). beside q apart ∙ is)
-          (λ (inside : (first ≤ q) × (q < first + length run)). absurd (let no = none q inside.0 inside.1 in omega (arith, no, is)))
-          (where-is q))
+      (λ (apart : (q < first) ⊎ (first + length run ≤ q)). beside q apart ∙ is)
+      (λ (inside : (first ≤ q) × (q < first + length run)). absurd (let no = none q inside.0 inside.1 in omega (arith, no, is)))
+      (where-is q))
       (λ (new : length ns ≤ i).
       let j = i - length ns in
       let few : j < length run = omega (arith, new, lt, came.len) in
@@ -281,8 +280,7 @@ module _ (ns : List ℕ) (bs run : List (List ℕ)) (old mid new : Changes) (don
       let i = k - first in
       let lt : i < count = omega (arith, low, high) in
       let same : k ≡ first + i = omega (arith, low) in
-      let number : get_or ns (done + i) 0 ≡ k = follow i lt ∙ sym (ap (λ q. q + i) at) ∙ sym same in
-      (
+      let number : get_or ns (done + i) 0 ≡ k = follow i lt ∙ sym (ap (λ q. q + i) at) ∙ sym same in (
         get_or bs (done + i) [],
         ap new same ∙ laid.laid i lt ∙ ap (λ c. Some c) (part i lt),
         sym (ap theirs number) ∙ other.are (done + i) (omega (arith, within, lt)),

@@ -74,12 +74,12 @@ impl Patch {
         ensures patch { result.patch.now ≡ self.now }
         ensures below { result.below.now ≡ below.now }
     {
-        // A proof knows that the blocks have 512 bytes once it has seen them.
+        // Once a proof has seen the blocks, it knows that they have 512 bytes.
         let _blocks = &self.blocks;
         Patched { below, patch: self }
     }
 
-    /// Puts block `n` into the patch, in place of the one that it has. At an error the patch is as it was.
+    /// Puts block `n` into the patch, in place of the one that it may have. At an error the patch is as it was.
     pub fn put(&mut self, n: u32, block: &[u8; 512]) -> Result<(), AllocError>
         ensures written { OnOk result
             (changes self.new ≡ with_change (changes self.old) n block.now) }
