@@ -1,11 +1,11 @@
 -- Lemmas about the definitions of specs/Places.antt.
-use Rattle.std.proofs.Common.{◌≡◌, ◌≢◌, ℕ, ◌+◌, ◌-◌, ◌*◌, ◌/◌, ◌%◌, ◌<◌, ◌≤◌, Bool, true, false, cond, List, [], ◌∷◌, get_or, Option, Some, None, IsSome, unwrap_or, nat_eq, refl, sym, ap, ◌∙◌, subst, arith, ⊎_elim, ne_eqb, eq-eqb, true≢false, Bor}
+use Rattle.std.proofs.Common.{◌≡◌, ◌≢◌, ℕ, ◌+◌, ◌-◌, ◌*◌, ◌/◌, ◌%◌, ◌<◌, ◌≤◌, Bool, true, false, cond, List, [], get_or, Option, Some, None, IsSome, unwrap_or, nat_eq, refl, sym, ap, ◌∙◌, subst, arith, ⊎_elim, ne_eqb, eq-eqb, true≢false, Bor}
 use Rattle.std.proofs.lemmas.Bool.{cases_lt, cases_eq}
 use Rattle.std.proofs.lemmas.List.{get_or-replicate, get_or_past}
 use Rattle.std.specs.Prelude.{replicate, is_some}
 use Rattle.std.specs.Option.{option_copied}
 use Rattle.hfs_blocks.specs.Layers.{Numbered, Changes, changes, HasChange, HasEachOf}
-use Rattle.hfs_blocks.specs.Places.{row_of, place_in, HasRow, HaveNone, HaveRows, HaveSamePlaces, KeepsRows, AreSet, ArePlaced}
+use Rattle.hfs_blocks.specs.Places.{row_of, place_in, HasRow, HaveNone, HaveSamePlaces, KeepsRows, AreSet, ArePlaced}
 
 -- blocks of one row
 pub row-same : (rows : Numbered) (n m : ℕ) → m / 16 ≡ n / 16 → HasRow rows n → HasRow rows m

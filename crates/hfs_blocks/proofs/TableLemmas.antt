@@ -1,5 +1,5 @@
 -- Lemmas about the definitions of specs/Tables.antt.
-use Rattle.std.proofs.Common.{◌≡◌, ◌≢◌, ℕ, zero, suc, ◌+◌, ◌-◌, ◌<◌, ◌≤◌, ◌^◌, Bool, true, false, cond, List, [], ◌∷◌, ◌++◌, length, length-append, length-set, get_or, get_or-set_same, get_or-set_other, get_or-append-add, take, drop, set, Option, Some, None, IsSome, unwrap_or, nat_eq, refl, sym, ap, ◌∙◌, subst, arith, ⊎_elim, inl, inr, ne_eqb, eq-eqb, eqb-true, true≢false}
+use Rattle.std.proofs.Common.{◌≡◌, ◌≢◌, ℕ, zero, suc, ◌+◌, ◌-◌, ◌<◌, ◌≤◌, Bool, true, false, cond, List, [], ◌∷◌, ◌++◌, length, length-append, length-set, get_or, get_or-set_same, get_or-set_other, get_or-append-add, take, drop, set, Option, Some, None, IsSome, unwrap_or, nat_eq, refl, sym, ap, ◌∙◌, subst, arith, ⊎_elim, inl, inr, ne_eqb, eq-eqb, eqb-true, true≢false}
 use Rattle.std.specs.Prelude.{zip, ◌⊎◌, Vec, vec_len, vec_capacity}
 use Rattle.std.specs.declared.alloc.Global.{Global}
 use Rattle.std.specs.List.{IsDistinct, AllByRecursion}
@@ -10,7 +10,7 @@ use Rattle.std.proofs.lemmas.Option.{none-some, same_Some}
 use Rattle.hfs_blocks.specs.Layers.{Numbered, Changes, changes, numbers, with_change, over, AreWhole, AreWithin, HasChangesOf, HasJoined, IsLaid}
 use Rattle.hfs_blocks.proofs.LaidLemmas.{settled, over_or, within_or}
 use Rattle.hfs_blocks.specs.Places.{place_in, HasRow, HaveNone, HaveSamePlaces, ArePlaced}
-use Rattle.hfs_blocks.specs.Tables.{AreBlocks, IsTable, HaveRoom, UsesRoom, HasNumbers, HasLaid, HasNoneOf, AreBlocksOf, FollowFrom, HaveRowsFor}
+use Rattle.hfs_blocks.specs.Tables.{AreBlocks, IsTable, HaveRoom, UsesRoom, HasNumbers, HasLaid, AreBlocksOf, FollowFrom, HaveRowsFor}
 
 -- ---- what a table has of a number
 

@@ -1,11 +1,11 @@
 -- Whole blocks of a file that lie in one run, written at once.
-use Rattle.std.proofs.Common.{◌≡◌, ◌≢◌, ℕ, zero, suc, ◌+◌, ◌-◌, ◌*◌, ◌/◌, ◌%◌, ◌<◌, ◌≤◌, ◌⊎◌, inl, inr, ⊎_elim, List, [], length, get_or, take, drop, Some, unwrap_or, sym, ap, ◌∙◌, subst, arith, refl}
+use Rattle.std.proofs.Common.{◌≡◌, ℕ, zero, suc, ◌+◌, ◌-◌, ◌*◌, ◌/◌, ◌%◌, ◌<◌, ◌≤◌, ◌⊎◌, ⊎_elim, List, [], length, get_or, take, drop, Some, unwrap_or, sym, ap, ◌∙◌, subst, arith}
 use Rattle.std.specs.Simd.{first_chunks}
-use Rattle.std.proofs.lemmas.Bool.{cases_lt, cases_eq}
-use Rattle.std.proofs.lemmas.List.{get_or-take, get_or-drop, length-take, length-drop, length-take-le}
-use Rattle.hfs_blocks.specs.Layers.{Changes, Numbered, changes, over, AreWhole, AreWithin}
+use Rattle.std.proofs.lemmas.Bool.{cases_lt}
+use Rattle.std.proofs.lemmas.List.{get_or-take, get_or-drop, length-drop, length-take-le}
+use Rattle.hfs_blocks.specs.Layers.{Changes, over, AreWithin}
 use Rattle.hfs_blocks.specs.Tables.{AreBlocks, HasLaid}
-use Rattle.hfs_fork_bytes.specs.Written.{byte_of, HasByteOf, KeepsBeside, HasPart, HasBlocks, AreDifferent}
+use Rattle.hfs_fork_bytes.specs.Written.{KeepsBeside, HasPart, HasBlocks, AreDifferent}
 use Rattle.hfs_fork_bytes.proofs.PartSteps.{different-apart, HasPart-next}
 
 -- ---- pieces of the same length

@@ -1,7 +1,6 @@
 -- There is a row, or one of zeros comes.
-use Rattle.std.proofs.Common.{◌≡◌, ◌/◌, true, false, None, sym, ◌∙◌, rules}
+use Rattle.std.proofs.Common.{◌≡◌, true, false, sym, ◌∙◌, rules}
 use Rattle.std.specs.Prelude.{is_some}
-use Rattle.hfs_blocks.specs.Layers.{changes}
 use Rattle.hfs_blocks.proofs.PlaceLemmas.{copied-none, copied-some, row-there, row-came-same, row-came-kept, row-came-there}
 use Rattle.hfs_blocks.proofs.places.add_row.Goals as goal
 

@@ -1,5 +1,5 @@
 -- The rest of the row's blocks have the row that one of them has.
-use Rattle.std.proofs.Common.{◌+◌, ◌*◌, ◌/◌, ◌<◌, ◌≤◌, ◌∙◌, ⊎_elim, arith}
+use Rattle.std.proofs.Common.{◌<◌, ◌≤◌, ◌∙◌, ⊎_elim, arith}
 use Rattle.std.proofs.lemmas.Bool.{cases_lt}
 use Rattle.hfs_blocks.proofs.PlaceLemmas.{row-same}
 use Rattle.hfs_blocks.proofs.places.add_rows.Goals as goal

@@ -1,6 +1,5 @@
 -- The places of some more blocks of one row are set.
-use Rattle.std.proofs.Common.{◌+◌, ◌≤◌, ◌%◌, ◌/◌, IsSome, arith}
-use Rattle.hfs_blocks.specs.Layers.{changes}
+use Rattle.std.proofs.Common.{◌+◌, ◌≤◌, ◌%◌, arith}
 use Rattle.hfs_blocks.specs.Places.{HasRow}
 use Rattle.hfs_blocks.proofs.PlaceLemmas.{placed-next, placed-none, rows-kept}
 use Rattle.hfs_blocks.proofs.places.set_places.Goals as goal

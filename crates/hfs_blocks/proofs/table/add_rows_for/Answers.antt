@@ -1,5 +1,5 @@
 -- There are rows for some more numbers, which follow one another.
-use Rattle.std.proofs.Common.{◌≤◌, ◌∙◌, refl, arith}
+use Rattle.std.proofs.Common.{◌∙◌, refl, arith}
 use Rattle.hfs_blocks.proofs.TableLemmas.{rows-next}
 use Rattle.hfs_blocks.proofs.table.add_rows_for.Goals as goal
 

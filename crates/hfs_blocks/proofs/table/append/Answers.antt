@@ -1,5 +1,5 @@
 -- What came behind the others makes a table with the places of the run.
-use Rattle.std.proofs.Common.{◌≡◌, ◌+◌, ◌<◌, ◌≤◌, length, arith}
+use Rattle.std.proofs.Common.{arith}
 use Rattle.hfs_blocks.proofs.TableLemmas.{table-appended, laid-appended}
 use Rattle.hfs_blocks.proofs.table.append.Goals as goal
 

@@ -1,5 +1,5 @@
 -- The blocks of some more numbers are laid.
-use Rattle.std.proofs.Common.{◌≡◌, ℕ, ◌+◌, ◌-◌, ◌<◌, ◌≤◌, List, take, drop, length, get_or, refl, subst, arith}
+use Rattle.std.proofs.Common.{◌≡◌, ℕ, ◌+◌, ◌-◌, ◌≤◌, List, take, drop, length, get_or, refl, subst, arith}
 use Rattle.std.specs.Prelude.{zip}
 use Rattle.hfs_blocks.specs.Layers.{changes}
 use Rattle.hfs_blocks.specs.Tables.{HasLaid}

@@ -1,5 +1,5 @@
 -- A block comes, or one is written over at its place.
-use Rattle.std.proofs.Common.{◌≡◌, ◌+◌, ◌-◌, ◌<◌, ◌≤◌, ℕ, length, refl, arith, rules}
+use Rattle.std.proofs.Common.{◌≡◌, ◌+◌, ◌-◌, ◌<◌, length, refl, arith, rules}
 use Rattle.hfs_blocks.proofs.TableLemmas.{place-is, changes-overwritten, table-overwritten, room-less}
 use Rattle.hfs_blocks.proofs.table.lay_one.Goals as goal
 

@@ -1,5 +1,5 @@
 -- One block more is laid.
-use Rattle.std.proofs.Common.{◌≡◌, ◌+◌, ◌-◌, ◌<◌, ◌≤◌, length, refl, arith}
+use Rattle.std.proofs.Common.{◌+◌, ◌-◌, length, refl, arith}
 use Rattle.std.specs.Prelude.{zip}
 use Rattle.hfs_blocks.specs.Layers.{changes}
 use Rattle.hfs_blocks.proofs.TableLemmas.{laid-next, room-less, room-next}

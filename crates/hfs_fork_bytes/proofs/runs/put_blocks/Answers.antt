@@ -1,5 +1,5 @@
 -- The bytes are cut into blocks, which are put.
-use Rattle.std.proofs.Common.{◌≡◌, ◌+◌, ◌<◌, ◌≤◌, ◌/◌, ◌^◌, length, sym, subst, arith}
+use Rattle.std.proofs.Common.{sym, subst, arith}
 use Rattle.hfs_blocks.specs.Layers.{Numbered, changes, AreWithin}
 use Rattle.hfs_fork_bytes.proofs.BlockSteps.{blocks-put, within-put}
 use Rattle.hfs_fork_bytes.proofs.runs.put_blocks.Goals as goal

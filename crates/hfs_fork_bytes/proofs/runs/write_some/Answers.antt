@@ -1,5 +1,5 @@
 -- The blocks that lie in one run with the first are written at once.
-use Rattle.std.proofs.Common.{◌≡◌, ◌+◌, ◌-◌, ◌*◌, ◌/◌, ◌%◌, ◌<◌, ◌≤◌, length, arith, rules}
+use Rattle.std.proofs.Common.{◌≡◌, ◌+◌, ◌-◌, ◌*◌, ◌/◌, ◌%◌, length, arith, rules}
 use Rattle.std.specs.List.{flat_map}
 use Rattle.hfs_blocks.specs.Blocks.{run_of}
 use Rattle.hfs_blocks.specs.Layers.{changes, over}

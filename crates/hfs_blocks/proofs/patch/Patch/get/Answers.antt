@@ -1,5 +1,5 @@
 -- The block stands at the place of its number.
-use Rattle.std.proofs.Common.{◌≡◌, ◌-◌, ◌<◌, ℕ, suc, List, [], Some, get_or, sym, ap, ◌∙◌, subst, arith, rules}
+use Rattle.std.proofs.Common.{◌≡◌, ◌-◌, ◌<◌, suc, [], Some, get_or, sym, ap, ◌∙◌, subst, arith, rules}
 use Rattle.std.proofs.lemmas.List.{get_or_default}
 use Rattle.hfs_blocks.specs.Layers.{Numbered, changes, AreWhole}
 use Rattle.hfs_blocks.specs.Places.{place_in}
