@@ -57,4 +57,5 @@ pub use volume_files::{FilePart, open_asked, open_file, open_part, part_of};
 pub use volumes::volume_lines;
 pub use watched_image::{WatchedImage, open_watched};
 pub use watched_range::{ImageInFile, WatchedBytes, WatchedRange};
+pub use hfs_working::FailingBlocks;
 pub use watched_volume::{WatchedVolume, open_volume};

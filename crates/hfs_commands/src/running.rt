@@ -1,5 +1,5 @@
 //! Scripts that are run on images of which only what they need is read.
-ghost use Rattle.std.specs.Prelude.{◌≡◌, ◌≤◌, ◌⊎◌, ◌/◌, All, IfErr, IfOk, Ok, Some, length};
+ghost use Rattle.std.specs.Prelude.{◌≡◌, ◌≤◌, ◌⊎◌, ◌/◌, All, Err, IfErr, IfOk, Ok, Some, length};
 ghost use Rattle.hfs_blocks.specs.Layers.{changes, AreWithin};
 ghost use Rattle.hfs_check.specs.Faults.{fault_of};
 ghost use Rattle.hfs_runs.specs.Asking.{IsSmall};
@@ -8,21 +8,22 @@ ghost use Rattle.hfs_runs.specs.Runs.{IsStartFault};
 ghost use Rattle.hfs_scripts.specs.Scripts.{script_of};
 ghost use Rattle.hfs_commands.specs.Faults.{IsTooMuch};
 ghost use Rattle.hfs_commands.specs.Running.{IsNeededFault, IsNeededRunOf, IsScriptFault};
-ghost use Rattle.hfs_source.specs.Images.{OfEach};
+ghost use Rattle.hfs_needed.specs.Failing.{SomeFailsWithin};
+ghost use Rattle.hfs_source.specs.Images.{FailsWhere, OfEach};
 
 use crate::fault::Fault;
 use crate::patched_image::PatchedImage;
 use hfs_check::MountFault;
 use hfs_files::Watched;
-use hfs_needed::NeededFault;
+use hfs_needed::{NeededFault, PickedFailures};
 use hfs_needed_runs::{NeededRan, fetch_named_forks, run_needed_at};
 use hfs_runs::{Answers, Gate, ScriptFault};
 use hfs_scripts::{Script, read_script};
 use hfs_sparse::{BlockSource, SparseFault};
 use hfs_texts::IMAGE_LIMIT;
-use hfs_working::{WorkingVolume, open_working};
+use hfs_working::{FailingBlocks, NotedSource, WorkingVolume, open_working};
 use std::alloc::Global;
-use std::marker::Model;
+use std::marker::{Brand, Model};
 use std::sync::Wait;
 use std::thread::Threads;
 
@@ -113,6 +114,45 @@ pub fn script_lines(alloc: Global, bytes: &[u8], now: u32) -> Result<Script, Fau
     }
 }
 
+/// Opens an image of `len` bytes as [`RunImage::open`] does, where the reads that may fail are picked.
+fn open_noted<'a, K: PickedFailures, S: FailingBlocks + Drop>(
+    alloc: Global,
+    source: S,
+    len: u64,
+    path: &'a str,
+) -> Result<Result<RunImage<S>, RefusedRun<S>>, Fault<'a>>
+    requires fails { FailsWhere (S.Fails source) K.fails }
+    requires len { len ≡ K.len }
+    requires small { len ≤ 2147483648 }
+    ensures len { IfOk result (λ opened. IfOk opened (λ image. image.1 ≡ len)) }
+    ensures image { IfOk result (λ opened. IfOk opened (λ image.
+        S.image image.0 ≡ S.image source)) }
+    ensures narrows { IfOk result (λ opened. IfOk opened (λ image.
+        OfEach (S.Holds image.0) (S.Holds source))) }
+    ensures refused { IfOk result (λ opened. IfErr opened (λ refused.
+        OfEach (S.Holds refused.source) (λ bytes. length bytes ≡ len → fault_of bytes ≡ Some refused.why))) }
+    ensures back { IfOk result (λ opened. IfErr opened (λ refused.
+        OfEach (S.Holds refused.source) (S.Holds source))) }
+    ensures back_image { IfOk result (λ opened. IfErr opened (λ refused.
+        S.image refused.source ≡ S.image source)) }
+    ensures fault { IfErr result (λ why. (why ≡ Fault.CannotRead path.entry) ⊎ (why ≡ Fault.NoMemory)) }
+    ensures failed { result ≡ Err (Fault.CannotRead path.entry) → SomeFailsWithin len K.fails }
+{
+    let mut noted = NotedSource::<S, K>::new(source, len);
+    let opened = open_working(alloc, &mut noted, len);
+    let source = noted.into_source();
+    match opened {
+        Ok(working) => Ok(Ok(RunImage {
+            source,
+            len,
+            working,
+        })),
+        Err(NeededFault::Refused(why)) => Ok(Err(RefusedRun { why, source })),
+        Err(NeededFault::ReadFailed) => Err(Fault::CannotRead(path)),
+        Err(NeededFault::Memory) => Err(Fault::NoMemory),
+    }
+}
+
 /// What it means for the program that a volume was not shared for a run.
 fn start_fault(fault: ScriptFault) -> Fault<'static>
     requires { IsStartFault fault }
@@ -121,10 +161,10 @@ fn start_fault(fault: ScriptFault) -> Fault<'static>
     Fault::of_run(fault)
 }
 
-impl<S: BlockSource + Watched + Drop> RunImage<S> {
+impl<S: FailingBlocks + Drop> RunImage<S> {
     /// Reads the blocks that calls read and write of an image of `len` bytes, which was opened by this path, and makes all checks. Or tells why the
-    /// image is refused, which is a fault once the script was read. Faults: `CannotRead` where a read fails, `Refused(TooLarge)`,
-    /// `NoMemory`.
+    /// image is refused, which is a fault once the script was read. Faults: `CannotRead` where a read of bytes that it has fails,
+    /// `Refused(TooLarge)`, `NoMemory`.
     pub fn open<'a>(
         alloc: Global,
         source: S,
@@ -143,23 +183,17 @@ impl<S: BlockSource + Watched + Drop> RunImage<S> {
         ensures back_image { IfOk result (λ opened. IfErr opened (λ refused.
             S.image refused.source ≡ S.image source)) }
         ensures fault { IfErr result (λ why. (why ≡ Fault.CannotRead path.entry) ⊎ IsTooMuch why) }
+        ensures failed { result ≡ Err (Fault.CannotRead path.entry)
+            → SomeFailsWithin len (S.Fails source) }
     {
         if len > IMAGE_LIMIT as u64 {
             return Err(Fault::Refused(MountFault::TooLarge));
         }
-        let mut source = source;
-        match open_working(alloc, &mut source, len) {
-            Ok(working) => Ok(Ok(RunImage {
-                source,
-                len,
-                working,
-            })),
-            Err(NeededFault::Refused(why)) => Ok(Err(RefusedRun { why, source })),
-            Err(NeededFault::ReadFailed) => Err(Fault::CannotRead(path)),
-            Err(NeededFault::Memory) => Err(Fault::NoMemory),
-        }
+        open_noted::<Brand, S>(alloc, source, len, path)
     }
+}
 
+impl<S: BlockSource + Watched + Drop> RunImage<S> {
     /// Reads the forks that a script may read or write, and runs the script, with a gate that is called around each call of a worker. Faults: `CannotRead`
     /// of this path where a read fails, or where the image has changed since it was opened; `NoPlace`; `NoMemory`.
     pub fn run_at<'a, R: Threads + Wait + Sync, G: Gate + Sync>(

@@ -33,7 +33,7 @@ impl NeededFault {
     }
 
     /// This fault, where it is known whether a read failed: if none did, and the image isn't refused, memory was.
-    pub(crate) fn noted(self, failed: bool) -> NeededFault
+    pub fn noted(self, failed: bool) -> NeededFault
         ensures read { result ≡ NeededFault.ReadFailed → failed ≡ true }
         ensures refused { (why : MountFault) → result ≡ NeededFault.Refused why
             → self ≡ NeededFault.Refused why }

@@ -1,32 +1,32 @@
 //! The volume of an image is mounted over the blocks that calls read and write.
-ghost use Rattle.std.specs.Prelude.{◌≡◌, ◌/◌, None, IfErr, IfOk, Some, length};
-ghost use Rattle.hfs_check.specs.Faults.{fault_of};
+ghost use Rattle.std.specs.Prelude.{◌≡◌, ◌/◌, Err, None, IfErr, IfOk};
 ghost use Rattle.hfs_check.specs.Sound.{IsSound};
 ghost use Rattle.hfs_check.specs.declared.mount_fault.MountFault.{MountFault};
 ghost use Rattle.hfs_commands.specs.Running.{IsRunnable};
+ghost use Rattle.hfs_needed.specs.Failing.{SomeFailsWithin};
 ghost use Rattle.hfs_source.specs.Images.{OfEach};
 ghost use Rattle.hfs_volume.specs.Image.{copy_of};
 ghost use Rattle.hfs_working.specs.Opened.{IsWorkingOf};
-ghost use Rattle.hfs_word_put.specs.Put.{IsCopyOfEach, IsUnmounted};
+ghost use Rattle.hfs_word_put.specs.Put.{IsCopyOfEach, IsRefusedImage, IsUnmounted};
 
 use hfs_commands::Fault;
-use hfs_needed::NeededFault;
-use hfs_sparse::BlockSource;
+use hfs_needed::{NeededFault, PickedFailures};
 use hfs_volume::Volume;
-use hfs_working::{WorkingVolume, mount_read, open_working};
+use hfs_working::{FailingBlocks, NotedSource, WorkingVolume, mount_read, open_working};
 use std::alloc::Global;
 
 /// Reads the blocks that calls read and write of an image of `len` bytes, which was opened by this path, and makes all checks.
-fn open_image<'a, S: BlockSource>(
+fn open_image<'a, S: FailingBlocks, K: PickedFailures>(
     alloc: Global,
-    source: &mut S,
+    source: &mut NotedSource<S, K>,
     len: u64,
     path: &'a str,
 ) -> Result<WorkingVolume, Fault<'a>>
     ensures opened { IfOk result (IsRunnable (S.Holds source.new) len) }
-    ensures fault { IfErr result (IsUnmounted path.entry) }
+    ensures fault { IfErr result (IsUnmounted path.entry (S.Holds source.new) len) }
+    ensures failed { result ≡ Err (Fault.CannotRead path.entry) → SomeFailsWithin K.len K.fails }
     ensures refused { IfErr result (λ fault. (why : MountFault) → fault ≡ Fault.Refused why
-        → OfEach (S.Holds source.new) (λ image. length image ≡ len → fault_of image ≡ Some why)) }
+        → OfEach (S.Holds source.new) (IsRefusedImage len why)) }
     ensures narrows { OfEach (S.Holds source.new) (S.Holds source.old) }
 {
     match open_working(alloc, source, len) {
@@ -52,18 +52,20 @@ fn mount(alloc: Global, working: WorkingVolume, len: u64) -> Result<Volume, Faul
 }
 
 /// Reads the blocks that calls read and write of an image of `len` bytes, which was opened by this path, makes all checks, and mounts
-/// its volume over them, with zeros in the place of all other blocks. Faults: `CannotRead` of the path; `Refused`; `NoMemory`.
-pub fn mount_image<'a, S: BlockSource>(
+/// its volume over them, with zeros in the place of all other blocks. Faults: `CannotRead` of the path, where
+/// a read of bytes that it has failed; `Refused`; `NoMemory`.
+pub fn mount_image<'a, S: FailingBlocks, K: PickedFailures>(
     alloc: Global,
-    source: &mut S,
+    source: &mut NotedSource<S, K>,
     len: u64,
     path: &'a str,
 ) -> Result<Volume, Fault<'a>>
     ensures copy { IfOk result (λ volume. IsCopyOfEach (S.Holds source.new) len volume.base) }
     ensures fresh { IfOk result (λ volume. volume.current ≡ volume.base) }
-    ensures fault { IfErr result (IsUnmounted path.entry) }
+    ensures fault { IfErr result (IsUnmounted path.entry (S.Holds source.new) len) }
+    ensures failed { result ≡ Err (Fault.CannotRead path.entry) → SomeFailsWithin K.len K.fails }
     ensures refused { IfErr result (λ fault. (why : MountFault) → fault ≡ Fault.Refused why
-        → OfEach (S.Holds source.new) (λ image. length image ≡ len → fault_of image ≡ Some why)) }
+        → OfEach (S.Holds source.new) (IsRefusedImage len why)) }
     ensures narrows { OfEach (S.Holds source.new) (S.Holds source.old) }
 {
     let working = open_image(alloc, source, len, path)?;

@@ -1,14 +1,15 @@
 //! What comes is put on a volume in a file: what the file is to hold then.
-ghost use Rattle.std.specs.Prelude.{◌≡◌, ◌≤◌, ◌/◌, IfErr, IfOk, OnOk};
+ghost use Rattle.std.specs.Prelude.{◌≡◌, ◌≤◌, ◌/◌, Err, IfErr, IfOk, OnOk};
 ghost use Rattle.hfs_blocks.specs.Blocks.{block_at, block_count};
 ghost use Rattle.hfs_check.specs.Parts.{mdb_in};
-ghost use Rattle.hfs_source.specs.Images.{OfEach};
+ghost use Rattle.hfs_needed.specs.Failing.{SomeFailsWithin};
+ghost use Rattle.hfs_source.specs.Images.{FailsWhere, OfEach};
 ghost use Rattle.hfs_blocks.specs.Layers.{changes, AreWithin};
 ghost use Rattle.hfs_sources.specs.Trees.{OfEachTree};
 ghost use Rattle.hfs_laid_forks.specs.Files.{IsReadOf};
-ghost use Rattle.hfs_word_put.specs.Faults.{IsUnsavedBy};
+ghost use Rattle.hfs_word_put.specs.Faults.{IsUnsavedBy, SparesImage};
 ghost use Rattle.hfs_word_put.specs.Files.{IsPutFile, place_of};
-ghost use Rattle.hfs_word_put.specs.Put.{IsPutFrom, IsPutOf, IsPutOn, IsUnput, IsUnputFrom, IsUnputOn};
+ghost use Rattle.hfs_word_put.specs.Put.{IsPutFrom, IsPutOf, IsPutOn, IsUnput, IsUnputFrom, IsUnputOn, IsUnputSources, range_failures, range_images};
 ghost use Rattle.hfs_word_put.specs.Sums.{put_sums};
 
 use crate::contents::{LaidFile, PutWatch};
@@ -22,14 +23,16 @@ use crate::placing::place_all;
 use crate::wants::put_sums;
 use hfs_commands::{ByteRange, Fault, ImageInFile, WatchedBytes, WatchedRange};
 use hfs_laid_forks::{HostFiles, LaidForks, PlacedFiles};
+use hfs_needed::PickedFailures;
 use hfs_patched::ImagePlace;
 use hfs_put_calls::PutItem;
 use hfs_put_image::PutBlocks;
 use hfs_source::RangeBytes;
 use hfs_sources::{HostTree, SourceItem};
-use hfs_sparse::BlockSource;
 use hfs_volume::Volume;
+use hfs_working::{FailingBlocks, NotedSource};
 use std::alloc::Global;
+use std::marker::Brand;
 
 /// A list that was put on a volume.
 #[derive(Drop)]
@@ -63,6 +66,7 @@ fn sums_of(volume: &Volume, places: &[PutItem]) -> PutSums
 
 /// Puts a list on a volume that was mounted just now. Faults, in this order: what can't come to its place; the first call that is
 /// refused. Or want of memory.
+#[tactic(auto, using(crate::proofs::Spared::unput))]
 fn put_list(
     alloc: Global,
     volume: &mut Volume,
@@ -75,6 +79,7 @@ fn put_list(
     ensures within { IfOk result (λ put. AreWithin (changes put.blocks.patch)
         (block_count volume.old.base)) }
     ensures fault { IfErr result (IsUnputOn order.entry.now volume.old.base items.now) }
+    ensures spares { IfErr result SparesImage }
 {
     let list = place_all(alloc, volume, order, items)?;
     match lay_all(alloc, volume, &list, items, order.now) {
@@ -102,6 +107,7 @@ pub fn put_items<T: HostTree>(
         (block_count volume.old.base)) }
     ensures held { OfEachTree (T.Holds tree.new) (T.Holds tree.old) }
     ensures fault { IfErr result (IsUnput (T.Holds tree.new) order.entry.now volume.old.base) }
+    ensures spares { IfErr result SparesImage }
 {
     let Listed { items, digests } = list_all(alloc, tree, order)?;
     let list = put_list(alloc, volume, order, &items)?;
@@ -113,9 +119,9 @@ pub fn put_items<T: HostTree>(
 
 /// Puts what comes on the volume of an image of `len` bytes, which was opened by this path. Faults, in this order: those of
 /// [`mount_image`], then those of [`put_items`].
-pub fn put_on<'a, S: BlockSource, T: HostTree>(
+pub fn put_on<'a, S: FailingBlocks, K: PickedFailures, T: HostTree>(
     alloc: Global,
-    image: &mut S,
+    image: &mut NotedSource<S, K>,
     len: u64,
     path: &'a str,
     tree: &mut T,
@@ -127,7 +133,10 @@ pub fn put_on<'a, S: BlockSource, T: HostTree>(
     ensures within { IfOk result (λ put. AreWithin (changes put.list.blocks.patch) (len / 512)) }
     ensures fault { IfErr result (IsUnputFrom path.entry (S.Holds image.new) (T.Holds tree.new)
         order.entry.now len) }
+    ensures failed { result ≡ Err (PutFault.Image (Fault.CannotRead path.entry))
+        → SomeFailsWithin K.len K.fails }
     ensures narrows { OfEach (S.Holds image.new) (S.Holds image.old) }
+    ensures held { OfEachTree (T.Holds tree.new) (T.Holds tree.old) }
 {
     let mut volume = match mount_image(alloc, image, len, path) {
         Ok(volume) => volume,
@@ -192,9 +201,37 @@ pub fn put_image<'a, 'w, S: WatchedBytes + Drop, H: PlacedFiles + Drop, W: PutWa
     })
 }
 
+/// Puts what comes on the volume of an image of `len` bytes in a range, where the reads that may fail are picked. Faults: those of
+/// [`put_on`].
+fn put_noted<'a, K: PickedFailures, S: WatchedBytes + Drop, T: HostTree>(
+    alloc: Global,
+    image: WatchedRange<S>,
+    len: u64,
+    path: &'a str,
+    tree: &mut T,
+    order: &PutOrder<'_>,
+) -> (Result<PutItems, PutFault<'a>>, WatchedRange<S>)
+    requires fails { FailsWhere (range_failures S.Fails image) K.fails }
+    requires len { len ≡ K.len }
+    ensures put { IfOk result.0 (λ put. IsPutFrom (range_images S.Holds result.1)
+        (T.Holds tree.new) order.entry.now len put.items.items put.list.blocks put.list.sums) }
+    ensures small { OnOk result.0 (len ≤ 2147483648) }
+    ensures within { IfOk result.0 (λ put. AreWithin (changes put.list.blocks.patch) (len / 512)) }
+    ensures fault { IfErr result.0 (IsUnputFrom path.entry (range_images S.Holds result.1)
+        (T.Holds tree.new) order.entry.now len) }
+    ensures failed { result.0 ≡ Err (PutFault.Image (Fault.CannotRead path.entry))
+        → SomeFailsWithin len K.fails }
+    ensures narrows { OfEach (range_images S.Holds result.1) (range_images S.Holds image) }
+    ensures held { OfEachTree (T.Holds tree.new) (T.Holds tree.old) }
+{
+    let mut noted = NotedSource::<WatchedRange<S>, K>::new(image, len);
+    let put = put_on(alloc, &mut noted, len, path, tree, order);
+    (put, noted.into_source())
+}
+
 /// Puts what comes on the volume of an image that lies in a file, which was opened by this path: what the file is to hold then. The
-/// bytes of forks are read as it is written, of which a watch is told. Faults: those of [`put_on`]; `CannotRead` of the path, where
-/// the forks don't lie in the file, or the image's range isn't as long as it was (which no source of bytes tells).
+/// bytes of forks are read as it is written, of which a watch is told. Faults: those of [`put_on`]. If the image's range isn't as
+/// long as it was, or the forks don't lie in the file, which no source of bytes tells, memory is said to be wanting.
 pub fn put_sources<'a, 'w, S: WatchedBytes + Drop, T: HostTree + Drop, W: PutWatch>(
     alloc: Global,
     image: WatchedRange<S>,
@@ -204,20 +241,23 @@ pub fn put_sources<'a, 'w, S: WatchedBytes + Drop, T: HostTree + Drop, W: PutWat
     order: &PutOrder<'_>,
     watch: &'w W,
 ) -> Result<PutImage<'w, S, HostFiles<T>, W>, PutFault<'a>>
-    ensures { IfOk result (IsPutFile S.Holds (IsReadOf T.Holds T.File.Holds)
+    ensures file { IfOk result (IsPutFile S.Holds (IsReadOf T.Holds T.File.Holds)
         order.entry.now image.bytes.len sum_at) }
+    ensures fault { IfErr result (IsUnputSources S.Holds T.Holds image tree path.entry order.entry.now) }
+    ensures failed { result ≡ Err (PutFault.Image (Fault.CannotRead path.entry))
+        → SomeFailsWithin image.bytes.len (range_failures S.Fails image) }
 {
-    let mut image = image;
     let mut tree = tree;
     let len = image.bytes.len;
-    let put = put_on(alloc, &mut image, len, path, &mut tree, order)?;
+    let (put, image) = put_noted::<Brand, S, T>(alloc, image, len, path, &mut tree, order);
+    let put = put?;
     if image.bytes.len != len {
-        return Err(PutFault::Image(Fault::CannotRead(path)));
+        return Err(PutFault::Image(Fault::NoMemory));
     }
     let files = HostFiles::new(alloc, tree);
     match put_image(alloc, image, len, sum_at, path, files, put, watch) {
         Ok(made) => Ok(made),
-        Err(fault) => Err(PutFault::Image(fault)),
+        Err(_) => Err(PutFault::Image(Fault::NoMemory)),
     }
 }
 

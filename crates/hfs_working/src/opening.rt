@@ -1,10 +1,11 @@
 //! Volumes of which the working blocks are read.
-ghost use Rattle.std.specs.Prelude.{◌≡◌, ◌≢◌, ◌/◌, ◌≤◌, ℕ, None, IfErr, IfOk, OnOk};
+ghost use Rattle.std.specs.Prelude.{◌≡◌, ◌≢◌, ◌/◌, ◌≤◌, ℕ, Err, None, IfErr, IfOk, OnOk};
 ghost use Rattle.std.specs.List.{flat_map};
 ghost use Rattle.hfs_blocks.specs.Blocks.{run_of};
 ghost use Rattle.hfs_blocks.specs.Layers.{KeepsWithin};
 ghost use Rattle.hfs_check.specs.declared.mount_fault.MountFault.{MountFault};
 ghost use Rattle.hfs_check.specs.Sound.{IsSound};
+ghost use Rattle.hfs_needed.specs.Failing.{SomeFailsWithin};
 ghost use Rattle.hfs_needed.specs.Opened.{AreRefusedFor, IsRefusedFor};
 ghost use Rattle.hfs_source.specs.Images.{OfEach};
 ghost use Rattle.hfs_sparse.specs.Seen.{EachKnown, IsSeen, SeesMore};
@@ -12,8 +13,9 @@ ghost use Rattle.hfs_sparse.specs.Sparse.{HasEach, HasGrown, StaysOf};
 ghost use Rattle.hfs_volume.specs.Image.{copy_of};
 ghost use Rattle.hfs_working.specs.Opened.{IsCopyOf, IsWorkingOf, LieWithin};
 
+use crate::noted::{FailingBlocks, NotedSource};
 use hfs_check::{MountFault, SoundVolume, VolumeTrees, check_blocks};
-use hfs_needed::{NeededFault, gather_needed};
+use hfs_needed::{NeededFault, PickedFailures, gather_needed};
 use hfs_sparse::{BlockSource, SparseBlocks, SparseFault, fetch_runs};
 use std::alloc::Global;
 
@@ -89,10 +91,8 @@ fn open_blocks<S: BlockSource>(
     }
 }
 
-/// Reads the working blocks of an image of `len` bytes, and makes all checks: the blocks that the checks need, and the free nodes of both trees.
-/// What was read, with zeros elsewhere, is sound, and is a copy of the image over which calls can be made; it is of each image that has the
-/// bytes which were read. Errors: a read failed, memory was refused, or the image is refused.
-pub fn open_working<S: BlockSource>(
+/// Reads the working blocks of an image of `len` bytes, and makes all checks, as [`open_working`] does, and says nothing of reads that fail.
+fn open_unnoted<S: BlockSource>(
     alloc: Global,
     source: &mut S,
     len: u64,
@@ -115,4 +115,31 @@ pub fn open_working<S: BlockSource>(
         return Err(NeededFault::Refused(MountFault::Short));
     }
     open_blocks(alloc, source, (len / 512) as u32)
+}
+
+/// Reads the working blocks of an image of `len` bytes, and makes all checks: the blocks that the checks need, and the free nodes of both trees.
+/// What was read, with zeros elsewhere, is sound, and is a copy of the image over which calls can be made; it is of each image that has the
+/// bytes which were read. Errors: a read of bytes that it has failed, memory was refused, or the image is refused.
+pub fn open_working<S: FailingBlocks, K: PickedFailures>(
+    alloc: Global,
+    source: &mut NotedSource<S, K>,
+    len: u64,
+) -> Result<WorkingVolume, NeededFault>
+    ensures opened { IfOk result (IsWorkingOf (S.image source.old) (len / 512)) }
+    ensures mountable { IfOk result (IsWorkingOf None (len / 512)) }
+    ensures sound { IfOk result (λ volume. IsSound (copy_of volume.read len)) }
+    ensures copy { IfOk result (IsCopyOf (S.image source.old) len) }
+    ensures refused { IfErr result (λ fault. IsRefusedFor (S.image source.old) len fault) }
+    ensures failed { result ≡ Err NeededFault.ReadFailed → SomeFailsWithin K.len K.fails }
+    ensures image { S.image source.new ≡ S.image source.old }
+    ensures seen { IfOk result (λ volume. IsSeen (S.Holds source.new) volume.read) }
+    ensures each_refused { IfErr result (λ fault. EachKnown (S.Holds source.new)
+        (λ known. IsRefusedFor known len fault)) }
+    ensures narrows { OfEach (S.Holds source.new) (S.Holds source.old) }
+{
+    let opened = open_unnoted(alloc, source, len);
+    match opened {
+        Ok(volume) => Ok(volume),
+        Err(why) => Err(why.noted(source.has_failed())),
+    }
 }
