@@ -1,5 +1,5 @@
 //! Scripts that are run on images of which only what they need is read.
-ghost use Rattle.std.specs.Prelude.{◌≡◌, ◌≤◌, ◌⊎◌, ◌/◌, All, Err, IfErr, IfOk, Ok, Some, length};
+ghost use Rattle.std.specs.Prelude.{◌≡◌, ◌≤◌, ◌⊎◌, ◌/◌, All, IfErr, IfOk, Ok, Some, length};
 ghost use Rattle.hfs_blocks.specs.Layers.{changes, AreWithin};
 ghost use Rattle.hfs_check.specs.Faults.{fault_of};
 ghost use Rattle.hfs_runs.specs.Asking.{IsSmall};
@@ -136,7 +136,8 @@ fn open_noted<'a, K: PickedFailures, S: FailingBlocks + Drop>(
     ensures back_image { IfOk result (λ opened. IfErr opened (λ refused.
         S.image refused.source ≡ S.image source)) }
     ensures fault { IfErr result (λ why. (why ≡ Fault.CannotRead path.entry) ⊎ (why ≡ Fault.NoMemory)) }
-    ensures failed { result ≡ Err (Fault.CannotRead path.entry) → SomeFailsWithin len K.fails }
+    ensures failed { IfErr result (λ why. why ≡ Fault.CannotRead path.entry
+        → SomeFailsWithin len K.fails) }
 {
     let mut noted = NotedSource::<S, K>::new(source, len);
     let opened = open_working(alloc, &mut noted, len);
@@ -183,8 +184,8 @@ impl<S: FailingBlocks + Drop> RunImage<S> {
         ensures back_image { IfOk result (λ opened. IfErr opened (λ refused.
             S.image refused.source ≡ S.image source)) }
         ensures fault { IfErr result (λ why. (why ≡ Fault.CannotRead path.entry) ⊎ IsTooMuch why) }
-        ensures failed { result ≡ Err (Fault.CannotRead path.entry)
-            → SomeFailsWithin len (S.Fails source) }
+        ensures failed { IfErr result (λ why. why ≡ Fault.CannotRead path.entry
+            → SomeFailsWithin len (S.Fails source)) }
     {
         if len > IMAGE_LIMIT as u64 {
             return Err(Fault::Refused(MountFault::TooLarge));

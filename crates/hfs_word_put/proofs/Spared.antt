@@ -1,6 +1,8 @@
 -- What is told where nothing comes onto a volume is never that its image can't be read.
 use Rattle.std.proofs.Common.{◌≡◌, ℕ, List, Option, Some, None, refl, sym, subst, ⊎_elim}
-use Rattle.hfs_commands.specs.declared.fault.Fault.TheVariants.{NoMemory}
+use Rattle.std.specs.Borrow.{Bor}
+use Rattle.hfs_commands.specs.declared.fault.Fault.{Fault}
+use Rattle.hfs_commands.specs.declared.fault.Fault.TheVariants.{CannotRead, NoMemory}
 use Rattle.hfs_put.specs.declared.faults.LayFault.{LayFault}
 use Rattle.hfs_put.specs.declared.faults.LayFault.TheVariants as lay_fault
 use Rattle.hfs_sources.specs.Items.{PlannedItem}
@@ -36,3 +38,11 @@ pub unput : (order : PutOrder) (copy : List ℕ) (items : List PlannedItem) (tol
 unput order copy items told =
     ⊎_elim (λ (is : TellsAny (refusal (volume_of copy) order items) told). by-any _ told is)
     (λ (is : IsRefusedOn order copy items told). by-lay items _ is.unlaid.why told is.unlaid.line)
+
+-- and so it isn't that the image can't be read
+pub not_unread : (path : Bor (List ℕ)) (told : PutFault) → SparesImage told → told ≡ fault.Image (CannotRead path) → ⊥
+not_unread path told is e = let no : CannotRead path ≡ NoMemory = subst SparesImage e is in cc
+
+-- of an image's fault it is that
+pub image_fault : (found other : Fault) → ◌≡◌ {A = PutFault} (fault.Image found) (fault.Image other) → found ≡ other
+image_fault found other e = cc

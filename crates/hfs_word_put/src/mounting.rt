@@ -1,5 +1,5 @@
 //! The volume of an image is mounted over the blocks that calls read and write.
-ghost use Rattle.std.specs.Prelude.{◌≡◌, ◌/◌, Err, None, IfErr, IfOk};
+ghost use Rattle.std.specs.Prelude.{◌≡◌, ◌/◌, None, IfErr, IfOk};
 ghost use Rattle.hfs_check.specs.Sound.{IsSound};
 ghost use Rattle.hfs_check.specs.declared.mount_fault.MountFault.{MountFault};
 ghost use Rattle.hfs_commands.specs.Running.{IsRunnable};
@@ -24,7 +24,8 @@ fn open_image<'a, S: FailingBlocks, K: PickedFailures>(
 ) -> Result<WorkingVolume, Fault<'a>>
     ensures opened { IfOk result (IsRunnable (S.Holds source.new) len) }
     ensures fault { IfErr result (IsUnmounted path.entry (S.Holds source.new) len) }
-    ensures failed { result ≡ Err (Fault.CannotRead path.entry) → SomeFailsWithin K.len K.fails }
+    ensures failed { IfErr result (λ fault. fault ≡ Fault.CannotRead path.entry
+        → SomeFailsWithin K.len K.fails) }
     ensures refused { IfErr result (λ fault. (why : MountFault) → fault ≡ Fault.Refused why
         → OfEach (S.Holds source.new) (IsRefusedImage len why)) }
     ensures narrows { OfEach (S.Holds source.new) (S.Holds source.old) }
@@ -63,7 +64,8 @@ pub fn mount_image<'a, S: FailingBlocks, K: PickedFailures>(
     ensures copy { IfOk result (λ volume. IsCopyOfEach (S.Holds source.new) len volume.base) }
     ensures fresh { IfOk result (λ volume. volume.current ≡ volume.base) }
     ensures fault { IfErr result (IsUnmounted path.entry (S.Holds source.new) len) }
-    ensures failed { result ≡ Err (Fault.CannotRead path.entry) → SomeFailsWithin K.len K.fails }
+    ensures failed { IfErr result (λ fault. fault ≡ Fault.CannotRead path.entry
+        → SomeFailsWithin K.len K.fails) }
     ensures refused { IfErr result (λ fault. (why : MountFault) → fault ≡ Fault.Refused why
         → OfEach (S.Holds source.new) (IsRefusedImage len why)) }
     ensures narrows { OfEach (S.Holds source.new) (S.Holds source.old) }

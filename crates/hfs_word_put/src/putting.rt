@@ -1,5 +1,5 @@
 //! What comes is put on a volume in a file: what the file is to hold then.
-ghost use Rattle.std.specs.Prelude.{◌≡◌, ◌≤◌, ◌/◌, Err, IfErr, IfOk, OnOk};
+ghost use Rattle.std.specs.Prelude.{◌≡◌, ◌≤◌, ◌/◌, IfErr, IfOk, OnOk};
 ghost use Rattle.hfs_blocks.specs.Blocks.{block_at, block_count};
 ghost use Rattle.hfs_check.specs.Parts.{mdb_in};
 ghost use Rattle.hfs_needed.specs.Failing.{SomeFailsWithin};
@@ -133,8 +133,8 @@ pub fn put_on<'a, S: FailingBlocks, K: PickedFailures, T: HostTree>(
     ensures within { IfOk result (λ put. AreWithin (changes put.list.blocks.patch) (len / 512)) }
     ensures fault { IfErr result (IsUnputFrom path.entry (S.Holds image.new) (T.Holds tree.new)
         order.entry.now len) }
-    ensures failed { result ≡ Err (PutFault.Image (Fault.CannotRead path.entry))
-        → SomeFailsWithin K.len K.fails }
+    ensures failed { IfErr result (λ fault. fault ≡ PutFault.Image (Fault.CannotRead path.entry)
+        → SomeFailsWithin K.len K.fails) }
     ensures narrows { OfEach (S.Holds image.new) (S.Holds image.old) }
     ensures held { OfEachTree (T.Holds tree.new) (T.Holds tree.old) }
 {
@@ -219,8 +219,8 @@ fn put_noted<'a, K: PickedFailures, S: WatchedBytes + Drop, T: HostTree>(
     ensures within { IfOk result.0 (λ put. AreWithin (changes put.list.blocks.patch) (len / 512)) }
     ensures fault { IfErr result.0 (IsUnputFrom path.entry (range_images S.Holds result.1)
         (T.Holds tree.new) order.entry.now len) }
-    ensures failed { result.0 ≡ Err (PutFault.Image (Fault.CannotRead path.entry))
-        → SomeFailsWithin len K.fails }
+    ensures failed { IfErr result.0 (λ fault. fault ≡ PutFault.Image (Fault.CannotRead path.entry)
+        → SomeFailsWithin len K.fails) }
     ensures narrows { OfEach (range_images S.Holds result.1) (range_images S.Holds image) }
     ensures held { OfEachTree (T.Holds tree.new) (T.Holds tree.old) }
 {
@@ -244,8 +244,8 @@ pub fn put_sources<'a, 'w, S: WatchedBytes + Drop, T: HostTree + Drop, W: PutWat
     ensures file { IfOk result (IsPutFile S.Holds (IsReadOf T.Holds T.File.Holds)
         order.entry.now image.bytes.len sum_at) }
     ensures fault { IfErr result (IsUnputSources S.Holds T.Holds image tree path.entry order.entry.now) }
-    ensures failed { result ≡ Err (PutFault.Image (Fault.CannotRead path.entry))
-        → SomeFailsWithin image.bytes.len (range_failures S.Fails image) }
+    ensures failed { IfErr result (λ fault. fault ≡ PutFault.Image (Fault.CannotRead path.entry)
+        → SomeFailsWithin image.bytes.len (range_failures S.Fails image)) }
 {
     let mut tree = tree;
     let len = image.bytes.len;

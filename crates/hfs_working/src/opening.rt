@@ -1,5 +1,5 @@
 //! Volumes of which the working blocks are read.
-ghost use Rattle.std.specs.Prelude.{◌≡◌, ◌≢◌, ◌/◌, ◌≤◌, ℕ, Err, None, IfErr, IfOk, OnOk};
+ghost use Rattle.std.specs.Prelude.{◌≡◌, ◌≢◌, ◌/◌, ◌≤◌, ℕ, None, IfErr, IfOk, OnOk};
 ghost use Rattle.std.specs.List.{flat_map};
 ghost use Rattle.hfs_blocks.specs.Blocks.{run_of};
 ghost use Rattle.hfs_blocks.specs.Layers.{KeepsWithin};
@@ -130,7 +130,8 @@ pub fn open_working<S: FailingBlocks, K: PickedFailures>(
     ensures sound { IfOk result (λ volume. IsSound (copy_of volume.read len)) }
     ensures copy { IfOk result (IsCopyOf (S.image source.old) len) }
     ensures refused { IfErr result (λ fault. IsRefusedFor (S.image source.old) len fault) }
-    ensures failed { result ≡ Err NeededFault.ReadFailed → SomeFailsWithin K.len K.fails }
+    ensures failed { IfErr result (λ fault. fault ≡ NeededFault.ReadFailed
+        → SomeFailsWithin K.len K.fails) }
     ensures image { S.image source.new ≡ S.image source.old }
     ensures seen { IfOk result (λ volume. IsSeen (S.Holds source.new) volume.read) }
     ensures each_refused { IfErr result (λ fault. EachKnown (S.Holds source.new)
