@@ -9,21 +9,21 @@ ghost use Rattle.hfs_scripts.specs.Scripts.{script_of};
 ghost use Rattle.hfs_commands.specs.Faults.{IsTooMuch};
 ghost use Rattle.hfs_commands.specs.Running.{IsNeededFault, IsNeededRunOf, IsScriptFault};
 ghost use Rattle.hfs_needed.specs.Failing.{SomeFailsWithin};
-ghost use Rattle.hfs_source.specs.Images.{FailsWhere, OfEach};
+ghost use Rattle.hfs_source.specs.Images.{OfEach};
 
 use crate::fault::Fault;
 use crate::patched_image::PatchedImage;
 use hfs_check::MountFault;
 use hfs_files::Watched;
-use hfs_needed::{NeededFault, PickedFailures};
+use hfs_needed::NeededFault;
 use hfs_needed_runs::{NeededRan, fetch_named_forks, run_needed_at};
 use hfs_runs::{Answers, Gate, ScriptFault};
 use hfs_scripts::{Script, read_script};
 use hfs_sparse::{BlockSource, SparseFault};
 use hfs_texts::IMAGE_LIMIT;
-use hfs_working::{FailingBlocks, NotedSource, WorkingVolume, open_working};
+use hfs_working::{FailingBlocks, WorkingVolume, open_working};
 use std::alloc::Global;
-use std::marker::{Brand, Model};
+use std::marker::Model;
 use std::sync::Wait;
 use std::thread::Threads;
 
@@ -114,46 +114,6 @@ pub fn script_lines(alloc: Global, bytes: &[u8], now: u32) -> Result<Script, Fau
     }
 }
 
-/// Opens an image of `len` bytes as [`RunImage::open`] does, where the reads that may fail are picked.
-fn open_noted<'a, K: PickedFailures, S: FailingBlocks + Drop>(
-    alloc: Global,
-    source: S,
-    len: u64,
-    path: &'a str,
-) -> Result<Result<RunImage<S>, RefusedRun<S>>, Fault<'a>>
-    requires fails { FailsWhere (S.Fails source) K.fails }
-    requires len { len ≡ K.len }
-    requires small { len ≤ 2147483648 }
-    ensures len { IfOk result (λ opened. IfOk opened (λ image. image.1 ≡ len)) }
-    ensures image { IfOk result (λ opened. IfOk opened (λ image.
-        S.image image.0 ≡ S.image source)) }
-    ensures narrows { IfOk result (λ opened. IfOk opened (λ image.
-        OfEach (S.Holds image.0) (S.Holds source))) }
-    ensures refused { IfOk result (λ opened. IfErr opened (λ refused.
-        OfEach (S.Holds refused.source) (λ bytes. length bytes ≡ len → fault_of bytes ≡ Some refused.why))) }
-    ensures back { IfOk result (λ opened. IfErr opened (λ refused.
-        OfEach (S.Holds refused.source) (S.Holds source))) }
-    ensures back_image { IfOk result (λ opened. IfErr opened (λ refused.
-        S.image refused.source ≡ S.image source)) }
-    ensures fault { IfErr result (λ why. (why ≡ Fault.CannotRead path.entry) ⊎ (why ≡ Fault.NoMemory)) }
-    ensures failed { IfErr result (λ why. why ≡ Fault.CannotRead path.entry
-        → SomeFailsWithin len K.fails) }
-{
-    let mut noted = NotedSource::<S, K>::new(source, len);
-    let opened = open_working(alloc, &mut noted, len);
-    let source = noted.into_source();
-    match opened {
-        Ok(working) => Ok(Ok(RunImage {
-            source,
-            len,
-            working,
-        })),
-        Err(NeededFault::Refused(why)) => Ok(Err(RefusedRun { why, source })),
-        Err(NeededFault::ReadFailed) => Err(Fault::CannotRead(path)),
-        Err(NeededFault::Memory) => Err(Fault::NoMemory),
-    }
-}
-
 /// The program's fault for a volume that was not shared for a run.
 fn start_fault(fault: ScriptFault) -> Fault<'static>
     requires { IsStartFault fault }
@@ -190,7 +150,17 @@ impl<S: FailingBlocks + Drop> RunImage<S> {
         if len > IMAGE_LIMIT as u64 {
             return Err(Fault::Refused(MountFault::TooLarge));
         }
-        open_noted::<Brand, S>(alloc, source, len, path)
+        let (opened, source) = open_working(alloc, source, len);
+        match opened {
+            Ok(working) => Ok(Ok(RunImage {
+                source,
+                len,
+                working,
+            })),
+            Err(NeededFault::Refused(why)) => Ok(Err(RefusedRun { why, source })),
+            Err(NeededFault::ReadFailed) => Err(Fault::CannotRead(path)),
+            Err(NeededFault::Memory) => Err(Fault::NoMemory),
+        }
     }
 }
 

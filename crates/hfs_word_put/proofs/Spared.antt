@@ -1,11 +1,12 @@
--- What is told where nothing comes onto a volume is never that its image can't be read.
-use Rattle.std.proofs.Common.{◌≡◌, ℕ, List, Option, Some, None, refl, sym, subst, ⊎_elim}
+-- What is told where nothing is put on a volume: never that its image can't be read.
+use Rattle.std.proofs.Common.{◌≡◌, ℕ, List, Option, Some, None, refl, sym, subst, inl, inr, ⊎_elim}
 use Rattle.std.specs.Borrow.{Bor}
-use Rattle.hfs_commands.specs.declared.fault.Fault.{Fault}
-use Rattle.hfs_commands.specs.declared.fault.Fault.TheVariants.{CannotRead, NoMemory}
+use Rattle.hfs_commands.specs.declared.watched_range.WatchedRange.{WatchedRange}
+use Rattle.hfs_commands.specs.declared.fault.Fault.TheVariants.{NoMemory}
 use Rattle.hfs_put.specs.declared.faults.LayFault.{LayFault}
 use Rattle.hfs_put.specs.declared.faults.LayFault.TheVariants as lay_fault
 use Rattle.hfs_sources.specs.Items.{PlannedItem}
+use Rattle.hfs_sources.specs.Trees.{Tree}
 use Rattle.hfs_check.specs.VolumeOf.{volume_of}
 use Rattle.hfs_word_put.specs.declared.fault.PutFault.{PutFault}
 use Rattle.hfs_word_put.specs.declared.fault.PutFault.TheVariants as fault
@@ -14,7 +15,7 @@ use Rattle.hfs_word_put.specs.declared.order.PutOrder.{PutOrder}
 use Rattle.hfs_word_put.specs.Faults.{SparesImage, TellsBy}
 use Rattle.hfs_word_put.specs.Laid.{TellsLay}
 use Rattle.hfs_word_put.specs.Placed.{TellsAny, refusal}
-use Rattle.hfs_word_put.specs.Put.{IsRefusedOn, IsUnputOn}
+use Rattle.hfs_word_put.specs.Put.{IsRefusedOn, IsUnputOn, IsUnputSources}
 
 by-memory : (told : PutFault) → told ≡ fault.Image NoMemory → SparesImage told
 by-memory told e = subst SparesImage (sym e) refl
@@ -39,10 +40,8 @@ unput order copy items told =
     ⊎_elim (λ (is : TellsAny (refusal (volume_of copy) order items) told). by-any _ told is)
     (λ (is : IsRefusedOn order copy items told). by-lay items _ is.unlaid.why told is.unlaid.line)
 
--- and so it isn't that the image can't be read
-pub not_unread : (path : Bor (List ℕ)) (told : PutFault) → SparesImage told → told ≡ fault.Image (CannotRead path) → ⊥
-not_unread path told is e = let no : CannotRead path ≡ NoMemory = subst SparesImage e is in cc
-
--- of an image's fault it is that
-pub image_fault : (found other : Fault) → ◌≡◌ {A = PutFault} (fault.Image found) (fault.Image other) → found ≡ other
-image_fault found other e = cc
+-- where memory is wanting, nothing more need be known
+pub for_memory : {S T : Type 0} (Files : S → List ℕ → Type 0) (Hosts : T → Tree → Type 0) (range : WatchedRange S) (tree : T) (path : Bor (List ℕ)) (order : PutOrder)
+    → IsUnputSources Files Hosts range tree path order (fault.Image NoMemory)
+for_memory Files Hosts range tree path order =
+    record { read = range; seen = tree; narrows = λ image h. h; held = λ host h. h; why = inl (NoMemory, refl, inr (inl refl)) }

@@ -3,7 +3,7 @@ ghost use Rattle.std.specs.Prelude.{◌≡◌, ◌≤◌, ◌/◌, IfErr, IfOk, 
 ghost use Rattle.hfs_blocks.specs.Blocks.{block_at, block_count};
 ghost use Rattle.hfs_check.specs.Parts.{mdb_in};
 ghost use Rattle.hfs_needed.specs.Failing.{SomeFailsWithin};
-ghost use Rattle.hfs_source.specs.Images.{FailsWhere, OfEach};
+ghost use Rattle.hfs_source.specs.Images.{OfEach};
 ghost use Rattle.hfs_blocks.specs.Layers.{changes, AreWithin};
 ghost use Rattle.hfs_sources.specs.Trees.{OfEachTree};
 ghost use Rattle.hfs_laid_forks.specs.Files.{IsReadOf};
@@ -23,16 +23,14 @@ use crate::placing::place_all;
 use crate::wants::put_sums;
 use hfs_commands::{ByteRange, Fault, ImageInFile, WatchedBytes, WatchedRange};
 use hfs_laid_forks::{HostFiles, LaidForks, PlacedFiles};
-use hfs_needed::PickedFailures;
 use hfs_patched::ImagePlace;
 use hfs_put_calls::PutItem;
 use hfs_put_image::PutBlocks;
 use hfs_source::RangeBytes;
 use hfs_sources::{HostTree, SourceItem};
 use hfs_volume::Volume;
-use hfs_working::{FailingBlocks, NotedSource};
+use hfs_working::FailingBlocks;
 use std::alloc::Global;
-use std::marker::Brand;
 
 /// A list that was put on a volume.
 #[derive(Drop)]
@@ -118,33 +116,34 @@ pub fn put_items<T: HostTree>(
 }
 
 /// Puts the sources on the volume of an image of `len` bytes, opened by this path. Faults, in this order: those of
-/// [`mount_image`], then those of [`put_items`].
-pub fn put_on<'a, S: FailingBlocks, K: PickedFailures, T: HostTree>(
+/// [`mount_image`], then those of [`put_items`]. What the image is read from is handed back.
+pub fn put_on<'a, S: FailingBlocks, T: HostTree>(
     alloc: Global,
-    image: &mut NotedSource<S, K>,
+    image: S,
     len: u64,
     path: &'a str,
     tree: &mut T,
     order: &PutOrder<'_>,
-) -> Result<PutItems, PutFault<'a>>
-    ensures put { IfOk result (λ put. IsPutFrom (S.Holds image.new) (T.Holds tree.new)
+) -> (Result<PutItems, PutFault<'a>>, S)
+    ensures put { IfOk result.0 (λ put. IsPutFrom (S.Holds result.1) (T.Holds tree.new)
         order.entry.now len put.items.items put.list.blocks put.list.sums) }
-    ensures small { OnOk result (len ≤ 2147483648) }
-    ensures within { IfOk result (λ put. AreWithin (changes put.list.blocks.patch) (len / 512)) }
-    ensures fault { IfErr result (IsUnputFrom path.entry (S.Holds image.new) (T.Holds tree.new)
+    ensures small { OnOk result.0 (len ≤ 2147483648) }
+    ensures within { IfOk result.0 (λ put. AreWithin (changes put.list.blocks.patch) (len / 512)) }
+    ensures fault { IfErr result.0 (IsUnputFrom path.entry (S.Holds result.1) (T.Holds tree.new)
         order.entry.now len) }
-    ensures failed { IfErr result (λ fault. fault ≡ PutFault.Image (Fault.CannotRead path.entry)
-        → SomeFailsWithin K.len K.fails) }
-    ensures narrows { OfEach (S.Holds image.new) (S.Holds image.old) }
+    ensures failed { IfErr result.0 (λ fault. fault ≡ PutFault.Image (Fault.CannotRead path.entry)
+        → SomeFailsWithin len (S.Fails image)) }
+    ensures narrows { OfEach (S.Holds result.1) (S.Holds image) }
     ensures held { OfEachTree (T.Holds tree.new) (T.Holds tree.old) }
 {
-    let mut volume = match mount_image(alloc, image, len, path) {
+    let (mounted, image) = mount_image(alloc, image, len, path);
+    let mut volume = match mounted {
         Ok(volume) => volume,
-        Err(fault) => return Err(PutFault::Image(fault)),
+        Err(fault) => return (Err(PutFault::Image(fault)), image),
     };
     match put_items(alloc, &mut volume, tree, order) {
-        Ok(put) => Ok(put),
-        Err(fault) => Err(fault),
+        Ok(put) => (Ok(put), image),
+        Err(fault) => (Err(fault), image),
     }
 }
 
@@ -201,34 +200,6 @@ pub fn put_image<'a, 'w, S: WatchedBytes + Drop, H: PlacedFiles + Drop, W: PutWa
     })
 }
 
-/// Puts the sources on the volume of an image of `len` bytes in a range, where the reads that may fail are picked. Faults: those
-/// of [`put_on`].
-fn put_noted<'a, K: PickedFailures, S: WatchedBytes + Drop, T: HostTree>(
-    alloc: Global,
-    image: WatchedRange<S>,
-    len: u64,
-    path: &'a str,
-    tree: &mut T,
-    order: &PutOrder<'_>,
-) -> (Result<PutItems, PutFault<'a>>, WatchedRange<S>)
-    requires fails { FailsWhere (range_failures S.Fails image) K.fails }
-    requires len { len ≡ K.len }
-    ensures put { IfOk result.0 (λ put. IsPutFrom (range_images S.Holds result.1)
-        (T.Holds tree.new) order.entry.now len put.items.items put.list.blocks put.list.sums) }
-    ensures small { OnOk result.0 (len ≤ 2147483648) }
-    ensures within { IfOk result.0 (λ put. AreWithin (changes put.list.blocks.patch) (len / 512)) }
-    ensures fault { IfErr result.0 (IsUnputFrom path.entry (range_images S.Holds result.1)
-        (T.Holds tree.new) order.entry.now len) }
-    ensures failed { IfErr result.0 (λ fault. fault ≡ PutFault.Image (Fault.CannotRead path.entry)
-        → SomeFailsWithin len K.fails) }
-    ensures narrows { OfEach (range_images S.Holds result.1) (range_images S.Holds image) }
-    ensures held { OfEachTree (T.Holds tree.new) (T.Holds tree.old) }
-{
-    let mut noted = NotedSource::<WatchedRange<S>, K>::new(image, len);
-    let put = put_on(alloc, &mut noted, len, path, tree, order);
-    (put, noted.into_source())
-}
-
 /// Puts the sources on the volume of an image in a file, opened by this path, and returns what the file is to hold. The bytes of
 /// forks are read while it is written, and reported to a watch. Faults: those of [`put_on`]. Out of memory
 /// if the forks don't lie in the file, or the image's range isn't as long as it was: no source of bytes lets that happen.
@@ -249,8 +220,11 @@ pub fn put_sources<'a, 'w, S: WatchedBytes + Drop, T: HostTree + Drop, W: PutWat
 {
     let mut tree = tree;
     let len = image.bytes.len;
-    let (put, image) = put_noted::<Brand, S, T>(alloc, image, len, path, &mut tree, order);
-    let put = put?;
+    let (put, image) = put_on(alloc, image, len, path, &mut tree, order);
+    let put = match put {
+        Ok(put) => put,
+        Err(fault) => return Err(fault),
+    };
     if image.bytes.len != len {
         return Err(PutFault::Image(Fault::NoMemory));
     }

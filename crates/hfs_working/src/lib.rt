@@ -12,5 +12,5 @@ pub use crate::laws::{
     changes_carry_over, copies_answer, kept_changes_carry_over, kept_forks_are_alike,
 };
 pub use crate::mounting::mount_read;
-pub use crate::noted::{FailingBlocks, NotedSource};
+pub use crate::noted::FailingBlocks;
 pub use crate::opening::{WorkingVolume, open_working};

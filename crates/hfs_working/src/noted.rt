@@ -26,7 +26,7 @@ pub trait FailingBlocks: BlockSource {
 
 /// Blocks that are read from a source, with a note whether a read of bytes that it has failed.
 #[derive(Drop)]
-pub struct NotedSource<S: FailingBlocks, K: PickedFailures> {
+pub(crate) struct NotedSource<S: FailingBlocks, K: PickedFailures> {
     blocks: S,
     /// How many bytes there are.
     len: u64,
@@ -47,7 +47,7 @@ impl<S: FailingBlocks, K: PickedFailures> Model for NotedSource<S, K> {
 
 impl<S: FailingBlocks, K: PickedFailures> NotedSource<S, K> {
     /// The blocks of a source that has so many bytes, no read of which failed yet.
-    pub fn new(source: S, len: u64) -> NotedSource<S, K>
+    pub(crate) fn new(source: S, len: u64) -> NotedSource<S, K>
         requires fails { FailsWhere (S.Fails source) K.fails }
         requires len { len ≡ K.len }
         ensures { result ≡ source }
@@ -60,24 +60,18 @@ impl<S: FailingBlocks, K: PickedFailures> NotedSource<S, K> {
         }
     }
 
-    /// Whether a read of bytes that the source has failed.
-    pub fn has_failed(&self) -> bool
-        ensures { result ≡ true → SomeFailsWithin K.len K.fails }
-    {
-        self.failed
-    }
-
-    /// The source.
-    pub fn into_source(self) -> S
-        ensures { result ≡ self }
+    /// The source, and whether a read of bytes that it has failed.
+    pub(crate) fn into_source(self) -> (S, bool)
+        ensures source { result.0 ≡ self }
+        ensures failed { result.1 ≡ true → SomeFailsWithin K.len K.fails }
     {
         let NotedSource {
             blocks,
             len: _,
-            failed: _,
+            failed,
             of: _,
         } = self;
-        blocks
+        (blocks, failed)
     }
 }
 
