@@ -1,5 +1,5 @@
-//! What the program's words do, as functions over readers, writers and values: what is read, and the lines or bytes that
-//! are written. The words themselves, and standard input and output, are in `hfs_tool`.
+//! What the program's words do, as functions over readers, writers and values: what is read, and the lines or bytes that are
+//! written. The words themselves, and standard input and output, are in `hfs_tool`.
 #![tactic(auto)]
 
 mod answers;
@@ -43,6 +43,7 @@ pub use hfs_runs::{Answers, Gate, Ran, ScriptFault, run_script_at};
 pub use hfs_sparse::{BlockSource, CopyFault, SparseFault};
 pub use hfs_table::Format;
 pub use hfs_texts::{InfoFault, LoadFault, put, run_info};
+pub use hfs_working::FailingBlocks;
 pub use items::write_items;
 pub use listing::{children_text, code_text, seen_list_text};
 pub use macbinary::put_macbinary;

@@ -1,4 +1,4 @@
-//! Scripts that are run on images of which only what they need is read.
+//! Scripts run on images, of which only what the scripts need is read.
 ghost use Rattle.std.specs.Prelude.{◌≡◌, ◌≤◌, ◌⊎◌, ◌/◌, All, IfErr, IfOk, Ok, Some, length};
 ghost use Rattle.hfs_blocks.specs.Layers.{changes, AreWithin};
 ghost use Rattle.hfs_check.specs.Faults.{fault_of};
@@ -8,6 +8,7 @@ ghost use Rattle.hfs_runs.specs.Runs.{IsStartFault};
 ghost use Rattle.hfs_scripts.specs.Scripts.{script_of};
 ghost use Rattle.hfs_commands.specs.Faults.{IsTooMuch};
 ghost use Rattle.hfs_commands.specs.Running.{IsNeededFault, IsNeededRunOf, IsScriptFault};
+ghost use Rattle.hfs_needed.specs.Failing.{SomeFailsWithin};
 ghost use Rattle.hfs_source.specs.Images.{OfEach};
 
 use crate::fault::Fault;
@@ -20,13 +21,13 @@ use hfs_runs::{Answers, Gate, ScriptFault};
 use hfs_scripts::{Script, read_script};
 use hfs_sparse::{BlockSource, SparseFault};
 use hfs_texts::IMAGE_LIMIT;
-use hfs_working::{WorkingVolume, open_working};
+use hfs_working::{FailingBlocks, WorkingVolume, open_working};
 use std::alloc::Global;
 use std::marker::Model;
 use std::sync::Wait;
 use std::thread::Threads;
 
-/// An image on which a script is to be run, of which the blocks were read that calls read and write.
+/// An image on which a script is about to be run, with the blocks that calls read and write already read.
 #[derive(Drop)]
 pub struct RunImage<S: BlockSource> {
     /// Where the forks are read from that a script may read or write.
@@ -47,25 +48,25 @@ impl<S: BlockSource> Model for RunImage<S> {
     ghost invariant = { λ image. IsRunnable (S.Holds image.source) image.len image.working };
 }
 
-/// An image on which no script is run, since it is refused.
+/// An image that is refused, so that no script is run on it.
 #[derive(Drop)]
 pub struct RefusedRun<S> {
     /// Its first fault.
     pub why: MountFault,
-    /// Where it was read from.
+    /// What it was read from.
     pub source: S,
 }
 
-/// What a run of a script made of an image.
+/// What running a script made of an image.
 #[derive(Drop)]
 pub struct RanImage<S> {
-    /// The image with what was changed laid over it, as what a file is to hold.
+    /// The image with the changes laid over it, as the contents of a file.
     pub image: PatchedImage<S>,
-    /// The answers, of which long bytes have no digits yet.
+    /// The answers; the digits of long bytes are left out for now.
     pub answers: Answers,
-    /// Whether each line was answered.
+    /// Whether every line was answered.
     pub whole: bool,
-    /// Whether viewers were shown each change at once, and none later for want of memory.
+    /// Whether viewers were shown each change at once, and none later for lack of memory.
     pub shown: bool,
 }
 
@@ -101,7 +102,7 @@ fn ran_image<S: BlockSource>(alloc: Global, source: S, len: u64, ran: NeededRan)
     }
 }
 
-/// The script that bytes are, whose changes are made at the moment `now`. Faults: `ScriptTooLarge`, `ScriptLine`, `NoMemory`.
+/// The script in these bytes, whose changes are made at the moment `now`. Faults: `ScriptTooLarge`, `ScriptLine`, `NoMemory`.
 pub fn script_lines(alloc: Global, bytes: &[u8], now: u32) -> Result<Script, Fault<'static>>
     ensures read { IfOk result (λ script. script_of now bytes.now ≡ Ok script) }
     ensures small { IfOk result (λ script. All (λ line. IsSmall line.caller) script) }
@@ -113,7 +114,7 @@ pub fn script_lines(alloc: Global, bytes: &[u8], now: u32) -> Result<Script, Fau
     }
 }
 
-/// What it means for the program that a volume was not shared for a run.
+/// The program's fault for a volume that was not shared for a run.
 fn start_fault(fault: ScriptFault) -> Fault<'static>
     requires { IsStartFault fault }
     ensures { (result ≡ Fault.NoPlace) ⊎ (result ≡ Fault.NoMemory) }
@@ -121,10 +122,10 @@ fn start_fault(fault: ScriptFault) -> Fault<'static>
     Fault::of_run(fault)
 }
 
-impl<S: BlockSource + Watched + Drop> RunImage<S> {
-    /// Reads the blocks that calls read and write of an image of `len` bytes, which was opened by this path, and makes all checks. Or tells why the
-    /// image is refused, which is a fault once the script was read. Faults: `CannotRead` where a read fails, `Refused(TooLarge)`,
-    /// `NoMemory`.
+impl<S: FailingBlocks + Drop> RunImage<S> {
+    /// Reads those blocks of an image of `len` bytes that calls read and write, and makes all checks. An image that is refused is
+    /// returned with its first fault, which counts only once the script was read. `path` is what was opened. Faults: `CannotRead`
+    /// if a read of bytes that it has fails, `Refused(TooLarge)`, `NoMemory`.
     pub fn open<'a>(
         alloc: Global,
         source: S,
@@ -143,12 +144,14 @@ impl<S: BlockSource + Watched + Drop> RunImage<S> {
         ensures back_image { IfOk result (λ opened. IfErr opened (λ refused.
             S.image refused.source ≡ S.image source)) }
         ensures fault { IfErr result (λ why. (why ≡ Fault.CannotRead path.entry) ⊎ IsTooMuch why) }
+        ensures failed { IfErr result (λ why. why ≡ Fault.CannotRead path.entry
+            → SomeFailsWithin len (S.Fails source)) }
     {
         if len > IMAGE_LIMIT as u64 {
             return Err(Fault::Refused(MountFault::TooLarge));
         }
-        let mut source = source;
-        match open_working(alloc, &mut source, len) {
+        let (opened, source) = open_working(alloc, source, len);
+        match opened {
             Ok(working) => Ok(Ok(RunImage {
                 source,
                 len,
@@ -159,9 +162,12 @@ impl<S: BlockSource + Watched + Drop> RunImage<S> {
             Err(NeededFault::Memory) => Err(Fault::NoMemory),
         }
     }
+}
 
-    /// Reads the forks that a script may read or write, and runs the script, with a gate that is called around each call of a worker. Faults: `CannotRead`
-    /// of this path where a read fails, or where the image has changed since it was opened; `NoPlace`; `NoMemory`.
+impl<S: BlockSource + Watched + Drop> RunImage<S> {
+    /// Reads the forks that a script may read or write, and runs the script, with a gate that is called around each call of a
+    /// worker. Faults: `CannotRead` of this path if a read fails, or if the image has changed since it was opened; `NoPlace`;
+    /// `NoMemory`.
     pub fn run_at<'a, R: Threads + Wait + Sync, G: Gate + Sync>(
         self,
         rt: &R,

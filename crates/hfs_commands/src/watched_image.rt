@@ -11,15 +11,16 @@ use crate::volume_files::{loaded, opened};
 use crate::watched_range::WatchedBytes;
 use hfs_containers::Window;
 use hfs_files::{TrustedLooks, Watched, look_again};
-use hfs_source::PlacedBytes;
-use hfs_sparse::{BlockSource, ByteSource};
+use hfs_source::{MemoryBytes, PlacedBytes};
+use hfs_sparse::BlockSource;
+use hfs_working::FailingBlocks;
 use std::fs::{File, OpenFile};
 use std::io;
 use std::io::{ErrorKind, Read, Seek};
 use std::rt::Files;
 use std::sync::Arc;
 
-/// An image that was opened to be changed: what was opened, with its first look where it isn't held.
+/// An image that was opened to be changed: what was opened, with its first look unless all bytes are held.
 #[derive(Drop)]
 pub struct WatchedImage<F: Read + Seek> {
     pub(crate) file: StoredFile<F>,
@@ -34,7 +35,7 @@ impl<F: Read + Seek + Drop> WatchedImage<F> {
         self.file.len()
     }
 
-    /// Its bytes, where all are held and nobody else holds them; or the image back.
+    /// Its bytes, if all are held and nobody else holds them; or the image back.
     pub fn into_held(self) -> Result<Vec<u8>, WatchedImage<F>>
         ensures held { IfOk result (λ bytes. watched_bytes self ≡ Some bytes.items) }
         ensures back { IfErr result (λ image. image ≡ self) }
@@ -70,13 +71,7 @@ impl<F: Read + Seek + OpenFile> BlockSource for WatchedImage<F> {
     ghost Holds = { λ image. watched_images image };
 
     fn read_blocks(&mut self, first: u32, into: &mut [u8]) -> io::Result<()> {
-        match &mut self.file {
-            StoredFile::Seekable(bytes) => bytes.read_at(u64::from(first) * 512, into),
-            StoredFile::Whole(all) => {
-                let bytes = all.as_slice();
-                ByteSource { bytes }.read_blocks(first, into)
-            }
-        }
+        self.read_told(first, into)
     }
 
     ghost known_holds = { λ image bytes e.
@@ -84,6 +79,23 @@ impl<F: Read + Seek + OpenFile> BlockSource for WatchedImage<F> {
           | stored.Seekable file ↦ λ none. absurd (none-some bytes none)
           | stored.Whole all ↦ λ same. sym (ap (λ known. unwrap_or known (arc_value all).items) same)
         ] e };
+}
+
+impl<F: Read + Seek + OpenFile> FailingBlocks for WatchedImage<F> {
+    ghost use Rattle.hfs_commands.specs.OpenedFiles.{stored_failures};
+
+    ghost Fails = { λ image. stored_failures image.file };
+
+    fn read_told(&mut self, first: u32, into: &mut [u8]) -> io::Result<()> {
+        let place = u64::from(first) * 512;
+        match &mut self.file {
+            StoredFile::Seekable(bytes) => bytes.read_at(place, into),
+            StoredFile::Whole(all) => {
+                let bytes = all.as_slice();
+                MemoryBytes { bytes }.read_at(place, into)
+            }
+        }
+    }
 }
 
 impl<F: Read + Seek + OpenFile> Watched for WatchedImage<F> {
@@ -128,7 +140,7 @@ impl<F: Read + Seek + OpenFile> WatchedBytes for WatchedImage<F> {
     }
 }
 
-/// What was opened to be changed, with its first look. Faults: `NotWritten` of raw sectors; a read failed.
+/// What was opened to be changed, with its first look. Faults: `NotWritten` for raw sectors; a read failed.
 fn watched<'a, F: Read + Seek + Drop>(
     stored: Window<StoredFile<F>>,
     looks: Option<TrustedLooks<F, StoredFile<F>>>,
@@ -143,15 +155,15 @@ fn watched<'a, F: Read + Seek + Drop>(
     }
 }
 
-/// A file that was opened to be changed, with its first look where it isn't held.
+/// A file that was opened to be changed, with its first look unless all bytes are held.
 #[derive(Drop)]
 pub(crate) struct LookedFile<F: Read + Seek> {
     pub(crate) bytes: Window<StoredFile<F>>,
     pub(crate) looks: Option<TrustedLooks<F, StoredFile<F>>>,
 }
 
-/// Opens a file by its path, to write it anew with changes. A regular file is looked at, and left to be read where it is needed;
-/// of anything else all bytes are held. Faults: as [`open_file`](crate::open_file) has them.
+/// Opens a file by its path, to be written again with changes. A regular file is looked at, and read on demand later; of anything
+/// else all bytes are held. Faults: as for [`open_file`](crate::open_file).
 pub(crate) fn open_looked<'a, R: Files + AllocGlobal>(
     rt: &R,
     path: &'a str,
@@ -175,9 +187,8 @@ pub(crate) fn open_looked<'a, R: Files + AllocGlobal>(
     })
 }
 
-/// Opens an image by its path, to write it anew with changes: a regular file is looked at, and left to be read where it is
-/// needed, and of anything else all bytes are held. Faults: as [`open_file`](crate::open_file) has them; `NotWritten` where it is
-/// of raw CD sectors.
+/// Opens an image by its path, to be written again with changes. A regular file is looked at, and read on demand later; of
+/// anything else all bytes are held. Faults: as for [`open_file`](crate::open_file); `NotWritten` if it has raw CD sectors.
 pub fn open_watched<'a, R: Files + AllocGlobal>(
     rt: &R,
     path: &'a str,
