@@ -21,7 +21,7 @@ use hfs_runs::{Answers, Gate, ScriptFault};
 use hfs_scripts::{Script, read_script};
 use hfs_sparse::{BlockSource, SparseFault};
 use hfs_texts::IMAGE_LIMIT;
-use hfs_working::{FailingBlocks, WorkingVolume, open_working};
+use hfs_working::{FailingBlocks, WorkingVolume, open_source};
 use std::alloc::Global;
 use std::marker::Model;
 use std::sync::Wait;
@@ -150,7 +150,7 @@ impl<S: FailingBlocks + Drop> RunImage<S> {
         if len > IMAGE_LIMIT as u64 {
             return Err(Fault::Refused(MountFault::TooLarge));
         }
-        let (opened, source) = open_working(alloc, source, len);
+        let (opened, source) = open_source(alloc, source, len);
         match opened {
             Ok(working) => Ok(Ok(RunImage {
                 source,

@@ -12,7 +12,7 @@ ghost use Rattle.hfs_word_put.specs.Put.{IsCopyOfEach, IsRefusedImage, IsUnmount
 use hfs_commands::Fault;
 use hfs_needed::NeededFault;
 use hfs_volume::Volume;
-use hfs_working::{FailingBlocks, WorkingVolume, mount_read, open_working};
+use hfs_working::{FailingBlocks, WorkingVolume, mount_read, open_source};
 use std::alloc::Global;
 
 /// Reads those blocks of an image of `len` bytes, opened by this path, that calls read and write, and makes all checks.
@@ -30,7 +30,7 @@ fn open_image<'a, S: FailingBlocks>(
         → OfEach (S.Holds result.1) (IsRefusedImage len why)) }
     ensures narrows { OfEach (S.Holds result.1) (S.Holds source) }
 {
-    let (opened, source) = open_working(alloc, source, len);
+    let (opened, source) = open_source(alloc, source, len);
     match opened {
         Ok(working) => (Ok(working), source),
         Err(NeededFault::Refused(why)) => (Err(Fault::Refused(why)), source),

@@ -13,4 +13,4 @@ pub use crate::laws::{
 };
 pub use crate::mounting::mount_read;
 pub use crate::noted::FailingBlocks;
-pub use crate::opening::{WorkingVolume, open_working};
+pub use crate::opening::{WorkingVolume, open_source, open_working};

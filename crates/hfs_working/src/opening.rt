@@ -92,8 +92,11 @@ fn open_blocks<S: BlockSource>(
     }
 }
 
-/// Opens an image of `len` bytes as [`open_working`] does, whatever source it has; which reads failed is not said.
-fn open_unnoted<S: BlockSource>(
+/// Reads the working blocks of an image of `len` bytes, and makes all checks. These are the blocks that the checks need, and the
+/// free nodes of both trees. What was read, with zeros elsewhere, is sound, and is a copy of the image over which calls can be
+/// made; this holds for every image consistent with the bytes read. Errors: a read failed, memory was refused, or the image is
+/// refused.
+pub fn open_working<S: BlockSource>(
     alloc: Global,
     source: &mut S,
     len: u64,
@@ -118,7 +121,7 @@ fn open_unnoted<S: BlockSource>(
     open_blocks(alloc, source, (len / 512) as u32)
 }
 
-/// Opens an image of `len` bytes as [`open_working`] does, where the reads that may fail are picked.
+/// Opens an image of `len` bytes as [`open_source`] does, where the reads that may fail are picked.
 fn open_noted<K: PickedFailures, S: FailingBlocks>(
     alloc: Global,
     source: S,
@@ -140,7 +143,7 @@ fn open_noted<K: PickedFailures, S: FailingBlocks>(
     ensures narrows { OfEach (S.Holds result.1) (S.Holds source) }
 {
     let mut noted = NotedSource::<S, K>::new(source, len);
-    let opened = open_unnoted(alloc, &mut noted, len);
+    let opened = open_working(alloc, &mut noted, len);
     let (source, failed) = noted.into_source();
     match opened {
         Ok(volume) => (Ok(volume), source),
@@ -148,11 +151,9 @@ fn open_noted<K: PickedFailures, S: FailingBlocks>(
     }
 }
 
-/// Reads the working blocks of an image of `len` bytes, and makes all checks. These are the blocks that the checks need, and the
-/// free nodes of both trees. What was read, with zeros elsewhere, is sound, and is a copy of the image over which calls can be
-/// made; this holds for every image consistent with the bytes read. The source is handed back. Errors: a read of bytes that it
-/// has failed, memory was refused, or the image is refused.
-pub fn open_working<S: FailingBlocks>(
+/// Opens an image of `len` bytes as [`open_working`] does, over a source that says where its reads may fail, and hands the source
+/// back. Errors: a read of bytes that it has failed, memory was refused, or the image is refused.
+pub fn open_source<S: FailingBlocks>(
     alloc: Global,
     source: S,
     len: u64,

@@ -10,7 +10,7 @@ use Rattle.hfs_word_put.proofs.mounting.open_image.Goals as goal
 
 pub returns-in-Ok-clause-opened : goal.returns-in-Ok-clause-opened
 returns-in-Ok-clause-opened g c =
-    let told = c.open_working-opened in
+    let told = c.open_source-opened in
     runnable (g.S.BlockSource.Holds told.result.1) c.args.len c.in-Ok.working
     (IfOk-at_ok (λ volume. IsWorkingOf None (c.args.len / 512) volume) c.in-Ok.is told.ensures.mountable)
     (IfOk-at_ok (λ volume. IsSeen (g.S.BlockSource.Holds told.result.1) volume.read) c.in-Ok.is told.ensures.seen)

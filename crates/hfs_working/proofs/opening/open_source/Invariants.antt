@@ -1,4 +1,4 @@
-use Rattle.hfs_working.proofs.opening.open_working.Given as goal
+use Rattle.hfs_working.proofs.opening.open_source.Given as goal
 
 -- what may fail at first, of so many bytes
 abbrev pub ghosts-open_noted : goal.ghosts-open_noted

@@ -8,7 +8,7 @@ use Rattle.hfs_check.specs.declared.mount_fault.MountFault.TheVariants as fault
 use Rattle.hfs_working.specs.declared.opening.WorkingVolume.{WorkingVolume}
 use Rattle.hfs_needed.proofs.SeenStart.{errs-each}
 use Rattle.hfs_working.proofs.ReadWork.{opened-sound, opened-copy, known-or-not}
-use Rattle.hfs_working.proofs.opening.open_unnoted.Goals as goal
+use Rattle.hfs_working.proofs.opening.open_working.Goals as goal
 
 pub returns-then-len-gt2147483648-clause-refused :
     goal.returns-then-len-gt2147483648-clause-refused
