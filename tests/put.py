@@ -299,7 +299,8 @@ GOOD_DOUBLES = {
     'dates behind the last': apple_double((DATES, b'\x7f\xff\xff\xff' * 4)),
     'half of the dates': apple_double((DATES, bytes(15))),
     'a type alone': apple_double((FINDER, b'TEXT')),
-    'parts the other way': apple_double((RESOURCE, b'RES'), (FINDER, FINDER_BYTES), laid=[1, 0]),
+    # as vfs_fruit of Samba 4.17 laid it
+    'of Samba': apple_double((RESOURCE, b'RES'), (FINDER, FINDER_BYTES), filler=b'Netatalk        ', laid=[1, 0]),
     'parts that are there twice': apple_double((FINDER, FINDER_BYTES), (FINDER, bytes(32)), (RESOURCE, b'1'), (RESOURCE, b'22')),
     'no parts': apple_double(),
     'a resource fork alone': apple_double((RESOURCE, b'R' * 70_000)),
