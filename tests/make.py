@@ -350,7 +350,8 @@ def of_what_comes(table: Table) -> None:
     lay('comes', {'.DS_Store': b'x', 'a': b'1', '._a': double(), 'sub': {'b': Dated(b'22', 5 * SECOND)}, '._sub': double(), '._alone': double()})
     lay('other', {'c': b'333'})
     lay('bagged', {'bagit.txt': b'', 'data': {'d': b'4444', 'e': {}}})
-    for sources, names in ((['comes'], ['a', 'alone', 'sub']), (['comes/'], ['a', 'alone', 'sub']), (['bagged'], ['d', 'e']), (['bagged/data'], ['d', 'e']),
+    lay('holder', {'bag': {'bagit.txt': b'', 'data': {'g': b'5'}}})
+    for sources, names in ((['comes'], ['a', 'alone', 'sub']), (['comes/'], ['a', 'alone', 'sub']), (['bagged'], ['d', 'e']), (['bagged/data'], ['d', 'e']), (['holder'], ['bag']),
                            (['comes', 'other'], ['comes', 'other']), (['comes/a'], ['a']), (['comes/a', 'bagged', 'other'], ['a', 'd', 'e', 'other']), (['comes/._alone'], ['alone'])):
         ensure(table.makes(f'{sources}', Making(sources, 'Disk')).status == 0, f'{sources}')
         ensure([it.split('\t')[4] for it in table.bench.text('ls', 'out').splitlines()] == names, f'what comes of {sources}')
