@@ -105,6 +105,7 @@ impl Patch {
             (changes self.old) (changes self.new)) }
         ensures kept { OnErr result (self.new ≡ self.old) }
         ensures whole { AreWhole (changes self.new) }
+        ensures were_whole { AreWhole (changes self.old) }
     {
         make_room(&mut self.numbers, &mut self.blocks, run.len())?;
         add_rows(&mut self.places, first, run.len())?;

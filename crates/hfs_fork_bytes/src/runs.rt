@@ -61,8 +61,6 @@ fn put_blocks<B: Blocks>(
     ensures whole { AreBothWhole patch.old patch.new }
     ensures within { KeepsWithin patch.old patch.new (B.total below.now) }
 {
-    // A proof knows that the patch's blocks have 512 bytes once they lie over those below.
-    let _shown = patch.over(below);
     let (blocks, _rest) = bytes.as_chunks::<512>();
     patch.put_run(first, blocks)?;
     Ok(())

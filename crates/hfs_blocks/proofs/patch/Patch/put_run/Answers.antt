@@ -1,5 +1,6 @@
 -- Room and rows change no block.
-use Rattle.std.proofs.Common.{refl}
+use Rattle.std.proofs.Common.{refl, subst}
+use Rattle.hfs_blocks.specs.Layers.{Numbered, changes, AreWhole}
 use Rattle.hfs_blocks.proofs.TableLemmas.{table-same, whole-table}
 use Rattle.hfs_blocks.proofs.patch.Patch.put_run.Goals as goal
 
@@ -18,3 +19,12 @@ lay_run-requires-clause-table c = table-same _ _ _ _ _ _ c.self.invariant c.in_o
 
 pub returns-clause-whole : goal.returns-clause-whole
 returns-clause-whole c = whole-table _ _ _ c.lay_run.ensures.table
+
+pub returns-in_err-make_room-clause-were_whole : goal.returns-in_err-make_room-clause-were_whole
+returns-in_err-make_room-clause-were_whole c = subst (λ (l : Numbered). AreWhole (changes l)) c.self.view_is (whole-table _ _ _ c.self.invariant)
+
+pub returns-in_err-add_rows-clause-were_whole : goal.returns-in_err-add_rows-clause-were_whole
+returns-in_err-add_rows-clause-were_whole c = subst (λ (l : Numbered). AreWhole (changes l)) c.self.view_is (whole-table _ _ _ c.self.invariant)
+
+pub returns-clause-were_whole : goal.returns-clause-were_whole
+returns-clause-were_whole c = subst (λ (l : Numbered). AreWhole (changes l)) c.self.view_is (whole-table _ _ _ c.self.invariant)
