@@ -14,6 +14,8 @@ mod source;
 mod sums;
 mod tags;
 mod times;
+mod watch;
+mod watched;
 
 pub use crate::bag::{give_bag, give_payload, give_tag_files};
 pub use crate::facts::BagFacts;
@@ -24,3 +26,5 @@ pub use crate::laws::bag_path_laws;
 pub use crate::source::{BagSource, SourceFault, Stream};
 pub use crate::sums::BagSums;
 pub use crate::times::since_1970;
+pub use crate::watch::Watch;
+pub use crate::watched::WatchedItems;

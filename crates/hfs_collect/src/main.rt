@@ -3,7 +3,6 @@
 
 mod collecting;
 mod page;
-mod progress;
 mod reading;
 mod reading_page;
 mod reading_rows;

@@ -16,7 +16,6 @@ use crate::fork_reading::{ForkReading, begin_fork, empty_fork};
 use crate::paths::folders_text;
 use crate::reading::{Reading, read_next};
 use crate::table_reading::TableReading;
-use crate::watch::Watch;
 use hfs_bag::{BagHead, BagKind, BagSource, SourceFault, Stream, since_1970};
 use hfs_fields::Name;
 use hfs_inventory::Inventory;
@@ -38,7 +37,7 @@ struct CameItem {
 
 /// The items of an opened image below its root, one after the other, and the bytes of their forks in pieces, each block of which is read once.
 #[derive(Drop)]
-pub struct ImageItems<'a, S: PlacedBlocks, W: Watch> {
+pub struct ImageItems<S: PlacedBlocks> {
     alloc: Global,
     image: SeenImage<S>,
     /// What is told of the root.
@@ -47,10 +46,6 @@ pub struct ImageItems<'a, S: PlacedBlocks, W: Watch> {
     rows: Inventory,
     came: CameItem,
     reading: Reading,
-    watch: &'a W,
-    /// How many items came, and how many there are.
-    count: u64,
-    all: u64,
 }
 
 /// The rows behind the root's, and what is told of the root. Error: memory was refused.
@@ -113,14 +108,6 @@ fn head_of(info: &Info, runs: &Option<FileRuns>) -> BagHead
         data_length,
         resource_length,
         modified: since_1970(info.modified),
-    }
-}
-
-/// How many bytes both forks have that lie there.
-fn bytes_of(runs: &Option<FileRuns>) -> u64 {
-    match runs {
-        Some(runs) => u64::from(runs.data.length) + u64::from(runs.resource.length),
-        None => 0,
     }
 }
 
@@ -203,14 +190,12 @@ fn open_stream<S: PlacedBlocks + Drop>(
 }
 
 /// The items of an image, of which these rows are to come, behind that of the root.
-fn begin<'a, S: PlacedBlocks + Drop, W: Watch>(
+fn begin<S: PlacedBlocks + Drop>(
     alloc: Global,
     image: SeenImage<S>,
     rows: Inventory,
     root: &Info,
-    all: u64,
-    watch: &'a W,
-) -> ImageItems<'a, S, W>
+) -> ImageItems<S>
     ensures image { result.image ≡ image }
     ensures root { result.root ≡ root.now }
 {
@@ -227,9 +212,6 @@ fn begin<'a, S: PlacedBlocks + Drop, W: Watch>(
         rows,
         came,
         reading,
-        watch,
-        count: 0,
-        all,
     }
 }
 
@@ -241,15 +223,10 @@ pub struct Unbegun<S: PlacedBlocks> {
     pub image: SeenImage<S>,
 }
 
-impl<'a, S: PlacedBlocks + Drop, W: Watch> ImageItems<'a, S, W> {
-    /// The items of an image, of which there are so many. Errors, with the image back: memory was refused; `ReadFailed` where there is no root, as in
+impl<S: PlacedBlocks + Drop> ImageItems<S> {
+    /// The items of an image. Errors, with the image back: memory was refused; `ReadFailed` where there is no root, as in
     /// no image that holds.
-    pub fn new(
-        alloc: Global,
-        image: SeenImage<S>,
-        all: u64,
-        watch: &'a W,
-    ) -> Result<ImageItems<'a, S, W>, Unbegun<S>>
+    pub fn new(alloc: Global, image: SeenImage<S>) -> Result<ImageItems<S>, Unbegun<S>>
         ensures image { IfOk result (λ made. made.image ≡ image) }
         ensures root { IfOk result (λ made. OfEach (S.Holds image)
             (λ bytes. BeginsWith made.root (told_rows (entries_in bytes)))) }
@@ -264,7 +241,7 @@ impl<'a, S: PlacedBlocks + Drop, W: Watch> ImageItems<'a, S, W> {
             let fault = SourceFault::ReadFailed;
             return Err(Unbegun { fault, image });
         };
-        Ok(begin(alloc, image, rows, &info, all, watch))
+        Ok(begin(alloc, image, rows, &info))
     }
 
     /// The image back.
@@ -275,7 +252,7 @@ impl<'a, S: PlacedBlocks + Drop, W: Watch> ImageItems<'a, S, W> {
     }
 }
 
-impl<S: PlacedBlocks + Drop, W: Watch> BagSource for ImageItems<'_, S, W> {
+impl<S: PlacedBlocks + Drop> BagSource for ImageItems<S> {
     ghost Holds = { λ items. S.Holds items.image };
 
     ghost state = { λ items. source_of items.rows.left items.came items.reading };
@@ -325,8 +302,6 @@ impl<S: PlacedBlocks + Drop, W: Watch> BagSource for ImageItems<'_, S, W> {
         let Ok(runs) = runs_of(self.alloc, &self.image, &info) else {
             return Err(SourceFault::Memory);
         };
-        self.count = self.count.saturating_add(1);
-        self.watch.item_came(self.count, self.all, bytes_of(&runs));
         Ok(Some(head_of(&info, &runs)))
     }
 
@@ -365,8 +340,6 @@ impl<S: PlacedBlocks + Drop, W: Watch> BagSource for ImageItems<'_, S, W> {
         ensures narrows { OfEach (S.Holds self.new.image) (S.Holds self.old.image) }
         ensures fault { IfErr result (FailsToRead self.old.reading) }
     {
-        read_next(self.alloc, &mut self.image, &mut self.reading, piece)?;
-        self.watch.bytes_came(piece.len() as u64);
-        Ok(())
+        read_next(self.alloc, &mut self.image, &mut self.reading, piece)
     }
 }

@@ -11,7 +11,7 @@ ghost use Rattle.hfs_word_put.specs.Files.{IsPutFile, place_of};
 ghost use Rattle.hfs_word_put.specs.Put.{IsPutFrom, IsPutOf, IsPutOn, IsUnput, IsUnputFrom, IsUnputOn};
 ghost use Rattle.hfs_word_put.specs.Sums.{put_sums};
 
-use crate::contents::{LaidFile, PutWatch};
+use crate::contents::LaidFile;
 use crate::fault::PutFault;
 use crate::laying::lay_all;
 use crate::lines::PutSums;
@@ -20,6 +20,7 @@ use crate::mounting::mount_image;
 use crate::order::PutOrder;
 use crate::placing::place_all;
 use crate::wants::put_sums;
+use hfs_bag::Watch;
 use hfs_commands::{ByteRange, Fault, ImageInFile, WatchedBytes, WatchedRange};
 use hfs_laid_forks::{HostFiles, LaidForks, PlacedFiles};
 use hfs_patched::ImagePlace;
@@ -141,7 +142,7 @@ pub fn put_on<'a, S: BlockSource, T: HostTree>(
 
 /// What a file is to hold in which an image of `len` bytes lies, on whose volume this was put. Fault: `CannotRead` of the path, where
 /// the forks don't lie in the file.
-pub fn put_image<'a, 'w, S: WatchedBytes + Drop, H: PlacedFiles + Drop, W: PutWatch>(
+pub fn put_image<'a, 'w, S: WatchedBytes + Drop, H: PlacedFiles + Drop, W: Watch>(
     alloc: Global,
     image: WatchedRange<S>,
     len: u64,
@@ -195,7 +196,7 @@ pub fn put_image<'a, 'w, S: WatchedBytes + Drop, H: PlacedFiles + Drop, W: PutWa
 /// Puts what comes on the volume of an image that lies in a file, which was opened by this path: what the file is to hold then. The
 /// bytes of forks are read as it is written, of which a watch is told. Faults: those of [`put_on`]; `CannotRead` of the path, where
 /// the forks don't lie in the file, or the image's range isn't as long as it was (which no source of bytes tells).
-pub fn put_sources<'a, 'w, S: WatchedBytes + Drop, T: HostTree + Drop, W: PutWatch>(
+pub fn put_sources<'a, 'w, S: WatchedBytes + Drop, T: HostTree + Drop, W: Watch>(
     alloc: Global,
     image: WatchedRange<S>,
     sum_at: Option<u64>,
@@ -223,7 +224,7 @@ pub fn put_sources<'a, 'w, S: WatchedBytes + Drop, T: HostTree + Drop, W: PutWat
 
 /// What it means that what a file is to hold was not written: where what comes couldn't be read, or had changed, that; else this
 /// fault.
-pub fn unsaved<'a, S: WatchedBytes + Drop, H: PlacedFiles + Drop, W: PutWatch>(
+pub fn unsaved<'a, S: WatchedBytes + Drop, H: PlacedFiles + Drop, W: Watch>(
     alloc: Global,
     contents: ImageInFile<LaidFile<'_, S, H, W>>,
     fault: Fault<'a>,

@@ -1,14 +1,16 @@
 //! A source of a bag that is watched.
 ghost use Rattle.std.specs.Prelude.{◌≡◌};
 
-use hfs_bag::{BagHead, BagKind, BagSource, SourceFault, Stream};
-use hfs_take::Watch;
+use crate::item::{BagHead, BagKind};
+use crate::source::{BagSource, SourceFault, Stream};
+use crate::watch::Watch;
 use std::alloc::AllocError;
 
-/// A source of a bag, of whose items each is told to a watch when it comes.
+/// A source of a bag, of whose items each is told to a watch when it comes, and the bytes that are read of it.
 #[derive(Drop)]
-pub(crate) struct Watched<'w, B: BagSource, W: Watch> {
-    items: B,
+pub struct WatchedItems<'w, B: BagSource, W: Watch> {
+    /// The source that is watched.
+    pub items: B,
     watch: &'w W,
     /// How many items came, and how many there are.
     count: u64,
@@ -28,15 +30,15 @@ fn item_bytes(head: &Option<BagHead>) -> Option<u64> {
 /// Tells a watch of an item more.
 fn tell<W: Watch>(watch: &W, count: &mut u64, all: u64, bytes: u64) {
     *count = count.saturating_add(1);
-    watch.item_came(*count, all, bytes);
+    watch.began(*count, all, bytes);
 }
 
-impl<'w, B: BagSource, W: Watch> Watched<'w, B, W> {
-    /// A source of so many items.
-    pub(crate) fn new(items: B, watch: &'w W, all: u64) -> Watched<'w, B, W>
+impl<'w, B: BagSource, W: Watch> WatchedItems<'w, B, W> {
+    /// A source of a bag that has so many items.
+    pub fn new(items: B, watch: &'w W, all: u64) -> WatchedItems<'w, B, W>
         ensures { result.items ≡ items }
     {
-        Watched {
+        WatchedItems {
             items,
             watch,
             count: 0,
@@ -45,10 +47,10 @@ impl<'w, B: BagSource, W: Watch> Watched<'w, B, W> {
     }
 
     /// The source that was watched.
-    pub(crate) fn into_items(self) -> B
+    pub fn into_items(self) -> B
         ensures { result ≡ self.entry.items }
     {
-        let Watched {
+        let WatchedItems {
             items,
             watch: _,
             count: _,
@@ -58,7 +60,7 @@ impl<'w, B: BagSource, W: Watch> Watched<'w, B, W> {
     }
 }
 
-impl<B: BagSource, W: Watch> BagSource for Watched<'_, B, W> {
+impl<B: BagSource, W: Watch> BagSource for WatchedItems<'_, B, W> {
     ghost Holds = { λ watched. B.Holds watched.items };
 
     ghost state = { λ watched. B.state watched.items };
