@@ -1,10 +1,9 @@
-//! What is found of a damaged image: by its directory its items with their places, and the bytes of their forks.
+//! What is found of a damaged image: by its directory its items with their places, and what is taken of their forks.
 #![tactic(auto)]
 
 mod again;
 mod finding;
 mod finds;
-mod forks;
 mod gathering;
 mod laws;
 mod looking;
@@ -16,7 +15,6 @@ mod whole;
 
 pub use finding::find_in;
 pub use finds::Finds;
-pub use forks::fork_digest;
 pub use laws::needed_find_same;
 pub use looking::{Unlooked, finds_of, look, look_reported};
 pub use needed::{NeededFinds, needed_finds};
