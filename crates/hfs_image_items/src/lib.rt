@@ -4,8 +4,8 @@
 mod fork_reading;
 mod items;
 mod laws;
+mod opened_blocks;
 mod paths;
-mod piece;
 mod pieces;
 mod reading;
 mod table_reading;

@@ -115,21 +115,21 @@ fn give_items<R: Threads, S: PlacedBlocks + Drop + Send, T: Shelf, W: Watch>(
     len: u64,
     is_made: bool,
 ) -> Result<BagSums, BagFault>
-    requires len { OfEach (S.Holds watched.old.items.image) (HasLength len) }
-    requires root { OfEach (S.Holds watched.old.items.image)
+    requires len { OfEach (S.Holds watched.old.items.source.image) (HasLength len) }
+    requires root { OfEach (S.Holds watched.old.items.source.image)
         (λ bytes. BeginsWith watched.old.items.root (told_rows (entries_in bytes))) }
-    requires told { OfEach (S.Holds watched.old.items.image) (IsToldOf words.now is_made told) }
-    requires planned { OfEach (S.Holds watched.old.items.image)
+    requires told { OfEach (S.Holds watched.old.items.source.image) (IsToldOf words.now is_made told) }
+    requires planned { OfEach (S.Holds watched.old.items.source.image)
         (IsPlanned beside.old words.now.is_digested told.digest) }
-    ensures whole { OnOk result (OfEach (HoldsBoth S.Holds watched.new.items.image beside.new)
+    ensures whole { OnOk result (OfEach (HoldsBoth S.Holds watched.new.items.source.image beside.new)
         (OfBag (text_in line.entry) words.now (λ bag. T.given shelf.new ≡ T.given shelf.old ++ bag))) }
-    ensures part { OnErr result (OfEach (HoldsBoth S.Holds watched.new.items.image beside.new)
+    ensures part { OnErr result (OfEach (HoldsBoth S.Holds watched.new.items.source.image beside.new)
         (OfBag (text_in line.entry) words.now (λ bag. IsBeginning (T.given shelf.new) (T.given shelf.old ++ bag)))) }
-    ensures sums { IfOk result (λ sums. OfEach (S.Holds watched.new.items.image)
+    ensures sums { IfOk result (λ sums. OfEach (S.Holds watched.new.items.source.image)
         (λ bytes. IsSumOf sums (bag_items (entries_in bytes)))) }
-    ensures fault { IfErr result (IsFillFault (T.Fails (T.place shelf.old)) (S.Holds watched.new.items.image)) }
+    ensures fault { IfErr result (IsFillFault (T.Fails (T.place shelf.old)) (S.Holds watched.new.items.source.image)) }
     ensures place { T.place shelf.new ≡ T.place shelf.old }
-    ensures narrows { OfEach (S.Holds watched.new.items.image) (S.Holds watched.old.items.image) }
+    ensures narrows { OfEach (S.Holds watched.new.items.source.image) (S.Holds watched.old.items.source.image) }
 {
     let identifier = plain_name(alloc, watched.items.root.name.bytes())?;
     let Told {
