@@ -1,5 +1,5 @@
 -- The blocks of runs in pieces.
-use Rattle.std.proofs.Common.{◌≡◌, ℕ, ◌+◌, ◌-◌, ◌*◌, ◌<◌, ◌≤◌, false, List, [], ◌∷◌, ◌++◌, length, get_or, drop, take, Some, sym, ap, ◌∙◌, append_assoc, append-nil, Option}
+use Rattle.std.proofs.Common.{◌≡◌, ℕ, ◌+◌, ◌-◌, ◌*◌, ◌<◌, ◌≤◌, false, List, [], ◌∷◌, ◌++◌, length, get_or, drop, Some, sym, ap, ◌∙◌, append_assoc, append-nil}
 use Rattle.std.specs.List.{flat_map, range_with_len}
 use Rattle.std.proofs.lemmas.List.Concat.{flat_map-append}
 use Rattle.std.proofs.lemmas.List.{drop_all}
@@ -15,28 +15,28 @@ module _ (image : List ℕ) where
   abbrev bytes : List Piece → List ℕ
   bytes pieces = pieces_bytes false image pieces
 
-  -- a piece has the bytes of its blocks
-  piece-blocks : (first count len : ℕ) (o : Option ℕ) → o ≡ Some first → len ≡ count * 512 → first_bytes false image o len ≡ blocks_of image (range_with_len first count)
-  piece-blocks first count len o some is =
-      ap (λ (p : Option ℕ). first_bytes false image p len) some ∙ ap (λ (n : ℕ). take n (drop (512 * first) image)) is ∙ sym (flat-range image first count)
+  -- a piece of so many blocks came behind the others
+  pub piece_pushed : (old new : List Piece) (piece : Piece) (first count : ℕ) → new ≡ old ++ piece ∷ [] → piece.first ≡ Some first → piece.len ≡ count * 512
+      → bytes new ≡ bytes old ++ blocks_of image (range_with_len first count)
+  piece_pushed old new piece first count pushed first_is len_is =
+      ap bytes pushed ∙ flat_map-append (piece_bytes false image) old (piece ∷ [])
+      ∙ ap (λ (xs : List ℕ). bytes old ++ xs)
+      (append-nil (piece_bytes false image piece)
+      ∙ (λ i. first_bytes false image (first_is i) (len_is i))
+      ∙ sym (flat-range image first count))
 
   -- with a piece more, those that are behind are fewer
-  pub piece_more : (pieces pieces' : List Piece) (piece : Piece) (here first count behind step : ℕ) (whole : List ℕ) → behind ≤ count → step ≤ behind
-      → pieces' ≡ pieces ++ piece ∷ [] → piece.first ≡ Some here → here ≡ first + (count - behind) → piece.len ≡ step * 512
+  pub piece_more : (pieces pieces' : List Piece) (first count behind step : ℕ) (whole : List ℕ) → behind ≤ count → step ≤ behind
+      → bytes pieces' ≡ bytes pieces ++ blocks_of image (range_with_len (first + (count - behind)) step)
       → bytes pieces ++ blocks_of image (range_with_len (first + (count - behind)) behind) ≡ whole
       → bytes pieces' ++ blocks_of image (range_with_len (first + (count - (behind - step))) (behind - step)) ≡ whole
-  piece_more pieces pieces' piece here first count behind step whole le few grown first_is here_is len_is so =
-      let rest = blocks_of image (range_with_len (first + (count - (behind - step))) (behind - step)) in
-      let own = blocks_of image (range_with_len (first + (count - behind)) step) in
-      let own_is : piece_bytes false image piece ≡ own =
-      piece-blocks here step piece.len piece.first first_is len_is ∙ ap (λ (n : ℕ). blocks_of image (range_with_len n step)) here_is in
-      ap (λ (ps : List Piece). bytes ps ++ rest) grown
-      ∙ ap (λ (xs : List ℕ). xs ++ rest) (flat_map-append (piece_bytes false image) pieces (piece ∷ [])
-      ∙ ap (λ (xs : List ℕ). bytes pieces ++ xs) (append-nil (piece_bytes false image piece) ∙ own_is))
-      ∙ append_assoc (bytes pieces) own rest
+  piece_more pieces pieces' first count behind step whole le few grown so =
+      let numbers = range_with_len (first + (count - behind)) step in
+      let behind_numbers = range_with_len (first + (count - (behind - step))) (behind - step) in
+      ap (λ (xs : List ℕ). xs ++ blocks_of image behind_numbers) grown
+      ∙ append_assoc (bytes pieces) (blocks_of image numbers) (blocks_of image behind_numbers)
       ∙ ap (λ (xs : List ℕ). bytes pieces ++ xs)
-      (sym (ap (blocks_of image) (split-behind first count behind step le few)
-      ∙ flat_map-append (block_at image) (range_with_len (first + (count - behind)) step) (range_with_len (first + (count - (behind - step))) (behind - step))))
+      (sym (ap (blocks_of image) (split-behind first count behind step le few) ∙ flat_map-append (block_at image) numbers behind_numbers))
       ∙ so
 
   -- none is behind

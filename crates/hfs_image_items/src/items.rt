@@ -248,7 +248,7 @@ impl<S: PlacedBlocks + Drop> ImageItems<S> {
 
     /// The image back.
     pub fn into_image(self) -> SeenImage<S>
-        ensures { result ≡ self.entry.source.image }
+        ensures { result ≡ self.source.image }
     {
         self.source.image
     }

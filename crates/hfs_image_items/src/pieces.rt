@@ -1,6 +1,6 @@
 //! The blocks of a fork in pieces, each of which is read at once.
 ghost use Rattle.std.specs.Prelude.{◌≡◌, ◌+◌, ◌≤◌, ◌++◌, List, ℕ, false, IfOk, OnOk};
-ghost use Rattle.std.specs.List.{flat_map};
+ghost use Rattle.std.specs.List.{flat_map, range_with_len};
 ghost use Rattle.hfs_bag.specs.Forks.{pieces_bytes};
 ghost use Rattle.hfs_blocks.specs.Blocks.{AreRunsWithin, run_of};
 ghost use Rattle.hfs_sparse.specs.Writing.{blocks_of};
@@ -12,8 +12,22 @@ use std::alloc::{AllocError, Global};
 /// The most blocks that are read at once, which have 64 KB.
 const MOST_AT_ONCE: u32 = 128;
 
+/// Appends the bytes of so many blocks from number `first` on as a piece.
+#[tactic(auto, using(crate::proofs::PieceLemmas::piece_pushed))]
+fn push_blocks(pieces: &mut Vec<Piece>, first: u32, count: u32) -> Result<(), AllocError>
+    requires some { 1 ≤ count }
+    requires few { count ≤ 128 }
+    ensures { (image : List ℕ) → OnOk result (pieces_bytes false image pieces.new.items
+        ≡ pieces_bytes false image pieces.old.items ++ blocks_of image (range_with_len first count)) }
+{
+    pieces.push(Piece {
+        first: Some(first),
+        len: count * 512,
+    })?;
+    Ok(())
+}
+
 /// Appends the bytes of a run's blocks, in pieces of at most 128 blocks.
-#[tactic(auto, using(crate::proofs::PieceLemmas::run_ended))]
 fn push_run(pieces: &mut Vec<Piece>, run: &Run) -> Result<(), AllocError>
     requires { run.now.first + run.now.count ≤ 4294967296 }
     ensures { (image : List ℕ) → OnOk result (pieces_bytes false image pieces.new.items
@@ -23,10 +37,7 @@ fn push_run(pieces: &mut Vec<Piece>, run: &Run) -> Result<(), AllocError>
     while behind > 0 {
         let count = behind.min(MOST_AT_ONCE);
         let first = run.first + (run.count - behind);
-        pieces.push(Piece {
-            first: Some(first),
-            len: count * 512,
-        })?;
+        push_blocks(pieces, first, count)?;
         behind -= count;
     }
     Ok(())

@@ -1,5 +1,5 @@
 -- The first of the blocks that were read are those of the image.
-use Rattle.std.proofs.Common.{rules, ◌≡◌, ◌*◌, ◌≤◌, ap, arith, length, subst, sym, take, List, ℕ}
+use Rattle.std.proofs.Common.{rules, ◌≡◌, ◌*◌, ◌≤◌, arith, length, subst, sym, List, ℕ}
 use Rattle.std.specs.Int.{div_ceil}
 use Rattle.std.proofs.lemmas.Grind.{div_ceil_times}
 use Rattle.hfs_source.specs.Images.{HasAt}
