@@ -1,4 +1,4 @@
-//! What the rows of items tell of what remains of a refused volume.
+//! What the rows of items say about what remains of a refused volume.
 ghost use Rattle.std.specs.Prelude.{◌≡◌, ◌&&◌, Some, IfOk};
 ghost use Rattle.hfs_remains.specs.Verdicts.{shares_at};
 ghost use Rattle.hfs_rows.specs.declared.value.RowValue.TheVariants.{Text};
@@ -25,12 +25,12 @@ use hfs_sparse::{BlockSource, CopyFault};
 use hfs_verdicts::{Verdict, push_verdict};
 use std::alloc::{AllocError, Global};
 
-/// What is told of an item that remains.
+/// What is known of an item that remains.
 #[derive(Drop)]
 pub(crate) struct ToldItem {
     /// The values of its row.
     pub(crate) values: Vec<RowValue>,
-    /// Whether it is a file, and whole.
+    /// Whether it is a file, and whether it is whole.
     pub(crate) counts: FileCounts,
 }
 
@@ -167,7 +167,7 @@ pub(crate) fn told_item<S: BlockSource>(
     Ok(ToldItem { values, counts })
 }
 
-/// What is said of a fork, as a value.
+/// The verdict on a fork, as a value.
 fn verdict_value(alloc: Global, verdict: &Verdict) -> Result<RowValue, AllocError>
     ensures { IfOk result (λ value. value ≡ Text (verdict_text verdict.now)) }
 {

@@ -22,7 +22,7 @@ const SECTOR: u64 = 2_352;
 /// How many bytes of user data a sector has.
 const DATA: u64 = 2_048;
 
-/// A file of raw sectors. What is read of it is their user data, 2,048 bytes of each, and zeros for a sector that has none.
+/// A file of raw sectors. Reading it gives their user data, 2,048 bytes of each, and zeros for a sector that has none.
 #[derive(Drop)]
 pub struct RawFile<S> {
     /// The user data of the file's sectors.
@@ -54,7 +54,7 @@ fn sector_at<S: ReadAt>(source: &mut S, place: u64) -> io::Result<[u8; 2352]>
     Ok(sector)
 }
 
-/// Reads user data from byte `place` of it on, as much as there is room for: one read of each sector in which some of it is.
+/// Reads user data from byte `place` on, as much as there is room for, with one read of each sector that has some of it.
 fn read_data<S: ReadAt>(source: &mut S, place: u64, into: &mut [u8]) -> io::Result<()>
     requires { (place + length into.old) * 2352 < 2 ^ 64 * 2048 }
     ensures read { OnOk result (IfSome (S.known source.old) (λ file. (sectors : ℕ)
@@ -98,8 +98,8 @@ impl<S: ReadAt> ReadAt for RawFile<S> {
     }
 }
 
-/// What the bytes of a file are that has `len` of them: raw sectors where that is a multiple of 2,352 and the first sector has user data. Where it is none
-/// nothing is read. Error: the read failed.
+/// How the bytes of a file of `len` bytes are laid out: as raw sectors if that is a multiple of 2,352 and the first sector has
+/// user data. With another length, nothing is read. Error: the read failed.
 pub fn find_layout<S: ReadAt>(source: &mut S, len: u64) -> Result<Layout, SparseFault>
     ensures layout { IfOk result (IsToldOf (S.known source.old) len layout_of) }
     ensures known { S.known source.new ≡ S.known source.old }
@@ -114,7 +114,7 @@ pub fn find_layout<S: ReadAt>(source: &mut S, len: u64) -> Result<Layout, Sparse
     }
 }
 
-/// 1 where the sector that begins at a place has no user data, else 0.
+/// 1 if the sector that begins at a place has no user data, else 0.
 fn count_at<S: ReadAt>(source: &mut S, place: u64) -> Result<u64, SparseFault>
     ensures count { IfOk result (IsTold (S.known source.old)
         (λ file. count_without (data_start (bytes_at place 24 file)))) }
@@ -128,7 +128,7 @@ fn count_at<S: ReadAt>(source: &mut S, place: u64) -> Result<u64, SparseFault>
     }
 }
 
-/// How many sectors of a file of `len` bytes have no user data: 24 bytes of each are read. Error: a read failed.
+/// How many sectors of a file of `len` bytes have no user data; 24 bytes of each are read. Error: a read failed.
 pub fn others_in<S: ReadAt>(source: &mut S, len: u64) -> Result<u64, SparseFault>
     ensures count { IfOk result (IsToldOf (S.known source.old) len other_count) }
     ensures known { S.known source.new ≡ S.known source.old }

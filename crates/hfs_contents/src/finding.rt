@@ -1,4 +1,4 @@
-//! What the bytes of an image are, and where volumes lie in them.
+//! How the bytes of an image are laid out, and where volumes lie in them.
 ghost use Rattle.std.specs.Prelude.{◌≡◌, ℕ, List, IfOk, OnErr, length};
 ghost use Rattle.hfs_containers.specs.Found.{found_by};
 ghost use Rattle.hfs_containers.specs.Raw.{layout_of};
@@ -13,8 +13,8 @@ use hfs_sparse::SparseFault;
 use std::alloc::Global;
 use std::io;
 
-/// What the bytes of an image are: raw sectors where their number is a multiple of 2,352 and the first sector has user data. Error: the read
-/// failed.
+/// How the bytes of an image are laid out: as raw sectors if their number is a multiple of 2,352 and the first sector has user
+/// data. Error: the read failed.
 #[tactic(auto, using(crate::proofs::HeadLemmas::plain_layout, crate::proofs::HeadLemmas::raw_layout))]
 pub fn layout_in<S: PlacedBytes>(source: &mut S) -> io::Result<Layout>
     ensures layout { IfOk result (λ layout. OfEach (S.Holds source.new)
@@ -29,7 +29,7 @@ pub fn layout_in<S: PlacedBytes>(source: &mut S) -> io::Result<Layout>
     Ok(Layout::Plain)
 }
 
-/// The ranges in an image of `len` bytes that begins so.
+/// The ranges in an image of `len` bytes that begins with these bytes.
 fn find_by_head(
     alloc: Global,
     head: &[u8],
@@ -39,14 +39,14 @@ fn find_by_head(
     ensures { IfOk result (λ found. (file : List ℕ) → length file ≡ len → IsHeadOf head.now file
         → found.items ≡ found_by layout file) }
 {
-    // A second header of MacBinary has fewer than 65,536 bytes, so what it leads to stands in the head.
+    // A second header of MacBinary has fewer than 65,536 bytes, so what it leads to is within the head.
     let _second = second_header(head);
     let mut bytes = HeadBytes { bytes: head, len };
     find_in_layout(alloc, &mut bytes, len, layout)
 }
 
-/// The ranges of an image in which volumes lie, or of the user data of raw sectors, as [`hfs_containers::find_in_layout`] tells them: by its first
-/// 131,072 bytes, which are read once. Errors: the read failed, memory was refused.
+/// The ranges in which volumes lie in an image, or in the user data of raw sectors, as [`hfs_containers::find_in_layout`] finds
+/// them: by its first 131,072 bytes, which are read once. Errors: the read failed, memory was refused.
 pub fn find_contents<S: PlacedBytes>(
     alloc: Global,
     source: &mut S,

@@ -12,7 +12,7 @@ use hfs_sparse::SparseFault;
 /// How many bytes are read at once.
 const PIECE: u64 = 16_384;
 
-/// The sum that goes on over `count` bytes from `place` on.
+/// The sum continued over `count` bytes from `place` on.
 fn sum_over<S: PlacedBytes>(
     source: &mut S,
     place: u64,
@@ -32,7 +32,7 @@ fn sum_over<S: PlacedBytes>(
     }
 }
 
-/// The sum of a range's bytes, which are read once, in pieces. Error: the read failed, or the image ends before the range.
+/// The sum of a range's bytes, which are read once, in pieces. Error: the read failed, or the image ends before the range does.
 pub fn range_sum<S: PlacedBytes>(source: &mut S, range: ByteRange) -> Result<u32, SparseFault>
     ensures sum { IfOk result (λ sum. OfEach (S.Holds source.new)
         (λ file. sum ≡ sum_of (bytes_in range file))) }

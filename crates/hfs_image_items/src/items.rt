@@ -30,27 +30,28 @@ use std::alloc::{AllocError, Global};
 /// An item that came.
 #[derive(Drop)]
 struct CameItem {
-    /// The path of the folder that holds it, with a slash behind it.
+    /// The path of the folder that holds it, followed by a slash.
     above: String,
     /// Its host name.
     name: String,
     info: Info,
 }
 
-/// The items of an opened image below its root, one after the other, and the bytes of their forks in pieces, each block of which is read once.
+/// The items of an opened image below its root, one after the other, and the bytes of their forks in pieces. Each block of these
+/// is read once.
 #[derive(Drop)]
 pub struct ImageItems<S: PlacedBlocks> {
     alloc: Global,
     source: OpenedBlocks<S>,
     /// What is told of the root.
     pub root: Info,
-    /// The rows of the items that are to come.
+    /// The rows of the items that are left.
     rows: Inventory,
     came: CameItem,
     reading: Reading,
 }
 
-/// The rows behind the root's, and what is told of the root. Error: memory was refused.
+/// The rows after the root's, and what is known of the root. Error: memory was refused.
 #[tactic(auto, using(crate::proofs::SourceLemmas::rows_behind, crate::proofs::SourceLemmas::begins_with, crate::proofs::RootLemmas::row_of_seen))]
 fn rows_below<S: PlacedBlocks + Drop>(
     alloc: Global,
@@ -67,7 +68,7 @@ fn rows_below<S: PlacedBlocks + Drop>(
     Ok((rows, root))
 }
 
-/// Where both forks of a file lie. None of a folder. Error: memory was refused.
+/// Where both forks of a file lie; None for a folder. Error: memory was refused.
 #[tactic(auto, using(crate::proofs::SourceLemmas::fork_lies, crate::proofs::SourceLemmas::fork_refused, crate::proofs::SourceLemmas::folder_empty))]
 fn runs_of<S: PlacedBlocks + Drop>(
     alloc: Global,
@@ -95,7 +96,7 @@ fn bag_kind(kind: ItemKind) -> BagKind
     }
 }
 
-/// What is told of an item whose forks lie there.
+/// The head of an item whose forks lie there.
 fn head_of(info: &Info, runs: &Option<FileRuns>) -> BagHead
     ensures { (image : List ℕ) → LieThere info.now runs.now image → (above name : List ℕ)
         → IsHead result (item_at (entries_in image) above name info.now) }
@@ -125,7 +126,7 @@ fn came_item(alloc: Global, path: &[Name], info: Info) -> Result<CameItem, Alloc
     Ok(CameItem { above, name, info })
 }
 
-/// The data fork of an item, from its first byte on. Error: memory was refused.
+/// The data fork of an item, to be read from its first byte. Error: memory was refused.
 #[tactic(auto, using(crate::proofs::SourceLemmas::fork_begun))]
 fn open_data<S: PlacedBlocks + Drop>(
     alloc: Global,
@@ -141,7 +142,7 @@ fn open_data<S: PlacedBlocks + Drop>(
     }
 }
 
-/// The resource fork of an item, from its first byte on. Error: memory was refused.
+/// The resource fork of an item, to be read from its first byte. Error: memory was refused.
 #[tactic(auto, using(crate::proofs::SourceLemmas::fork_begun))]
 fn open_resource<S: PlacedBlocks + Drop>(
     alloc: Global,
@@ -157,7 +158,7 @@ fn open_resource<S: PlacedBlocks + Drop>(
     }
 }
 
-/// The table of all items, from its head on. Error: memory was refused.
+/// The table of all items, to be read from its head. Error: memory was refused.
 #[tactic(auto, using(crate::proofs::SourceLemmas::table_begun))]
 fn open_table<S: PlacedBlocks + Drop>(
     alloc: Global,
@@ -173,7 +174,7 @@ fn open_table<S: PlacedBlocks + Drop>(
     })
 }
 
-/// A stream of an item, from its first byte on. Error: memory was refused.
+/// A stream of an item, to be read from its first byte. Error: memory was refused.
 fn open_stream<S: PlacedBlocks + Drop>(
     alloc: Global,
     image: &SeenImage<S>,
@@ -191,7 +192,7 @@ fn open_stream<S: PlacedBlocks + Drop>(
     }
 }
 
-/// The items of an image, of which these rows are to come, behind that of the root.
+/// The items of an image, with these rows left after that of the root.
 fn begin<S: PlacedBlocks + Drop>(
     alloc: Global,
     image: SeenImage<S>,
@@ -217,7 +218,7 @@ fn begin<S: PlacedBlocks + Drop>(
     }
 }
 
-/// Why the items of an image were not begun with, and the image.
+/// Why the items of an image can't be given, and the image.
 #[derive(Drop)]
 pub struct Unbegun<S: PlacedBlocks> {
     /// Why.
@@ -246,7 +247,7 @@ impl<S: PlacedBlocks + Drop> ImageItems<S> {
         Ok(begin(alloc, image, rows, &info))
     }
 
-    /// The image back.
+    /// The image, handed back.
     pub fn into_image(self) -> SeenImage<S>
         ensures { result ≡ self.source.image }
     {

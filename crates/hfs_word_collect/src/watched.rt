@@ -1,4 +1,4 @@
-//! A file that is read while somebody watches.
+//! A file that is read while a watch is notified.
 ghost use Rattle.hfs_commands.specs.OpenedFiles.{stored_failures, stored_images};
 
 use hfs_bag::Watch;

@@ -1,4 +1,4 @@
-//! A file with what is put on its volume, which is looked at again with all that it is read from.
+//! A file with what is put on its volume; it is looked at again, with everything that it is read from.
 ghost use Rattle.std.specs.Prelude.{◌≡◌, OnOk};
 ghost use Rattle.hfs_source.specs.Images.{OfEach};
 ghost use Rattle.hfs_laid_forks.specs.Failures.{FailsLaid};
@@ -50,7 +50,7 @@ impl<S: WatchedBytes + Drop, H: PlacedFiles + Drop, W: Watch> LaidFile<'_, S, H,
     }
 }
 
-/// Looks again at all files that come, and then at the file in which they are laid. What was found changed is kept.
+/// Looks again at all files that are put, and then at the file into which they are laid. A change that was found is kept.
 fn look_again<S: WatchedBytes + Drop, H: PlacedFiles + Drop>(
     forks: &mut LaidForks<S, H>,
 ) -> io::Result<()>

@@ -1,4 +1,4 @@
-//! What the word `put` does: files and folders of a host are put on a volume in a file, and what is printed of that.
+//! What the word `put` does: puts files and folders of a host on a volume in a file, and prints what it did.
 #![tactic(auto)]
 
 mod contents;
@@ -30,3 +30,4 @@ pub use crate::putting::{
 pub use crate::reason::PutReason;
 pub use crate::target::target_folder;
 pub use crate::wants::{put_sums, wanted_of};
+pub use hfs_bag::Watch;
