@@ -1,11 +1,11 @@
-//! Who is told how far long work is.
+//! What is notified of how far long work is.
 
-/// Who is told how far long work is: with which of how many things it has begun, and how many bytes of that came.
+/// What is notified of how far long work is: which of how many things it has begun with, and how many bytes of that have come.
 pub trait Watch {
-    /// The work began with the `number`-th of so many things, counted from 1, of which so many bytes are to come: an item with its forks, or a
-    /// file. It may begin with one anew.
+    /// The work began with the `number`-th of `all` things, counted from 1, of which this many bytes are to come: an item with its
+    /// forks, or a file. It may begin with one again.
     fn began(&self, number: u64, all: u64, bytes: u64);
 
-    /// So many bytes more came: of the thing with which it began last, or behind the last item of a table.
+    /// This many more bytes came: of the thing that it began with last or, after the last item, of a table.
     fn bytes_came(&self, count: u64);
 }

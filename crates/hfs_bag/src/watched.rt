@@ -6,7 +6,7 @@ use crate::source::{BagSource, SourceFault, Stream};
 use crate::watch::Watch;
 use std::alloc::AllocError;
 
-/// A source of a bag that reports each item to a watch when it comes.
+/// A source of a bag that reports each item to a watch when it comes, and the bytes that are read of it.
 #[derive(Drop)]
 pub struct WatchedItems<'w, B: BagSource, W: Watch> {
     /// The source that is watched.
@@ -34,7 +34,7 @@ fn tell<W: Watch>(watch: &W, count: &mut u64, all: u64, bytes: u64) {
 }
 
 impl<'w, B: BagSource, W: Watch> WatchedItems<'w, B, W> {
-    /// A source of a bag that has so many items.
+    /// A source of `all` items.
     pub fn new(items: B, watch: &'w W, all: u64) -> WatchedItems<'w, B, W>
         ensures { result.items ≡ items }
     {

@@ -7,7 +7,7 @@ use hfs_source::PlacedBytes;
 use std::io;
 use std::io::{Read, Seek};
 
-/// A file of which each read is told to a watch.
+/// A file whose reads are reported to a watch.
 #[derive(Drop)]
 pub struct WatchedFile<'a, F: Read + Seek, W: Watch> {
     pub(crate) file: StoredFile<F>,

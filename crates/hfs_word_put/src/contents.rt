@@ -13,8 +13,8 @@ use hfs_sources::HostFault;
 use std::io;
 use std::io::ErrorKind;
 
-/// The bytes of a file with the forks of what comes in their places, as far as the file and what comes are as they were. Each read is
-/// told to a watch.
+/// The bytes of a file with the forks of the sources in their places, provided that the file and the sources are as they were.
+/// Each read is reported to a watch.
 #[derive(Drop)]
 pub struct LaidFile<'a, S, H, W> {
     pub forks: LaidForks<S, H>,
@@ -38,7 +38,7 @@ impl<S: PlacedBytes + Drop, H: PlacedFiles + Drop, W: Watch> PlacedBytes for Lai
 }
 
 impl<S: WatchedBytes + Drop, H: PlacedFiles + Drop, W: Watch> LaidFile<'_, S, H, W> {
-    /// Why what comes couldn't be read, or was found changed, the first time.
+    /// Why the sources couldn't be read, or were found changed, the first time.
     pub fn into_fault(self) -> Option<HostFault>
         ensures { result ≡ self.entry.forks.fault }
     {
