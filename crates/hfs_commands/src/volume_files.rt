@@ -10,9 +10,7 @@ ghost use Rattle.hfs_source.specs.Images.{FailsWhere, HasLength, OfEach};
 use crate::fault::Fault;
 use crate::files::{load_opened, regular_len};
 use crate::opened_file::{OpenedFile, StoredFile, content_of};
-use hfs_containers::{
-    Asked, ByteRange, Counted, Layout, NumberedRange, Window, find_asked,
-};
+use hfs_containers::{Asked, ByteRange, Counted, Layout, NumberedRange, Window, find_asked};
 use hfs_source::PlacedBytes;
 use std::alloc::Global;
 use std::fs::{File, OpenFile};

@@ -77,7 +77,10 @@ fn found_in_fork<S: PlacedBytes>(
 }
 
 /// What lies in the data fork of a MacBinary file of `len` bytes.
-pub fn macbinary_in<S: PlacedBytes>(source: &mut S, len: u64) -> Result<Option<FoundRange>, SparseFault>
+pub fn macbinary_in<S: PlacedBytes>(
+    source: &mut S,
+    len: u64,
+) -> Result<Option<FoundRange>, SparseFault>
     ensures found { IfOk result (λ found. OfEach (S.Holds source.new)
         (λ file. found ≡ macbinary_in len file)) }
     ensures held { OfEach (S.Holds source.new) (S.Holds source.old) }

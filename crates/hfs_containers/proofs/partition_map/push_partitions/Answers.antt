@@ -15,9 +15,9 @@ returns-in_ok-count-in-Some-clause-found g c =
     done c.push_entries.result (g.S.PlacedBytes.Holds c.push_entries.new.source)
     (λ file. items ≡ found ++ partitions_among c.in-Some.block len (range_with_len 1 count) file) (λ file. items ≡ found ++ partitions_in len file)
     (λ file h made.
-      let before = c.push_entries.ensures.held file h in
-      partitions_found len c.in-Some.block count found items file c.in_ok-block.field-0 (c.in_ok-block.ensures.block file (c.in_ok-count-in-Some.ensures.held file before))
-      c.in-Some.is (c.in_ok-count-in-Some.ensures.count file before) made)
+    let before = c.push_entries.ensures.held file h in
+    partitions_found len c.in-Some.block count found items file c.in_ok-block.field-0 (c.in_ok-block.ensures.block file (c.in_ok-count-in-Some.ensures.held file before))
+    c.in-Some.is (c.in_ok-count-in-Some.ensures.count file before) made)
     c.push_entries.ensures.found
 
 pub returns-in-None-clause-found : goal.returns-in-None-clause-found
