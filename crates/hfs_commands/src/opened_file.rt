@@ -1,6 +1,7 @@
 //! A file that was opened, whatever it is.
 ghost use Rattle.std.specs.Prelude.{◌≡◌, IfErr, IfOk, IfNone, IfSome, None};
 ghost use Rattle.hfs_containers.specs.Raw.{layout_of};
+ghost use Rattle.hfs_raw.specs.Sectors.{other_count};
 ghost use Rattle.hfs_source.specs.Images.{OfEach};
 ghost use Rattle.hfs_commands.specs.Faults.{IsUnreadFile};
 ghost use Rattle.hfs_commands.specs.OpenedFiles.{AreHeldOthers, AreOthersOf, HasSectorsOf, StaysHeld, failures_of, files_of, held_bytes, images_of, opened_layout, range_by, raw_range, stored_bytes, stored_failures, stored_images};
@@ -88,15 +89,31 @@ impl<F: Read + Seek> PlacedBytes for OpenedFile<F> {
     fn len(&self) -> u64 {
         match self {
             OpenedFile::Plain(file) => file.len(),
-            OpenedFile::Raw(data) => data.len(),
+            OpenedFile::Raw(user) => user.len(),
         }
     }
 
     fn read_at(&mut self, place: u64, into: &mut [u8]) -> io::Result<()> {
         match self {
             OpenedFile::Plain(file) => file.read_at(place, into),
-            OpenedFile::Raw(data) => data.read_at(place, into),
+            OpenedFile::Raw(user) => user.read_at(place, into),
         }
+    }
+}
+
+/// How many raw sectors of a file have no user data: each is looked at. Error: a read failed.
+#[tactic(auto, using(crate::proofs::HeldBytes::stays_held, crate::proofs::HeldBytes::told_held))]
+fn others_of<F: Read + Seek>(file: &mut StoredFile<F>) -> Result<u64, SparseFault>
+    ensures others { IfOk result (λ others. OfEach (stored_images file.new)
+        (λ bytes. others ≡ other_count bytes)) }
+    ensures known { IfOk result (λ others. IfSome (stored_bytes file.old)
+        (λ bytes. others ≡ other_count bytes)) }
+    ensures held { OfEach (stored_images file.new) (stored_images file.old) }
+    ensures stays { StaysHeld (stored_bytes file.old) (stored_bytes file.new) }
+{
+    match count_others(file) {
+        Ok(others) => Ok(others),
+        Err(_) => Err(SparseFault::ReadFailed),
     }
 }
 
@@ -121,10 +138,7 @@ impl<F: Read + Seek> OpenedFile<F> {
     {
         match self {
             OpenedFile::Plain(_) => Ok(0),
-            OpenedFile::Raw(data) => match count_others(&mut data.bytes) {
-                Ok(others) => Ok(others),
-                Err(_) => Err(SparseFault::ReadFailed),
-            },
+            OpenedFile::Raw(user) => others_of(&mut user.bytes),
         }
     }
 }
@@ -147,6 +161,7 @@ fn raw_content<F: Read + Seek>(source: StoredFile<F>, len: u64) -> Window<Opened
 }
 
 /// The bytes in which volumes are looked for: the user data of a file of raw sectors, any other file as it is. Faults: a read failed.
+#[tactic(auto, using(crate::proofs::HeldBytes::stays_held))]
 pub fn content_of<'a, F: Read + Seek + Drop>(
     file: Window<StoredFile<F>>,
     path: &'a str,

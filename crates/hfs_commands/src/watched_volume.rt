@@ -64,6 +64,7 @@ fn need_right_sum<'a, S: PlacedBytes>(
 }
 
 /// The volume with this number in a file's bytes.
+#[tactic(auto, using(crate::proofs::HeldBytes::stays_held))]
 fn volume_in<'a, F: Read + Seek + Drop>(
     alloc: Global,
     file: Window<StoredFile<F>>,
