@@ -1,8 +1,7 @@
 -- Entry by entry.
 use Rattle.std.proofs.Common.{◌≡◌, ◌∙◌, ◌++◌, false, true, ap, rules}
-use Rattle.std.specs.List.{range_with_len}
 use Rattle.std.specs.Option.{option_to_list}
-use Rattle.hfs_containers.specs.PartitionMap.{begins_pm, partitions_among}
+use Rattle.hfs_containers.specs.PartitionMap.{begins_pm}
 use Rattle.hfs_containers.proofs.Entries.{entry_more, entry_none, entries_end}
 use Rattle.hfs_containers.proofs.partition_map.push_entries.Goals as goal
 

@@ -1,5 +1,5 @@
 -- Piece by piece.
-use Rattle.std.proofs.Common.{◌≡◌, ◌∙◌, ◌+◌, ◌-◌, min, refl, arith, rules}
+use Rattle.std.proofs.Common.{◌≡◌, ◌+◌, ◌-◌, min, arith, rules}
 use Rattle.hfs_containers.proofs.SumLemmas.{goes_on, goes_whole}
 use Rattle.hfs_containers.proofs.sums.range_sum.Goals as goal
 

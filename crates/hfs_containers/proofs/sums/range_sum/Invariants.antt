@@ -1,5 +1,5 @@
 -- the sum so far, and the bytes that are still to come
-use Rattle.std.specs.Prelude.{◌≡◌, ◌-◌, ◌≤◌}
+use Rattle.std.specs.Prelude.{◌-◌, ◌≤◌}
 use Rattle.hfs_source.specs.Images.{FailsWhere, OfEach}
 use Rattle.hfs_containers.proofs.SumLemmas.{GoesOn}
 use Rattle.hfs_containers.proofs.sums.range_sum.Given as goal
