@@ -5,7 +5,7 @@ _hfs_tool_image() {
     local i
     for ((i = 2; i < COMP_CWORD; i++)); do
         case ${COMP_WORDS[i]} in
-            --volume | --path | --format | --limit | --now | --out | --to) i=$((i + 1)) ;;
+            --volume | --path | --format | --limit | --now | --out | --to | --name | --size) i=$((i + 1)) ;;
             -*) ;;
             *) printf '%s' "${COMP_WORDS[i]}" && return ;;
         esac
@@ -22,7 +22,7 @@ _hfs_tool_volumes() {
 
 _hfs_tool() {
     local word=${COMP_WORDS[COMP_CWORD]} before=${COMP_WORDS[COMP_CWORD - 1]} first=${COMP_WORDS[1]} options=--help
-    local words='info check ls items page cat take rescue volumes extract new repair run put'
+    local words='info check ls items page cat take rescue volumes extract new repair run put make'
     if [ "$COMP_CWORD" -eq 1 ]; then
         mapfile -t COMPREPLY < <(compgen -W "$words help --help --version" -- "$word")
         return
@@ -37,6 +37,7 @@ _hfs_tool() {
         new) options='--now --help' ;;
         run) options='--now --out --volume --help' ;;
         put) options='--out --to --macbinary --replace --rename --now --volume --help' ;;
+        make) options='--name --size --now --macbinary --rename --help' ;;
         repair) options='--volume --help' ;;
         help) mapfile -t COMPREPLY < <(compgen -W "$words" -- "$word") && return ;;
     esac

@@ -1,4 +1,4 @@
-//! Volumes that are the same but for the bytes of forks, and what calls make of them.
+//! Volumes that are the same except for the bytes of forks, and what calls make of them.
 #![tactic(auto)]
 
 mod laws;

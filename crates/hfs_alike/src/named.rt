@@ -1,19 +1,19 @@
-//! What calls make of the items that they name, each as the contract of a function that does nothing.
+//! What calls make of the items that they name, each law as the contract of a function that does nothing.
 ghost use Rattle.hfs_alike.specs.Named.{AskedAnswerAlike, AskedWantAlike, NamedStayKept};
 
-/// Where each item that some calls name by its folder and name has one of some IDs, it is so behind these calls, too: no other item comes to
-/// such a place.
+/// If each item that some calls name by its folder and name has one of some IDs, this still holds after these calls: no other
+/// item comes to such a place.
 pub fn named_stay_kept()
     ensures { NamedStayKept }
 {}
 
-/// Of two volumes that are the same but for the bytes of forks, with the forks of these items the same, too, each of these calls has the same
-/// reply behind these calls.
+/// On two volumes that are the same except for the bytes of forks, if the forks of these items are the same as well, each of
+/// these calls has the same reply after the calls before it.
 pub fn asked_answer_alike()
     ensures { AskedAnswerAlike }
 {}
 
-/// So it has where the same nodes or blocks are wanting of both.
+/// The same if both lack the same nodes or blocks.
 pub fn asked_want_alike()
     ensures { AskedWantAlike }
 {}

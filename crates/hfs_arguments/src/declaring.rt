@@ -1,18 +1,18 @@
-//! Programs, words and arguments, as clap is told of them.
+//! Programs, words and arguments, as they are declared to clap.
 
 use crate::words::{Argument, Program, Takes, Word};
 use clap::{Arg, ArgAction, Command, value_parser};
 use std::alloc::{AllocError, Global};
 
 impl Program {
-    /// The program's command, with its version and its own arguments, and no words yet. Error: want of memory.
+    /// The program's command, with its version and its own arguments, and no words yet. Error: out of memory.
     pub fn command<'a>(&self, alloc: Global) -> Result<Command<'a>, AllocError> {
         Ok(self.word.command(alloc)?.version(self.version))
     }
 }
 
 impl Word {
-    /// The word's command, with its arguments. Error: want of memory.
+    /// The word's command, with its arguments. Error: out of memory.
     pub fn command<'a>(&self, alloc: Global) -> Result<Command<'a>, AllocError> {
         let mut command = Ok(bare_command(alloc, self));
         for i in 0..self.arguments.len() {
@@ -22,7 +22,7 @@ impl Word {
     }
 }
 
-/// A command with one word more, the last in its help, where memory sufficed for both. Error: want of memory.
+/// A command with one more word, the last in its help. Error: out of memory, even if only in making one of the two.
 pub fn with_word<'a>(
     command: Result<Command<'a>, AllocError>,
     word: Result<Command<'a>, AllocError>,
@@ -56,7 +56,7 @@ fn declared<'a>(alloc: Global, argument: &Argument) -> Result<Arg<'a>, AllocErro
     declared
 }
 
-/// An argument that excludes one more, where memory sufficed for it.
+/// An argument that excludes one more, if there was memory for it.
 fn excluding<'a>(
     argument: Result<Arg<'a>, AllocError>,
     other: &'static str,
@@ -78,7 +78,7 @@ fn taking<'a>(alloc: Global, argument: &Argument) -> Result<Arg<'a>, AllocError>
     }
 }
 
-/// An argument that takes texts, of which there has to be one unless that of the name is given.
+/// An argument that takes texts, at least one unless the argument of this name is given.
 fn several<'a>(argument: Arg<'a>, unless: &'static str) -> Result<Arg<'a>, AllocError> {
     argument
         .action(ArgAction::Append)
@@ -86,7 +86,7 @@ fn several<'a>(argument: Arg<'a>, unless: &'static str) -> Result<Arg<'a>, Alloc
         .required_unless_present(unless)
 }
 
-/// An argument that takes texts, of which there has to be one.
+/// An argument that takes texts, at least one.
 fn some<'a>(argument: Arg<'a>) -> Arg<'a> {
     argument
         .action(ArgAction::Append)
@@ -121,7 +121,7 @@ fn taking_one<'a>(argument: Arg<'a>, takes: Takes) -> Arg<'a> {
     }
 }
 
-/// An argument with the name that is typed, where it is an option.
+/// An argument with the name that is typed, if it is an option.
 fn with_name<'a>(argument: Arg<'a>, name: &'static str, takes: Takes) -> Arg<'a> {
     match takes.value_name() {
         Some(value) => argument.long(name).value_name(value),
@@ -129,7 +129,7 @@ fn with_name<'a>(argument: Arg<'a>, name: &'static str, takes: Takes) -> Arg<'a>
     }
 }
 
-/// An argument with the value that it has where none is given.
+/// An argument with its default value, if it has one.
 fn with_default<'a>(argument: Arg<'a>, takes: Takes) -> Arg<'a> {
     match takes.default() {
         Some(default) => argument.default_value(default),

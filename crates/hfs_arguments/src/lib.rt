@@ -1,5 +1,5 @@
-//! The words of a command line, as constants. Each argument is one constant, by which it is declared and by which its value
-//! is read, so that both have one name.
+//! The words of a command line, as constants. Each argument is one constant, with which it is declared and its value is read, so
+//! both use the same name.
 #![tactic(auto)]
 
 mod declaring;

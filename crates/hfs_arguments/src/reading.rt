@@ -9,13 +9,13 @@ use crate::words::Argument;
 use clap::ArgMatches;
 use std::alloc::{AllocError, Global};
 
-/// An argument has no value where clap takes care that it has one, a fault of the program and not of the words; or the value of a text is none that the
-/// program knows. It is told by the argument's name, and in the second case with what is wanted.
+/// An argument has no value although clap makes sure that it has one, which is a fault of the program and not of the command
+/// line; or its text is no value that the program knows. Holds the argument's name, in the second case with what is wanted.
 #[derive(Clone, Copy)]
 pub struct NoValue(pub &'static str);
 
 impl Argument {
-    /// The text of an argument that has to be there or has a default.
+    /// The text of an argument that is required or has a default.
     pub fn text<'a>(&self, matches: &ArgMatches<'a>) -> Result<&'a str, NoValue>
         ensures { MatchResult result
             (λ text. first_value (found_of matches.now) self.now.name.now ≡ Some text.now)
@@ -34,8 +34,7 @@ impl Argument {
         matches.get_str(self.name)
     }
 
-    /// The texts of an argument of which there may be any number, in the order in which they are given. The only error is want of
-    /// memory.
+    /// The texts of an argument that may be given any number of times, in order. Fails only when out of memory.
     pub fn texts<'a>(
         &self,
         alloc: Global,
@@ -50,7 +49,7 @@ impl Argument {
         }
     }
 
-    /// The number of an argument that has to be there or has a default.
+    /// The number of an argument that is required or has a default.
     pub fn number(&self, matches: &ArgMatches<'_>) -> Result<u32, NoValue>
         ensures none { one_text (found_of matches.now) self.now.name.now ≡ None → IsErr result }
         ensures number { (text : List ℕ) → one_text (found_of matches.now) self.now.name.now ≡ Some text
@@ -62,7 +61,7 @@ impl Argument {
         }
     }
 
-    /// The number of an option from 0 to 4,294,967,295, where it is given.
+    /// The number of an option from 0 to 4,294,967,295, if it is given.
     pub fn given_number(&self, matches: &ArgMatches<'_>) -> Result<Option<u32>, NoValue>
         ensures none { one_text (found_of matches.now) self.now.name.now ≡ None → result ≡ Ok None }
         ensures number { (text : List ℕ) → one_text (found_of matches.now) self.now.name.now ≡ Some text
@@ -74,7 +73,7 @@ impl Argument {
         }
     }
 
-    /// The number of an option of 64 bits, where it is given.
+    /// The number of an option of 64 bits, if it is given.
     pub fn given_count(&self, matches: &ArgMatches<'_>) -> Result<Option<u64>, NoValue>
         ensures none { one_text (found_of matches.now) self.now.name.now ≡ None → result ≡ Ok None }
         ensures number { (text : List ℕ) → one_text (found_of matches.now) self.now.name.now ≡ Some text
@@ -86,7 +85,7 @@ impl Argument {
         }
     }
 
-    /// Whether an option without a value is given. `NoValue` where clap has neither of the two texts of it.
+    /// Whether an option without a value is given. `NoValue` if clap has neither of its two texts.
     pub fn is_given(&self, matches: &ArgMatches<'_>) -> Result<bool, NoValue>
         ensures { MatchResult result
             (λ is_given. MatchBool is_given

@@ -1,7 +1,7 @@
 //! What a word takes, and what its help says.
 
-/// A program: its own name, texts and arguments, and its version. The words that it knows are put in one by one, since a
-/// constant that held all of them would have more text than one proof can take.
+/// A program: its name, texts and arguments, and its version. The words that it knows are added one by one, since a constant with
+/// all of them would be too long for one proof.
 #[derive(Clone, Copy)]
 pub struct Program {
     pub word: Word,
@@ -15,7 +15,7 @@ pub struct Word {
     pub name: &'static str,
     /// What it does, in a line of help.
     pub about: &'static str,
-    /// What its help says behind its arguments.
+    /// What its help says after its arguments.
     pub after_help: Option<&'static str>,
     /// Its arguments, in the order of its help.
     pub arguments: &'static [Argument],
@@ -30,26 +30,26 @@ pub struct Argument {
     pub takes: Takes,
     /// What its help says.
     pub help: &'static str,
-    /// The names of the arguments that may not be given beside it.
+    /// The names of the arguments that can't be given together with it.
     pub excludes: &'static [&'static str],
 }
 
-/// What an argument takes. The name of an option's value is that of its help text.
+/// What an argument takes. The name of an option's value is the one in its help text.
 #[derive(Clone, Copy)]
 pub enum Takes {
-    /// A text that has to be there.
+    /// A text that is required.
     Text,
-    /// A text that has to be there, and may begin with a hyphen.
+    /// A text that is required, and may begin with a hyphen.
     AnyText,
-    /// Texts, of which there has to be one unless the argument of this name is given.
+    /// Texts, at least one unless the argument of this name is given.
     Texts {
         unless: &'static str,
     },
-    /// Texts, of which there has to be one.
+    /// Texts, at least one.
     SomeTexts,
-    /// A number from 0 to 4,294,967,295 that has to be there.
+    /// A number from 0 to 4,294,967,295 that is required.
     Number,
-    /// A number from 0 to 4,294,967,295, and which it is where none is given.
+    /// A number from 0 to 4,294,967,295, and its default.
     NumberOr(&'static str),
     /// A number from 0 to 4,294,967,295 that may be left out.
     MaybeNumber,
@@ -57,7 +57,7 @@ pub enum Takes {
     TextOption {
         value: &'static str,
     },
-    /// An option with a text that has to be given.
+    /// An option with a text that is required.
     NeededTextOption {
         value: &'static str,
     },
@@ -65,13 +65,13 @@ pub enum Takes {
     AnyTextOption {
         value: &'static str,
     },
-    /// An option with one of these texts, and which it is where none is given.
+    /// An option with one of these texts, and its default.
     ChoiceOption {
         value: &'static str,
         choices: &'static [&'static str],
         default: &'static str,
     },
-    /// An option with a number from 0 to 4,294,967,295, and which it is where none is given.
+    /// An option with a number from 0 to 4,294,967,295, and its default.
     NumberOption {
         value: &'static str,
         default: &'static str,
@@ -89,7 +89,7 @@ pub enum Takes {
 }
 
 impl Takes {
-    /// Whether it has to be there.
+    /// Whether it is required.
     pub(crate) fn is_required(self) -> bool {
         matches!(
             self,
@@ -123,7 +123,7 @@ impl Takes {
         }
     }
 
-    /// What it is where none is given.
+    /// Its default, if it has one.
     pub(crate) fn default(self) -> Option<&'static str> {
         match self {
             Takes::NumberOr(default)

@@ -1,4 +1,4 @@
-//! The whole of a bag, and its halves: the payload, and the tag files behind it.
+//! The whole of a bag, and its halves: the payload, and the tag files after it.
 ghost use Rattle.std.specs.Prelude.{◌≡◌, ◌++◌, IfErr, IfOk, OnErr, OnOk};
 ghost use Rattle.hfs_shelves.specs.Entries.{IsBeginning};
 ghost use Rattle.hfs_source.specs.Images.{OfEach};
@@ -18,9 +18,9 @@ use crate::tags::give_tags;
 use hfs_shelves::Shelf;
 use std::alloc::Global;
 
-/// Gives a shelf the payload of a bag, in the order of the source's items, and answers what is kept of it for the tag files, which
-/// [`give_tag_files`] gives behind it. At a fault what was given is a beginning of the payload. Faults: the source's, the shelf's, memory was
-/// refused; `TooLarge`.
+/// Gives a shelf the payload of a bag, in the order of the source's items, and returns what the tag files need of it;
+/// [`give_tag_files`] gives them next. At a fault, what was given is a beginning of the payload. Faults: those of the source and
+/// of the shelf, memory was refused; `TooLarge`.
 pub fn give_payload<S: Shelf, B: BagSource>(
     alloc: Global,
     shelf: &mut S,
@@ -45,8 +45,9 @@ pub fn give_payload<S: Shelf, B: BagSource>(
     Ok(given)
 }
 
-/// Gives a shelf the tag files of a bag, whose payload was given, and answers how much the bag holds. At a fault what was given is a beginning of
-/// them. Faults: the source's, the shelf's, memory was refused; `ReadFailed` also where a source tells fewer items than before.
+/// Gives a shelf the tag files of a bag whose payload was given, and returns how much the bag holds. At a fault, what was given
+/// is a beginning of them. Faults: those of the source and of the shelf, memory was refused; `ReadFailed` also if a source has
+/// fewer items than before.
 pub fn give_tag_files<S: Shelf, B: BagSource>(
     alloc: Global,
     shelf: &mut S,
@@ -78,9 +79,9 @@ pub fn give_tag_files<S: Shelf, B: BagSource>(
     })
 }
 
-/// Gives a shelf the bag of all items of a source, and answers how much it holds: the payload, in the order of the items, and then the tag
-/// files. At a fault what was given is a beginning of the bag. All this of each image that has the bytes which were read. Faults: as both halves
-/// have them.
+/// Gives a shelf the bag of all items of a source, and returns how much it holds: the payload, in the order of the items, and
+/// then the tag files. At a fault, what was given is a beginning of the bag. All this holds for every image consistent with the
+/// bytes read. Faults: as for both halves.
 pub fn give_bag<S: Shelf, B: BagSource>(
     alloc: Global,
     shelf: &mut S,

@@ -8,9 +8,9 @@ use std::alloc::AllocError;
 /// Why a bag was not filled.
 #[derive(Debug, Drop)]
 pub enum BagFault {
-    /// The source didn't give something.
+    /// The source failed to give something.
     Source(SourceFault),
-    /// The shelf didn't take something.
+    /// The shelf failed to take something.
     Shelf(ShelfFault),
     /// The payload has 2^64 bytes or more.
     TooLarge,

@@ -14,7 +14,7 @@ use hfs_shelves::Shelf;
 use sha2::{Digest, Sha256};
 use std::alloc::Global;
 
-/// Reads the next bytes of a stream, gives them to the shelf and to the digest, and answers whether there were any.
+/// Reads the next bytes of a stream, gives them to the shelf and to the digest, and returns whether there were any.
 fn move_piece<S: Shelf, B: BagSource>(
     shelf: &mut S,
     source: &mut B,
@@ -41,7 +41,7 @@ fn move_piece<S: Shelf, B: BagSource>(
     Ok(true)
 }
 
-/// Gives all bytes that are left of a stream to the shelf, behind those of the file that was made last, and to the digest.
+/// Gives the rest of a stream to the shelf, appended to the file that was made last, and to the digest.
 fn move_stream<S: Shelf, B: BagSource>(
     alloc: Global,
     shelf: &mut S,
@@ -66,7 +66,7 @@ fn move_stream<S: Shelf, B: BagSource>(
     Ok(())
 }
 
-/// Makes a file of these bytes and those of a stream behind them, and answers its digest.
+/// Makes a file of these bytes and then those of a stream, and returns its digest.
 pub(crate) fn put_file<S: Shelf, B: BagSource>(
     alloc: Global,
     shelf: &mut S,
@@ -97,7 +97,7 @@ pub(crate) fn put_file<S: Shelf, B: BagSource>(
     Ok(digest.finalize())
 }
 
-/// Makes a file of this text, and answers its digest.
+/// Makes a file of this text, and returns its digest.
 pub(crate) fn put_text<S: Shelf>(
     shelf: &mut S,
     path: &str,

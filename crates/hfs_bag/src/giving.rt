@@ -16,16 +16,16 @@ use crate::sums::item_bytes;
 use hfs_shelves::Shelf;
 use std::alloc::Global;
 
-/// What is kept of a payload that was given, until its tag files are.
+/// What is kept of a payload that was given, until its tag files are given.
 #[derive(Drop)]
 pub struct GivenPayload {
     /// The digests of the items' files, in the order of the items.
     pub(crate) digests: Vec<ItemDigests>,
-    /// The bytes of all these files.
+    /// How many bytes all these files have.
     pub(crate) bytes: u64,
 }
 
-/// Keeps what is told of an item that was given.
+/// Keeps the digests of an item that was given, and counts its bytes.
 fn keep(given: &mut GivenPayload, told: ItemDigests, bytes: u64) -> Result<(), BagFault>
     ensures digests { OnOk result (given.new.digests.items ≡ given.old.digests.items ++ told ∷ []) }
     ensures bytes { OnOk result (given.new.bytes ≡ given.old.bytes + bytes) }
@@ -41,7 +41,7 @@ fn keep(given: &mut GivenPayload, told: ItemDigests, bytes: u64) -> Result<(), B
     Ok(())
 }
 
-/// Gives what there is of the next item, and answers whether there was one.
+/// Gives everything of the next item, and returns whether there was one.
 fn give_next<S: Shelf, B: BagSource>(
     alloc: Global,
     shelf: &mut S,
@@ -69,7 +69,7 @@ fn give_next<S: Shelf, B: BagSource>(
     Ok(true)
 }
 
-/// Gives what there is of all items that are to come.
+/// Gives everything of all items that are left.
 pub(crate) fn give_items<S: Shelf, B: BagSource>(
     alloc: Global,
     shelf: &mut S,

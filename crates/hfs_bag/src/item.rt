@@ -7,23 +7,23 @@ pub enum BagKind {
     Folder,
     /// A file with the data fork, and then an AppleDouble file.
     File,
-    /// The folder alone, as where it is wanted before its item comes.
+    /// The folder alone, such as when it is needed before its item comes.
     FolderAlone,
-    /// The AppleDouble file alone, as of a folder that was made before.
+    /// The AppleDouble file alone, such as that of a folder that was made before.
     DoubleAlone,
 }
 
-/// What is told of an item before its forks are read.
+/// What is known of an item before its forks are read.
 #[derive(Clone, Copy, Debug)]
 pub struct BagHead {
     pub kind: BagKind,
-    /// FInfo and FXInfo of a file, DInfo and DXInfo of a folder.
+    /// FInfo and FXInfo for a file, DInfo and DXInfo for a folder.
     pub finder: [u8; 32],
-    /// How many bytes the data fork has, 0 of a folder.
+    /// How many bytes the data fork has; 0 for a folder.
     pub data_length: u32,
-    /// How many bytes the resource fork has, 0 of a folder.
+    /// How many bytes the resource fork has; 0 for a folder.
     pub resource_length: u32,
-    /// When the item was modified, in seconds from the beginning of 1970; None where that was before.
+    /// When the item was modified, in seconds since the beginning of 1970; None if that was before.
     pub modified: Option<u32>,
 }
 

@@ -17,10 +17,10 @@ use hfs_encodings::AppleDoubleHead;
 use hfs_shelves::Shelf;
 use std::alloc::{AllocError, Global};
 
-/// What stands before the name of an item in that of its AppleDouble file.
+/// The prefix of an item's name in that of its AppleDouble file.
 pub(crate) const DOUBLE: &str = "._";
 
-/// The path of the item that came last, with this mark before its name.
+/// The path of the item that came last, with this prefix before its name.
 pub(crate) fn marked_path<B: BagSource>(
     alloc: Global,
     source: &B,
@@ -36,7 +36,7 @@ pub(crate) fn marked_path<B: BagSource>(
     Ok(path)
 }
 
-/// The head of the AppleDouble file of an item of which this is told.
+/// The head of the AppleDouble file of an item.
 pub(crate) fn double_head(head: &BagHead) -> [u8; 82]
     ensures { (item : BagItem) → IsHead head.now item → result ≡ apple_double_head_bytes
         (double_head item) }
@@ -48,7 +48,7 @@ pub(crate) fn double_head(head: &BagHead) -> [u8; 82]
     .bytes()
 }
 
-/// Gives the AppleDouble file of the item that came last, and answers its digest.
+/// Gives the AppleDouble file of the item that came last, and returns its digest.
 fn give_double<S: Shelf, B: BagSource>(
     alloc: Global,
     shelf: &mut S,
@@ -83,7 +83,7 @@ fn give_double<S: Shelf, B: BagSource>(
     )
 }
 
-/// Gives the data fork of the item that came last, and then its AppleDouble file, and answers their digests.
+/// Gives the data fork of the item that came last, and then its AppleDouble file, and returns their digests.
 fn give_file<S: Shelf, B: BagSource>(
     alloc: Global,
     shelf: &mut S,
@@ -119,7 +119,7 @@ fn give_file<S: Shelf, B: BagSource>(
     Ok(ItemDigests::File(data, double))
 }
 
-/// Gives the AppleDouble file of the folder that came last, and then the folder, and answers the file's digest.
+/// Gives the AppleDouble file of the folder that came last, and then the folder, and returns the file's digest.
 fn give_folder<S: Shelf, B: BagSource>(
     alloc: Global,
     shelf: &mut S,
@@ -167,7 +167,7 @@ fn give_folder_alone<S: Shelf, B: BagSource>(
     Ok(ItemDigests::NoFile)
 }
 
-/// Gives the AppleDouble file of the item that came last, and nothing else, and answers its digest.
+/// Gives only the AppleDouble file of the item that came last, and returns its digest.
 fn give_double_alone<S: Shelf, B: BagSource>(
     alloc: Global,
     shelf: &mut S,
@@ -193,7 +193,7 @@ fn give_double_alone<S: Shelf, B: BagSource>(
     Ok(ItemDigests::Double(double))
 }
 
-/// Gives what there is of the item that came last, and answers the digests of its files.
+/// Gives everything of the item that came last, and returns the digests of its files.
 pub(crate) fn give_item<S: Shelf, B: BagSource>(
     alloc: Global,
     shelf: &mut S,

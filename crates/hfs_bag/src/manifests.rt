@@ -87,8 +87,8 @@ fn item_lines<B: BagSource>(
     Ok(text)
 }
 
-/// Gives the lines of the next item, whose files have these digests, to the shelf and to the digest. A source that tells fewer items than
-/// before has failed.
+/// Gives the lines of the next item, whose files have these digests, to the shelf and to the digest. A source that has fewer
+/// items than before has failed.
 fn list_next<S: Shelf, B: BagSource>(
     alloc: Global,
     shelf: &mut S,
@@ -116,7 +116,7 @@ fn list_next<S: Shelf, B: BagSource>(
     Ok(())
 }
 
-/// Gives the lines of all items that are to come to the shelf and to the digest.
+/// Gives the lines of all items that are left to the shelf and to the digest.
 fn list_items<S: Shelf, B: BagSource>(
     alloc: Global,
     shelf: &mut S,
@@ -147,7 +147,7 @@ fn list_items<S: Shelf, B: BagSource>(
     Ok(())
 }
 
-/// Gives the manifest of all items, whose files have these digests, and answers its digest.
+/// Gives the manifest of all items, whose files have these digests, and returns its digest.
 pub(crate) fn give_manifest<S: Shelf, B: BagSource>(
     alloc: Global,
     shelf: &mut S,

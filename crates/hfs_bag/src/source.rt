@@ -16,7 +16,7 @@ pub enum Stream {
     ResourceFork,
     /// The table of all items, as CSV.
     Table,
-    /// The table of what remains of each item, where the source tells it.
+    /// The table of what remains of each item, if the source has it.
     Remains,
 }
 
@@ -29,19 +29,20 @@ pub enum SourceFault {
     Memory,
 }
 
-/// A volume's items below the root, one after the other, each behind the folder that holds it, with the bytes of their forks in pieces. Contracts know
-/// the items by each image that has the bytes which were read; and they know which faults a source of this kind may answer.
+/// A volume's items below the root, one after the other, each after the folder that holds it, with the bytes of their forks in
+/// pieces. Contracts see the items of every image consistent with the bytes read, and which faults a source of this kind may
+/// return.
 pub trait BagSource {
-    /// The images that have the bytes which were read so far: over memory one, over a file each that it may be.
+    /// The images consistent with the bytes read so far: over memory that is one, over a file each that it may be.
     ghost Holds: { Self → List ℕ → Type 0 };
 
     /// The items of such an image.
     ghost state: { Self → List ℕ → SourceState };
 
-    /// How many items are to come, at most.
+    /// How many items are left, at most.
     ghost items_left: { Self → ℕ };
 
-    /// How many bytes of a stream are still to be read, at most.
+    /// How many bytes of a stream are left to read, at most.
     ghost bytes_left: { Self → ℕ };
 
     ghost Fails: { SourceFault → Type 0 };
@@ -50,37 +51,37 @@ pub trait BagSource {
     fn tells_remains(&self) -> bool
         ensures { OfEach (Holds self.now) (λ image. result ≡ has_remains (state self.now image).tables) };
 
-    /// Begins with the items anew.
+    /// Starts again with the first item.
     fn restart(&mut self) -> Result<(), SourceFault>
         ensures restarted { MatchResult result (λ _. OfEach (Holds self.new)
             (λ image. HasRestarted (state self.old image) (state self.new image))) Fails }
         ensures narrows { OfEach (Holds self.new) (Holds self.old) };
 
-    /// What is told of the next item, or None behind the last one.
+    /// The head of the next item, or None after the last one.
     fn next_item(&mut self) -> Result<Option<BagHead>, SourceFault>
         ensures taken { MatchResult result (λ head. OfEach (Holds self.new)
             (λ image. TakesItem (state self.old image) (state self.new image) head)) Fails }
         ensures fewer { IfOk result (IsFewer (items_left self.old) (items_left self.new)) }
         ensures narrows { OfEach (Holds self.new) (Holds self.old) };
 
-    /// Appends the path, below the payload, of the folder that holds the item that came last, with a slash behind it.
+    /// Appends the path, below the payload, of the folder that holds the item that came last, followed by a slash.
     fn push_above(&self, text: &mut String) -> Result<(), AllocError>
         ensures { OnOk result (OfEach (Holds self.now)
             (λ image. string_bytes text.new ≡ string_bytes text.old ++ (state self.now image).item.above)) };
 
-    /// Appends how that item is called there.
+    /// Appends the name of that item there.
     fn push_name(&self, text: &mut String) -> Result<(), AllocError>
         ensures { OnOk result (OfEach (Holds self.now)
             (λ image. string_bytes text.new ≡ string_bytes text.old ++ (state self.now image).item.name)) };
 
-    /// Makes a stream ready to be read from its first byte on.
+    /// Makes a stream ready to be read from its first byte.
     fn open(&mut self, stream: Stream) -> Result<(), SourceFault>
         ensures opened { MatchResult result (λ _. OfEach (Holds self.new)
             (λ image. HasOpened stream (state self.old image) (state self.new image))) Fails }
         ensures stays { items_left self.new ≡ items_left self.old }
         ensures narrows { OfEach (Holds self.new) (Holds self.old) };
 
-    /// Puts the next bytes of the stream in the place of the piece, and none where none are left.
+    /// Replaces the piece with the next bytes of the stream, or with none at its end.
     fn read(&mut self, piece: &mut Vec<u8>) -> Result<(), SourceFault>
         ensures read { MatchResult result (λ _. OfEach (Holds self.new)
             (λ image. HasRead piece.new.items (state self.old image) (state self.new image))) Fails }

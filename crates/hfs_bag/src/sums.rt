@@ -11,13 +11,13 @@ use crate::items::double_head;
 pub struct BagSums {
     /// How many items have a file with their data fork.
     pub files: usize,
-    /// How many have none, as the folders of a volume without its root.
+    /// How many have none, which are the folders of a volume without its root.
     pub folders: usize,
     /// The bytes of all files of the payload.
     pub bytes: u64,
 }
 
-/// The bytes of the files of an item of which this is told.
+/// How many bytes the files of an item have.
 pub(crate) fn item_bytes(head: &BagHead) -> u64
     ensures { (item : BagItem) → IsHead head.now item → result ≡ bytes_in (item_entries item) }
 {
@@ -29,7 +29,7 @@ pub(crate) fn item_bytes(head: &BagHead) -> u64
     }
 }
 
-/// 1 where there is a file with a data fork, else 0.
+/// 1 if there is a file with a data fork, else 0.
 fn file_number(told: &ItemDigests) -> usize
     ensures number { result ≡ file_number told.now }
     ensures few { result ≤ 1 }
@@ -40,7 +40,7 @@ fn file_number(told: &ItemDigests) -> usize
     }
 }
 
-/// 1 where there is an AppleDouble file, else 0.
+/// 1 if there is an AppleDouble file, else 0.
 fn double_number(told: &ItemDigests) -> usize
     ensures number { result ≡ double_number told.now }
     ensures few { result ≤ 1 }

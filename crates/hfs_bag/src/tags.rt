@@ -73,7 +73,7 @@ fn push_directory(text: &mut String, directory: Option<&str>) -> Result<(), Allo
     }
 }
 
-/// Appends the line of the bytes: those of a volume that lies inside the image's file, or of the file.
+/// Appends the line of the bytes: those of a volume inside the image's file, or those of the file.
 fn push_source_bytes(text: &mut String, volume: Option<&str>, bytes: u64) -> Result<(), AllocError>
     ensures { OnOk result (Gains text.old text.new (line (bytes_key volume.entry) (decimal bytes))) }
 {
@@ -83,7 +83,7 @@ fn push_source_bytes(text: &mut String, volume: Option<&str>, bytes: u64) -> Res
     }
 }
 
-/// Appends the line of their digest, where it is to be told.
+/// Appends the line of their digest, if there is one.
 fn push_source_digest(
     alloc: Global,
     text: &mut String,
@@ -102,7 +102,7 @@ fn push_source_digest(
     }
 }
 
-/// The text of `bag-info.txt`, of a payload of so many bytes and files.
+/// The text of `bag-info.txt`, for a payload of `oxum`'s bytes and files.
 #[tactic(auto, unfolding(crate::specs::Tags::info_text))]
 fn info_text(
     alloc: Global,
@@ -124,19 +124,19 @@ fn info_text(
     Ok(text)
 }
 
-/// The digests of the tag files, which the last one has.
+/// The digests of the tag files, for the last of them.
 #[derive(Clone, Copy)]
 struct TagDigests {
     manifest: [u8; 32],
     table: [u8; 32],
-    /// That of the table of what remains, where there is one.
+    /// That of the table of what remains, if there is one.
     remains: Option<[u8; 32]>,
     report: [u8; 32],
     info: [u8; 32],
     declaration: [u8; 32],
 }
 
-/// Appends the line of the table of what remains, where there is one.
+/// Appends the line of the table of what remains, if there is one.
 fn push_remains_line(
     alloc: Global,
     text: &mut String,
@@ -164,7 +164,7 @@ fn tag_manifest(alloc: Global, tags: &TagDigests) -> Result<String, AllocError>
     Ok(text)
 }
 
-/// Gives the table of what remains, where there is one, and answers its digest.
+/// Gives the table of what remains, if there is one, and returns its digest.
 fn give_remains<S: Shelf, B: BagSource>(
     alloc: Global,
     shelf: &mut S,
@@ -195,7 +195,7 @@ fn give_remains<S: Shelf, B: BagSource>(
     Ok(Some(digest))
 }
 
-/// Gives the manifest and the tables, and answers their digests.
+/// Gives the manifest and the tables, and returns their digests.
 fn give_first<S: Shelf, B: BagSource>(
     alloc: Global,
     shelf: &mut S,
@@ -225,7 +225,7 @@ fn give_first<S: Shelf, B: BagSource>(
     Ok((manifest, table, remains))
 }
 
-/// Gives the report, the facts and the declaration, and answers their digests.
+/// Gives the report, the facts and the declaration, and returns their digests.
 fn give_second<S: Shelf>(
     alloc: Global,
     shelf: &mut S,

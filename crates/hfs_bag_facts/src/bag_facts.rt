@@ -1,4 +1,4 @@
-//! What the tables of bags tell of what lies in them.
+//! What the tables of bags say about what is in them.
 ghost use Rattle.std.specs.Prelude.{IfOk, OnOk, map};
 ghost use Rattle.hfs_sources.specs.Trees.{OfEachTree};
 ghost use Rattle.hfs_bag_facts.specs.Later.{Tells, told_at};
@@ -12,7 +12,7 @@ use hfs_sources::{HostFault, HostTree, ToldItems, entry_path};
 use std::alloc::Global;
 use std::marker::Model;
 
-/// Lock and dates of what lies in bags, as their tables of items tell them, by paths on the host. An entry takes some 100 bytes and
+/// Lock and dates of what is in bags, as their tables of items give them, by paths on the host. An entry takes some 100 bytes and
 /// its path. Contracts see the list of both.
 #[derive(Drop)]
 pub struct BagFacts {
@@ -28,7 +28,7 @@ impl Model for BagFacts {
     ghost view = { λ bags. bags.facts };
 }
 
-/// Notes what the table of a source tells, where that is a bag and has one.
+/// Notes what the table of a source says, if that is a bag and has one.
 fn note_source<T: HostTree>(
     alloc: Global,
     tree: &mut T,
@@ -46,8 +46,8 @@ fn note_source<T: HostTree>(
 }
 
 impl BagFacts {
-    /// What the tables of all sources tell that are bags: the `items.csv` of each, which is held while it is read. A row that isn't
-    /// as one of an item is tells nothing, and of two with one path the later counts. Faults: `CannotRead` of what can't be read,
+    /// What the tables of those sources say that are bags: the `items.csv` of each, which is held while it is read. A row that
+    /// isn't an item's says nothing, and of two with the same path the later counts. Faults: `CannotRead` of what can't be read,
     /// `NoMemory`; the first one ends it.
     pub fn read<T: HostTree>(
         alloc: Global,

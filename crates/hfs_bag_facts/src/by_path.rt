@@ -1,4 +1,4 @@
-//! What is told of files by their paths, in the order of the paths and not by hashes, since a host chooses its paths.
+//! What is known of files by their paths, in the order of the paths and without hashing, since a host chooses its paths.
 ghost use Rattle.std.specs.Prelude.{◌≡◌, [], OnOk};
 ghost use Rattle.hfs_bag_facts.specs.Later.{Tells, told_at, told_of};
 
@@ -37,7 +37,7 @@ impl<V: Copy + Drop> ByPath<V> {
         self.values.get(path).copied()
     }
 
-    /// Gives a path this value, in place of the one that it has. `Err` only where memory is wanting.
+    /// Gives a path this value, in place of the one that it may have. `Err` only when out of memory.
     pub(crate) fn put(&mut self, path: Vec<u8>, value: V) -> Result<(), AllocError>
         ensures { OnOk result (Tells (told_of path.items value) self.old self.new) }
     {

@@ -1,4 +1,4 @@
-//! The name of the disk that a bag was taken of.
+//! The name of the disk that a bag was taken from.
 ghost use Rattle.std.specs.Prelude.{◌≡◌, IfOk, option_map};
 ghost use Rattle.hfs_sources.specs.Trees.{OfEachTree};
 ghost use Rattle.hfs_bag_facts.specs.Tags.{name_told, tag_text};
@@ -8,8 +8,8 @@ use hfs_bag_tags::external_identifier;
 use hfs_sources::{HostFault, HostTree};
 use std::alloc::Global;
 
-/// The plain text of the name of the disk that a bag was taken of, by the first line of its `bag-info.txt` that tells it; none
-/// where none does, or where the source is no bag. It may be no text: `plain_item_name` of `hfs_incoming` takes one. Faults:
+/// The plain text of the name of the disk that a bag was taken from, from the first line of its `bag-info.txt` that has it; None
+/// if no line has it, or if the source is no bag. It may not be text: `plain_item_name` of `hfs_incoming` takes text. Faults:
 /// `CannotRead` of what can't be read, `NoMemory`.
 pub fn bag_name<T: HostTree>(
     alloc: Global,

@@ -1,4 +1,4 @@
-//! Rows of a bag's table of items, by the paths of what they tell of.
+//! Rows of a bag's table of items, by the paths that they describe.
 ghost use Rattle.std.specs.Prelude.{◌≡◌, OnOk};
 ghost use Rattle.csv.specs.Records.{fields_of};
 ghost use Rattle.hfs_bag_facts.specs.Later.{Tells};
@@ -21,7 +21,7 @@ fn facts_of(row: ItemRow) -> ToldFacts
     }
 }
 
-/// The path of a row's item below the payload; empty where there is none.
+/// The path of a row's item below the payload; empty if there is none.
 fn path_field(row: &ByteRecord) -> &[u8]
     ensures { result.now ≡ path_field (fields_of row.now) }
 {
@@ -31,7 +31,7 @@ fn path_field(row: &ByteRecord) -> &[u8]
     }
 }
 
-/// Notes what a row tells, with this before its path: nothing, where it isn't as the row of an item is.
+/// Notes what a row says, with this in front of its path: nothing, if it isn't the row of an item.
 fn note_row(
     alloc: Global,
     front: &str,
@@ -47,7 +47,7 @@ fn note_row(
     facts.put(path, facts_of(item))
 }
 
-/// Notes what a table of items tells, with this before its paths. Fault: `NoMemory`.
+/// Notes what a table of items says, with this in front of its paths. Fault: `NoMemory`.
 pub(crate) fn note_table(
     alloc: Global,
     front: &str,

@@ -1,4 +1,4 @@
-//! What bags tell of what lies in them: lock and dates of items, digests of files, and the name of the disk.
+//! What bags say about what is in them: lock and dates of items, digests of files, and the name of the disk.
 #![tactic(auto)]
 
 mod bag_facts;

@@ -1,4 +1,4 @@
-//! The digests that the manifests of bags tell of their files.
+//! The digests that the manifests of bags give for their files.
 ghost use Rattle.std.specs.Prelude.{◌≡◌, IfOk, OnOk, map};
 ghost use Rattle.hfs_sources.specs.Trees.{OfEachTree};
 ghost use Rattle.hfs_bag_facts.specs.Digests.{AreDigestsOf, digest_by_line, digest_by_lines, digest_by_source};
@@ -12,8 +12,8 @@ use hfs_sources::{HostFault, HostTree, entry_path};
 use std::alloc::{AllocError, Global};
 use std::marker::Model;
 
-/// The SHA-256 digests of files in bags, as their manifests tell them, by paths on the host. An entry takes some 100 bytes and its
-/// path. Contracts see the list of both.
+/// The SHA-256 digests of files in bags, as their manifests give them, by paths on the host. An entry takes some 100 bytes and
+/// its path. Contracts see the list of both.
 #[derive(Drop)]
 pub struct ManifestDigests {
     digests: ByPath<[u8; 32]>,
@@ -28,7 +28,7 @@ impl Model for ManifestDigests {
     ghost view = { λ manifests. manifests.digests };
 }
 
-/// Notes what a line tells, with this before its path.
+/// Notes what a line says, with this in front of its path.
 fn note_line(
     alloc: Global,
     front: &str,
@@ -45,7 +45,7 @@ fn note_line(
     digests.put(path, digest)
 }
 
-/// Notes what the lines of a manifest tell, with this before their paths.
+/// Notes what the lines of a manifest say, with this in front of their paths.
 fn note_lines(
     alloc: Global,
     front: &str,
@@ -63,7 +63,7 @@ fn note_lines(
     Ok(())
 }
 
-/// Notes what the manifest of a source tells, where that is a bag and has one.
+/// Notes what the manifest of a source says, if that is a bag and has one.
 fn note_source<T: HostTree>(
     alloc: Global,
     tree: &mut T,
@@ -81,9 +81,9 @@ fn note_source<T: HostTree>(
 }
 
 impl ManifestDigests {
-    /// What the manifests of all sources tell that are bags: the `manifest-sha256.txt` of each, which is held while it is read. A
-    /// line that isn't as one of a manifest is tells nothing, and of two with one path the later counts. Faults: `CannotRead` of
-    /// what can't be read, `NoMemory`; the first one ends it.
+    /// What the manifests of those sources say that are bags: the `manifest-sha256.txt` of each, which is held while it is read.
+    /// A line that isn't a manifest's says nothing, and of two with the same path the later counts. Faults: `CannotRead` of what
+    /// can't be read, `NoMemory`; the first one ends it.
     pub fn read<T: HostTree>(
         alloc: Global,
         tree: &mut T,
@@ -100,7 +100,7 @@ impl ManifestDigests {
         Ok(ManifestDigests { digests })
     }
 
-    /// The digest of the file at a path, where one is told.
+    /// The digest of the file at a path, if one is given.
     pub fn digest(&self, path: &str) -> Option<[u8; 32]>
         ensures { result ≡ told_at self.now path.now }
     {

@@ -7,7 +7,7 @@ use hfs_source::PlacedBytes;
 use hfs_sources::{HostFault, HostTree, cannot_read, entry_path, is_bag, is_file};
 use std::alloc::Global;
 
-/// A line without the return that stands at its end where a program ends lines by two characters.
+/// A line without the carriage return at its end, for programs that end lines with two characters.
 pub(crate) fn without_return(line: &[u8]) -> &[u8]
     ensures { result.now ≡ without_return line.now }
 {
@@ -47,8 +47,8 @@ fn leads_to_bag<T: HostTree>(alloc: Global, tree: &mut T, source: &str) -> Resul
     }
 }
 
-/// The text of a tag file by its name; empty where the source is no bag, or where nothing there is a file of this name. Faults:
-/// `CannotRead` of what can't be read, `NoMemory`.
+/// The text of a tag file by its name; empty if the source is no bag, or if it has no file of this name. Faults: `CannotRead` of
+/// what can't be read, `NoMemory`.
 pub(crate) fn tag_text<T: HostTree>(
     alloc: Global,
     tree: &mut T,

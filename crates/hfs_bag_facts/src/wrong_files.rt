@@ -1,4 +1,4 @@
-//! Files of bags whose bytes have another digest than their manifests tell.
+//! Files of bags whose bytes have another digest than their manifests give.
 ghost use Rattle.std.specs.Prelude.{◌≡◌, IfOk, option_map};
 ghost use Rattle.sha2.specs.Sha256.{sha256};
 ghost use Rattle.hfs_sources.specs.Trees.{OfEachTree};
@@ -24,7 +24,7 @@ fn digest_at<T: HostTree>(alloc: Global, tree: &mut T, path: &str) -> Result<[u8
     Ok(digest)
 }
 
-/// Whether the file at a path has another digest than the one that is told of it. One of which none is told isn't read.
+/// Whether the file at a path has another digest than the one that is given for it. A file without a given digest isn't read.
 fn is_wrong<T: HostTree>(
     alloc: Global,
     tree: &mut T,
@@ -41,7 +41,7 @@ fn is_wrong<T: HostTree>(
     }
 }
 
-/// The path, where the file that it leads to is so.
+/// The path, if the file that it leads to is wrong in this way.
 fn wrong_at<'a, T: HostTree>(
     alloc: Global,
     tree: &mut T,
@@ -63,7 +63,7 @@ fn wrong_at<'a, T: HostTree>(
     }
 }
 
-/// The path of an item's own file, where it has one.
+/// The path of an item's own file, if it has one.
 fn own_path(item: &SourceItem) -> Option<&str>
     ensures { option_map (λ p. p.now) result ≡ own_path item.now }
 {
@@ -74,7 +74,7 @@ fn own_path(item: &SourceItem) -> Option<&str>
     }
 }
 
-/// The path of the file that belongs to it by its name, where there is one that counts.
+/// The path of the file that belongs to it by its name, if there is one that counts.
 fn double_path(item: &SourceItem) -> Option<&str>
     ensures { option_map (λ p. p.now) result ≡ double_path item.now }
 {
@@ -102,8 +102,8 @@ fn wrong_of<'a, T: HostTree>(
     }
 }
 
-/// The path of the first file of these items whose bytes have another SHA-256 digest than the manifests tell: of each item its own
-/// file, and then the one that belongs to it by its name. A file of which no digest is told isn't read, and what is read is read
+/// The path of the first file of these items whose bytes have another SHA-256 digest than the manifests give: for each item its
+/// own file, and then the one that belongs to it by its name. A file without a given digest isn't read; other files are read
 /// once, in pieces. Faults: `CannotRead` of what can't be read, `NoMemory`; the first one ends it.
 pub fn first_wrong_file<'a, T: HostTree>(
     alloc: Global,

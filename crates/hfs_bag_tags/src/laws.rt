@@ -1,4 +1,4 @@
-//! What is written of a bag comes back.
+//! What is written about a bag can be read back.
 ghost use Rattle.std.specs.Prelude.{◌≡◌, IsTrue, ℕ, List, length};
 ghost use Rattle.std.specs.List.{list_all};
 ghost use Rattle.hfs_names.specs.Laws.{is_bytes};
@@ -14,8 +14,7 @@ pub fn moments_read_back()
     ensures { AreMomentsRead moment }
 {}
 
-/// The law of the table of items: kind, lock, dates and the path in the bag come back from the line that is written of an item,
-/// whatever its name is.
+/// The law of the table of items: kind, lock, dates and the path in the bag come back from an item's line, whatever its name is.
 pub fn item_row_read_back(info: Info)
     ensures { (names : List (List ℕ)) → IsTrue (list_all is_bytes names)
         → IsTrue (is_bytes info.finder) → IsRowReadBack names info }
@@ -27,7 +26,7 @@ pub fn info_read_back()
         → facts.identifier.now ≡ plain_text name → IsNameReadBack name facts bytes files }
 {}
 
-/// The law of manifests: digest and path of a file come back from the line that is written of it.
+/// The law of manifests: a file's digest and path come back from its line.
 pub fn manifest_read_back()
     ensures { (digest path rest : List ℕ) → IsTrue (is_bytes digest) → length digest ≡ 32
         → IsTrue (is_line path) → IsDigestReadBack digest path rest }

@@ -1,5 +1,5 @@
-//! The tag files of a bag, read back: what its table of items tells of each item, what its lines tell of the disk, and the digests
-//! of its files.
+//! The tag files of a bag, read back: what its table of items says about each item, what its lines say about the disk, and the
+//! digests of its files.
 #![tactic(auto)]
 
 mod laws;

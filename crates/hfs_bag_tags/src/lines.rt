@@ -1,8 +1,8 @@
-//! Lines of texts, and what a line of a bag's description tells.
+//! Lines of texts, and what a line of a bag's description says.
 ghost use Rattle.std.specs.Prelude.{◌≡◌, ◌∷◌, ◌==◌, ◌<◌, MatchOption, None, Some, codes, length, position};
 ghost use Rattle.hfs_bag_tags.specs.Lines.{behind_label, first_value, lines};
 
-/// What stands before the name of the disk's root.
+/// The label of the line with the name of the disk's root.
 const EXTERNAL_IDENTIFIER: [u8; 21] = *b"External-Identifier: ";
 
 /// The place of the first line feed.
@@ -12,7 +12,7 @@ fn line_feed(text: &[u8]) -> Option<usize>
     text.iter().position(|byte| *byte == b'\n')
 }
 
-/// The first line of a text that isn't empty, and what stands behind it and its line feed.
+/// The first nonempty line of a text, and what follows its line feed.
 pub fn next_line(text: &[u8]) -> (&[u8], &[u8])
     requires { 0 < length text.now }
     ensures lines { lines text.now ≡ result.0.now ∷ lines result.1.now }
@@ -24,7 +24,7 @@ pub fn next_line(text: &[u8]) -> (&[u8], &[u8])
     }
 }
 
-/// What stands behind a label with which a line begins.
+/// What follows this label, if a line begins with it.
 fn behind_label<'a>(label: &[u8], line: &'a [u8]) -> Option<&'a [u8]>
     ensures { MatchOption result (behind_label label.now line.now ≡ None)
         (λ found. behind_label label.now line.now ≡ Some found.now) }
@@ -32,7 +32,7 @@ fn behind_label<'a>(label: &[u8], line: &'a [u8]) -> Option<&'a [u8]>
     line.strip_prefix(label)
 }
 
-/// The plain text of the name of the disk's root, by the first line of a bag's description that tells it. See
+/// The plain text of the name of the disk's root, from the first line of a bag's description that has it. See
 /// [`crate::info_read_back`], and `plain_item_name` of `hfs_incoming` for the name.
 pub fn external_identifier(info: &[u8]) -> Option<&[u8]>
     ensures { MatchOption result

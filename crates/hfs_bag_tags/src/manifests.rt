@@ -4,14 +4,14 @@ ghost use Rattle.hfs_bag_tags.specs.Manifests.{digest_in, digest_of, path_in};
 
 use hex::FromHex;
 
-/// A digest by its digits.
+/// The digest with these digits.
 fn digest_of(digits: &[u8]) -> Option<[u8; 32]>
     ensures { result ≡ digest_of digits.now }
 {
     <[u8; 32] as FromHex>::from_hex(digits).ok()
 }
 
-/// The digest and the path of a manifest's line: 64 hexadecimal digits, two spaces, and the path. See
+/// The digest and the path in a manifest's line: 64 hexadecimal digits, two spaces, and the path. See
 /// [`crate::manifest_read_back`].
 #[tactic(auto, using(crate::proofs::DigestLines::digest_short, crate::proofs::DigestLines::digest_marked, crate::proofs::DigestLines::digest_unmarked))]
 pub fn manifest_line(line: &[u8]) -> Option<([u8; 32], &[u8])>

@@ -13,7 +13,7 @@ fn is_digit(byte: u8) -> bool
     48 <= byte && byte <= 57
 }
 
-/// The number that two decimal digits say; 100 where one is none.
+/// The number in two decimal digits; 100 if one is none.
 #[tactic(auto, unfolding(crate::specs::Moments::two_at))]
 fn two_at(place: usize, text: &[u8]) -> u32
     requires { place + 2 ≤ length text.now }
@@ -29,7 +29,7 @@ fn two_at(place: usize, text: &[u8]) -> u32
     }
 }
 
-/// Whether all that stands between the digits is there.
+/// Whether everything between the digits is there.
 #[tactic(auto, unfolding(crate::specs::Moments::has_marks))]
 fn has_marks(text: &[u8]) -> bool
     requires { length text.now ≡ 19 }
@@ -53,7 +53,7 @@ fn month_lengths(year: u32) -> [u32; 12]
     [31, february, 31, 30, 31, 30, 31, 31, 30, 31, 30, 31]
 }
 
-/// The days of a year before each of its months, where February has 28.
+/// The days of a year before each of its months, with 28 for February.
 #[tactic(auto, unfolding(crate::specs::Moments::days_before_months))]
 fn days_before_months() -> [u32; 12]
     ensures { result ≡ days_before_months }
@@ -74,7 +74,7 @@ fn leap_days(year: u32, month: u32) -> u64
     }
 }
 
-/// The days from 1 January 1904 to that of a year so many years behind it: each fourth is a leap year, since 2000 is one.
+/// The days from 1 January 1904 to that of the year `years` years later: every fourth is a leap year, since 2000 is one.
 #[tactic(auto, using(crate::proofs::DaysCounted::years_counted))]
 fn days_of_years(years: u32) -> u64
     requires { years ≤ 139 }
@@ -84,7 +84,7 @@ fn days_of_years(years: u32) -> u64
     365 * u64::from(years) + (u64::from(years) + 3) / 4
 }
 
-/// Those before one of its months.
+/// The days before one of the months.
 #[tactic(auto, using(crate::proofs::DaysCounted::before_small))]
 fn days_before_month(month: u32) -> u32
     requires first { 1 ≤ month }
@@ -106,7 +106,7 @@ fn days_of_months(year: u32, month: u32) -> u64
     u64::from(days_before_month(month)) + leap_days(year, month)
 }
 
-/// The days from 1 January 1904 to this one, where the calendar has it, from 1904 to 2043.
+/// The days from 1 January 1904 to this one, if it is in the calendar, from 1904 to 2043.
 #[tactic(auto, unfolding(crate::specs::Moments::day_number))]
 fn day_number(year: u32, month: u32, day: u32) -> Option<u64>
     ensures day { result ≡ day_number year month day }
@@ -134,7 +134,7 @@ fn is_time(text: &[u8]) -> bool
     two_at(11, text) < 24 && two_at(14, text) < 60 && two_at(17, text) < 60
 }
 
-/// The seconds behind midnight.
+/// The seconds after midnight.
 #[tactic(auto, unfolding(crate::specs::Moments::seconds_in))]
 fn seconds_in(text: &[u8]) -> u32
     requires { length text.now ≡ 19 }
@@ -155,7 +155,7 @@ fn within(date: u64) -> Option<u32>
     }
 }
 
-/// The date of a day and the time that a text tells.
+/// The date of a day with the time in a text.
 fn date_on(text: &[u8], day: Option<u64>) -> Option<u32>
     requires whole { length text.now ≡ 19 }
     requires small { IfSome day (λ days. days < 2 ^ 35) }
@@ -167,7 +167,7 @@ fn date_on(text: &[u8], day: Option<u64>) -> Option<u32>
     }
 }
 
-/// The date whose moment a text of 19 bytes is.
+/// The date whose moment is a text of 19 bytes.
 #[tactic(auto, unfolding(crate::specs::Moments::dated))]
 fn dated(text: &[u8]) -> Option<u32>
     requires { length text.now ≡ 19 }
@@ -181,8 +181,8 @@ fn dated(text: &[u8]) -> Option<u32>
     }
 }
 
-/// The date of a moment, in seconds since midnight of 1 January 1904: 0 of no text, else that of YYYY-MM-DDThh:mm:ss; none of what is
-/// no moment of 32 bits. See [`crate::moments_read_back`].
+/// The date of a moment, in seconds since midnight, 1 January 1904: 0 for an empty text, otherwise that of YYYY-MM-DDThh:mm:ss;
+/// None if it is no moment of 32 bits. See [`crate::moments_read_back`].
 #[tactic(auto, unfolding(crate::specs::Moments::date_in))]
 pub fn read_moment(text: &[u8]) -> Option<u32>
     ensures { result ≡ date_in text.now }

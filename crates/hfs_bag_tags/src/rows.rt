@@ -9,7 +9,7 @@ use csv::ByteRecord;
 use hfs_incoming::FileDates;
 use hfs_model::ItemKind;
 
-/// What a row tells of an item that has it.
+/// What a row says about its item.
 #[derive(Clone, Copy)]
 pub struct ItemRow {
     /// A folder or a file.
@@ -49,7 +49,7 @@ fn kind_of(field: &[u8]) -> Option<ItemKind>
     }
 }
 
-/// What the field of the lock says of an item of this kind: nothing of a folder.
+/// What the field of the lock says about an item of this kind: nothing for a folder.
 fn lock_of(kind: ItemKind, field: &[u8]) -> Option<bool>
     ensures { result ≡ lock_of kind field.now }
 {
@@ -121,7 +121,7 @@ fn row_of(kind: ItemKind, row: &ByteRecord) -> Option<ItemRow>
     }
 }
 
-/// What a row tells of its item; none of what isn't the row of an item, as the head of the table isn't. See
+/// What a row says about its item; None if it isn't the row of an item, such as the head of the table. See
 /// [`crate::item_row_read_back`].
 #[tactic(auto, unfolding(crate::specs::Rows::item_row))]
 pub fn item_row(row: &ByteRecord) -> Option<ItemRow>
@@ -136,7 +136,7 @@ pub fn item_row(row: &ByteRecord) -> Option<ItemRow>
     }
 }
 
-/// Where the row's item lies below the payload: the last of 17 fields, which is empty of the root.
+/// Where the row's item lies below the payload: the last of 17 fields, which is empty for the root.
 pub fn bag_path(row: &ByteRecord) -> Option<&[u8]>
     ensures { option_map (λ path. path.now) result ≡ field_at (fields_of row.now) 16 }
 {

@@ -1,8 +1,8 @@
-//! What trees and tables ask of the blocks below them.
+//! What trees and tables need of the blocks below them.
 
 ghost use Rattle.std.specs.Prelude.{◌≡◌, ℕ, ◌<◌, ◌^◌, List, length};
 
-/// Logical blocks of 512 bytes, by their numbers from 0 on: of a whole image, or of one with changes laid over it.
+/// Logical blocks of 512 bytes, by their numbers from 0 on: those of a whole image, or of one with changes laid over it.
 pub trait Blocks {
     ghost blocks: { Self → ℕ → List ℕ };
 
@@ -17,13 +17,13 @@ pub trait Blocks {
         requires { n < total self.now }
         ensures { into.new ≡ blocks self.now n };
 
-    // there are fewer than 2^32 blocks, of 512 bytes each
+    // There are fewer than 2^32 blocks, of 512 bytes each.
     ghost few: { (s : Self) → total s < 2 ^ 32 };
 
     ghost whole: { (s : Self) (n : ℕ) → n < total s → length (blocks s n) ≡ 512 };
 }
 
-/// Blocks that are lent.
+/// Blocks that are borrowed.
 impl<B: Blocks> Blocks for &B {
     ghost blocks = { λ s. B.blocks s.now };
 

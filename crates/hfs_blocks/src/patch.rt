@@ -61,12 +61,12 @@ impl Patch {
         ensures patch { result.patch.now ≡ self.now }
         ensures below { result.below.now ≡ below.now }
     {
-        // A proof knows that the blocks have 512 bytes once it has seen them.
+        // Once a proof has seen the blocks, it knows that they have 512 bytes.
         let _blocks = &self.blocks;
         Patched { below, patch: self }
     }
 
-    /// Puts block `n` into the patch, in place of the one that it has. At an error the patch is as it was.
+    /// Puts block `n` into the patch, in place of the one that it may have. At an error the patch is as it was.
     pub fn put(&mut self, n: u32, block: &[u8; 512]) -> Result<(), AllocError>
         ensures written { OnOk result
             (changes self.new ≡ with_change (changes self.old) n block.now) }
@@ -138,9 +138,9 @@ impl Patch {
         }
     }
 
-    /// Lays another patch over this one, which lies over the blocks of `below`. Each block of the other that this one lacks is
-    /// entered first, with the bytes that it has there, so that what follows takes no memory. At an error this patch may have
-    /// more blocks, but over those of `below` it is as it was.
+    /// Lays another patch over this one, which lies over the blocks of `below`. Each block of the other one that this one lacks
+    /// is entered first, with the bytes that it has there, so that the rest takes no memory. At an error this patch may have more
+    /// blocks, but over those of `below` it is as it was.
     pub fn lay<B: Blocks>(&mut self, below: &B, patch: &Patch) -> Result<(), AllocError>
         requires { AreWithin (changes patch.now) (B.total below.now) }
         ensures laid { OnOk result (IsLaid (B.blocks below.now) self.old patch.now self.new) }

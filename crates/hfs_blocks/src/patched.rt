@@ -11,7 +11,7 @@ use crate::patch::Patch;
 pub struct Patched<'a, B: Blocks> {
     /// The blocks of the volume.
     pub below: &'a B,
-    /// The blocks that stand in place of those.
+    /// The blocks in place of those.
     pub patch: &'a Patch,
     ghost whole: { AreWhole (changes patch.now) },
 }

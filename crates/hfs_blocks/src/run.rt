@@ -5,18 +5,18 @@ ghost use Rattle.std.specs.List.{flat_map};
 ghost use Rattle.hfs_blocks.specs.Blocks.{run_of, AreCounted, AreRunsWithin, IsBeforeEnd};
 ghost use Rattle.hfs_blocks.specs.declared.run.Run.{Run};
 
-/// Blocks that follow one another: the number of the first, counted from 0, and how many there are.
+/// Consecutive blocks: the number of the first, counted from 0, and how many there are.
 #[derive(Debug, Clone, Copy, PartialEq, Eq)]
 pub struct Run {
     /// The number of its first block, counted from 0.
     pub first: u32,
     /// How many blocks it has.
     pub count: u32,
-    /// How many blocks its file has in the runs before it; 0 where the run is no part of a file.
+    /// How many blocks its file has in the runs before it; 0 if the run is no part of a file.
     pub before: u32,
 }
 
-/// The place of the run in which node `n` of the file lies. A binary search.
+/// The place of the run that holds node `n` of the file. A binary search.
 fn place_of(runs: &[Run], n: u32) -> usize
     requires within { n < length (flat_map run_of runs.now) }
     requires counted { AreCounted runs.now }
@@ -27,7 +27,7 @@ fn place_of(runs: &[Run], n: u32) -> usize
     runs.partition_point(|run| run.before <= n) - 1
 }
 
-/// The number of the block in which node `n` of the file lies whose nodes lie in these runs. A binary search.
+/// The number of the block that holds node `n` of the file whose nodes lie in these runs. A binary search.
 pub fn block_of(runs: &[Run], n: u32) -> u32
     requires within { n < length (flat_map run_of runs.now) }
     requires small { AreRunsWithin runs.now 4294967296 }

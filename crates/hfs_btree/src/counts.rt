@@ -16,7 +16,7 @@ pub fn free_nodes<K: Key, N: Nodes>(nodes: &N) -> u32
     read_header(nodes).free_nodes
 }
 
-/// How many levels the tree has, 0 where it is empty.
+/// How many levels the tree has; 0 if it is empty.
 pub fn depth<K: Key, N: Nodes>(nodes: &N) -> u16
     requires { IsSound K.Key (N.nodes nodes.now) }
     ensures { result ≡ depth_of (N.nodes nodes.now) }

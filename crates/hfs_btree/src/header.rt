@@ -11,15 +11,15 @@ use hfs_fields::{FieldRow, u16_at, u32_at};
 /// Source: Inside Macintosh: Files, chapter 2, 'B*-trees', header nodes. Nodes are counted from 0.
 #[derive(Debug, Clone, Copy, PartialEq, Eq)]
 pub struct Header {
-    /// bthDepth: how many levels the tree has, 0 where it is empty.
+    /// bthDepth: how many levels the tree has; 0 if it is empty.
     pub depth: u16,
-    /// bthRoot: the number of the root node, 0 where the tree is empty.
+    /// bthRoot: the number of the root node; 0 if the tree is empty.
     pub root: u32,
-    /// bthNRecs: how many records the leaves have together.
+    /// bthNRecs: how many records all leaves have together.
     pub records: u32,
-    /// bthFNode: the number of the first leaf, 0 where the tree is empty.
+    /// bthFNode: the number of the first leaf; 0 if the tree is empty.
     pub first_leaf: u32,
-    /// bthLNode: the number of the last leaf, 0 where the tree is empty.
+    /// bthLNode: the number of the last leaf; 0 if the tree is empty.
     pub last_leaf: u32,
     /// bthNodeSize: the bytes of a node.
     pub node_size: u16,
@@ -51,7 +51,7 @@ impl Header {
         }
     }
 
-    /// Writes the fields to the first 30 bytes of a header record.
+    /// Writes the fields into the first 30 bytes of a header record.
     pub fn write(&self, bytes: &mut [u8])
         requires { 30 ≤ length bytes.old }
         ensures fields { header_of bytes.new ≡ self.now }

@@ -1,4 +1,4 @@
-//! Where the search for a key goes on in an index node whose keys rise, found by halves.
+//! Where the search for a key goes on in an index node with rising keys, found by binary search.
 
 ghost use Rattle.std.specs.Prelude.{◌≡◌, ℕ, ◌<◌, ◌≤◌, true, length};
 ghost use Rattle.std.specs.List.{prefix_len};
@@ -11,7 +11,7 @@ use crate::entry::{child_of, is_above};
 use crate::key::Key;
 use hfs_node::{NodeView, view};
 
-/// The middle of a row of places.
+/// The middle of a range of places.
 fn middle(from: usize, to: usize) -> usize
     requires some { from < to }
     requires few { to ≤ 248 }
@@ -21,8 +21,8 @@ fn middle(from: usize, to: usize) -> usize
     from + (to - from) / 2
 }
 
-/// The place of an index node's first record whose key is above this one, or behind the last. The search for the key goes on
-/// in the child of the record before it.
+/// The place of an index node's first record whose key is above this one, or after the last. The search for the key goes on in
+/// the child of the record before it.
 pub fn first_above<K: Key>(node: &NodeView<'_>, key: &K) -> usize
     requires index { Each (λ entry. K.is_index entry ≡ true) node.now.records }
     requires rising { IsRisingFor K.Key key.now node.now.records }

@@ -20,7 +20,7 @@ pub(crate) fn no_leaf() -> [u8; 512]
     [0; 512]
 }
 
-/// How many records a node has; none where the bytes are no node.
+/// How many records a node has; 0 if the bytes are no node.
 pub fn count_in(bytes: &[u8; 512]) -> usize
     ensures { result ≡ length (records_of (node_of bytes.now)) }
 {
@@ -30,7 +30,7 @@ pub fn count_in(bytes: &[u8; 512]) -> usize
     }
 }
 
-/// The next node of the level, 0 at its end.
+/// The next node of the level; 0 at its end.
 pub fn forward_in(bytes: &[u8; 512]) -> u32
     ensures { result ≡ forward_of (node_of bytes.now) }
 {
@@ -56,7 +56,7 @@ pub fn entry_in(bytes: &[u8; 512], place: usize) -> Option<&[u8]>
     }
 }
 
-/// The place of the first record whose key isn't below this one, or behind the last.
+/// The place of the first record whose key isn't below this one, or after the last.
 pub fn place_in<K: Key>(bytes: &[u8; 512], key: &K) -> usize
     requires { Each (λ entry. K.is_leaf entry ≡ true) (records_of (node_of bytes.now)) }
     ensures within { result ≤ length (records_of (node_of bytes.now)) }
@@ -74,8 +74,8 @@ pub fn place_in<K: Key>(bytes: &[u8; 512], key: &K) -> usize
     node.len()
 }
 
-/// Goes on to the next leaf where this one, which has `count` records, has none from the place on. Answers the place
-/// there, and how many leaves are at most behind.
+/// Goes on to the next leaf if this one, which has `count` records, has none from the place on. Returns the place there, and how
+/// many leaves follow at most.
 pub(crate) fn settle<K: Key, N: Nodes>(
     nodes: &N,
     bytes: &mut [u8; 512],

@@ -4,7 +4,7 @@ ghost use Rattle.std.specs.Prelude.{◌<◌, ◌^◌, length};
 
 use crate::nodes::Nodes;
 
-/// Nodes that stand in memory one after the other.
+/// Nodes in memory, one after the other.
 #[derive(Clone, Copy)]
 pub struct NodeList<'a> {
     /// The nodes, counted from 0.

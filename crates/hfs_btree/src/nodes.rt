@@ -1,4 +1,4 @@
-//! What a tree asks of the file below it.
+//! What a tree needs of the file below it.
 
 ghost use Rattle.std.specs.Prelude.{◌≡◌, ℕ, ◌<◌, List, [], length, slice_index_or};
 

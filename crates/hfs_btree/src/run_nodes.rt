@@ -6,7 +6,7 @@ ghost use Rattle.hfs_blocks.specs.Blocks.{nodes_in, AreRunsWithin};
 use crate::nodes::Nodes;
 use hfs_blocks::{Blocks, Run, block_of};
 
-/// The nodes of a file that lies in runs of blocks: node n is the n-th 512 bytes of the runs in their order.
+/// The nodes of a file that lies in runs of blocks: node n is the n-th 512 bytes of the runs in order.
 #[derive(Drop)]
 pub struct RunNodes<'a, B: Blocks> {
     /// The blocks of the volume.

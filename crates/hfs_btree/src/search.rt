@@ -32,7 +32,7 @@ pub fn read_header<N: Nodes>(nodes: &N) -> Header
     }
 }
 
-/// The place of an index node's first record whose key is above this one, or behind the last, whatever the order of its keys.
+/// The place of an index node's first record whose key is above this one, or after the last, whatever the order of its keys.
 pub fn place_above<K: Key>(node: &NodeView<'_>, key: &K) -> usize
     requires { Each (λ entry. K.is_index entry ≡ true) node.now.records }
     ensures { result ≡ prefix_len (is_not_above K.Key key.now) node.now.records }
@@ -109,9 +109,9 @@ fn body_in<'a, K: Key>(bytes: &'a [u8; 512], key: &K) -> Option<&'a [u8]>
     None
 }
 
-/// The body under the key, or None where the tree has no key that is equal to it in the order.
+/// The body under the key, or None if the tree has no key that is equal to it in the order.
 ///
-/// It reads the header node and one node of each level, and takes memory for the answer alone.
+/// Reads the header node and one node of each level, and takes memory only for the body.
 pub fn find<K: Key, N: Nodes>(
     alloc: Global,
     nodes: &N,
@@ -177,10 +177,9 @@ fn pair_in<K: Key>(alloc: Global, entry: &[u8]) -> Result<(K, Vec<u8>), AllocErr
     Ok((key, body))
 }
 
-/// The first pair whose key is above this one, or None where there is none. The key itself need not be in the tree.
+/// The first pair whose key is above this one, or None if there is none. The key itself need not be in the tree.
 ///
-/// It reads the header node, one node of each level, and at the end of a leaf the one behind it. It takes memory for
-/// the answer alone.
+/// Reads the header node, one node of each level, and at the end of a leaf the next one. Takes memory only for the pair.
 pub fn next_after<K: Key, N: Nodes>(
     alloc: Global,
     nodes: &N,

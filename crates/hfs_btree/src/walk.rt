@@ -1,4 +1,4 @@
-//! Going through the pairs of a tree in their order.
+//! Going through the pairs of a tree in order.
 
 ghost use Rattle.std.specs.Prelude.{◌≡◌, ◌<◌, ◌≤◌, true, [], length, drop, option_map};
 ghost use Rattle.hfs_node.specs.Node.{node_of};
@@ -14,12 +14,12 @@ use crate::nodes::Nodes;
 use crate::search::{descend, read_header};
 use std::marker::{Model, PhantomData};
 
-/// A key and its body, as they stand in a leaf.
+/// A key and its body, as a leaf has them.
 #[derive(Clone, Copy)]
 pub struct Pair<'a, K> {
     /// The key.
     pub key: K,
-    /// The bytes of the record behind the key.
+    /// The bytes of the record after the key.
     pub body: &'a [u8],
 }
 
@@ -38,9 +38,9 @@ fn pair_of<K: Key>(entry: &[u8]) -> Pair<'_, K>
     }
 }
 
-/// A walk through the pairs of a tree, from leaf to leaf. Contracts see the pairs that are still to come.
+/// A walk through the pairs of a tree, from leaf to leaf. Contracts see the pairs that are left.
 ///
-/// It reads each leaf once, and takes no memory.
+/// Reads each leaf once, and takes no memory.
 #[derive(Drop)]
 pub struct Walk<'a, K: Key, N: Nodes> {
     nodes: &'a N,
@@ -98,7 +98,7 @@ impl<'a, K: Key, N: Nodes> Walk<'a, K, N> {
         }
     }
 
-    /// A walk from the first pair on whose key isn't below this one.
+    /// A walk that starts at the first pair whose key isn't below this one.
     pub fn from(nodes: &'a N, key: &K) -> Walk<'a, K, N>
         requires { IsSound K.Key (N.nodes nodes.now) }
         ensures { result ≡ pairs_from K.compare key.now (tree_content K.Key (N.nodes nodes.now)) }
@@ -131,7 +131,7 @@ impl<'a, K: Key, N: Nodes> Walk<'a, K, N> {
         }
     }
 
-    /// Goes past the next pair, if there is one.
+    /// Moves past the next pair, if there is one.
     pub fn advance(&mut self)
         ensures { self.new ≡ drop 1 self.old }
     {

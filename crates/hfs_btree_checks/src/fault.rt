@@ -9,11 +9,11 @@ use thiserror::Error;
 /// Why a tree doesn't pass a check.
 #[derive(Clone, Copy, Debug, PartialEq, Eq, Error)]
 pub enum TreeFault {
-    /// The node with this number, counted from 0, is the first that fails in the first rule that fails; 0 where what
-    /// fails is none of the levels' nodes.
+    /// The node with this number, counted from 0, is the first that fails the first rule that fails; 0 if what fails is no node
+    /// of the levels.
     #[error("node {0} of the tree is wrong")]
     At(u32),
-    /// Memory was refused, which says nothing of the tree.
+    /// Memory was refused, which says nothing about the tree.
     #[error("out of memory")]
     Memory,
 }

@@ -62,9 +62,9 @@ fn read_level_keys<K: Key, N: Nodes>(
     Ok(next)
 }
 
-/// The keys of all index nodes, in the turn of levels; none where the tree has no level above its leaves.
+/// The keys of all index nodes, level by level; none if the tree has no level above its leaves.
 ///
-/// It reads each index node once, and takes memory for the keys and for the node numbers of a level.
+/// Reads each index node once, and takes memory for the keys and for the node numbers of a level.
 pub fn index_keys<K: Key, N: Nodes>(alloc: Global, nodes: &N) -> Result<Vec<K>, AllocError>
     requires { HasStructure K.Key (N.nodes nodes.now) }
     ensures { IfOk result (λ keys. keys.items ≡ index_keys K.Key (N.nodes nodes.now)) }

@@ -16,7 +16,7 @@ use hfs_btree::{Key, Nodes, index_key_of, key_of, read_header};
 use hfs_node::{NodeView, view};
 use std::alloc::{AllocError, Global};
 
-/// The key of a record of a node so many levels above the leaves.
+/// The key of a record of a node `above` levels above the leaves.
 fn key_in<K: Key>(entry: &[u8], above: u16) -> K
     requires { reads_at K.Key above entry.now ≡ true }
     ensures { result ≡ key_at K.Key above entry.now }
@@ -28,7 +28,7 @@ fn key_in<K: Key>(entry: &[u8], above: u16) -> K
     }
 }
 
-/// Whether each key of a node so many levels above the leaves passes.
+/// Whether each key of a node `above` levels above the leaves passes.
 fn all_pass<K: Key, T: KeyTest<K>>(node: &NodeView, above: u16, test: &T) -> bool
     requires { list_all (reads_at K.Key above) node.now.records ≡ true }
     ensures { result ≡ all_pass K.Key (T.passes test.now) above node.now.records }
@@ -42,8 +42,8 @@ fn all_pass<K: Key, T: KeyTest<K>>(node: &NodeView, above: u16, test: &T) -> boo
     true
 }
 
-/// Whether each key of node `n` passes, which stands so many levels above the leaves. The children that an index node
-/// names are added to `next`.
+/// Whether each key of node `n`, which is `above` levels above the leaves, passes. Appends the children that an index node names
+/// to `next`.
 fn visit_keys<K: Key, N: Nodes, T: KeyTest<K>>(
     nodes: &N,
     n: u32,
@@ -66,7 +66,7 @@ fn visit_keys<K: Key, N: Nodes, T: KeyTest<K>>(
     Ok(all_pass(&node, above, test))
 }
 
-/// Checks the keys of one level, so many levels above the leaves, and gives the next one.
+/// Checks the keys of one level, `above` levels above the leaves, and returns the next level.
 fn check_level_keys<K: Key, N: Nodes, T: KeyTest<K>>(
     alloc: Global,
     nodes: &N,

@@ -6,7 +6,7 @@ ghost use Rattle.hfs_btree_checks.specs.Subtree.{is_at_most, is_above, CoversBot
 
 use hfs_btree::{Key, key_of};
 
-/// The least and the greatest of some keys, which need not stand in their order.
+/// The least and the greatest of some keys, which need not be in order.
 #[derive(Clone, Copy)]
 pub(crate) struct KeyRange<K> {
     /// The least of the keys.
@@ -15,7 +15,7 @@ pub(crate) struct KeyRange<K> {
     pub greatest: K,
 }
 
-/// The second key where it is less, and else the first.
+/// The second key if it is less, otherwise the first.
 fn lesser<K: Key>(first: K, second: K) -> K
     ensures { result ≡ if is_lt (K.compare second first) then second else first }
 {
@@ -36,7 +36,7 @@ fn greater<K: Key>(first: K, second: K) -> K
     }
 }
 
-/// The range of the keys of two ranges, each None where it has no keys.
+/// The range of the keys of two ranges, each None if it has no keys.
 pub(crate) fn joined<K: Key>(
     first: Option<KeyRange<K>>,
     second: Option<KeyRange<K>>,
@@ -55,7 +55,7 @@ pub(crate) fn joined<K: Key>(
     })
 }
 
-/// The key of a leaf's record where it is less, and else the first one.
+/// The key of a leaf's record if it is less, otherwise the first one.
 fn lesser_in<K: Key>(first: K, entry: &[u8]) -> K
     requires { K.is_leaf entry.now ≡ true }
     ensures { result ≡ lesser_in K.Key first entry.now }
@@ -67,8 +67,8 @@ fn lesser_in<K: Key>(first: K, entry: &[u8]) -> K
     }
 }
 
-/// The range of the keys of a range, None where it has no keys, and of a leaf's record. A key that is above the range is
-/// compared with its greatest alone, and the key of the record is copied only where the range takes it.
+/// The range of the keys of a range, None if it has no keys, and of a leaf's record. A key above the range is compared only with
+/// its greatest, and the key of the record is copied only if the range takes it.
 pub(crate) fn widened<K: Key>(range: Option<KeyRange<K>>, entry: &[u8]) -> Option<KeyRange<K>>
     requires { K.is_leaf entry.now ≡ true }
     ensures { CoversAlso K.Key range entry.now result }

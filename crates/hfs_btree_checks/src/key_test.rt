@@ -2,7 +2,7 @@
 
 ghost use Rattle.std.specs.Prelude.{◌≡◌, Bool};
 
-/// A test that a key passes or not, whatever tree and node it stands in.
+/// A test that a key passes or fails, whatever tree and node it is in.
 pub trait KeyTest<K> {
     ghost passes: { Self → K → Bool };
 

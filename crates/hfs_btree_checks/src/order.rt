@@ -32,10 +32,10 @@ pub(crate) fn check_order<K: Key, N: Nodes>(nodes: &N) -> Result<(), TreeFault>
 
 /// Checks that a tree in a file of `size` bytes is sound: that it has its shape, and that it is in order.
 ///
-/// The rules are those of `check_shape`, and where they all hold those of `ShapedTree::check_order`.
+/// The rules are those of `check_shape`, and if they all hold those of `ShapedTree::check_order`.
 ///
-/// Errors: `TreeFault::At(n)` where a rule of the shape fails, as `check_shape` says, or else where node `n` is the first,
-/// in the turn of levels, whose keys are not in order. `TreeFault::Memory` where memory was refused.
+/// Errors: `TreeFault::At(n)` if a rule of the shape fails, as `check_shape` says; or if node `n` is the first, level by level,
+/// whose keys are not in order. `TreeFault::Memory` if memory was refused.
 ///
 /// Source: Inside Macintosh: Files, chapter 2, 'B*-trees'; docs/CHECKS.md has the rules.
 pub fn check_tree<K: Key, N: Nodes>(alloc: Global, nodes: &N, size: u32) -> Result<(), TreeFault>

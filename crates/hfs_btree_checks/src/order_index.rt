@@ -19,7 +19,7 @@ struct Subtree<K> {
     range: Option<KeyRange<K>>,
     /// Whether the node's own index keys are in order.
     keyed: bool,
-    /// Whether those of each index node below it are, too.
+    /// Whether those of each index node below it are in order as well.
     ordered: bool,
 }
 
@@ -34,7 +34,7 @@ fn index_entry<K: Key>(entry: &[u8]) -> (K, u32)
     }
 }
 
-/// The range of a leaf's keys. Keys are compared where they stand, and none is copied but those that the range takes.
+/// The range of a leaf's keys. Keys are compared in place, and only those that the range takes are copied.
 fn leaf_range<K: Key>(node: &NodeView<'_>) -> Option<KeyRange<K>>
     requires { Each (λ entry. K.is_leaf entry ≡ true) node.now.records }
     ensures { HasRange K.compare result (map (pair_of K.Key) node.now.records) }
@@ -46,7 +46,7 @@ fn leaf_range<K: Key>(node: &NodeView<'_>) -> Option<KeyRange<K>>
     range
 }
 
-/// What the keys of node `n`, so many levels above the leaves, and of those below it show. Each node is read once.
+/// What the keys of node `n`, which is `above` levels above the leaves, and of those below it show. Reads each node once.
 fn read_subtree<K: Key, N: Nodes>(nodes: &N, n: u32, above: u16) -> Subtree<K>
     requires { IsSubtree K.Key (N.nodes nodes.now) above n }
     ensures range { HasRange K.compare result.range (under K.Key (N.nodes nodes.now) above n) }
@@ -85,8 +85,8 @@ fn read_subtree<K: Key, N: Nodes>(nodes: &N, n: u32, above: u16) -> Subtree<K>
     }
 }
 
-/// The first node, of those that stand `at` levels above the leaves and are node `n` or below it, whose own index keys
-/// are not in order. Node `n` stands `above` levels above the leaves.
+/// The first node, among node `n` and those below it that are `at` levels above the leaves, whose own index keys are not in
+/// order. Node `n` is `above` levels above the leaves.
 fn first_unkeyed<K: Key, N: Nodes>(nodes: &N, n: u32, above: u16, at: u16) -> Option<u32>
     requires tree { IsSubtree K.Key (N.nodes nodes.now) above n }
     requires below { at ≤ above }
@@ -111,10 +111,10 @@ fn first_unkeyed<K: Key, N: Nodes>(nodes: &N, n: u32, above: u16, at: u16) -> Op
     None
 }
 
-/// Whether the index keys of a tree that has its shape are in order: each is at most its child's least leaf key, and
-/// above the greatest of the child before it.
+/// Whether the index keys of a tree that has its shape are in order: each is at most its child's least leaf key, and above the
+/// greatest of the previous child.
 ///
-/// It reads each node of the levels once, and takes no memory.
+/// Reads each node of the levels once, and takes no memory.
 pub fn index_keys_in_order<K: Key, N: Nodes>(nodes: &N) -> bool
     requires { HasStructure K.Key (N.nodes nodes.now) }
     ensures { result ≡ is_none (index_order_fault K.Key (N.nodes nodes.now)) }
@@ -127,9 +127,9 @@ pub fn index_keys_in_order<K: Key, N: Nodes>(nodes: &N) -> bool
     found.ordered
 }
 
-/// The first node of the levels, in their turn, whose index keys are not in order, of a tree that has its shape.
+/// The first node, level by level, whose index keys are not in order, of a tree that has its shape.
 ///
-/// Where there is none, it reads each node of the levels once, else it goes through the nodes again for each level.
+/// If there is none, reads each node of the levels once; otherwise goes through the nodes again for each level.
 pub(crate) fn index_order_fault<K: Key, N: Nodes>(nodes: &N) -> Option<u32>
     requires { HasStructure K.Key (N.nodes nodes.now) }
     ensures { result ≡ index_order_fault K.Key (N.nodes nodes.now) }

@@ -22,8 +22,8 @@ fn is_past<K: Key>(last: Option<K>, key: &K) -> bool
     }
 }
 
-/// The place of the first record of a leaf whose key isn't above the one before it. `last` is the key before the leaf;
-/// where there is no such record, it becomes that of the leaf's last.
+/// The place of the first record of a leaf whose key isn't above the one before it. `last` is the key before the leaf; if there
+/// is no such record, it becomes the leaf's last key.
 fn fall_in<K: Key>(bytes: &[u8; 512], last: &mut Option<K>) -> Option<usize>
     requires { Each (λ entry. K.is_leaf entry ≡ true) (records_of (node_of bytes.now)) }
     ensures fall { result ≡ fall_from K.compare last.old 0 (pairs_of K.Key bytes.now) }
@@ -51,7 +51,7 @@ struct Fall {
     number: usize,
 }
 
-/// The first such record, if there is one. Reads each leaf once, up to it.
+/// The first such record, if there is one. Reads each leaf up to it once.
 fn first_fall<K: Key, N: Nodes>(nodes: &N) -> Option<Fall>
     requires structure { HasStructure K.Key (N.nodes nodes.now) }
     requires counts { HasCounts K.Key (N.nodes nodes.now) }
@@ -77,7 +77,7 @@ fn first_fall<K: Key, N: Nodes>(nodes: &N) -> Option<Fall>
     None
 }
 
-/// The answer of `ShapedTree::rise_fault`.
+/// The result of `ShapedTree::rise_fault`.
 pub(crate) fn rise_fault<K: Key, N: Nodes>(nodes: &N) -> Option<usize>
     requires structure { HasStructure K.Key (N.nodes nodes.now) }
     requires counts { HasCounts K.Key (N.nodes nodes.now) }
@@ -89,7 +89,7 @@ pub(crate) fn rise_fault<K: Key, N: Nodes>(nodes: &N) -> Option<usize>
     }
 }
 
-/// The answer of `ShapedTree::leaf_order_fault`.
+/// The result of `ShapedTree::leaf_order_fault`.
 pub(crate) fn leaf_order_fault<K: Key, N: Nodes>(nodes: &N) -> Option<u32>
     requires structure { HasStructure K.Key (N.nodes nodes.now) }
     requires counts { HasCounts K.Key (N.nodes nodes.now) }

@@ -28,8 +28,8 @@ fn has_ends(header: &Header, leaves: &Leaves) -> bool
         && (header.depth > 0 || header.root == 0)
 }
 
-/// Checks what comes after the node map, but for the two counts: the levels and their ends. `met` has a mark for each
-/// header and map node. Ok gives the two counts.
+/// Checks what comes after the node map, except for the two counts: the levels and their ends. `met` has a mark for each header
+/// and map node. Ok gives the two counts.
 fn count_mapped<K: Key, N: Nodes>(
     alloc: Global,
     tree: &MappedNodes<'_, N>,
@@ -56,10 +56,10 @@ fn count_mapped<K: Key, N: Nodes>(
     }
 }
 
-/// Counts the leaf records and the free nodes of a tree in a file of `size` bytes that has its shape, but for what its
-/// header record tells of these two numbers.
+/// Counts the leaf records and the free nodes of a tree in a file of `size` bytes that has its shape, except for what its header
+/// record says about these two numbers.
 ///
-/// Errors: as `check_shape`, but for the last rule, which is that of the two numbers.
+/// Errors: as for `check_shape`, except for the last rule, which is that of the two numbers.
 ///
 /// Source: Inside Macintosh: Files, chapter 2, 'B*-trees'; docs/CHECKS.md has the rules.
 pub fn count_tree<K: Key, N: Nodes>(
@@ -95,13 +95,13 @@ pub fn count_tree<K: Key, N: Nodes>(
 
 /// Checks that a tree in a file of `size` bytes has its shape.
 ///
-/// The rules are taken in this order: the header node and its record; the map nodes and the node map; the nodes of the
-/// levels in turn; the header record's first and last leaf, and its root where the tree is empty; its counts of leaf
-/// records and of free nodes. Each node of the levels is read once.
+/// The rules come in this order: the header node and its record; the map nodes and the node map; the nodes, level by level; the
+/// header record's first and last leaf, and its root if the tree is empty; its counts of leaf records and of free nodes. Each
+/// node of the levels is read once.
 ///
-/// Errors: `TreeFault::At(n)` where the first rule that fails is that of the levels and node `n` is the first that fails,
-/// in the turn of levels; a node number that is none of the tree's is itself the place. `TreeFault::At(0)` where the first
-/// rule that fails is another one. `TreeFault::Memory` where memory was refused.
+/// Errors: `TreeFault::At(n)` if the first rule that fails is that of the levels, and node `n` is the first, level by level, that
+/// fails; a node number outside the tree is itself the place. `TreeFault::At(0)` if the first rule that fails is another one.
+/// `TreeFault::Memory` if memory was refused.
 ///
 /// Source: Inside Macintosh: Files, chapter 2, 'B*-trees'; docs/CHECKS.md has the rules.
 pub fn check_shape<K: Key, N: Nodes>(alloc: Global, nodes: &N, size: u32) -> Result<(), TreeFault>

@@ -14,8 +14,8 @@ use hfs_btree::Nodes;
 use hfs_node::{NodeKind, NodeView, view};
 use std::alloc::Global;
 
-/// Checks node `n` of the chain of map nodes, where `met` has a mark for each node that was met before. Where it is right,
-/// it is marked as met, its part of the node map is added to `map`, and the node after it, or 0, is the answer.
+/// Checks node `n` of the chain of map nodes; `met` has a mark for each node that was met before. If it is right, marks it as
+/// met, appends its part of the node map to `map`, and returns the node after it, or 0.
 #[tactic(auto, unfolding(crate::specs::Shape::is_map_node))]
 fn visit_map_node<N: Nodes>(
     nodes: &N,
@@ -59,8 +59,8 @@ fn is_map(node: &NodeView) -> bool
     }
 }
 
-/// Checks the chain of map nodes from node `first` on, 0 where there is none, through at most `most` of them: marks each
-/// as met, adds their parts of the node map to `map` and their numbers to `own`.
+/// Checks the chain of map nodes from node `first` on, or none if that is 0, through at most `most` of them: marks each as met,
+/// and appends their parts of the node map to `map` and their numbers to `own`.
 fn read_chain<N: Nodes>(
     nodes: &N,
     count: u32,
@@ -105,11 +105,11 @@ fn are_marked<N: Nodes>(tree: &MappedNodes<'_, N>, own: &[u32]) -> bool
 pub(crate) struct NodeMap {
     /// Its bytes.
     pub bytes: Vec<u8>,
-    /// For each of the tree's nodes whether it is a header or map node.
+    /// For each of the tree's nodes, whether it is a header or map node.
     pub own: Vec<bool>,
 }
 
-/// Checks the map nodes of a tree of `count` nodes, whose header node is `head`, and reads its node map.
+/// Checks the map nodes of a tree of `count` nodes with header node `head`, and reads its node map.
 pub(crate) fn read_map<N: Nodes>(
     alloc: Global,
     nodes: &N,

@@ -16,7 +16,7 @@ fn is_header(node: &NodeView) -> bool
     }
 }
 
-/// Whether the header record is one of a tree with these keys in a file of `size` bytes.
+/// Whether the header record is that of a tree with these keys in a file of `size` bytes.
 #[tactic(auto, unfolding(crate::specs::Shape::is_header_record))]
 fn is_right_header<K: Key>(header: &Header, size: u32) -> bool
     ensures { result ≡ is_header_record K.Key size header.now }
@@ -28,8 +28,8 @@ fn is_right_header<K: Key>(header: &Header, size: u32) -> bool
         && header.depth <= 16
 }
 
-/// The header record of a tree with these keys in a file of `size` bytes, whose node 0 this is. None exactly where node 0
-/// or its header record isn't that of such a tree.
+/// The header record of a tree with these keys in a file of `size` bytes, from node 0. None exactly when node 0 or its header
+/// record isn't that of such a tree.
 pub(crate) fn checked_header<K: Key>(node: &NodeView, size: u32) -> Option<Header>
     ensures { MatchOption result (is_header_with K.Key size node.now ≡ false)
         (λ header. (is_header_with K.Key size node.now ≡ true) × (header ≡ own_header node.now)) }

@@ -17,7 +17,7 @@ use std::alloc::Global;
 struct CheckedLevel {
     /// The level below it; empty below the leaves.
     next: Vec<u32>,
-    /// How many records the nodes have, or `usize::MAX` where there are more.
+    /// How many records the nodes have, or `usize::MAX` if there are more.
     records: usize,
 }
 
@@ -29,7 +29,7 @@ fn node_after(level: &[u32], i: usize) -> u32
     if i + 1 < level.len() { level[i + 1] } else { 0 }
 }
 
-/// Checks one level in turn, so many levels above the leaves, and gives the next one.
+/// Checks one level, `above` levels above the leaves, and returns the next one.
 fn check_level<K: Key, N: Nodes>(
     alloc: Global,
     tree: &MappedNodes<'_, N>,
@@ -82,15 +82,15 @@ fn last_node(level: &[u32]) -> u32
 /// The last level of a tree whose levels are all right.
 #[derive(Clone, Copy)]
 pub(crate) struct Leaves {
-    /// Its first node, 0 where there is none.
+    /// Its first node; 0 if there is none.
     pub first: u32,
-    /// Its last node, 0 where there is none.
+    /// Its last node; 0 if there is none.
     pub last: u32,
-    /// How many records its nodes have, or `usize::MAX` where there are more.
+    /// How many records its nodes have, or `usize::MAX` if there are more.
     pub records: usize,
 }
 
-/// Checks so many levels in turn, from the root's on, where `met` has a mark for each node that no level may have.
+/// Checks this many levels, one after the other, from the root's on; `met` has a mark for each node that no level may have.
 pub(crate) fn check_levels<K: Key, N: Nodes>(
     alloc: Global,
     tree: &MappedNodes<'_, N>,

@@ -36,7 +36,7 @@ fn clear_count(bytes: &[u8], count: u32) -> u32
 }
 
 impl<N: Nodes> MappedNodes<'_, N> {
-    /// Whether node `n` is one of the tree's and is marked as in use.
+    /// Whether node `n` is one of the tree's and marked as in use.
     pub fn is_marked(&self, n: u32) -> bool
         ensures { result ≡ is_marked (N.nodes self.now.nodes.now) n }
     {

@@ -14,7 +14,7 @@ use hfs_btree::{Key, Nodes, child_of};
 use hfs_node::{NodeKind, NodeView, view};
 use std::alloc::{AllocError, Global};
 
-/// Whether bytes are a record of a node so many levels above the leaves.
+/// Whether bytes are a record of a node `above` levels above the leaves.
 fn reads<K: Key>(entry: &[u8], above: u16) -> bool
     ensures { result ≡ reads_at K.Key above entry.now }
 {
@@ -47,7 +47,7 @@ fn is_kind_above(kind: NodeKind, above: u16) -> bool
     }
 }
 
-/// Whether a node is what its place asks: between these neighbours, 0 at the ends, so many levels above the leaves.
+/// Whether a node is what its place requires: between these neighbours, 0 at the ends, `above` levels above the leaves.
 #[tactic(auto, unfolding(crate::specs::Shape::is_node_at))]
 fn is_at_place<K: Key>(node: &NodeView, left: u32, n: u32, right: u32, above: u16) -> bool
     ensures { result ≡ is_node_at K.Key (spot_of left n right above) node.now }
@@ -72,9 +72,8 @@ pub(crate) fn push_children<K: Key>(node: &NodeView, next: &mut Vec<u32>) -> Res
     Ok(())
 }
 
-/// Checks node `n` of a level at its place, where `met` has a mark for each node that was met before. Where it is right,
-/// it is marked as met, the children that it names, if it stands above the leaves, are added to `next`, and the number
-/// of its records is the answer.
+/// Checks node `n` of a level at its place; `met` has a mark for each node that was met before. If it is right, marks it as met,
+/// appends the children that it names to `next` if it is above the leaves, and returns the number of its records.
 #[tactic(auto, unfolding(crate::specs::Shape::is_right))]
 pub(crate) fn visit_node<K: Key, N: Nodes>(
     tree: &MappedNodes<'_, N>,

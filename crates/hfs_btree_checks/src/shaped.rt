@@ -1,4 +1,4 @@
-//! Trees that have their shape, and the checks that stand on it.
+//! Trees that have their shape, and the checks that build on it.
 
 ghost use Rattle.std.specs.Prelude.{◌≡◌, ◌*◌, ◌≤◌, None, OnOk, IfOk, length};
 ghost use Rattle.hfs_btree.specs.Header.{tree_content};
@@ -30,7 +30,7 @@ pub struct ShapedTree<'a, K: Key, N: Nodes> {
 }
 
 impl<'a, K: Key, N: Nodes> ShapedTree<'a, K, N> {
-    /// The tree in a file of `size` bytes, where it has its shape.
+    /// The tree in a file of `size` bytes, if it has its shape.
     ///
     /// Errors: those of `check_shape`.
     pub fn of(alloc: Global, nodes: &'a N, size: u32) -> Result<ShapedTree<'a, K, N>, TreeFault>
@@ -48,11 +48,11 @@ impl<'a, K: Key, N: Nodes> ShapedTree<'a, K, N> {
 
     /// Checks that the tree is in order.
     ///
-    /// The rules are taken in this order: each index key is at most its child's least leaf key, and above the greatest of
-    /// the child before it in its node; each leaf key is above all leaf keys before it. In a tree that is in order each
-    /// leaf is read twice, each index node once. It takes no memory.
+    /// The rules come in this order: each index key is at most its child's least leaf key, and above the greatest of the previous
+    /// child in its node; each leaf key is above all leaf keys before it. In a tree that is in order, each leaf is read twice and
+    /// each index node once. Takes no memory.
     ///
-    /// Errors: `TreeFault::At(n)` where node `n` is the first, in the turn of levels, whose keys are not in order; never
+    /// Errors: `TreeFault::At(n)` if node `n` is the first, level by level, whose keys are not in order; never
     /// `TreeFault::Memory`.
     ///
     /// Source: Inside Macintosh: Files, chapter 2, 'B*-trees'; docs/CHECKS.md has the rules.
@@ -66,10 +66,10 @@ impl<'a, K: Key, N: Nodes> ShapedTree<'a, K, N> {
 
     /// Checks that each key of the tree passes a test: the keys of its index nodes and those of its leaves.
     ///
-    /// It reads each node of the levels once, in the turn of levels, and keeps the node numbers of a level.
+    /// Reads each node once, level by level, and keeps the node numbers of a level.
     ///
-    /// Errors: `TreeFault::At(n)` where node `n` is the first in the turn of levels with a key that doesn't pass.
-    /// `TreeFault::Memory` where memory was refused.
+    /// Errors: `TreeFault::At(n)` if node `n` is the first, level by level, with a key that doesn't pass. `TreeFault::Memory` if
+    /// memory was refused.
     pub fn check_keys<T: KeyTest<K>>(&self, alloc: Global, test: &T) -> Result<(), TreeFault>
         ensures { FindsFault
             (key_fault K.Key (N.nodes self.now.nodes.now) (T.passes test.now)) result }
@@ -77,24 +77,24 @@ impl<'a, K: Key, N: Nodes> ShapedTree<'a, K, N> {
         check_keys::<K, N, T>(alloc, self.nodes, test)
     }
 
-    /// The number, counted from 0, of the first leaf record whose key doesn't rise above those of all leaf records before
-    /// it; None where the leaf keys strictly rise.
+    /// The number, counted from 0, of the first leaf record whose key doesn't rise above those of all leaf records before it;
+    /// None if the leaf keys strictly rise.
     ///
-    /// It reads the header node and each leaf once, compares each key with the one before it, and takes no memory.
+    /// Reads the header node and each leaf once, compares each key with the one before it, and takes no memory.
     ///
-    /// Source: Inside Macintosh: Files, chapter 2, 'B*-trees': records stand in the order of their keys.
+    /// Source: Inside Macintosh: Files, chapter 2, 'B*-trees': records are in the order of their keys.
     pub fn rise_fault(&self) -> Option<usize>
         ensures { result ≡ rise_fault K.compare (tree_content K.Key (N.nodes self.now.nodes.now)) }
     {
         rise_fault::<K, N>(self.nodes)
     }
 
-    /// The number of the leaf with the first key that doesn't rise above all leaf keys before it; None where the leaf keys
-    /// strictly rise. Of two keys that don't rise it is the leaf of the later.
+    /// The number of the leaf with the first key that doesn't rise above all leaf keys before it; None if the leaf keys strictly
+    /// rise. If two keys don't rise, it is the leaf of the later one.
     ///
-    /// It reads the header node and each leaf once, and takes no memory.
+    /// Reads the header node and each leaf once, and takes no memory.
     ///
-    /// Source: Inside Macintosh: Files, chapter 2, 'B*-trees': records stand in the order of their keys.
+    /// Source: Inside Macintosh: Files, chapter 2, 'B*-trees': records are in the order of their keys.
     pub fn leaf_order_fault(&self) -> Option<u32>
         ensures { result ≡ leaf_order_fault K.Key (N.nodes self.now.nodes.now) }
     {

@@ -1,22 +1,22 @@
-//! The two numbers that a tree's header record counts.
+//! The two counts of a tree's header record.
 
 ghost use Rattle.std.specs.Prelude.{◌≡◌, ◌<◌, ◌^◌};
 ghost use Rattle.hfs_btree_checks.specs.Counts as spec;
 
 use hfs_btree::Header;
 
-/// The two numbers that a tree's header record counts, as it tells them and as they are.
+/// The two counts of a tree's header record, as the record has them and as they are counted.
 #[derive(Clone, Copy, Debug, PartialEq, Eq)]
 pub struct TreeCounts {
-    /// The header record, which tells them as `records` and `free_nodes`.
+    /// The header record, which has them as `records` and `free_nodes`.
     pub header: Header,
-    /// How many records the leaves have. None where they are more than the four bytes of bthNRecs can tell.
+    /// How many records the leaves have. None if there are more than the four bytes of bthNRecs can hold.
     pub records: Option<u32>,
     /// How many of the tree's nodes have a clear bit in the node map.
     pub free_nodes: u32,
 }
 
-/// A number, where the four bytes of its field can tell it.
+/// A number, if the four bytes of its field can hold it.
 #[tactic(auto, unfolding(crate::specs::Counts::in_field))]
 pub(crate) fn in_field(number: usize) -> Option<u32>
     ensures { result ≡ spec.in_field number }
@@ -28,7 +28,7 @@ pub(crate) fn in_field(number: usize) -> Option<u32>
     }
 }
 
-/// Whether the header record tells both numbers right.
+/// Whether both counts of the header record are right.
 #[tactic(auto, unfolding(crate::specs::Counts::tells_right))]
 pub(crate) fn tells_right(counts: &TreeCounts) -> bool
     ensures right { result ≡ spec.tells_right counts.now }

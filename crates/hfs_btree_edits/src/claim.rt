@@ -1,4 +1,4 @@
-//! A free node that is marked as in use.
+//! Marking a free node as in use.
 
 ghost use Rattle.std.specs.Prelude.{◌≡◌, ◌<◌, IfOk, OnOk};
 ghost use Rattle.hfs_btree.specs.Header.{free_nodes};
@@ -11,7 +11,7 @@ use crate::nodes_mut::NodesMut;
 use hfs_btree::{Key, read_header};
 use std::alloc::{AllocError, Global};
 
-/// Marks a free node as in use, and answers its number.
+/// Marks a free node as in use, and returns its number.
 pub fn claim_node<K: Key, S: NodesMut>(alloc: Global, nodes: &mut S) -> Result<u32, AllocError>
     requires sound { IsSound K.Key (S.nodes nodes.old) }
     requires some { 0 < free_nodes (S.nodes nodes.old) }

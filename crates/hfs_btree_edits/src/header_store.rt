@@ -9,7 +9,7 @@ use crate::stored::{store_replaced, viewed};
 use hfs_btree::Header;
 use std::alloc::{AllocError, Global};
 
-/// A header record with these fields, and behind them the bytes of the old one.
+/// A header record with these fields, followed by the bytes of the old one.
 fn rewritten(alloc: Global, header: &Header, old: &[u8]) -> Result<Vec<u8>, AllocError>
     requires { 30 ≤ length old.now }
     ensures fields { IfOk result (λ made. header_of made.items ≡ header.now) }
@@ -20,7 +20,7 @@ fn rewritten(alloc: Global, header: &Header, old: &[u8]) -> Result<Vec<u8>, Allo
     Ok(entry)
 }
 
-/// Writes the fields of the header record; the bytes behind them stay as they are.
+/// Writes the fields of the header record; the bytes after them stay as they are.
 pub fn put_header<S: NodesMut>(
     alloc: Global,
     nodes: &mut S,

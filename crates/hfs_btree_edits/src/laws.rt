@@ -1,4 +1,4 @@
-//! What follows of edits, each as the contract of a function that does nothing.
+//! What holds for edits, each law as the contract of a function that does nothing.
 ghost use Rattle.hfs_btree_edits.specs.Laws.{InsertionsTakeFewNodes, EditsKeepTheRest, NewKeysPass};
 
 use hfs_btree::Key;
@@ -8,12 +8,12 @@ pub fn insertions_take_few_nodes<K: Key>()
     ensures { InsertionsTakeFewNodes K K.Key }
 {}
 
-/// An edit leaves alone what stands in the file behind the tree's nodes.
+/// An edit leaves what follows the tree's nodes in the file as it is.
 pub fn edits_keep_the_rest<K: Key>()
     ensures { EditsKeepTheRest K K.Key }
 {}
 
-/// A test that all keys of the tree and a new key pass, all keys of the new tree pass.
+/// If all keys of the tree and a new key pass a test, all keys of the new tree pass it.
 pub fn new_keys_pass<K: Key>()
     ensures { NewKeysPass K K.Key }
 {}

@@ -1,4 +1,4 @@
-//! Edits of B*-trees: their form, nodes that come and go, and a pair replaced.
+//! Edits of B*-trees: their form, nodes that are claimed and released, and a pair that is replaced.
 #![tactic(auto)]
 
 mod claim;

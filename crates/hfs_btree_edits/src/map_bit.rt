@@ -20,13 +20,13 @@ pub(crate) struct MapBit {
     pub node: u32,
     /// Which of that node's records the part is.
     pub entry: usize,
-    /// Which bit of the part, the highest of a byte first.
+    /// Which bit of the part it is, counting the highest of a byte first.
     pub bit: usize,
     /// The number of the node that the bit is for.
     pub number: u32,
 }
 
-/// The part of the map that a node's record is; none where there is no such record.
+/// The part of the map in a node's record; empty if there is no such record.
 fn part_of(bytes: &[u8; 512], entry: usize) -> &[u8]
     ensures part { result.now ≡ slice_index_or (records_of (node_of bytes.now)) entry [] }
     ensures short { length result.now ≤ 494 }
@@ -41,7 +41,7 @@ fn part_of(bytes: &[u8; 512], entry: usize) -> &[u8]
     }
 }
 
-/// How many bytes at the beginning have all of their bits set.
+/// How many bytes at the beginning have all their bits set.
 fn full_bytes(bytes: &[u8]) -> usize
     requires { length bytes.now ≤ 494 }
     ensures within { result ≤ length bytes.now }
@@ -70,7 +70,7 @@ fn first_clear(bytes: &[u8], count: usize) -> Option<usize>
     None
 }
 
-/// Where the bit of node `n` is, in a tree of `count` nodes; none where it isn't one of them.
+/// Where the bit of node `n` is, in a tree of `count` nodes; None if it isn't one of them.
 pub(crate) fn bit_of_node<N: Nodes>(nodes: &N, count: u32, n: u32) -> Option<MapBit>
     requires some { 0 < length (N.nodes nodes.now) }
     requires map { HasMap (N.nodes nodes.now) }
@@ -105,7 +105,7 @@ pub(crate) fn bit_of_node<N: Nodes>(nodes: &N, count: u32, n: u32) -> Option<Map
     }
 }
 
-/// The first clear bit of the node map, in a tree of `count` nodes; none where no node is free.
+/// The first clear bit of the node map, in a tree of `count` nodes; None if no node is free.
 pub(crate) fn free_bit<N: Nodes>(nodes: &N, count: u32) -> Option<MapBit>
     requires some { 0 < length (N.nodes nodes.now) }
     requires map { HasMap (N.nodes nodes.now) }
@@ -158,7 +158,7 @@ fn write_in(bytes: &mut [u8], i: usize, value: bool)
     }
 }
 
-/// A copy of these bytes with bit `i`, the highest of a byte first, as it is given.
+/// A copy of these bytes with this value for bit `i`, counting the highest of a byte first.
 fn rewritten(alloc: Global, old: &[u8], i: usize, value: bool) -> Result<Vec<u8>, AllocError>
     requires { i < 8 * length old.now }
     ensures here { IfOk result (λ made. bit_of made.items i ≡ value) }

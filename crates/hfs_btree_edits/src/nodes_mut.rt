@@ -1,13 +1,13 @@
-//! What the edits of a tree ask of the file below it.
+//! What the edits of a tree need of the file below it.
 
 ghost use Rattle.std.specs.Prelude.{◌≡◌, ◌<◌, OnOk, length, slice_set};
 
 use hfs_btree::Nodes;
 use std::alloc::AllocError;
 
-/// Nodes of a tree's file that can be written. After an error they are to be thrown away.
+/// Nodes of a tree's file that can be written. After an error they must be thrown away.
 ///
-/// Its ghost member `kept` is what no write changes: all that the file stands on beside its nodes.
+/// Its ghost member `kept` is what no write changes: everything that the file lies on besides its nodes.
 pub trait NodesMut: Nodes {
     ghost Kept: { Type 0 };
 

@@ -1,4 +1,4 @@
-//! A node that belongs to no level any more, and is given back.
+//! Releasing a node that no longer belongs to a level.
 
 ghost use Rattle.std.specs.Prelude.{◌≡◌, ◌<◌, OnOk, length};
 ghost use Rattle.hfs_btree_edits.specs.Stored.{IsReleased};
@@ -11,7 +11,7 @@ use hfs_btree::{Key, read_header};
 use hfs_node::BLANK_NODE;
 use std::alloc::{AllocError, Global};
 
-/// Gives a stray node back: it is blank and free afterwards, and the tree is the same.
+/// Releases a stray node: it is blank and free afterwards, and the tree is the same.
 pub fn release<K: Key, S: NodesMut>(alloc: Global, nodes: &mut S, n: u32) -> Result<(), AllocError>
     requires sound { IsSound K.Key (S.nodes nodes.old) }
     requires stray { IsStray K.Key (S.nodes nodes.old) n }

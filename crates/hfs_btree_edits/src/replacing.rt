@@ -1,4 +1,4 @@
-//! Putting a pair in the place of another one.
+//! Putting a pair in place of another one.
 
 ghost use Rattle.std.specs.Prelude.{◌≡◌, OnOk, IsTrue, length};
 ghost use Rattle.hfs_btree.specs.Header.{body_at};
@@ -13,10 +13,10 @@ use crate::stored::{store_replaced, viewed};
 use hfs_btree::Key;
 use std::alloc::{AllocError, Global};
 
-/// Puts the pair in the place of the one whose key is equal to this one in the order, and whose place was found. The key is spelled as
-/// it is given.
+/// Puts the pair in place of the one whose key is equal to its own in the order, and whose place was found. The key is spelled as
+/// given.
 ///
-/// It writes one leaf, and reads none. At `AllocError` nothing is said of the nodes.
+/// Writes one leaf, and reads none. After `AllocError` nothing is known of the nodes.
 pub fn replace_at<K: Key, N: NodesMut>(
     alloc: Global,
     nodes: &mut N,
@@ -37,9 +37,9 @@ pub fn replace_at<K: Key, N: NodesMut>(
     store_replaced(nodes, place.leaf, &leaf, place.at, made)
 }
 
-/// Puts the pair in the place of the one whose key is equal to this one in the order. The key is spelled as it is given.
+/// Puts the pair in place of the one whose key is equal to its own in the order. The key is spelled as given.
 ///
-/// It reads the header node and one node of each level, and writes one leaf. At `AllocError` nothing is said of the nodes.
+/// Reads the header node and one node of each level, and writes one leaf. After `AllocError` nothing is known of the nodes.
 pub fn replace<K: Key, N: NodesMut>(
     alloc: Global,
     nodes: &mut N,

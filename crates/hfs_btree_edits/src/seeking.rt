@@ -1,4 +1,4 @@
-//! Where a record stands in a tree.
+//! Where a record is in a tree.
 
 ghost use Rattle.std.specs.Prelude.{◌≡◌, ◌<◌, true, None, IfNone, IfSome, MatchOption, length};
 ghost use Rattle.hfs_node.specs.Node.{node_of};
@@ -13,7 +13,7 @@ ghost use Rattle.hfs_btree_edits.specs.Conditions.{IsThere};
 use hfs_btree::{Key, Nodes, descend, read_header};
 use hfs_node::view;
 
-/// Where a record stands in a tree.
+/// Where a record is in a tree.
 #[derive(Clone, Copy)]
 pub struct RecordPlace {
     /// The number of its leaf.
@@ -24,7 +24,7 @@ pub struct RecordPlace {
     pub at: usize,
 }
 
-/// Which record of a leaf has this key, or None where none has.
+/// Which record of a leaf has this key, or None if none has.
 fn seek_in<K: Key>(bytes: &[u8; 512], key: &K) -> Option<usize>
     requires { Each (λ entry. K.is_leaf entry ≡ true) (records_of (node_of bytes.now)) }
     ensures none { IfNone result (lookup K.compare key.now (pairs_of K.Key bytes.now) ≡ None) }
@@ -58,9 +58,9 @@ pub fn place_of<K: Key>(bytes: &[u8; 512], key: &K) -> usize
     at
 }
 
-/// The place of the record with this key, or None where the tree has no key that is equal to it in the order.
+/// The place of the record with this key, or None if the tree has no key that is equal to it in the order.
 ///
-/// It reads the header node and one node of each level, and takes no memory.
+/// Reads the header node and one node of each level, and takes no memory.
 pub fn seek<K: Key, N: Nodes>(nodes: &N, key: &K) -> Option<RecordPlace>
     requires { IsSound K.Key (N.nodes nodes.now) }
     ensures { MatchOption result (body_at K.Key (N.nodes nodes.now) key.now ≡ None)
@@ -80,7 +80,7 @@ pub fn seek<K: Key, N: Nodes>(nodes: &N, key: &K) -> Option<RecordPlace>
 
 /// The place of the record with this key, in a tree that has one.
 ///
-/// It reads the header node and one node of each level, and takes no memory.
+/// Reads the header node and one node of each level, and takes no memory.
 pub fn find_place<K: Key, N: Nodes>(nodes: &N, key: &K) -> RecordPlace
     requires sound { IsSound K.Key (N.nodes nodes.now) }
     requires there { IsThere (body_at K.Key (N.nodes nodes.now) key.now) }

@@ -39,7 +39,7 @@ pub(crate) fn copy_of(alloc: Global, node: &NodeView<'_>) -> Result<Node, AllocE
     })
 }
 
-/// A copy of node `n`, which decodes, with room for one more record. The only error is want of memory.
+/// A copy of node `n`, which can be decoded, with room for one more record. Fails only when out of memory.
 pub fn load<N: Nodes>(alloc: Global, nodes: &N, n: u32) -> Result<Node, AllocError>
     requires { Decodes (N.nodes nodes.now) n }
     ensures node { IfOk result (λ node. node_in (N.nodes nodes.now) n ≡ Ok node) }
@@ -54,7 +54,7 @@ pub fn load<N: Nodes>(alloc: Global, nodes: &N, n: u32) -> Result<Node, AllocErr
     Ok(copy)
 }
 
-/// Node `n`, which decodes, in the bytes that were read of it.
+/// Node `n`, which can be decoded, in the bytes that were read of it.
 pub fn viewed<'a, N: Nodes>(nodes: &N, n: u32, bytes: &'a [u8; 512]) -> NodeView<'a>
     requires decodes { Decodes (N.nodes nodes.now) n }
     requires read { bytes.now ≡ slice_index_or (N.nodes nodes.now) n [] }
@@ -98,7 +98,7 @@ pub fn store<S: NodesMut>(nodes: &mut S, n: u32, node: &Node) -> Result<(), Allo
     nodes.write(n, &bytes)
 }
 
-/// Writes node `n` as this one with another record in the place of one.
+/// Writes node `n` as this one with another record in place of one.
 pub fn store_replaced<S: NodesMut>(
     nodes: &mut S,
     n: u32,
@@ -124,7 +124,7 @@ pub fn store_replaced<S: NodesMut>(
     store_row(nodes, n, &head, &row)
 }
 
-/// Writes node `n` as this one with one record more, in front of the one at a place or behind the last.
+/// Writes node `n` as this one with one more record, in front of the one at a place or after the last.
 pub fn store_inserted<S: NodesMut>(
     nodes: &mut S,
     n: u32,

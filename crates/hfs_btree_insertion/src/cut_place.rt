@@ -14,17 +14,17 @@ use hfs_btree::{Key, Nodes, child_of, place_above, place_in};
 use hfs_node::{NodeView, view};
 use std::alloc::{AllocError, Global};
 
-/// So many bytes, or none where they don't count.
+/// The number of bytes if they count, otherwise 0.
 fn bytes_if(counts: bool, bytes: usize) -> usize
     ensures { result ≤ bytes }
 {
     if counts { bytes } else { 0 }
 }
 
-/// Whether a node with `size` bytes of records, to which one of `len` bytes comes, is cut behind the first `before` of them: the
-/// rest leaves room for the new one, and a cut behind the next record, of `here` bytes, would leave none, or parts that differ
-/// more. `come` is what the new one adds to the first part in both cuts. Where the parts differ as much in both, the cut is
-/// behind the next record if the new one comes behind that.
+/// Whether a node with `size` bytes of records, to which one of `len` bytes is added, is cut after the first `before` of them. It
+/// is if the rest leaves room for the new record, and a cut after the next one, of `here` bytes, would leave none, or parts that
+/// differ more. `come` is what the new record adds to the first part in both cuts. If the parts differ as much in both, the cut
+/// is after the next record if the new one comes after that.
 fn is_middle(before: usize, here: usize, come: usize, size: usize, len: usize) -> bool
     requires before { before ≤ size }
     requires here { here ≤ 142 }
@@ -53,8 +53,8 @@ fn is_middle(before: usize, here: usize, come: usize, size: usize, len: usize) -
     true
 }
 
-/// The place at which the records of a node are cut, of `size` bytes, where one more of `len` bytes comes in front of record
-/// `at`: as near to the middle of all as each part still has room for the new one.
+/// The place where the records of a node, of `size` bytes, are cut when one of `len` bytes is added in front of record `at`: as
+/// near to the middle as possible while each part still has room for the new one.
 #[tactic(auto, using(hfs_node::proofs::SizeLemmas::sizes))]
 fn half_place(node: &NodeView<'_>, size: usize, at: usize, len: usize) -> usize
     requires size { size ≡ size_of node.now.records }
@@ -79,8 +79,8 @@ fn half_place(node: &NodeView<'_>, size: usize, at: usize, len: usize) -> usize
     unreachable!()
 }
 
-/// The same, but that the last record of the level's last node goes to the new node alone where the new one comes behind it:
-/// so nodes are full where keys rise.
+/// The same, except that the last record of the level's last node goes to the new node alone if the new one comes after it; so
+/// nodes are full where keys rise.
 fn part_place(node: &NodeView<'_>, size: usize, at: usize, len: usize) -> usize
     requires size { size ≡ size_of node.now.records }
     requires over { 354 < size }
@@ -99,7 +99,7 @@ fn part_place(node: &NodeView<'_>, size: usize, at: usize, len: usize) -> usize
     }
 }
 
-/// The place in a node, so many levels above the leaves, in front of which a record with this key comes.
+/// The place in a node, `above` levels above the leaves, in front of which a record with this key goes.
 fn new_place<K: Key>(bytes: &[u8; 512], key: &K, above: u16) -> usize
     requires { Each (λ e. reads_at K.Key above e ≡ true) (records_of (node_of bytes.now)) }
     ensures { IsPlaceBehind K.Key key.now above (records_of (node_of bytes.now)) result }
@@ -113,8 +113,8 @@ fn new_place<K: Key>(bytes: &[u8; 512], key: &K, above: u16) -> usize
     }
 }
 
-/// The place at which node `n` is cut, which has more than 354 bytes of records and stands so many levels above the leaves,
-/// where one of `len` bytes comes on the way to a key.
+/// The place where node `n` is cut, which has more than 354 bytes of records and is `above` levels above the leaves, when a
+/// record of `len` bytes is added on the way to a key.
 pub(crate) fn cut_place<K: Key, N: Nodes>(
     nodes: &N,
     n: u32,
@@ -141,7 +141,7 @@ pub(crate) fn cut_place<K: Key, N: Nodes>(
     }
 }
 
-/// An index record that names node `m`, with the key of a record of node `n`, which stands so many levels above the leaves.
+/// An index record that names node `m`, with the key of a record of node `n`, which is `above` levels above the leaves.
 pub(crate) fn half_entry<K: Key, N: Nodes>(
     alloc: Global,
     nodes: &N,

@@ -1,4 +1,4 @@
-//! A node that comes to stand behind another, with records of its own or some of the other's.
+//! A node that is put after another, with a record of its own or some of the other's.
 
 ghost use Rattle.std.specs.Prelude.{◌≡◌, ◌≢◌, ◌<◌, ◌≤◌, OnOk, length};
 ghost use Rattle.hfs_btree_insertion.specs.Begun.{HasBehind};
@@ -37,8 +37,8 @@ fn put_last<S: NodesMut>(alloc: Global, nodes: &mut S, n: u32) -> Result<(), All
     put_header(alloc, nodes, &header)
 }
 
-/// Sets the backward link of the node that a new node `n` of a level stands in front of; where there is none and it is a
-/// leaf, the header record names it as the last.
+/// Sets the backward link of the node that a new node `n` of a level comes before; if there is none and `n` is a leaf, the header
+/// record names it as the last.
 fn link_right<S: NodesMut>(
     alloc: Global,
     nodes: &mut S,
@@ -61,8 +61,8 @@ fn link_right<S: NodesMut>(
     }
 }
 
-/// Moves the records of node `n` from a place on to node `m`, which then stands behind it in its level: links are set on
-/// both sides, and the header record's last leaf where `n` was the last of the leaves.
+/// Moves the records of node `n` from a place on to node `m`, which is then after it in its level: sets the links on both sides,
+/// and the header record's last leaf if `n` was the last of the leaves.
 pub(crate) fn halve<S: NodesMut>(
     alloc: Global,
     nodes: &mut S,
@@ -89,8 +89,8 @@ pub(crate) fn halve<S: NodesMut>(
     link_right(alloc, nodes, right, m, leaves)
 }
 
-/// Puts a record into node `m`, which then stands behind leaf `n`: links are set on both sides, and the header record's last
-/// leaf where `n` was the last.
+/// Puts a record into node `m`, which is then after leaf `n`: sets the links on both sides, and the header record's last leaf if
+/// `n` was the last.
 pub(crate) fn put_behind<S: NodesMut>(
     alloc: Global,
     nodes: &mut S,

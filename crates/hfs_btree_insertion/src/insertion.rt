@@ -1,4 +1,4 @@
-//! A pair that is put into a tree.
+//! Inserting a pair into a tree.
 
 ghost use Rattle.std.specs.Prelude.{◌≡◌, ◌+◌, ◌*◌, ◌^◌, ◌<◌, ◌≤◌, true, [], None, IsTrue, IfOk, IfSome, OnOk, length, slice_index_or};
 ghost use Rattle.hfs_btree.specs.Header.{header_in, depth_of, free_nodes, tree_content};
@@ -22,8 +22,9 @@ use hfs_btree::{Key, read_header};
 use hfs_btree_edits::NodesMut;
 use std::alloc::{AllocError, Global};
 
-/// Makes room on the way to a key for what comes to the level `least`, of the leaves or of the nodes above them, where a record
-/// of `len` bytes comes to the leaf: a node that has none is cut in two, and a root that is cut gets a new root above it.
+/// Makes room, on the way to a key, for what is added at the level `least`, of the leaves or of the nodes above them, when a
+/// record of `len` bytes is added to the leaf: a node without room is cut in two, and a root that is cut gets a new root above
+/// it.
 fn make_room<K: Key, S: NodesMut>(
     alloc: Global,
     nodes: &mut S,
@@ -52,9 +53,9 @@ fn make_room<K: Key, S: NodesMut>(
     cut_levels(alloc, nodes, key, full, least, len)
 }
 
-/// Lowers index keys on the way to a key where some are to be lowered, and answers whether a record of `len` bytes with this key
-/// comes behind all others, and the last leaf has no room for it. Where none is, `low` is the leaf for the key, which was read
-/// into `bytes`.
+/// Lowers those index keys on the way to a key that must be lowered, and returns whether a record of `len` bytes with this key
+/// comes after all others, and the last leaf has no room for it. If none must be lowered, `low` is the leaf for the key, which
+/// was read into `bytes`.
 fn lower_way<K: Key, S: NodesMut>(
     alloc: Global,
     nodes: &mut S,
@@ -81,14 +82,13 @@ fn lower_way<K: Key, S: NodesMut>(
     Ok(is_below(bytes, key, len))
 }
 
-/// Puts the pair into the tree, none of whose keys is equal to its own in the order, and one of which is below it.
+/// Inserts the pair into the tree, none of whose keys is equal to its own in the order, and one of which is below it.
 ///
-/// A node that has no room is cut in two, and a root that is cut gets a new root above it; but where the record comes behind
-/// all others, the leaves stay, and it begins a new one. It takes nodes that are free: at most one for each level, and one for
-/// a new root. Where the leaf has room and no index key is to be lowered, which is
-/// the rule, it goes down the tree once.
+/// A node without room is cut in two, and a root that is cut gets a new root above it. But if the record comes after all others,
+/// the leaves stay as they are, and it begins a new one. Takes free nodes: at most one for each level, and one for a new root. If
+/// the leaf has room and no index key must be lowered, which is the usual case, it goes down the tree once.
 ///
-/// Errors: `AllocError` where memory was refused. Then nothing is known of the nodes, which are to be thrown away.
+/// Errors: `AllocError` if memory was refused. Then nothing is known of the nodes, which must be thrown away.
 ///
 /// Source: Inside Macintosh: Files, chapter 2, 'B*-trees'.
 pub fn insert<K: Key, S: NodesMut>(

@@ -1,4 +1,4 @@
-//! A record that a new leaf begins with.
+//! A record that begins a new leaf.
 
 ghost use Rattle.std.specs.Prelude.{◌≡◌, ◌+◌, ◌^◌, ◌<◌, ◌≤◌, true, None, IsTrue, OnOk, length};
 ghost use Rattle.hfs_node.specs.Node.{node_of, size_of};
@@ -39,7 +39,7 @@ pub(crate) fn is_below<K: Key>(bytes: &[u8; 512], key: &K, len: usize) -> bool
     true
 }
 
-/// Whether a record of `len` bytes with this key comes behind all others, and the last leaf has no room for it.
+/// Whether a record of `len` bytes with this key comes after all others, and the last leaf has no room for it.
 pub(crate) fn comes_last<K: Key, N: Nodes>(nodes: &N, key: &K, len: usize) -> bool
     requires sound { IsSound K.Key (N.nodes nodes.now) }
     requires some { 0 < depth_of (N.nodes nodes.now) }
@@ -52,8 +52,8 @@ pub(crate) fn comes_last<K: Key, N: Nodes>(nodes: &N, key: &K, len: usize) -> bo
     is_below(&bytes, key, len)
 }
 
-/// Puts a record into leaf `m`, a stray node, which then stands behind the leaf that a record of index node `parent` names. A
-/// record behind that one names it.
+/// Puts a record into leaf `m`, a stray node, which is then after the leaf that a record of index node `parent` names. A new
+/// record after that one names `m`.
 fn begin_child<K: Key, S: NodesMut>(
     alloc: Global,
     nodes: &mut S,
@@ -81,8 +81,8 @@ fn begin_child<K: Key, S: NodesMut>(
     count_record(alloc, nodes)
 }
 
-/// Puts a record into a new leaf, behind the one where the search for its key ends, all of whose keys are below it. The node
-/// above has room for an index record. It takes one free node.
+/// Puts a record into a new leaf, after the one where the search for its key ends, all of whose keys are below it. The node above
+/// has room for an index record. Takes one free node.
 pub(crate) fn begin_leaf<K: Key, S: NodesMut>(
     alloc: Global,
     nodes: &mut S,

@@ -1,4 +1,4 @@
-//! A record that is put into a leaf with room for it.
+//! Putting a record into a leaf with room for it.
 
 ghost use Rattle.std.specs.Prelude.{◌≡◌, ◌+◌, ◌^◌, ◌<◌, ◌≤◌, None, IsTrue, OnOk, [], length, slice_index_or};
 ghost use Rattle.hfs_node.specs.Node.{size_of};

@@ -1,4 +1,4 @@
-//! Nodes on the way to a key that are cut in two.
+//! Cutting nodes on the way to a key in two.
 
 ghost use Rattle.std.specs.Prelude.{◌≡◌, ℕ, ◌+◌, ◌<◌, ◌≤◌, OnOk, length};
 ghost use Rattle.hfs_btree.specs.Header.{header_in, depth_of, free_nodes};
@@ -16,7 +16,7 @@ use hfs_btree::{Key, place_in_index, read_header};
 use hfs_btree_edits::{NodesMut, claim_node};
 use std::alloc::{AllocError, Global};
 
-/// How many bytes the record has that comes to a level: in a leaf `len`, above the leaves an index record's.
+/// How many bytes the record has that is added at a level: in a leaf `len`, above the leaves those of an index record.
 fn level_len<K: Key>(len: usize, above: u16) -> usize
     ensures { result ≡ len_at K.Key len above }
 {
@@ -27,9 +27,9 @@ fn level_len<K: Key>(len: usize, above: u16) -> usize
     }
 }
 
-/// Cuts the child that a record of index node `parent` names, which stands so many levels above the leaves: its second part
-/// goes to node `m`, a stray one, and a record behind that one names it. The part on the way to the key has room for a record
-/// of `len` bytes.
+/// Cuts the child that a record of index node `parent` names, which is `above` levels above the leaves: its second part goes to
+/// node `m`, a stray one, and a new record after that one names it. The part on the way to the key has room for a record of `len`
+/// bytes.
 fn cut_child<K: Key, S: NodesMut>(
     alloc: Global,
     nodes: &mut S,
@@ -58,8 +58,8 @@ fn cut_child<K: Key, S: NodesMut>(
     halve(alloc, nodes, n, m, half, above == 0)
 }
 
-/// Cuts the node on the way to a key that stands so many levels above the leaves; the node above it has room for an index
-/// record. The part on the way has room for a record of `len` bytes then. It takes one free node.
+/// Cuts the node on the way to a key that is `above` levels above the leaves; the node above it has room for an index record. The
+/// part on the way then has room for a record of `len` bytes. Takes one free node.
 pub(crate) fn cut_level<K: Key, S: NodesMut>(
     alloc: Global,
     nodes: &mut S,
@@ -86,9 +86,9 @@ pub(crate) fn cut_level<K: Key, S: NodesMut>(
     cut_child(alloc, nodes, key, len, parent, place, above, m)
 }
 
-/// Cuts the nodes on the way to a key that stand below level `full` and not below level `least`, counted from the leaves, from
-/// the top down. The last has room then for what comes to it, where a record of `len` bytes comes to the leaf. It takes one
-/// free node for each.
+/// Cuts the nodes on the way to a key that are below level `full` and not below level `least`, counted from the leaves, from the
+/// top down. The last one then has room for what is added to it when a record of `len` bytes is added to the leaf. Takes one free
+/// node for each.
 pub(crate) fn cut_levels<K: Key, S: NodesMut>(
     alloc: Global,
     nodes: &mut S,

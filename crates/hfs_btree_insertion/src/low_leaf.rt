@@ -1,4 +1,4 @@
-//! The leaf that a new record goes to, where no index key is to be lowered for it.
+//! The leaf for a new record, if no index key must be lowered for it.
 
 ghost use Rattle.std.specs.Prelude.{◌≡◌, ◌<◌, ◌≤◌, true, [], IfSome, length, slice_index_or};
 ghost use Rattle.hfs_node.specs.Node.{node_of};
@@ -13,7 +13,7 @@ ghost use Rattle.hfs_btree_insertion.specs.Room.{IsLowLeaf};
 use hfs_btree::{Header, Key, Nodes, child_of, first_above};
 use hfs_node::view;
 
-/// The child where the search for a key goes on from an index node; none where all of the node's keys are above the key.
+/// The child where the search for a key goes on from an index node; None if all of the node's keys are above the key.
 fn low_child<K: Key>(bytes: &[u8; 512], key: &K) -> Option<u32>
     requires index { Each (λ entry. K.is_index entry ≡ true) (records_of (node_of bytes.now)) }
     requires rising { IsRisingFor K.Key key.now (records_of (node_of bytes.now)) }
@@ -30,8 +30,8 @@ fn low_child<K: Key>(bytes: &[u8; 512], key: &K) -> Option<u32>
     Some(child_of::<K>(node.record(place - 1)))
 }
 
-/// The leaf where the search for a key ends, with its bytes, if no index node on the way has all of its keys above the key. It
-/// reads one node of each level.
+/// The leaf where the search for a key ends, with its bytes, unless an index node on the way has all of its keys above the key.
+/// Reads one node of each level.
 pub(crate) fn low_leaf<K: Key, N: Nodes>(
     nodes: &N,
     header: &Header,

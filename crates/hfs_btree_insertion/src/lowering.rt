@@ -1,4 +1,4 @@
-//! Index keys that are lowered, so that a new key isn't below all keys of a node on its way.
+//! Lowering index keys, so that a new key isn't below all keys of a node on its way.
 
 ghost use Rattle.std.specs.Prelude.{◌≡◌, ◌<◌, true, [], OnOk, length, slice_index_or};
 ghost use Rattle.hfs_btree.specs.Header.{tree_content};
@@ -32,7 +32,7 @@ fn set_first<K: Key, S: NodesMut>(
     store_replaced(nodes, n, &node, 0, made)
 }
 
-/// Gives an index node's first record this key where its own is above it. The node was read into `bytes`.
+/// Gives an index node's first record this key if its own is above it. The node was read into `bytes`.
 fn lower_first<K: Key, S: NodesMut>(
     alloc: Global,
     nodes: &mut S,
@@ -57,8 +57,8 @@ fn lower_first<K: Key, S: NodesMut>(
     }
 }
 
-/// Lowers the first key of each index node on the way to a key that is below all keys of that node. In an exact tree
-/// there is none, where the key is above the least.
+/// Lowers the first key of each index node on the way to a key that is below all keys of that node. In an exact tree there is
+/// none if the key is above the least.
 pub(crate) fn lower_keys<K: Key, S: NodesMut>(
     alloc: Global,
     nodes: &mut S,

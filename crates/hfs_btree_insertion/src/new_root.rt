@@ -39,7 +39,7 @@ fn root_above<K: Key, N: Nodes>(
     })
 }
 
-/// Puts a node above the root, which names it, in the place of node `m`, a stray one, and makes it the root.
+/// Puts a node that names the root in place of node `m`, a stray one, and makes it the root.
 fn put_root<K: Key, S: NodesMut>(alloc: Global, nodes: &mut S, m: u32) -> Result<(), AllocError>
     requires sound { IsSound K.Key (S.nodes nodes.old) }
     requires some { 0 < depth_of (S.nodes nodes.old) }
@@ -57,7 +57,7 @@ fn put_root<K: Key, S: NodesMut>(alloc: Global, nodes: &mut S, m: u32) -> Result
     put_header(alloc, nodes, &header)
 }
 
-/// Puts a new root above the old one, with one record that names it. It takes one free node.
+/// Puts a new root above the old one, with one record that names it. Takes one free node.
 pub(crate) fn raise<K: Key, S: NodesMut>(alloc: Global, nodes: &mut S) -> Result<(), AllocError>
     requires sound { IsSound K.Key (S.nodes nodes.old) }
     requires some { 0 < depth_of (S.nodes nodes.old) }

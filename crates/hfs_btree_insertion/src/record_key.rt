@@ -6,7 +6,7 @@ ghost use Rattle.hfs_btree.specs.Tree.{reads_at};
 
 use hfs_btree::{Key, index_key_of, key_of};
 
-/// The key of a record of a node that stands so many levels above the leaves.
+/// The key of a record of a node `above` levels above the leaves.
 pub(crate) fn key_at<K: Key>(entry: &[u8], above: u16) -> K
     requires { reads_at K.Key above entry.now ≡ true }
     ensures { result ≡ entry_key K.Key above entry.now }

@@ -11,7 +11,7 @@ ghost use Rattle.hfs_btree.specs.Tree.{records_of};
 use hfs_btree::{Header, Key, Nodes, child_in};
 use hfs_node::view;
 
-/// The node on the way to a key that stands so many levels above the leaves, with its bytes.
+/// The node on the way to a key that is `above` levels above the leaves, with its bytes.
 pub(crate) fn node_at<K: Key, N: Nodes>(
     nodes: &N,
     header: &Header,
@@ -36,7 +36,7 @@ pub(crate) fn node_at<K: Key, N: Nodes>(
     n
 }
 
-/// The bytes that a node's records and their offsets take.
+/// How many bytes a node's records and their offsets take.
 #[tactic(auto, using(hfs_node::proofs::SizeLemmas::sizes))]
 pub(crate) fn size_in(bytes: &[u8; 512]) -> usize
     ensures size { result ≡ size_of (records_of (node_of bytes.now)) }
@@ -52,7 +52,7 @@ pub(crate) fn size_in(bytes: &[u8; 512]) -> usize
     size
 }
 
-/// One more than `full` where a node has no room for a record of `len` bytes, else 0.
+/// `full + 1` if a node has no room for a record of `len` bytes, else 0.
 fn count_full(bytes: &[u8; 512], len: usize, full: u16) -> u16
     requires len { len ≤ 65535 + 5 }
     requires full { full < 65535 }
@@ -66,8 +66,8 @@ fn count_full(bytes: &[u8; 512], len: usize, full: u16) -> u16
     }
 }
 
-/// How many nodes on the way to a key, from the leaf on upwards, have no room for one more record: in the leaf one of
-/// `len` bytes, above it an index record.
+/// How many nodes on the way to a key, from the leaf upwards, have no room for one more record: in the leaf one of `len` bytes,
+/// above it an index record.
 pub(crate) fn full_levels<K: Key, N: Nodes>(nodes: &N, header: &Header, key: &K, len: usize) -> u16
     requires sound { IsSound K.Key (N.nodes nodes.now) }
     requires header { header.now ≡ header_in (N.nodes nodes.now) }

@@ -1,4 +1,4 @@
-//! The record at the end of a way, and the nodes below it that have no other: taken out, and given back.
+//! The record at the end of a way, and the nodes below it that have no other record: taken out and released.
 
 ghost use Rattle.std.specs.Prelude.{◌≡◌, ◌<◌, ◌≤◌, IfOk, OnOk, length};
 ghost use Rattle.hfs_btree_edits.specs.Edits.{Edits};
@@ -13,7 +13,7 @@ use hfs_btree::{Header, Key};
 use hfs_btree_edits::{NodesMut, first_key_of, load, put_header, release, store};
 use std::alloc::{AllocError, Global};
 
-/// Takes the record on the way out of its node. Answers the node's new first key where the first record was taken.
+/// Takes the record on the way out of its node. Returns the node's new first key if the first record was taken.
 fn take_record<K: Key, S: NodesMut>(
     alloc: Global,
     nodes: &mut S,
@@ -37,7 +37,8 @@ fn take_record<K: Key, S: NodesMut>(
     Ok(Some(first_key_of(&node)))
 }
 
-/// The header record where one pair is gone, and so many nodes below each other, the last of them between these leaves.
+/// The header record after one pair and this many nodes, one below the other, are gone; the last of them was between these
+/// leaves.
 fn with_fewer(header: &Header, beside: &Neighbours, nodes: usize) -> Header
     requires { 1 ≤ header.now.records }
     ensures { result ≡ fewer header.now beside.now.left beside.now.right nodes }
@@ -55,8 +56,8 @@ fn with_fewer(header: &Header, beside: &Neighbours, nodes: usize) -> Header
     fewer
 }
 
-/// Takes the nodes of `chain` out of their links and the record on the way out of the node above them, and counts one pair
-/// less. Answers that node's first key where it has changed.
+/// Takes the nodes of `chain` out of their links, and the record on the way out of the node above them, and counts one pair less.
+/// Returns that node's first key if it has changed.
 pub(crate) fn detach<K: Key, S: NodesMut>(
     alloc: Global,
     nodes: &mut S,
@@ -77,7 +78,7 @@ pub(crate) fn detach<K: Key, S: NodesMut>(
     Ok(changed)
 }
 
-/// Gives the nodes of these steps back, which are stray ones.
+/// Releases the nodes of these steps, which are stray.
 pub(crate) fn release_all<K: Key, S: NodesMut>(
     alloc: Global,
     nodes: &mut S,

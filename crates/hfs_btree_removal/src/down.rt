@@ -21,7 +21,7 @@ use std::alloc::{AllocError, Global};
 pub(crate) struct Step {
     /// The node's number.
     pub node: u32,
-    /// Which of its records leads on, or in the leaf is the pair's.
+    /// Which of its records leads on, or, in the leaf, is the pair's.
     pub place: usize,
     /// How many records it has.
     pub count: usize,
@@ -69,7 +69,7 @@ fn branch_in<K: Key>(bytes: &[u8; 512], key: &K) -> Branch
     }
 }
 
-/// The way to the pair with this key, the root first, in a tree that has the pair.
+/// The way to the pair with this key, root first, in a tree that has the pair.
 pub(crate) fn steps_to<K: Key, N: Nodes>(
     alloc: Global,
     nodes: &N,

@@ -1,4 +1,4 @@
-//! A first key that has changed, told to the nodes above.
+//! Passing a changed first key to the nodes above.
 
 ghost use Rattle.std.specs.Prelude.{◌≡◌, ◌<◌, OnOk, length};
 ghost use Rattle.hfs_btree_edits.specs.Edits.{Edits};
@@ -51,7 +51,7 @@ fn pass_up<K: Key, S: NodesMut>(
     Ok(())
 }
 
-/// Tells the nodes of these steps a first key that has changed.
+/// Passes a changed first key to the nodes of these steps.
 pub(crate) fn tell_above<K: Key, S: NodesMut>(
     alloc: Global,
     nodes: &mut S,

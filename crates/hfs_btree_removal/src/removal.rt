@@ -17,8 +17,8 @@ use hfs_btree::{Header, Key, read_header};
 use hfs_btree_edits::NodesMut;
 use std::alloc::{AllocError, Global};
 
-/// Takes the pair out where `wide` is the last step whose node has another record besides the one on the way: that
-/// record goes, and with it the nodes below it, which have no other record.
+/// Takes the pair out if `wide` is the last step whose node has another record besides the one on the way: that record is
+/// removed, with the nodes below it, which have no other record.
 fn take_out<K: Key, S: NodesMut>(
     alloc: Global,
     nodes: &mut S,
@@ -40,12 +40,12 @@ fn take_out<K: Key, S: NodesMut>(
     release_all::<K, S>(alloc, nodes, chain)
 }
 
-/// Takes the pair with this key out of the tree.
+/// Removes the pair with this key from the tree.
 ///
-/// A node whose last record goes is freed: it is blank, and leaves the links of its level. A first key that changes is told
-/// to the nodes above. An index root with one record gives way to its child.
+/// A node whose last record is removed is freed: it is blank, and leaves the links of its level. A first key that changes is
+/// passed to the nodes above. An index root with one record is replaced by its child.
 ///
-/// Errors: `AllocError` where memory was refused. Then nothing is known of the nodes, which are to be thrown away.
+/// Errors: `AllocError` if memory was refused. Then nothing is known of the nodes, which must be thrown away.
 ///
 /// Source: Inside Macintosh: Files, chapter 2, 'B*-trees'.
 pub fn remove<K: Key, S: NodesMut>(alloc: Global, nodes: &mut S, key: &K) -> Result<(), AllocError>

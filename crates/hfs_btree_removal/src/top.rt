@@ -1,4 +1,4 @@
-//! The root, where it gives way.
+//! Replacing the root by its child.
 
 ghost use Rattle.std.specs.Prelude.{◌≡◌, ◌+◌, ◌≤◌, [], OnOk};
 ghost use Rattle.hfs_btree_edits.specs.Edits.{Edits};

@@ -1,4 +1,4 @@
-//! A node whose neighbours are linked to each other past it.
+//! Linking a node's neighbours to each other past it.
 
 ghost use Rattle.std.specs.Prelude.{◌≡◌, IfOk, OnOk};
 ghost use Rattle.hfs_btree_edits.specs.Edits.{Edits};
@@ -9,7 +9,7 @@ use crate::down::Step;
 use hfs_btree_edits::{NodesMut, load, store};
 use std::alloc::{AllocError, Global};
 
-/// The neighbours of a node in its level, 0 at the ends.
+/// The neighbours of a node in its level; 0 at the ends.
 #[derive(Clone, Copy)]
 pub(crate) struct Neighbours {
     pub left: u32,
@@ -54,7 +54,7 @@ fn link_backward<S: NodesMut>(
     store(nodes, n, &node)
 }
 
-/// Links the neighbours of node `n` to each other, and answers them.
+/// Links the neighbours of node `n` to each other, and returns them.
 pub(crate) fn unlink<S: NodesMut>(
     alloc: Global,
     nodes: &mut S,
@@ -79,8 +79,7 @@ pub(crate) fn unlink<S: NodesMut>(
     Ok(beside)
 }
 
-/// Takes the nodes of these steps, which stand one below the other, out of the links of their levels. Answers the
-/// neighbours of the last one.
+/// Takes the nodes of these steps, one below the other, out of the links of their levels. Returns the neighbours of the last one.
 pub(crate) fn unlink_all<S: NodesMut>(
     alloc: Global,
     nodes: &mut S,

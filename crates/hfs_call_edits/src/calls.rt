@@ -39,7 +39,7 @@ fn is_writing(call: &Call) -> bool
 }
 
 impl<B: Blocks> Editing<'_, B> {
-    /// What a call that changes the volume makes of it, or what refuses it. The only error is want of memory.
+    /// What a call that changes the volume makes of it, or what refuses it. Fails only when out of memory.
     pub fn edit(&self, alloc: Global, call: &Call) -> Result<Result<Change, Refusal>, AllocError>
         requires { is_reading call.now ≡ false }
         ensures made { Makes result (IsEditOf call.now) B.total B.blocks self.now }

@@ -1,4 +1,4 @@
-//! What calls that change items choose in the catalog. In each the first code that holds is the reply's.
+//! What calls that change items choose in the catalog. In each, the first code that applies is the reply's.
 
 ghost use Rattle.std.specs.Prelude.{◌≡◌, IfOk};
 ghost use Rattle.hfs_catalog.specs.Tree.{catalog_of};
@@ -87,7 +87,7 @@ pub(crate) fn file_to_change<N: Nodes>(
     }
 }
 
-/// The folder's file of that name, with the place of its record, or the code that refuses to set what is told of it.
+/// The folder's file of that name, with the place of its record, or the code that refuses to set its dates, Finder bytes or lock.
 pub(crate) fn file_to_set<N: Nodes>(
     nodes: &N,
     mdb: &Mdb,
@@ -120,7 +120,7 @@ pub(crate) fn is_locked(item: &CatalogItem) -> bool
     }
 }
 
-/// The folder's item of that name, with the place of its record, or the code that refuses to set what is told of it.
+/// The folder's item of that name, with the place of its record, or the code that refuses to set its dates, Finder bytes or lock.
 pub(crate) fn item_to_set<N: Nodes>(
     nodes: &N,
     mdb: &Mdb,

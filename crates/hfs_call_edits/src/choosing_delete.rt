@@ -1,4 +1,4 @@
-//! What Delete chooses in the catalog. The first code that holds is the reply's.
+//! What Delete chooses in the catalog. The first code that applies is the reply's.
 
 ghost use Rattle.std.specs.Prelude.{◌≡◌};
 ghost use Rattle.hfs_call_edits.specs.ChoosingDelete.{is_busy_item, item_to_delete, chosen_to_delete};

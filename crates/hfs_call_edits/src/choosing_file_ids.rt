@@ -1,4 +1,4 @@
-//! What the calls on file IDs choose in the catalog. In each the first code that holds is the reply's.
+//! What the calls on file IDs choose in the catalog. In each, the first code that applies is the reply's.
 
 ghost use Rattle.std.specs.Prelude.{◌≡◌};
 ghost use Rattle.hfs_catalog.specs.Tree.{catalog_of};
@@ -38,8 +38,8 @@ pub(crate) fn file_without_id<N: Nodes>(
     }
 }
 
-/// The file of that ID, which has a thread, with its key, or the code that refuses to take it away. Each folder has a
-/// thread, so for an ID without one not all records are read.
+/// The file with that ID, which has a thread, with its key, or the code that refuses to remove it. Each folder has a thread, so
+/// not all records are read for an ID without one.
 pub(crate) fn file_with_id<N: Nodes>(
     nodes: &N,
     mdb: &Mdb,

@@ -1,4 +1,4 @@
-//! What CatMove chooses in the catalog. In each choice the first code that holds is the reply's.
+//! What CatMove chooses in the catalog. In each choice, the first code that applies is the reply's.
 
 ghost use Rattle.std.specs.Prelude.{◌≡◌};
 ghost use Rattle.hfs_catalog.specs.Tree.{catalog_of};
@@ -14,7 +14,7 @@ use hfs_fields::{CatKey, Mdb, Name};
 use hfs_model::{BAD_MOVE, BAD_NAME, DUPLICATE, FOLDER_FULL, NOT_A_FOLDER};
 use hfs_queries::folder;
 
-/// Whether `up` stands at most `steps` parents up from the folder `dir`. Each step looks up one folder.
+/// Whether `up` is at most `steps` parents up from the folder `dir`. Each step looks up one folder.
 fn lies_in<N: Nodes>(nodes: &N, steps: u64, dir: u32, up: u32) -> bool
     requires { IsCatalog (N.nodes nodes.now) }
     ensures { result ≡ up_by_folders (catalog_of (N.nodes nodes.now)) steps dir up }
@@ -34,7 +34,7 @@ fn lies_in<N: Nodes>(nodes: &N, steps: u64, dir: u32, up: u32) -> bool
     true
 }
 
-/// The folder of that ID with its place.
+/// The folder with that ID, and its place.
 fn folder_place<N: Nodes>(nodes: &N, dir: u32) -> Option<FolderPlace>
     requires { IsCatalog (N.nodes nodes.now) }
     ensures { result ≡ folder_place (catalog_of (N.nodes nodes.now)) dir }
@@ -60,7 +60,7 @@ fn is_folder(item: &CatalogItem) -> bool
     }
 }
 
-/// The item, to come from one folder under that of this ID, or the code that refuses it.
+/// The item, to be moved from one folder to the one with this ID, or the code that refuses it.
 fn moving_to<N: Nodes>(
     nodes: &N,
     steps: u64,
@@ -109,7 +109,7 @@ fn most_steps(mdb: &Mdb) -> u64
     u64::from(mdb.files) + u64::from(mdb.folders) + 1
 }
 
-/// The folder's item of that name, to come under another folder, or the code that refuses it.
+/// The folder's item of that name, to be moved to another folder, or the code that refuses it.
 pub(crate) fn item_to_move<N: Nodes>(
     nodes: &N,
     mdb: &Mdb,

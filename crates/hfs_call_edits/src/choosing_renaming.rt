@@ -1,4 +1,4 @@
-//! What Rename chooses in the catalog. The first code that holds is the reply's.
+//! What Rename chooses in the catalog. The first code that applies is the reply's.
 
 ghost use Rattle.std.specs.Prelude.{◌≡◌};
 ghost use Rattle.hfs_catalog.specs.Tree.{catalog_of};
@@ -22,7 +22,7 @@ pub(crate) fn own_id(item: &CatalogItem) -> u32
     }
 }
 
-/// Whether an item of the folder, other than the one of this ID, has the name.
+/// Whether an item of the folder, other than the one with this ID, has the name.
 fn is_taken<N: Nodes>(nodes: &N, dir: u32, name: &Name, id: u32) -> bool
     requires { IsCatalog (N.nodes nodes.now) }
     ensures { result ≡ is_taken (catalog_of (N.nodes nodes.now)) dir name.now id }
@@ -33,7 +33,7 @@ fn is_taken<N: Nodes>(nodes: &N, dir: u32, name: &Name, id: u32) -> bool
     }
 }
 
-/// The folder's item of that name, to come under its new name, or the code that refuses it.
+/// The folder's item of that name, to be renamed, or the code that refuses it.
 pub(crate) fn item_to_rename<N: Nodes>(
     nodes: &N,
     mdb: &Mdb,

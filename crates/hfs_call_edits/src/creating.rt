@@ -10,7 +10,7 @@ use hfs_call_patches::{Change, add_new_file, add_new_folder};
 use std::alloc::{AllocError, Global};
 
 impl<B: Blocks> Editing<'_, B> {
-    /// What Create makes of the volume. The only error is want of memory.
+    /// What Create makes of the volume. Fails only when out of memory.
     pub(crate) fn create(
         &self,
         alloc: Global,
@@ -41,7 +41,7 @@ impl<B: Blocks> Editing<'_, B> {
         Ok(Ok(change))
     }
 
-    /// What DirCreate makes of the volume. The only error is want of memory.
+    /// What DirCreate makes of the volume. Fails only when out of memory.
     pub(crate) fn dir_create(
         &self,
         alloc: Global,

@@ -44,7 +44,7 @@ impl<B: Blocks> Editing<'_, B> {
         }
     }
 
-    /// The deletion of a folder, of this key and this record, from its own, which has so many children. The only error is want
+    /// The deletion of a folder, with this key and this record, from its own, which has this many children. Fails only when out
     /// of memory.
     fn delete_folder(
         &self,
@@ -81,7 +81,7 @@ impl<B: Blocks> Editing<'_, B> {
         })
     }
 
-    /// The deletion of a file, of this key and this record, from its folder, which has so many children. The only error is want
+    /// The deletion of a file, with this key and this record, from its folder, which has this many children. Fails only when out
     /// of memory.
     fn delete_file(
         &self,
@@ -118,7 +118,7 @@ impl<B: Blocks> Editing<'_, B> {
         })
     }
 
-    /// What Delete makes of the volume. The only error is want of memory.
+    /// What Delete makes of the volume. Fails only when out of memory.
     pub(crate) fn delete(
         &self,
         alloc: Global,

@@ -22,11 +22,11 @@ use std::marker::Model;
 pub enum Refusal {
     /// A code other than 0.
     Code(i16),
-    /// Too few nodes or blocks for a call that would be done otherwise.
+    /// Too few nodes or blocks for a call that would otherwise succeed.
     Want(Want),
 }
 
-/// A sound volume's blocks with what mounting found out of them. Contracts see the blocks.
+/// A sound volume's blocks, with what mounting found out about them. Contracts see the blocks.
 #[derive(Drop)]
 pub struct Editing<'a, B: Blocks> {
     pub(crate) blocks: &'a B,
@@ -67,7 +67,7 @@ impl<'a, B: Blocks> Editing<'a, B> {
         }
     }
 
-    /// The nodes of the catalog, whose records answer the queries of the volume.
+    /// The nodes of the catalog, whose records answer the volume's queries.
     pub(crate) fn nodes(&self) -> RunNodes<'_, B>
         ensures nodes { HoldCatalog B.blocks result.blocks.now result.runs.now self.now }
         ensures catalog { IsCatalog (catalog_nodes (B.blocks self.now)) }
@@ -106,7 +106,7 @@ impl<'a, B: Blocks> Editing<'a, B> {
         choosing::item_to_set(&self.nodes(), self.mdb, dir, name)
     }
 
-    /// A change of blocks and of the moment of the last change alone, which answers nothing.
+    /// A change of blocks and of the moment of the last change only, which answers nothing.
     pub(crate) fn change(&self, patch: Patch, now: u32) -> Change
         ensures { result ≡ change_at now (B.blocks self.now) patch value.Nothing }
     {

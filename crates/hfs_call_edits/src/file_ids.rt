@@ -25,14 +25,14 @@ impl<B: Blocks> Editing<'_, B> {
         choosing_file_ids::file_without_id(&self.nodes(), self.mdb, dir, name)
     }
 
-    /// The file of that ID, which has a thread, with its key, or the code that refuses to take it away.
+    /// The file with that ID, which has a thread, with its key, or the code that refuses to remove it.
     fn file_with_id(&self, id: u32) -> Result<(CatKey, FileRecord), i16>
         ensures { ChoosesFileBy (λ v. to_delete_file_id v id) (B.blocks self.now) result }
     {
         choosing_file_ids::file_with_id(&self.nodes(), self.mdb, id)
     }
 
-    /// A change of blocks and of the moment of the last change alone, which answers an ID.
+    /// A change of blocks and of the moment of the last change only, which answers with an ID.
     fn change_to_id(&self, patch: Patch, id: u32, now: u32) -> Change
         ensures { result ≡ change_at now (B.blocks self.now) patch (value.Id id) }
     {
@@ -42,7 +42,7 @@ impl<B: Blocks> Editing<'_, B> {
         }
     }
 
-    /// What CreateFileId makes of the volume. The only error is want of memory.
+    /// What CreateFileId makes of the volume. Fails only when out of memory.
     pub(crate) fn create_file_id(
         &self,
         alloc: Global,
@@ -73,7 +73,7 @@ impl<B: Blocks> Editing<'_, B> {
         Ok(Ok(self.change_to_id(patch, file.id, now)))
     }
 
-    /// What DeleteFileId makes of the volume. The only error is want of memory.
+    /// What DeleteFileId makes of the volume. Fails only when out of memory.
     pub(crate) fn delete_file_id(
         &self,
         alloc: Global,

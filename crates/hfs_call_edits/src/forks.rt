@@ -45,7 +45,7 @@ impl<B: Blocks> Editing<'_, B> {
         }
     }
 
-    /// The volume as those who write forks take it.
+    /// The volume in the form in which forks are written.
     fn fork_volume(&self) -> ForkVolume<'_, B>
         ensures volume { IsForkVolumeIn B.total B.blocks result.blocks.now
             result.mdb.now result.extents.now result.catalog.now }
@@ -59,7 +59,7 @@ impl<B: Blocks> Editing<'_, B> {
         }
     }
 
-    /// What SetEof makes of the volume. The only error is want of memory.
+    /// What SetEof makes of the volume. Fails only when out of memory.
     pub(crate) fn set_eof(
         &self,
         alloc: Global,
@@ -82,7 +82,7 @@ impl<B: Blocks> Editing<'_, B> {
         Ok(edit_of(edit))
     }
 
-    /// What WriteFork makes of the volume. The only error is want of memory.
+    /// What WriteFork makes of the volume. Fails only when out of memory.
     pub(crate) fn write_fork(
         &self,
         alloc: Global,

@@ -29,14 +29,14 @@ fn change_of(patch: Patch, counts: Mdb) -> Change
 }
 
 impl<B: Blocks> Editing<'_, B> {
-    /// The folder's item of that name, to come under another folder, or the code that refuses it.
+    /// The folder's item of that name, to be moved to another folder, or the code that refuses it.
     fn item_to_move(&self, dir: u32, name: &[u8], new_dir: u32) -> Result<Moving, i16>
         ensures { ChoosesMoving (B.blocks self.now) dir name.now new_dir result }
     {
         choosing_moving::item_to_move(&self.nodes(), self.mdb, dir, name, new_dir)
     }
 
-    /// What CatMove makes of the volume. The only error is want of memory.
+    /// What CatMove makes of the volume. Fails only when out of memory.
     pub(crate) fn cat_move(
         &self,
         alloc: Global,

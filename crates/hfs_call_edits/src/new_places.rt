@@ -1,4 +1,4 @@
-//! Where a new item comes: the folder that Create and DirCreate choose, or the first code that refuses them.
+//! Where a new item goes: the folder that Create and DirCreate choose, or the first code that refuses them.
 
 ghost use Rattle.std.specs.Prelude.{◌≡◌, IfOk};
 ghost use Rattle.hfs_catalog.specs.Tree.{catalog_of};
@@ -17,20 +17,20 @@ use hfs_catalog::{CatalogItem, ItemRecord, lookup};
 use hfs_fields::{Mdb, Name};
 use hfs_model::{BAD_NAME, DUPLICATE, FOLDER_FULL, NOT_A_FOLDER};
 
-/// Where a new item comes, and where the record of its folder stands.
+/// Where a new item goes, and where the record of its folder is.
 #[derive(Clone, Copy)]
 pub(crate) struct FoundPlace {
     pub place: NewPlace,
     pub folder_at: RecordPlace,
 }
 
-/// The most children that a folder has.
+/// The most children that a folder may have.
 const MOST_CHILDREN: u16 = 65_535;
 
 /// The last ID, which no item gets.
 const LAST_ID: u32 = 4_294_967_295;
 
-/// How many children a folder has. A file has none.
+/// How many children a folder has; 0 for a file.
 fn child_count(item: &CatalogItem) -> u16
     ensures { result ≡ children_in item.now.body }
 {
@@ -40,7 +40,7 @@ fn child_count(item: &CatalogItem) -> u16
     }
 }
 
-/// Where a new item of that name comes in the folder, or the code that refuses it.
+/// Where a new item of that name goes in the folder, or the code that refuses it.
 fn new_place<N: Nodes>(nodes: &N, mdb: &Mdb, dir: u32, name: &[u8]) -> Result<FoundPlace, i16>
     requires { IsCatalog (N.nodes nodes.now) }
     ensures chosen { place_found result
@@ -74,7 +74,7 @@ fn new_place<N: Nodes>(nodes: &N, mdb: &Mdb, dir: u32, name: &[u8]) -> Result<Fo
 }
 
 impl<B: Blocks> Editing<'_, B> {
-    /// Where a new item of that name comes in the folder, or the code that refuses it.
+    /// Where a new item of that name goes in the folder, or the code that refuses it.
     pub(crate) fn new_place(&self, dir: u32, name: &[u8]) -> Result<FoundPlace, i16>
         ensures chosen { ChoosesNewPlace (B.blocks self.now) dir name.now (place_found result) }
         ensures folder { IfOk result (IsFolderFound (catalog_nodes (B.blocks self.now))) }

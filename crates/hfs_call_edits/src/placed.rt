@@ -16,14 +16,14 @@ use hfs_fields::{CatKey, FileRecord, Name};
 use hfs_model::{NOT_A_FOLDER, NOT_FOUND};
 use hfs_queries::folder;
 
-/// An item of the catalog, and where its record stands.
+/// An item of the catalog, and where its record is.
 #[derive(Clone, Copy)]
 pub(crate) struct PlacedItem {
     pub item: CatalogItem,
     pub place: RecordPlace,
 }
 
-/// A file of the catalog, and where its record stands.
+/// A file of the catalog, and where its record is.
 #[derive(Clone, Copy)]
 pub(crate) struct PlacedFile {
     pub key: CatKey,
@@ -31,7 +31,7 @@ pub(crate) struct PlacedFile {
     pub place: RecordPlace,
 }
 
-/// The item of a leaf's record. None where the record is a thread's.
+/// The item of a leaf's record. None if the record is a thread's.
 fn item_in(entry: &[u8]) -> Option<CatalogItem>
     requires { is_cat_leaf entry.now ≡ true }
     ensures { result ≡ item_at (Some (pair_of cat_keys entry.now)) }
@@ -42,7 +42,7 @@ fn item_in(entry: &[u8]) -> Option<CatalogItem>
     }
 }
 
-/// The item under a key. None where there is none, and where the record under the key is a thread's.
+/// The item under a key. None if there is none, or if the record under the key is a thread's.
 fn seek_item<N: Nodes>(nodes: &N, key: &CatKey) -> Option<PlacedItem>
     requires { IsCatalogTree (N.nodes nodes.now) }
     ensures named { item_part result
@@ -61,7 +61,7 @@ fn seek_item<N: Nodes>(nodes: &N, key: &CatKey) -> Option<PlacedItem>
     }
 }
 
-/// The folder of that ID, found by its thread, which each folder has: two look-ups.
+/// The folder with that ID, found by its thread, which each folder has: two look-ups.
 pub(crate) fn placed_folder<N: Nodes>(nodes: &N, dir: u32) -> Option<PlacedItem>
     requires { IsCatalog (N.nodes nodes.now) }
     ensures folder { item_part result
@@ -84,11 +84,12 @@ pub(crate) fn placed_folder<N: Nodes>(nodes: &N, dir: u32) -> Option<PlacedItem>
     }
 }
 
-/// The ID under which the root stands, which is no folder's.
+/// The root's parent ID, which is no folder's.
 const ABOVE_ROOT: u32 = 1;
 
-/// The folder's item of that name, or the code that says why there is none: -120 where there is no such folder, -43 where it has no
-/// such item. Where there is an item it is found by one look-up, for what holds an item is a folder, but for 1, which holds the root.
+/// The folder's item of that name, or the code that says why there is none: -120 if there is no such folder, -43 if it has no
+/// such item. An item that exists is found with one look-up, since its parent is a folder, except for 1, which is the root's
+/// parent.
 pub(crate) fn placed_child<N: Nodes>(nodes: &N, dir: u32, name: &Name) -> Result<PlacedItem, i16>
     requires { IsCatalog (N.nodes nodes.now) }
     ensures chosen { item_chosen result

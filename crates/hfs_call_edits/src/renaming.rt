@@ -15,14 +15,14 @@ use hfs_fields::same_name;
 use std::alloc::{AllocError, Global};
 
 impl<B: Blocks> Editing<'_, B> {
-    /// The folder's item of that name, to come under its new name, or the code that refuses it.
+    /// The folder's item of that name, to be renamed, or the code that refuses it.
     fn item_to_rename(&self, dir: u32, name: &[u8], new_name: &[u8]) -> Result<Rekeying, i16>
         ensures { ChoosesRenaming (B.blocks self.now) dir name.now new_name.now result }
     {
         choosing_renaming::item_to_rename(&self.nodes(), self.mdb, dir, name, new_name)
     }
 
-    /// What refuses a new name for want of nodes. To another case of its name an item comes without any.
+    /// The refusal of a new name for lack of nodes. Changing only the case of a name needs none.
     fn lacks_for_name(&self, name: &[u8], new_name: &[u8]) -> Option<Refusal>
         ensures refusal { result ≡ lacking_for_name name.now new_name.now (B.blocks self.now) }
         ensures room { IfNone result (HasRoomToRename name.now new_name.now (B.blocks self.now)) }
@@ -33,7 +33,7 @@ impl<B: Blocks> Editing<'_, B> {
         self.lacks_one()
     }
 
-    /// What Rename makes of the volume. The only error is want of memory.
+    /// What Rename makes of the volume. Fails only when out of memory.
     pub(crate) fn rename(
         &self,
         alloc: Global,

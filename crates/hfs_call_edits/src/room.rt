@@ -16,7 +16,7 @@ use hfs_btree::{Nodes, read_header};
 use hfs_fields::Mdb;
 use hfs_model::Want;
 
-/// The free nodes that one more record needs in a tree of so many levels.
+/// The free nodes that one more record needs in a tree of `depth` levels.
 fn one_record(depth: u16) -> u64
     ensures { result ≡ one_record depth }
 {
@@ -26,7 +26,7 @@ fn one_record(depth: u16) -> u64
     u64::from(depth) + 1
 }
 
-/// The free nodes that a folder and its thread need in a tree of so many levels.
+/// The free nodes that a folder and its thread need in a tree of `depth` levels.
 fn two_records(depth: u16) -> u64
     ensures { result ≡ two_records depth }
 {
@@ -36,7 +36,7 @@ fn two_records(depth: u16) -> u64
     2 * u64::from(depth) + 3
 }
 
-/// The refusal of a call that needs more nodes than are free in a tree of so many levels.
+/// The refusal of a call that needs more nodes than are free in a tree of `depth` levels.
 fn full(free: u32, depth: u16) -> Refusal
     ensures { result ≡ refusal.Want (want.Nodes free depth) }
 {
@@ -46,7 +46,7 @@ fn full(free: u32, depth: u16) -> Refusal
     })
 }
 
-/// What refuses a call that needs room for one more record, if the tree has fewer free nodes than that may take.
+/// The refusal of a call that needs room for one more record, if the tree has fewer free nodes than that may take.
 pub(crate) fn lacks_one<N: Nodes>(nodes: &N) -> Option<Refusal>
     requires { IsCatalogTree (N.nodes nodes.now) }
     ensures refusal { result ≡ lacking one_record (N.nodes nodes.now) }
@@ -60,7 +60,7 @@ pub(crate) fn lacks_one<N: Nodes>(nodes: &N) -> Option<Refusal>
     None
 }
 
-/// What refuses a call that needs room for a folder and its thread, if the tree has fewer free nodes than these may take.
+/// The refusal of a call that needs room for a folder and its thread, if the tree has fewer free nodes than these may take.
 pub(crate) fn lacks_two<N: Nodes>(nodes: &N) -> Option<Refusal>
     requires { IsCatalogTree (N.nodes nodes.now) }
     ensures refusal { result ≡ lacking two_records (N.nodes nodes.now) }
@@ -83,7 +83,7 @@ fn catalog_size(mdb: &Mdb) -> u32
 }
 
 impl<B: Blocks> Editing<'_, B> {
-    /// What refuses a call that needs room for one more record.
+    /// The refusal of a call that needs room for one more record, if there is too little.
     pub(crate) fn lacks_one(&self) -> Option<Refusal>
         ensures refusal { result ≡ lacking one_record (catalog_nodes (B.blocks self.now)) }
         ensures room { IfNone result (HasRoom (catalog_nodes (B.blocks self.now))) }
@@ -92,7 +92,7 @@ impl<B: Blocks> Editing<'_, B> {
         lacks_one(&self.nodes())
     }
 
-    /// What refuses a call that needs room for a folder and its thread.
+    /// The refusal of a call that needs room for a folder and its thread, if there is too little.
     pub(crate) fn lacks_two(&self) -> Option<Refusal>
         ensures refusal { result ≡ lacking two_records (catalog_nodes (B.blocks self.now)) }
         ensures room { IfNone result (HasRoomForTwo (catalog_nodes (B.blocks self.now))) }
@@ -105,7 +105,7 @@ impl<B: Blocks> Editing<'_, B> {
     pub(crate) fn catalog_is_in_file(&self)
         ensures { IsInFile (catalog_nodes (B.blocks self.now)) }
     {
-        // A proof knows that the size is below 2^32 once it has seen it.
+        // Once a proof has seen the size, it knows that it is below 2^32.
         let _size = catalog_size(self.mdb);
     }
 }

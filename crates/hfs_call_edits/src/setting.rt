@@ -1,4 +1,4 @@
-//! What the calls that set make of a volume's blocks.
+//! What the calls that set something make of a volume's blocks.
 
 ghost use Rattle.hfs_model.specs.declared.call.Call.TheVariants as call;
 ghost use Rattle.hfs_changes.specs.SettingLaws.{lock_call};
@@ -16,7 +16,7 @@ use hfs_catalog::ItemRecord;
 use std::alloc::{AllocError, Global};
 
 impl<B: Blocks> Editing<'_, B> {
-    /// What SetFInfo makes of the volume. The only error is want of memory.
+    /// What SetFInfo makes of the volume. Fails only when out of memory.
     pub(crate) fn set_f_info(
         &self,
         alloc: Global,
@@ -46,7 +46,7 @@ impl<B: Blocks> Editing<'_, B> {
         Ok(Ok(self.change(patch, now)))
     }
 
-    /// What SetCatInfo makes of the volume. The only error is want of memory.
+    /// What SetCatInfo makes of the volume. Fails only when out of memory.
     pub(crate) fn set_cat_info(
         &self,
         alloc: Global,
@@ -97,7 +97,7 @@ impl<B: Blocks> Editing<'_, B> {
         }
     }
 
-    /// What SetFLock makes of the image, or RstFLock. The only error is want of memory.
+    /// What SetFLock or RstFLock makes of the volume. Fails only when out of memory.
     pub(crate) fn set_lock(
         &self,
         alloc: Global,

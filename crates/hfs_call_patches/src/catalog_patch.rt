@@ -1,4 +1,4 @@
-//! The catalog of a volume over a patch of its blocks: opened, to be edited, and closed with the volume's counts.
+//! The catalog of a volume over a patch of its blocks: opened to be edited, and closed with the volume's counts.
 
 ghost use Rattle.std.specs.Prelude.{IfOk};
 ghost use Rattle.hfs_blocks.specs.Layers.{changes, over, AreWithin};
@@ -12,7 +12,7 @@ use hfs_btree_edits::PatchNodes;
 use hfs_fields::Mdb;
 use std::alloc::{AllocError, Global};
 
-/// The nodes of a sound volume's catalog, over a patch that has no block yet.
+/// The nodes of a sound volume's catalog, over a patch that has no blocks yet.
 pub(crate) fn open_catalog<'a, B: Blocks>(
     alloc: Global,
     below: &'a B,
@@ -32,7 +32,7 @@ pub(crate) fn open_catalog<'a, B: Blocks>(
     }
 }
 
-/// The patch of a catalog's nodes with these counts in the volume's master directory block. The only error is want of memory.
+/// The patch of a catalog's nodes, with these counts in the volume's master directory block. Fails only when out of memory.
 pub(crate) fn close_catalog<B: Blocks>(
     below: &B,
     runs: &[Run],

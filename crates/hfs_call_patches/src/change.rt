@@ -5,17 +5,17 @@ use hfs_fields::Mdb;
 use hfs_fork_bytes::ZeroRuns;
 use hfs_model::Value;
 
-/// What a call that writes a fork writes of it.
+/// What a call that writes a fork writes into it.
 #[derive(Drop)]
 pub struct ForkBlocks {
     /// The runs of the fork's blocks that may have changed.
     pub runs: Vec<Run>,
-    /// The blocks of them that are zeros, below the call's patch.
+    /// Those of them that are zeros, below the call's patch.
     pub zeros: ZeroRuns,
 }
 
-/// What a call makes of a volume: the blocks that change, the volume's counts afterwards, what is written of a fork, where the call
-/// writes one, and the value of the reply.
+/// What a call makes of a volume: the blocks that change, the volume's counts afterwards, what is written into a fork, if the
+/// call writes one, and the value of the reply.
 #[derive(Drop)]
 pub struct Change {
     pub patch: Patch,

@@ -8,8 +8,8 @@ use hfs_blocks::{Blocks, Patch};
 use hfs_fields::Mdb;
 use std::alloc::AllocError;
 
-/// Puts the volume's master directory block with these counts into a patch: block 2, of which no other byte changes. The only
-/// error is want of memory.
+/// Puts the volume's master directory block with these counts into a patch: block 2, in which no other byte changes. Fails only
+/// when out of memory.
 pub fn put_counts<B: Blocks>(below: &B, patch: &mut Patch, counts: &Mdb) -> Result<(), AllocError>
     requires { 2 < B.total below.now }
     ensures { PutsCountsOver result counts.now (B.blocks below.now) patch.old patch.new }

@@ -18,7 +18,7 @@ use hfs_fields::Mdb;
 use hfs_model::Value;
 use std::alloc::{AllocError, Global};
 
-/// What a new file makes of a volume, where the record of its folder stands at `folder_at`. The only error is want of memory.
+/// What a new file makes of a volume; its folder's record is at `folder_at`. Fails only when out of memory.
 pub fn add_new_file<B: Blocks>(
     alloc: Global,
     below: &B,
@@ -48,7 +48,7 @@ pub fn add_new_file<B: Blocks>(
     })
 }
 
-/// What a new folder makes of a volume, where the record of its folder stands at `folder_at`. The only error is want of memory.
+/// What a new folder makes of a volume; its folder's record is at `folder_at`. Fails only when out of memory.
 pub fn add_new_folder<B: Blocks>(
     alloc: Global,
     below: &B,

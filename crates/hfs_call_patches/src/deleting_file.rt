@@ -31,7 +31,7 @@ fn block_count(extents: &[Extent]) -> u16
     extents.iter().map(|extent| extent.count).sum()
 }
 
-/// How many blocks are free where the blocks of these extents are free, too.
+/// How many blocks are free once the blocks of these extents are free as well.
 fn free_after(mdb: &Mdb, freed: &[Extent]) -> u16
     requires { mdb.now.free_blocks + block_total freed.now ≤ mdb.now.allocation_blocks }
     ensures { result ≡ mdb.now.free_blocks + block_total freed.now }
@@ -40,7 +40,7 @@ fn free_after(mdb: &Mdb, freed: &[Extent]) -> u16
     mdb.allocation_blocks - (used - block_count(freed))
 }
 
-/// The counts of a volume from which a file goes, one of this folder's, so that so many blocks are free.
+/// The counts of a volume from which a file of this folder is deleted, with this many free blocks.
 fn without_file(mdb: &Mdb, dir: u32, free_blocks: u16, now: u32) -> Mdb
     ensures { result ≡ without_one_file dir free_blocks now mdb.now }
 {
@@ -54,7 +54,7 @@ fn without_file(mdb: &Mdb, dir: u32, free_blocks: u16, now: u32) -> Mdb
     }
 }
 
-/// The patch in which the bits of the extents' blocks are clear. The only error is want of memory.
+/// The patch in which the bits of the extents' blocks are clear. Fails only when out of memory.
 fn clear_bits<B: Blocks>(
     alloc: Global,
     below: &B,
@@ -77,7 +77,7 @@ fn clear_bits<B: Blocks>(
     Ok(patch)
 }
 
-/// The patch in which the extents tree has no record of this file. The only error is want of memory.
+/// The patch in which the extents tree has no record of this file. Fails only when out of memory.
 fn drop_records<B: Blocks>(
     alloc: Global,
     below: &B,
@@ -98,8 +98,8 @@ fn drop_records<B: Blocks>(
     Ok(nodes.patch)
 }
 
-/// The patch in which the item under a key went from the catalog, and then its folder got so many children. The only error is
-/// want of memory.
+/// The patch in which the item under a key is removed from the catalog, and then its folder has this many children. Fails only
+/// when out of memory.
 fn drop_item_over<B: Blocks>(
     alloc: Global,
     below: &B,
@@ -128,8 +128,8 @@ fn drop_item_over<B: Blocks>(
     Ok(nodes.patch)
 }
 
-/// The patch that deletes a file, of this key and this record, from its folder, which has so many children; and the volume's
-/// counts afterwards. The only error is want of memory.
+/// The patch that deletes a file, with this key and this record, from its folder, which has this many children; and the volume's
+/// counts afterwards. Fails only when out of memory.
 pub fn patch_delete_file<B: Blocks>(
     alloc: Global,
     below: &B,

@@ -15,7 +15,7 @@ use hfs_blocks::{Blocks, Patch, Run};
 use hfs_fields::{CatKey, DirRecord, Mdb};
 use std::alloc::{AllocError, Global};
 
-/// The counts of a volume from which a folder goes, one of this folder's.
+/// The counts of a volume from which a folder in this one is deleted.
 pub fn without_folder(mdb: &Mdb, dir: u32, now: u32) -> Mdb
     ensures { result ≡ without_folder dir now mdb.now }
 {
@@ -28,8 +28,8 @@ pub fn without_folder(mdb: &Mdb, dir: u32, now: u32) -> Mdb
     }
 }
 
-/// The patch that deletes a folder, of this key and this record, from its own, which has so many children. The only error is
-/// want of memory.
+/// The patch that deletes a folder, with this key and this record, from its own, which has this many children. Fails only when
+/// out of memory.
 pub fn patch_delete_folder<B: Blocks>(
     alloc: Global,
     below: &B,

@@ -1,4 +1,4 @@
-//! An item that goes from its folder, in the nodes of a catalog.
+//! Removing an item from its folder, in the nodes of a catalog.
 
 ghost use Rattle.std.specs.Prelude.{◌≡◌, OnOk};
 ghost use Rattle.hfs_scans.specs.Each.{Each};
@@ -12,10 +12,10 @@ use hfs_catalog_edits::{drop_item, set_valence};
 use hfs_fields::CatKey;
 use std::alloc::{AllocError, Global};
 
-/// Drops the item under a key, which has this ID, with its thread if it has one; then its folder, under the other key, has so many
-/// children, and `now` as the moment of its last change.
+/// Removes the item under a key, which has this ID, with its thread if it has one; then its folder, under the other key, has this
+/// many children, and `now` as the moment of its last change.
 ///
-/// At `AllocError` nothing is said of the nodes.
+/// After `AllocError` nothing is known of the nodes.
 pub(crate) fn drop_from_folder<N: NodesMut>(
     alloc: Global,
     nodes: &mut N,

@@ -19,7 +19,8 @@ use hfs_blocks::{Blocks, Patch, Run};
 use hfs_fields::{CatKey, FileRecord, Mdb};
 use std::alloc::{AllocError, Global};
 
-/// The patch that gives a file that CreateFileId chooses, of this key and this record, a thread. The only error is want of memory.
+/// The patch that gives a thread to the file that CreateFileId chooses, with this key and this record. Fails only when out of
+/// memory.
 pub fn patch_create_file_id<B: Blocks>(
     alloc: Global,
     below: &B,
@@ -44,7 +45,8 @@ pub fn patch_create_file_id<B: Blocks>(
     close_catalog(below, runs, nodes, &at_time(mdb, now))
 }
 
-/// The patch that takes the thread of a file that DeleteFileId chooses, of this key and this record, away. The only error is want of memory.
+/// The patch that removes the thread of the file that DeleteFileId chooses, with this key and this record. Fails only when out of
+/// memory.
 pub fn patch_delete_file_id<B: Blocks>(
     alloc: Global,
     below: &B,

@@ -1,4 +1,4 @@
-//! Threads of files in a catalog's nodes: with each comes and goes bit 1 of the flags of its file's record.
+//! Threads of files in a catalog's nodes; bit 1 of the flags of the file's record is set and cleared with them.
 
 ghost use Rattle.std.specs.Prelude.{◌≡◌, ◌≤◌, true, IsTrue, OnOk};
 ghost use Rattle.hfs_fields.specs.Names.{is_item_name};
@@ -17,7 +17,7 @@ use hfs_catalog_edits::{add_thread, drop_thread, set_record};
 use hfs_fields::{CatKey, FileRecord, ThreadKind};
 use std::alloc::{AllocError, Global};
 
-/// Makes the thread of a file that has none, and sets the bit. The only error is want of memory.
+/// Adds the thread of a file that has none, and sets the bit. Fails only when out of memory.
 pub(crate) fn add_file_thread<N: NodesMut>(
     alloc: Global,
     nodes: &mut N,
@@ -51,7 +51,7 @@ pub(crate) fn add_file_thread<N: NodesMut>(
     )
 }
 
-/// Drops the thread of a file, and clears the bit. The only error is want of memory.
+/// Removes the thread of a file, and clears the bit. Fails only when out of memory.
 pub(crate) fn drop_file_thread<N: NodesMut>(
     alloc: Global,
     nodes: &mut N,

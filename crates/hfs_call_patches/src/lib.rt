@@ -1,4 +1,4 @@
-//! What calls that change a volume make of its blocks, as patches of them, out of what was chosen in its catalog.
+//! What calls that change a volume make of its blocks, as patches of them, from what was chosen in its catalog.
 #![tactic(auto)]
 
 mod catalog_patch;

@@ -16,7 +16,7 @@ use hfs_blocks::{Blocks, Patch, Run};
 use hfs_fields::Mdb;
 use std::alloc::{AllocError, Global};
 
-/// An item that comes under another folder: whether it is a folder, the folder that it leaves, and the one that it enters.
+/// An item that is moved to another folder: whether it is a folder, the folder that it leaves, and the one that it enters.
 #[derive(Clone, Copy)]
 pub struct Moving {
     pub item: Rekeying,
@@ -25,14 +25,14 @@ pub struct Moving {
     pub entered: FolderPlace,
 }
 
-/// 1 where it is so, else 0.
+/// 1 if `so`, else 0.
 fn one_if(so: bool) -> u16
     ensures { result ≡ one_if so }
 {
     if so { 1 } else { 0 }
 }
 
-/// The volume's counts where the item was moved.
+/// The volume's counts after the item was moved.
 pub fn counts_moved(mdb: &Mdb, moving: &Moving, now: u32) -> Mdb
     requires { FitsCounts mdb.now moving.now }
     ensures { result ≡ counts_moved moving.now now mdb.now }
@@ -49,7 +49,7 @@ pub fn counts_moved(mdb: &Mdb, moving: &Moving, now: u32) -> Mdb
     }
 }
 
-/// The patch that puts an item under another folder. The only error is want of memory.
+/// The patch that moves an item to another folder. Fails only when out of memory.
 pub fn patch_move<B: Blocks>(
     alloc: Global,
     below: &B,

@@ -9,14 +9,14 @@ use hfs_fields::Mdb;
 /// The ID of the root folder.
 const ROOT_ID: u32 = 2;
 
-/// How many items of the root an item of this folder is.
+/// By how much a new item of this folder changes the number of the root's items.
 fn root_item(dir: u32) -> u16
     ensures { result ≡ one_if (dir == 2) }
 {
     if dir == ROOT_ID { 1 } else { 0 }
 }
 
-/// The counts where the next ID was given, changed at `now`.
+/// The counts after the next ID was given out, changed at `now`.
 fn with_next_id(mdb: &Mdb, now: u32) -> Mdb
     requires { mdb.now.next_id ≢ 4294967295 }
     ensures { result ≡ record mdb.now { modified = now; next_id = mdb.now.next_id + 1 } }
@@ -28,7 +28,7 @@ fn with_next_id(mdb: &Mdb, now: u32) -> Mdb
     }
 }
 
-/// The counts with one more file in this folder, which has the next ID, changed at `now`.
+/// The counts with one more file in this folder, with the next ID, changed at `now`.
 pub(crate) fn with_file(mdb: &Mdb, dir: u32, now: u32) -> Mdb
     requires next_id { mdb.now.next_id ≢ 4294967295 }
     requires files { mdb.now.files + 1 < 2 ^ 32 }
@@ -42,7 +42,7 @@ pub(crate) fn with_file(mdb: &Mdb, dir: u32, now: u32) -> Mdb
     }
 }
 
-/// The counts with one more folder in this one, which has the next ID, changed at `now`.
+/// The counts with one more folder in this one, with the next ID, changed at `now`.
 pub(crate) fn with_folder(mdb: &Mdb, dir: u32, now: u32) -> Mdb
     requires next_id { mdb.now.next_id ≢ 4294967295 }
     requires folders { mdb.now.folders + 1 < 2 ^ 32 }

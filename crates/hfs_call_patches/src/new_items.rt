@@ -1,4 +1,4 @@
-//! New items: their records and their folder's, put into a catalog.
+//! Adding new items to a catalog: their records and their folder's.
 
 ghost use Rattle.std.specs.Prelude.{◌≡◌, ◌+◌, ◌<◌, ◌^◌, OnOk};
 ghost use Rattle.hfs_catalog.specs.Tree.{IsCatalogTree, cat_keys};
@@ -20,8 +20,8 @@ pub struct NewPlace {
     pub children: u16,
 }
 
-/// Gives the folder, whose record stands at `folder_at`, one more child, and puts the record of a new file of this ID into the
-/// catalog: in this order, for a record that comes may move others. At `AllocError` nothing is said of the nodes.
+/// Gives the folder, whose record is at `folder_at`, one more child, and then adds the record of a new file with this ID to the
+/// catalog. It is in this order since adding a record may move others. After `AllocError` nothing is known of the nodes.
 pub(crate) fn put_file<N: NodesMut>(
     alloc: Global,
     nodes: &mut N,
@@ -52,8 +52,9 @@ pub(crate) fn put_file<N: NodesMut>(
     Ok(())
 }
 
-/// Gives the folder, whose record stands at `folder_at`, one more child, and puts the record of a new folder of this ID and its
-/// thread's into the catalog: in this order, for a record that comes may move others. At `AllocError` nothing is said of the nodes.
+/// Gives the folder, whose record is at `folder_at`, one more child, and then adds the records of a new folder with this ID and
+/// of its thread to the catalog. It is in this order since adding a record may move others. After `AllocError` nothing is known
+/// of the nodes.
 pub(crate) fn put_folder<N: NodesMut>(
     alloc: Global,
     nodes: &mut N,

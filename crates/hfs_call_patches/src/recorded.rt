@@ -1,4 +1,4 @@
-//! A folder's or a file's record put in the place of another, and the volume's counts, as a patch of the volume's blocks.
+//! Putting a folder's or a file's record in place of another, with the volume's counts, as a patch of the volume's blocks.
 
 ghost use Rattle.std.specs.Prelude.{IsTrue, IfOk};
 ghost use Rattle.hfs_fields.specs.Names.{is_item_name};
@@ -19,8 +19,8 @@ use hfs_catalog_edits::set_record_at;
 use hfs_fields::{CatKey, Mdb};
 use std::alloc::{AllocError, Global};
 
-/// The patch that puts an item's record in the place of the one under this key, which is of its kind and stands at this
-/// place, and these counts into the master directory block. It has that block and one node. The only error is want of memory.
+/// The patch that puts an item's record in place of the one under this key, which is of its kind and is at this place, and these
+/// counts into the master directory block. It has that block and one node. Fails only when out of memory.
 pub(crate) fn patch_record<B: Blocks>(
     alloc: Global,
     below: &B,

@@ -1,4 +1,4 @@
-//! An item that comes under another key, in the catalog over a patch.
+//! Moving an item to another key, in the catalog over a patch.
 
 ghost use Rattle.std.specs.Prelude.{IfOk};
 ghost use Rattle.hfs_blocks.specs.Layers.{over};
@@ -15,7 +15,7 @@ use hfs_catalog_edits::rekey;
 use hfs_fields::CatKey;
 use std::alloc::{AllocError, Global};
 
-/// An item by its ID and its key, and the key that it is to have.
+/// An item's ID and key, and the key that it is to get.
 #[derive(Clone, Copy)]
 pub struct Rekeying {
     pub id: u32,
@@ -23,8 +23,8 @@ pub struct Rekeying {
     pub to: CatKey,
 }
 
-/// The nodes of a sound volume's catalog, over a patch in which an item stands under its other key, and its thread, if it has
-/// one, leads there. The only error is want of memory.
+/// The nodes of a sound volume's catalog, over a patch in which an item is under its other key, and its thread, if it has one,
+/// leads there. Fails only when out of memory.
 pub(crate) fn open_rekeyed<'a, B: Blocks>(
     alloc: Global,
     below: &'a B,

@@ -16,7 +16,7 @@ use hfs_blocks::{Blocks, Patch, Run};
 use hfs_fields::Mdb;
 use std::alloc::{AllocError, Global};
 
-/// The patch that puts an item that Rename chooses under its new name. The only error is want of memory.
+/// The patch that puts the item that Rename chooses under its new name. Fails only when out of memory.
 pub fn patch_rename<B: Blocks>(
     alloc: Global,
     below: &B,

@@ -1,4 +1,4 @@
-//! The patches of the calls that set what is told of an item.
+//! The patches of the calls that set an item's dates, Finder bytes or lock.
 
 ghost use Rattle.std.specs.Prelude.{◌≡◌, IfOk, take, drop};
 ghost use Rattle.hfs_model.specs.Choices.{file_to_change, to_set_f_info, to_set_cat_info};
@@ -19,7 +19,7 @@ use hfs_catalog::ItemRecord;
 use hfs_fields::{CatKey, DirRecord, FileRecord, Mdb};
 use std::alloc::{AllocError, Global};
 
-/// What SetCatInfo sets: three dates, in seconds since midnight of 1 January 1904, and all Finder bytes.
+/// What SetCatInfo sets: three dates, in seconds since midnight, 1 January 1904, and all Finder bytes.
 #[derive(Clone, Copy)]
 pub struct ItemSettings {
     pub created: u32,
@@ -49,8 +49,8 @@ pub(crate) fn at_time(mdb: &Mdb, now: u32) -> Mdb
     }
 }
 
-/// The patch that gives a file that SetFInfo chooses, of this key and this record, which stands at this
-/// place, other first Finder bytes. The only error is want of memory.
+/// The patch that gives the file that SetFInfo chooses, with this key and this record at this place, new first Finder bytes.
+/// Fails only when out of memory.
 pub fn patch_set_f_info<B: Blocks>(
     alloc: Global,
     below: &B,
@@ -85,8 +85,8 @@ pub fn patch_set_f_info<B: Blocks>(
     )
 }
 
-/// The patch that gives a file that SetCatInfo chooses, of this key and this record, which stands at this
-/// place, other dates and Finder bytes. The only error is want of memory.
+/// The patch that gives the file that SetCatInfo chooses, with this key and this record at this place, new dates and Finder
+/// bytes. Fails only when out of memory.
 pub fn patch_set_file_info<B: Blocks>(
     alloc: Global,
     below: &B,
@@ -126,8 +126,8 @@ pub fn patch_set_file_info<B: Blocks>(
     )
 }
 
-/// The patch that gives a folder that SetCatInfo chooses, of this key and this record, which stands at this
-/// place, other dates and Finder bytes. The only error is want of memory.
+/// The patch that gives the folder that SetCatInfo chooses, with this key and this record at this place, new dates and Finder
+/// bytes. Fails only when out of memory.
 pub fn patch_set_folder_info<B: Blocks>(
     alloc: Global,
     below: &B,
@@ -167,8 +167,8 @@ pub fn patch_set_folder_info<B: Blocks>(
     )
 }
 
-/// The patch that locks a file that SetFLock chooses, of this key and this record, which stands at this
-/// place, or unlocks it. The only error is want of memory.
+/// The patch that locks or unlocks the file that SetFLock chooses, with this key and this record at this place. Fails only when
+/// out of memory.
 pub fn patch_set_lock<B: Blocks>(
     alloc: Global,
     below: &B,

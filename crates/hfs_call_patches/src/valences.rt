@@ -1,4 +1,4 @@
-//! The valences of two folders, between which an item was moved.
+//! The valences of two folders between which an item was moved.
 
 ghost use Rattle.std.specs.Prelude.{◌≡◌, ◌+◌, ◌<◌, ◌≤◌, ◌^◌, OnOk};
 ghost use Rattle.hfs_catalog.specs.Tree.{IsCatalogTree, catalog_of};
@@ -10,14 +10,14 @@ use hfs_catalog_edits::set_valence;
 use hfs_fields::CatKey;
 use std::alloc::{AllocError, Global};
 
-/// A folder by its key, and the number of its children.
+/// A folder's key, and the number of its children.
 #[derive(Clone, Copy)]
 pub struct FolderPlace {
     pub key: CatKey,
     pub valence: u16,
 }
 
-/// Gives the folder that an item left one child fewer, and the one that it entered one more, and both this moment.
+/// Gives the folder that an item left one child fewer, the one that it entered one more, and both this moment.
 pub(crate) fn set_valences<N: NodesMut>(
     alloc: Global,
     nodes: &mut N,

@@ -33,7 +33,7 @@ pub fn is_file(body: &[u8]) -> bool
     body.len() == FileRecord::LENGTH && body[0] == 2
 }
 
-/// The item of a record of the catalog. None exactly where the body is neither a folder's nor a file's.
+/// The item of a record of the catalog. None exactly when the body is neither a folder's nor a file's.
 #[tactic(auto, unfolding(crate::specs::Lookups::catalog_item, hfs_fields::specs::Records::begins_dir, hfs_fields::specs::Records::begins_file))]
 pub fn item_of(key: CatKey, body: &[u8]) -> Option<CatalogItem>
     ensures { result ≡ if is_item body.now then Some (catalog_item (key, body.now)) else None }
@@ -72,7 +72,7 @@ pub(crate) fn item_with_id(key: CatKey, body: &[u8], id: u32) -> Option<CatalogI
     if own == id { Some(item) } else { None }
 }
 
-/// The ID of a folder's or a file's record. None exactly where the body is neither's. No other field is read.
+/// The ID of a folder's or a file's record. None exactly when the body is neither's. No other field is read.
 #[tactic(auto, unfolding(hfs_fields::specs::Records::dir_record_of, hfs_fields::specs::Records::file_record_of))]
 pub fn item_id(body: &[u8]) -> Option<u32>
     ensures { result ≡ if is_item body.now then Some (item_id body.now) else None }

@@ -15,7 +15,7 @@ use hfs_btree::{Nodes, Walk};
 use hfs_fields::{CatKey, Name, ThreadRecord, same_name};
 use std::alloc::{AllocError, Global};
 
-/// The item at the next pair of a walk, if it has that name and stands under that parent.
+/// The item at the next pair of a walk, if it has that name and that parent.
 fn named_at<N: Nodes>(walk: &Walk<'_, CatKey, N>, dir: u32, name: &Name) -> Option<CatalogItem>
     ensures { result ≡ named_at dir name.now (first_pair walk.now) }
 {
@@ -29,10 +29,9 @@ fn named_at<N: Nodes>(walk: &Walk<'_, CatKey, N>, dir: u32, name: &Name) -> Opti
     }
 }
 
-/// The file or folder of that name, whatever its case, in a folder. None where the folder has none, and where there is
-/// no such folder.
+/// The file or folder of that name, ignoring case, in a folder. None if the folder has none, or if there is no such folder.
 ///
-/// It reads the header node and one node of each level, and takes no memory.
+/// Reads the header node and one node of each level, and takes no memory.
 pub fn lookup<N: Nodes>(nodes: &N, dir: u32, name: &Name) -> Option<CatalogItem>
     requires { IsCatalogTree (N.nodes nodes.now) }
     ensures { result ≡ item_named (catalog_of (N.nodes nodes.now)) dir name.now }
@@ -45,7 +44,7 @@ pub fn lookup<N: Nodes>(nodes: &N, dir: u32, name: &Name) -> Option<CatalogItem>
     named_at(&walk, dir, name)
 }
 
-/// A thread's record. None exactly where the body is no thread's, or its name's length is above 31.
+/// A thread's record. None exactly when the body is no thread's, or its name's length is above 31.
 fn thread_record(body: &[u8]) -> Option<ThreadRecord>
     ensures { SomeIff result (IsReadableThread body.now) (thread_record_of body.now) }
 {
@@ -80,9 +79,9 @@ fn first_key(parent: u32) -> CatKey
     CatKey { parent, name }
 }
 
-/// The thread of an ID: it says where the folder or file with that ID stands. None where the ID has no thread.
+/// The thread of an ID, which says where the folder or file with that ID is. None if the ID has no thread.
 ///
-/// It reads the header node and one node of each level, and takes no memory.
+/// Reads the header node and one node of each level, and takes no memory.
 pub fn thread<N: Nodes>(nodes: &N, id: u32) -> Option<ThreadRecord>
     requires tree { IsCatalogTree (N.nodes nodes.now) }
     requires records { Each IsRecord (catalog_of (N.nodes nodes.now)) }
@@ -126,10 +125,10 @@ fn is_at_end<N: Nodes>(walk: &Walk<'_, CatKey, N>) -> bool
     walk.pair().is_none()
 }
 
-/// The folder or file with that ID, or None where there is none.
+/// The folder or file with that ID, or None if there is none.
 ///
-/// Where the ID has a thread it is found by it, with two look-ups. A file need not have a thread; without one all
-/// records are read. It takes no memory.
+/// If the ID has a thread, the item is found by it, with two look-ups. A file need not have a thread; without one, all records
+/// are read. Takes no memory.
 pub fn by_id<N: Nodes>(nodes: &N, id: u32) -> Option<CatalogItem>
     requires tree { IsCatalogTree (N.nodes nodes.now) }
     requires records { Each IsRecord (catalog_of (N.nodes nodes.now)) }
@@ -144,7 +143,7 @@ pub fn by_id<N: Nodes>(nodes: &N, id: u32) -> Option<CatalogItem>
     }
 }
 
-/// Whether a walk's next pair stands under that parent.
+/// Whether a walk's next pair has that parent.
 fn is_under<N: Nodes>(walk: &Walk<'_, CatKey, N>, dir: u32) -> bool
     ensures { result ≡ is_under dir (first_pair walk.now) }
 {
@@ -177,9 +176,9 @@ fn take_item<N: Nodes>(
     Ok(())
 }
 
-/// The files and folders in a folder, in name order. None are in what is no folder.
+/// The files and folders in a folder, in name order. There are none if it is no folder.
 ///
-/// It reads each leaf once, and takes memory for the answer alone.
+/// Reads each leaf once, and takes memory only for the result.
 pub fn children<N: Nodes>(
     alloc: Global,
     nodes: &N,
@@ -207,10 +206,10 @@ fn is_item_at<N: Nodes>(walk: &Walk<'_, CatKey, N>) -> bool
     }
 }
 
-/// The file or folder at that place in a folder, in name order, counted from 0. None where the folder has no more than so
-/// many, and in what is no folder.
+/// The file or folder at that place in a folder, in name order, counted from 0. None if the folder doesn't have that many, or if
+/// it is no folder.
 ///
-/// It reads each leaf up to that place once, and takes no memory.
+/// Reads each leaf up to that place once, and takes no memory.
 pub fn child_at<N: Nodes>(nodes: &N, dir: u32, place: u32) -> Option<CatalogItem>
     requires { IsCatalogTree (N.nodes nodes.now) }
     ensures { result ≡ slice_get (child_items (catalog_of (N.nodes nodes.now)) dir) place }

@@ -5,7 +5,7 @@ use hfs_fields::CatKey;
 use hfs_model::OwnedBytes;
 use std::marker::Model;
 
-/// A record of the catalog's leaves: a key, and the body under it. Contracts see the pair of the two.
+/// A record of the catalog's leaves: a key, and the body under it. Contracts see the pair of them.
 #[derive(Drop)]
 pub struct CatalogRecord {
     key: CatKey,
@@ -21,21 +21,21 @@ impl Model for CatalogRecord {
 }
 
 impl CatalogRecord {
-    /// The record of this key and this body.
+    /// The record with this key and this body.
     pub fn new(key: CatKey, body: OwnedBytes) -> Self
         ensures { result ≡ (key, body) }
     {
         CatalogRecord { key, body }
     }
 
-    /// The parent and the name under which the record stands.
+    /// The record's key, with its parent and its name.
     pub fn key(&self) -> &CatKey
         ensures { result.now ≡ self.now.0 }
     {
         &self.key
     }
 
-    /// The bytes behind the key.
+    /// The bytes after the key.
     pub fn body(&self) -> &[u8]
         ensures { result.now ≡ self.now.1 }
     {

@@ -26,8 +26,8 @@ fn next_record<N: Nodes>(
     }
 }
 
-/// The records of the leaves of a catalog that has its shape, whatever their order. Each leaf is read once. The only error
-/// is want of memory.
+/// The records of the leaves of a catalog that has its shape, whatever their order. Reads each leaf once. Fails only when out of
+/// memory.
 pub fn read_records<N: Nodes>(alloc: Global, nodes: &N) -> Result<Vec<CatalogRecord>, AllocError>
     requires structure { HasStructure cat_keys (N.nodes nodes.now) }
     requires counts { HasCounts cat_keys (N.nodes nodes.now) }

@@ -1,6 +1,6 @@
-//! The checks of mounting on the catalog that read each record once: of records, of names and of counts.
+//! The checks at mounting that read each record of the catalog once: of records, of names and of counts.
 //!
-//! A place is the number of a leaf record, from 0 on, or the number of leaf records where what fails is none of them.
+//! A place is the number of a leaf record, from 0 on, or the number of leaf records if what fails is none of them.
 ghost use Rattle.std.specs.Prelude.{◌≡◌, ◌&&◌, [], length, count_by};
 ghost use Rattle.std.specs.List.{list_all};
 ghost use Rattle.hfs_fields.specs.Records.{is_dir, is_file, begins_thread, thread_record_of};
@@ -12,7 +12,7 @@ ghost use Rattle.hfs_catalog_checks.specs.Faults.{is_record_right, record_fault,
 use hfs_catalog::{CatalogRecord, is_file, is_folder, is_item, is_thread};
 use hfs_fields::{CatKey, Mdb, ThreadRecord, is_item_name};
 
-/// Whether a record is a folder's or a file's under a name, or a thread's under an empty one.
+/// Whether a record is a folder's or a file's with a name, or a thread's without one.
 #[tactic(auto, unfolding(crate::specs::Faults::is_record_right))]
 fn is_record_right(r: &CatalogRecord) -> bool
     ensures { result ≡ is_record_right r.now }
@@ -22,7 +22,7 @@ fn is_record_right(r: &CatalogRecord) -> bool
     (is_item(body) && 1 <= length) || (is_thread(body) && length == 0)
 }
 
-/// The number of the first record that is neither a folder's or a file's under a name, nor a thread's under an empty one.
+/// The number of the first record that is neither a folder's or a file's with a name, nor a thread's without one.
 #[tactic(auto, using(hfs_scans::proofs::ScanStepLemmas::scan_stop, hfs_scans::proofs::ScanStepLemmas::scan_go, hfs_scans::proofs::ScanStepLemmas::scan_end), unfolding(crate::specs::Faults::record_fault))]
 pub fn record_fault(catalog: &[CatalogRecord]) -> Option<usize>
     ensures { result ≡ record_fault catalog.now }
@@ -45,7 +45,7 @@ fn is_thread_name_right(body: &[u8]) -> bool
     }
 }
 
-/// Whether an item's key and a thread's body have item names.
+/// Whether an item's key, or a thread's body, has an item name.
 #[tactic(auto, unfolding(crate::specs::Faults::is_name_right))]
 fn is_name_right(r: &CatalogRecord) -> bool
     ensures { result ≡ is_name_right r.now }
@@ -81,7 +81,7 @@ fn are_index_key_names(index_keys: &[CatKey]) -> bool
     index_keys.iter().all(|key| is_index_key_name(key))
 }
 
-/// The number of the first record with a wrong name; the number of records where the name of an index key is wrong.
+/// The number of the first record with a wrong name; the number of records if the name of an index key is wrong.
 #[tactic(auto, unfolding(crate::specs::Faults::name_fault))]
 pub fn name_fault(index_keys: &[CatKey], catalog: &[CatalogRecord]) -> Option<usize>
     ensures { result ≡ name_fault index_keys.now catalog.now }
@@ -98,7 +98,7 @@ pub fn name_fault(index_keys: &[CatKey], catalog: &[CatalogRecord]) -> Option<us
     }
 }
 
-/// How many files stand under this parent.
+/// How many files have this parent.
 pub fn count_files_in(catalog: &[CatalogRecord], dir: u32) -> usize
     ensures { result ≡ count_by (is_file_in dir) catalog.now }
 {
@@ -108,7 +108,7 @@ pub fn count_files_in(catalog: &[CatalogRecord], dir: u32) -> usize
         .count()
 }
 
-/// How many folders stand under this parent.
+/// How many folders have this parent.
 pub fn count_folders_in(catalog: &[CatalogRecord], dir: u32) -> usize
     ensures { result ≡ count_by (is_folder_in dir) catalog.now }
 {
@@ -125,15 +125,15 @@ pub fn count_files(catalog: &[CatalogRecord]) -> usize
     catalog.iter().filter(|r| is_file(r.body())).count()
 }
 
-/// How many folders there are, with the root.
+/// How many folders there are, including the root.
 pub fn count_folders(catalog: &[CatalogRecord]) -> usize
     ensures { result ≡ count_by (λ r. is_dir r.1) catalog.now }
 {
     catalog.iter().filter(|r| is_folder(r.body())).count()
 }
 
-/// The number of the first count of the master directory block that is wrong: 1 the root's files (drNmFls), 2 the
-/// root's folders (drNmRtDirs), 3 all files (drFilCnt), 4 all folders but the root (drDirCnt).
+/// The number of the first count of the master directory block that is wrong: 1 the root's files (drNmFls), 2 the root's folders
+/// (drNmRtDirs), 3 all files (drFilCnt), 4 all folders except the root (drDirCnt).
 #[tactic(auto, unfolding(crate::specs::Faults::count_fault, hfs_catalog::specs::Sound::counts_of))]
 pub fn count_fault(mdb: &Mdb, catalog: &[CatalogRecord]) -> Option<usize>
     ensures { result ≡ count_fault mdb.now catalog.now }

@@ -11,7 +11,8 @@ ghost use Rattle.hfs_catalog_checks.specs.Faults.{implies, unless, is_id_right, 
 use crate::index::IndexedCatalog;
 use hfs_catalog::{CatalogRecord, is_folder, item_id};
 
-/// Whether an ID is right for an item: 2 for the root, a folder under 1, and for others one that was given out, from 16 on.
+/// Whether an ID is right for an item: 2 for the root, which is a folder under 1, and for others one that was given out, from 16
+/// on.
 #[tactic(auto, unfolding(crate::specs::Faults::is_id_right))]
 fn is_id_right(next: u32, id: u32, r: &CatalogRecord) -> bool
     requires { item_id r.now.1 ≡ id }
@@ -22,7 +23,7 @@ fn is_id_right(next: u32, id: u32, r: &CatalogRecord) -> bool
     is_root || is_given
 }
 
-/// Whether record `i`, if it is a file's or a folder's, has an ID that is right for it, and that no record before has.
+/// Whether record `i`, if it is a file's or a folder's, has an ID that is right for it and that no earlier record has.
 fn is_item_id_right(catalog: &IndexedCatalog<'_>, next: u32, i: usize, r: &CatalogRecord) -> bool
     ensures { result ≡ is_id_right_at next catalog.now i r.now }
 {
@@ -45,7 +46,7 @@ fn first_wrong_id(catalog: &IndexedCatalog<'_>, next: u32) -> Option<usize>
     None
 }
 
-/// The number of records, where no record has the root's ID.
+/// The number of records, if no record has the root's ID.
 fn missing_root(catalog: &IndexedCatalog<'_>) -> Option<usize>
     ensures { result ≡ unless (list_any (has_id 2) catalog.now) (length catalog.now) }
 {
@@ -55,13 +56,13 @@ fn missing_root(catalog: &IndexedCatalog<'_>) -> Option<usize>
     }
 }
 
-/// The number of the first record, from 0 on, of an item with a wrong ID; the number of records where none is the root's.
-/// None where the IDs are sound.
+/// The number of the first record, from 0 on, of an item with a wrong ID; the number of records if none is the root's. None if
+/// the IDs are sound.
 ///
-/// The root is a folder with the ID 2 under 1. Any other item has an ID from 16 on and below `next`, the volume's next ID
-/// (drNxtCNID), and does not stand under 1. Of two records with one ID the later is wrong.
+/// The root is a folder with the ID 2 under 1. Any other item has an ID from 16 on that is below `next`, the volume's next ID
+/// (drNxtCNID), and its parent isn't 1. Of two records with the same ID, the later is wrong.
 ///
-/// It reads each record once, and takes no memory.
+/// Reads each record once, and takes no memory.
 #[tactic(auto, unfolding(crate::specs::Faults::id_fault))]
 pub fn id_fault(next: u32, catalog: &IndexedCatalog<'_>) -> Option<usize>
     ensures { result ≡ id_fault next catalog.now }

@@ -7,7 +7,7 @@ use std::alloc::{AllocError, Global};
 use std::collections::BTreeSet;
 use std::marker::Model;
 
-/// A set of IDs, kept in their order and not by hashes, since an image chooses its IDs. Contracts see their list.
+/// A set of IDs, kept in order and without hashing, since an image chooses its IDs. Contracts see their list.
 #[derive(Drop)]
 pub(crate) struct IdSet {
     ids: BTreeSet<u32>,
@@ -38,7 +38,7 @@ impl IdSet {
         self.ids.contains(&id)
     }
 
-    /// Puts an ID into the set. `Err` only where memory is wanting.
+    /// Adds an ID to the set. `Err` only when out of memory.
     pub(crate) fn add(&mut self, id: u32) -> Result<(), AllocError>
         ensures { OnOk result (AddsNumber id self.old self.new) }
     {

@@ -10,7 +10,7 @@ use hfs_catalog::{CatalogRecord, item_id};
 use std::alloc::{AllocError, Global};
 use std::marker::Model;
 
-/// Notes the place of a record under its ID, if it is a file's or a folder's, and the first with the ID.
+/// Notes the place of a record under its ID, if it is a file's or a folder's and the first with that ID.
 fn note_item(places: &mut Numbers, i: usize, r: &CatalogRecord) -> Result<(), AllocError>
     ensures { OnOk result (NotesItem places.old places.new i r.now) }
 {
@@ -20,7 +20,7 @@ fn note_item(places: &mut Numbers, i: usize, r: &CatalogRecord) -> Result<(), Al
     Ok(())
 }
 
-/// The place of each file's and folder's record by its ID; of two with one ID, that of the first.
+/// The place of each file's and folder's record by its ID; of two with the same ID, that of the first.
 fn item_places(alloc: Global, records: &[CatalogRecord]) -> Result<Numbers, AllocError>
     ensures { IfOk result (λ places. (id : ℕ) → number_of places id ≡ item_place records.now id) }
 {
@@ -51,8 +51,8 @@ impl<'a> Model for IndexedCatalog<'a> {
 }
 
 impl<'a> IndexedCatalog<'a> {
-    /// The catalog with these records. It reads each once, and takes memory for an index of the items. `Err` only where
-    /// memory is wanting.
+    /// The catalog with these records. Reads each once, and takes memory for an index of the items. `Err` only when out of
+    /// memory.
     pub fn of(alloc: Global, records: &'a [CatalogRecord]) -> Result<IndexedCatalog<'a>, AllocError>
         ensures { IfOk result (λ catalog. catalog ≡ records.now) }
     {
@@ -60,7 +60,7 @@ impl<'a> IndexedCatalog<'a> {
         Ok(IndexedCatalog { records, places })
     }
 
-    /// The records, in their order.
+    /// The records, in order.
     pub fn records(&self) -> &'a [CatalogRecord]
         ensures { result.now ≡ self.now }
     {
@@ -74,14 +74,14 @@ impl<'a> IndexedCatalog<'a> {
         self.records.len()
     }
 
-    /// The place of the first record of a file or a folder with that ID, from 0 on. None where there is none.
+    /// The place of the first record of a file or a folder with that ID, from 0 on. None if there is none.
     pub(crate) fn place(&self, id: u32) -> Option<usize>
         ensures { result ≡ item_place self.now id }
     {
         self.places.get(id)
     }
 
-    /// The first record of a file or a folder with that ID. None where there is none.
+    /// The first record of a file or a folder with that ID. None if there is none.
     pub(crate) fn item(&self, id: u32) -> Option<&CatalogRecord>
         ensures { option_copied result ≡ item_with self.now id }
     {

@@ -1,4 +1,4 @@
-//! What no fault of a check says, each as the contract of a function that does nothing.
+//! What a check without a fault implies, each law as the contract of a function that does nothing.
 ghost use Rattle.hfs_catalog_checks.specs.Laws.{ReachesSoon};
 
 /// A chain of parents that reaches the root at all does so in no more steps than there are records.

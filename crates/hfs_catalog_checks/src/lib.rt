@@ -1,4 +1,4 @@
-//! The checks of mounting on the records of a catalog, each as its first fault, and what no fault says.
+//! The checks at mounting on the records of a catalog, each as its first fault, and what it implies that there is none.
 #![tactic(auto)]
 
 mod checks;

@@ -1,4 +1,4 @@
-//! Numbers that are found by an ID.
+//! Numbers by IDs.
 
 ghost use Rattle.std.specs.Prelude.{◌≡◌, ◌+◌, ◌<◌, ◌^◌, [], IfOk, OnOk};
 ghost use Rattle.hfs_catalog_checks.specs.Indexes.{number_of, count_of, SetsNumber, NotesFirst, AddsCount};
@@ -7,8 +7,8 @@ use std::alloc::{AllocError, Global};
 use std::collections::BTreeMap;
 use std::marker::Model;
 
-/// Numbers, each with an ID: places of records, or counts. They are kept in the order of the IDs and not by hashes, since
-/// an image chooses its IDs, and could choose them so that their hashes meet.
+/// Numbers, each with an ID: places of records, or counts. They are kept in the order of the IDs and without hashing, since an
+/// image chooses its IDs, and could choose them so that their hashes collide.
 #[derive(Drop)]
 pub struct Numbers {
     numbers: BTreeMap<u32, usize>,
@@ -23,7 +23,7 @@ impl Model for Numbers {
 }
 
 impl Numbers {
-    /// No number for any ID. Takes no memory.
+    /// No numbers. Takes no memory.
     pub(crate) fn new(alloc: Global) -> Numbers
         ensures { result ≡ [] }
     {
@@ -39,7 +39,7 @@ impl Numbers {
         self.numbers.get(&id).copied()
     }
 
-    /// Gives an ID this number, in place of the one that it has, which is the answer.
+    /// Gives an ID this number, and returns the one that it had, if any.
     fn replace(&mut self, id: u32, number: usize) -> Result<Option<usize>, AllocError>
         ensures put { OnOk result (SetsNumber id number self.old self.new) }
         ensures was { IfOk result (λ was. was ≡ number_of self.old id) }
@@ -48,7 +48,7 @@ impl Numbers {
         Ok(was)
     }
 
-    /// Gives an ID this number, in place of the one that it has.
+    /// Gives an ID this number, in place of the one that it may have.
     pub(crate) fn put(&mut self, id: u32, number: usize) -> Result<(), AllocError>
         ensures { OnOk result (SetsNumber id number self.old self.new) }
     {
@@ -66,14 +66,14 @@ impl Numbers {
         }
     }
 
-    /// The number of an ID, 0 if it has none.
+    /// The number of an ID; 0 if it has none.
     pub fn count(&self, id: u32) -> usize
         ensures { result ≡ count_of self.now id }
     {
         self.get(id).unwrap_or(0)
     }
 
-    /// Adds so many to the number of an ID.
+    /// Adds `more` to the number of an ID.
     pub(crate) fn count_more(&mut self, id: u32, more: usize) -> Result<(), AllocError>
         requires { count_of self.old id + more < 2 ^ 64 }
         ensures { OnOk result (AddsCount id more self.old self.new) }

@@ -1,4 +1,4 @@
-//! The check of mounting on the order of a catalog's records.
+//! The check at mounting on the order of a catalog's records.
 
 ghost use Rattle.std.specs.Prelude.{◌≡◌, []};
 ghost use Rattle.std.specs.Ordering.{is_lt};
@@ -16,8 +16,8 @@ fn is_below(r: &CatalogRecord, other: &CatalogRecord) -> bool
     r.key().compare(other.key()) == Ordering::Less
 }
 
-/// The number of the first record whose key is not above all before it. Each is compared with the last before it alone:
-/// where those before are in order, the last is above the others.
+/// The number of the first record whose key is not above all before it. Each is only compared with the last one before it, which
+/// is above the others if those are in order.
 pub(crate) fn first_not_above(catalog: &[CatalogRecord]) -> Option<usize>
     ensures { result ≡ first_failing is_above [] catalog.now }
 {

@@ -1,4 +1,4 @@
-//! The check of mounting on the parents of a catalog's items.
+//! The check at mounting on the parents of a catalog's items.
 
 ghost use Rattle.std.specs.Prelude.{◌≡◌, ◌||◌, ◌==◌, true, [], length, IfOk, OnOk};
 ghost use Rattle.hfs_scans.specs.First.{first_failing};
@@ -22,15 +22,15 @@ fn is_folder_id(catalog: &IndexedCatalog<'_>, id: u32) -> bool
     }
 }
 
-/// Whether it is known that the chain of parents from an ID on reaches the root.
+/// Whether the chain of parents from an ID on is known to reach the root.
 fn is_known(rooted: &IdSet, id: u32) -> bool
     ensures { result ≡ ((id == 2) || has_number rooted.now id) }
 {
     id == 2 || rooted.has(id)
 }
 
-/// Whether the chain of parents from an ID on reaches the root. It is followed up to the first ID of which that is known,
-/// and no further than there are records: a chain with more steps goes round in a ring.
+/// Whether the chain of parents from an ID on reaches the root. It is followed up to the first ID for which that is known, and
+/// for no more steps than there are records: a longer chain goes round in a ring.
 fn reaches_root(catalog: &IndexedCatalog<'_>, rooted: &IdSet, from: u32) -> bool
     requires { AreRooted rooted.now catalog.now }
     ensures { result ≡ reaches_root catalog.now (length catalog.now) from }
@@ -48,7 +48,7 @@ fn reaches_root(catalog: &IndexedCatalog<'_>, rooted: &IdSet, from: u32) -> bool
     at == 2
 }
 
-/// Notes the IDs of a chain of parents that reaches the root, up to the first of which that is known.
+/// Notes the IDs of a chain of parents that reaches the root, up to the first for which that is known.
 fn note_chain(catalog: &IndexedCatalog<'_>, rooted: &mut IdSet, from: u32) -> Result<(), AllocError>
     requires rooted { AreRooted rooted.old catalog.now }
     requires reaches { ReachesRoot catalog.now from }
@@ -68,7 +68,7 @@ fn note_chain(catalog: &IndexedCatalog<'_>, rooted: &mut IdSet, from: u32) -> Re
     Ok(())
 }
 
-/// Whether it is known of the parent of an ID's item that its chain of parents reaches the root.
+/// Whether the chain of the parent of an ID's item is known to reach the root.
 fn is_parent_known(catalog: &IndexedCatalog<'_>, rooted: &IdSet, id: u32) -> bool
     requires { AreRooted rooted.now catalog.now }
     ensures { result ≡ true → ReachesRoot catalog.now id }
@@ -79,8 +79,8 @@ fn is_parent_known(catalog: &IndexedCatalog<'_>, rooted: &IdSet, id: u32) -> boo
     }
 }
 
-/// Whether a record, if it is an item's other than the root, has a folder as its parent and a chain of parents that
-/// reaches the root. Of the items of a folder whose own chain is known no chain is followed or noted.
+/// Whether a record, if it is an item's other than the root, has a folder as its parent and a chain of parents that reaches the
+/// root. For the items of a folder whose own chain is known, no chain is followed or noted.
 fn is_parent_right(
     catalog: &IndexedCatalog<'_>,
     rooted: &mut IdSet,
@@ -109,8 +109,8 @@ fn is_parent_right(
     Ok(true)
 }
 
-/// The number of the first record of an item, other than the root, whose parent is no folder, or whose chain of parents
-/// does not reach the root. What one chain shows is known for the next. `Err` only where memory is wanting.
+/// The number of the first record of an item, other than the root, whose parent is no folder, or whose chain of parents does not
+/// reach the root. What one chain shows is known for the next. `Err` only when out of memory.
 pub(crate) fn first_wrong_parent(
     alloc: Global,
     catalog: &IndexedCatalog<'_>,

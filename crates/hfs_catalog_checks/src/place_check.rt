@@ -1,4 +1,4 @@
-//! The check of mounting on the order, the parents and the threads of a catalog.
+//! The check at mounting on the order, the parents and the threads of a catalog.
 
 ghost use Rattle.std.specs.Prelude.{◌≡◌, IfOk};
 ghost use Rattle.hfs_catalog_checks.specs.Indexes.{earlier};
@@ -35,16 +35,15 @@ fn first_misplaced(alloc: Global, catalog: &IndexedCatalog<'_>) -> Result<Option
     Ok(earlier(folders, astray))
 }
 
-/// The number of the first record, from 0 on, that is out of order, an item's whose parent is no folder or whose chain of
-/// parents does not reach the root, a folder's without a thread, or a thread's that does not lead to its item. Where no
-/// record is, the number of records, unless the keys of the index nodes are `in_order`. None where all are right.
+/// The number of the first record, from 0 on, that is out of order; or an item's whose parent is no folder or whose chain of
+/// parents does not reach the root; or a folder's without a thread; or a thread's that does not lead to its item. If there is
+/// none, the number of records, unless the keys of the index nodes are `in_order`. None if all are right.
 ///
-/// Keys rise by the parent's ID and then by name without regard to case ("Inside Macintosh: Files", chapter 2, "Catalog
-/// file keys"). A thread is of its item's kind, names its parent, and has its name without regard to case. A file need
-/// not have a thread.
+/// Keys rise by the parent's ID and then by name, ignoring case ("Inside Macintosh: Files", chapter 2, "Catalog file keys"). A
+/// thread is of its item's kind, and has its parent and, ignoring case, its name. A file need not have a thread.
 ///
-/// It goes through the records a fixed number of times, and follows each part of a chain of parents at most twice. It takes
-/// memory for a set of threads and a set of chains. `Err` only where memory is wanting.
+/// Goes through the records a fixed number of times, and follows each part of a chain of parents at most twice. Takes memory for
+/// a set of threads and a set of chains. `Err` only when out of memory.
 #[tactic(auto, unfolding(crate::specs::Faults::place_fault))]
 pub fn place_fault(
     alloc: Global,

@@ -1,4 +1,4 @@
-//! The check of mounting on the threads of a catalog.
+//! The check at mounting on the threads of a catalog.
 
 ghost use Rattle.std.specs.Prelude.{◌≡◌, ℕ, [], length, IfOk, OnOk};
 ghost use Rattle.hfs_fields.specs.Keys.{name_at};
@@ -64,7 +64,7 @@ fn first_unthreaded_by(ids: &IdSet, catalog: &[CatalogRecord]) -> Option<usize>
     None
 }
 
-/// The number of the first folder's record without a thread. `Err` only where memory is wanting.
+/// The number of the first folder's record without a thread. `Err` only when out of memory.
 pub(crate) fn first_unthreaded(
     alloc: Global,
     catalog: &[CatalogRecord],
@@ -98,7 +98,7 @@ fn name_in_thread(body: &[u8]) -> &[u8]
     }
 }
 
-/// Whether a thread is of an item's kind, and says its parent and the same name.
+/// Whether a thread is of an item's kind, and has its parent and the same name.
 #[tactic(auto, unfolding(crate::specs::Faults::leads_to, hfs_fields::specs::Records::thread_record_of))]
 fn leads_to(thread: &CatalogRecord, item: &CatalogRecord) -> bool
     requires { length thread.now.1 ≡ 46 }

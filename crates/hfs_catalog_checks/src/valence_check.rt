@@ -1,4 +1,4 @@
-//! The check of mounting on the valences of folders.
+//! The check at mounting on the valences of folders.
 
 ghost use Rattle.std.specs.Prelude.{◌≡◌, ℕ, ◌+◌, ◌<◌, ◌^◌, [], IfOk, OnOk};
 ghost use Rattle.hfs_scans.specs.First.{first_failing};
@@ -11,16 +11,16 @@ use hfs_catalog::{CatalogRecord, is_folder, is_item};
 use hfs_fields::DirRecord;
 use std::alloc::{AllocError, Global};
 
-/// Children of one parent whose records stand together, and that are not counted with the others yet.
+/// Children of one parent whose records come one after another, and that haven't been counted with the others yet.
 #[derive(Clone, Copy)]
 struct Siblings {
     /// The ID of their parent.
     parent: u32,
-    /// How many they are.
+    /// How many there are.
     count: usize,
 }
 
-/// Counts a record under its parent, if it is a file's or a folder's: with its siblings, where it stands behind them.
+/// Counts a record under its parent, if it is a file's or a folder's: with its siblings, if it comes after them.
 fn count_child(
     counts: &mut Numbers,
     siblings: Siblings,
@@ -43,8 +43,8 @@ fn count_child(
     Ok(Siblings { parent, count: 1 })
 }
 
-/// How many files and folders have each ID as their parent. A count is looked up once for children that stand together.
-/// `Err` only where memory is wanting.
+/// How many files and folders have each ID as their parent. A count is looked up only once for children that come one after
+/// another. `Err` only when out of memory.
 pub fn child_counts(alloc: Global, catalog: &[CatalogRecord]) -> Result<Numbers, AllocError>
     ensures { IfOk result (λ counts. (id : ℕ) → count_of counts id ≡ valence_of catalog.now id) }
 {
@@ -88,10 +88,10 @@ fn first_wrong_valence(counts: &Numbers, catalog: &[CatalogRecord]) -> Option<us
     None
 }
 
-/// The number of the first record, from 0 on, of a folder whose valence (dirVal) is not the number of the files' and
-/// folders' records under its ID. None where each valence is right.
+/// The number of the first record, from 0 on, of a folder whose valence (dirVal) is not the number of the files' and folders'
+/// records under its ID. None if all valences are right.
 ///
-/// It reads each record twice, and takes memory for a count for each parent. `Err` only where memory is wanting.
+/// Reads each record twice, and takes memory for a count for each parent. `Err` only when out of memory.
 #[tactic(auto, unfolding(crate::specs::Faults::valence_fault))]
 pub fn valence_fault(alloc: Global, catalog: &[CatalogRecord]) -> Result<Option<usize>, AllocError>
     ensures { IfOk result (λ fault. fault ≡ valence_fault catalog.now) }

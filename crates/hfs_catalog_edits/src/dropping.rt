@@ -1,4 +1,4 @@
-//! Items that go.
+//! Removing items.
 ghost use Rattle.std.specs.Prelude.{◌≡◌, OnOk};
 ghost use Rattle.hfs_scans.specs.Each.{Each};
 ghost use Rattle.hfs_catalog.specs.Sound.{IsRecord};
@@ -12,9 +12,9 @@ use hfs_btree_edits::NodesMut;
 use hfs_fields::CatKey;
 use std::alloc::{AllocError, Global};
 
-/// Drops the item under a key, and the thread of its ID, which is given, if it has one.
+/// Removes the item under a key, and the thread of its ID, if it has one; the ID must be the item's.
 ///
-/// It takes no free nodes. At `AllocError` nothing is said of the nodes.
+/// Takes no free nodes. After `AllocError` nothing is known of the nodes.
 pub fn drop_item<N: NodesMut>(
     alloc: Global,
     nodes: &mut N,

@@ -4,7 +4,7 @@ ghost use Rattle.hfs_catalog.specs.Lookups.{first_key};
 
 use hfs_fields::{CatKey, Name};
 
-/// The key under which the thread of an ID stands: the ID and an empty name.
+/// The key of an ID's thread: the ID and an empty name.
 pub fn thread_key(id: u32) -> CatKey
     ensures { result ≡ first_key id }
 {

@@ -1,4 +1,4 @@
-//! Edits of the catalog: items and threads that come, go, change and move.
+//! Edits of the catalog: items and threads that are added, removed, changed and moved.
 #![tactic(auto)]
 
 mod bodies;

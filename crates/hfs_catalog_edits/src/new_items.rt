@@ -1,4 +1,4 @@
-//! Items that come.
+//! Adding items.
 ghost use Rattle.std.specs.Prelude.{◌≡◌, ◌≤◌, OnOk, length};
 ghost use Rattle.hfs_fields.specs.RecordForms.{IsDirRecordValue, IsFileRecordValue};
 ghost use Rattle.hfs_catalog.specs.Tree.{IsCatalogTree, catalog_of};
@@ -16,7 +16,7 @@ use std::alloc::{AllocError, Global};
 
 /// Adds a file to a folder that has no item of this name.
 ///
-/// It takes at most depth + 1 free nodes. At `AllocError` nothing is said of the nodes.
+/// Takes at most depth + 1 free nodes. After `AllocError` nothing is known of the nodes.
 pub fn add_file<N: NodesMut>(
     alloc: Global,
     nodes: &mut N,
@@ -68,7 +68,7 @@ fn add_folder<N: NodesMut>(
 
 /// Adds a folder to a folder that has no item of this name, and its thread. Its ID has no thread yet.
 ///
-/// It takes at most 2 × depth + 3 free nodes. At `AllocError` nothing is said of the nodes.
+/// Takes at most 2 × depth + 3 free nodes. After `AllocError` nothing is known of the nodes.
 pub fn add_dir<N: NodesMut>(
     alloc: Global,
     nodes: &mut N,

@@ -1,4 +1,4 @@
-//! One record of the catalog that comes, goes, or stands in the place of another.
+//! Adding, removing or replacing one record of the catalog.
 ghost use Rattle.std.specs.Prelude.{◌≡◌, ◌≤◌, None, OnOk, IsTrue, length};
 ghost use Rattle.hfs_fields.specs.Keys.{cat_cmp, is_cat_body_len};
 ghost use Rattle.hfs_btree.specs.Pairs.{lookup};
@@ -17,7 +17,7 @@ use hfs_btree_removal::remove;
 use hfs_fields::CatKey;
 use std::alloc::{AllocError, Global};
 
-/// Puts a record under a key that no record has.
+/// Adds a record under a key that no record has.
 pub(crate) fn put<N: NodesMut>(
     alloc: Global,
     nodes: &mut N,
@@ -37,7 +37,7 @@ pub(crate) fn put<N: NodesMut>(
     insert(alloc, nodes, key, body)
 }
 
-/// Takes the record under a key away.
+/// Removes the record under a key.
 pub(crate) fn take<N: NodesMut>(
     alloc: Global,
     nodes: &mut N,
@@ -51,7 +51,7 @@ pub(crate) fn take<N: NodesMut>(
     remove(alloc, nodes, key)
 }
 
-/// Puts a record in the place of the one under its key, whose body is no shorter. The key is spelled as it is given.
+/// Puts a record in place of the one under its key, whose body is no shorter. The key is spelled as given.
 pub(crate) fn set<N: NodesMut>(
     alloc: Global,
     nodes: &mut N,
@@ -67,8 +67,8 @@ pub(crate) fn set<N: NodesMut>(
     replace(alloc, nodes, key, body)
 }
 
-/// Puts a record in the place of the one under its key, whose body is no shorter, and whose place was found. The key is spelled as it
-/// is given.
+/// Puts a record in place of the one under its key, whose body is no shorter, and whose place was found. The key is spelled as
+/// given.
 pub(crate) fn set_at<N: NodesMut>(
     alloc: Global,
     nodes: &mut N,

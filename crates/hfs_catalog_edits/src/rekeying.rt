@@ -1,4 +1,4 @@
-//! Items that come under another key.
+//! Moving items to another key.
 ghost use Rattle.std.specs.Prelude.{◌≡◌, ◌≤◌, false, OnOk, length};
 ghost use Rattle.std.specs.Ordering.{is_eq};
 ghost use Rattle.hfs_fields.specs.Keys.{cat_cmp};
@@ -17,7 +17,7 @@ use hfs_btree_edits::NodesMut;
 use hfs_fields::CatKey;
 use std::alloc::{AllocError, Global};
 
-/// Puts the record of an item under another key; where the keys are equal in order, in its place.
+/// Moves the record of an item to another key; if the keys are equal in order, in place.
 fn move_record<N: NodesMut>(
     alloc: Global,
     nodes: &mut N,
@@ -46,10 +46,10 @@ fn move_record<N: NodesMut>(
     put(alloc, nodes, to, &body)
 }
 
-/// Puts the item under one key, whose ID is given, under another one, with its body as it was; its thread, if it has one, then
+/// Moves the item under one key, which has this ID, to another key, with its body as it was; its thread, if it has one, then
 /// leads there.
 ///
-/// Where the keys are equal in order it takes no free nodes, else at most depth + 1. At `AllocError` nothing is said of the
+/// If the keys are equal in order it takes no free nodes, otherwise at most depth + 1. After `AllocError` nothing is known of the
 /// nodes.
 pub fn rekey<N: NodesMut>(
     alloc: Global,

@@ -1,4 +1,4 @@
-//! Records of items that are written anew in their place.
+//! Rewriting records of items in place.
 ghost use Rattle.std.specs.Prelude.{◌≡◌, OnOk};
 ghost use Rattle.hfs_catalog.specs.Tree.{IsCatalogTree, cat_keys};
 ghost use Rattle.hfs_btree_edits.specs.Edits.{Edits};
@@ -14,10 +14,10 @@ use hfs_catalog::ItemRecord;
 use hfs_fields::{CatKey, DirRecord};
 use std::alloc::{AllocError, Global};
 
-/// Writes a folder's or a file's record under its key, where there is one of the same kind, whose place was found. No node comes or
-/// goes.
+/// Writes a folder's or a file's record under its key, where there is one of the same kind, whose place was found. No node is
+/// added or removed.
 ///
-/// At `AllocError` nothing is said of the nodes.
+/// After `AllocError` nothing is known of the nodes.
 pub fn set_record_at<N: NodesMut>(
     alloc: Global,
     nodes: &mut N,
@@ -38,9 +38,9 @@ pub fn set_record_at<N: NodesMut>(
     }
 }
 
-/// Writes a folder's or a file's record under its key, where there is one of the same kind. No node comes or goes.
+/// Writes a folder's or a file's record under its key, where there is one of the same kind. No node is added or removed.
 ///
-/// At `AllocError` nothing is said of the nodes.
+/// After `AllocError` nothing is known of the nodes.
 pub fn set_record<N: NodesMut>(
     alloc: Global,
     nodes: &mut N,
@@ -57,10 +57,10 @@ pub fn set_record<N: NodesMut>(
     set_record_at(alloc, nodes, key, item, &place)
 }
 
-/// Gives the folder under a key, the place of whose record was found, this valence, and `now` as the moment of its last change. All
-/// else of its record stays.
+/// Gives the folder under a key, whose record's place was found, this valence, and `now` as the moment of its last change. The
+/// rest of its record stays.
 ///
-/// At `AllocError` nothing is said of the nodes.
+/// After `AllocError` nothing is known of the nodes.
 pub fn set_valence_at<N: NodesMut>(
     alloc: Global,
     nodes: &mut N,
@@ -89,9 +89,9 @@ pub fn set_valence_at<N: NodesMut>(
     set_at(alloc, nodes, key, &folder_body(&changed), place)
 }
 
-/// Gives the folder under a key this valence, and `now` as the moment of its last change. All else of its record stays.
+/// Gives the folder under a key this valence, and `now` as the moment of its last change. The rest of its record stays.
 ///
-/// At `AllocError` nothing is said of the nodes.
+/// After `AllocError` nothing is known of the nodes.
 pub fn set_valence<N: NodesMut>(
     alloc: Global,
     nodes: &mut N,

@@ -1,4 +1,4 @@
-//! Threads that come, go, and lead elsewhere.
+//! Adding, removing and redirecting threads.
 ghost use Rattle.std.specs.Prelude.{◌≡◌, ◌≤◌, None, OnOk};
 ghost use Rattle.hfs_fields.specs.Keys.{cat_cmp};
 ghost use Rattle.hfs_fields.specs.Records.{new_thread};
@@ -22,9 +22,9 @@ use hfs_btree_edits::NodesMut;
 use hfs_fields::{CatKey, Name, ThreadKind, ThreadRecord};
 use std::alloc::{AllocError, Global};
 
-/// Makes the thread of an ID that has none: it says that the item with this ID is a child of `dir` under this name.
+/// Adds the thread of an ID that has none: it says that the item with this ID is a child of `dir` with this name.
 ///
-/// It takes at most depth + 1 free nodes. At `AllocError` nothing is said of the nodes.
+/// Takes at most depth + 1 free nodes. After `AllocError` nothing is known of the nodes.
 pub fn add_thread<N: NodesMut>(
     alloc: Global,
     nodes: &mut N,
@@ -47,9 +47,9 @@ pub fn add_thread<N: NodesMut>(
     put(alloc, nodes, &thread_key(id), &thread_body(&thread))
 }
 
-/// Drops the thread of an ID, if it has one.
+/// Removes the thread of an ID, if it has one.
 ///
-/// At `AllocError` nothing is said of the nodes.
+/// After `AllocError` nothing is known of the nodes.
 pub fn drop_thread<N: NodesMut>(alloc: Global, nodes: &mut N, id: u32) -> Result<(), AllocError>
     requires tree { IsCatalogTree (N.nodes nodes.old) }
     requires records { Each IsRecord (catalog_of (N.nodes nodes.old)) }
@@ -63,7 +63,7 @@ pub fn drop_thread<N: NodesMut>(alloc: Global, nodes: &mut N, id: u32) -> Result
     }
 }
 
-/// Lets the thread of an ID, if it has one, lead to a key. Its kind and its reserved bytes stay.
+/// Makes the thread of an ID, if it has one, lead to a key. Its kind and its reserved bytes stay.
 pub(crate) fn turn_thread<N: NodesMut>(
     alloc: Global,
     nodes: &mut N,

@@ -16,12 +16,12 @@ use hfs_blocks::{Blocks, Patch, Run};
 use std::alloc::{AllocError, Global};
 use std::marker::Model;
 
-/// The changed blocks of an image, to be laid over it: blocks that are kept, and blocks of zeros, which take a flag each and no bytes.
-/// Contracts see all of them by their numbers.
+/// The changed blocks of an image, to be laid over it: blocks that are kept, and blocks of zeros, each of which takes a flag and
+/// no bytes. Contracts see all of them by their numbers.
 #[derive(Drop)]
 pub struct ChangedBlocks {
     kept: Patch,
-    /// A flag for each block of the image that is zeros, unless it is kept; none where no block is zeros.
+    /// A flag for each block of the image that is zeros, unless it is kept; none if no block is zeros.
     flags: Vec<bool>,
     /// What a block of zeros is.
     blank: [u8; 512],
@@ -51,7 +51,7 @@ impl ChangedBlocks {
         }
     }
 
-    /// The blocks of a patch, each kept. Takes no memory.
+    /// The blocks of a patch, each of them kept. Takes no memory.
     pub fn of_patch(alloc: Global, patch: Patch) -> ChangedBlocks
         ensures { result ≡ patch }
     {
@@ -88,8 +88,8 @@ impl ChangedBlocks {
         }
     }
 
-    /// Puts block `n` among the changed ones, in place of the one that is there: one of zeros as a flag, unless it is kept already. At
-    /// an error the changed blocks are as they were.
+    /// Puts block `n` among the changed ones, in place of the one that may be there: a block of zeros as a flag, unless it is
+    /// kept already. At an error the changed blocks are as they were.
     pub fn put(&mut self, n: u32, block: &[u8; 512]) -> Result<(), AllocError>
         requires { n < 4294967295 }
         ensures written { OnOk result
@@ -107,7 +107,7 @@ impl ChangedBlocks {
         ensures changed { result.changed.now ≡ self.now }
         ensures below { result.below.now ≡ below.now }
     {
-        // A proof knows that the blocks have 512 bytes once the kept ones lie over the image. No block is looked up for it.
+        // Once the kept blocks lie over the image, a proof knows that they have 512 bytes. No block is looked up for it.
         let _kept = self.kept.over(below);
         ChangedOver {
             below,
@@ -115,8 +115,8 @@ impl ChangedBlocks {
         }
     }
 
-    /// Lays a patch, with the blocks of these runs as zeros below it, over what is changed of an image with these blocks. At an
-    /// error more blocks may be changed, but over those of `below` all is as it was.
+    /// Lays a patch, with the blocks of these runs as zeros below it, over the changed blocks of an image with these blocks. At
+    /// an error more blocks may be changed, but over those of `below` everything is as it was.
     pub fn lay<B: Blocks>(
         &mut self,
         alloc: Global,
@@ -144,7 +144,7 @@ impl ChangedBlocks {
 pub struct ChangedOver<'a, B: Blocks> {
     /// The blocks of the image.
     pub below: &'a B,
-    /// The blocks that stand in place of those.
+    /// The blocks in place of those.
     pub changed: &'a ChangedBlocks,
     ghost whole: { AreWhole (changes changed.now) },
 }

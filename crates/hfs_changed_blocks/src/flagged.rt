@@ -6,7 +6,7 @@ ghost use Rattle.hfs_changed_blocks.specs.Flags.{is_flagged, flagged, AreWhole-f
 
 use hfs_blocks::Blocks;
 
-/// Whether the flag of block `n` is set. Blocks without a flag are as those whose flag isn't.
+/// Whether the flag of block `n` is set. A block without a flag counts as one whose flag isn't set.
 pub(crate) fn is_flagged(flags: &[bool], n: u32) -> bool
     ensures { result ≡ is_flagged flags.now n }
 {

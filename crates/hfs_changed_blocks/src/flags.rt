@@ -30,7 +30,7 @@ pub(crate) fn flag_runs(flags: &mut [bool], runs: &[Run])
     }
 }
 
-/// At least so many flags: those that come are not set. At an error there may be some more.
+/// Makes sure that there are at least `count` flags; new ones are not set. At an error there may be some more.
 pub(crate) fn more_flags(flags: &mut Vec<bool>, count: u32) -> Result<(), AllocError>
     ensures enough { OnOk result (count ≤ length flags.new.items) }
     ensures same { AreSameFlags flags.old.items flags.new.items }
@@ -52,7 +52,7 @@ pub(crate) fn flag_one(flags: &mut Vec<bool>, n: u32) -> Result<(), AllocError>
     Ok(())
 }
 
-/// How many flags these runs want in an image of so many blocks: none where there are no runs.
+/// How many flags these runs need in an image of `count` blocks: none if there are no runs.
 pub(crate) fn flags_wanted(runs: &[Run], count: u32) -> u32
     ensures { AreAmong runs.now count → AreAmong runs.now result }
 {

@@ -1,4 +1,4 @@
-//! A change that is laid over the changed blocks of an image.
+//! Laying a change over the changed blocks of an image.
 
 ghost use Rattle.std.specs.Prelude.{◌≡◌, length, unwrap_or, IfOk, OnOk, OnErr};
 ghost use Rattle.hfs_blocks.specs.Layers.{changes, over, AreWithin, HasJoined, IsLaid, KeepsWithin, ShowsSame};
@@ -12,7 +12,7 @@ use crate::flags::flag_runs;
 use hfs_blocks::{Blocks, Patch, Run};
 use std::alloc::{AllocError, Global};
 
-/// A patch over those blocks; none where there are no such blocks, and it is the patch itself.
+/// A patch over those blocks; None if there are no such blocks, and it is the patch itself.
 fn patch_over<B: Blocks>(
     below: &B,
     again: Patch,
@@ -61,8 +61,8 @@ fn lay_over<B: Blocks>(
     kept.lay(&shown, all)
 }
 
-/// Lays a patch, with the blocks of these runs as zeros below it, over what is kept of an image: blocks by their numbers, and blocks of
-/// zeros by their flags. At an error what is shown is as it was.
+/// Lays a patch, with the blocks of these runs as zeros below it, over what is kept of an image: blocks by their numbers, and
+/// blocks of zeros by their flags. At an error the resulting blocks are as they were.
 pub(crate) fn lay_change<B: Blocks>(
     alloc: Global,
     below: &B,

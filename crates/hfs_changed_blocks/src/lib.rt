@@ -1,4 +1,5 @@
-//! The changed blocks of an image: blocks by their numbers, and below them blocks of zeros, which take a flag each and no bytes.
+//! The changed blocks of an image: blocks by their numbers, and below them blocks of zeros, each of which takes a flag and no
+//! bytes.
 #![tactic(auto)]
 
 mod again;

@@ -1,11 +1,11 @@
-//! Which blocks of forks calls wrote, for proofs alone: it takes no memory, and its methods do nothing when they run.
+//! Which blocks of forks calls wrote, for proofs only: it takes no memory, and its methods do nothing at run time.
 ghost use Rattle.std.specs.Prelude.{◌≡◌, ℕ, List, []};
 ghost use Rattle.std.specs.Borrow.{ftrue};
 
 use hfs_blocks::Run;
 use std::marker::Model;
 
-/// The blocks of forks that calls wrote, those of the first call first.
+/// The blocks of forks that calls wrote, the first call's first.
 #[derive(Drop)]
 pub struct WrittenLog {
     pub ghost blocks: { List ℕ },
@@ -24,14 +24,14 @@ pub struct WrittenRuns<'a> {
 impl WrittenLog {
     ghost use Rattle.hfs_changed_blocks.specs.Logs.{with_runs};
 
-    /// No block was written.
+    /// The list in which no block was written.
     pub fn new() -> WrittenLog
         ensures { result.blocks ≡ [] }
     {
         WrittenLog {}
     }
 
-    /// What was written, and then these.
+    /// The list with these runs appended.
     pub fn then(&self, _runs: &WrittenRuns<'_>) -> WrittenLog
         ensures { result.blocks ≡ with_runs self.now.blocks _runs.now }
     {

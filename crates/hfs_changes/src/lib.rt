@@ -1,4 +1,4 @@
-//! What changes of its records make of a sound volume: it stays sound, and holds what the model's step makes.
+//! What changes to its records make of a sound volume: it stays sound, and holds what the model's step makes.
 #![tactic(auto)]
 
 mod deletion;

@@ -1,4 +1,4 @@
-//! All checks of a volume, in their order.
+//! All checks of a volume, in order.
 ghost use Rattle.std.specs.Prelude.{◌≡◌, ◌≤◌, ◌<◌, None, OnOk, IfOk, IfErr, length};
 ghost use Rattle.hfs_btree.specs.Sound.{HasStructure, HasCounts};
 ghost use Rattle.hfs_catalog.specs.Tree.{cat_keys};
@@ -21,8 +21,8 @@ use hfs_catalog::read_records;
 use hfs_fields::{Extent, Mdb};
 use std::alloc::Global;
 
-/// The checks on what the two trees hold: of the catalog's records, of the numbers that are counted, and of the space. Ok
-/// gives all extents that somebody owns.
+/// The checks on what the two trees hold: of the catalog's records, of the counts, and of the space. Ok gives all extents that
+/// have an owner.
 fn check_contents<B: Blocks, E: Nodes, C: Nodes>(
     alloc: Global,
     blocks: &B,
@@ -43,7 +43,7 @@ fn check_contents<B: Blocks, E: Nodes, C: Nodes>(
     check_numbers(alloc, blocks, mdb, extents, &records)
 }
 
-/// The checks behind those of the two trees, which lie in these runs. Ok gives all extents that somebody owns.
+/// The checks after those of the two trees, which lie in these runs. Ok gives all extents that have an owner.
 fn check_behind_trees<B: Blocks>(
     alloc: Global,
     blocks: &B,
@@ -68,7 +68,7 @@ fn check_behind_trees<B: Blocks>(
     check_contents(alloc, blocks, mdb, &extents, &catalog)
 }
 
-/// What mounting finds out of a sound volume.
+/// What mounting finds out about a sound volume.
 #[derive(Drop)]
 pub struct SoundVolume {
     /// The master directory block.
@@ -77,16 +77,16 @@ pub struct SoundVolume {
     pub trees: VolumeTrees,
 }
 
-/// What the checks of a sound volume read, so that whoever asks for more need not read it again.
+/// What the checks of a sound volume read, so that it needn't be read again for anything else.
 #[derive(Drop)]
 pub(crate) struct CheckedVolume {
     /// What mounting keeps of it.
     pub(crate) volume: SoundVolume,
-    /// All extents that somebody owns.
+    /// All extents that have an owner.
     pub(crate) owned: Vec<Extent>,
 }
 
-/// Makes all checks of a volume but that of its length, in their order, and gives what they read.
+/// Makes all checks of a volume except that of its length, in order, and returns what they read.
 #[tactic(auto, using(crate::proofs::LawsProved::mdb_is_sound, crate::proofs::Opened::all_right))]
 pub(crate) fn checked_blocks<B: Blocks>(
     alloc: Global,
@@ -112,7 +112,7 @@ pub(crate) fn checked_blocks<B: Blocks>(
     })
 }
 
-/// Makes all checks of an image, in their order, and gives what they read.
+/// Makes all checks of an image, in order, and returns what they read.
 #[tactic(auto, using(crate::proofs::Opened::image_large, crate::proofs::Opened::image_short, crate::proofs::Opened::image_wrong, crate::proofs::Opened::image_right))]
 pub(crate) fn checked_image(alloc: Global, image: &[u8]) -> Result<CheckedVolume, MountFault>
     ensures right { OnOk result (fault_of image.now ≡ None) }
@@ -132,10 +132,10 @@ pub(crate) fn checked_image(alloc: Global, image: &[u8]) -> Result<CheckedVolume
     checked_blocks(alloc, &blocks)
 }
 
-/// Makes all checks of a volume but that of its length, in their order.
+/// Makes all checks of a volume except that of its length, in order.
 ///
-/// The extents tree and the catalog tree are read a fixed number of times. Errors: the first check that fails, as
-/// `MountFault` says, and `MountFault::Memory` where memory was refused.
+/// The extents tree and the catalog tree are read a fixed number of times. Errors: the first check that fails, as `MountFault`
+/// says, and `MountFault::Memory` if memory was refused.
 ///
 /// Source: Inside Macintosh: Files, chapter 2, 'Data Organization on Volumes'; docs/CHECKS.md has the checks.
 pub fn check_blocks<B: Blocks>(alloc: Global, blocks: &B) -> Result<SoundVolume, MountFault>
@@ -150,9 +150,9 @@ pub fn check_blocks<B: Blocks>(alloc: Global, blocks: &B) -> Result<SoundVolume,
     Ok(volume)
 }
 
-/// Makes all checks of an image, in their order. What follows its last whole block belongs to no check.
+/// Makes all checks of an image, in order. What follows its last whole block isn't checked.
 ///
-/// Errors: the first check that fails, as `MountFault` says, and `MountFault::Memory` where memory was refused.
+/// Errors: the first check that fails, as `MountFault` says, and `MountFault::Memory` if memory was refused.
 ///
 /// Source: Inside Macintosh: Files, chapter 2, 'Data Organization on Volumes'; docs/CHECKS.md has the checks.
 pub fn check_image(alloc: Global, image: &[u8]) -> Result<SoundVolume, MountFault>

@@ -25,7 +25,7 @@ fn is_block_size(mdb: &Mdb) -> bool
     512 <= mdb.allocation_block_size && mdb.allocation_block_size % 512 == 0
 }
 
-/// Whether the bitmap lies behind the master directory block and before the allocation blocks.
+/// Whether the bitmap lies after the master directory block and before the allocation blocks.
 fn is_bitmap_placed(mdb: &Mdb) -> bool
     ensures { result ≡ spec.is_bitmap_placed mdb.now }
 {

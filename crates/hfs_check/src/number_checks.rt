@@ -1,4 +1,4 @@
-//! The checks of the numbers that are counted and of the space, each as what mounting answers.
+//! The checks of the counts and of the space, each with the result that mounting gives.
 ghost use Rattle.std.specs.Prelude.{◌≡◌};
 ghost use Rattle.hfs_space.specs.Faults as space_spec;
 ghost use Rattle.hfs_space.specs.Runs.{files_in};
@@ -16,7 +16,7 @@ use hfs_fields::{Extent, Mdb};
 use hfs_space::{CatalogFile, fork_fault, owned_extents, space_fault};
 use std::alloc::Global;
 
-/// The check of extents, where `files` are the files of the records.
+/// The check of extents; `files` are the files of the records.
 fn check_forks<N: Nodes>(
     alloc: Global,
     mdb: &Mdb,
@@ -32,7 +32,7 @@ fn check_forks<N: Nodes>(
     answer_at(11, place)
 }
 
-/// The check of space, where `owned` is all extents that somebody owns.
+/// The check of space; `owned` are all extents that have an owner.
 fn check_space<B: Blocks>(
     alloc: Global,
     blocks: &B,
@@ -51,7 +51,7 @@ fn check_space<B: Blocks>(
     }
 }
 
-/// The checks of valences, counts, extents and space, in this order. Ok gives all extents that somebody owns.
+/// The checks of valences, counts, extents and space, in this order. Ok gives all extents that have an owner.
 #[tactic(auto, unfolding(hfs_space::specs::Owners::owned_blocks))]
 pub(crate) fn check_numbers<B: Blocks, N: Nodes>(
     alloc: Global,

@@ -1,4 +1,4 @@
-//! The checks of the catalog's records, each as what mounting answers.
+//! The checks of the catalog's records, each with the result that mounting gives.
 ghost use Rattle.std.specs.Prelude.{◌≡◌};
 ghost use Rattle.hfs_catalog_checks.specs.Faults as catalog_spec;
 ghost use Rattle.hfs_btree.specs.Sound.{HasStructure};
@@ -16,7 +16,7 @@ use hfs_catalog_checks::{
 use hfs_fields::{CatKey, Mdb};
 use std::alloc::Global;
 
-/// What a check answers that found a fault at this place, or none.
+/// The result of a check that found a fault at this place, or none.
 pub(crate) fn answer_at(number: u8, place: Option<usize>) -> Result<(), MountFault>
     ensures { Answers (check_fault number place) result }
 {

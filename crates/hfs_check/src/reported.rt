@@ -1,4 +1,4 @@
-//! What a report tells of an image.
+//! What a report says about an image.
 ghost use Rattle.std.specs.Prelude.{◌≡◌, ◌<◌, ◌≤◌};
 ghost use Rattle.std.specs.Str.{bytes_eq};
 ghost use Rattle.hfs_check.specs.Parts.{mdb_in};
@@ -11,28 +11,28 @@ use hfs_fields::Mdb;
 /// The copy of the master directory block in the last block but one, compared with the master directory block itself.
 #[derive(Clone, Copy, Debug, PartialEq, Eq)]
 pub enum Alternate {
-    /// It gives the bitmap, the allocation blocks and the volume's name alike.
+    /// It has the same bitmap, allocation blocks and volume name.
     Same,
-    /// It gives one of them otherwise.
+    /// It differs in one of them.
     Differs,
     /// The block doesn't begin with the signature $4244.
     Missing,
 }
 
-/// What is told of an image. Where it is refused, all numbers are 0 and the alternate is `Missing`.
+/// A report on an image. If it is refused, all numbers are 0 and the alternate is `Missing`.
 #[derive(Clone, Copy, Debug, PartialEq, Eq)]
 pub struct Report {
     /// Why it is refused, if it is.
     pub fault: Option<MountFault>,
     /// All files.
     pub files: u32,
-    /// All folders but the root.
+    /// All folders except the root.
     pub folders: u32,
     /// Allocation blocks that are not marked in the bitmap.
     pub free: u32,
     /// The alternate master directory block.
     pub alternate: Alternate,
-    /// Allocation blocks that are marked in the bitmap, though nobody owns them.
+    /// Allocation blocks that are marked in the bitmap but have no owner.
     pub unowned: u32,
 }
 
@@ -43,7 +43,7 @@ fn same_bytes(a: &[u8], b: &[u8]) -> bool
     a == b
 }
 
-/// Whether two master directory blocks give the bitmap, the allocation blocks and the name alike.
+/// Whether two master directory blocks have the same bitmap, allocation blocks and name.
 fn places_the_same(a: &Mdb, b: &Mdb) -> bool
     ensures { result ≡ spec.places_the_same a.now b.now }
 {

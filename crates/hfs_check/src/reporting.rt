@@ -12,7 +12,7 @@ use hfs_blocks::{Blocks, ImageBytes};
 use hfs_space::stray_count;
 use std::alloc::{AllocError, Global};
 
-/// The report of a sound volume.
+/// The report on a sound volume.
 fn sound_report<B: Blocks>(
     alloc: Global,
     blocks: &B,
@@ -36,7 +36,7 @@ fn sound_report<B: Blocks>(
     })
 }
 
-/// The report of an image that is refused.
+/// The report on an image that is refused.
 pub fn refused_report(fault: MountFault) -> Report
     ensures { result ≡ spec.refused_report fault }
 {
@@ -51,7 +51,7 @@ pub fn refused_report(fault: MountFault) -> Report
 }
 
 /// Reports on the blocks of an image, whose length is right: the first fault of its blocks, or the counts of a sound volume, as
-/// `Report` says. The only error is want of memory.
+/// `Report` says. Fails only when out of memory.
 #[tactic(auto, unfolding(crate::specs::Report::report_in))]
 pub fn report_blocks<B: Blocks>(alloc: Global, blocks: &B) -> Result<Report, AllocError>
     requires { 3 ≤ B.total blocks.now }
@@ -64,8 +64,8 @@ pub fn report_blocks<B: Blocks>(alloc: Global, blocks: &B) -> Result<Report, All
     }
 }
 
-/// Reports on an image: the fault that mounting gives, or the counts of a sound volume, as `Report` says. The only error
-/// is want of memory.
+/// Reports on an image: the fault that mounting gives, or the counts of a sound volume, as `Report` says. Fails only when out of
+/// memory.
 ///
 /// Source: Inside Macintosh: Files, chapter 2, 'Data Organization on Volumes'; docs/CHECKS.md has the checks.
 #[tactic(auto, unfolding(crate::specs::Report::report_of))]

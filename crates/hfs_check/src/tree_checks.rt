@@ -1,4 +1,4 @@
-//! The checks of the two trees, each as what mounting answers.
+//! The checks of the two trees, each with the result that mounting gives.
 ghost use Rattle.std.specs.Prelude.{◌≡◌, ◌*◌, ◌≤◌, OnOk, IfOk, length};
 ghost use Rattle.hfs_btree_checks.specs.Shape.{shape_fault};
 ghost use Rattle.hfs_btree_checks.specs.Order.{order_fault};
@@ -14,7 +14,7 @@ use hfs_btree_checks::{KeyTest, ShapedTree, TreeFault, check_shape};
 use hfs_fields::{CatKey, ExtKey};
 use std::alloc::Global;
 
-/// What the check of a tree, of this number, answers for a fault of the tree.
+/// The fault that the check of a tree, with this number, gives for a fault of the tree.
 fn answer_of(number: u8, fault: TreeFault) -> MountFault
     ensures { IsAnswerTo fault number result }
 {
@@ -54,7 +54,7 @@ impl KeyTest<ExtKey> for IsForkKey {
     }
 }
 
-/// The extents tree in a file of `size` bytes (drXTFlSize), where it has its shape.
+/// The extents tree in a file of `size` bytes (drXTFlSize), if it has its shape.
 fn check_extents_shape<N: Nodes>(
     alloc: Global,
     nodes: &N,

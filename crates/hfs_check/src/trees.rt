@@ -15,7 +15,7 @@ use hfs_fields::{Extent, Mdb};
 use hfs_space::{ForkKind, fork_extents, is_tree_file, tree_runs};
 use std::alloc::{AllocError, Global};
 
-/// The runs of a tree's file that has these extents and this size in bytes. None where the file is wrong.
+/// The runs of the tree file with these extents and this size in bytes. None if the file is wrong.
 fn file_runs<B: Blocks>(
     alloc: Global,
     blocks: &B,
@@ -34,7 +34,7 @@ fn file_runs<B: Blocks>(
     }
 }
 
-/// Checks the extents tree, which lies in these runs.
+/// Checks the extents tree in these runs.
 fn check_extents<B: Blocks>(
     alloc: Global,
     blocks: &B,
@@ -51,7 +51,7 @@ fn check_extents<B: Blocks>(
     check_extents_tree(alloc, &nodes, mdb.extents_file_size)
 }
 
-/// Checks the catalog tree, which lies in these runs.
+/// Checks the catalog tree in these runs.
 fn check_catalog<B: Blocks>(
     alloc: Global,
     blocks: &B,
@@ -71,7 +71,7 @@ fn check_catalog<B: Blocks>(
     check_catalog_shape(alloc, &nodes, mdb.catalog_file_size)
 }
 
-/// The runs of the extents tree, where its file is right and the tree is.
+/// The runs of the extents tree, if its file and the tree are right.
 #[tactic(auto, using(crate::proofs::Opened::wrong_extents, crate::proofs::Opened::extents_lie))]
 fn open_extents<B: Blocks>(alloc: Global, blocks: &B, mdb: &Mdb) -> Result<Vec<Run>, MountFault>
     requires sound { IsMdbSound (B.total blocks.now) mdb.now }
@@ -99,7 +99,7 @@ struct CatalogTree {
     runs: Vec<Run>,
 }
 
-/// The catalog file's extents, with those that go on in the extents tree.
+/// The catalog file's extents, including those in the extents tree.
 fn catalog_file_extents<B: Blocks>(
     alloc: Global,
     blocks: &B,
@@ -118,7 +118,7 @@ fn catalog_file_extents<B: Blocks>(
     fork_extents(alloc, &nodes, 4, ForkKind::Data, &mdb.catalog_file)
 }
 
-/// The catalog file, where it is right and its tree has its shape.
+/// The catalog file, if it is right and its tree has its shape.
 #[tactic(auto, using(crate::proofs::Opened::wrong_catalog, crate::proofs::Opened::catalog_lies))]
 fn open_catalog<B: Blocks>(
     alloc: Global,
@@ -153,13 +153,13 @@ fn open_catalog<B: Blocks>(
 pub struct VolumeTrees {
     /// The runs of the extents tree, in the order of its nodes.
     pub extents: Vec<Run>,
-    /// All extents of the catalog file: the three of the master directory block and those that go on in the extents tree.
+    /// All extents of the catalog file: the three of the master directory block and those in the extents tree.
     pub catalog_file: Vec<Extent>,
     /// The runs of the catalog tree, in the order of its nodes.
     pub catalog: Vec<Run>,
 }
 
-/// The trees of a volume, where the extents tree is sound and the catalog tree has its shape.
+/// The trees of a volume, if the extents tree is sound and the catalog tree has its shape.
 #[tactic(auto, using(crate::proofs::LawsProved::extents_tree_is_sound, crate::proofs::Opened::trees_extents, crate::proofs::Opened::trees_catalog, crate::proofs::Opened::trees_none))]
 pub(crate) fn open_trees<B: Blocks>(
     alloc: Global,

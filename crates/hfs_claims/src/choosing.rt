@@ -1,4 +1,4 @@
-//! Which free allocation blocks come to a fork.
+//! Which free allocation blocks are added to a fork.
 
 ghost use Rattle.std.specs.Prelude.{◌≡◌, ◌<◌, ◌≤◌, ◌++◌, ◌+◌, ◌^◌, List, OnOk, IfOk, MatchResult};
 ghost use Rattle.hfs_space.specs.Bitmap.{is_used};
@@ -18,7 +18,7 @@ use std::alloc::{AllocError, Global};
 pub struct Room {
     /// How many allocation blocks are free.
     pub free: u32,
-    /// How many are wanted, which are more.
+    /// How many are wanted, which is more.
     pub wanted: u32,
 }
 
@@ -46,8 +46,8 @@ fn some_of(alloc: Global, extent: Extent) -> Result<Vec<Extent>, AllocError>
     Ok(extents)
 }
 
-/// So many of the blocks that are free beside a row's: of the lowest run that has them all; where none has, of the runs by
-/// their lengths. Where too few are free, how many are. The only other error is want of memory.
+/// `wanted` blocks from those that are free outside a row: from the lowest run that has them all; if none has, from the runs by
+/// their lengths. If there are too few, how many are free. The only other error is running out of memory.
 fn pieces_beside<B: Blocks>(
     alloc: Global,
     bitmap: &Bitmap<'_, B>,
@@ -66,16 +66,16 @@ fn pieces_beside<B: Blocks>(
     Ok(Ok(pieces))
 }
 
-/// The free allocation blocks that come to a fork that wants `wanted` of them, as extents in the order in which they are added
-/// to it. `after` is the block directly after the fork's last one; None for a fork without blocks.
+/// The free allocation blocks that are added to a fork that wants `wanted` of them, as extents in the order in which they are
+/// added. `after` is the block directly after the fork's last one; None for a fork without blocks.
 ///
-/// First come those from `after` on, as many in a row as are free. For the rest, the first blocks of the lowest run of free
-/// blocks that has so many; where none has, the runs by their lengths, the longest first and of equal ones the lowest, each
-/// whole, of the last one its first as many as are wanted.
+/// First come those from `after` on, as many in a row as are free. For the rest come the first blocks of the lowest run of free
+/// blocks that has that many; if none has, the runs by their lengths, the longest first and of equal ones the lowest, each whole,
+/// except that only as many blocks as are still wanted are taken of the last one.
 ///
-/// Where the blocks from `after` on are enough, only their bits are read; else each block of the bitmap once.
+/// If the blocks from `after` on are enough, only their bits are read; otherwise each block of the bitmap once.
 ///
-/// Errors: `Room` exactly where fewer blocks are free than are wanted. `AllocError` where memory was refused.
+/// Errors: `Room` exactly when fewer blocks are free than are wanted. `AllocError` if memory was refused.
 pub fn blocks_that_come<B: Blocks>(
     alloc: Global,
     bitmap: &Bitmap<'_, B>,

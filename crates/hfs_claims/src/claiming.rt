@@ -1,4 +1,4 @@
-//! The bits of allocation blocks that come to a fork.
+//! The bits of allocation blocks that are added to a fork.
 
 ghost use Rattle.std.specs.Prelude.{◌≤◌, ◌+◌, OnOk};
 ghost use Rattle.hfs_blocks.specs.Layers.{KeepsWithin};
@@ -15,10 +15,10 @@ use std::alloc::AllocError;
 /// How many bits a block of the bitmap has.
 const BITS: u32 = 4096;
 
-/// Sets the bits of `count` allocation blocks from `first` on, in the volume's blocks with the patch over them. The blocks of
-/// the bitmap that have these bits are in the patch afterwards, and no other block comes to it.
+/// Sets the bits of `count` allocation blocks from `first` on, in the volume's blocks with the patch over them. The blocks of the
+/// bitmap that have these bits are in the patch afterwards, and no other block is added to it.
 ///
-/// Errors: `AllocError` where memory was refused. Then some of the bits may not be set; no other bit has changed.
+/// Errors: `AllocError` if memory was refused. Then some of the bits may not be set; no other bit has changed.
 ///
 /// Source: Inside Macintosh: Files, chapter 2, 'Volume bitmap'.
 pub fn claim<B: Blocks>(
@@ -48,13 +48,13 @@ pub fn claim<B: Blocks>(
     Ok(())
 }
 
-/// Sets the bits of the extents' allocation blocks in the bitmap's blocks with the patch over them. An extent without blocks
-/// sets nothing, wherever it lies.
+/// Sets the bits of the extents' allocation blocks in the bitmap's blocks with the patch over them. An extent without blocks sets
+/// nothing, wherever it lies.
 ///
-/// Where each block is in one extent alone and is free, as those of `blocks_that_come` are, so many fewer bits are clear
+/// If each block is in one extent only and is free, as those of `blocks_that_come` are, there are as many fewer clear bits
 /// afterwards as the extents have blocks.
 ///
-/// Errors: `AllocError` where memory was refused. Then some of the bits may not be set.
+/// Errors: `AllocError` if memory was refused. Then some of the bits may not be set.
 ///
 /// Source: Inside Macintosh: Files, chapter 2, 'Volume bitmap'.
 pub fn claim_extents<B: Blocks>(

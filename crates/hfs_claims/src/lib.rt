@@ -1,4 +1,4 @@
-//! Allocation blocks that come to a fork: which free blocks these are, and their bits in the volume bitmap.
+//! Allocation blocks that are added to a fork: which free blocks these are, and their bits in the volume bitmap.
 #![tactic(auto)]
 
 mod bits;

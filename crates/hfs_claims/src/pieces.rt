@@ -18,7 +18,8 @@ fn first_of(run: Extent, count: u32) -> Extent
     }
 }
 
-/// Adds the first `count` blocks of runs: each run whole, of the last one its first as many as are wanted.
+/// Adds the first `count` blocks of runs: each run whole, except that only as many blocks as are still wanted are taken of the
+/// last one.
 fn push_first_blocks(
     runs: &[Extent],
     count: u32,
@@ -64,8 +65,8 @@ fn sort_by_length(runs: &mut Vec<Extent>)
     runs.sort_unstable_by(|x, y| by_length(x, y));
 }
 
-/// Adds `count` blocks of the lowest run that has so many; where none has, the first `count` of the runs by their lengths. The
-/// only error is want of memory.
+/// Adds `count` blocks of the lowest run that has that many; if none has, the first `count` of the runs by their lengths. Fails
+/// only when out of memory.
 pub(crate) fn pieces_of(
     alloc: Global,
     mut runs: Vec<Extent>,

@@ -12,8 +12,8 @@ use hfs_space::Bitmap;
 /// How many bits a block of the bitmap has.
 pub(crate) const BITS: u16 = 4096;
 
-/// Sees that these are the bytes in which an allocation block's bit stands. They are read where it is the row's first block, or its
-/// bit the first of a block.
+/// Makes `bytes` those that have an allocation block's bit. They are read if it is the row's first block, or its bit is the first
+/// of a block.
 pub(crate) fn turn_to<B: Blocks>(
     bitmap: &Bitmap<'_, B>,
     first: u16,
@@ -32,8 +32,8 @@ pub(crate) fn turn_to<B: Blocks>(
     }
 }
 
-/// How many blocks are free in a row from `first` on, at most as many as are wanted. Only so many bits are looked at, and the
-/// blocks that have these are read once.
+/// How many blocks are free in a row from `first` on, at most as many as are wanted. Looks at no more bits than that, and reads
+/// each block that has one of them once.
 fn free_row<B: Blocks>(bitmap: &Bitmap<'_, B>, first: u16, wanted: u32) -> u16
     ensures { spec.IsFreeRow (is_used (B.blocks bitmap.now.blocks.now) bitmap.now.start)
         bitmap.now.count first wanted result }
@@ -52,7 +52,7 @@ fn free_row<B: Blocks>(bitmap: &Bitmap<'_, B>, first: u16, wanted: u32) -> u16
     bitmap.count.saturating_sub(first)
 }
 
-/// The row of free blocks that begins at `after`, the block directly after a fork's last one, at most as many as are wanted.
+/// The row of free blocks that begins at `after`, the block directly after a fork's last one, with at most as many as are wanted.
 pub(crate) fn row_after<B: Blocks>(
     bitmap: &Bitmap<'_, B>,
     after: Option<u16>,

@@ -44,14 +44,15 @@ fn meets(extent: Extent, first: u16) -> bool
     u32::from(extent.first) < u32::from(first) + 8 && u32::from(first) < end
 }
 
-/// Whether a block is marked, by the bytes in which its bit stands, or is one of the extent's.
+/// Whether a block is marked, by the bytes that have its bit, or is one of the extent's.
 fn is_taken(bytes: &[u8; 512], taken: Extent, block: u16) -> bool
     ensures { result ≡ (bits.is_marked bytes.now (block % 4096) || spec.is_in taken block) }
 {
     is_set(bytes, usize::from(block % BITS)) || is_in(taken, block)
 }
 
-/// Passes the blocks of a byte of the bitmap one by one: how many free ones stand behind the last run. The only error is want of memory.
+/// Goes through the blocks of a byte of the bitmap one by one, and returns how many free ones follow the last run. Fails only
+/// when out of memory.
 fn pass_bits<B: Blocks>(
     runs: &mut Vec<Extent>,
     before: u16,
@@ -83,8 +84,8 @@ fn pass_bits<B: Blocks>(
     Ok(free)
 }
 
-/// Passes the blocks of a byte of the bitmap, at once where all of them are in use, or all free: how many free ones stand behind the
-/// last run. The only error is want of memory.
+/// Goes through the blocks of a byte of the bitmap, at once if all of them are in use or all free, and returns how many free ones
+/// follow the last run. Fails only when out of memory.
 fn pass_byte<B: Blocks>(
     runs: &mut Vec<Extent>,
     before: u16,
@@ -138,8 +139,8 @@ pub(crate) fn free_runs_beside<B: Blocks>(
     Ok(runs)
 }
 
-/// The runs of free allocation blocks, in order, each as long as can be. Each block of the bitmap is read once. The only error
-/// is want of memory.
+/// The runs of free allocation blocks, in order, each as long as possible. Reads each block of the bitmap once. Fails only when
+/// out of memory.
 ///
 /// Source: Inside Macintosh: Files, chapter 2, 'Volume bitmap'.
 pub fn free_runs<B: Blocks>(

@@ -1,4 +1,4 @@
-//! What the program does: the database opened and closed, one image after the other, statuses.
+//! What the program does: opens and closes the database, handles one image after the other, and returns statuses.
 
 use crate::progress::ReadProgress;
 use crate::reading::CollectWords;
@@ -12,10 +12,10 @@ use hfs_word_collect::{
     next_path, open_image, rows_at,
 };
 
-/// What a row tells of the program that read an image.
+/// What a row says about the program that read an image.
 pub const PROGRAM: &str = "hfs_collect 1.0.0";
 
-/// Puts images into a database, or compares them with what it has of them.
+/// Puts images into a database, or compares them to what it has about them.
 pub fn collect<'a>(rt: &HostRuntime, words: &CollectWords<'a>) -> Result<u8, Fault<'a>> {
     let ran = if words.compares {
         run_comparison(rt, words)
@@ -51,7 +51,7 @@ impl From<RunFault> for Stopped {
     }
 }
 
-/// Prints that a database can't be opened, and tells at a terminal why.
+/// Prints that a database can't be opened and, at a terminal, why.
 pub fn refuse(rt: &HostRuntime, path: &str, why: Obstacle) -> Result<u8, Fault<'static>> {
     let Ok(line) = format!(in rt.alloc(); "cannot open {}\n", ShownPath(path)) else {
         return Err(Fault::NoMemory);
@@ -61,7 +61,7 @@ pub fn refuse(rt: &HostRuntime, path: &str, why: Obstacle) -> Result<u8, Fault<'
     Ok(Status::DeviceFailed.number())
 }
 
-/// The files of the words' database.
+/// The files of the database on the command line.
 fn files_of(rt: &HostRuntime, words: &CollectWords<'_>) -> Result<DatabaseFiles, RunFault> {
     match DatabaseFiles::of(rt, words.database) {
         Ok(files) => Ok(files),
@@ -107,7 +107,7 @@ pub fn close_database(
     }
 }
 
-/// Puts the images into the database, and answers the exit status.
+/// Puts the images into the database, and returns the exit status.
 fn run_collection(rt: &HostRuntime, words: &CollectWords<'_>) -> Result<u8, Stopped> {
     let files = files_of(rt, words)?;
     let mut database = open_database(rt, &files, true)?;
@@ -145,7 +145,7 @@ fn put_rows<W: ReadWatch>(
     collect_image(database, &mut rows)
 }
 
-/// Puts the image at this place of the words into the database, and shows meanwhile how far it is.
+/// Puts the image at this place of the command line into the database, and shows its progress meanwhile.
 fn put_one(
     rt: &HostRuntime,
     database: &mut FileCollection,
@@ -165,7 +165,7 @@ fn put_one(
     counts
 }
 
-/// Puts the image at this place of the words into the database and prints its line, and answers whether it could be read.
+/// Puts the image at this place of the command line into the database, prints its line, and returns whether it could be read.
 fn collect_one(
     rt: &HostRuntime,
     database: &mut FileCollection,
@@ -207,7 +207,7 @@ fn print_unread(rt: &HostRuntime, path: &str) -> Result<(), Fault<'static>> {
     Ok(())
 }
 
-/// Compares the images with what the database has of them, and answers the exit status.
+/// Compares the images to what the database has about them, and returns the exit status.
 fn run_comparison(rt: &HostRuntime, words: &CollectWords<'_>) -> Result<u8, Stopped> {
     let files = files_of(rt, words)?;
     let mut database = open_collection(rt, &files)?;
@@ -227,7 +227,7 @@ fn run_comparison(rt: &HostRuntime, words: &CollectWords<'_>) -> Result<u8, Stop
     Ok(status.number())
 }
 
-/// Compares one image after the other, and answers whether one isn't as the database has it.
+/// Compares one image after the other, and returns whether one differs from what the database has.
 fn compare_images(
     rt: &HostRuntime,
     database: &mut FileCollection,
@@ -244,7 +244,8 @@ fn compare_images(
     Ok(is_worse)
 }
 
-/// Compares all images of the database, in the order of their paths' bytes, and answers whether one isn't as the database has it.
+/// Compares all images of the database, in the order of their paths' bytes, and returns whether one differs from what the
+/// database has.
 fn compare_all(
     rt: &HostRuntime,
     database: &mut FileCollection,
@@ -267,7 +268,7 @@ fn compare_all(
     Ok(is_worse)
 }
 
-/// Compares an image with what the database has of it, and shows meanwhile how far it is.
+/// Compares an image to what the database has about it, and shows its progress meanwhile.
 fn compared(
     rt: &HostRuntime,
     database: &mut FileCollection,
@@ -281,7 +282,7 @@ fn compared(
     found
 }
 
-/// Opens an image and compares it with what the database has of it.
+/// Opens an image and compares it to what the database has about it.
 fn compare_at<W: ReadWatch>(
     rt: &HostRuntime,
     database: &mut FileCollection,
@@ -294,8 +295,8 @@ fn compare_at<W: ReadWatch>(
     }
 }
 
-/// Compares an image and prints its line, and answers whether it isn't as the database has it. The image is the `i`-th, counted
-/// from 0, of so many where that is known.
+/// Compares an image, prints its line, and returns whether it differs from what the database has. The image is the `i`-th,
+/// counted from 0, of so many if that is known.
 fn compare_one(
     rt: &HostRuntime,
     database: &mut FileCollection,

@@ -1,4 +1,5 @@
-//! A program that puts HFS images into one database, compares them with what it has of them, prints its page, or tells their rows as text.
+//! A program that puts HFS images into one database, compares them to what it has about them, prints its page, or prints their
+//! rows as text.
 #![tactic(auto)]
 
 mod collecting;
@@ -23,7 +24,7 @@ fn main(rt: HostRuntime) -> ExitCode {
     ExitCode::from(answer(&rt))
 }
 
-/// Reads the words and does what they ask for. Answers the exit status.
+/// Reads the command line and does what it asks for. Returns the exit status.
 fn answer(rt: &HostRuntime) -> u8 {
     let Ok(arguments) = env::args(rt) else {
         return refused(rt, &Fault::WordsNotText);

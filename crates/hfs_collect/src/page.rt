@@ -10,7 +10,8 @@ use hfs_console::VERSION;
 use hfs_word_collect::{DatabaseFiles, FileCollection, RunFault};
 use std::path::Path;
 
-/// Prints the page of a collection. Links that no URL of a server or of a page may begin are refused, as words are.
+/// Prints the page of a collection. A URL that no link to a server or from a page may begin with is refused, like a wrong command
+/// line.
 pub fn page<'a>(rt: &HostRuntime, words: &PageWords<'a>) -> Result<u8, Fault<'a>> {
     match words.base {
         Some(base) if !is_base(base.as_bytes()) => Ok(print_refused_base(rt)),
@@ -18,14 +19,14 @@ pub fn page<'a>(rt: &HostRuntime, words: &PageWords<'a>) -> Result<u8, Fault<'a>
     }
 }
 
-/// Prints which URLs links may begin with, and answers the exit status.
+/// Prints which URLs links may begin with, and returns the exit status.
 fn print_refused_base(rt: &HostRuntime) -> u8 {
     Status::WordsRefused.after(println!(rt;
         "--base wants a URL that begins with http: or https:, or is relative"
     ))
 }
 
-/// Prints the page that the words ask for.
+/// Prints the page that the command line asks for.
 fn print_page_by<'a>(rt: &HostRuntime, words: &PageWords<'a>) -> Result<u8, Fault<'a>> {
     let Ok(files) = DatabaseFiles::of(rt, words.database) else {
         return Err(Fault::NoMemory);
@@ -80,7 +81,7 @@ fn print_page_of<'a>(
     }
 }
 
-/// The bytes of a text, where there is one.
+/// The bytes of a text, if there is one.
 fn bytes_of<'a>(text: Option<&'a str>) -> Option<&'a [u8]> {
     match text {
         Some(text) => Some(text.as_bytes()),

@@ -1,4 +1,4 @@
-//! What a terminal is shown while images are read.
+//! What a terminal shows while images are read.
 
 use hfs_console::Line;
 use hfs_word_collect::ReadWatch;
@@ -7,21 +7,20 @@ use std::cell::Cell;
 /// After how many bytes the line is written again.
 const BYTES_SHOWN: u64 = 4_194_304;
 
-/// How far the reading of an image is: one line on standard error that is written over again and again, where that is a
-/// terminal.
+/// How far an image has been read: one line on standard error that is rewritten, if that is a terminal.
 #[derive(Drop)]
 pub struct ReadProgress<'a> {
     line: Line<'a>,
-    /// Which image it is, of how many where that is known.
+    /// Which image it is, of how many if that is known.
     number: u64,
     all: Option<u64>,
     path: &'a str,
     /// How many bytes the image has, and how many were read.
     bytes: Cell<u64>,
     read: Cell<u64>,
-    /// How many bytes were read since the line was written.
+    /// How many bytes were read since the line was last written.
     fresh: Cell<u64>,
-    /// Whether the image was opened before.
+    /// Whether the image has been opened before.
     is_opened: Cell<bool>,
 }
 
@@ -45,12 +44,12 @@ impl<'a> ReadProgress<'a> {
         }
     }
 
-    /// Takes the line away.
+    /// Removes the line.
     pub fn end(&self) {
         self.line.end();
     }
 
-    /// Writes how far it is.
+    /// Shows how far it is.
     fn show(&self) {
         self.fresh.set(0);
         let (read, bytes) = (self.read.get(), self.bytes.get());

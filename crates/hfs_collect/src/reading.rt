@@ -1,4 +1,4 @@
-//! What the program is asked for, and from the command line to that.
+//! What the program is asked for, read from the command line.
 
 use crate::reading_page::{PageWords, page_command, page_words};
 use crate::reading_rows::{RowsWords, rows_command, rows_words};
@@ -18,7 +18,7 @@ pub enum Words<'a> {
     Rows(RowsWords<'a>),
 }
 
-/// Images, and the database that they are collected in.
+/// Images, and the database in which they are collected.
 #[derive(Drop)]
 pub struct CollectWords<'a> {
     /// The path of the database.
@@ -27,7 +27,7 @@ pub struct CollectWords<'a> {
     pub images: Vec<&'a str>,
     /// Whether digests are taken.
     pub takes_digests: bool,
-    /// Whether the images are only compared with what the database has of them.
+    /// Whether the images are only compared to what the database has about them.
     pub compares: bool,
 }
 
@@ -39,7 +39,7 @@ const DATABASE: Argument = Argument {
     excludes: &[],
 };
 
-/// The images that are collected, which only a comparison does without.
+/// The images that are collected; only a comparison can do without them.
 const IMAGES: Argument = Argument {
     name: "IMAGE",
     takes: Takes::Texts { unless: "compare" },
@@ -63,7 +63,7 @@ const COMPARE: Argument = Argument {
     excludes: &["no-digest"],
 };
 
-/// What the help says behind the arguments.
+/// What the help says after the arguments.
 const COLLECTIONS: &str = "For each image a line is printed: its path, how many volumes it has, how
 many of these are refused, how many files there are, and how many of
 them are damaged. An image that was collected before, under the same
@@ -113,7 +113,7 @@ fn command<'a>(alloc: Global) -> Result<Command<'a>, AllocError> {
     )
 }
 
-/// Reads the words, the first of which is the program's own name.
+/// Reads the command line, whose first word is the program's own name.
 pub fn read_words<'a>(alloc: Global, words: &'a [String]) -> Result<Words<'a>, WordsFault> {
     let matches = matches_of(alloc, words)?;
     match matches.subcommand() {
@@ -124,12 +124,12 @@ pub fn read_words<'a>(alloc: Global, words: &'a [String]) -> Result<Words<'a>, W
     }
 }
 
-/// What the program's command finds in the words.
+/// What the program's command finds in the command line.
 fn matches_of<'a>(alloc: Global, words: &'a [String]) -> Result<ArgMatches<'a>, Error> {
     command(alloc)?.try_get_matches_from(words)
 }
 
-/// What the words ask for, by what was found in them.
+/// What the command line asks for, from what was found in it.
 fn words_of<'a>(alloc: Global, matches: &ArgMatches<'a>) -> Result<CollectWords<'a>, WordsFault> {
     let database = DATABASE.text(matches)?;
     let takes_digests = !NO_DIGEST.is_given(matches)?;

@@ -9,11 +9,11 @@ use std::alloc::{AllocError, Global};
 pub struct PageWords<'a> {
     /// The path of the database.
     pub database: &'a str,
-    /// The URL of the folder that has the pages of disks.
+    /// The URL of the folder with the pages of disks.
     pub base: Option<&'a str>,
 }
 
-/// The path of the database, which has to be one already.
+/// The path of the database, which must already be one.
 const DATABASE: Argument = Argument {
     name: "DATABASE",
     takes: Takes::Text,
@@ -29,7 +29,7 @@ const BASE: Argument = Argument {
     excludes: &[],
 };
 
-/// What the help says behind the arguments.
+/// What the help says after the arguments.
 const PAGE_HELP: &str = "The page is one self-contained HTML document: it loads nothing from
 elsewhere, and can be put on a web site as it is. It has a line for each
 volume: its image, its name, how many files there are and how many of

@@ -6,7 +6,7 @@ use hfs_console::WordsFault;
 use hfs_word_collect::{Form, Table};
 use std::alloc::{AllocError, Global};
 
-/// Images whose rows are told as text.
+/// Images whose rows are printed as text.
 #[derive(Drop)]
 pub struct RowsWords<'a> {
     /// The paths of the images.
@@ -17,7 +17,7 @@ pub struct RowsWords<'a> {
     pub takes_digests: bool,
 }
 
-/// The images, of which there has to be one.
+/// The images, at least one.
 const IMAGES: Argument = Argument {
     name: "IMAGE",
     takes: Takes::Text,
@@ -37,7 +37,7 @@ const FORMAT: Argument = Argument {
     excludes: &[],
 };
 
-/// The table whose rows are written alone.
+/// The table whose rows are the only ones written.
 const TABLE: &str = "table";
 
 /// The names of the tables.
@@ -51,7 +51,7 @@ const NO_DIGEST: Argument = Argument {
     excludes: &[],
 };
 
-/// What the help says behind the arguments.
+/// What the help says after the arguments.
 const ROWS_HELP: &str = "The rows are those that the database would have, with keys that hold
 without one: image_path and image_sha256 of volumes and items, and
 volume_number of items. Without --table an image's lines come together,
@@ -77,7 +77,7 @@ fn images_argument<'a>(alloc: Global) -> Result<Arg<'a>, AllocError> {
     Ok(several(bare))
 }
 
-/// An argument that takes values, of which there has to be one.
+/// An argument that takes values, at least one.
 fn several<'a>(argument: Arg<'a>) -> Arg<'a> {
     argument
         .action(ArgAction::Append)
@@ -85,7 +85,7 @@ fn several<'a>(argument: Arg<'a>) -> Arg<'a> {
         .required(true)
 }
 
-/// The table as an argument, which CSV wants.
+/// The table as an argument, which CSV requires.
 fn table_argument<'a>(alloc: Global) -> Result<Arg<'a>, AllocError> {
     Arg::new(alloc, TABLE)
         .help("Only the rows of this table; needed for CSV")
@@ -126,7 +126,7 @@ fn form_of(matches: &ArgMatches<'_>) -> Result<Form, NoValue> {
     }
 }
 
-/// The table that is asked for, if one is.
+/// The table that is asked for, if any.
 fn table_of(matches: &ArgMatches<'_>) -> Result<Option<Table>, NoValue> {
     match matches.get_str(TABLE) {
         Some("image") => Ok(Some(Table::Image)),

@@ -11,7 +11,7 @@ use hfs_word_collect::{
 };
 use std::io::Stdout;
 
-/// Prints the rows of the images, and answers the exit status. Faults go to standard error, where no program looks for rows.
+/// Prints the rows of the images, and returns the exit status. Faults go to standard error, where no program looks for rows.
 pub fn rows(rt: &HostRuntime, words: &RowsWords<'_>) -> u8 {
     match print_rows(rt, words) {
         Ok(status) => status.number(),
@@ -23,7 +23,7 @@ pub fn rows(rt: &HostRuntime, words: &RowsWords<'_>) -> u8 {
     }
 }
 
-/// Prints what stands before the rows, and those of one image after the other.
+/// Prints what precedes the rows, and those of one image after the other.
 fn print_rows(rt: &HostRuntime, words: &RowsWords<'_>) -> Result<Status, RunFault> {
     write_head(rt.alloc(), &mut rt.stdout(), words.form)?;
     let mut taker = TextTaker::new(rt.alloc(), rt.stdout(), words.form);
@@ -47,8 +47,8 @@ fn write_rows<W: ReadWatch>(
     write_image(taker, &mut rows)
 }
 
-/// Prints the rows of the image at this place of the words, and answers whether all of them came; where they don't, and where the sum of a disk copy is wrong, this is
-/// told on standard error.
+/// Prints the rows of the image at this place of the command line, and returns whether all of them came; if they didn't, or if
+/// the sum of a disk copy is wrong, prints that on standard error.
 fn print_image(
     rt: &HostRuntime,
     taker: &mut TextTaker<Stdout>,
@@ -73,7 +73,7 @@ fn print_image(
             Ok(true)
         }
         None => {
-            // Where standard error takes nothing, the run goes on.
+            // If standard error takes nothing, the run goes on.
             let _printed = eprintln!(rt; "cannot read {}", ShownPath(path));
             Ok(false)
         }

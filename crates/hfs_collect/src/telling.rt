@@ -1,4 +1,4 @@
-//! What a terminal is told beside the lines that are printed.
+//! What a terminal shows besides the lines that are printed.
 
 use hfs_commands::ShownPath;
 use hfs_console::{tell_kind, tell_unread};
@@ -9,7 +9,7 @@ use std::io::{IsTerminal, Read};
 /// How a database of SQLite begins.
 const HEAD: &[u8; 16] = b"SQLite format 3\0";
 
-/// Whether the file of this path can be read, and doesn't begin as a database does.
+/// Whether the file at this path can be read, and doesn't begin as a database does.
 fn is_no_database(rt: &HostRuntime, path: &str) -> bool {
     let mut head = [0; 16];
     match File::open(rt, path) {
@@ -18,9 +18,9 @@ fn is_no_database(rt: &HostRuntime, path: &str) -> bool {
     }
 }
 
-/// Tells why a database can't be opened that isn't read here.
+/// Prints why a database can't be opened that isn't supported here.
 fn tell_unreadable(rt: &HostRuntime, path: &str) {
-    // Where the terminal takes nothing more, the program goes on.
+    // If the terminal takes nothing more, the program goes on.
     let _printed = if is_no_database(rt, path) {
         eprintln!(rt; "it is no database of SQLite")
     } else {
@@ -30,7 +30,7 @@ fn tell_unreadable(rt: &HostRuntime, path: &str) {
     };
 }
 
-/// Tells why a database can't be opened.
+/// Prints why a database can't be opened.
 fn tell_why(rt: &HostRuntime, path: &str, why: Obstacle) {
     let _printed = match why {
         Obstacle::Busy => eprintln!(rt; "another program has it open: close that first"),
@@ -50,7 +50,7 @@ fn tell_why(rt: &HostRuntime, path: &str, why: Obstacle) {
     };
 }
 
-/// Tells on standard error why the database of this path can't be opened, where that is a terminal.
+/// Prints on standard error why the database at this path can't be opened, if that is a terminal.
 pub fn tell_obstacle(rt: &HostRuntime, path: &str, why: Obstacle) {
     if !rt.stderr().is_terminal() {
         return;
@@ -62,7 +62,7 @@ pub fn tell_obstacle(rt: &HostRuntime, path: &str, why: Obstacle) {
     tell_why(rt, path, why);
 }
 
-/// Tells on standard error that nothing was found in an image, and what it is where its bytes say it, where that is a terminal.
+/// Prints on standard error that nothing was found in an image, and what it is if its bytes say, if that is a terminal.
 pub fn tell_found(rt: &HostRuntime, path: &str, volumes: u64) {
     if volumes != 0 || !rt.stderr().is_terminal() {
         return;

@@ -1,4 +1,4 @@
-//! An image in memory in a database in memory: what that has of it, and how images stand to that.
+//! An image in memory in a database in memory: what the database has about it, and how images compare to that.
 
 use crate::stored::{facts_of, rows_of};
 use hfs_collection::ImageCounts;
@@ -20,7 +20,7 @@ fn new_collection(alloc: Global) -> Option<InMemory> {
     Collection::over(alloc, conn, true).ok()
 }
 
-/// How many volumes and files are told where an image is put under this path.
+/// How many volumes and files are reported when an image is put under this path.
 fn put(alloc: Global, collection: &mut InMemory, path: &str, image: &[u8]) -> Option<(u64, u64)> {
     let facts = facts_of(path);
     let mut rows = rows_of(alloc, &facts, image);
@@ -30,7 +30,7 @@ fn put(alloc: Global, collection: &mut InMemory, path: &str, image: &[u8]) -> Op
     }
 }
 
-/// How an image stands to what the collection has of this path.
+/// How an image compares to what the collection has for this path.
 fn compared(
     alloc: Global,
     collection: &mut InMemory,
@@ -61,7 +61,7 @@ fn has_texts(row: &Row, wanted: &[Option<&str>]) -> bool {
     true
 }
 
-/// Whether a listing has these rows alone.
+/// Whether a listing has exactly these rows.
 fn lists(collection: &mut InMemory, listing: Listing, wanted: &[&[Option<&str>]]) -> bool {
     let Ok(rows) = listed(collection, listing) else {
         return false;
@@ -115,7 +115,7 @@ const ONE_FILE_AGAIN: &[Option<&str>] = &[
     Some("sound"),
 ];
 
-/// The fork that lies on both volumes.
+/// The fork that is on both volumes.
 const FORK: &[Option<&str>] = &[
     Some("D:f"),
     Some("volumes 2"),
@@ -138,7 +138,7 @@ fn put_both(
     Ok(())
 }
 
-/// Compares them, and puts the first in the place of the second.
+/// Compares them, and puts the first in place of the second.
 fn put_again(
     rt: &impl Abort,
     alloc: Global,

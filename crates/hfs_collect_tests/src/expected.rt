@@ -1,4 +1,4 @@
-//! A writer that takes one text alone.
+//! A writer that takes only one text.
 
 use std::cell::Cell;
 use std::io;

@@ -1,5 +1,5 @@
-//! Tests of images in memory that are collected: their rows as text, and in a database in memory. Expected values are written by hand;
-//! digests are those that `sha256sum` tells.
+//! Tests of images in memory that are collected: their rows as text, and in a database in memory. Expected values are written by
+//! hand; digests are those that `sha256sum` prints.
 #![tactic(auto)]
 
 #[cfg(test)]

@@ -9,7 +9,7 @@ use std::alloc::Global;
 use std::cell::Cell;
 use std::test::Fail;
 
-/// The lines of the volume `D` with the file `f` alone.
+/// The lines of the volume `D` with only the file `f`.
 const LINES: &str = concat!(
     "{\"table\":\"image\",\"path\":\"one.img\",\"bytes\":32768,\"sha256\":\"b3ac4394805586543f978b592720fc9462bb9928bb69788932ca20fedab368ac\",\"program\":\"a test\"}\n",
     "{\"table\":\"volume\",\"image_path\":\"one.img\",\"image_sha256\":\"b3ac4394805586543f978b592720fc9462bb9928bb69788932ca20fedab368ac\",\"number\":1,\"how\":\"bare\",\"first_byte\":0,\"bytes\":32768,\"name\":\"D\",\"created\":null,\"modified\":null,\"backup\":null,\"blocks\":58,\"block_bytes\":512,\"free_blocks\":46,\"verdict\":\"sound\"}\n",
@@ -27,7 +27,7 @@ const COUNTS: ImageCounts = ImageCounts {
     wrong_sums: 0,
 };
 
-/// What is answered where the rows of an image are written, and how many bytes of the lines came.
+/// The result of writing the rows of an image, and how many bytes of the lines came.
 fn written(alloc: Global, image: &[u8]) -> (Option<ImageCounts>, usize) {
     let taken = Cell::new(0);
     let writer = Expected {

@@ -7,7 +7,7 @@ use hfs_word_collect::ImageRows;
 use std::alloc::Global;
 use std::marker::Brand;
 
-/// An image in memory, which is opened as often as one likes.
+/// An image in memory that can be opened any number of times.
 #[derive(Clone, Copy)]
 pub struct Stored<'a> {
     bytes: &'a [u8],
@@ -27,7 +27,7 @@ pub type StoredRows<'a> = ImageRows<
     NotedFile<MemoryBytes<'a>, Brand, Stored<'a>>,
 >;
 
-/// What is told of an image beside its bytes.
+/// What is known of an image besides its bytes.
 pub fn facts_of(path: &str) -> ImageFacts<'_> {
     ImageFacts {
         path,

@@ -53,7 +53,7 @@ fn give_volumes<S: PlacedBytes + Drop, K: PickedImage, F: ImageFile<S, K>, T: Ro
     Ok(counts)
 }
 
-/// Gives the rows of the volumes in these ranges of an image, or of the one that is lost there where there are none.
+/// Gives the rows of the volumes in these ranges of an image, or of the lost one if there are none.
 fn give_all<S: PlacedBytes + Drop, K: PickedImage, F: ImageFile<S, K>, T: RowTaker>(
     alloc: Global,
     taker: &mut T,
@@ -80,7 +80,7 @@ fn give_all<S: PlacedBytes + Drop, K: PickedImage, F: ImageFile<S, K>, T: RowTak
     }
 }
 
-/// The ranges of an image in which volumes lie, by an opening of it that is noted.
+/// The ranges of an image in which volumes lie, from a noted opening of it.
 fn find_ranges<S: PlacedBytes + Drop, K: PickedImage, F: ImageFile<S, K>>(
     alloc: Global,
     file: &mut F,
@@ -99,7 +99,8 @@ fn find_ranges<S: PlacedBytes + Drop, K: PickedImage, F: ImageFile<S, K>>(
     Ok(ranges)
 }
 
-/// Gives the rows of the volumes in an image, or in the user data of its raw sectors: of the one that is lost there, where there are none. Answers how much that is.
+/// Gives the rows of the volumes in an image, or in the user data of its raw sectors, or of the lost one if there are none.
+/// Returns how much that is.
 pub(crate) fn give_content<S: PlacedBytes + Drop, K: PickedImage, F: ImageFile<S, K>, T: RowTaker>(
     alloc: Global,
     taker: &mut T,

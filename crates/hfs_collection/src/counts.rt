@@ -14,7 +14,7 @@ pub struct ImageCounts {
     pub refused: u64,
     /// How many files have a row.
     pub files: u64,
-    /// How many of them have a fork that isn't whole.
+    /// How many of these files have a fork that isn't whole.
     pub damaged: u64,
     /// How many of the volumes are disk copies whose sum is wrong.
     pub wrong_sums: u64,
@@ -51,7 +51,7 @@ impl FileCounts {
         }
     }
 
-    /// Both together. None where a number is 2^64 or more.
+    /// The sum of both. None if a number is 2^64 or more.
     pub(crate) fn with(self, more: FileCounts) -> Option<FileCounts>
         ensures { IfSome result (λ sum. sum ≡ spec.both_files self more) }
     {
@@ -62,7 +62,7 @@ impl FileCounts {
     }
 }
 
-/// How many wrong sums a volume has that lies in its file this way.
+/// How many wrong sums a volume has that lies in its file in this way.
 fn wrong_sum(way: Way) -> u64
     ensures { result ≡ spec.wrong_sum way }
 {
@@ -86,7 +86,7 @@ impl ImageCounts {
         }
     }
 
-    /// A sound volume with so many files.
+    /// A sound volume with this many files.
     pub(crate) fn sound(files: u64) -> ImageCounts
         ensures { result ≡ spec.sound_volume files }
     {
@@ -112,7 +112,7 @@ impl ImageCounts {
         }
     }
 
-    /// A volume that lies in its file this way.
+    /// A volume that lies in its file in this way.
     pub(crate) fn lying(self, way: Way) -> ImageCounts
         ensures { result ≡ spec.lying way self }
     {
@@ -125,7 +125,7 @@ impl ImageCounts {
         }
     }
 
-    /// Both together. None where a number is 2^64 or more.
+    /// The sum of both. None if a number is 2^64 or more.
     pub(crate) fn with(self, more: ImageCounts) -> Option<ImageCounts>
         ensures { IfSome result (λ sum. sum ≡ spec.both_volumes self more) }
     {

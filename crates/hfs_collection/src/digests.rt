@@ -18,14 +18,14 @@ use hfs_source::PlacedBlocks;
 use hfs_sparse::CopyFault;
 use std::alloc::{AllocError, Global};
 
-/// The digests of both forks of an item, as they stand in its row.
+/// The digests of both forks of an item, as its row has them.
 #[derive(Drop)]
 pub(crate) struct ForkDigests {
     pub(crate) data_fork: RowValue,
     pub(crate) resource_fork: RowValue,
 }
 
-/// A digest as it stands in a row.
+/// A digest as a row has it.
 pub(crate) fn digest_text(alloc: Global, digest: &[u8; 32]) -> Result<RowValue, AllocError>
     ensures { IfOk result (λ value. value ≡ Text (encode_lower digest.now)) }
 {
@@ -33,7 +33,7 @@ pub(crate) fn digest_text(alloc: Global, digest: &[u8; 32]) -> Result<RowValue, 
     Ok(RowValue::Text(OwnedBytes::new(digits.into_bytes())))
 }
 
-/// The digest of a fork of a file, as it stands in its row.
+/// The digest of a file's fork, as its row has it.
 fn fork_digest<S: PlacedBlocks + Drop>(
     alloc: Global,
     image: &mut SeenImage<S>,
@@ -53,7 +53,7 @@ fn fork_digest<S: PlacedBlocks + Drop>(
     }
 }
 
-/// The digests of both forks of an item, where they are to be taken: a folder has none.
+/// The digests of both forks of an item, if they are to be taken; a folder has none.
 pub(crate) fn fork_digests<S: PlacedBlocks + Drop>(
     alloc: Global,
     image: &mut SeenImage<S>,

@@ -38,7 +38,7 @@ fn file_number(kind: ItemKind) -> u64
 }
 
 impl ItemCounts {
-    /// With an item more. None where there are 2^64.
+    /// One more item. None if there would be 2^64.
     fn after(self, kind: ItemKind) -> Option<ItemCounts>
         ensures items { IfSome result (λ counts. counts.items ≡ self.items + 1) }
         ensures files { IfSome result (λ counts. counts.files ≡ self.files + file_number kind) }
@@ -50,7 +50,7 @@ impl ItemCounts {
     }
 }
 
-/// Gives the row of an item, to which these names lead.
+/// Gives the row of the item that these names lead to.
 fn give_item<S: PlacedBlocks + Drop, T: RowTaker>(
     alloc: Global,
     taker: &mut T,
@@ -73,7 +73,7 @@ fn give_item<S: PlacedBlocks + Drop, T: RowTaker>(
     Ok(())
 }
 
-/// Gives the row of the next item, and answers whether there was one.
+/// Gives the row of the next item, and returns whether there was one.
 #[tactic(auto, using(crate::proofs::Counting::files_more, crate::proofs::Counting::files_none))]
 fn give_next<S: PlacedBlocks + Drop, T: RowTaker>(
     alloc: Global,
@@ -113,7 +113,7 @@ fn give_next<S: PlacedBlocks + Drop, T: RowTaker>(
     Ok(true)
 }
 
-/// Gives the rows of all items that are to come, and answers how many files are among them.
+/// Gives the rows of all items that are left, and returns how many files are among them.
 #[tactic(auto, using(crate::proofs::Counting::files_all))]
 fn give_inventory<S: PlacedBlocks + Drop, T: RowTaker>(
     alloc: Global,
@@ -137,7 +137,7 @@ fn give_inventory<S: PlacedBlocks + Drop, T: RowTaker>(
     Ok(counts.files)
 }
 
-/// Gives the rows of all items of a volume, and answers how many files are among them.
+/// Gives the rows of all items of a volume, and returns how many files are among them.
 #[tactic(auto, using(crate::proofs::Counting::files_of))]
 pub(crate) fn give_items<S: PlacedBlocks + Drop, T: RowTaker>(
     alloc: Global,

@@ -45,7 +45,7 @@ pub(crate) fn give_volume_row<T: RowTaker>(
     Ok(())
 }
 
-/// Gives the row of an item that remains, with this number, and answers whether it is a file, and whole.
+/// Gives the row of an item that remains, with this number, and returns whether it is a file, and whether it is whole.
 #[tactic(auto, using(crate::proofs::RemainsGoing::none_told, crate::proofs::RemainsGoing::row_told, crate::proofs::Counting::none_counted, crate::proofs::Counting::row_counted))]
 fn give_remaining_item<S: PlacedBlocks, T: RowTaker>(
     alloc: Global,
@@ -73,7 +73,7 @@ fn give_remaining_item<S: PlacedBlocks, T: RowTaker>(
     Ok(told.counts)
 }
 
-/// Gives the rows of items that remain, with numbers from 0 on, and answers how many files are among them.
+/// Gives the rows of items that remain, with numbers from 0 on, and returns how many files are among them.
 fn give_remaining<S: PlacedBlocks, T: RowTaker>(
     alloc: Global,
     taker: &mut T,
@@ -104,7 +104,8 @@ fn give_remaining<S: PlacedBlocks, T: RowTaker>(
     Ok(counts)
 }
 
-/// Gives the rows of what was found of a volume, of whose forks so many bytes are taken at most, and answers how many files are among them.
+/// Gives the rows of what was found of a volume, and returns how many files are among them. At most `limit` bytes are taken of
+/// all forks.
 fn give_remains<S: PlacedBlocks, T: RowTaker>(
     alloc: Global,
     taker: &mut T,
@@ -131,7 +132,8 @@ fn give_remains<S: PlacedBlocks, T: RowTaker>(
     give_remaining(alloc, taker, source, &found, &finds.items, taken)
 }
 
-/// Gives the row of a refused volume of which this was found, and those of what remains of it, and answers how many files are among these.
+/// Gives the row of a refused volume of which this was found, and those of what remains of it, and returns how many files are
+/// among the latter.
 fn give_found<S: PlacedBlocks, T: RowTaker>(
     alloc: Global,
     taker: &mut T,
@@ -159,7 +161,7 @@ fn give_found<S: PlacedBlocks, T: RowTaker>(
     give_remains(alloc, taker, source, finds, limit, taken)
 }
 
-/// How many bytes are taken of the forks of a refused image, as is usual: none where nothing is found of it.
+/// How many bytes are taken of a refused image's forks by default: none if nothing is found of it.
 fn limit_of<S: PlacedBlocks>(image: &RefusedImage<S>) -> u64
     ensures { IfSome image.now.found (λ _. result ≡ 4 * image.now.len) }
 {
@@ -169,7 +171,7 @@ fn limit_of<S: PlacedBlocks>(image: &RefusedImage<S>) -> u64
     }
 }
 
-/// Gives the row of a volume that is refused, and those of what remains of it, and answers how much that is.
+/// Gives the row of a volume that is refused, and those of what remains of it, and returns how much that is.
 pub(crate) fn give_refused<S: PlacedBlocks, T: RowTaker>(
     alloc: Global,
     taker: &mut T,
@@ -205,8 +207,8 @@ pub(crate) fn give_refused<S: PlacedBlocks, T: RowTaker>(
     }
 }
 
-/// Gives the row of a volume that is refused, and those of what remains of it, where a directory is found; else no row. Answers how
-/// much that is.
+/// Gives the row of a volume that is refused, and those of what remains of it, if it has a directory; otherwise no row. Returns
+/// how much that is.
 pub(crate) fn give_where_found<S: PlacedBlocks, T: RowTaker>(
     alloc: Global,
     taker: &mut T,

@@ -30,7 +30,7 @@ use hfs_source::{BlocksOf, PlacedBlocks, PlacedBytes};
 use hfs_sparse::SeenBlocks;
 use std::alloc::Global;
 
-/// Gives the row of a sound volume and those of its items, and answers how many files are among them.
+/// Gives the row of a sound volume and those of its items, and returns how many files are among them.
 fn give_sound<S: PlacedBlocks + Drop, T: RowTaker>(
     alloc: Global,
     taker: &mut T,
@@ -57,7 +57,7 @@ fn give_sound<S: PlacedBlocks + Drop, T: RowTaker>(
     give_items(alloc, taker, image, taken)
 }
 
-/// The master directory block of an image, block 2, and of one that is too short zeros in its place.
+/// The master directory block of an image, block 2; zeros if the image is too short.
 fn directory<S: PlacedBlocks>(blocks: &mut S) -> Result<Mdb, CollectFault>
     ensures directory { IfOk result (λ mdb. OfEach (S.Holds blocks.new) (IsDirectoryOf mdb)) }
     ensures narrows { OfEach (S.Holds blocks.new) (S.Holds blocks.old) }
@@ -72,8 +72,8 @@ fn directory<S: PlacedBlocks>(blocks: &mut S) -> Result<Mdb, CollectFault>
     }
 }
 
-/// Gives the row of the volume that lies in a range of an image, and those of its items, or of what remains of them where it is refused. Answers how much
-/// that is.
+/// Gives the row of the volume in a range of an image, and those of its items, or of what remains of them if it is refused.
+/// Returns how much that is.
 fn give_volume<S: PlacedBytes + Drop, K: PickedImage, F: ImageFile<S, K>, T: RowTaker>(
     alloc: Global,
     taker: &mut T,
@@ -116,7 +116,8 @@ fn give_volume<S: PlacedBytes + Drop, K: PickedImage, F: ImageFile<S, K>, T: Row
     }
 }
 
-/// Where a volume lies that was found in an image, with this number; of a disk copy all bytes are read, to tell whether its sum is right.
+/// Where the volume with this number that was found in an image lies. All bytes of a disk copy are read, to say whether its sum
+/// is right.
 fn place_in<S: PlacedBytes + Drop, K: PickedImage, F: ImageFile<S, K>>(
     file: &mut F,
     layout: Layout,
@@ -138,8 +139,8 @@ fn place_in<S: PlacedBytes + Drop, K: PickedImage, F: ImageFile<S, K>>(
     Ok(VolumePlace::of(others, number, found, sum))
 }
 
-/// Gives the row of the volume in a range of an image, with this number, and those of its items, or of what remains of them where it is refused. Answers how much
-/// that is.
+/// Gives the row of the volume in a range of an image, with this number, and those of its items, or of what remains of them if it
+/// is refused. Returns how much that is.
 pub(crate) fn give_range<S: PlacedBytes + Drop, K: PickedImage, F: ImageFile<S, K>, T: RowTaker>(
     alloc: Global,
     taker: &mut T,
@@ -166,8 +167,8 @@ pub(crate) fn give_range<S: PlacedBytes + Drop, K: PickedImage, F: ImageFile<S, 
     Ok(counts.lying(place.way))
 }
 
-/// Gives the row of the volume that is lost in an image, and those of what remains of it, where a directory is found in it; else no row. Answers how much that
-/// is.
+/// Gives the row of the volume that is lost in an image, and those of what remains of it, if it has a directory; otherwise no
+/// row. Returns how much that is.
 pub(crate) fn give_lost<S: PlacedBytes + Drop, K: PickedImage, F: ImageFile<S, K>, T: RowTaker>(
     alloc: Global,
     taker: &mut T,

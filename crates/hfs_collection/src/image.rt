@@ -20,31 +20,31 @@ use hfs_rows::{RowTaker, RowValue, Table};
 use hfs_source::PlacedBytes;
 use std::alloc::{AllocError, Global};
 
-/// What is told of an image beside its bytes.
+/// What is known of an image besides its bytes.
 #[derive(Clone, Copy)]
 pub struct ImageFacts<'a> {
     /// The path as it was given.
     pub path: &'a str,
-    /// The name of the program that reads it, and its version.
+    /// The name and version of the program that reads it.
     pub program: &'a str,
     /// Whether digests are taken.
     pub takes_digests: bool,
 }
 
-/// What the first opening of an image tells.
+/// What the first opening of an image finds.
 #[derive(Drop)]
 pub(crate) struct Look {
     /// How many bytes it has.
     pub(crate) len: u64,
-    /// Their digest as it stands in the image's row.
+    /// Their digest, as the image's row has it.
     pub(crate) digest: RowValue,
-    /// What they are.
+    /// How they are laid out.
     pub(crate) layout: Layout,
     /// How many of its raw sectors have no user data.
     pub(crate) others: u64,
 }
 
-/// The digest of an image as it stands in its row, where it is to be taken.
+/// The digest of an image as its row has it, if it is to be taken.
 fn digest_of<S: PlacedBytes>(
     alloc: Global,
     source: &mut S,
@@ -63,7 +63,7 @@ fn digest_of<S: PlacedBytes>(
     }
 }
 
-/// How many sectors of an image have no user data, where it is of raw ones: each is looked at.
+/// How many sectors of an image have no user data, if they are raw; each is looked at.
 fn others_in<S: PlacedBytes>(source: &mut S, layout: Layout) -> Result<u64, CollectFault>
     ensures others { IfOk result (λ others. OfEach (S.Holds source.new)
         (λ file. others ≡ others_by layout file)) }
@@ -78,7 +78,7 @@ fn others_in<S: PlacedBytes>(source: &mut S, layout: Layout) -> Result<u64, Coll
     }
 }
 
-/// What an image is, by one opening.
+/// What one opening of an image finds.
 fn look_at<S: PlacedBytes>(alloc: Global, source: &mut S, taken: bool) -> Result<Look, CollectFault>
     ensures look { IfOk result (λ look. OfEach (S.Holds source.new) (IsLook taken look)) }
     ensures held { OfEach (S.Holds source.new) (S.Holds source.old) }
@@ -97,7 +97,7 @@ fn look_at<S: PlacedBytes>(alloc: Global, source: &mut S, taken: bool) -> Result
     })
 }
 
-/// What an image is, and what was read for that is noted.
+/// What an image is; what was read for that is noted.
 fn noted_look<S: PlacedBytes + Drop, K: PickedImage, F: ImageFile<S, K>>(
     alloc: Global,
     file: &mut F,
@@ -161,9 +161,10 @@ fn give_rows<S: PlacedBytes + Drop, K: PickedImage, F: ImageFile<S, K>, T: RowTa
     give_content::<S, K, F, T>(alloc, taker, file, layout, others, facts.takes_digests)
 }
 
-/// Gives a taker the rows of an image: its own, and for each volume that lies in it, or in the user data of its raw CD sectors, that volume's, with those of its
-/// items, or of what remains of them where it is refused; where no volume lies in it, those of the one that is lost. At a fault what was given is a beginning
-/// of them. It is proved of each picked image that has the bytes which were read. Faults: `ReadFailed`, and then the file is given up, `CannotWrite`, `NoMemory`.
+/// Gives a taker the rows of an image: its own, and for each volume in it, or in the user data of its raw CD sectors, that
+/// volume's, with those of its items, or of what remains of them if it is refused; if there is no volume, those of the lost one.
+/// At a fault, what was given is a beginning of them. This holds for every picked image consistent with the bytes read. Faults:
+/// `ReadFailed`, and then the file is given up; `CannotWrite`; `NoMemory`.
 pub fn give_image<S: PlacedBytes + Drop, K: PickedImage, F: ImageFile<S, K>, T: RowTaker>(
     alloc: Global,
     taker: &mut T,

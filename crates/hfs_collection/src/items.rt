@@ -82,7 +82,7 @@ fn push_place(
     push_number(values, u64::from(info.parent))
 }
 
-/// Appends characters, of a file alone.
+/// Appends characters, for a file only.
 pub(crate) fn push_of_file(
     alloc: Global,
     values: &mut Vec<RowValue>,
@@ -98,7 +98,7 @@ pub(crate) fn push_of_file(
     }
 }
 
-/// Appends a flag, of a file alone.
+/// Appends a flag, for a file only.
 pub(crate) fn push_flag(
     values: &mut Vec<RowValue>,
     kind: ItemKind,
@@ -113,7 +113,7 @@ pub(crate) fn push_flag(
     }
 }
 
-/// Appends a number, of a file alone.
+/// Appends a number, for a file only.
 pub(crate) fn push_length(
     values: &mut Vec<RowValue>,
     kind: ItemKind,
@@ -128,7 +128,7 @@ pub(crate) fn push_length(
     }
 }
 
-/// Appends a number, of a folder alone.
+/// Appends a number, for a folder only.
 fn push_valence(values: &mut Vec<RowValue>, kind: ItemKind, valence: u32) -> Result<(), AllocError>
     ensures { OnOk result (values.new.items ≡ values.old.items
         ++ cell_value (of_folder kind (number valence)) ∷ []) }
@@ -165,7 +165,7 @@ pub(crate) fn push_dates(
     push_moment_value(alloc, values, info.backup)
 }
 
-/// Appends items, the bytes of both forks, and the Finder's bytes.
+/// Appends the number of items, the lengths of both forks, and the Finder's bytes.
 #[tactic(auto, unfolding(crate::specs::Items::size_values))]
 fn push_sizes(alloc: Global, values: &mut Vec<RowValue>, info: &Info) -> Result<(), AllocError>
     ensures { OnOk result (values.new.items ≡ values.old.items ++ size_values info.now) }
@@ -176,7 +176,7 @@ fn push_sizes(alloc: Global, values: &mut Vec<RowValue>, info: &Info) -> Result<
     push_hex_value(alloc, values, &info.finder)
 }
 
-/// Appends the verdict on a fork, of a file alone.
+/// Appends the verdict on a fork, for a file only.
 fn push_verdict(alloc: Global, values: &mut Vec<RowValue>, kind: ItemKind) -> Result<(), AllocError>
     ensures { OnOk result (values.new.items ≡ values.old.items ++ fork_verdict kind ∷ []) }
 {
@@ -207,7 +207,7 @@ fn push_forks(
     push_verdict(alloc, values, kind)
 }
 
-/// The values of the row of the item to which these names lead.
+/// The values of the row of the item that these names lead to.
 #[tactic(auto, unfolding(crate::specs::Items::item_values))]
 pub(crate) fn item_values(
     alloc: Global,

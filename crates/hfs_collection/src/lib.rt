@@ -1,5 +1,5 @@
-//! The rows that a collection has of an image: the image's own, those of the volumes that lie in it, and those of their
-//! items, with the digests of their forks.
+//! The rows that a collection has about an image: the image's own, those of the volumes in it, and those of their items, with the
+//! digests of their forks.
 #![tactic(auto)]
 
 mod content;

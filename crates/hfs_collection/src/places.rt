@@ -1,4 +1,4 @@
-//! The volumes of a file, as their rows tell them.
+//! The volumes of a file, as their rows describe them.
 ghost use Rattle.std.specs.Prelude.{◌≡◌};
 ghost use Rattle.hfs_collection.specs.Volumes.{lost_place, place_of, way_of};
 
@@ -9,7 +9,7 @@ use hfs_containers::{ByteRange, Container, FoundRange};
 pub(crate) enum Way {
     /// It was found there.
     Found(Container),
-    /// It was found as the data of a disk copy, whose sum is wrong.
+    /// It was found as the data of a disk copy whose sum is wrong.
     WrongSum,
     /// It is the whole file, in which no volume was found, but a directory.
     Lost,
@@ -18,15 +18,15 @@ pub(crate) enum Way {
 /// Which volume of a file it is, and where it lies.
 #[derive(Clone, Copy, Debug, PartialEq, Eq)]
 pub(crate) struct VolumePlace {
-    /// Its number: those that were found are counted from 1.
+    /// Its number; the volumes that were found are counted from 1.
     pub(crate) number: u64,
     pub(crate) way: Way,
-    /// How many sectors of its image have no user data, where that is of raw CD sectors; else 0.
+    /// How many sectors of its image have no user data, if they are raw CD sectors; else 0.
     pub(crate) others: u64,
     pub(crate) range: ByteRange,
 }
 
-/// How a volume lies that was found, by whether its sum is right.
+/// How a volume that was found lies in its file, given whether its sum is right.
 fn way_of(container: Container, sum: Option<bool>) -> Way
     ensures { result ≡ way_of container sum }
 {
@@ -37,7 +37,7 @@ fn way_of(container: Container, sum: Option<bool>) -> Way
 }
 
 impl VolumePlace {
-    /// That of a volume that was found, with this number and what is told of its sum, where so many sectors have no user data.
+    /// The place of a volume that was found, with this number, whether its sum is right, and how many sectors have no user data.
     pub(crate) fn of(others: u64, number: u64, found: &FoundRange, sum: Option<bool>) -> VolumePlace
         ensures { result ≡ place_of others number found.now sum }
     {
@@ -49,7 +49,7 @@ impl VolumePlace {
         }
     }
 
-    /// That of the volume that is lost in a file of `len` bytes, where so many sectors have no user data.
+    /// The place of the lost volume in a file of `len` bytes, with how many sectors have no user data.
     pub(crate) fn lost(others: u64, len: u64) -> VolumePlace
         ensures { result ≡ lost_place others len }
     {

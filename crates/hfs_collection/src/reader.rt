@@ -9,16 +9,16 @@ use hfs_source::PlacedBytes;
 use hfs_sparse::SparseFault;
 use std::snapshot::Snapshot;
 
-/// How often a file may be opened: each volume in it takes two openings at most.
+/// How often a file may be opened: each volume in it takes at most two openings.
 const MOST: usize = 256;
 
-/// What is opened as often as one likes, each time to be read from its beginning on.
+/// Something that can be opened any number of times, each time to be read from its beginning.
 pub trait Reopen<S> {
     /// Opens it. Errors: it can't be opened, memory was refused.
     fn reopen(&mut self) -> Result<S, SparseFault>;
 }
 
-/// A file with what was read by its openings, for proofs alone.
+/// A file with what was read by its openings, for proofs only.
 #[derive(Drop)]
 pub struct NotedFile<S: PlacedBytes, K: PickedImage, F> {
     file: F,
@@ -28,7 +28,7 @@ pub struct NotedFile<S: PlacedBytes, K: PickedImage, F> {
 }
 
 impl<S: PlacedBytes, K: PickedImage, F> NotedFile<S, K, F> {
-    /// A file that wasn't opened yet.
+    /// A file that hasn't been opened yet.
     pub fn new(file: F) -> NotedFile<S, K, F>
         ensures sources { result.sources.items ≡ [] }
         ensures volumes { result.volumes.items ≡ [] }

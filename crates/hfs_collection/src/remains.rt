@@ -10,12 +10,12 @@ use hfs_model::Info;
 use hfs_rows::RowValue;
 use std::alloc::{AllocError, Global};
 
-/// What a row tells of a fork.
+/// What a row says about a fork.
 #[derive(Drop)]
 pub(crate) struct ForkTold {
     /// The digest of the bytes that are taken of it.
     pub(crate) digest: RowValue,
-    /// What is said of it.
+    /// The verdict on the fork.
     pub(crate) verdict: RowValue,
     /// Whether nothing is wrong with it.
     pub(crate) is_whole: bool,
@@ -54,7 +54,7 @@ fn push_marks(alloc: Global, values: &mut Vec<RowValue>, info: &Info) -> Result<
     push_empty(values)
 }
 
-/// Appends the bytes of both forks and the Finder's bytes; how many items a folder has isn't told.
+/// Appends the lengths of both forks and the Finder's bytes; how many items a folder has isn't given.
 #[tactic(auto, unfolding(crate::specs::Remains::remains_sizes))]
 fn push_sizes(alloc: Global, values: &mut Vec<RowValue>, info: &Info) -> Result<(), AllocError>
     ensures { OnOk result (values.new.items ≡ values.old.items ++ remains_sizes info.now) }
@@ -65,7 +65,7 @@ fn push_sizes(alloc: Global, values: &mut Vec<RowValue>, info: &Info) -> Result<
     push_hex_value(alloc, values, &info.finder)
 }
 
-/// Appends the digests of both forks, and what is said of them.
+/// Appends the digests of both forks, and the verdicts on them.
 #[tactic(auto, unfolding(crate::specs::Remains::remains_forks))]
 fn push_forks(
     values: &mut Vec<RowValue>,
@@ -81,7 +81,7 @@ fn push_forks(
     push_value(values, resource_fork.verdict)
 }
 
-/// The values of the row of an item that remains, with this number, to which these names lead, and with this path below the payload.
+/// The values of the row of an item that remains, with this number, the names that lead to it, and its path below the payload.
 #[tactic(auto, unfolding(crate::specs::Remains::remains_values))]
 pub(crate) fn remains_values(
     alloc: Global,

@@ -10,16 +10,16 @@ use hfs_sparse::SparseFault;
 /// A sound volume that was opened in a part of an image.
 pub type OpenedPart<S, K> = SeenImage<BlocksOf<ImagePart<S, K>>>;
 
-/// A file that is opened as often as one likes, each time to be read from its beginning on. It keeps, for proofs, what was read by openings
-/// that are let go, and whether it was given up.
+/// A file that can be opened any number of times, each time to be read from its beginning. For proofs, it keeps what was read by
+/// openings that were let go, and whether it was given up.
 pub trait ImageFile<S: PlacedBytes, K: PickedImage> {
-    /// The images that have the bytes which were read so.
+    /// The images consistent with the bytes read in this way.
     ghost Holds: { Self → List ℕ → Type 0 };
 
-    /// It can't be opened, or can't be read as far as is wanted: so only giving it up makes it.
+    /// It can't be opened, or not be read as far as needed; only giving it up makes it so.
     ghost IsUnread: { Self → Type 0 };
 
-    /// There is room to note what was read by an opening.
+    /// There is room to note what was read by one more opening.
     ghost HasRoom: { Self → Type 0 };
 
     /// Opens the file. Errors: it can't be opened, memory was refused.
@@ -35,14 +35,14 @@ pub trait ImageFile<S: PlacedBytes, K: PickedImage> {
         ensures unread { IsUnread self.new → IsUnread self.old }
         ensures held { OfEach (Holds self.new) (Holds self.old) };
 
-    /// Notes what was read by an opening in which a volume was opened, and that is let go with it.
+    /// Notes what was read by an opening in which a volume was opened, which is let go with it.
     fn note_volume(&mut self, image: &OpenedPart<S, K>)
         requires { HasRoom self.old }
         ensures noted { OfEach (Holds self.new) (S.Holds image.now.bytes.source) }
         ensures unread { IsUnread self.new → IsUnread self.old }
         ensures held { OfEach (Holds self.new) (Holds self.old) };
 
-    /// Notes that it can't be opened, or not be read as far as is wanted.
+    /// Notes that it can't be opened, or not be read as far as needed.
     fn give_up(&mut self)
         ensures unread { IsUnread self.new }
         ensures held { OfEach (Holds self.new) (Holds self.old) };

@@ -1,4 +1,4 @@
-//! What the rows of items tell of what remains of a refused volume.
+//! What the rows of items say about what remains of a refused volume.
 ghost use Rattle.std.specs.Prelude.{◌≡◌, ◌&&◌, Some, IfOk, string_bytes};
 ghost use Rattle.hfs_remains.specs.Verdicts.{FindsFork, shares_at};
 ghost use Rattle.hfs_rescue_items.specs.Found.{path_at};
@@ -26,12 +26,12 @@ use hfs_space::ForkKind;
 use hfs_verdicts::{Verdict, push_verdict};
 use std::alloc::{AllocError, Global};
 
-/// What is told of an item that remains.
+/// What is known of an item that remains.
 #[derive(Drop)]
 pub(crate) struct ToldItem {
     /// The values of its row.
     pub(crate) values: Vec<RowValue>,
-    /// Whether it is a file, and whole.
+    /// Whether it is a file, and whether it is whole.
     pub(crate) counts: FileCounts,
 }
 
@@ -43,7 +43,7 @@ fn are_whole(data_fork: &ForkTold, resource_fork: &ForkTold) -> bool
 }
 
 impl Remaining<'_> {
-    /// The path below the payload of an item; no text where there is none.
+    /// The path of an item below the payload; no text if there is none.
     fn path(&self, alloc: Global, i: usize) -> Result<String, AllocError>
         ensures { IfOk result (λ path. string_bytes path ≡ path_at self.now.finds.now.places i) }
     {
@@ -53,7 +53,7 @@ impl Remaining<'_> {
         self.finds.places.payload_path(alloc, i)
     }
 
-    /// A fork of an item; None of a folder, and where there is no such item.
+    /// A fork of an item; None for a folder, and if there is no such item.
     fn fork(&self, alloc: Global, i: usize, kind: ForkKind) -> Result<Option<FoundFork>, AllocError>
         ensures { IfOk result (FindsFork self.now.salvage.now i kind) }
     {
@@ -63,7 +63,7 @@ impl Remaining<'_> {
         self.salvage.fork(alloc, i, kind)
     }
 
-    /// The digest of the bytes of a fork, where it is to be taken.
+    /// The digest of a fork's bytes, if it is to be taken.
     fn taken_digest<S: PlacedBlocks>(
         &self,
         alloc: Global,
@@ -84,7 +84,7 @@ impl Remaining<'_> {
         Ok(text)
     }
 
-    /// The digest of the bytes of a fork, where it is to be taken and the fork isn't left.
+    /// The digest of a fork's bytes, if it is to be taken and the fork isn't left out.
     fn digest<S: PlacedBlocks>(
         &self,
         alloc: Global,
@@ -103,7 +103,7 @@ impl Remaining<'_> {
         }
     }
 
-    /// What a row tells of a fork that was found.
+    /// What a row says about a fork that was found.
     fn told<S: PlacedBlocks>(
         &self,
         alloc: Global,
@@ -125,7 +125,7 @@ impl Remaining<'_> {
         })
     }
 
-    /// What a row tells of a fork of an item: nothing of a folder.
+    /// What a row says about a fork of an item: nothing for a folder.
     fn told_fork<S: PlacedBlocks>(
         &self,
         alloc: Global,
@@ -151,7 +151,7 @@ impl Remaining<'_> {
         }
     }
 
-    /// What is told of an item, of which its record tells this.
+    /// What is known of an item with this record.
     #[tactic(auto, using(crate::proofs::RemainsGoing::values_told, crate::proofs::Counting::item_counted))]
     pub(crate) fn told_item<S: PlacedBlocks>(
         &self,
@@ -185,7 +185,7 @@ impl Remaining<'_> {
     }
 }
 
-/// What is said of a fork, as a value.
+/// The verdict on a fork, as a value.
 fn verdict_value(alloc: Global, verdict: &Verdict) -> Result<RowValue, AllocError>
     ensures { IfOk result (λ value. value ≡ Text (verdict_text verdict.now)) }
 {

@@ -19,7 +19,7 @@ pub(crate) fn push_value(values: &mut Vec<RowValue>, value: RowValue) -> Result<
     Ok(())
 }
 
-/// Appends that a column has nothing.
+/// Appends that a column is empty.
 pub(crate) fn push_empty(values: &mut Vec<RowValue>) -> Result<(), AllocError>
     ensures { OnOk result (values.new.items ≡ values.old.items ++ Empty ∷ []) }
 {
@@ -33,14 +33,14 @@ pub(crate) fn push_number(values: &mut Vec<RowValue>, number: u64) -> Result<(),
     push_value(values, RowValue::Number(number))
 }
 
-/// Appends a text, also an empty one.
+/// Appends a text, even an empty one.
 pub(crate) fn push_whole_text(values: &mut Vec<RowValue>, text: String) -> Result<(), AllocError>
     ensures { OnOk result (values.new.items ≡ values.old.items ++ Text (string_bytes text) ∷ []) }
 {
     push_value(values, RowValue::Text(OwnedBytes::new(text.into_bytes())))
 }
 
-/// Appends a text, and nothing where it is empty.
+/// Appends a text, or nothing if it is empty.
 pub(crate) fn push_text(values: &mut Vec<RowValue>, text: String) -> Result<(), AllocError>
     ensures { OnOk result (values.new.items ≡ values.old.items
         ++ text_value (string_bytes text) ∷ []) }

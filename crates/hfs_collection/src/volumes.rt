@@ -43,7 +43,7 @@ fn way_word(way: Way) -> &'static str
     }
 }
 
-/// Appends that so many raw sectors have no user data.
+/// Appends how many raw sectors have no user data.
 fn push_other_mode(text: &mut String, others: u64) -> Result<(), AllocError>
     ensures { OnOk result (Gains text.old text.new (other_mode_text others)) }
 {
@@ -51,7 +51,7 @@ fn push_other_mode(text: &mut String, others: u64) -> Result<(), AllocError>
     write!(text, "{}", others)
 }
 
-/// Appends how many raw sectors have no user data, where there are some.
+/// Appends how many raw sectors have no user data, if any.
 #[tactic(auto, unfolding(crate::specs::Volumes::others_text))]
 fn push_others(text: &mut String, others: u64) -> Result<(), AllocError>
     ensures { OnOk result (Gains text.old text.new (others_text others)) }
@@ -71,7 +71,7 @@ fn place_text(alloc: Global, place: &VolumePlace) -> Result<String, AllocError>
     Ok(text)
 }
 
-/// Appends number, how it lies, first byte and bytes.
+/// Appends the number, how it lies in the file, first byte and length.
 #[tactic(auto, unfolding(crate::specs::Volumes::range_values))]
 fn push_range(
     alloc: Global,
@@ -86,7 +86,7 @@ fn push_range(
     push_number(values, place.range.len)
 }
 
-/// Appends the plain text of a name in its field of a length byte and characters.
+/// Appends the plain text of a name, from its field with a length byte and characters.
 #[tactic(auto, unfolding(hfs_commands::specs::Volumes::name_text))]
 fn push_name(alloc: Global, values: &mut Vec<RowValue>, name: &[u8]) -> Result<(), AllocError>
     ensures { OnOk result (values.new.items ≡ values.old.items
@@ -122,7 +122,7 @@ fn push_blocks(values: &mut Vec<RowValue>, mdb: &Mdb) -> Result<(), AllocError>
     push_number(values, u64::from(mdb.free_blocks))
 }
 
-/// Appends that no directory is told.
+/// Appends that there is no directory to describe.
 #[tactic(auto, unfolding(crate::specs::Volumes::no_directory))]
 fn push_no_directory(values: &mut Vec<RowValue>) -> Result<(), AllocError>
     ensures { OnOk result (values.new.items ≡ values.old.items ++ no_directory) }
@@ -136,7 +136,7 @@ fn push_no_directory(values: &mut Vec<RowValue>) -> Result<(), AllocError>
     push_empty(values)
 }
 
-/// Appends what is told of the directory.
+/// Appends what the directory says.
 fn push_directory(
     alloc: Global,
     values: &mut Vec<RowValue>,
@@ -168,7 +168,7 @@ fn verdict_text(alloc: Global, fault: Option<MountFault>) -> Result<String, Allo
     }
 }
 
-/// The values of the row of a volume, by its fault and its directory, if it has them.
+/// The values of a volume's row, from its fault and its directory, if any.
 #[tactic(auto, unfolding(crate::specs::Volumes::volume_values))]
 pub(crate) fn volume_values(
     alloc: Global,

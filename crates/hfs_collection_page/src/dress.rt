@@ -1,4 +1,4 @@
-//! What a collection's page wears: it asks for nothing from elsewhere, and does without its script.
+//! What all collections' pages have in common. A page loads nothing from elsewhere, and works without its script.
 ghost use Rattle.std.specs.Prelude.{◌≡◌, [], ◌∷◌, codes};
 ghost use Rattle.hfs_page.specs.Markup.{Leads};
 ghost use Rattle.hfs_collection_page.specs.Nested.{IsCollectionDress};
@@ -8,7 +8,7 @@ use crate::script::script;
 use crate::style::style;
 use hfs_page::page_style;
 
-/// Links to both parts, the heading of the volumes, and the field of the search, which the script shows.
+/// Links to both parts, the heading of the volumes, and the search field, which the script shows.
 fn columns() -> &'static [u8]
     ensures { Leads [] (codes "ul" ∷ codes "div" ∷ codes "section" ∷ []) result.now }
 {
@@ -22,7 +22,7 @@ fn columns() -> &'static [u8]
 "
 }
 
-/// What stands between the volumes and the contents.
+/// What comes between the volumes and the contents.
 fn between() -> &'static [u8]
     ensures { Leads (codes "ul" ∷ codes "div" ∷ codes "section" ∷ []) (codes "ul" ∷ codes "section" ∷ [])
         result.now }
@@ -37,7 +37,7 @@ fn between() -> &'static [u8]
 "
 }
 
-/// The texts of all collections' pages that this version of the program prints, for the database of this name, with links to
+/// The texts that this version of the program prints on all collections' pages, for the database with this name, with links to
 /// the pages of disks below this URL.
 pub fn standard_texts<'a>(
     version: &'a [u8],

@@ -1,4 +1,4 @@
-//! What holds of the definitions, each as the contract of a function that does nothing.
+//! What holds for the definitions, each law as the contract of a function that does nothing.
 ghost use Rattle.hfs_collection_page.specs.Nested.{CollectionPagesNest};
 
 /// The markup of each collection's page nests: each element that begins ends, the innermost first.

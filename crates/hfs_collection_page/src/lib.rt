@@ -1,4 +1,4 @@
-//! A page for a collection: a line for each volume, and for each content that lies on several.
+//! A page for a collection: a line for each volume, and for each content that is on several volumes.
 #![tactic(auto)]
 
 mod collection_texts;

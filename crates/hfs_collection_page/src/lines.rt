@@ -1,4 +1,4 @@
-//! The lines of volumes, and of contents that lie on several.
+//! The lines of volumes, and of contents that are on several volumes.
 ghost use Rattle.std.specs.Prelude.{◌≡◌, ◌++◌, OnOk};
 ghost use Rattle.sqlite_value.specs.Order.{column};
 ghost use Rattle.sqlite_value.specs.Value.{owned};
@@ -10,7 +10,7 @@ use sqlite::Row;
 use sqlite::types::ValueRef;
 use std::alloc::{AllocError, Global};
 
-/// A text, and nothing of any other value.
+/// A text; empty for any other value.
 fn text_of(value: ValueRef<'_>) -> &[u8]
     ensures { result.now ≡ text_of (owned value.entry) }
 {
@@ -37,7 +37,7 @@ fn push_cell(page: &mut Vec<u8>, row: &Row, at: usize) -> Result<(), AllocError>
     push_escaped(page, column_text(row, at))
 }
 
-/// Appends a column beside the first one.
+/// Appends a column other than the first.
 #[tactic(auto, unfolding(crate::specs::Lines::span_text))]
 fn push_span(page: &mut Vec<u8>, row: &Row, at: usize) -> Result<(), AllocError>
     ensures { OnOk result (Gains page.old page.new (span_text row.now at)) }
@@ -47,7 +47,7 @@ fn push_span(page: &mut Vec<u8>, row: &Row, at: usize) -> Result<(), AllocError>
     push_bytes(page, b"</span>")
 }
 
-/// Appends the image of a volume, as a link to the volume's page where the folder of these is known.
+/// Appends the image of a volume, as a link to the volume's page if the folder of these is known.
 #[tactic(auto, unfolding(crate::specs::Lines::volume_head))]
 fn push_volume_head(
     alloc: Global,
@@ -101,7 +101,7 @@ fn push_volume(
     push_bytes(page, b"</li>\n")
 }
 
-/// Appends what stands before the line at this place: behind each 100 lines a list ends, and the next one begins.
+/// Appends what precedes the line at this place: after each 100 lines a list ends, and the next one begins.
 #[tactic(auto, unfolding(crate::specs::Lines::break_text))]
 fn push_break(page: &mut Vec<u8>, place: usize) -> Result<(), AllocError>
     ensures { OnOk result (Gains page.old page.new (break_text place)) }

@@ -1,4 +1,4 @@
-//! The page of a collection, by the rows of its volumes and contents.
+//! The page of a collection, from the rows of its volumes and contents.
 ghost use Rattle.std.specs.Prelude.{◌≡◌, IfOk, OnOk};
 ghost use Rattle.hfs_page.specs.Escapes.{escaped};
 ghost use Rattle.hfs_page.specs.Pieces.{Gains};
@@ -19,7 +19,7 @@ fn escaped_name(alloc: Global, name: &[u8]) -> Result<Vec<u8>, AllocError>
     Ok(text)
 }
 
-/// What the page wears.
+/// The style of the page.
 fn style_text(alloc: Global, texts: &CollectionTexts<'_>) -> Result<Vec<u8>, AllocError>
     ensures { IfOk result (λ text. text.items ≡ style_text texts.now) }
 {
@@ -29,7 +29,7 @@ fn style_text(alloc: Global, texts: &CollectionTexts<'_>) -> Result<Vec<u8>, All
     Ok(text)
 }
 
-/// Appends all that stands before the volumes.
+/// Appends everything before the volumes.
 #[tactic(auto, unfolding(crate::specs::Pages::front_text))]
 fn push_front(
     alloc: Global,
@@ -44,7 +44,7 @@ fn push_front(
     push_bytes(page, texts.columns)
 }
 
-/// Appends all that stands behind the lines of contents.
+/// Appends everything after the lines of contents.
 fn push_end(page: &mut Vec<u8>, texts: &CollectionTexts<'_>) -> Result<(), AllocError>
     ensures { OnOk result (Gains page.old page.new (end_text texts.now)) }
 {
@@ -75,8 +75,8 @@ fn push_page(
     push_end(page, texts)
 }
 
-/// The page of a collection with these rows of volumes and of contents, each once, in their order. A row has the texts that a
-/// listing of its database gives; what is no text is left out. The only error is want of memory.
+/// The page of a collection with these rows of volumes and of contents, each once, in order. A row has the texts that a listing
+/// of its database gives; what is not text is left out. Fails only when out of memory.
 pub fn collection_page(
     alloc: Global,
     texts: &CollectionTexts<'_>,

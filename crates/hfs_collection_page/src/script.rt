@@ -1,4 +1,4 @@
-//! The script of a collection's page, which does without it but for the search.
+//! The script of a collection's page, which works without it except for the search.
 ghost use Rattle.std.specs.Prelude.{[]};
 ghost use Rattle.hfs_page.specs.Markup.{Leads};
 

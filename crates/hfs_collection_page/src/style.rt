@@ -1,9 +1,9 @@
-//! The style of a collection's page, beside that of all pages.
+//! The style of a collection's page, besides that of all pages.
 ghost use Rattle.std.specs.Prelude.{[]};
 ghost use Rattle.hfs_page.specs.Markup.{Leads};
 
-/// The style behind that of all pages. Volumes stand in lists of 100 lines, of which a browser lays out those alone that are
-/// seen; a wide page has them in columns.
+/// The style after that of all pages. Volumes are in lists of 100 lines, of which a browser lays out only those that are seen; a
+/// wide page has them in columns.
 pub(crate) fn style() -> &'static [u8]
     ensures { Leads [] [] result.now }
 {

@@ -1,4 +1,4 @@
-//! The page of a collection, out of its database.
+//! The page of a collection, from its database.
 ghost use Rattle.std.specs.Prelude.{◌≡◌, Err, IfErr, IfOk, OnOk};
 ghost use Rattle.hfs_collection_page.specs.Pages.{collection_page};
 ghost use Rattle.hfs_collection_page.specs.Writing.{IsPage, WritesPage, WritesPageFront};
@@ -36,7 +36,7 @@ fn page_with(
     }
 }
 
-/// The page of a collection, by what its database lists. Faults: as of [`listed`].
+/// The page of a collection, from what its database lists. Faults: as for [`listed`].
 fn page_of<S: Alter>(
     alloc: Global,
     collection: &mut Collection<S>,
@@ -52,8 +52,8 @@ fn page_of<S: Alter>(
 }
 
 /// Writes the page of a collection: a line for each volume that the database lists, and one for each content. Faults: the
-/// database can't be read, memory was refused, and nothing was written; or the writer failed: then a part of the page may have
-/// gone out, from its beginning on.
+/// database can't be read, memory was refused, and nothing was written; or the writer failed: then only the beginning of the page
+/// may have been written.
 pub fn write_collection_page<S: Alter, W: Write>(
     alloc: Global,
     collection: &mut Collection<S>,

@@ -38,7 +38,7 @@ fn lay_digits(bytes: &[u8], digits: &mut [u8])
     }
 }
 
-/// Writes the digits of so many bytes that there is room for them.
+/// Writes the digits of as many bytes as there is room for.
 fn put_some<W: Write>(writer: &mut W, bytes: &[u8], room: &mut [u8]) -> io::Result<()>
     requires { 2 * length bytes.now ≤ length room.old }
     ensures room { length room.new ≡ length room.old }
@@ -83,7 +83,7 @@ fn put_piece<W: Write>(
     put_digits(writer, replies.bytes_to(piece.asked), room)
 }
 
-/// Writes the pieces of the answers, and what stands behind them.
+/// Writes the pieces of the answers, and what stands after them.
 fn put_pieces<W: Write>(writer: &mut W, answers: &Answers, room: &mut [u8]) -> io::Result<()>
     requires { 2 ≤ length room.old }
     ensures ok { OnOk result (Appends (W.contents writer.old) (W.contents writer.new) (text_of_pieces answers.now)) }
@@ -95,8 +95,8 @@ fn put_pieces<W: Write>(writer: &mut W, answers: &Answers, room: &mut [u8]) -> i
     put(writer, answers.last.as_bytes())
 }
 
-/// Writes the lines of the answers to a script, the digits of long bytes piece by piece, for which it takes no memory. Fault: `OutputFailed`, and then a
-/// part of the lines may have gone out, from the first on, and nothing else.
+/// Writes the lines of the answers to a script. The digits of long bytes are made piece by piece, without taking memory. Fault:
+/// `OutputFailed`, and then only some of the first bytes may have been written.
 pub fn write_answers<W: Write>(writer: &mut W, answers: &Answers) -> Result<(), Fault<'static>>
     ensures written { OnOk result (Appends (W.contents writer.old) (W.contents writer.new) (text_of_pieces answers.now)) }
     ensures part { OnErr result (AppendsFront (W.contents writer.old) (W.contents writer.new) (text_of_pieces answers.now)) }

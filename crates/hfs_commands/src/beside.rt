@@ -1,4 +1,4 @@
-//! New files beside others, under names that no file has.
+//! New files next to others, under names that no file has.
 ghost use Rattle.std.specs.Prelude.{◌≡◌, [], None, Some, IfOk, string_bytes};
 ghost use Rattle.std.specs.Option.{option_map};
 ghost use Rattle.hfs_commands.specs.Paths.{IsBeside, TellsFirst, leftover_text, path_beside};
@@ -12,10 +12,10 @@ use std::os::unix::fs::OpenOptionsExt;
 use std::rt::Files;
 use std::{fmt, io};
 
-/// How many names are tried for a file beside another.
+/// How many names are tried for a file next to another.
 const NAMES: u32 = 100;
 
-/// A file that a run left that was stopped, by its path. Its `Display` is what is told of it.
+/// A file that an interrupted run left, by its path. Its `Display` is what is printed about it.
 #[derive(Drop)]
 pub struct Leftover {
     pub path: String,
@@ -41,7 +41,7 @@ pub struct NewFile<F> {
     pub path: String,
 }
 
-/// The path of a new file beside another, by the number in its name.
+/// The path of a new file next to another, with this number in its name.
 #[tactic(auto, unfolding(crate::specs::Paths::path_beside))]
 fn path_beside(alloc: Global, path: &str, number: u32) -> Result<String, AllocError>
     ensures { IfOk result (λ name. string_bytes name ≡ path_beside path.now number) }
@@ -49,8 +49,7 @@ fn path_beside(alloc: Global, path: &str, number: u32) -> Result<String, AllocEr
     format!(in alloc; "{path}.{number}.new")
 }
 
-/// Makes a file that is not there yet, to be read and written by those whom this mode and the
-/// system's mask allow.
+/// Makes a file that doesn't exist yet. Those whom this mode and the system's mask allow may read and write it.
 fn create_new<R: Files>(rt: &R, path: &str, mode: u32) -> io::Result<R::File> {
     OpenOptions::new()
         .read(true)
@@ -60,8 +59,8 @@ fn create_new<R: Files>(rt: &R, path: &str, mode: u32) -> io::Result<R::File> {
         .open(rt, path)
 }
 
-/// Makes a file beside another one, under the first of the names `PATH.0.new` to `PATH.99.new` that
-/// no file has. Where the first was taken it is told. Error: none could be made, or all are taken.
+/// Makes a file next to another one, under the first of the names `PATH.0.new` to `PATH.99.new` that is free; also returns the
+/// first file if that name was taken. Error: no file could be made, or all names are taken.
 pub fn create_beside<R: Files + AllocGlobal>(
     rt: &R,
     path: &str,

@@ -10,10 +10,10 @@ use hfs_queries::refusal;
 use hfs_source::PlacedBlocks;
 use std::alloc::{AllocError, Global};
 
-/// What is told of the item that a Mac path leads to, the volume's name first, in each image that has the bytes which were read of one that
-/// was opened: the reply to GetCatInfo of it, or to GetDirInfo of the root. A path that begins with `:` leaves the volume's name out, and
-/// `:` is the root. -43 where the text is no path, leads nowhere or begins with another name; -120 where it goes through a file. The only
-/// error is want of memory.
+/// The reply about the item that a Mac path leads to, starting with the volume's name, in every image consistent with the bytes
+/// read from the opened one: that to GetCatInfo, or to GetDirInfo for the root. A path that begins with `:` leaves the volume's
+/// name out, and `:` is the root. -43 if the text is no path, leads nowhere or begins with another name; -120 if it goes through
+/// a file. Fails only when out of memory.
 #[tactic(auto, using(crate::proofs::PathReplies::by_names, crate::proofs::PathReplies::by_none))]
 pub fn path_reply<S: PlacedBlocks + Drop>(
     alloc: Global,
@@ -38,7 +38,7 @@ fn is_folder_kind(kind: ItemKind) -> bool
     }
 }
 
-/// Whether a value tells of a folder.
+/// Whether a value describes a folder.
 fn tells_folder(value: &Value) -> bool
     ensures { result ≡ tells_folder value.now }
 {
@@ -48,7 +48,7 @@ fn tells_folder(value: &Value) -> bool
     }
 }
 
-/// The same reply, but -43 where it tells of a folder.
+/// The same reply, but -43 if it describes a folder.
 fn file_reply(reply: Reply) -> Reply
     ensures { result ≡ file_reply reply }
 {
@@ -58,7 +58,7 @@ fn file_reply(reply: Reply) -> Reply
     reply
 }
 
-/// As [`path_reply`], but -43 where the path leads to a folder, which has no forks.
+/// As [`path_reply`], but -43 if the path leads to a folder, which has no forks.
 #[tactic(auto, using(crate::proofs::PathReplies::of_file))]
 pub fn file_path_reply<S: PlacedBlocks + Drop>(
     alloc: Global,

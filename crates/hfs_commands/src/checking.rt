@@ -1,4 +1,4 @@
-//! What is told of an image.
+//! What is printed about an image.
 ghost use Rattle.std.specs.Prelude.{◌≡◌, ◌++◌, IfErr, IfOk, OnOk, string_bytes};
 ghost use Rattle.hfs_commands.specs.Checks.{HasCheckLines, IsCheckFault, IsCheckStatus, alternate_text, check_lines, check_status, refused_line, sound_lines};
 ghost use Rattle.hfs_needed.specs.Failing.{SomeReadFails};
@@ -13,7 +13,7 @@ use hfs_sparse::{SeenBlocks, SparseFault};
 use hfs_texts::{Show, push_line};
 use std::alloc::{AllocError, Global};
 
-/// How the copy of the master directory block stands to it, as its line shows it.
+/// The copy of the master directory block compared with the block itself, as its line shows it.
 #[derive(Drop)]
 struct ShownAlternate(Alternate);
 
@@ -66,18 +66,18 @@ fn report_text(alloc: Global, report: &Report) -> Result<(u8, String), AllocErro
     }
 }
 
-/// What a check of an image tells.
+/// The result of checking an image.
 #[derive(Drop)]
 pub struct CheckAnswer {
-    /// The first fault, in the order of docs/CHECKS.md, if there is one.
+    /// The first fault, in the order of docs/CHECKS.md, if any.
     pub fault: Option<MountFault>,
-    /// The exit status: 0, or 2 where there is a fault.
+    /// The exit status: 0, or 2 if there is a fault.
     pub status: u8,
     /// The lines: the counts of a sound volume, or `refused TEXT`.
     pub lines: String,
 }
 
-/// What a report tells.
+/// What is printed for a report.
 pub fn report_answer(alloc: Global, report: &Report) -> Result<CheckAnswer, AllocError>
     ensures fault { IfOk result (λ told. told.fault ≡ report.now.fault) }
     ensures status { IfOk result (λ told. told.status ≡ check_status report.now) }
@@ -91,9 +91,9 @@ pub fn report_answer(alloc: Global, report: &Report) -> Result<CheckAnswer, Allo
     })
 }
 
-/// Checks an image, and gives its source back: what the report of each image tells that has the bytes which were read. Only the
-/// blocks are read that its checks need. Errors: `ReadFailed` where a read of one of these blocks failed; `Memory` where it was
-/// refused. A fault of the image is no error: it is told of.
+/// Checks an image, and hands its source back. The answer is that of the report on every image consistent with the bytes read.
+/// Only the blocks that the checks need are read. Errors: `ReadFailed` if a read of one of these blocks failed; `Memory` if
+/// memory was refused. A fault of the image is no error: the answer has it.
 pub fn needed_check_answer<S: PlacedBlocks + Drop>(
     alloc: Global,
     source: SeenBlocks<S>,

@@ -17,8 +17,7 @@ pub trait Contents {
     /// Its bytes.
     ghost bytes: { Self → List ℕ };
 
-    /// Writes all its bytes. At an error a part of them may have gone out, from the first on, and
-    /// nothing else.
+    /// Writes all its bytes. At an error, only some of the first bytes may have been written.
     fn write_to<W: Write>(&self, writer: &mut W) -> io::Result<()>
         ensures ok { OnOk result (Appends (W.contents writer.old) (W.contents writer.new)
             (bytes self.now)) }
@@ -52,7 +51,7 @@ impl Contents for Volume {
 pub enum UnwrittenFault {
     /// Memory was refused.
     Memory,
-    /// What they are read from was not read, or it changed while it was.
+    /// A read failed, or what is being read changed meanwhile.
     ReadFailed,
     /// The writer failed.
     WriteFailed,
@@ -74,22 +73,22 @@ impl From<PatchedFault> for UnwrittenFault {
     }
 }
 
-/// What a file is to hold, where it is read as it is written, so that a read may fail.
+/// What a file is to hold, read while it is written, so that a read may fail.
 pub trait ReadContents {
-    /// What its bytes may be: those that fit what was read of them so far. Of contents that are all there they are these alone.
+    /// What its bytes may be: those that are consistent with what was read so far. For contents that are all there, only those.
     ghost Holds: { Self → List ℕ → Type 0 };
 
-    /// What it is read from is as it was when it was opened, as far as was looked.
+    /// As far as was checked, what it is read from is as it was when it was opened.
     ghost settled: { Self → Type 0 };
 
-    /// What of it no writing changes: of what is read its bytes, where they are known, how many there are, and the changed blocks.
+    /// What writing doesn't change: of what is read, its bytes, where they are known, and how many there are; and the changed
+    /// blocks.
     ghost Kept: { Type 0 };
 
     ghost kept: { Self → Self.Kept };
 
-    /// Writes all its bytes. At an error a part of them may have gone out, from the first on, and
-    /// nothing else. Errors: memory was refused, a read or a write failed, or what it is read from
-    /// has changed since it was opened.
+    /// Writes all its bytes. At an error, only some of the first bytes may have been written. Errors: memory was refused, a read
+    /// or a write failed, or what it is read from has changed since it was opened.
     fn write_to<W: Write>(&mut self, writer: &mut W) -> Result<(), UnwrittenFault>
         ensures ok { OnOk result (OfEach (Holds self.new)
             (Appends (W.contents writer.old) (W.contents writer.new))) }
@@ -103,7 +102,8 @@ pub trait ReadContents {
     fn leaves_holes(&self) -> bool;
 }
 
-/// Writes all bytes of contents to a new file, which has them and no others then. Errors: as [`ReadContents::write_to`] has them.
+/// Writes all bytes of contents to a new file, which then has these bytes and no others. Errors: as for
+/// [`ReadContents::write_to`].
 pub(crate) fn fill<C: ReadContents, P: PlacedWriter + Drop>(
     contents: &mut C,
     file: P,

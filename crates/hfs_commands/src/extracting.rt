@@ -15,17 +15,17 @@ use std::io::Write;
 /// How many bytes are read at once.
 const PIECE: u64 = 65_536;
 
-/// What it means that a block has no number of 32 bits.
+/// The fault for a block whose number needs more than 32 bits.
 const BEHIND_ALL_BLOCKS: UnwrittenFault = UnwrittenFault::ReadFailed;
 
-/// Room for so many bytes.
+/// Room for `count` bytes.
 fn buffer_of(alloc: Global, count: usize) -> Result<Vec<u8>, AllocError>
     ensures { IfOk result (λ buffer. length buffer.items ≡ count) }
 {
     vec![in alloc; 0; count]
 }
 
-/// Writes the bytes from a block on, as many as there is room for in `piece`.
+/// Writes bytes from a block on: as many as `piece` has room for.
 fn write_piece<S: BlockSource, W: Write>(
     source: &mut S,
     first: u32,
@@ -50,7 +50,7 @@ fn write_piece<S: BlockSource, W: Write>(
     Ok(())
 }
 
-/// Writes `len` bytes of an image, in pieces of as many as there is room for in `buffer`.
+/// Writes `len` bytes of an image, in pieces that fill `buffer`.
 fn write_pieces<S: BlockSource, W: Write>(
     source: &mut S,
     len: u64,
@@ -78,9 +78,9 @@ fn write_pieces<S: BlockSource, W: Write>(
     Ok(())
 }
 
-/// Writes the `len` bytes of an image as they are read, at most 65,536 at a time. Errors: memory was refused, and nothing was written; a read
-/// failed, the image ends before that many bytes or has more than 2^41, or the writer failed, where a part may have gone out, from the first byte
-/// on, and nothing else.
+/// Writes `len` bytes of an image while they are read, at most 65,536 at a time. Errors: memory was refused, and nothing was
+/// written; a read failed, the image ends before that many bytes or has more than 2^41, or the writer failed: then only some of
+/// the first bytes may have been written.
 pub fn write_range<S: BlockSource, W: Write>(
     alloc: Global,
     source: &mut S,
@@ -101,7 +101,7 @@ pub fn write_range<S: BlockSource, W: Write>(
     write_pieces(source, len, &mut buffer, writer)
 }
 
-/// The bytes of an image that is read as they are written.
+/// The bytes of an image that is read while they are written.
 #[derive(Drop)]
 pub struct ImageContents<S: BlockSource> {
     pub alloc: Global,
@@ -131,7 +131,7 @@ impl<S: BlockSource> ReadContents for ImageContents<S> {
     }
 }
 
-/// Looks that a range of a file holds a volume. Faults: `NoVolumes` where it doesn't, a read failed.
+/// Checks that a range of a file holds a volume. Faults: `NoVolumes` if it doesn't; a read failed.
 pub fn need_volume<'a, S: PlacedBytes>(
     source: &mut S,
     range: ByteRange,
@@ -150,7 +150,7 @@ pub fn need_volume<'a, S: PlacedBytes>(
     }
 }
 
-/// What is printed of a volume that was written as a file of so many bytes.
+/// What is printed about a volume that was written as a file of `len` bytes.
 #[tactic(auto, unfolding(crate::specs::Extracts::extracted_text))]
 pub fn extracted_text(alloc: Global, len: u64) -> Result<String, AllocError>
     ensures { IfOk result (λ text. string_bytes text ≡ extracted_text len) }

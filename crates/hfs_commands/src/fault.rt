@@ -19,20 +19,20 @@ use std::{fmt, io};
 pub enum Status {
     /// All was done.
     Done,
-    /// The words are refused.
+    /// The command line is refused.
     WordsRefused,
-    /// The image is refused, or the plan of a new volume, or a script.
+    /// The image, the plan of a new volume, or a script is refused.
     ImageRefused,
     /// A call on the volume answered with a code other than 0.
     CallRefused,
     /// A read or a write failed.
     DeviceFailed,
-    /// Memory was refused, or a viewer's place, or a line of a script was not answered.
+    /// Memory or a viewer's place was refused, or a line of a script was not answered.
     NoMemory,
 }
 
 impl Status {
-    /// How the program ends once the answers to a script are printed: `Done` where each line was answered.
+    /// How the program ends after it printed the answers to a script: `Done` if every line was answered.
     pub fn of_run(whole: bool) -> Status
         ensures { result ≡ status_of_run whole }
     {
@@ -57,8 +57,7 @@ impl Status {
         }
     }
 
-    /// The exit status where this is how the program ends once a text is printed: that of a failed device where it was
-    /// not printed.
+    /// The exit status, if the program ends this way after printing a text: that of a failed device if the text wasn't printed.
     pub fn after(self, printed: io::Result<()>) -> u8
         ensures { MatchResult printed (λ done. result ≡ status_number self) (λ failed. result ≡ 4) }
     {
@@ -69,47 +68,46 @@ impl Status {
     }
 }
 
-/// Why a command was not done. Its `Display` is the text that the program prints alone on a line, by variant and
-/// fields.
+/// Why a command was not done. Its `Display` is the text that the program prints alone on a line, from variant and fields.
 #[derive(Clone, Copy, Debug, PartialEq, Eq)]
 pub enum Fault<'a> {
-    /// The words are no UTF-8.
+    /// The command line isn't UTF-8.
     WordsNotText,
-    /// The image is refused, and not for want of memory.
+    /// The image is refused, and not for lack of memory.
     Refused(MountFault),
     /// A file has fewer volumes than this number, which is counted from 1.
     NoVolume(u64),
-    /// A file has no volume.
+    /// A file has no volumes.
     NoVolumes,
-    /// The image is the user data of raw CD sectors, which isn't written.
+    /// The image is the user data of raw CD sectors, which is never written.
     NotWritten,
-    /// The sum that a disk copy's header tells isn't that of its data, so that it isn't changed.
+    /// The sum in a disk copy's header isn't that of its data, so the disk copy isn't changed.
     SumWrong,
-    /// So many volumes lie inside a file, and none of them is named.
+    /// A file has this many volumes inside, and none of them was chosen.
     SeveralVolumes(u64),
     /// A new volume can't have this name.
     BadName,
-    /// A new volume can't have so few or so many blocks.
+    /// A new volume can't have this few or this many blocks.
     BadSize,
-    /// A new volume can't have so few or so many nodes in one of its two files.
+    /// A new volume can't have this few or this many nodes in one of its two files.
     BadNodeCount,
-    /// The two files of a new volume don't fit it.
+    /// The two files of a new volume don't fit into it.
     NoRoom,
-    /// The line of a script that is the first that doesn't read, counted from 1.
+    /// The first line of a script that can't be read, counted from 1.
     ScriptLine(u64),
     /// A script has too many bytes.
     ScriptTooLarge,
-    /// There was no place for a viewer.
+    /// There was no room for another viewer.
     NoPlace,
-    /// A file, or `stdin`, was not read.
+    /// A file, or `stdin`, could not be read.
     CannotRead(&'a str),
-    /// A read of a file failed behind a part of what was printed of it, so that nothing more is printed.
+    /// A read failed after a part of a file was printed, so nothing more is printed.
     BrokenOff(&'a str),
-    /// A file was not written.
+    /// A file could not be written.
     CannotWrite(&'a str),
-    /// A file was not made, since something has its name already.
+    /// A file was not made, because something has its name already.
     IsThere(&'a str),
-    /// Standard output failed, so that nothing more is printed.
+    /// Standard output failed, so nothing more is printed.
     OutputFailed,
     /// Memory was refused.
     NoMemory,
@@ -136,7 +134,7 @@ impl Fault<'_> {
         }
     }
 
-    /// What a fault of printing a master directory block means for the file that it was read from.
+    /// The fault for a failure to print a master directory block, given the file that it was read from.
     pub fn of_info(fault: InfoFault, file: &str) -> Fault<'_>
         ensures short { fault ≡ InfoFault.Short → IsRefusal MountFault.Short result }
         ensures signature { fault ≡ InfoFault.NoMacDisk → IsRefusal MountFault.NoMacDisk result }
@@ -153,7 +151,7 @@ impl Fault<'_> {
         }
     }
 
-    /// What a fault of loading an image means for its file.
+    /// The fault for a failure to load an image, given its file.
     pub fn of_load(fault: LoadFault, file: &str) -> Fault<'_>
         ensures read { fault ≡ LoadFault.ReadFailed → result ≡ Fault.CannotRead file.entry }
         ensures large { fault ≡ LoadFault.TooLarge → IsRefusal MountFault.TooLarge result }
@@ -166,7 +164,7 @@ impl Fault<'_> {
         }
     }
 
-    /// What a fault of reading blocks of an image means for its file.
+    /// The fault for a failure to read blocks of an image, given its file.
     pub fn of_sparse(fault: SparseFault, file: &str) -> Fault<'_>
         ensures read { fault ≡ SparseFault.ReadFailed → result ≡ Fault.CannotRead file.entry }
         ensures memory { fault ≡ SparseFault.Memory → result ≡ Fault.NoMemory }
@@ -177,7 +175,7 @@ impl Fault<'_> {
         }
     }
 
-    /// What a fault of printing a fork means for the image's file that it was read from.
+    /// The fault for a failure to print a fork, given the image's file.
     pub fn of_copy(fault: CopyFault, file: &str) -> Fault<'_>
         ensures read { fault ≡ CopyFault.ReadFailed → result ≡ Fault.CannotRead file.entry }
         ensures broken { fault ≡ CopyFault.BrokenOff → result ≡ Fault.BrokenOff file.entry }
@@ -192,7 +190,7 @@ impl Fault<'_> {
         }
     }
 
-    /// What it means for a file that contents were not written to it which are read from `source`.
+    /// The fault for contents that are read from `source` and were not written to `file`.
     pub fn of_unwritten<'a>(fault: UnwrittenFault, source: &'a str, file: &'a str) -> Fault<'a>
         ensures read { fault ≡ UnwrittenFault.ReadFailed → result ≡ Fault.CannotRead source.entry }
         ensures write { fault ≡ UnwrittenFault.WriteFailed → result ≡ Fault.CannotWrite file.entry }
@@ -206,7 +204,7 @@ impl Fault<'_> {
         }
     }
 
-    /// What it means for an image's file that its volume was not opened by the blocks that are needed.
+    /// The fault for a volume that was not opened by its needed blocks, given the image's file.
     pub fn of_needed(fault: NeededFault, file: &str) -> Fault<'_>
         ensures read { fault ≡ NeededFault.ReadFailed → result ≡ Fault.CannotRead file.entry }
         ensures memory { fault ≡ NeededFault.Memory → result ≡ Fault.NoMemory }
@@ -221,7 +219,7 @@ impl Fault<'_> {
 }
 
 impl Fault<'static> {
-    /// What a fault of mounting an image means for the program.
+    /// The fault for an image that was not mounted.
     pub fn of_mount(fault: MountFault) -> Fault<'static>
         ensures memory { fault ≡ MountFault.Memory → result ≡ Fault.NoMemory }
         ensures refused { fault ≢ MountFault.Memory → result ≡ Fault.Refused fault }
@@ -232,7 +230,7 @@ impl Fault<'static> {
         }
     }
 
-    /// What a fault of a script's run means for the program.
+    /// The fault for a script that was not run.
     pub fn of_run(fault: ScriptFault) -> Fault<'static>
         ensures { result ≡ fault_of_run fault }
     {
@@ -245,7 +243,7 @@ impl Fault<'static> {
         }
     }
 
-    /// What a fault of a new volume's plan means for the program.
+    /// The fault for a new volume's plan that was refused.
     pub fn of_format(fault: FormatFault) -> Fault<'static>
         ensures name { fault ≡ FormatFault.BadName → result ≡ Fault.BadName }
         ensures size { fault ≡ FormatFault.BadSize → result ≡ Fault.BadSize }

@@ -9,8 +9,8 @@ use std::fs::{File, OpenFile};
 use std::io::Read;
 use std::rt::Files;
 
-/// All bytes of what was opened by this path, at most 2,147,483,648. Faults: `CannotRead` where a read fails, `Refused(TooLarge)`
-/// where there are more, `NoMemory`.
+/// All bytes of what was opened by this path, at most 2,147,483,648. Faults: `CannotRead` if a read fails, `Refused(TooLarge)` if
+/// there are more, `NoMemory`.
 #[tactic(auto, using(crate::proofs::WholeReads::whole_read))]
 pub(crate) fn load_opened<'a, F: Read>(
     alloc: Global,
@@ -27,7 +27,7 @@ pub(crate) fn load_opened<'a, F: Read>(
     }
 }
 
-/// How many bytes a regular file has, where it has any. The system's own files, which have bytes but tell of none, are none of these.
+/// How many bytes a regular file has, if any. The system's own files, which have bytes but report a length of 0, don't count.
 pub(crate) fn regular_len<F: OpenFile>(file: &F) -> Option<u64> {
     let Ok(metadata) = file.metadata() else {
         return None;
@@ -41,8 +41,8 @@ pub(crate) fn regular_len<F: OpenFile>(file: &F) -> Option<u64> {
 /// The most bytes of a script.
 const SCRIPT_LIMIT: u64 = 16_777_216;
 
-/// All bytes of a script's file, at most 16,777,216. Faults: `CannotRead` where it can't be opened or a read fails,
-/// `ScriptTooLarge` where it has more, `NoMemory`.
+/// All bytes of a script's file, at most 16,777,216. Faults: `CannotRead` if it can't be opened or a read fails, `ScriptTooLarge`
+/// if it has more, `NoMemory`.
 pub fn load_script<'a, R: Files + AllocGlobal>(rt: &R, path: &'a str) -> Result<Vec<u8>, Fault<'a>>
     ensures limit { IfOk result (λ bytes. length bytes.items ≤ 16777216) }
     ensures faults { IfErr result (λ why. IsUnreadScript path.entry why) }

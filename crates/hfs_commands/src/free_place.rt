@@ -7,14 +7,14 @@ use std::fs::Metadata;
 use std::io;
 use std::io::ErrorKind;
 
-/// A place was looked at, and nothing stood there, not even a link. Nothing else makes one.
+/// Evidence that a place was looked at and nothing was there, not even a link. It is made in no other way.
 #[derive(Drop)]
 pub(crate) struct FreePlace {
     _looked: (),
 }
 
 impl FreePlace {
-    /// The place at a path, by what was found there. Faults: `IsThere`; `CannotWrite` where the path can't be looked up.
+    /// The place at a path, from what was found there. Faults: `IsThere`; `CannotWrite` if the path can't be looked up.
     pub(crate) fn of(found: io::Result<Metadata>, path: &str) -> Result<FreePlace, Fault<'_>>
         ensures free { IfOk result (λ _. IsErr found) }
         ensures fault { IfErr result (IsNoPlace path.entry) }

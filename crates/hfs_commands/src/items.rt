@@ -19,7 +19,7 @@ use std::io::Write;
 /// How many bytes of text are gathered before they are written.
 const PIECE: usize = 65_536;
 
-/// Writes a text, and begins the next one.
+/// Writes a text, and empties it for the next one.
 fn put_piece<W: Write>(writer: &mut W, text: &mut Vec<u8>) -> Result<(), Fault<'static>>
     ensures written { OnOk result (Appends (W.contents writer.old) (W.contents writer.new) text.old.items) }
     ensures empty { OnOk result (text.new.items ≡ []) }
@@ -34,7 +34,7 @@ fn put_piece<W: Write>(writer: &mut W, text: &mut Vec<u8>) -> Result<(), Fault<'
     Ok(())
 }
 
-/// Appends the line of the next item, and answers whether there was one.
+/// Appends the next item's line, and returns whether there was one.
 fn push_next(
     alloc: Global,
     text: &mut Vec<u8>,
@@ -69,7 +69,7 @@ fn head(alloc: Global, format: Format) -> Result<Vec<u8>, Fault<'static>>
     }
 }
 
-/// Writes the head and the lines of all items that are to come, in pieces of 65,536 bytes and a line.
+/// Writes the head and the lines of all items that are left, in pieces of 65,536 bytes and a line.
 fn write_table<W: Write>(
     alloc: Global,
     writer: &mut W,
@@ -91,9 +91,9 @@ fn write_table<W: Write>(
     put_piece(writer, &mut text)
 }
 
-/// Writes the table of all items of each image that has the bytes which were read of one that was opened: a line for each, the root first, behind
-/// each folder its children in name order, and behind each child what lies in it. Faults: `OutputFailed` and `NoMemory`, and then a part of
-/// the table may have gone out, from its beginning on.
+/// Writes the table of all items of every image consistent with the bytes read from the opened one. It has a line for each: the
+/// root first, after each folder its children in name order, and after each child what lies in it. Faults: `OutputFailed` and
+/// `NoMemory`, and then only the beginning of the table may have been written.
 pub fn write_items<W: Write, S: PlacedBlocks + Drop>(
     alloc: Global,
     writer: &mut W,

@@ -1,5 +1,5 @@
-//! What the program's words do, as functions over readers, writers and values: what is read, and the lines or bytes that
-//! are written. The words themselves, and standard input and output, are in `hfs_tool`.
+//! What the program's words do, as functions over readers, writers and values: what is read, and the lines or bytes that are
+//! written. The words themselves, and standard input and output, are in `hfs_tool`.
 #![tactic(auto)]
 
 mod answers;

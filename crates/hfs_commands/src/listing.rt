@@ -68,8 +68,8 @@ pub fn code_text(alloc: Global, reply: &Reply) -> Result<String, AllocError>
     Ok(text)
 }
 
-/// The exit status and the lines of a reply to List: 0 and a line for each child in the reply's order, or 3 and the code.
-/// The only error is want of memory.
+/// The exit status and the lines for a reply to List: 0 and a line for each child in the reply's order, or 3 and the code. Fails
+/// only when out of memory.
 pub fn children_text(alloc: Global, reply: &Reply) -> Result<(u8, String), AllocError>
     ensures status { IfOk result (λ told. told.0 ≡ list_status reply.now) }
     ensures lines { IfOk result (λ told. string_bytes told.1 ≡ list_lines reply.now) }
@@ -84,8 +84,9 @@ pub fn children_text(alloc: Global, reply: &Reply) -> Result<(u8, String), Alloc
     }
 }
 
-/// Lists a folder by its ID, and answers the exit status and the lines: 0 and a line for each child in name order, or 3 and the code of the call; so
-/// of the volume of each image that has the bytes which were read of one that was opened. The only error is want of memory.
+/// Lists a folder by its ID, and returns the exit status and the lines: 0 and a line for each child in name order, or 3 and the
+/// call's code. This holds for the volume of every image consistent with the bytes read from the opened one. Fails only when out
+/// of memory.
 pub fn seen_list_text<S: PlacedBlocks + Drop>(
     alloc: Global,
     image: &SeenImage<S>,

@@ -12,8 +12,9 @@ use hfs_model::{Info, ItemKind, NOT_FOUND, Reply, Value};
 use hfs_texts::put;
 use std::io::Write;
 
-/// Writes the MacBinary file of a file that a reply to GetCatInfo tells of, with these forks, and answers 0; or the code of a reply that tells
-/// of none (-43 of a folder), and nothing is written. The fault is `OutputFailed`, and then a part may have gone out, from the beginning on.
+/// Writes a file in MacBinary, from a reply to GetCatInfo that describes it and its forks, and returns 0; or returns the code of
+/// a reply that describes no file (-43 for a folder), and writes nothing. The fault is `OutputFailed`, and then only the
+/// beginning may have been written.
 pub fn put_macbinary<W: Write>(
     writer: &mut W,
     told: &Reply,
@@ -36,7 +37,7 @@ pub fn put_macbinary<W: Write>(
     }
 }
 
-/// Writes the header of a file that is told of, and these forks.
+/// Writes the header of this file, and these forks.
 fn put_parts<W: Write>(
     writer: &mut W,
     info: &Info,
@@ -54,7 +55,7 @@ fn put_parts<W: Write>(
     put_filled(writer, resource)
 }
 
-/// Writes a fork, filled up.
+/// Writes a fork, padded to a multiple of 128 bytes.
 fn put_filled<W: Write>(writer: &mut W, fork: &[u8]) -> Result<(), Fault<'static>>
     ensures written { OnOk result (Appends (W.contents writer.old) (W.contents writer.new)
         (filled fork.now)) }
@@ -66,7 +67,7 @@ fn put_filled<W: Write>(writer: &mut W, fork: &[u8]) -> Result<(), Fault<'static
     write_zeros(writer, padding(fork.len()))
 }
 
-/// The file that a reply tells of, or the code that refuses it: -43 of a folder.
+/// The file that a reply describes, or the code that refuses it: -43 for a folder.
 fn file_of(reply: &Reply) -> Result<Info, i16>
     ensures { result ≡ file_of_reply reply.now }
 {
@@ -79,7 +80,7 @@ fn file_of(reply: &Reply) -> Result<Info, i16>
     }
 }
 
-/// The header of the file that is told of.
+/// The MacBinary header of this file.
 fn macbinary_head(info: &Info) -> MacBinaryHead
     ensures { result ≡ macbinary_head info.now }
 {
@@ -96,7 +97,7 @@ fn macbinary_head(info: &Info) -> MacBinaryHead
     }
 }
 
-/// Writes so many zeros.
+/// Writes `count` zeros.
 fn write_zeros<W: Write>(writer: &mut W, count: usize) -> Result<(), Fault<'static>>
     requires { count ≤ 128 }
     ensures written { OnOk result (Appends (W.contents writer.old) (W.contents writer.new) (replicate count 0)) }

@@ -1,4 +1,4 @@
-//! A file that was opened, whatever it is.
+//! A file that was opened, whatever kind it is.
 ghost use Rattle.std.specs.Prelude.{◌≡◌, IfErr, IfOk, IfNone, IfSome, None};
 ghost use Rattle.hfs_containers.specs.Raw.{layout_of};
 ghost use Rattle.hfs_raw.specs.Sectors.{other_count};
@@ -16,17 +16,17 @@ use std::io;
 use std::io::{Read, Seek};
 use std::sync::Arc;
 
-/// The bytes of a file that was opened, as they stand in it.
+/// The bytes of a file that was opened, as they are in it.
 #[derive(Drop)]
 pub enum StoredFile<F: Read + Seek> {
-    /// What can be sought in, to be read where it is needed.
+    /// A file that can be sought in, to be read on demand.
     Seekable(SeekableBytes<TrustedFile<F>>),
-    /// All bytes of anything else, such as a pipe, which several may read.
+    /// All bytes of anything else, such as a pipe; several may read them.
     Whole(Arc<Vec<u8>>),
 }
 
 impl<F: Read + Seek> StoredFile<F> {
-    /// What can be sought in, wherever it stands; or the file back, where it can't be.
+    /// A file that can be sought in, wherever it stands; or the file back, if it can't be.
     pub fn sought(file: F) -> Result<StoredFile<F>, F>
         ensures { IfOk result (λ opened. stored_bytes opened ≡ None) }
     {
@@ -36,8 +36,8 @@ impl<F: Read + Seek> StoredFile<F> {
         }
     }
 
-    /// The same bytes once more, where all are held: no byte is copied. None of a file, which is opened anew. The only error is want of
-    /// memory.
+    /// Another handle to the same bytes, if they are held; no byte is copied. None for a file, which must be opened again. Fails
+    /// only when out of memory.
     pub fn again(&self) -> Result<Option<StoredFile<F>>, AllocError>
         ensures held { IfOk result (λ found. IfSome found (λ again. stored_bytes again ≡ stored_bytes self.now)) }
         ensures whole { IfOk result (λ found. IfNone found (stored_bytes self.now ≡ None)) }
@@ -75,7 +75,7 @@ impl<F: Read + Seek> PlacedBytes for StoredFile<F> {
 /// The bytes in which volumes are looked for.
 #[derive(Drop)]
 pub enum OpenedFile<F: Read + Seek> {
-    /// Those of the file.
+    /// Those of the file itself.
     Plain(StoredFile<F>),
     /// The user data of its raw CD sectors.
     Raw(UserData<StoredFile<F>>),
@@ -118,7 +118,7 @@ fn others_of<F: Read + Seek>(file: &mut StoredFile<F>) -> Result<u64, SparseFaul
 }
 
 impl<F: Read + Seek> OpenedFile<F> {
-    /// What the file's bytes are.
+    /// How the file's bytes are laid out.
     pub fn layout(&self) -> Layout
         ensures { result ≡ opened_layout self.now }
     {
@@ -128,7 +128,7 @@ impl<F: Read + Seek> OpenedFile<F> {
         }
     }
 
-    /// How many of its raw sectors have no user data: each is looked at. 0 where it has no such sectors. Error: a read failed.
+    /// How many of its raw sectors have no user data; each sector is read. 0 if it has no raw sectors. Error: a read failed.
     pub fn others(&mut self) -> Result<u64, SparseFault>
         ensures others { IfOk result (AreOthersOf self.new) }
         ensures known { IfOk result (AreHeldOthers self.old) }
@@ -160,7 +160,8 @@ fn raw_content<F: Read + Seek>(source: StoredFile<F>, len: u64) -> Window<Opened
     }
 }
 
-/// The bytes in which volumes are looked for: the user data of a file of raw sectors, any other file as it is. Faults: a read failed.
+/// The bytes in which volumes are looked for: the user data of a file of raw sectors, or any other file as it is. Faults: a read
+/// failed.
 #[tactic(auto, using(crate::proofs::HeldBytes::stays_held))]
 pub fn content_of<'a, F: Read + Seek + Drop>(
     file: Window<StoredFile<F>>,

@@ -1,4 +1,4 @@
-//! An image with changed blocks laid over it, as what a file is to hold.
+//! An image with changed blocks laid over it, as the contents of a file.
 ghost use Rattle.std.specs.Prelude.{◌≤◌, ◌/◌};
 ghost use Rattle.hfs_blocks.specs.Layers.{changes, AreWithin};
 ghost use Rattle.hfs_commands.specs.Images.{IsPatchedOf};
@@ -11,7 +11,7 @@ use hfs_sparse::BlockSource;
 use std::alloc::Global;
 use std::io::Write;
 
-/// The bytes of an image that is read as they are written, with changed blocks in place of its own.
+/// The bytes of an image that is read while they are written, with changed blocks in place of its own.
 #[derive(Drop)]
 pub struct PatchedImage<S> {
     pub alloc: Global,

@@ -5,8 +5,8 @@ ghost use Rattle.hfs_commands.specs.Paths.{escaped_byte, is_escaped, path_text};
 
 use std::fmt;
 
-/// A path as it is printed: each byte below $20, $7F and the backslash as a backslash and two
-/// hexadecimal digits, so that no path steers a terminal or looks like another one.
+/// A path as it is printed: each byte below $20, $7F and the backslash become a backslash and two hexadecimal digits, so that no
+/// path controls a terminal or looks like another path.
 #[derive(Clone, Copy)]
 pub struct ShownPath<'a>(pub &'a str);
 
@@ -18,8 +18,7 @@ impl fmt::Display for ShownPath<'_> {
     }
 }
 
-/// Writes a path by pieces: a run of bytes that stand for themselves, then a byte that doesn't, and
-/// so on.
+/// Writes a path in pieces: a run of bytes that stand for themselves, then a byte that doesn't, and so on.
 fn write_path<W: fmt::Write>(f: &mut fmt::Formatter<W>, path: &str) -> fmt::Result
     ensures { WritesOnOk W.write_str_gives f.old result (path_text path.now) f.new }
 {

@@ -1,4 +1,4 @@
-//! What is told of a repair.
+//! What is printed about a repair.
 ghost use Rattle.std.specs.Prelude.{◌≡◌, IfOk, OnOk, length, string_bytes};
 ghost use Rattle.hfs_source.specs.Images.{OfEach};
 ghost use Rattle.hfs_texts.specs.Texts.{Gains};
@@ -15,7 +15,7 @@ use hfs_texts::{Show, push_line};
 use hfs_volume::{Fix, FixPlace};
 use std::alloc::{AllocError, Global};
 
-/// Appends which number it is.
+/// Appends the name of a number and, for a valence, its folder.
 #[tactic(auto, unfolding(crate::specs::Repairs::place_text))]
 fn push_place(text: &mut String, place: FixPlace) -> Result<(), AllocError>
     ensures { OnOk result (Gains text.old text.new (place_text place)) }
@@ -98,23 +98,23 @@ fn mended_text(
     }
 }
 
-/// What a repair makes of an image that is read where it is needed, and what is told of it.
+/// The result of repairing an image that is read on demand, and what is printed about it.
 #[derive(Drop)]
 pub struct RepairAnswer<S> {
-    /// The repaired image, as what a file is to hold; or what it was read from, where it is refused.
+    /// The repaired image, as the contents of a file; or what it was read from, if it is refused.
     pub image: Result<PatchedImage<S>, S>,
-    /// The first fault of the repaired image, where it has one.
+    /// The first fault of the repaired image, if any.
     pub fault: Option<MountFault>,
-    /// The exit status: 0, or 2 where the image is refused.
+    /// The exit status: 0, or 2 if the image is refused.
     pub status: u8,
     /// The lines: `fixed PLACE WAS NOW` for each number that was wrong and then `sound`, or `refused TEXT`.
     pub lines: String,
 }
 
-/// Mends the counted numbers of an image of `len` bytes, of which only the blocks are read that decide it, and tells of it: what is told is so of
-/// each image that has the bytes which were read. Its bytes are read once more when the repaired image is written. Errors: `ReadFailed`
-/// where a read of one of these blocks failed, or the source ends before one does; `Memory` where it was refused. A fault of the image is no
-/// error: it is told of.
+/// Mends the counts of an image of `len` bytes, of which only the needed blocks are read. The answer holds for every image
+/// consistent with the bytes read. The image is read once more when the repaired one is written. Errors: `ReadFailed` if a read
+/// of one of these blocks failed, or the source ends before one of them does; `Memory` if memory was refused. A fault of the
+/// image is no error: the answer has it.
 pub fn repair_answer<S: BlockSource + Drop>(
     alloc: Global,
     source: S,

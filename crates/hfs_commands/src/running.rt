@@ -1,4 +1,4 @@
-//! Scripts that are run on images of which only what they need is read.
+//! Scripts run on images, of which only what the scripts need is read.
 ghost use Rattle.std.specs.Prelude.{◌≡◌, ◌≤◌, ◌⊎◌, ◌/◌, All, IfErr, IfOk, Ok, Some, length};
 ghost use Rattle.hfs_blocks.specs.Layers.{changes, AreWithin};
 ghost use Rattle.hfs_check.specs.Faults.{fault_of};
@@ -26,7 +26,7 @@ use std::marker::Model;
 use std::sync::Wait;
 use std::thread::Threads;
 
-/// An image on which a script is to be run, of which the blocks were read that calls read and write.
+/// An image on which a script is about to be run, with the blocks that calls read and write already read.
 #[derive(Drop)]
 pub struct RunImage<S: BlockSource> {
     /// Where the forks are read from that a script may read or write.
@@ -47,25 +47,25 @@ impl<S: BlockSource> Model for RunImage<S> {
     ghost invariant = { λ image. IsRunnable (S.Holds image.source) image.len image.working };
 }
 
-/// An image on which no script is run, since it is refused.
+/// An image that is refused, so that no script is run on it.
 #[derive(Drop)]
 pub struct RefusedRun<S> {
     /// Its first fault.
     pub why: MountFault,
-    /// Where it was read from.
+    /// What it was read from.
     pub source: S,
 }
 
-/// What a run of a script made of an image.
+/// What running a script made of an image.
 #[derive(Drop)]
 pub struct RanImage<S> {
-    /// The image with what was changed laid over it, as what a file is to hold.
+    /// The image with the changes laid over it, as the contents of a file.
     pub image: PatchedImage<S>,
-    /// The answers, of which long bytes have no digits yet.
+    /// The answers; the digits of long bytes are left out for now.
     pub answers: Answers,
-    /// Whether each line was answered.
+    /// Whether every line was answered.
     pub whole: bool,
-    /// Whether viewers were shown each change at once, and none later for want of memory.
+    /// Whether viewers were shown each change at once, and none later for lack of memory.
     pub shown: bool,
 }
 
@@ -101,7 +101,7 @@ fn ran_image<S: BlockSource>(alloc: Global, source: S, len: u64, ran: NeededRan)
     }
 }
 
-/// The script that bytes are, whose changes are made at the moment `now`. Faults: `ScriptTooLarge`, `ScriptLine`, `NoMemory`.
+/// The script in these bytes, whose changes are made at the moment `now`. Faults: `ScriptTooLarge`, `ScriptLine`, `NoMemory`.
 pub fn script_lines(alloc: Global, bytes: &[u8], now: u32) -> Result<Script, Fault<'static>>
     ensures read { IfOk result (λ script. script_of now bytes.now ≡ Ok script) }
     ensures small { IfOk result (λ script. All (λ line. IsSmall line.caller) script) }
@@ -113,7 +113,7 @@ pub fn script_lines(alloc: Global, bytes: &[u8], now: u32) -> Result<Script, Fau
     }
 }
 
-/// What it means for the program that a volume was not shared for a run.
+/// The program's fault for a volume that was not shared for a run.
 fn start_fault(fault: ScriptFault) -> Fault<'static>
     requires { IsStartFault fault }
     ensures { (result ≡ Fault.NoPlace) ⊎ (result ≡ Fault.NoMemory) }
@@ -122,9 +122,9 @@ fn start_fault(fault: ScriptFault) -> Fault<'static>
 }
 
 impl<S: BlockSource + Watched + Drop> RunImage<S> {
-    /// Reads the blocks that calls read and write of an image of `len` bytes, which was opened by this path, and makes all checks. Or tells why the
-    /// image is refused, which is a fault once the script was read. Faults: `CannotRead` where a read fails, `Refused(TooLarge)`,
-    /// `NoMemory`.
+    /// Reads those blocks of an image of `len` bytes that calls read and write, and makes all checks. An image that is refused is
+    /// returned with its first fault, which counts only once the script was read. `path` is what was opened. Faults: `CannotRead`
+    /// if a read fails, `Refused(TooLarge)`, `NoMemory`.
     pub fn open<'a>(
         alloc: Global,
         source: S,
@@ -160,8 +160,9 @@ impl<S: BlockSource + Watched + Drop> RunImage<S> {
         }
     }
 
-    /// Reads the forks that a script may read or write, and runs the script, with a gate that is called around each call of a worker. Faults: `CannotRead`
-    /// of this path where a read fails, or where the image has changed since it was opened; `NoPlace`; `NoMemory`.
+    /// Reads the forks that a script may read or write, and runs the script, with a gate that is called around each call of a
+    /// worker. Faults: `CannotRead` of this path if a read fails, or if the image has changed since it was opened; `NoPlace`;
+    /// `NoMemory`.
     pub fn run_at<'a, R: Threads + Wait + Sync, G: Gate + Sync>(
         self,
         rt: &R,

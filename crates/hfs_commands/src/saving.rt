@@ -1,4 +1,4 @@
-//! Files that are written in place of what they had.
+//! Files that are written in place of what they held.
 ghost use Rattle.std.specs.Prelude.{◌≡◌, [], None, Some, IfErr, IfOk, OnOk, string_bytes};
 ghost use Rattle.std.specs.Option.{option_map};
 ghost use Rattle.hfs_source.specs.Images.{OfEach};
@@ -17,17 +17,16 @@ use std::os::unix::fs::MetadataExt;
 use std::rt::Files;
 use std::{fs, io};
 
-/// Who may read and write a new file: all that the system's mask allows.
+/// The mode of a new file: everyone may read and write it whom the system's mask allows.
 const FOR_ALL: u32 = 0o666;
 
-/// Who may read and write a file that is to be put in another's place, until it gets that one's
-/// permissions.
+/// The mode of a file that is to replace another, until it gets that one's permissions.
 const FOR_OWNER: u32 = 0o600;
 
-/// What stands at a path that is to be written.
+/// What is at a path that is to be written.
 #[derive(Drop)]
 enum Target {
-    /// Nothing, so that a file is made.
+    /// Nothing, so a file is made.
     Nothing,
     /// A regular file, perhaps behind a link, that may be written.
     Regular(Metadata),
@@ -35,8 +34,8 @@ enum Target {
     Other,
 }
 
-/// What stands at a path that is to be written. Error: a link that leads to no file, a regular file
-/// that nobody may write or that can't be opened for writing, or a path that can't be looked up.
+/// What is at a path that is to be written. Error: it is a link that leads to no file, or a regular file that nobody may write or
+/// that can't be opened for writing, or the path can't be looked up.
 fn target_of<R: Files>(rt: &R, path: &str) -> io::Result<Target>
     ensures { IfOk result IsOpenTarget }
 {
@@ -52,7 +51,7 @@ fn target_of<R: Files>(rt: &R, path: &str) -> io::Result<Target>
     }
 }
 
-/// The target at a path where no file is found: nothing, where no link stands there either.
+/// The target at a path where no file is found: nothing, if there is no link either.
 fn free_target<R: Files>(rt: &R, path: &str) -> io::Result<Target>
     ensures { IfOk result IsOpenTarget }
 {
@@ -68,7 +67,7 @@ fn free_target<R: Files>(rt: &R, path: &str) -> io::Result<Target>
     }
 }
 
-/// The target at a path where this was found. A regular file is opened for writing, and not cut.
+/// The target at a path where this was found. A regular file is opened for writing, but not truncated.
 fn opened_target<R: Files>(rt: &R, path: &str, found: Metadata) -> io::Result<Target>
     ensures { IfOk result IsOpenTarget }
 {
@@ -90,16 +89,15 @@ fn real_path<R: Files + AllocGlobal>(rt: &R, path: &str) -> io::Result<String> {
     Ok(String::from_str(rt.alloc(), path)?)
 }
 
-/// Gives a new file the owner and the group of another, each where the system allows it, and its
-/// permissions.
+/// Gives a new file the permissions of another, and its owner and group as far as the system allows.
 fn keep_access<R: Files>(rt: &R, file: &R::File, path: &str, old: &Metadata) -> io::Result<()> {
     let _group = rt.lchown(path, None, Some(old.gid()));
     let _owner = rt.lchown(path, Some(old.uid()), None);
     file.set_permissions(old.permissions())
 }
 
-/// Writes a new file, and all of it to the device: then it has these bytes and no others. It gets the access of the file in whose place
-/// it is to be put.
+/// Writes a new file, and all of it to the device; then it has these bytes and no others. It gets the access of the file that it
+/// is to replace.
 fn fill_new<R: Files, C: ReadContents>(
     rt: &R,
     file: TrustedNewFile<R::File>,
@@ -122,8 +120,8 @@ fn fill_new<R: Files, C: ReadContents>(
     Ok(file)
 }
 
-/// Writes to a file beside this path, and renames that over it. At an error the path is as it was,
-/// and the file beside it is gone, if it can be removed. Where a name was taken, the first is told.
+/// Writes to a file next to this path, and renames that over it. At an error the path is as it was, and the file next to it is
+/// gone, if it can be removed. Also returns the first file whose name was taken.
 fn replace<R: Files + AllocGlobal, C: ReadContents>(
     rt: &R,
     path: &str,
@@ -154,8 +152,8 @@ fn place<R: Files>(rt: &R, beside: &str, path: &str) -> Result<(), UnwrittenFaul
     Ok(())
 }
 
-/// Writes to a path: where a link leads to; straight where no regular file is there. Where a name
-/// beside it was taken, the first is told.
+/// Writes to a path: where a link leads to, and directly if no regular file is there. Also returns the first file next to it
+/// whose name was taken.
 fn save_at<R: Files + AllocGlobal, C: ReadContents>(
     rt: &R,
     path: &str,
@@ -179,20 +177,19 @@ fn save_at<R: Files + AllocGlobal, C: ReadContents>(
     }
 }
 
-/// How a file was written.
+/// How writing a file went.
 #[derive(Drop)]
 pub struct Saved<'a> {
-    /// The first of the files beside it that were there already, where any was.
+    /// The first of the files next to it that were already there, if any.
     pub leftover: Option<Leftover>,
     /// Whether it was written. Fault: `CannotWrite`.
     pub written: Result<(), Fault<'a>>,
 }
 
-/// Writes a file, in place of what it had. What is written goes to a file beside it and to the
-/// device before that is renamed over it, so that a write that fails leaves the file as it was. A
-/// link to a file is followed; permissions are kept, and owner and group where the system allows
-/// it; what is no regular file is written straight. Fault: `CannotWrite`, also where a link leads
-/// to no file, and where nobody may write the file or it can't be opened for writing.
+/// Writes a file, in place of what it held. The bytes go to a file next to it, and to the device, before that file is renamed
+/// over it, so a write that fails leaves the file as it was. A link to a file is followed. Permissions are kept, and owner and
+/// group where the system allows it. What isn't a regular file is written directly. Fault: `CannotWrite`, also if a link leads to
+/// no file, and if nobody may write the file or it can't be opened for writing.
 pub fn save_file<'a, R: Files + AllocGlobal, C: Contents>(
     rt: &R,
     path: &'a str,
@@ -210,9 +207,9 @@ pub fn save_file<'a, R: Files + AllocGlobal, C: Contents>(
     Saved { leftover, written }
 }
 
-/// Writes a file as [`save_file`] does, of contents that are read from a file `source` as they are
-/// written. Faults: `CannotRead` of that file where a read fails, or where it has changed since it
-/// was opened; `CannotWrite` as [`save_file`] has it; `NoMemory`. Then nothing is renamed.
+/// Writes a file as [`save_file`] does, from contents that are read from a file `source` while they are written. Faults:
+/// `CannotRead` of that file if a read fails, or if it has changed since it was opened; `CannotWrite` as for [`save_file`];
+/// `NoMemory`. Then nothing is renamed.
 pub fn save_read<'a, R: Files + AllocGlobal, C: ReadContents>(
     rt: &R,
     path: &'a str,
@@ -231,7 +228,8 @@ pub fn save_read<'a, R: Files + AllocGlobal, C: ReadContents>(
     Saved { leftover, written }
 }
 
-/// Makes a file beside a path, and writes it whole. At an error it is gone, if it can be removed. Where a name was taken, the first is told.
+/// Makes a file next to a path, and writes it whole. At an error it is gone, if it can be removed. Also returns the first file
+/// whose name was taken.
 fn filled_beside<R: Files + AllocGlobal, C: ReadContents>(
     rt: &R,
     path: &str,
@@ -268,7 +266,7 @@ fn name_new<'a, R: Files, F>(
     }
 }
 
-/// Gives a file that is whole its place, where that is still free. At a fault it is gone, if it can be removed.
+/// Gives a file that is whole its name, if that is still free. At a fault it is gone, if it can be removed.
 fn place_new<'a, R: Files>(rt: &R, made: &NewFile<R::File>, path: &'a str) -> Result<(), Fault<'a>>
     ensures { IfErr result (IsNoPlace path.entry) }
 {
@@ -302,9 +300,10 @@ fn make_at<'a, R: Files + AllocGlobal, C: ReadContents>(
     }
 }
 
-/// Makes a new file, of contents that are read from a file `source` as they are written. They go to a file beside it and to the device before that gets
-/// its name, so that the file is whole or not there. Faults: `IsThere` where something has its name before the first byte is read, or has it by then;
-/// `CannotRead` of the source; `CannotWrite`; `NoMemory`.
+/// Makes a new file, from contents that are read from a file `source` while they are written. The bytes go to a file next to it,
+/// and to the device, before that file gets its name, so the new file is whole or not there. Faults: `IsThere` if something has
+/// its name before the first byte is read, or by the time it is to be named; `CannotRead` of the source; `CannotWrite`;
+/// `NoMemory`.
 pub fn save_new<'a, R: Files + AllocGlobal, C: ReadContents>(
     rt: &R,
     path: &'a str,

@@ -1,4 +1,4 @@
-//! Parts of files, of which what is answered holds for each file that has the bytes which were read.
+//! Parts of files, whose answers hold for every file consistent with the bytes read.
 ghost use Rattle.std.specs.Prelude.{◌≡◌, ◌+◌, IfErr, IfOk};
 ghost use Rattle.hfs_commands.specs.OpenedFiles.{images_of};
 ghost use Rattle.hfs_commands.specs.SeenFiles.{IsPartOf, IsUnseen, parts_of};
@@ -18,10 +18,10 @@ use std::rt::Files;
 /// The blocks of a part of a file, known by what was read of them.
 pub type PartBlocks<F> = SeenBlocks<BlocksOf<RangeBytes<OpenedFile<F>>>>;
 
-/// A sound volume in a part of a file, of which what is answered holds for each file that has the bytes which were read.
+/// A sound volume in a part of a file, whose answers hold for every file consistent with the bytes read.
 pub type PartImage<F> = SeenImage<BlocksOf<RangeBytes<OpenedFile<F>>>>;
 
-/// The part of a file, or none of it where it doesn't lie there.
+/// The part of a file, or an empty one if it doesn't lie in the file.
 fn range_of<F: Read + Seek>(part: Window<OpenedFile<F>>) -> RangeBytes<OpenedFile<F>>
     ensures bytes { result.bytes ≡ part.source }
     ensures part { IsPartOf (images_of part.source) part.range result.start result.len }
@@ -38,7 +38,7 @@ fn range_of<F: Read + Seek>(part: Window<OpenedFile<F>>) -> RangeBytes<OpenedFil
     }
 }
 
-/// The blocks of a part of a file. One that begins after the file's end has none.
+/// The blocks of a part of a file. There are none if the part begins past the file's end.
 pub fn part_blocks<F: Read + Seek>(part: Window<OpenedFile<F>>) -> PartBlocks<F>
     ensures bytes { result.blocks.bytes.bytes ≡ part.source }
     ensures part { IsPartOf (images_of part.source) part.range result.blocks.bytes.start
@@ -52,8 +52,8 @@ pub fn part_blocks<F: Read + Seek>(part: Window<OpenedFile<F>>) -> PartBlocks<F>
     }
 }
 
-/// Opens what is asked for of an image, as [`open_part`] does, reads its needed blocks and makes all checks. Faults: as [`open_part`] has them; a read
-/// failed, memory was refused, or the image is refused.
+/// Opens what is asked for of an image, as [`open_part`] does, reads its needed blocks and makes all checks. Faults: as for
+/// [`open_part`]; a read failed, memory was refused, or the image is refused.
 pub fn open_seen<'a, R: Files + AllocGlobal>(
     rt: &R,
     path: &'a str,

@@ -39,7 +39,7 @@ fn whole_file<F: Read + Seek>(source: StoredFile<F>) -> Window<StoredFile<F>>
     }
 }
 
-/// All bytes of what can't be sought in. Faults: as [`open_file`] has them.
+/// All bytes of something that can't be sought in. Faults: as for [`open_file`].
 #[tactic(auto, using(crate::proofs::WholeReads::whole_held))]
 pub(crate) fn loaded<'a, F: Read + Seek + Drop>(
     alloc: Global,
@@ -57,7 +57,7 @@ pub(crate) fn loaded<'a, F: Read + Seek + Drop>(
     }
 }
 
-/// All bytes of a file, to be read where they are needed if it can be sought in. Faults: as [`open_file`] has them.
+/// All bytes of a file, to be read on demand if it can be sought in. Faults: as for [`open_file`].
 pub(crate) fn opened<'a, F: Read + Seek + Drop>(
     alloc: Global,
     file: F,
@@ -85,9 +85,9 @@ fn has_places<F: OpenFile + Seek>(file: &mut F) -> bool {
     }
 }
 
-/// Opens a file as it is: where it has bytes and can be sought in, it is read where it is needed, and its length is what seeking to its end says; of
-/// anything else, such as a pipe, all bytes are read. Faults: `CannotRead` where it can't be opened or a read fails, `Refused(TooLarge)` where all
-/// bytes are read and are more than 2,147,483,648, `NoMemory`.
+/// Opens a file as it is. If it has bytes and can be sought in, it is read on demand, and its length is where seeking to its end
+/// leads; of anything else, such as a pipe, all bytes are read. Faults: `CannotRead` if it can't be opened or a read fails,
+/// `Refused(TooLarge)` if all bytes are read and there are more than 2,147,483,648, `NoMemory`.
 pub fn open_file<'a, R: Files + AllocGlobal>(
     rt: &R,
     path: &'a str,
@@ -104,16 +104,16 @@ pub fn open_file<'a, R: Files + AllocGlobal>(
     }
 }
 
-/// A part of a file: the file as it is, or a range that lies inside.
+/// A part of a file: the file as it is, or a range inside it.
 #[derive(Drop)]
 pub struct FilePart<F: Read + Seek> {
     /// Its bytes.
     pub bytes: Window<OpenedFile<F>>,
-    /// Where it lies in the file, if it is a range inside.
+    /// Where it lies in the file, if it is a range inside it.
     pub place: Option<NumberedRange>,
 }
 
-/// What volumes are looked for in, as it is.
+/// The bytes in which volumes are looked for, as they are.
 fn whole_part<F: Read + Seek>(bytes: Window<OpenedFile<F>>) -> FilePart<F>
     ensures bytes { result.bytes ≡ bytes }
     ensures place { result.place ≡ None }
@@ -134,8 +134,8 @@ fn stored_part<F: Read + Seek>(file: Window<StoredFile<F>>) -> FilePart<F>
     })
 }
 
-/// Where what is asked for lies in a file, or in user data, by the number of a range or without one, as
-/// [`find_asked`] says; `None` is the file as it is. Faults: as [`part_of`] has them.
+/// Where the range that is asked for lies in a file, or in its user data, given its number or none, as
+/// [`find_asked`] says; `None` is the file as it is. Faults: as for [`part_of`].
 #[tactic(auto, using(crate::proofs::PartLemmas::several_unnamed, crate::proofs::PartLemmas::missing_unnamed))]
 pub(crate) fn place_asked<'a, S: PlacedBytes>(
     alloc: Global,
@@ -161,8 +161,9 @@ pub(crate) fn place_asked<'a, S: PlacedBytes>(
     }
 }
 
-/// What is asked for of a file that was opened, by the number of a range in it or without one, as [`find_asked`] says. Faults: `NoVolume` where there
-/// is no such range; `SeveralVolumes` where no number is given and several count; a read failed, memory was refused.
+/// The part of an opened file that is asked for, given the number of a range in it or none, as [`find_asked`] says. Faults:
+/// `NoVolume` if there is no such range; `SeveralVolumes` if no number is given and there are several candidates; a read failed,
+/// memory was refused.
 pub fn part_of<'a, F: Read + Seek + Drop>(
     alloc: Global,
     file: Window<OpenedFile<F>>,
@@ -204,7 +205,7 @@ fn is_held<F: Read + Seek>(file: &StoredFile<F>) -> bool
     }
 }
 
-/// What is taken of an image of which no volume is named. What can't be sought in, such as a pipe, is taken as it is.
+/// What is taken of an image if no volume is chosen. Something that can't be sought in, such as a pipe, is taken as it is.
 fn chosen_part<'a, F: Read + Seek + Drop>(
     alloc: Global,
     bytes: Window<StoredFile<F>>,
@@ -222,9 +223,9 @@ fn chosen_part<'a, F: Read + Seek + Drop>(
     part_of(alloc, content, path, counted, None)
 }
 
-/// Opens what is asked for of an image: the volume with this number that lies in it, or in the user data of its raw sectors, 0 being the image as it is; without a number what
-/// [`find_asked`] chooses, where the image can be sought in, and else the image as it is. What can be sought in is read where it is needed. Faults: as
-/// [`open_file`] and [`part_of`] have them.
+/// Opens what is asked for of an image. With a number, it is that volume in the file, or in the user data of its raw sectors; 0
+/// is the image as it is. Without one, it is what [`find_asked`] chooses if the image can be sought in, and otherwise the image
+/// as it is. What can be sought in is read on demand. Faults: as for [`open_file`] and [`part_of`].
 pub fn open_asked<'a, R: Files + AllocGlobal>(
     rt: &R,
     path: &'a str,
@@ -246,7 +247,7 @@ pub fn open_asked<'a, R: Files + AllocGlobal>(
     }
 }
 
-/// Opens what is asked for of an image, as [`open_asked`] does, where the ranges count that hold a volume.
+/// Opens what is asked for of an image, as [`open_asked`] does, where only ranges that hold a volume are candidates.
 pub fn open_part<'a, R: Files + AllocGlobal>(
     rt: &R,
     path: &'a str,

@@ -1,4 +1,4 @@
-//! What is told of the volumes in a file.
+//! What is printed about the volumes in a file.
 ghost use Rattle.std.specs.Prelude.{◌≡◌, ◌++◌, IfOk, OnOk, string_bytes};
 ghost use Rattle.std.specs.Option.{option_map};
 ghost use Rattle.hfs_source.specs.Images.{FailsWhere, OfEach};
@@ -25,7 +25,7 @@ fn push_container(text: &mut String, container: Container) -> Result<(), AllocEr
     }
 }
 
-/// Appends the plain text of a name in its field of a length byte and characters.
+/// Appends the plain text of a name, from its field with a length byte and characters.
 #[tactic(auto, unfolding(crate::specs::Volumes::name_text))]
 fn push_name(text: &mut String, name: &[u8]) -> Result<(), AllocError>
     ensures { OnOk result (Gains text.old text.new (name_text name.now)) }
@@ -39,7 +39,7 @@ fn push_name(text: &mut String, name: &[u8]) -> Result<(), AllocError>
     }
 }
 
-/// Appends the name of a volume, where there is one.
+/// Appends the name of a volume, if there is one.
 fn push_name_field(text: &mut String, name: &Option<[u8; 28]>) -> Result<(), AllocError>
     ensures { OnOk result (Gains text.old text.new (name_field name.now)) }
 {
@@ -49,7 +49,7 @@ fn push_name_field(text: &mut String, name: &Option<[u8; 28]>) -> Result<(), All
     }
 }
 
-/// Appends whether the sum is right, where there is one.
+/// Appends whether the sum is right, if there is one.
 fn push_sum_field(text: &mut String, sum: Option<bool>) -> Result<(), AllocError>
     ensures { OnOk result (Gains text.old text.new (sum_field sum)) }
 {
@@ -60,7 +60,7 @@ fn push_sum_field(text: &mut String, sum: Option<bool>) -> Result<(), AllocError
     }
 }
 
-/// Appends that there is no volume, where there is none.
+/// Appends that there is no volume, if there is none.
 fn push_missing_field(text: &mut String, name: &Option<[u8; 28]>) -> Result<(), AllocError>
     ensures { OnOk result (Gains text.old text.new (missing_field name.now)) }
 {
@@ -70,7 +70,7 @@ fn push_missing_field(text: &mut String, name: &Option<[u8; 28]>) -> Result<(), 
     }
 }
 
-/// Appends how many raw sectors have no user data, where there are some.
+/// Appends how many raw sectors have no user data, if any.
 #[tactic(auto, unfolding(crate::specs::Volumes::others_field))]
 fn push_others_field(text: &mut String, others: u64) -> Result<(), AllocError>
     ensures { OnOk result (Gains text.old text.new (others_field others)) }
@@ -82,7 +82,7 @@ fn push_others_field(text: &mut String, others: u64) -> Result<(), AllocError>
     write!(text, "{}", others)
 }
 
-/// Appends a range's number, how it lies, its first byte and how many bytes it has.
+/// Appends a range's number, how it lies in the file, its first byte and how many bytes it has.
 #[tactic(auto, unfolding(crate::specs::Volumes::place_fields))]
 fn push_place(text: &mut String, number: u64, found: &FoundRange) -> Result<(), AllocError>
     ensures { OnOk result (Gains text.old text.new (place_fields number found.now)) }
@@ -96,7 +96,8 @@ fn push_place(text: &mut String, number: u64, found: &FoundRange) -> Result<(), 
     write!(text, "{}", found.range.len)
 }
 
-/// Appends the line of a range, with the name of its volume, what is told of its sum, and how many raw sectors have no user data.
+/// Appends the line of a range, with the name of its volume, whether its sum is right, and how many raw sectors have no user
+/// data.
 #[tactic(auto, unfolding(crate::specs::Volumes::volume_line))]
 fn push_volume_line(
     text: &mut String,
@@ -156,9 +157,10 @@ fn push_lines<S: PlacedBytes>(
     Ok(())
 }
 
-/// The lines of the volumes that lie in a file, or in user data, counted from 1: number, how it lies, the byte where it
-/// begins, its bytes, the plain text of its name, with tabs between; behind these whether a disk copy's sum is right, whether there is no volume in the
-/// range, and how many raw sectors have no user data, where that isn't 0. None where there is no line. Errors: a read failed, memory was refused.
+/// The lines of the volumes in a file, or in its user data, counted from 1. Each has the number,
+/// how the volume lies in the file, its first byte, its length in bytes and the plain text of its name, separated by tabs; then,
+/// if they apply, whether a disk copy's sum is right, that there is no volume in the range, and how many raw sectors have no user
+/// data. None if there is no line. Errors: a read failed, memory was refused.
 pub fn volume_lines<S: PlacedBytes>(
     alloc: Global,
     source: &mut S,

@@ -19,7 +19,7 @@ use std::io::{ErrorKind, Read, Seek};
 use std::rt::Files;
 use std::sync::Arc;
 
-/// An image that was opened to be changed: what was opened, with its first look where it isn't held.
+/// An image that was opened to be changed: what was opened, with its first look unless all bytes are held.
 #[derive(Drop)]
 pub struct WatchedImage<F: Read + Seek> {
     pub(crate) file: StoredFile<F>,
@@ -34,7 +34,7 @@ impl<F: Read + Seek + Drop> WatchedImage<F> {
         self.file.len()
     }
 
-    /// Its bytes, where all are held and nobody else holds them; or the image back.
+    /// Its bytes, if all are held and nobody else holds them; or the image back.
     pub fn into_held(self) -> Result<Vec<u8>, WatchedImage<F>>
         ensures held { IfOk result (λ bytes. watched_bytes self ≡ Some bytes.items) }
         ensures back { IfErr result (λ image. image ≡ self) }
@@ -128,7 +128,7 @@ impl<F: Read + Seek + OpenFile> WatchedBytes for WatchedImage<F> {
     }
 }
 
-/// What was opened to be changed, with its first look. Faults: `NotWritten` of raw sectors; a read failed.
+/// What was opened to be changed, with its first look. Faults: `NotWritten` for raw sectors; a read failed.
 fn watched<'a, F: Read + Seek + Drop>(
     stored: Window<StoredFile<F>>,
     looks: Option<TrustedLooks<F, StoredFile<F>>>,
@@ -143,15 +143,15 @@ fn watched<'a, F: Read + Seek + Drop>(
     }
 }
 
-/// A file that was opened to be changed, with its first look where it isn't held.
+/// A file that was opened to be changed, with its first look unless all bytes are held.
 #[derive(Drop)]
 pub(crate) struct LookedFile<F: Read + Seek> {
     pub(crate) bytes: Window<StoredFile<F>>,
     pub(crate) looks: Option<TrustedLooks<F, StoredFile<F>>>,
 }
 
-/// Opens a file by its path, to write it anew with changes. A regular file is looked at, and left to be read where it is needed;
-/// of anything else all bytes are held. Faults: as [`open_file`](crate::open_file) has them.
+/// Opens a file by its path, to be written again with changes. A regular file is looked at, and read on demand later; of anything
+/// else all bytes are held. Faults: as for [`open_file`](crate::open_file).
 pub(crate) fn open_looked<'a, R: Files + AllocGlobal>(
     rt: &R,
     path: &'a str,
@@ -175,9 +175,8 @@ pub(crate) fn open_looked<'a, R: Files + AllocGlobal>(
     })
 }
 
-/// Opens an image by its path, to write it anew with changes: a regular file is looked at, and left to be read where it is
-/// needed, and of anything else all bytes are held. Faults: as [`open_file`](crate::open_file) has them; `NotWritten` where it is
-/// of raw CD sectors.
+/// Opens an image by its path, to be written again with changes. A regular file is looked at, and read on demand later; of
+/// anything else all bytes are held. Faults: as for [`open_file`](crate::open_file); `NotWritten` if it has raw CD sectors.
 pub fn open_watched<'a, R: Files + AllocGlobal>(
     rt: &R,
     path: &'a str,

@@ -1,4 +1,4 @@
-//! An image in a range of a file that was opened to be changed, and that file as it is to be with the image changed.
+//! An image in a range of a file that was opened to be changed, and that file with the image's changes.
 ghost use Rattle.std.specs.Prelude.{◌≡◌, ◌≤◌, ◌/◌, List, ℕ, None, OnOk};
 ghost use Rattle.std.proofs.lemmas.Option.{none-some};
 ghost use Rattle.hfs_source.specs.Images.{IsRangeOf, OfEach};
@@ -18,12 +18,12 @@ use std::alloc::Global;
 use std::io;
 use std::io::Write;
 
-/// A file that is read by its places, and can be looked at again.
+/// A file that is read by position, and can be looked at again.
 pub trait WatchedBytes: PlacedBytes {
-    /// The last thing that was done with it is a look, which told what its first look did.
+    /// The last thing that was done with it is a look, which found what its first look found.
     ghost settled: { Self → Type 0 };
 
-    /// Looks whether it is as it was when it was opened. Error: it isn't, or that can't be told.
+    /// Checks that it is as it was when it was opened. Error: it isn't, or that can't be checked.
     fn look_again(&mut self) -> io::Result<()>
         ensures settled { OnOk result (settled self.new) }
         ensures narrows { OfEach (Self.Holds self.new) (Self.Holds self.old) };
@@ -56,14 +56,14 @@ impl<S: WatchedBytes> Watched for WatchedRange<S> {
     }
 }
 
-/// The bytes of a file, which is read as they are written, with changed blocks in place of those of an image in it, and with that
-/// image's sum made anew.
+/// The bytes of a file that is read while they are written, with changed blocks in place of those of an image in it, and with
+/// that image's sum recomputed.
 #[derive(Drop)]
 pub struct ImageInFile<S> {
     pub alloc: Global,
     /// The file.
     pub file: S,
-    /// Where the image lies in it. It has at most 2,147,483,648 bytes.
+    /// Where the image lies in the file. It has at most 2,147,483,648 bytes.
     pub place: ImagePlace,
     /// The changed blocks of the image.
     pub patch: ChangedBlocks,
@@ -72,8 +72,8 @@ pub struct ImageInFile<S> {
 }
 
 impl<S> ImageInFile<S> {
-    /// The file in a range of which this image lies, with its changed blocks in place of its own, and with its sum made anew
-    /// where one stands in the file.
+    /// The file in which this image is a range, with the image's changed blocks in place of its own, and with its sum recomputed
+    /// if the file has one.
     pub fn of(image: PatchedImage<WatchedRange<S>>, sum_at: Option<u64>) -> ImageInFile<S>
         ensures file { result.file ≡ image.source.bytes.bytes }
         ensures range { result.place.range ≡ range_of image.source.bytes.start image.len }

@@ -28,9 +28,9 @@ use std::rt::Files;
 pub struct WatchedVolume<F: Read + Seek> {
     /// Its blocks.
     pub blocks: WatchedRange<WatchedImage<F>>,
-    /// Where it lies in the file; `None` where it is the file as it is.
+    /// Where it lies in the file; `None` if it is the file as it is.
     pub place: Option<NumberedRange>,
-    /// Where its sum stands in the file; `None` where it has none.
+    /// Where the file holds its sum; `None` if it holds none.
     pub sum_at: Option<u64>,
 }
 
@@ -43,8 +43,8 @@ impl<F: Read + Seek> WatchedVolume<F> {
     }
 }
 
-/// Looks that the sum which a disk copy's header tells is that of its data; a range that is no disk copy has none. Faults:
-/// `SumWrong`; a read failed.
+/// Checks that the sum in a disk copy's header is that of its data; a range that is no disk copy has none. Faults: `SumWrong`; a
+/// read failed.
 fn need_right_sum<'a, S: PlacedBytes>(
     source: &mut S,
     found: &FoundRange,
@@ -110,7 +110,8 @@ fn volume_in<'a, F: Read + Seek + Drop>(
     }
 }
 
-/// Why a volume with this number in the user data of raw sectors isn't opened to be changed: there is none, or it isn't written.
+/// Why a volume with this number in the user data of raw sectors can't be opened to be changed: there is none, or it is never
+/// written.
 fn raw_fault<'a, F: Read + Seek + Drop>(
     alloc: Global,
     user: UserData<StoredFile<F>>,
@@ -127,10 +128,10 @@ fn raw_fault<'a, F: Read + Seek + Drop>(
     }
 }
 
-/// Opens the volume with this number in a file, counted from 1, to write the file anew with changes of that volume; 0 is the file
-/// as it is. The file is opened as [`open_watched`](crate::open_watched) does. Faults: as [`open_file`](crate::open_file) and
-/// [`part_of`](crate::part_of) have them; `NotWritten` where it lies in raw CD sectors; `SumWrong` where the file is a disk copy
-/// whose sum isn't that of its data.
+/// Opens the volume with this number in a file, counted from 1, to write the file again with changes to that volume; 0 is the
+/// file as it is. The file is opened as by [`open_watched`](crate::open_watched). Faults: as for [`open_file`](crate::open_file)
+/// and [`part_of`](crate::part_of); `NotWritten` if it lies in raw CD sectors; `SumWrong` if the file is a disk copy whose sum
+/// isn't that of its data.
 pub fn open_volume<'a, R: Files + AllocGlobal>(
     rt: &R,
     path: &'a str,

@@ -1,11 +1,11 @@
-//! What a refusal means, for who reads it at a terminal.
+//! What a refusal means, for someone at a terminal.
 
 use hfs_check::MountFault;
 use hfs_commands::{Hint, ShownPath};
 use std::io::IsTerminal;
 
-/// Tells on standard error what a refusal means and which word helps, where that is a terminal. Where
-/// nothing can be written there, the program goes on.
+/// Prints on standard error what a refusal means and which word helps, if that is a terminal. If nothing can be written there,
+/// the program goes on.
 pub fn tell_hint(rt: &HostRuntime, why: MountFault) {
     if !rt.stderr().is_terminal() {
         return;
@@ -15,8 +15,8 @@ pub fn tell_hint(rt: &HostRuntime, why: MountFault) {
     }
 }
 
-/// Tells on standard error that the sum of the disk copy in this file is wrong, where it is. Where nothing
-/// can be written there, the program goes on.
+/// Prints on standard error that the sum of the disk copy in this file is wrong, if it is. If nothing can be written there, the
+/// program goes on.
 pub fn tell_sum(rt: &HostRuntime, path: &str, is_wrong: bool) {
     if is_wrong {
         let _printed = eprintln!(rt; "{}: the sum of the disk copy is wrong", ShownPath(path));

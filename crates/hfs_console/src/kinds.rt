@@ -1,4 +1,4 @@
-//! What a file is that has no HFS volume, for who reads it at a terminal.
+//! What a file without an HFS volume is, for someone at a terminal.
 
 use hfs_commands::{OpenedFile, Window, open_part};
 use hfs_fields::{u16_at, u32_at};
@@ -8,22 +8,22 @@ use std::fs;
 use std::io::{IsTerminal, Read, Seek};
 use std::path::Path;
 
-/// How many bytes stand before the data fork of a MacBinary file.
+/// How many bytes come before the data fork of a MacBinary file.
 const HEAD: u64 = 128;
 
-/// How many bytes the trailer of a disk image has, which ends the file.
+/// How many bytes the trailer of a disk image has, which is at the end of the file.
 const TRAILER: u64 = 512;
 
 /// How an AppleDouble file begins.
 const APPLE_DOUBLE: u32 = 0x0005_1607;
 
-/// The kind of the part of it that is a resource fork.
+/// The kind of its part that is a resource fork.
 const RESOURCE_FORK: u32 = 2;
 
-/// The kind of the part of it that has the Finder's bytes.
+/// The kind of its part that has the Finder's bytes.
 const FINDER_BYTES: u32 = 9;
 
-/// What there is beside a file without an AppleDouble file.
+/// What there is for a file without an AppleDouble file.
 const NOTHING: Beside = Beside {
     creator: [0; 16],
     types: [0; 16],
@@ -43,12 +43,12 @@ fn piece_at<F: Read + Seek>(part: &mut Part<F>, place: u64) -> Piece {
     piece
 }
 
-/// So many bytes, filled up to a multiple of 128.
+/// This many bytes, padded to a multiple of 128.
 fn filled(len: u64) -> u64 {
     len.div_ceil(HEAD).saturating_mul(HEAD)
 }
 
-/// Where the resource fork of a file begins that is MacBinary: behind both headers and the data fork.
+/// Where the resource fork of a MacBinary file begins: after both headers and the data fork.
 fn resource_fork<F: Read + Seek>(part: &mut Part<F>) -> u64 {
     let lengths = piece_at(part, 83);
     let second = piece_at(part, 120);
@@ -56,7 +56,8 @@ fn resource_fork<F: Read + Seek>(part: &mut Part<F>) -> u64 {
     before_data.saturating_add(filled(u64::from(u32_at(&lengths, 0))))
 }
 
-/// The first types of the resources in the fork that begins at `fork`: its header tells where the map is, and the map where the list of types.
+/// The first types of the resources in the fork that begins at `fork`: its header says where the map is, and the map says where
+/// the list of types is.
 fn resource_types<F: Read + Seek>(part: &mut Part<F>, fork: u64) -> [u32; 16] {
     let header = piece_at(part, fork);
     let map = fork.saturating_add(u64::from(u32_at(&header, 4)));
@@ -75,7 +76,8 @@ fn types_from<F: Read + Seek>(part: &mut Part<F>, list: u64) -> [u32; 16] {
     types
 }
 
-/// Where the part of this kind begins in an AppleDouble file, by the first sixteen of its parts; none where it has no such part.
+/// Where the part of this kind begins in an AppleDouble file, looking at the first sixteen of its parts; None if it has no such
+/// part.
 fn part_place<F: Read + Seek>(part: &mut Part<F>, kind: u32) -> Option<u64> {
     let head = piece_at(part, 24);
     let count = u16_at(&head, 0).min(16);
@@ -88,7 +90,7 @@ fn part_place<F: Read + Seek>(part: &mut Part<F>, kind: u32) -> Option<u64> {
     None
 }
 
-/// The creator in the Finder's bytes of an AppleDouble file, behind the type; zeros where it has none.
+/// The creator in the Finder's bytes of an AppleDouble file, after the type; zeros if it has none.
 fn creator_in<F: Read + Seek>(part: &mut Part<F>) -> Piece {
     match part_place(part, FINDER_BYTES) {
         Some(finder) => piece_at(part, finder.saturating_add(4)),
@@ -96,7 +98,7 @@ fn creator_in<F: Read + Seek>(part: &mut Part<F>) -> Piece {
     }
 }
 
-/// The first types of the resources in an AppleDouble file; zeros where it has none.
+/// The first types of the resources in an AppleDouble file; zeros if it has none.
 fn types_in<F: Read + Seek>(part: &mut Part<F>) -> [u32; 16] {
     match part_place(part, RESOURCE_FORK) {
         Some(fork) => resource_types(part, fork),
@@ -104,7 +106,7 @@ fn types_in<F: Read + Seek>(part: &mut Part<F>) -> [u32; 16] {
     }
 }
 
-/// What an AppleDouble file says of the file beside it; nothing where it is none.
+/// What an AppleDouble file says about the file next to it; nothing if it is none.
 fn beside_at<F: Read + Seek>(part: &mut Part<F>) -> Beside {
     let head = piece_at(part, 0);
     if u32_at(&head, 0) != APPLE_DOUBLE {
@@ -116,7 +118,7 @@ fn beside_at<F: Read + Seek>(part: &mut Part<F>) -> Beside {
     }
 }
 
-/// What a file's part says of itself at its known places.
+/// What a file's part says about itself at its known places.
 fn glance_at<F: Read + Seek>(part: &mut Part<F>, beside: Beside) -> Glance {
     let fork = resource_fork(part);
     let trailer = part.range.len.saturating_sub(TRAILER);
@@ -132,7 +134,7 @@ fn glance_at<F: Read + Seek>(part: &mut Part<F>, beside: Beside) -> Glance {
     }
 }
 
-/// Whether a regular file is at this path: what comes out of a pipe comes once.
+/// Whether a regular file is at this path; what comes out of a pipe comes only once.
 fn is_regular(rt: &HostRuntime, path: &str) -> bool {
     match fs::metadata(rt, path) {
         Ok(metadata) => metadata.is_file(),
@@ -140,7 +142,7 @@ fn is_regular(rt: &HostRuntime, path: &str) -> bool {
     }
 }
 
-/// The path of the AppleDouble file beside a file, whether it is there or not.
+/// The path of the AppleDouble file of a file, whether it exists or not.
 fn double_path(rt: &HostRuntime, path: &str) -> Option<String> {
     let Some(name) = Path::new(path).file_name() else {
         return None;
@@ -154,7 +156,7 @@ fn double_path(rt: &HostRuntime, path: &str) -> Option<String> {
     }
 }
 
-/// What the AppleDouble file of this path says of the file beside it, where it is there.
+/// What the AppleDouble file at this path says about the file next to it, if it exists.
 fn beside_in(rt: &HostRuntime, path: &str) -> Beside {
     if !is_regular(rt, path) {
         return NOTHING;
@@ -165,7 +167,7 @@ fn beside_in(rt: &HostRuntime, path: &str) -> Beside {
     }
 }
 
-/// What is said beside the file of this path. Of a volume that lies inside it that says nothing.
+/// What the AppleDouble file of the file at this path says. It says nothing about a volume inside the file.
 fn beside_of(rt: &HostRuntime, path: &str, volume: Option<u64>) -> Beside {
     match volume {
         None | Some(0) => match double_path(rt, path) {
@@ -176,8 +178,8 @@ fn beside_of(rt: &HostRuntime, path: &str, volume: Option<u64>) -> Beside {
     }
 }
 
-/// What the file of this path is, or the volume with this number in it, where its bytes say it, or those of the AppleDouble file beside it.
-/// Only a regular file is looked at.
+/// What the file at this path is, or the volume with this number in it, if its bytes say, or those of its AppleDouble file. Only
+/// a regular file is looked at.
 fn kind_in(rt: &HostRuntime, path: &str, volume: Option<u64>) -> Option<Kind> {
     if !is_regular(rt, path) {
         return None;
@@ -191,13 +193,14 @@ fn kind_in(rt: &HostRuntime, path: &str, volume: Option<u64>) -> Option<Kind> {
     }
 }
 
-/// Tells on standard error what the file of this path is, or the volume with this number in it, where that is a terminal and the file's bytes say it.
+/// Prints on standard error what the file at this path is, or the volume with this number in it, if that is a terminal and the
+/// file's bytes say.
 pub fn tell_kind(rt: &HostRuntime, path: &str, volume: Option<u64>) {
     if !rt.stderr().is_terminal() {
         return;
     }
     if let Some(kind) = kind_in(rt, path, volume) {
-        // Where the terminal takes nothing more, the program goes on.
+        // If the terminal takes nothing more, the program goes on.
         let _printed = eprintln!(rt; "it looks like {kind}");
     }
 }

@@ -1,4 +1,4 @@
-//! What a program prints, and the exit statuses behind that.
+//! What a program prints, and the exit statuses after that.
 #![tactic(auto)]
 
 mod hints;

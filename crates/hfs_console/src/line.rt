@@ -1,10 +1,10 @@
-//! One line on standard error that is written over again and again while work goes on.
+//! One line on standard error that is rewritten while work goes on.
 
 use hfs_commands::ShownPath;
 use std::cell::Cell;
 use std::io::IsTerminal;
 
-/// A line on standard error, where that is a terminal. Where the terminal takes nothing more, the work goes on.
+/// A line on standard error, if that is a terminal. If the terminal takes nothing more, the work goes on.
 #[derive(Drop)]
 pub struct Line<'a> {
     rt: &'a HostRuntime,
@@ -13,7 +13,7 @@ pub struct Line<'a> {
 }
 
 impl<'a> Line<'a> {
-    /// The line, with nothing in it yet.
+    /// The line, empty at first.
     pub fn on(rt: &'a HostRuntime) -> Line<'a> {
         Line {
             rt,
@@ -22,7 +22,7 @@ impl<'a> Line<'a> {
         }
     }
 
-    /// Says how many of how many items came, and how many bytes of how many of the last one.
+    /// Shows how many items of how many have come, and how many bytes of the last one of how many.
     pub fn show_item(&self, number: u64, all: u64, came: u64, bytes: u64) {
         if self.is_shown {
             self.is_written.set(true);
@@ -32,8 +32,8 @@ impl<'a> Line<'a> {
         }
     }
 
-    /// Says which image is read, of how many where that is known, how many bytes were read, and how many it has: what is
-    /// digested is read more than once.
+    /// Shows which image is read, of how many if that is known, how many bytes were read, and how many it has: an image whose
+    /// digest is taken is read more than once.
     pub fn show_image(&self, number: u64, all: Option<u64>, path: &str, read: u64, bytes: u64) {
         if self.is_shown {
             self.is_written.set(true);
@@ -49,7 +49,7 @@ impl<'a> Line<'a> {
         }
     }
 
-    /// Says how many of how many bytes came.
+    /// Shows how many bytes of how many have come.
     pub fn show_bytes(&self, came: u64, bytes: u64) {
         if self.is_shown {
             self.is_written.set(true);
@@ -57,7 +57,7 @@ impl<'a> Line<'a> {
         }
     }
 
-    /// Takes the line away.
+    /// Removes the line.
     pub fn end(&self) {
         if self.is_written.get() {
             self.is_written.set(false);

@@ -2,10 +2,10 @@
 
 use hfs_commands::{Fault, put};
 
-/// The programs' number, and the logic that they are proved in: kits that differ in their tools alone have the same.
+/// The programs' version, and the logic in which they are proved: kits that only differ in their tools have the same.
 pub const VERSION: &str = "1.0.0 (proved with Rattle's logic dac8208d650f15bf)";
 
-/// Prints lines, by as few calls as the output takes.
+/// Prints lines, in as few calls as the output takes.
 pub fn print_lines(rt: &HostRuntime, lines: &str) -> Result<(), Fault<'static>> {
     match put(&mut rt.stdout(), lines.as_bytes()) {
         Ok(()) => Ok(()),

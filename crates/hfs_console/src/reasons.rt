@@ -1,4 +1,4 @@
-//! Why something was not done, for who reads it at a terminal.
+//! Why something was not done, for someone at a terminal.
 ghost use Rattle.std.specs.Prelude.{◌≡◌};
 ghost use Rattle.std.specs.Option.{option_map};
 ghost use Rattle.hfs_console.specs.Reasons.{more_text};
@@ -8,7 +8,7 @@ use std::fs::File;
 use std::io::{ErrorKind, IsTerminal};
 use std::{fs, io};
 
-/// What the plan of a new volume may say in place of what was refused, and which word goes on where no volume is found; none of other
+/// What the plan of a new volume may have instead of what was refused, and which word helps if no volume is found; None for other
 /// faults.
 #[tactic(auto, unfolding(crate::specs::Reasons::more_text))]
 fn more_of(fault: &Fault<'_>) -> Option<&'static str>
@@ -42,9 +42,9 @@ fn more_of(fault: &Fault<'_>) -> Option<&'static str>
     }
 }
 
-/// Tells on standard error why what was found at a path can't be read.
+/// Prints on standard error why what was found at a path can't be read.
 fn tell_error(rt: &HostRuntime, path: &str, error: &io::Error) {
-    // Where the terminal takes nothing more, the program goes on.
+    // If the terminal takes nothing more, the program goes on.
     let _printed = match error.kind() {
         ErrorKind::NotFound => eprintln!(rt; "{}: there is no such file", ShownPath(path)),
         ErrorKind::PermissionDenied => {
@@ -54,7 +54,8 @@ fn tell_error(rt: &HostRuntime, path: &str, error: &io::Error) {
     };
 }
 
-/// Tells on standard error why the file of this path can't be opened, where that can be known without opening what waits for somebody else, as a pipe does.
+/// Prints on standard error why the file at this path can't be opened, if that can be known without opening something that waits
+/// for somebody else, such as a pipe.
 fn tell_unopened(rt: &HostRuntime, path: &str) {
     match fs::metadata(rt, path) {
         Ok(metadata) if metadata.is_dir() => {
@@ -69,15 +70,15 @@ fn tell_unopened(rt: &HostRuntime, path: &str) {
     }
 }
 
-/// Tells on standard error why the file of this path can't be read, where that is a terminal and the system says it.
+/// Prints on standard error why the file at this path can't be read, if that is a terminal and the system says why.
 pub fn tell_unread(rt: &HostRuntime, path: &str) {
     if rt.stderr().is_terminal() {
         tell_unopened(rt, path);
     }
 }
 
-/// Tells on standard error what more there is to a fault, where that is a terminal: why a file can't be read, which word goes on
-/// where no volume is found, and what a new volume's plan may say.
+/// Prints on standard error what else there is to say about a fault, if that is a terminal: why a file can't be read, which word
+/// helps if no volume is found, and what a new volume's plan may have.
 pub fn tell_more(rt: &HostRuntime, fault: &Fault<'_>) {
     if let Fault::CannotRead(path) = fault {
         tell_unread(rt, *path);

@@ -1,4 +1,4 @@
-//! Faults, and words that are refused, as they are printed.
+//! Faults, and command lines that are refused, as they are printed.
 
 ghost use Rattle.std.specs.Prelude.{◌≡◌, ◌⊎◌};
 ghost use Rattle.hfs_commands.specs.Faults.{status_number, status_of};
@@ -11,14 +11,14 @@ use hfs_commands::{Fault, Status};
 use std::alloc::AllocError;
 use std::io;
 
-/// Why words give no typed command.
+/// Why a command line gives no typed command.
 #[derive(Drop)]
 pub enum WordsFault {
-    /// Clap says why: help that was asked for, refused words, or want of memory, told apart by its kind.
+    /// Clap says why: help was asked for, the command line was refused, or memory ran out; the error's kind says which.
     Clap(Error),
-    /// Clap took words that lack what is read of them, under this name: the program's own fault.
+    /// Clap accepted a command line that lacks the value of this name: the program's own fault.
     NoValue(&'static str),
-    /// The first word is no longer one of the program's: the program of this name has it.
+    /// The first word no longer belongs to this program: the program with this name has it.
     Moved {
         word: &'static str,
         program: &'static str,
@@ -43,7 +43,7 @@ impl From<NoValue> for WordsFault {
     }
 }
 
-/// Prints why words are refused, or the help that was asked for, and answers the exit status.
+/// Prints why the command line is refused, or the help that was asked for, and returns the exit status.
 pub fn refused_words(rt: &HostRuntime, fault: &WordsFault) -> u8 {
     match fault {
         WordsFault::Clap(error) => told_by_clap(rt, error),
@@ -56,7 +56,7 @@ pub fn refused_words(rt: &HostRuntime, fault: &WordsFault) -> u8 {
     }
 }
 
-/// Prints what clap says, and answers the exit status.
+/// Prints what clap says, and returns the exit status.
 fn told_by_clap(rt: &HostRuntime, error: &Error) -> u8 {
     match error.kind() {
         ErrorKind::OutOfMemory => refused(rt, &Fault::NoMemory),
@@ -65,15 +65,15 @@ fn told_by_clap(rt: &HostRuntime, error: &Error) -> u8 {
     }
 }
 
-/// Prints a fault, and answers its exit status, or that of a failed device where it was not printed.
+/// Prints a fault, and returns its exit status, or that of a failed device if it was not printed.
 pub fn refused(rt: &HostRuntime, fault: &Fault<'_>) -> u8
     ensures { (result ≡ status_number (status_of fault.now)) ⊎ (result ≡ 4) }
 {
     fault.status().after(print_fault(rt, fault))
 }
 
-/// Prints a fault alone on its line, and what a refusal means on standard error. After standard
-/// output failed nothing more is printed, and behind a part of a fork the fault goes to standard error.
+/// Prints a fault alone on its line, and what a refusal means on standard error. After standard output has failed, nothing more
+/// is printed; after a part of a fork, the fault goes to standard error.
 fn print_fault(rt: &HostRuntime, fault: &Fault<'_>) -> io::Result<()> {
     match fault {
         Fault::OutputFailed => Ok(()),

@@ -11,19 +11,19 @@ use hfs_source::PlacedBytes;
 use hfs_sparse::SparseFault;
 use std::alloc::Global;
 
-/// A range that was found in a file, with its number among these, counted from 1.
+/// A range that was found in a file, with its number among those found, counted from 1.
 #[derive(Clone, Copy, Debug, PartialEq, Eq)]
 pub struct NumberedRange {
     pub number: u64,
     pub found: FoundRange,
 }
 
-/// Which ranges count where no number is given.
+/// Which ranges are candidates if no number is given.
 #[derive(Clone, Copy, Debug, PartialEq, Eq)]
 pub enum Counted {
     /// Those that hold a volume.
     Volumes,
-    /// All, also those that hold none.
+    /// All, even those that hold none.
     Ranges,
 }
 
@@ -32,15 +32,15 @@ pub enum Counted {
 pub enum Asked {
     /// The file as it is.
     WholeFile,
-    /// A range inside.
+    /// A range inside it.
     Inside(NumberedRange),
-    /// Nothing, since no number was given and so many ranges count.
+    /// Nothing, since no number was given and there are this many candidates.
     Several(u64),
     /// Nothing, since there is no range with this number.
     Missing(u64),
 }
 
-/// Whether a range of a file counts.
+/// Whether a range of a file is a candidate.
 fn is_counted<S: PlacedBytes>(
     source: &mut S,
     counted: Counted,
@@ -60,7 +60,7 @@ fn is_counted<S: PlacedBytes>(
     }
 }
 
-/// Appends a range of a file with its number, where it counts.
+/// Appends a range of a file with its number, if it is a candidate.
 #[tactic(auto, unfolding(crate::specs::Asking::counted_at))]
 fn push_counted<S: PlacedBytes>(
     inside: &mut Vec<NumberedRange>,
@@ -86,7 +86,7 @@ fn push_counted<S: PlacedBytes>(
     }
 }
 
-/// Those of these ranges of a file that count, with their numbers.
+/// The candidates among these ranges of a file, with their numbers.
 fn counted_among<S: PlacedBytes>(
     alloc: Global,
     source: &mut S,
@@ -119,7 +119,7 @@ fn is_bare(ranges: &[FoundRange]) -> bool
     }
 }
 
-/// The only one of these ranges, or the file as it is where there is none.
+/// The only one of these ranges, or the file as it is if there are none.
 fn only_one(inside: &[NumberedRange]) -> Asked
     ensures is { result ≡ only_one inside.now }
     ensures answers { IsAnswerTo None result }
@@ -131,7 +131,7 @@ fn only_one(inside: &[NumberedRange]) -> Asked
     }
 }
 
-/// What is taken of a file without a number, in which these ranges are found.
+/// What is taken of a file without a number, given the ranges that are found in it.
 #[tactic(auto, unfolding(crate::specs::Asking::chosen_of))]
 fn chosen_of<S: PlacedBytes>(
     alloc: Global,
@@ -152,9 +152,8 @@ fn chosen_of<S: PlacedBytes>(
     Ok(only_one(&inside))
 }
 
-/// What is taken of a file, or of user data, by the number of a range in it or without one: 0 is the file as it is. Without a number a bare
-/// volume is taken as it is, else the only range inside that counts; where none does the file as it is, and of several none. Errors as [`find_ranges`]
-/// has them.
+/// What is taken of a file, or of its user data, given the number of a range in it or none; 0 is the file as it is. Without a number, a bare volume is taken as it is; otherwise the only candidate inside it, the file as it is if there is
+/// none, and nothing if there are several. Errors: as for [`find_ranges`].
 #[tactic(auto, unfolding(crate::specs::Asking::asked_in))]
 pub fn find_asked<S: PlacedBytes>(
     alloc: Global,

@@ -25,7 +25,7 @@ fn is_disk_copy_head(head: &[u8; 84]) -> bool
     head[0] >= 1 && head[0] <= 63 && u16_at(head, 82) == FORMAT
 }
 
-/// Whether so many bytes of data lie, behind the header, within `room` bytes.
+/// Whether this many bytes of data, after the header, lie within `room` bytes.
 #[tactic(auto, unfolding(crate::specs::DiskCopy::is_data_length))]
 fn is_data_length(room: u64, len: u32) -> bool
     ensures { result ≡ is_data_length room len }
@@ -55,7 +55,7 @@ fn disk_copy_of(range: ByteRange, head: &[u8; 84]) -> Option<FoundRange>
     })
 }
 
-/// The data of the disk copy that a range is.
+/// The data of the disk copy in a range, if the range is one.
 pub fn disk_copy_in<S: PlacedBytes>(
     source: &mut S,
     range: ByteRange,

@@ -1,4 +1,4 @@
-//! All that is found in a file.
+//! Everything that is found in a file.
 ghost use Rattle.std.specs.Prelude.{◌≡◌, IfOk, OnOk, map};
 ghost use Rattle.std.specs.List.{list_any};
 ghost use Rattle.hfs_containers.specs.Found.{as_raw, each_once, found_by, found_in, found_raw_in, is_same_range, looked_for, looked_for_raw, nth_found_by, raw_container, with_new};
@@ -13,7 +13,7 @@ use hfs_source::PlacedBytes;
 use hfs_sparse::SparseFault;
 use std::alloc::Global;
 
-/// The ranges as they are looked for, in a file of `len` bytes.
+/// The ranges in a file of `len` bytes, as they are looked for.
 #[tactic(auto, unfolding(crate::specs::Found::looked_for))]
 fn looked_for<S: PlacedBytes>(
     alloc: Global,
@@ -44,14 +44,14 @@ fn is_same_range(a: &ByteRange, b: &ByteRange) -> bool
     a.start == b.start && a.len == b.len
 }
 
-/// Whether a range stands among those that were found.
+/// Whether a range is among those that were found.
 fn has_range(found: &[FoundRange], range: &ByteRange) -> bool
     ensures { result ≡ list_any (λ (other : FoundRange). is_same_range other.range range.now) found.now }
 {
     found.iter().any(|other| is_same_range(&other.range, range))
 }
 
-/// Appends a range that was not found before.
+/// Appends a range, unless it was found before.
 #[tactic(auto, unfolding(crate::specs::Found::with_new))]
 fn push_new(found: &mut Vec<FoundRange>, next: FoundRange) -> Result<(), SparseFault>
     ensures { OnOk result (found.new.items ≡ with_new found.old.items next) }
@@ -65,7 +65,7 @@ fn push_new(found: &mut Vec<FoundRange>, next: FoundRange) -> Result<(), SparseF
     }
 }
 
-/// Each range once, where it stands first.
+/// Each range once, at its first place.
 #[tactic(auto, unfolding(crate::specs::Found::each_once))]
 fn each_once(alloc: Global, ranges: &[FoundRange]) -> Result<Vec<FoundRange>, SparseFault>
     ensures { IfOk result (λ found. found.items ≡ each_once ranges.now) }
@@ -77,9 +77,9 @@ fn each_once(alloc: Global, ranges: &[FoundRange]) -> Result<Vec<FoundRange>, Sp
     Ok(found)
 }
 
-/// The ranges of a file that are told of, each once, in the order in which they are looked for: the whole file and the data fork of
-/// a MacBinary file where they hold a volume, the data of a disk copy (also in that fork), and the partitions of type Apple_HFS. Errors: a read
-/// failed, memory was refused.
+/// The ranges that are found in a file, each once, in the order in which they are looked for: the whole file and
+/// the data fork of a MacBinary file if they hold a volume, the data of a disk copy (also in that fork), and the partitions of
+/// type Apple_HFS. Errors: a read failed, memory was refused.
 pub fn find_ranges<S: PlacedBytes>(
     alloc: Global,
     source: &mut S,
@@ -94,7 +94,7 @@ pub fn find_ranges<S: PlacedBytes>(
     each_once(alloc, &ranges)
 }
 
-/// The ranges as they are looked for, in `len` bytes of user data.
+/// The ranges in `len` bytes of user data, as they are looked for.
 #[tactic(auto, unfolding(crate::specs::Found::looked_for_raw))]
 fn looked_for_raw<S: PlacedBytes>(
     alloc: Global,
@@ -125,7 +125,7 @@ fn raw_container(container: Container) -> Container
     }
 }
 
-/// Ranges that are found in user data, as they lie in its file.
+/// Ranges that are found in user data, as they lie in the file.
 fn as_raw(alloc: Global, ranges: &[FoundRange]) -> Result<Vec<FoundRange>, SparseFault>
     ensures { IfOk result (λ found. found.items ≡ map as_raw ranges.now) }
 {
@@ -140,8 +140,8 @@ fn as_raw(alloc: Global, ranges: &[FoundRange]) -> Result<Vec<FoundRange>, Spars
     Ok(found)
 }
 
-/// The ranges in user data of raw sectors: all of it where it holds a volume, and the partitions of type Apple_HFS, each range once. Errors: a
-/// read failed, memory was refused.
+/// The ranges in the user data of raw sectors: all of it if it holds a volume, and the partitions of type Apple_HFS,
+/// each range once. Errors: a read failed, memory was refused.
 pub fn find_raw_ranges<S: PlacedBytes>(
     alloc: Global,
     source: &mut S,
@@ -157,7 +157,7 @@ pub fn find_raw_ranges<S: PlacedBytes>(
     as_raw(alloc, &found)
 }
 
-/// The ranges in a file, or in user data. Errors: a read failed, memory was refused.
+/// The ranges in a file, or in its user data. Errors: a read failed, memory was refused.
 pub fn find_in_layout<S: PlacedBytes>(
     alloc: Global,
     source: &mut S,
@@ -174,8 +174,8 @@ pub fn find_in_layout<S: PlacedBytes>(
     }
 }
 
-/// The `n`-th range that is found in a file, or in user data, counted from 1. None where there are fewer, and for 0. Errors as
-/// [`find_ranges`] has them.
+/// The `n`-th range that is found in a file, or in its user data, counted from 1. None if there are
+/// fewer, and for 0. Errors: as for [`find_ranges`].
 #[tactic(auto, unfolding(crate::specs::Found::nth_found_by))]
 pub fn nth_range<S: PlacedBytes>(
     alloc: Global,

@@ -1,4 +1,4 @@
-//! MacBinary files, as far as to their data fork. Source: MacBinary II Standard Proposal (1987).
+//! MacBinary files, up to their data fork. Source: MacBinary II Standard Proposal (1987).
 ghost use Rattle.std.specs.Prelude.{◌≡◌, ◌+◌, ◌^◌, ◌<◌, IfOk, IfSome};
 ghost use Rattle.hfs_containers.specs.MacBinary.{data_fork_in, data_fork_of, filled, found_in_fork, is_macbinary_head, macbinary_in};
 ghost use Rattle.hfs_source.specs.Images.{FailsWhere, OfEach};
@@ -21,7 +21,7 @@ fn is_macbinary_head(head: &[u8; 128]) -> bool
     head[0] == 0 && head[1] >= 1 && head[1] <= 63 && head[74] == 0 && head[82] == 0
 }
 
-/// So many bytes, filled up to a multiple of 128.
+/// This many bytes, padded to a multiple of 128.
 fn filled(len: u16) -> u64
     ensures filled { result ≡ filled len }
     ensures small { result < 2 ^ 17 }
@@ -29,7 +29,7 @@ fn filled(len: u16) -> u64
     (u64::from(len) + 127) / 128 * 128
 }
 
-/// The data fork of a file of `len` bytes with this header: behind it, and behind a second one whose length it tells.
+/// The data fork of a file of `len` bytes with this header: after it, and after a second header whose length it gives.
 #[tactic(auto, unfolding(crate::specs::MacBinary::data_fork_of))]
 fn data_fork_of(len: u64, head: &[u8; 128]) -> Option<ByteRange>
     ensures fork { result ≡ data_fork_of len head.now }
@@ -59,7 +59,7 @@ fn data_fork_in<S: PlacedBytes>(source: &mut S, len: u64) -> Result<Option<ByteR
     Ok(data_fork_of(len, &head))
 }
 
-/// In a data fork a disk copy, or else a volume.
+/// The disk copy in a data fork, or else the volume.
 fn found_in_fork<S: PlacedBytes>(
     source: &mut S,
     fork: ByteRange,

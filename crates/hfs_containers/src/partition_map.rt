@@ -14,13 +14,13 @@ use hfs_sparse::SparseFault;
 /// The letters PM, with which each entry begins.
 const SIGNATURE: u16 = 0x504d;
 
-/// The type of a partition that holds an HFS volume, with the zero byte behind it.
+/// The type of a partition that holds an HFS volume, with the zero byte after it.
 const HFS_TYPE: &[u8] = b"Apple_HFS\0";
 
 /// The most entries that are looked at.
 const MOST_ENTRIES: u64 = 63;
 
-/// Whether a map with blocks of so many bytes begins at block 1, in a file of `len` bytes.
+/// Whether a map with blocks of this many bytes begins at block 1, in a file of `len` bytes.
 #[tactic(auto, unfolding(crate::specs::PartitionMap::has_map_at, crate::specs::PartitionMap::begins_pm))]
 fn has_map_at<S: PlacedBytes>(source: &mut S, place: u64, len: u64) -> Result<bool, SparseFault>
     requires { place ≤ 2048 }
@@ -53,7 +53,7 @@ fn map_block_in<S: PlacedBytes>(source: &mut S, len: u64) -> Result<Option<u64>,
     Ok(None)
 }
 
-/// Whether an entry begins so.
+/// Whether an entry begins with these letters.
 #[tactic(auto, unfolding(crate::specs::PartitionMap::begins_pm))]
 fn begins_pm(entry: &[u8; 64]) -> bool
     ensures { result ≡ begins_pm entry.now }
@@ -61,7 +61,7 @@ fn begins_pm(entry: &[u8; 64]) -> bool
     u16_at(entry, 0) == SIGNATURE
 }
 
-/// How many entries are looked at: as many as the first tells, as the file has room for, and 63 at most.
+/// How many entries are looked at: as many as the first one says, but no more than the file has room for, and at most 63.
 #[tactic(auto, unfolding(crate::specs::PartitionMap::entry_count))]
 fn entry_count<S: PlacedBytes>(source: &mut S, block: u64, len: u64) -> Result<u64, SparseFault>
     requires { 512 ≤ block }
@@ -79,7 +79,7 @@ fn entry_count<S: PlacedBytes>(source: &mut S, block: u64, len: u64) -> Result<u
     Ok(MOST_ENTRIES.min((blocks - 1).min(u64::from(u32_at(&first, 4)))))
 }
 
-/// Whether an entry is of a partition that holds an HFS volume: its type up to the first zero byte, in any case.
+/// Whether an entry is of a partition that holds an HFS volume, by its type up to the first zero byte, ignoring case.
 #[tactic(auto, unfolding(crate::specs::PartitionMap::is_hfs_entry))]
 fn is_hfs_entry(entry: &[u8; 64]) -> bool
     ensures { result ≡ is_hfs_entry entry.now }
@@ -87,7 +87,7 @@ fn is_hfs_entry(entry: &[u8; 64]) -> bool
     entry[48..58].eq_ignore_ascii_case(HFS_TYPE)
 }
 
-/// The range of so many bytes from `start` on, cut at the end of a file of `len` bytes.
+/// The range of `wanted` bytes from `start` on, cut at the end of a file of `len` bytes.
 fn cut_at(len: u64, start: u64, wanted: u64) -> ByteRange
     ensures { result ≡ cut_at len start wanted }
 {
@@ -97,7 +97,7 @@ fn cut_at(len: u64, start: u64, wanted: u64) -> ByteRange
     }
 }
 
-/// The partition that an entry tells of, where it is of HFS, in a file of `len` bytes.
+/// The partition of an entry, if it is an HFS partition, in a file of `len` bytes.
 #[tactic(auto, unfolding(crate::specs::PartitionMap::partition_of))]
 fn partition_of(block: u64, len: u64, entry: &[u8; 64]) -> Option<FoundRange>
     requires { block ≤ 2048 }
@@ -114,7 +114,7 @@ fn partition_of(block: u64, len: u64, entry: &[u8; 64]) -> Option<FoundRange>
     })
 }
 
-/// Appends the partitions of so many entries, up to the first block that is none.
+/// Appends the partitions of this many entries, up to the first block that is none.
 fn push_entries<S: PlacedBytes>(
     source: &mut S,
     block: u64,
@@ -139,7 +139,7 @@ fn push_entries<S: PlacedBytes>(
     Ok(())
 }
 
-/// Appends the partitions of the map of a file of `len` bytes, where it has one.
+/// Appends the partitions of the map of a file of `len` bytes, if it has one.
 pub fn push_partitions<S: PlacedBytes>(
     source: &mut S,
     len: u64,

@@ -20,20 +20,21 @@ pub enum Container {
     Bare,
     /// It is the data fork of a MacBinary file.
     MacBinary,
-    /// It is the data of a Disk Copy 4.2 file, whose header tells the sum of it. That file may be the data fork of a MacBinary file.
+    /// It is the data of a Disk Copy 4.2 file, whose header has the data's sum. That file may be the data fork of a MacBinary
+    /// file.
     DiskCopy {
-        /// The sum that the header tells.
+        /// The sum in the header.
         sum: u32,
     },
     /// It is a partition of type Apple_HFS in a partition map.
     Partition,
     /// It is the whole user data of raw CD sectors.
     RawBare,
-    /// It is such a partition in that data.
+    /// It is a partition of that type in that data.
     RawPartition,
 }
 
-/// What a file's bytes are.
+/// How a file's bytes are laid out.
 #[derive(Clone, Copy, Debug, PartialEq, Eq)]
 pub enum Layout {
     /// Bytes in which volumes may lie.
@@ -51,7 +52,7 @@ pub struct FoundRange {
     pub range: ByteRange,
 }
 
-/// Appends a range, where one was found.
+/// Appends a range, if one was found.
 pub fn push_found(found: &mut Vec<FoundRange>, more: Option<FoundRange>) -> Result<(), SparseFault>
     ensures { OnOk result (found.new.items ≡ found.old.items ++ option_to_list more) }
 {

@@ -1,4 +1,4 @@
-//! Whether a file is of raw CD sectors, in whose user data volumes may lie.
+//! Whether a file consists of raw CD sectors, in whose user data volumes may lie.
 ghost use Rattle.std.specs.Prelude.{◌≡◌, IfOk, OnErr};
 ghost use Rattle.hfs_containers.specs.Raw.{layout_of};
 ghost use Rattle.hfs_source.specs.Images.{FailsWhere, OfEach};
@@ -8,8 +8,8 @@ use hfs_raw::is_raw;
 use hfs_source::PlacedBytes;
 use std::io;
 
-/// What a file's bytes are: raw sectors where their number is a multiple of 2,352 and the first sector has user data. Where the number is another nothing
-/// is read. Error: the read failed.
+/// How the bytes of a file are laid out: as raw sectors if their number is a multiple of 2,352 and the first sector has user data.
+/// If it is no such multiple, nothing is read. Error: the read failed.
 #[tactic(auto, using(crate::proofs::RawLemmas::plain_layout, crate::proofs::RawLemmas::raw_layout))]
 pub fn layout_in<S: PlacedBytes>(source: &mut S) -> io::Result<Layout>
     ensures layout { IfOk result (λ layout. OfEach (S.Holds source.new)

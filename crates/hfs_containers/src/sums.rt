@@ -12,14 +12,14 @@ use hfs_sparse::SparseFault;
 /// How many bytes are read at once.
 const PIECE: u64 = 16_384;
 
-/// The number turned right by one bit.
+/// The number rotated right by one bit.
 fn turned(sum: u32) -> u32
     ensures { result ≡ turned sum }
 {
     sum / 2 + sum % 2 * 0x8000_0000
 }
 
-/// The sum with a word more.
+/// The sum with one more word.
 #[tactic(auto, unfolding(crate::specs::Sums::with_word))]
 fn with_word(sum: u32, high: u8, low: u8) -> u32
     ensures { result ≡ with_word sum (high * 256 + low) }
@@ -27,7 +27,7 @@ fn with_word(sum: u32, high: u8, low: u8) -> u32
     turned(sum.wrapping_add(u32::from(high) * 256 + u32::from(low)))
 }
 
-/// The sum that goes on over these bytes.
+/// The sum continued over these bytes.
 pub fn sum_from(start: u32, bytes: &[u8]) -> u32
     ensures { result ≡ sum_from start bytes.now }
 {
@@ -38,7 +38,7 @@ pub fn sum_from(start: u32, bytes: &[u8]) -> u32
     sum
 }
 
-/// The sum that goes on over `count` bytes from `place` on.
+/// The sum continued over `count` bytes from `place` on.
 fn sum_over<S: PlacedBytes>(
     source: &mut S,
     place: u64,
@@ -79,8 +79,8 @@ pub fn range_sum<S: PlacedBytes>(source: &mut S, range: ByteRange) -> Result<u32
     Ok(sum)
 }
 
-/// Whether the sum that a disk copy's header tells is that of its data, which are read; None of what has no header. Errors: the read failed, or the file ends
-/// before the range.
+/// Whether the sum in a disk copy's header is that of its data, which is read; None if there is no such header. Errors: the read
+/// failed, or the file ends before the range does.
 pub fn sum_told<S: PlacedBytes>(
     source: &mut S,
     found: &FoundRange,

@@ -18,7 +18,7 @@ const SHORTEST: u64 = 1_536;
 /// The byte of a volume where its master directory block begins.
 const BLOCK_PLACE: u64 = 1_024;
 
-/// The name's field of a master directory block, where it is signed.
+/// The name field of a master directory block, if it has the signature.
 #[tactic(auto, unfolding(crate::specs::Ranges::signed_name))]
 fn signed_name(block: &[u8; 64]) -> Option<[u8; 28]>
     ensures { result ≡ signed_name block.now }
@@ -31,8 +31,8 @@ fn signed_name(block: &[u8; 64]) -> Option<[u8; 28]>
     Some(name)
 }
 
-/// The name's field (drVN, a length byte and 27 characters) of the volume that a range holds. None exactly where it has fewer than 1,536
-/// bytes or another signature. Errors: the read failed, or the file ends before the range.
+/// The name field (drVN, a length byte and 27 characters) of the volume that a range holds. None exactly when it has fewer than
+/// 1,536 bytes or another signature. Errors: the read failed, or the file ends before the range does.
 pub fn volume_name<S: PlacedBytes>(
     source: &mut S,
     range: ByteRange,
@@ -52,7 +52,7 @@ pub fn volume_name<S: PlacedBytes>(
     Ok(signed_name(&block))
 }
 
-/// The range, where it holds a volume.
+/// The range, if it holds a volume.
 pub fn volume_as<S: PlacedBytes>(
     source: &mut S,
     container: Container,

@@ -10,7 +10,7 @@ use hfs_source::PlacedBytes;
 use hfs_sparse::SparseFault;
 use std::alloc::Global;
 
-/// The ranges in an image of `len` bytes that begins so.
+/// The ranges in an image of `len` bytes that begins with these bytes.
 fn find_by_head(
     alloc: Global,
     head: &[u8],
@@ -21,14 +21,14 @@ fn find_by_head(
     ensures { IfOk result (λ found. (file : List ℕ) → length file ≡ len → IsHeadOf head.now file
         → found.items ≡ found_by layout file) }
 {
-    // A second header of MacBinary has fewer than 65,536 bytes, so what it leads to stands in the head.
+    // A second header of MacBinary has fewer than 65,536 bytes, so what it leads to is within the head.
     let _second = second_header(head);
     let mut bytes = HeadBytes { bytes: head, len };
     find_in_layout(alloc, &mut bytes, layout)
 }
 
-/// The ranges of an image in which volumes lie, or of the user data of raw sectors, as [`hfs_containers::find_in_layout`] tells them: by its first
-/// 131,072 bytes, which are read once. Errors: the read failed, memory was refused.
+/// The ranges in which volumes lie in an image, or in the user data of raw sectors, as [`hfs_containers::find_in_layout`] finds
+/// them: by its first 131,072 bytes, which are read once. Errors: the read failed, memory was refused.
 pub fn find_contents<S: PlacedBytes>(
     alloc: Global,
     source: &mut S,

@@ -9,10 +9,10 @@ use hfs_sparse::SparseFault;
 use std::alloc::Global;
 use std::io;
 
-/// How many bytes are read: what tells where volumes lie stands before that.
+/// How many bytes are read: what says where volumes lie is within them.
 const HEAD: u64 = 131_072;
 
-/// The first bytes of an image of `len` bytes. Contracts see zeros behind them, which can't be read.
+/// The first bytes of an image of `len` bytes. Contracts see zeros after them, which can't be read.
 #[derive(Drop)]
 pub(crate) struct HeadBytes<'a> {
     pub(crate) bytes: &'a [u8],
@@ -37,7 +37,7 @@ impl PlacedBytes for HeadBytes<'_> {
     }
 }
 
-/// So many first bytes of an image. Errors: the read failed, or the image has fewer, memory was refused.
+/// The first `len` bytes of an image. Errors: the read failed or the image has fewer, memory was refused.
 fn first_bytes<S: PlacedBytes>(
     alloc: Global,
     source: &mut S,
@@ -56,7 +56,7 @@ fn first_bytes<S: PlacedBytes>(
     }
 }
 
-/// The first bytes of an image of `all` bytes, by which volumes in it are found. Errors: the read failed, memory was refused.
+/// The first bytes of an image of `all` bytes, in which volumes are looked for. Errors: the read failed, memory was refused.
 pub(crate) fn head_of<S: PlacedBytes>(
     alloc: Global,
     source: &mut S,
@@ -72,7 +72,7 @@ pub(crate) fn head_of<S: PlacedBytes>(
     Ok(head)
 }
 
-/// How many bytes the second header of a MacBinary file has that begins so; 0 of one that is too short.
+/// How many bytes the second header has of a MacBinary file that begins with these bytes; 0 if they are too few.
 #[tactic(auto, using(crate::proofs::HeadLemmas::short_header, crate::proofs::HeadLemmas::small_header))]
 pub(crate) fn second_header(head: &[u8]) -> u16
     ensures { HasSmallHeader head.now }

@@ -1,5 +1,5 @@
-//! What the bytes of an image are: their digest, and the ranges in which volumes lie. Each is said of each image that has the bytes which
-//! were read.
+//! What the bytes of an image are: their digest, and the ranges in which volumes lie. Each holds for every image consistent with
+//! the bytes read.
 #![tactic(auto)]
 
 mod digest;

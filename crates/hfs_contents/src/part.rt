@@ -11,7 +11,7 @@ use std::io;
 use std::io::ErrorKind;
 use std::marker::{Brand, Model, PhantomData};
 
-/// An image that is picked, for proofs alone. What is proved for every type of this trait is proved of each image.
+/// An image that is picked, for proofs only. What is proved for every type of this trait is proved for each image.
 pub trait PickedImage {
     ghost image: { List ℕ };
 }
@@ -20,8 +20,8 @@ impl PickedImage for Brand {
     ghost image = { [] };
 }
 
-/// A range of an image's bytes, or of the user data of its raw sectors. The one image that holds is the range of the picked one, where the
-/// source has what was read of that: so what is read through a part narrows what is known of the whole.
+/// A range of an image's bytes, or of the user data of its raw sectors. The one image consistent with it is the range of the
+/// picked image, if the source is consistent with that: so what is read through a part narrows what is known of the whole.
 #[derive(Drop)]
 pub struct ImagePart<S: PlacedBytes, K: PickedImage> {
     source: S,
@@ -42,7 +42,7 @@ impl<S: PlacedBytes, K: PickedImage> Model for ImagePart<S, K> {
         (record { source = p.source; layout = p.layout; start = p.start; len = p.len }) };
 }
 
-/// How many bytes volumes may lie in, of an image of `len` bytes.
+/// In how many bytes volumes may lie, for an image of `len` bytes.
 fn content_len(layout: Layout, len: u64) -> u64
     ensures { (file : List ℕ) → length file ≡ len → length (content_of layout file) ≡ result }
 {
@@ -52,7 +52,7 @@ fn content_len(layout: Layout, len: u64) -> u64
     }
 }
 
-/// Where a range is taken to begin: one of no bytes may lie anywhere, behind the end too.
+/// Where a range is taken to begin: one without bytes may lie anywhere, even past the end.
 #[tactic(auto, using(crate::proofs::PartLemmas::empty_range))]
 fn start_of(range: ByteRange) -> u64
     ensures { (content : List ℕ) → bytes_in (range_of result range.len) content ≡ bytes_in range content }
@@ -64,7 +64,7 @@ fn start_of(range: ByteRange) -> u64
 }
 
 impl<S: PlacedBytes + Drop, K: PickedImage> ImagePart<S, K> {
-    /// The range, where it lies in the content, or has no bytes. None where it doesn't.
+    /// The range, if it lies in the content or has no bytes; otherwise None.
     pub fn range(source: S, layout: Layout, range: ByteRange) -> Option<ImagePart<S, K>>
         ensures range { IfSome result (λ part. OfEach (IsPartOf S.Holds K.image part)
             (λ bytes. bytes ≡ bytes_in range (content_of layout K.image))) }
@@ -85,7 +85,7 @@ impl<S: PlacedBytes + Drop, K: PickedImage> ImagePart<S, K> {
         })
     }
 
-    /// All of the content. None where it has 2^63 bytes or more.
+    /// All of the content. None if it has 2^63 bytes or more.
     pub fn whole(source: S, layout: Layout) -> Option<ImagePart<S, K>>
         ensures whole { IfSome result (λ part. OfEach (IsPartOf S.Holds K.image part)
             (λ bytes. bytes ≡ content_of layout K.image)) }
@@ -95,7 +95,7 @@ impl<S: PlacedBytes + Drop, K: PickedImage> ImagePart<S, K> {
         ImagePart::range(source, layout, ByteRange { start: 0, len })
     }
 
-    /// Where it is read from.
+    /// What it is read from.
     pub fn source(&self) -> &S
         ensures { result.now ≡ self.now.source }
     {

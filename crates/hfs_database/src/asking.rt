@@ -1,4 +1,4 @@
-//! What a collection is asked of images.
+//! Asking a collection about images.
 ghost use Rattle.std.specs.Prelude.{◌≡◌, [], ◌∷◌, string_bytes, IfErr, IfOk};
 ghost use Rattle.sqlite.specs.declared.types.Value.TheVariants.{Text};
 ghost use Rattle.sqlite.specs.Held.{state};
@@ -14,7 +14,7 @@ use crate::fault::{DatabaseFault, writing_fault};
 use sqlite::types::ValueRef;
 use sqlite::{Alter, Connection, Error, Row};
 
-/// The first row of the answer to a question, where it has one. Faults: `CannotWrite` where the database can't be read, `NoMemory`.
+/// The first row of the answer to a question, if it has one. Faults: `CannotWrite` if the database can't be read, `NoMemory`.
 #[tactic(auto, using(crate::proofs::FaultLemmas::fails_to_answer))]
 fn first_row<S: Alter>(
     conn: &mut Connection<S>,
@@ -33,7 +33,7 @@ fn first_row<S: Alter>(
     }
 }
 
-/// The digest that a row has behind the number of bytes, where it has one.
+/// The digest in a row, after the number of bytes, if it has one.
 #[tactic(auto, using(crate::proofs::FaultLemmas::unread_at))]
 fn digest_in(row: &Row) -> Result<Option<String>, DatabaseFault>
     ensures fault { IfErr result (IsUnreadIn row.now) }
@@ -45,7 +45,7 @@ fn digest_in(row: &Row) -> Result<Option<String>, DatabaseFault>
     }
 }
 
-/// What a row tells of an image.
+/// What a row says about an image.
 #[tactic(auto, using(crate::proofs::FaultLemmas::unread_at))]
 fn image_of(row: &Row) -> Result<KnownImage, DatabaseFault>
     ensures fault { IfErr result (IsUnreadIn row.now) }
@@ -70,7 +70,7 @@ fn path_in(row: &Row) -> Result<String, DatabaseFault>
     }
 }
 
-/// A text as a parameter, where there is one.
+/// A text as a parameter, if there is one.
 fn parameter(text: &Option<String>) -> ValueRef<'_>
     ensures { bound_value (owned result) ≡ text_or_null text.now }
 {
@@ -80,7 +80,8 @@ fn parameter(text: &Option<String>) -> ValueRef<'_>
     }
 }
 
-/// What the collection tells of the image of this path, if it has it. Faults: `CannotWrite` where its row can't be read, `NoMemory`.
+/// What the collection says about the image at this path, if it has it. Faults: `CannotWrite` if its row can't be read,
+/// `NoMemory`.
 #[tactic(auto, using(crate::proofs::FaultLemmas::told_unanswered, crate::proofs::FaultLemmas::told_unread), unfolding(crate::specs::Asking::known_image_text))]
 pub fn known_image<S: Alter>(
     collection: &mut Collection<S>,
@@ -99,8 +100,8 @@ pub fn known_image<S: Alter>(
     }
 }
 
-/// The first path of the collection that comes behind this one in the order of their bytes, or the first of all. None where
-/// there is none. Faults: as of [`known_image`].
+/// The first path of the collection after this one, in the order of their bytes, or the first of all. None if there is none.
+/// Faults: as for [`known_image`].
 #[tactic(auto, using(crate::proofs::FaultLemmas::told_unanswered, crate::proofs::FaultLemmas::told_unread), unfolding(crate::specs::Asking::next_path_text))]
 pub fn next_path<S: Alter>(
     collection: &mut Collection<S>,

@@ -21,7 +21,7 @@ pub struct Collection<S: Alter> {
     pub(crate) conn: Connection<S>,
 }
 
-/// Wants the tables of a collection, or makes them where there is none of them and this is asked for. Faults: as of
+/// Looks for the tables of a collection, or makes them if there are none and this is asked for. Faults: as for
 /// [`Collection::over`].
 #[tactic(auto, using(crate::proofs::TableLemmas::refused_elsewhere, crate::proofs::TableLemmas::refused_by))]
 fn want_tables<S: Alter>(conn: &mut Connection<S>, makes_tables: bool) -> Result<(), DatabaseFault>
@@ -37,8 +37,8 @@ fn want_tables<S: Alter>(conn: &mut Connection<S>, makes_tables: bool) -> Result
 }
 
 impl<S: Alter + Drop> Collection<S> {
-    /// The collection in a database. Where it has none of the tables of a collection, they are made, if this is asked for.
-    /// Faults, with the database: `CannotOpen` where it has others of their names, or some and not all, or none and they are
+    /// The collection in a database. If it has none of a collection's tables, they are made if this is asked for. Faults, with
+    /// the database handed back: `CannotOpen` if it has other tables with their names, or only some of them, or none and they are
     /// not to be made; `CannotWrite`, `NoMemory`.
     pub fn over(
         alloc: Global,
@@ -55,10 +55,10 @@ impl<S: Alter + Drop> Collection<S> {
         }
     }
 
-    /// Puts all rows of a source into the collection, in one transaction: an image's row comes in the place of the one that has its
-    /// path, whose volumes go with their items. At a fault of the source nothing has changed, and no transaction is under way. At
-    /// one of the database the open database shows what it showed; in the file are all rows, or nothing has changed. Faults: the
-    /// source's, and `CannotWrite` or `NoMemory` of the database.
+    /// Puts all rows of a source into the collection, in one transaction. An image's row replaces the one with the same path,
+    /// whose volumes are removed with their items. At a fault of the source, nothing has changed, and no transaction is open. At
+    /// a fault of the database, the open database shows what it showed before; the file has all rows, or nothing in it has
+    /// changed. Faults: those of the source, and `CannotWrite` or `NoMemory` of the database.
     pub fn put<R: RowSource>(&mut self, source: &mut R) -> Result<R::Told, PutFault<R::Fault>>
         ensures put { OnOk result (PutsAllInOne S.Store (R.Gives source.old source.new []) self.old.conn self.new.conn) }
         ensures told { IfOk result (R.Tells source.old source.new) }
@@ -75,7 +75,7 @@ impl<S: Alter + Drop> Collection<S> {
 /// What is locked of a database that was refused.
 type Refused = (DatabaseFault, Option<OpenedFiles<File>>);
 
-/// Opens the collection in a file. A fault comes with the files, where they were opened.
+/// Opens the collection in a file. A fault comes with the files, if they were opened.
 fn open_files(rt: &HostRuntime, path: &str, makes_tables: bool) -> Result<FileCollection, Refused> {
     match Connection::open_from(rt, path, false, Unknown) {
         Ok(conn) => match Collection::over(rt.alloc(), conn, makes_tables) {
@@ -88,8 +88,8 @@ fn open_files(rt: &HostRuntime, path: &str, makes_tables: bool) -> Result<FileCo
 }
 
 impl Collection<FileStore<File>> {
-    /// Opens the collection in a file. Faults: as of [`Collection::over`], and `CannotOpen` where the file is no database, is
-    /// damaged, or is open in another program. At a fault no log is left beside it, and no file where none was.
+    /// Opens the collection in a file. Faults: as for [`Collection::over`], and `CannotOpen` if the file is no database, is
+    /// damaged, or is open in another program. At a fault no log is left next to it, and no file where there was none.
     pub fn open(
         rt: &HostRuntime,
         files: &DatabaseFiles,
@@ -110,7 +110,7 @@ impl Collection<FileStore<File>> {
         }
     }
 
-    /// Closes the files, of which the database alone then holds all: no log is left beside it. Faults: `CannotWrite`,
+    /// Closes the files; the database alone then holds everything, and no log is left next to it. Faults: `CannotWrite`,
     /// `NoMemory`.
     pub fn close(self, rt: &HostRuntime, files: &DatabaseFiles) -> Result<(), DatabaseFault> {
         let Collection { conn, .. } = self;

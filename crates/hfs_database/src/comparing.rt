@@ -1,15 +1,15 @@
-//! Images beside what a collection has of them.
+//! Comparing images with what a collection has about them.
 ghost use Rattle.std.specs.Prelude.{◌≡◌};
 ghost use Rattle.hfs_database.specs.Comparing.{by_digest, comparison, comparison_word, is_worse, needs_digest};
 
-/// How an image stands to what the collection has of it.
+/// How an image compares to what the collection has about it.
 #[derive(Clone, Copy, Debug, PartialEq, Eq)]
 pub enum Comparison {
     /// It can't be read.
     Missing,
     /// The collection doesn't have it.
     New,
-    /// Its length or its digest is another.
+    /// Its length or its digest differs.
     Changed,
     /// Its length and its digest are the same.
     Same,
@@ -18,7 +18,7 @@ pub enum Comparison {
 }
 
 impl Comparison {
-    /// What is printed of it.
+    /// The word that is printed for it.
     #[tactic(auto, unfolding(crate::specs::Comparing::comparison_word))]
     pub fn word(self) -> &'static str
         ensures { result.now ≡ comparison_word self }
@@ -32,7 +32,7 @@ impl Comparison {
         }
     }
 
-    /// Whether it isn't as the collection has it.
+    /// Whether the image differs from what the collection has.
     pub fn is_worse(self) -> bool
         ensures { result ≡ is_worse self }
     {
@@ -43,12 +43,12 @@ impl Comparison {
     }
 }
 
-/// What a collection has of an image.
+/// What a collection has about an image.
 #[derive(Drop)]
 pub struct KnownImage {
     /// How many bytes it has.
     pub bytes: u64,
-    /// Their SHA-256 digest in hexadecimal digits, where it was taken.
+    /// Their SHA-256 digest in hexadecimal digits, if it was taken.
     pub digest: Option<String>,
 }
 
@@ -60,7 +60,7 @@ impl KnownImage {
         self.bytes == len && self.digest.is_some()
     }
 
-    /// How a file of as many bytes stands to this image, by the hexadecimal digits of its SHA-256 digest.
+    /// How a file of the same length compares to this image, by the hexadecimal digits of its SHA-256 digest.
     fn by_digest(&self, digits: &str) -> Comparison
         ensures { result ≡ by_digest self.now.digest digits.now }
     {
@@ -71,7 +71,7 @@ impl KnownImage {
         }
     }
 
-    /// How a file of `len` bytes stands to this image, by the hexadecimal digits of its SHA-256 digest. Where the digest isn't
+    /// How a file of `len` bytes compares to this image, by the hexadecimal digits of its SHA-256 digest. If the digest isn't
     /// needed, any digits do.
     pub fn compared(&self, len: u64, digits: &str) -> Comparison
         ensures { result ≡ comparison self.now len digits.now }

@@ -7,30 +7,30 @@ ghost use Rattle.hfs_database.specs.Tables.{TellsNoTables};
 use hfs_rows::TakerFault;
 use sqlite::{Error, ErrorCode};
 
-/// What stands in the way of opening a database.
+/// Why a database can't be opened.
 #[derive(Clone, Copy, Debug, PartialEq, Eq)]
 pub enum Obstacle {
     /// Another program has it open.
     Busy,
-    /// It has something of the names of a collection's tables and indexes, and not all with their texts.
+    /// It has something with the names of a collection's tables and indexes, but not all of them with their texts.
     OtherTables,
-    /// It has none of these tables, where they are not to be made.
+    /// It has none of these tables, and they are not to be made.
     NoTables,
-    /// It is no database, or has something that is not read here, as virtual tables, triggers on a collection's tables, and rows
-    /// that don't obey their tables.
+    /// It is no database, or has something that is not supported here, such as virtual tables, triggers on a collection's tables,
+    /// or rows that violate their tables' constraints.
     Unreadable,
     /// It is damaged.
     Damaged,
-    /// The system doesn't open it, or doesn't read it.
+    /// The system can't open it, or can't read it.
     System,
 }
 
 /// Why a database did not do what was asked.
 #[derive(Clone, Copy, Debug, PartialEq, Eq)]
 pub enum DatabaseFault {
-    /// It is no database, is damaged, is open elsewhere, or has other tables of these names.
+    /// It is no database, is damaged, is open elsewhere, or has other tables with these names.
     CannotOpen(Obstacle),
-    /// A write failed, or a read of what was written.
+    /// A write failed, or reading back what was written.
     CannotWrite,
     /// Memory was refused.
     NoMemory,
@@ -55,7 +55,7 @@ fn is_memory(error: &Error) -> bool
     }
 }
 
-/// What stands in the way where a database isn't opened for this reason.
+/// Why a database can't be opened, from SQLite's error code.
 fn obstacle_of(code: ErrorCode) -> Obstacle
     ensures tables { TellsNoTables (CannotOpen result) }
     ensures obstacle { result ≡ spec.obstacle_of code }
@@ -86,7 +86,7 @@ fn obstacle_of(code: ErrorCode) -> Obstacle
     }
 }
 
-/// What an error means where a database is opened. Where there is no room to make it, it can't be written.
+/// What an error means when a database is being opened. If there is no room to make it, it can't be written.
 pub(crate) fn opening_fault(error: &Error) -> DatabaseFault
     ensures tables { TellsNoTables result }
     ensures fault { result ≡ spec.opening_fault error.now }
@@ -99,7 +99,7 @@ pub(crate) fn opening_fault(error: &Error) -> DatabaseFault
     }
 }
 
-/// What an error means where a database is written.
+/// What an error means when a database is being written.
 pub(crate) fn writing_fault(error: &Error) -> DatabaseFault
     ensures tables { TellsNoTables result }
     ensures fault { result ≡ spec.writing_fault error.now }
@@ -111,7 +111,7 @@ pub(crate) fn writing_fault(error: &Error) -> DatabaseFault
     }
 }
 
-/// What an error means where a row is taken.
+/// What an error means when a row is being taken.
 pub(crate) fn taking_fault(error: &Error) -> TakerFault
     ensures { result ≡ spec.taking_fault error.now }
 {

@@ -8,7 +8,7 @@ use std::os::unix::fs::MetadataExt;
 use std::rt::Files;
 use std::{fs, io};
 
-/// The paths of a database, and of the files that SQLite keeps beside it.
+/// The paths of a database, and of the files that SQLite keeps next to it.
 #[derive(Drop)]
 pub struct DatabaseFiles {
     pub(crate) database: String,
@@ -24,7 +24,7 @@ pub(crate) enum Place {
     Free,
     /// A file of no bytes.
     Empty,
-    /// A file with bytes, and fewer than any database has.
+    /// A file with bytes, but fewer than any database has.
     Short,
     /// Anything else.
     Taken,
@@ -41,21 +41,21 @@ pub(crate) struct Before {
 }
 
 impl Before {
-    /// Whether there is a file that is no database, nor one that a run began to make, whose log stands beside it.
+    /// Whether there is a file that is no database, nor one that a run was making, whose log is next to it.
     pub(crate) fn is_no_database(self) -> bool {
         self.database == Place::Short && !self.has_log
     }
 }
 
-/// The path of a file beside another.
+/// The path of a file next to another.
 fn beside(alloc: Global, path: &str, end: &str) -> Result<String, AllocError> {
     format!(in alloc; "{path}-{end}")
 }
 
-/// How a name begins that SQLite reads as an address.
+/// The beginning of names that SQLite reads as addresses.
 const ADDRESS: &[u8] = b"file:";
 
-/// Whether SQLite takes a name for something else than that of a file: the database in memory, and addresses.
+/// Whether SQLite takes a name for something other than a file's: the database in memory, and addresses.
 pub fn is_no_file_name(path: &str) -> bool
     ensures { result ≡ is_no_file_name path.now }
 {
@@ -66,8 +66,8 @@ pub fn is_no_file_name(path: &str) -> bool
     bytes.len() >= 5 && &bytes[..5] == ADDRESS
 }
 
-/// The path by which a database is opened: with no link in it, where the system tells it. A name that is none of a file stays as it is, so that it is refused
-/// also where a file has it.
+/// The path by which a database is opened: without links in it, if the system can say. A name that SQLite doesn't take for a
+/// file's stays as it is, so that it is refused even if a file has it.
 fn opened_path<R: Files + AllocGlobal>(rt: &R, path: &str) -> Result<String, AllocError> {
     if is_no_file_name(path) {
         return String::from_str(rt.alloc(), path);
@@ -75,7 +75,7 @@ fn opened_path<R: Files + AllocGlobal>(rt: &R, path: &str) -> Result<String, All
     real_path(rt, path)
 }
 
-/// The path with no link in it, where the system tells it.
+/// The path without links in it, if the system can say.
 fn real_path<R: Files + AllocGlobal>(rt: &R, path: &str) -> Result<String, AllocError> {
     match fs::canonicalize(rt, path) {
         Ok(real) => String::from_str(rt.alloc(), real.as_str()),
@@ -95,7 +95,7 @@ fn place_of<R: Files>(rt: &R, path: &str) -> Place {
 }
 
 impl DatabaseFiles {
-    /// Those of the database at this path. The only error is want of memory.
+    /// The files of the database at this path. Fails only when out of memory.
     pub fn of<R: Files + AllocGlobal>(rt: &R, path: &str) -> Result<DatabaseFiles, AllocError> {
         let alloc = rt.alloc();
         let database = opened_path(rt, path)?;
@@ -126,7 +126,7 @@ impl DatabaseFiles {
         }
     }
 
-    /// What is there of them.
+    /// Which of them exist.
     pub(crate) fn before<R: Files>(&self, rt: &R) -> Before {
         Before {
             database: place_of(rt, self.database.as_str()),
@@ -134,14 +134,14 @@ impl DatabaseFiles {
         }
     }
 
-    /// Takes away the log, which holds nothing that the database hasn't, and what other programs keep beside a log. It is called
-    /// while the database is locked; a log that stays does no harm.
+    /// Removes the log, which holds nothing that isn't in the database, and what other programs keep with a log. Called while the
+    /// database is locked; a log that stays does no harm.
     pub(crate) fn remove_log<R: Files>(&self, rt: &R) {
         let _log = fs::remove_file(rt, self.log.as_str());
         let _shared = fs::remove_file(rt, self.shared.as_str());
     }
 
-    /// Leaves what was there before a database was refused. It is called while the files are locked.
+    /// Restores what was there before a database was refused. Called while the files are locked.
     pub(crate) fn restore<R: Files>(&self, rt: &R, before: Before) {
         match before.database {
             Place::Free => {
@@ -161,7 +161,7 @@ impl DatabaseFiles {
     }
 }
 
-/// Whether both paths lead to one file.
+/// Whether both paths lead to the same file.
 fn is_same_file<R: Files>(rt: &R, one: &str, other: &str) -> bool {
     match (fs::metadata(rt, one), fs::metadata(rt, other)) {
         (Ok(one), Ok(other)) => one.dev() == other.dev() && one.ino() == other.ino(),

@@ -1,4 +1,4 @@
-//! A collection of images in a database of SQLite.
+//! A collection of images in an SQLite database.
 #![tactic(auto)]
 
 mod asking;

@@ -8,18 +8,18 @@ use crate::collection::Collection;
 use crate::fault::{DatabaseFault, writing_fault};
 use sqlite::{Alter, Connection, Row};
 
-/// What is listed of a collection. A row has texts, or NULL where there is nothing to tell.
+/// What is listed of a collection. A row has texts, or NULL for what isn't known.
 #[derive(Clone, Copy, Debug, PartialEq, Eq)]
 pub enum Listing {
     /// Each volume, in the order of images and numbers: the path of its page, the image's path, the volume's name, files, damaged
-    /// ones if there are any, free space, the days when it was created and modified, its verdict.
+    /// files if any, free space, the days when it was created and modified, its verdict.
     Volumes,
-    /// The 1,000 digests of forks that lie on most volumes, of which there are two or more: a path, how many volumes, how many bytes,
-    /// the digest.
+    /// The 1,000 digests of forks that are on the most volumes, at least two: a path, how many volumes, how many bytes, the
+    /// digest.
     Copies,
 }
 
-/// The question that a listing answers.
+/// The query for a listing.
 #[tactic(auto, unfolding(crate::specs::Listing::volumes_text, crate::specs::Listing::copies_text))]
 fn listing_text(listing: Listing) -> &'static str
     ensures { result.now ≡ listing_text listing }
@@ -34,7 +34,7 @@ fn listing_text(listing: Listing) -> &'static str
     }
 }
 
-/// All rows that a database answers to a question. Faults: `CannotWrite` where it can't be read, `NoMemory`.
+/// All rows that a database returns for a query. Faults: `CannotWrite` if it can't be read, `NoMemory`.
 #[tactic(auto, using(crate::proofs::FaultLemmas::fails_to_show))]
 fn shown<S: Alter>(conn: &mut Connection<S>, text: &str) -> Result<Vec<Row>, DatabaseFault>
     ensures shown { IfOk result (λ rows. IsShown (state S.Store conn.old) (state S.Store conn.new)
@@ -48,7 +48,7 @@ fn shown<S: Alter>(conn: &mut Connection<S>, text: &str) -> Result<Vec<Row>, Dat
     }
 }
 
-/// The rows of a listing. Faults: `CannotWrite` where the database can't be read, `NoMemory`.
+/// The rows of a listing. Faults: `CannotWrite` if the database can't be read, `NoMemory`.
 pub fn listed<S: Alter>(
     collection: &mut Collection<S>,
     listing: Listing,

@@ -10,7 +10,7 @@ use hfs_rows::RowSource;
 use sqlite::{Alter, Connection};
 use std::alloc::Global;
 
-/// Begins a transaction. Faults: `CannotWrite`, also where one is under way; `NoMemory`.
+/// Begins a transaction. Faults: `CannotWrite`, also if one is open; `NoMemory`.
 #[tactic(auto, using(crate::proofs::Keeping::keeps_itself, crate::proofs::Keeping::as_itself, crate::proofs::Ending::keeps_begin, crate::proofs::Ending::begins, crate::proofs::Ending::settles, crate::proofs::Ending::back_by_begin))]
 fn begin<S: Alter>(conn: &mut Connection<S>) -> Result<(), DatabaseFault>
     ensures begun { OnOk result (IsBegun S.Store conn.old conn.new) }
@@ -27,7 +27,7 @@ fn begin<S: Alter>(conn: &mut Connection<S>) -> Result<(), DatabaseFault>
     }
 }
 
-/// Commits the transaction. Faults: `CannotWrite`, also where none is under way; `NoMemory`.
+/// Commits the transaction. Faults: `CannotWrite`, also if none is open; `NoMemory`.
 #[tactic(auto, using(crate::proofs::Ending::leaves_itself, crate::proofs::Ending::leaves_commit, crate::proofs::Ending::commits, crate::proofs::Ending::undone_already, crate::proofs::Ending::undone_by_commit))]
 fn commit<S: Alter>(conn: &mut Connection<S>) -> Result<(), DatabaseFault>
     ensures committed { OnOk result (IsCommitted S.Store conn.old conn.new) }
@@ -44,7 +44,7 @@ fn commit<S: Alter>(conn: &mut Connection<S>) -> Result<(), DatabaseFault>
     }
 }
 
-/// Forgets what was given since the transaction began, if a fault has not done so already: afterwards none is under way. Faults:
+/// Rolls back what was given since the transaction began, if a fault has not done so already: afterwards none is open. Faults:
 /// `CannotWrite`, also if one still is; `NoMemory`.
 #[tactic(auto, using(crate::proofs::Keeping::keeps_itself, crate::proofs::Ending::keeps_undo, crate::proofs::Ending::undoes, crate::proofs::Ending::undone_already))]
 fn undo<S: Alter>(conn: &mut Connection<S>) -> Result<(), DatabaseFault>
@@ -62,9 +62,9 @@ fn undo<S: Alter>(conn: &mut Connection<S>) -> Result<(), DatabaseFault>
     }
 }
 
-/// Puts all rows of a source in one transaction. At a fault of the source nothing has changed, and no transaction is under way. At one of the
-/// database the open database shows what it showed; in the file are all rows, or nothing has changed. Faults: as of `put_rows`, and where the
-/// database can't be written.
+/// Puts all rows of a source in one transaction. At a fault of the source, nothing has changed, and no transaction is open. At a
+/// fault of the database, the open database shows what it showed before; the file has all rows, or nothing in it has changed.
+/// Faults: as for `put_rows`, and if the database can't be written.
 #[tactic(auto, using(crate::proofs::RowLemmas::put_in_one, crate::proofs::RowLemmas::left_by_commit, crate::proofs::RowLemmas::left_by_undo, crate::proofs::RowLemmas::kept_by_undo, crate::proofs::RowLemmas::ended_by_undo, crate::proofs::RowLemmas::left_alone, crate::proofs::RowLemmas::back_at_once, crate::proofs::RowLemmas::back_by_undo))]
 pub(crate) fn put_all<S: Alter, R: RowSource>(
     alloc: Global,

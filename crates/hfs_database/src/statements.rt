@@ -20,13 +20,13 @@ use std::alloc::Global;
 /// The numbers of the rows that came last.
 #[derive(Clone, Copy)]
 pub(crate) struct LastRows {
-    /// That of the image.
+    /// The image's number.
     pub(crate) image: i64,
-    /// That of the volume.
+    /// The volume's number.
     pub(crate) volume: i64,
 }
 
-/// Runs a statement within the transaction, and answers the first row that it shows.
+/// Runs a statement within the transaction, and returns the first row that it yields.
 #[tactic(auto, using(crate::proofs::Keeping::keeps_itself))]
 fn shown_row<S: Alter>(
     conn: &mut Connection<S>,
@@ -46,7 +46,7 @@ fn shown_row<S: Alter>(
     }
 }
 
-/// Runs a statement within the transaction, whatever it shows.
+/// Runs a statement within the transaction, whatever it yields.
 #[tactic(auto, using(crate::proofs::Keeping::keeps_itself))]
 fn run<S: Alter>(
     conn: &mut Connection<S>,
@@ -76,7 +76,7 @@ fn number_of(row: &Row) -> Result<i64, TakerFault>
     }
 }
 
-/// Runs a statement that puts a row, and answers the row's number.
+/// Runs a statement that inserts a row, and returns the row's number.
 #[tactic(auto, using(crate::proofs::Keeping::keeps_itself, crate::proofs::Keeping::keeps_then))]
 fn put<S: Alter>(
     conn: &mut Connection<S>,
@@ -91,7 +91,7 @@ fn put<S: Alter>(
     number_of(&row)
 }
 
-/// Takes away the volumes of an image; their items go with them.
+/// Removes the volumes of an image, with their items.
 #[tactic(auto, unfolding(crate::specs::Texts::drop_volumes_text))]
 fn drop_volumes<S: Alter>(conn: &mut Connection<S>, image: i64) -> Result<(), TakerFault>
     ensures done { OnOk result (HasRunAll (state S.Store conn.old) (state S.Store conn.new)
@@ -106,7 +106,7 @@ fn drop_volumes<S: Alter>(conn: &mut Connection<S>, image: i64) -> Result<(), Ta
     )
 }
 
-/// Puts the row of an image, or new values into the row that has its path; its volumes go. Answers the row's number.
+/// Inserts the row of an image, or updates the one with its path, whose volumes are removed. Returns the row's number.
 #[tactic(auto, using(crate::proofs::Keeping::keeps_itself, crate::proofs::Keeping::keeps_then), unfolding(crate::specs::Texts::put_image_text))]
 fn replace_image<S: Alter>(
     alloc: Global,
@@ -128,7 +128,7 @@ fn replace_image<S: Alter>(
     Ok(id)
 }
 
-/// Puts the row of a volume of an image, and answers the row's number.
+/// Inserts the row of a volume of an image, and returns the row's number.
 #[tactic(auto, using(crate::proofs::Keeping::keeps_itself, crate::proofs::Keeping::keeps_then), unfolding(crate::specs::Texts::put_volume_text))]
 fn put_volume<S: Alter>(
     alloc: Global,
@@ -149,7 +149,7 @@ fn put_volume<S: Alter>(
     )
 }
 
-/// Puts the row of an item of a volume.
+/// Inserts the row of an item of a volume.
 #[tactic(auto, using(crate::proofs::Keeping::keeps_itself, crate::proofs::Keeping::keeps_then), unfolding(crate::specs::Texts::put_item_text))]
 fn put_item<S: Alter>(
     alloc: Global,
@@ -170,7 +170,7 @@ fn put_item<S: Alter>(
     )
 }
 
-/// Puts a row into its table: a volume under the image that came last, an item under the volume that came last.
+/// Inserts a row into its table: a volume under the image that came last, an item under the volume that came last.
 #[tactic(auto, using(crate::proofs::Keeping::keeps_itself, crate::proofs::Keeping::keeps_then))]
 pub(crate) fn put_row<S: Alter>(
     alloc: Global,

@@ -50,19 +50,19 @@ fn resource_index() -> &'static str
     "CREATE INDEX item_resource ON item (resource_sha256)"
 }
 
-/// What there is of the tables and indexes of a collection.
+/// Which of the tables and indexes of a collection exist.
 #[derive(Clone, Copy, Debug, PartialEq, Eq)]
 pub(crate) enum Found {
     /// None.
     Nothing,
-    /// All that was looked for, with these texts.
+    /// All that were looked for, with these texts.
     All,
-    /// Something of these names, and not all with these texts.
+    /// Something with these names, but not all of them with these texts.
     Other,
 }
 
 impl Found {
-    /// What there is of both.
+    /// What exists of both.
     fn and(self, other: Found) -> Found
         ensures { result ≡ spec.both self other }
     {
@@ -82,7 +82,7 @@ impl Found {
     }
 }
 
-/// What a row tells of a table or an index that was looked for.
+/// What a row says about a table or an index that was looked for.
 fn told_in(row: &Row) -> Result<Found, DatabaseFault>
     ensures tells { IfOk result (Tells row.now) }
     ensures fault { IfErr result TellsNoTables }
@@ -103,7 +103,7 @@ fn told_in(row: &Row) -> Result<Found, DatabaseFault>
     }
 }
 
-/// What there is of this name, in any case, beside this text.
+/// What exists with this name, in any case, compared to this text.
 #[tactic(auto, unfolding(crate::specs::Tables::find_part_text))]
 fn find<S: Alter>(conn: &mut Connection<S>, name: &str, text: &str) -> Result<Found, DatabaseFault>
     ensures found { IfOk result (FindsPart (state S.Store conn.old) (state S.Store conn.new)
@@ -123,7 +123,7 @@ fn find<S: Alter>(conn: &mut Connection<S>, name: &str, text: &str) -> Result<Fo
     }
 }
 
-/// What there is of the tables and indexes of a collection.
+/// Which of the tables and indexes of a collection exist.
 pub(crate) fn find_tables<S: Alter>(conn: &mut Connection<S>) -> Result<Found, DatabaseFault>
     ensures found { IfOk result (λ found. FindsTables S.Store found conn.old conn.new) }
     ensures fault { IfErr result TellsNoTables }

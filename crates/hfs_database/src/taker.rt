@@ -14,10 +14,10 @@ use sqlite::{Alter, Connection};
 use std::alloc::Global;
 use std::snapshot::Snapshot;
 
-/// What was given since a transaction began, for proofs alone.
+/// What was given since a transaction began, for proofs only.
 #[derive(Drop)]
 pub(crate) struct History<S: Alter> {
-    /// The database as the transaction began.
+    /// The database when the transaction began.
     start: Snapshot<Connection<S>>,
     given: Given,
 }
@@ -34,7 +34,7 @@ impl<S: Alter> History<S> {
         }
     }
 
-    /// This row was given, too.
+    /// Adds this row to what was given.
     fn note(&mut self, row: &GivenRow<'_>)
         ensures start { self.new.start.value ≡ self.old.start.value }
         ensures given { self.new.given.rows ≡ with_given self.old.given.rows row.now }
@@ -43,8 +43,8 @@ impl<S: Alter> History<S> {
     }
 }
 
-/// The rows of images on their way into a database, within a transaction: what was there of an image of the same path goes. After a
-/// fault it takes no more. Nothing of all this is in the file until the transaction is committed.
+/// A taker that puts the rows of images into a database, within a transaction; what it held about an image with the same path is
+/// removed. After a fault it takes no more. Nothing is in the file until the transaction is committed.
 pub(crate) struct DatabaseTaker<'t, S: Alter> {
     conn: &'t mut Connection<S>,
     history: &'t mut History<S>,
@@ -57,7 +57,7 @@ pub(crate) struct DatabaseTaker<'t, S: Alter> {
 }
 
 impl<'t, S: Alter> DatabaseTaker<'t, S> {
-    /// A taker that was given nothing, with the history of nothing.
+    /// A taker that was given nothing, with an empty history.
     fn over(
         alloc: Global,
         conn: &'t mut Connection<S>,
@@ -111,8 +111,8 @@ impl<S: Alter> RowTaker for DatabaseTaker<'_, S> {
     }
 }
 
-/// Puts all rows of a source, one behind the other, within the transaction. Faults: the source's; `CannotWrite` where a row was
-/// not taken, and the source told nothing of it.
+/// Puts all rows of a source, one after the other, within the transaction. Faults: those of the source; `CannotWrite` if a row
+/// was not taken, and the source didn't report it.
 pub(crate) fn put_rows<S: Alter, R: RowSource>(
     alloc: Global,
     conn: &mut Connection<S>,

@@ -9,7 +9,7 @@ use hfs_rows::{RowValue, TakerFault};
 use sqlite::types::ValueRef;
 use std::alloc::Global;
 
-/// A value as a parameter. Fault: `CannotWrite` of a number that no column of SQLite holds.
+/// A value as a parameter. Fault: `CannotWrite` for a number that no column of SQLite can hold.
 fn parameter(value: &RowValue) -> Result<ValueRef<'_>, TakerFault>
     ensures { IfOk result (λ parameter. bound_value (owned parameter) ≡ sql_value value.now) }
 {
@@ -23,7 +23,7 @@ fn parameter(value: &RowValue) -> Result<ValueRef<'_>, TakerFault>
     }
 }
 
-/// Appends values as parameters. Faults: as of one, `NoMemory`.
+/// Appends values as parameters. Faults: as for one value, `NoMemory`.
 pub(crate) fn push_parameters<'a>(
     parameters: &mut Vec<ValueRef<'a>>,
     values: &'a [RowValue],
@@ -40,7 +40,7 @@ pub(crate) fn push_parameters<'a>(
     Ok(())
 }
 
-/// A row's parameters behind the number of the row that it belongs to. Faults: as of one, `NoMemory`.
+/// A row's parameters, after the number of the row that it belongs to. Faults: as for one value, `NoMemory`.
 pub(crate) fn parameters_under<'a>(
     alloc: Global,
     owner: i64,

@@ -1,4 +1,4 @@
-//! A writer that keeps nothing of what it is given but its digest.
+//! A writer that keeps only the digest of what it is given.
 ghost use Rattle.std.specs.Prelude.{◌≡◌, ◌++◌, [], Some};
 ghost use Rattle.sha2.specs.Sha256.{sha256};
 
@@ -8,7 +8,7 @@ use std::io;
 use std::io::Write;
 use std::marker::Model;
 
-/// A writer that takes the SHA-256 digest of all that it is given. It never fails. Contracts see the bytes.
+/// A writer that takes the SHA-256 digest of everything that it is given. It never fails. Contracts see the bytes.
 #[derive(Drop)]
 pub struct DigestWriter {
     digest: Sha256,
@@ -38,7 +38,7 @@ impl DigestWriter {
         }
     }
 
-    /// Takes these bytes, behind those that it was given before.
+    /// Takes these bytes, after those that it was given before.
     pub fn add(&mut self, bytes: &[u8])
         ensures { self.new ≡ self.old ++ bytes.now }
     {
@@ -46,7 +46,7 @@ impl DigestWriter {
         self.written = self.written.then(&Piece { bytes });
     }
 
-    /// The digest of all that it was given.
+    /// The digest of everything that it was given.
     pub fn finish(self) -> [u8; 32]
         ensures { result ≡ sha256 self }
     {

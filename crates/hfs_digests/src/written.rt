@@ -1,5 +1,4 @@
-//! What a writer was given, for proofs alone: it takes no memory, and its methods do nothing when they
-//! run.
+//! What a writer was given, for proofs only: it takes no memory, and its methods do nothing at run time.
 ghost use Rattle.std.specs.Prelude.{◌≡◌, ◌++◌, List, ℕ, []};
 ghost use Rattle.std.specs.Borrow.{ftrue};
 
@@ -24,14 +23,14 @@ pub struct Piece<'a> {
 impl Written {
     ghost use Rattle.hfs_digests.specs.Pieces.{with_piece};
 
-    /// Nothing was given.
+    /// The list in which nothing was given.
     pub fn new() -> Written
         ensures { result.bytes ≡ [] }
     {
         Written {}
     }
 
-    /// What was given, and then this.
+    /// The list with these bytes appended.
     pub fn then(&self, _piece: &Piece<'_>) -> Written
         ensures { result.bytes ≡ with_piece self.now.bytes _piece.now }
     {

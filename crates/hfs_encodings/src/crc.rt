@@ -1,8 +1,8 @@
-//! The check that stands in a MacBinary header: CCITT's cyclic redundancy check of 16 bits.
+//! The checksum in a MacBinary header: CCITT's cyclic redundancy check of 16 bits.
 ghost use Rattle.std.specs.Prelude.{◌≡◌};
 ghost use Rattle.hfs_encodings.specs.Crc.{crc16, crc_with_byte};
 
-/// The check of each byte alone.
+/// The checksum of each single byte.
 const CHECK_OF_BYTE: [u16; 256] = [
     0x0000, 0x1021, 0x2042, 0x3063, 0x4084, 0x50a5, 0x60c6, 0x70e7, 0x8108, 0x9129, 0xa14a, 0xb16b,
     0xc18c, 0xd1ad, 0xe1ce, 0xf1ef, 0x1231, 0x0210, 0x3273, 0x2252, 0x52b5, 0x4294, 0x72f7, 0x62d6,
@@ -28,7 +28,7 @@ const CHECK_OF_BYTE: [u16; 256] = [
     0x2e93, 0x3eb2, 0x0ed1, 0x1ef0,
 ];
 
-/// The check of these bytes: polynomial $1021, from 0, the most significant bit of each byte first.
+/// The checksum of these bytes: polynomial $1021, starting with 0, the most significant bit of each byte first.
 pub fn crc16(bytes: &[u8]) -> u16
     ensures { result ≡ crc16 bytes.now }
 {
@@ -39,7 +39,7 @@ pub fn crc16(bytes: &[u8]) -> u16
     crc
 }
 
-/// The check with one byte more.
+/// The checksum with one more byte.
 fn crc_with_byte(crc: u16, byte: u8) -> u16
     ensures { result ≡ crc_with_byte crc byte }
 {
@@ -47,7 +47,7 @@ fn crc_with_byte(crc: u16, byte: u8) -> u16
     (crc << 8) ^ crc_of_byte(high ^ byte)
 }
 
-/// The check of one byte alone.
+/// The checksum of a single byte.
 fn crc_of_byte(byte: u8) -> u16
     ensures { result ≡ crc_with_byte 0 byte }
 {

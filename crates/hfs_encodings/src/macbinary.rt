@@ -1,4 +1,4 @@
-//! MacBinary II files: an item with both forks as one row of bytes.
+//! MacBinary II files: an item with both forks as one sequence of bytes.
 ghost use Rattle.std.specs.Prelude.{◌≡◌, ◌+◌, ◌^◌, ◌<◌, ◌≤◌, ◌↔◌, ℕ, List, ◌++◌, length, IsSome, IfSome, IsTrue, slice_index};
 ghost use Rattle.std.specs.Option.{SomeIff};
 ghost use Rattle.hfs_fields.specs.Mdb.{bytes_at};
@@ -20,20 +20,20 @@ pub struct MacBinaryHead {
     pub data_length: u32,
     /// How many bytes the resource fork has.
     pub resource_length: u32,
-    /// When it was made, in seconds since midnight of 1 January 1904.
+    /// When it was made, in seconds since midnight, 1 January 1904.
     pub created: u32,
     /// When it was last changed, in the same seconds.
     pub modified: u32,
 }
 
-/// The byte of a file's lock: bit 0 says that it is locked.
+/// The lock byte of a file: bit 0 says that it is locked.
 fn lock_byte(locked: bool) -> u8
     ensures { result ≡ lock_byte locked }
 {
     if locked { 1 } else { 0 }
 }
 
-/// How many zeros fill up a fork of so many bytes to a multiple of 128.
+/// How many zeros pad a fork of `len` bytes to a multiple of 128.
 pub fn padding(len: usize) -> usize
     ensures padding { result ≡ padding len }
     ensures short { result < 128 }
@@ -45,7 +45,7 @@ impl MacBinaryHead {
     /// How many bytes the header has.
     pub const LENGTH: usize = 128;
 
-    /// The fields that the check is made of, one behind the other.
+    /// The fields that the checksum covers, one after the other.
     #[tactic(auto, unfolding(crate::specs::MacBinary::macbinary_fields))]
     fn laid(&self) -> FieldRow
         ensures bytes { result ≡ macbinary_fields self.now }
@@ -70,7 +70,7 @@ impl MacBinaryHead {
         row
     }
 
-    /// The bytes that the check is made of.
+    /// The bytes that the checksum covers.
     fn fields(&self) -> [u8; 124]
         ensures bytes { result ≡ macbinary_fields self.now }
         ensures value { IsMacBinaryHeadValue self.now }
@@ -80,8 +80,8 @@ impl MacBinaryHead {
         fields
     }
 
-    /// The header's 128 bytes. With both forks behind them, each filled up, they are the whole file, from which all comes back where the
-    /// file has a name.
+    /// The header's 128 bytes. Followed by both forks, each padded, they are the whole file, from which everything can be read
+    /// back if the file has a name.
     pub fn bytes(&self) -> [u8; 128]
         ensures bytes { result ≡ macbinary_head_bytes self.now }
         ensures back { (data_fork resource_fork : List ℕ) → 1 ≤ length self.now.name → length data_fork ≡ self.now.data_length → length resource_fork ≡ self.now.resource_length
@@ -97,8 +97,8 @@ impl MacBinaryHead {
         head
     }
 
-    /// The header that a file begins with. None exactly where it has none of this form: its zeros, a name of 1 to 31 bytes, no second
-    /// header, a version that asks for no more than II, and the check.
+    /// The header that a file begins with. None exactly when it has none of this form: its zeros, a name of 1 to 31 bytes, no
+    /// second header, a version that asks for no more than II, and the checksum.
     #[tactic(auto, unfolding(crate::specs::MacBinary::macbinary_head_of))]
     pub fn read(file: &[u8]) -> Option<MacBinaryHead>
         ensures { SomeIff result (IsTrue (begins_macbinary file.now)) (macbinary_head_of file.now) }
@@ -118,7 +118,7 @@ impl MacBinaryHead {
         })
     }
 
-    /// The data fork of the file that begins with this header. None exactly where the file ends before it does.
+    /// The data fork of the file that begins with this header. None exactly when the file ends before it does.
     pub fn data_fork<'a>(&self, file: &'a [u8]) -> Option<&'a [u8]>
         ensures whole { IsSome result ↔ (128 + self.now.data_length ≤ length file.now) }
         ensures fork { IfSome result (λ fork. fork.now ≡ data_fork_at self.now file.now) }
@@ -126,7 +126,7 @@ impl MacBinaryHead {
         part(file, MacBinaryHead::LENGTH, self.data_length as usize)
     }
 
-    /// The resource fork of the file that begins with this header. None exactly where the file ends before it does.
+    /// The resource fork of the file that begins with this header. None exactly when the file ends before it does.
     pub fn resource_fork<'a>(&self, file: &'a [u8]) -> Option<&'a [u8]>
         ensures whole { IsSome result ↔ (resource_place self.now + self.now.resource_length ≤ length file.now) }
         ensures fork { IfSome result (λ fork. fork.now ≡ resource_fork_at self.now file.now) }
@@ -140,7 +140,7 @@ impl MacBinaryHead {
     }
 }
 
-/// The bytes of a file from a place on. None exactly where the file has fewer.
+/// The bytes of a file from a place on. None exactly when the file has fewer.
 fn part(file: &[u8], start: usize, len: usize) -> Option<&[u8]>
     requires { start + len < 2 ^ 63 }
     ensures whole { IsSome result ↔ (start + len ≤ length file.now) }
@@ -173,7 +173,7 @@ fn begins_macbinary(file: &[u8]) -> bool
         && u16_at(file, 124) == check
 }
 
-/// Type, creator, flags, location and folder, in the turn in which the Finder keeps them.
+/// Type, creator, flags, location and folder, in the order in which the Finder keeps them.
 fn finder_info_in(file: &[u8]) -> [u8; 16]
     requires { 128 ≤ length file.now }
     ensures { result ≡ finder_info_in file.now }

@@ -1,4 +1,4 @@
-//! A record that comes to the extents tree.
+//! Adding a record to the extents tree.
 
 ghost use Rattle.std.specs.Prelude.{◌≡◌, ◌+◌, ◌*◌, ◌^◌, ◌<◌, ◌≤◌, true, false, None, IfOk, OnOk, length};
 ghost use Rattle.hfs_fields.specs.Keys.{ext_cmp};
@@ -30,7 +30,7 @@ fn has_room(header: &Header) -> bool
     header.records < 22
 }
 
-/// The least pair of the tree, if this key is below its own. The only error is want of memory.
+/// The least pair of the tree, if this key is below its own. Fails only when out of memory.
 fn least_above<N: Nodes>(
     alloc: Global,
     nodes: &N,
@@ -49,7 +49,7 @@ fn least_above<N: Nodes>(
     }
 }
 
-/// Puts a record below all others into the tree: it takes the place of the least one, which is inserted behind it.
+/// Puts a record below all others into the tree: it takes the place of the least one, which is inserted after it.
 fn add_below<S: NodesMut>(
     alloc: Global,
     nodes: &mut S,
@@ -76,12 +76,12 @@ fn add_below<S: NodesMut>(
     insert(alloc, nodes, least, least_body)
 }
 
-/// Puts a record into the extents tree, none of whose keys is equal to its own, be the tree empty or the key below all others.
+/// Adds a record to the extents tree, none of whose keys is equal to its own; the tree may be empty, or the key below all others.
 ///
-/// The first record of all becomes a leaf, which is the root. One that fits into a leaf that is the root wants no node. Any other
-/// may want one on each level, and one for a new root: so many as `extents_need` says.
+/// The very first record becomes a leaf, which is the root. A record that fits into a leaf that is the root needs no node. Any
+/// other may need one on each level, and one for a new root: as many as `extents_need` says.
 ///
-/// Errors: `AllocError` where memory was refused. Then nothing is known of the nodes, which are to be thrown away.
+/// Errors: `AllocError` if memory was refused. Then nothing is known of the nodes, which must be thrown away.
 ///
 /// Source: Inside Macintosh: Files, chapter 2, 'B*-trees' and 'Extents overflow file'.
 pub fn add<S: NodesMut>(

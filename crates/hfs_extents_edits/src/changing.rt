@@ -1,4 +1,4 @@
-//! A record of the extents tree that stays where it is.
+//! Changing a record of the extents tree in place.
 
 ghost use Rattle.std.specs.Prelude.{◌≡◌, OnOk, length};
 ghost use Rattle.hfs_fields.specs.Keys.{ext_cmp};
@@ -11,9 +11,9 @@ use hfs_btree_edits::{NodesMut, replace};
 use hfs_fields::ExtKey;
 use std::alloc::{AllocError, Global};
 
-/// Gives the record with this key another body. No node comes or goes, and one leaf is written.
+/// Gives the record with this key another body. No node is added or removed, and one leaf is written.
 ///
-/// Errors: `AllocError` where memory was refused. Then nothing is known of the nodes, which are to be thrown away.
+/// Errors: `AllocError` if memory was refused. Then nothing is known of the nodes, which must be thrown away.
 pub fn change<S: NodesMut>(
     alloc: Global,
     nodes: &mut S,

@@ -1,4 +1,4 @@
-//! The records of a fork's end, which leave the extents tree.
+//! Removing the records of a fork's end from the extents tree.
 
 ghost use Rattle.std.specs.Prelude.{◌≡◌, OnOk};
 ghost use Rattle.hfs_btree_edits.specs.Edits.{Edits};
@@ -23,12 +23,12 @@ fn next_of_fork<N: Nodes>(nodes: &N, from: &ExtKey) -> Option<ExtKey>
     }
 }
 
-/// Takes the fork's records from this key on out of the extents tree: those with the key's fork and file whose block isn't before
-/// the key's. Nothing is written where there are none. An empty tree has no levels, and its nodes are free.
+/// Removes the fork's records from this key on from the extents tree: those with the key's fork and file whose block isn't before
+/// the key's. Writes nothing if there are none. An empty tree has no levels, and its nodes are free.
 ///
-/// The work is that of a search and a removal for each record that goes, however many others there are.
+/// The work is a search and a removal for each record that is removed, however many others there are.
 ///
-/// Errors: `AllocError` where memory was refused. Then nothing is known of the nodes, which are to be thrown away.
+/// Errors: `AllocError` if memory was refused. Then nothing is known of the nodes, which must be thrown away.
 ///
 /// Source: Inside Macintosh: Files, chapter 2, 'Extents overflow file'.
 pub fn cut_fork<S: NodesMut>(alloc: Global, nodes: &mut S, from: &ExtKey) -> Result<(), AllocError>

@@ -1,4 +1,4 @@
-//! The left edge of a tree: the first node of each level, where the least pair is the first of all.
+//! The left edge of a tree: the first node of each level, where the least pair comes first.
 
 ghost use Rattle.std.specs.Prelude.{◌≡◌, ◌<◌, true, [], IsTrue, IfOk, OnOk, length, slice_index_or};
 ghost use Rattle.hfs_btree.specs.Header.{header_in, depth_of, tree_content};
@@ -11,7 +11,7 @@ use hfs_btree::{Header, Key, child_of};
 use hfs_btree_edits::{NodesMut, store_replaced, viewed};
 use std::alloc::{AllocError, Global};
 
-/// Gives the first record of an index node this key, and answers the child that the record names.
+/// Gives the first record of an index node this key, and returns the child that the record names.
 fn set_first<K: Key, S: NodesMut>(
     alloc: Global,
     nodes: &mut S,
@@ -33,7 +33,7 @@ fn set_first<K: Key, S: NodesMut>(
     Ok(child)
 }
 
-/// Gives the first record of each index node of the left edge this key, and answers the first leaf.
+/// Gives the first record of each index node of the left edge this key, and returns the first leaf.
 fn set_edge<K: Key, S: NodesMut>(
     alloc: Global,
     nodes: &mut S,
@@ -56,8 +56,8 @@ fn set_edge<K: Key, S: NodesMut>(
     Ok(n)
 }
 
-/// Puts the pair, whose key is below all others, in the place of the least one. The first index keys of the left edge are made
-/// its key. It takes no node.
+/// Puts the pair, whose key is below all others, in place of the least one. Its key becomes the first index key in each node of
+/// the left edge. Takes no node.
 pub(crate) fn put_least<K: Key, S: NodesMut>(
     alloc: Global,
     nodes: &mut S,

@@ -1,4 +1,4 @@
-//! Records of the extents tree that come and go: the first of all, one below all others, and those at a fork's end.
+//! Adding and removing records of the extents tree: the very first one, one below all others, and those at a fork's end.
 #![tactic(auto)]
 
 mod adding;

@@ -13,8 +13,7 @@ use hfs_btree::{Header, Key, place_in};
 use hfs_btree_edits::{NodesMut, put_header, store_inserted, viewed};
 use std::alloc::{AllocError, Global};
 
-/// Puts a leaf's record into the root, which is a leaf with room for it, wherever its key stands among the others. It takes no
-/// node.
+/// Puts a leaf's record into the root, which is a leaf with room for it, wherever its key belongs. Takes no node.
 pub(crate) fn put_in_root<K: Key, S: NodesMut>(
     alloc: Global,
     nodes: &mut S,

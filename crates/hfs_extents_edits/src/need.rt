@@ -1,14 +1,14 @@
-//! How many free nodes records want that come to the extents tree.
+//! How many free nodes records that are added to the extents tree need.
 
 ghost use Rattle.std.specs.Prelude.{◌≡◌};
 ghost use Rattle.hfs_extents_edits.specs.Need.{extents_need};
 ghost use Rattle.hfs_extents_edits.specs.Adding.{AdditionsLeaveEnough};
 
-/// How many free nodes an extents tree of `depth` levels and `records` records must have, so that `coming` more records never
-/// want one: 4,294,967,296, which no tree has, where it could come to have more than 16 levels.
+/// How many free nodes an extents tree of `depth` levels and `records` records must have so that adding `coming` records never
+/// lacks one: 4,294,967,296, which no tree has, if it could grow to more than 16 levels.
 ///
-/// It is no more than is wanted where all records are in one leaf. Else each record that comes may want a node on each level, and
-/// one for a new root.
+/// It is exact if all records are in one leaf. Otherwise each record that is added may need a node on each level, and one for a
+/// new root.
 #[tactic(auto, unfolding(crate::specs::Need::extents_need))]
 pub fn extents_need(coming: u32, depth: u16, records: u32) -> u64
     ensures { result ≡ extents_need coming depth records }
@@ -27,8 +27,8 @@ pub fn extents_need(coming: u32, depth: u16, records: u32) -> u64
     n * d + n * (n + 1) / 2
 }
 
-/// Where a tree has as many free nodes as several records want, it has, when the first of them has come, as many as the others
-/// want.
+/// If a tree has as many free nodes as several records need, then after the first of them is added it has as many as the others
+/// need.
 pub fn additions_leave_enough()
     ensures { AdditionsLeaveEnough }
 {}

@@ -1,4 +1,4 @@
-//! Which blocks come, on bitmaps of one block.
+//! Which blocks are added, on bitmaps of one block.
 
 ghost use Rattle.std.specs.Prelude.{◌≡◌, IfOk, vec_len};
 
@@ -45,7 +45,7 @@ fn are(extents: &[Extent], wanted: &[(u16, u16)]) -> bool {
     true
 }
 
-/// What comes on a volume of 58 allocation blocks whose bitmap has these bytes.
+/// What is added on a volume of 58 allocation blocks whose bitmap has these bytes.
 fn comes(
     alloc: Global,
     front: &[u8; 8],
@@ -62,7 +62,7 @@ fn comes(
     blocks_that_come(alloc, &bitmap, after, wanted)
 }
 
-/// Whether these blocks come.
+/// Whether these blocks are added.
 fn do_come(
     alloc: Global,
     front: &[u8; 8],
@@ -76,7 +76,7 @@ fn do_come(
     }
 }
 
-/// Whether so many are too few.
+/// Whether there are too few for this many.
 fn is_refused(alloc: Global, front: &[u8; 8], wanted: u32, free: u32) -> Result<bool, Fail> {
     match comes(alloc, front, None, wanted)? {
         Ok(_) => Ok(false),
@@ -87,7 +87,7 @@ fn is_refused(alloc: Global, front: &[u8; 8], wanted: u32, free: u32) -> Result<
 /// Blocks 0 to 41 are marked, 42 to 57 free.
 const NEW: [u8; 8] = [0xff, 0xff, 0xff, 0xff, 0xff, 0xc0, 0, 0];
 
-/// All 58 blocks are marked, and the bits behind them clear.
+/// All 58 blocks are marked, and the bits after them clear.
 const FULL: [u8; 8] = [0xff, 0xff, 0xff, 0xff, 0xff, 0xff, 0xff, 0xc0];
 
 /// Of blocks 42 to 57 these are free: 43, 45, 47, 49, 51.
@@ -125,7 +125,7 @@ fn single_blocks(rt: HostRuntime) -> Result<(), Fail> {
 
 #[test]
 fn the_lowest_run(rt: HostRuntime) -> Result<(), Fail> {
-    // the lowest run that has three; then none that has five: the longest, and of equal ones the lowest
+    // The lowest run that has three; then, since none has five, the longest, and of equal ones the lowest.
     assert!(rt; do_come(rt.alloc(), &RUNS, None, 3, &[(45, 3)])?);
     assert!(rt; do_come(rt.alloc(), &RUNS, None, 5, &[(45, 4), (50, 1)])?);
     Ok(())
@@ -133,7 +133,7 @@ fn the_lowest_run(rt: HostRuntime) -> Result<(), Fail> {
 
 #[test]
 fn after_the_last_block(rt: HostRuntime) -> Result<(), Fail> {
-    // those directly after the last block first, and then the lowest run that has the rest
+    // Those directly after the last block first, and then the lowest run that has the rest.
     assert!(rt; do_come(rt.alloc(), &RUNS, Some(50), 5, &[(50, 4), (42, 1)])?);
     assert!(rt; do_come(rt.alloc(), &RUNS, Some(57), 9, &[(57, 1), (45, 4), (50, 4)])?);
     Ok(())

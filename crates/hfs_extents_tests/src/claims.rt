@@ -1,4 +1,4 @@
-//! The bits of blocks that come, on a bitmap by hand.
+//! The bits of blocks that are added, on a bitmap by hand.
 
 ghost use Rattle.std.specs.Prelude.{◌≡◌, IfOk, vec_len};
 

@@ -1,10 +1,10 @@
-//! Records that come.
+//! Adding records.
 use crate::trees::{begins_with, counts, empty_tree, put, put_run};
 use hfs_extents_edits::extents_need;
 use std::alloc::Global;
 use std::test::Fail;
 
-/// Two records of two files in a tree of two nodes: the second wants none.
+/// Two records of two files in a tree of two nodes: the second needs none.
 #[test]
 fn the_first_leaf(rt: HostRuntime) -> Result<(), Fail> {
     let alloc = rt.alloc();
@@ -18,7 +18,7 @@ fn the_first_leaf(rt: HostRuntime) -> Result<(), Fail> {
     Ok(())
 }
 
-/// What a tree of four nodes is with so many records of a file.
+/// What a tree of four nodes is with this many records of a file.
 fn grown(alloc: Global, count: u16) -> Result<Option<(u16, u32, u32)>, Fail> {
     let mut nodes = empty_tree(alloc, 4)?;
     put_run(alloc, &mut nodes, 16, count)?;

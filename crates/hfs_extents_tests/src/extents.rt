@@ -1,4 +1,4 @@
-//! The extents of a fork that loses blocks, and of one to which blocks come.
+//! The extents of a fork that loses blocks, and of one to which blocks are added.
 
 ghost use Rattle.std.specs.Prelude.{◌<◌, IsTrue, ◌↔◌};
 ghost use Rattle.std.specs.List.{All};
@@ -37,7 +37,7 @@ fn the_first_blocks(rt: HostRuntime) -> Result<(), Fail> {
     Ok(())
 }
 
-/// The blocks behind the first `count` of that record.
+/// The blocks after the first `count` of that record.
 fn behind(alloc: Global, count: u32) -> Result<Vec<Extent>, AllocError> {
     if !are_within(&RECORD, 65_535) {
         return Ok(Vec::new(alloc));
@@ -62,7 +62,7 @@ fn have_blocks(extents: &[Extent]) -> bool
     extents.iter().all(|extent| extent.count > 0)
 }
 
-/// These extents with these pieces, whose blocks are among a volume's.
+/// These extents with these pieces, whose blocks are within a volume's.
 fn with(alloc: Global, extents: &[Extent], pieces: &[Extent]) -> Result<Vec<Extent>, Fail> {
     if !have_blocks(pieces) || !are_within(pieces, 65_535) {
         return Err(Fail::new("no pieces"));
@@ -72,8 +72,8 @@ fn with(alloc: Global, extents: &[Extent], pieces: &[Extent]) -> Result<Vec<Exte
     Ok(all)
 }
 
-/// A piece that begins directly after the last block lengthens its extent; any other comes to the next place, which keeps its
-/// bytes until then.
+/// A piece that begins directly after the last block lengthens its extent; any other takes the next place, which keeps its bytes
+/// until then.
 #[test]
 fn pieces_in_the_record(rt: HostRuntime) -> Result<(), Fail> {
     let alloc = rt.alloc();

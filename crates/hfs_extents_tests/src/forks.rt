@@ -25,7 +25,7 @@ fn cut_from(
 }
 
 /// Four records of a data fork and one of another file's: cutting the resource fork leaves all, cutting the data fork at its
-/// block 9 the first two and the other file's.
+/// block 9 leaves the first two and the other file's.
 #[test]
 fn the_records_of_one_fork(rt: HostRuntime) -> Result<(), Fail> {
     let alloc = rt.alloc();

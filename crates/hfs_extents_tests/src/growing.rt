@@ -37,7 +37,7 @@ fn have_blocks(pieces: &[Extent]) -> bool
     pieces.iter().all(|piece| piece.count > 0)
 }
 
-/// How many blocks extents have; 65,536 where there are more than 65,535.
+/// How many blocks extents have; 65,536 if there are more than 65,535.
 fn blocks_of(extents: &[Extent]) -> u32
     ensures { result ≤ 65535 → block_total extents.now ≡ result }
 {
@@ -59,7 +59,7 @@ fn are_few(extents: &[Extent], pieces: &[Extent]) -> bool
     all <= 65_535
 }
 
-/// Lengthens the data fork of a file in a sound tree. An error where one of the conditions isn't met.
+/// Lengthens the data fork of a file in a sound tree. An error if one of the conditions isn't met.
 fn grow(
     alloc: Global,
     nodes: &mut NodeTable,
@@ -95,7 +95,7 @@ fn has_none(alloc: Global, nodes: &NodeTable, file: u32) -> bool
     read_header(nodes).depth == 0
 }
 
-/// Leaves the data fork of a file in a sound tree its first blocks. An error where one of the conditions isn't met.
+/// Cuts the data fork of a file in a sound tree to its first blocks. An error if one of the conditions isn't met.
 fn shrink(
     alloc: Global,
     nodes: &mut NodeTable,
@@ -116,7 +116,7 @@ fn shrink(
     Ok(short)
 }
 
-/// Single blocks, each second one from `first` on.
+/// Single blocks, every second one from `first` on.
 fn singles(alloc: Global, first: u16, count: u16) -> Result<Vec<Extent>, Fail> {
     let mut pieces = Vec::new(alloc);
     for i in 0..count {
@@ -125,7 +125,7 @@ fn singles(alloc: Global, first: u16, count: u16) -> Result<Vec<Extent>, Fail> {
     Ok(pieces)
 }
 
-/// Gives file 16, which has no block, so many single blocks from 43 on, in an empty tree.
+/// Gives file 16, which has no blocks, this many single blocks from 43 on, in an empty tree.
 fn begin(
     alloc: Global,
     nodes: &mut NodeTable,
@@ -141,7 +141,7 @@ fn begin(
     grow(alloc, nodes, 16, &no_extents(), &pieces)
 }
 
-/// Whether a record of file 16 stands in the tree for this block, with this body.
+/// Whether there is a record of file 16 in the tree for this block, with this body.
 fn has_body(alloc: Global, nodes: &NodeTable, block: u16, body: &[u8; 12]) -> Result<bool, Fail> {
     let Ok(_) = check_tree::<ExtKey, NodeTable>(alloc, nodes, nodes.size()) else {
         return Ok(false);
@@ -163,7 +163,7 @@ fn as_many_as_fit(rt: HostRuntime) -> Result<(), Fail> {
     Ok(())
 }
 
-/// 70 want 23 records, for which three free nodes are too few: the tree stays as it was.
+/// 70 need 23 records, for which three free nodes are too few: the tree stays as it was.
 #[test]
 fn one_too_many(rt: HostRuntime) -> Result<(), Fail> {
     let alloc = rt.alloc();
@@ -175,7 +175,7 @@ fn one_too_many(rt: HostRuntime) -> Result<(), Fail> {
     Ok(())
 }
 
-/// The record after the 22nd comes to a second leaf, with a root above both.
+/// The record after the 22nd goes into a second leaf, with a root above both.
 #[test]
 fn one_more(rt: HostRuntime) -> Result<(), Fail> {
     let alloc = rt.alloc();
@@ -188,7 +188,7 @@ fn one_more(rt: HostRuntime) -> Result<(), Fail> {
     Ok(())
 }
 
-/// Five single blocks: three in the file's own record, two in one of the tree, which goes with them.
+/// Five single blocks: three in the file's own record, two in one of the tree, which is removed with them.
 #[test]
 fn a_record_comes_and_goes(rt: HostRuntime) -> Result<(), Fail> {
     let alloc = rt.alloc();
@@ -205,7 +205,7 @@ fn a_record_comes_and_goes(rt: HostRuntime) -> Result<(), Fail> {
     Ok(())
 }
 
-/// The fork of five single blocks, and then a piece that joins the last one, and two more: the first of them has the last place
+/// The fork of five single blocks, and then a piece that joins the last one, and two more: the first of them takes the last place
 /// of the record, the other begins one for the fork's block 8.
 fn with_two_records(alloc: Global, nodes: &mut NodeTable) -> Result<[Extent; 3], Fail>
     ensures { IfOk result (λ extents. IsWhole 16 0 extents nodes.new.nodes.items) }

@@ -1,4 +1,4 @@
-//! Records that leave, and one that changes.
+//! Removing records, and changing one.
 
 ghost use Rattle.hfs_space.specs.TreeKeys.{IsExtentsTree};
 
@@ -20,8 +20,8 @@ fn cut(alloc: Global, nodes: &mut NodeTable, file: u32, block: u16) -> Result<()
     Ok(())
 }
 
-/// The records of a fork between others go from a block on, and then the rest: the other files' stay, each in a leaf of its own,
-/// since leaves aren't joined.
+/// The records of a fork between others are removed from a block on, and then the rest: the other files' stay, each in a leaf of
+/// its own, since leaves aren't joined.
 #[test]
 fn the_end_of_a_fork(rt: HostRuntime) -> Result<(), Fail> {
     let alloc = rt.alloc();
@@ -37,7 +37,7 @@ fn the_end_of_a_fork(rt: HostRuntime) -> Result<(), Fail> {
     Ok(())
 }
 
-/// Whether the tree is as it was before any record came.
+/// Whether the tree is as it was before any record was added.
 #[test]
 fn the_empty_tree_again(rt: HostRuntime) -> Result<(), Fail> {
     let alloc = rt.alloc();
@@ -50,7 +50,7 @@ fn the_empty_tree_again(rt: HostRuntime) -> Result<(), Fail> {
     Ok(())
 }
 
-/// Gives a record of a sound tree this body, and answers whether it has it then.
+/// Gives a record of a sound tree this body, and returns whether it then has it.
 fn change_sound(
     alloc: Global,
     nodes: &mut NodeTable,

@@ -1,5 +1,5 @@
-//! Tests of forks that grow and shrink, on blocks by hand: records that come to small extents trees and leave them, with all checks
-//! of the tree after each; which blocks come, their bits, the extents, and the bytes and zeros over them.
+//! Tests of forks that grow and shrink, on blocks by hand: records that are added to small extents trees and removed from them,
+//! with all checks of the tree after each; which blocks are added, their bits, the extents, and the bytes and zeros over them.
 #![tactic(auto)]
 
 #[cfg(test)]

@@ -19,7 +19,7 @@ pub fn key_of(file: u32, block: u16) -> ExtKey {
     }
 }
 
-/// The header node of an empty tree of so many nodes, at most 8: all but itself are free.
+/// The header node of an empty tree of this many nodes, at most 8: all except itself are free.
 fn header_node(nodes: u8) -> [u8; 512] {
     let mut bytes = [0; 512];
     bytes[8..12].copy_from_slice(&[1, 0, 0, 3]);
@@ -33,7 +33,7 @@ fn header_node(nodes: u8) -> [u8; 512] {
     bytes
 }
 
-/// An empty tree of so many nodes, at most 8.
+/// An empty tree of this many nodes, at most 8.
 pub fn empty_tree(alloc: Global, count: u8) -> Result<NodeTable, Fail> {
     let mut nodes = Vec::new(alloc);
     nodes.push(header_node(count))?;
@@ -46,7 +46,7 @@ pub fn empty_tree(alloc: Global, count: u8) -> Result<NodeTable, Fail> {
     Ok(made)
 }
 
-/// Puts a record with this key, and a body of zeros, into a sound tree. An error where one of the conditions isn't met.
+/// Adds a record with this key, and a body of zeros, to a sound tree. An error if one of the conditions isn't met.
 fn add_sound(alloc: Global, nodes: &mut NodeTable, key: &ExtKey) -> Result<(), Fail>
     requires { IsExtentsTree nodes.old.nodes.items }
 {
@@ -65,7 +65,7 @@ fn add_sound(alloc: Global, nodes: &mut NodeTable, key: &ExtKey) -> Result<(), F
     Ok(())
 }
 
-/// The same of any nodes: an error too where they are no sound tree.
+/// The same for any nodes: also an error if they are no sound tree.
 pub fn put(alloc: Global, nodes: &mut NodeTable, file: u32, block: u16) -> Result<(), Fail> {
     let Ok(_) = check_tree::<ExtKey, NodeTable>(alloc, nodes, nodes.size()) else {
         return Err(Fail::new("not a sound tree"));
@@ -74,7 +74,7 @@ pub fn put(alloc: Global, nodes: &mut NodeTable, file: u32, block: u16) -> Resul
     add_sound(alloc, nodes, &key)
 }
 
-/// Puts so many records of a file into the tree, for each third block from block 3 on.
+/// Adds this many records of a file to the tree, for every third block from block 3 on.
 pub fn put_run(alloc: Global, nodes: &mut NodeTable, file: u32, count: u16) -> Result<(), Fail> {
     for i in 0..count {
         put(alloc, nodes, file, i.wrapping_mul(3).wrapping_add(3))?;
@@ -82,7 +82,7 @@ pub fn put_run(alloc: Global, nodes: &mut NodeTable, file: u32, count: u16) -> R
     Ok(())
 }
 
-/// The levels, free nodes and records of a tree; none where it isn't sound, or an index key isn't its child's first key.
+/// The levels, free nodes and records of a tree; None if it isn't sound, or an index key isn't its child's first key.
 pub fn counts(alloc: Global, nodes: &NodeTable) -> Option<(u16, u32, u32)> {
     let Ok(_) = check_tree::<ExtKey, NodeTable>(alloc, nodes, nodes.size()) else {
         return None;

@@ -1,10 +1,10 @@
-//! What a fork that grows meets want of, by numbers by hand.
+//! What a fork that grows lacks, with numbers by hand.
 use hfs_fork_calls::BlockSize;
 use hfs_fork_wants::{Growth, Supply, blocks_wanted, fork_want};
 use hfs_model::Want;
 use std::test::Fail;
 
-/// Free blocks and nodes, levels and records of a volume, and blocks and records that come to a fork.
+/// The free blocks and nodes, levels and records of a volume, and the blocks and records that are added to a fork.
 fn want(there: (u32, u32, u16, u32), coming: (u32, u32)) -> Option<Want> {
     let supply = Supply {
         blocks: there.0,
@@ -19,7 +19,7 @@ fn want(there: (u32, u32, u16, u32), coming: (u32, u32)) -> Option<Want> {
     fork_want(supply, growth)
 }
 
-/// The free blocks and those that are wanted, where blocks are wanting.
+/// The free blocks and those that are wanted, if blocks are lacking.
 fn room(there: (u32, u32, u16, u32), coming: (u32, u32)) -> Option<(u32, u32)> {
     match want(there, coming) {
         Some(Want::Room { free, wanted }) => Some((free, wanted)),
@@ -27,7 +27,7 @@ fn room(there: (u32, u32, u16, u32), coming: (u32, u32)) -> Option<(u32, u32)> {
     }
 }
 
-/// The free nodes of the extents tree and its levels, where such nodes are wanting.
+/// The free nodes of the extents tree and its levels, if such nodes are lacking.
 fn nodes(there: (u32, u32, u16, u32), coming: (u32, u32)) -> Option<(u32, u32)> {
     match want(there, coming) {
         Some(Want::ExtentNodes { free, depth }) => Some((free, depth)),
@@ -35,7 +35,7 @@ fn nodes(there: (u32, u32, u16, u32), coming: (u32, u32)) -> Option<(u32, u32)> 
     }
 }
 
-/// How many blocks of 512 bytes come to a fork that has so many, and gets so many bytes.
+/// How many blocks of 512 bytes are added to a fork that has this many, and gets this many bytes.
 fn coming(have: u32, length: u32) -> Option<u32> {
     Some(blocks_wanted(BlockSize::new(512)?, have, length))
 }
@@ -48,8 +48,8 @@ fn blocks_that_are_wanted(rt: HostRuntime) -> Result<(), Fail> {
     Ok(())
 }
 
-/// As many blocks as there are; one more; blocks before nodes. Then 70 blocks in as many extents: 23 records fit into no leaf, 22 do,
-/// and one more wants two nodes.
+/// As many blocks as there are; one more; blocks before nodes. Then 70 blocks in as many extents: 23 records don't fit into a
+/// leaf, 22 do, and one more needs two nodes.
 #[test]
 fn what_a_fork_wants(rt: HostRuntime) -> Result<(), Fail> {
     assert!(rt;

@@ -52,7 +52,7 @@ const FORK: [Extent; 2] = [
     },
 ];
 
-/// Writes bytes over the fork from this one on; false where they don't fit.
+/// Writes bytes over the fork from this one on; false if they don't fit.
 fn write_in<B: Blocks>(
     alloc: Global,
     blocks: &B,
@@ -70,7 +70,7 @@ fn write_in<B: Blocks>(
     Ok(true)
 }
 
-/// Zeros over the fork's bytes from this one to its last; nothing where there are none.
+/// Zeros over the fork's bytes from this one to its last; nothing if there are none.
 fn clear_from<B: Blocks>(
     alloc: Global,
     blocks: &B,
@@ -101,8 +101,8 @@ fn over_two_blocks(alloc: Global) -> Result<bool, AllocError> {
     )
 }
 
-/// What of the volume is zeros when the fork's bytes from the sixth on are cleared: of its first block the rest, in a patch,
-/// and its second as a run of zeros, which is in no patch.
+/// What of the volume is zeros when the fork's bytes from the sixth on are cleared: the rest of its first block, in a patch, and
+/// its second as a run of zeros, which is in no patch.
 fn behind_five_bytes(alloc: Global) -> Result<bool, AllocError> {
     let image = sevens(alloc)?;
     let blocks = ImageBytes { bytes: &image };

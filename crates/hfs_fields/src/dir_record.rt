@@ -19,7 +19,7 @@ pub struct DirRecord {
     pub valence: u16,
     /// dirDirID: the folder's ID.
     pub id: u32,
-    /// dirCrDat: when it was made, in seconds since midnight of 1 January 1904.
+    /// dirCrDat: when it was made, in seconds since midnight, 1 January 1904.
     pub created: u32,
     /// dirMdDat: when it was last changed, in the same seconds.
     pub modified: u32,
@@ -37,7 +37,7 @@ impl DirRecord {
     /// How many bytes the record has.
     pub const LENGTH: usize = 70;
 
-    /// The record of a new folder: its ID, `now` as the dates of its making and of its last change, and zeros.
+    /// The record of a new folder: its ID, `now` as the date when it was made and last changed, and zeros.
     #[tactic(auto, unfolding(crate::specs::Records::new_dir))]
     pub fn new(id: u32, now: u32) -> DirRecord
         ensures { result ≡ new_dir id now }
@@ -56,7 +56,7 @@ impl DirRecord {
         }
     }
 
-    /// The record that the bytes begin with. None exactly where they are fewer than 70, or their type is not 1.
+    /// The record that the bytes begin with. None exactly when they are fewer than 70, or their type is not 1.
     #[tactic(auto, unfolding(crate::specs::Records::begins_dir, crate::specs::Records::dir_record_of))]
     pub fn read(bytes: &[u8]) -> Option<DirRecord>
         ensures { SomeIff result (IsTrue (begins_dir bytes.now)) (dir_record_of bytes.now) }
@@ -78,7 +78,7 @@ impl DirRecord {
         })
     }
 
-    /// The record's fields, one behind the other.
+    /// The record's fields, one after the other.
     #[tactic(auto, unfolding(crate::specs::RecordForms::dir_record_bytes))]
     fn laid(&self) -> FieldRow
         ensures bytes { result ≡ dir_record_bytes self.now }

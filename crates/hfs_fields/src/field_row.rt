@@ -1,4 +1,4 @@
-//! The bytes of a record or a block while its fields are laid one behind the other.
+//! The bytes of a record or a block, while its fields are laid one after the other.
 ghost use Rattle.std.specs.Prelude.{◌≡◌, ◌+◌, ◌^◌, ◌<◌, ◌≤◌, ◌↔◌, [], ◌∷◌, ◌++◌, length, replicate, IsTrue};
 ghost use Rattle.byteorder.specs.Endian.{big_bytes};
 ghost use Rattle.hfs_fields.specs.Laid.{with_front};
@@ -6,7 +6,7 @@ ghost use Rattle.hfs_fields.specs.Laid.{with_front};
 use byteorder::{BigEndian, ByteOrder};
 use std::marker::Model;
 
-/// The fields that are laid so far, one behind the other: at most the 512 bytes of a block. It takes no memory.
+/// The fields that have been laid so far, one after the other: at most the 512 bytes of a block. Takes no memory.
 #[derive(Drop)]
 pub struct FieldRow {
     length: usize,
@@ -24,7 +24,7 @@ impl Model for FieldRow {
 }
 
 impl FieldRow {
-    /// A row without a field.
+    /// A row without fields.
     pub fn new() -> FieldRow
         ensures { result ≡ [] }
     {
@@ -34,14 +34,14 @@ impl FieldRow {
         }
     }
 
-    /// How many bytes are laid.
+    /// How many bytes have been laid.
     pub fn len(&self) -> usize
         ensures { result ≡ length self.now }
     {
         self.length
     }
 
-    /// Whether no byte is laid.
+    /// Whether no byte has been laid.
     pub fn is_empty(&self) -> bool
         ensures { IsTrue result ↔ (self.now ≡ []) }
     {
@@ -94,7 +94,7 @@ impl FieldRow {
         self.push(&bytes);
     }
 
-    /// Lays so many zero bytes.
+    /// Lays `count` zero bytes.
     pub fn push_zeros(&mut self, count: usize)
         requires { length self.old + count ≤ 512 }
         ensures bytes { self.new ≡ self.old ++ replicate count 0 }
@@ -113,7 +113,7 @@ impl FieldRow {
         self.push(&fields.bytes[..fields.length]);
     }
 
-    /// Writes what is laid to the beginning of the bytes.
+    /// Writes what has been laid to the beginning of the bytes.
     pub fn copy_to(&self, bytes: &mut [u8])
         requires { length self.now ≤ length bytes.old }
         ensures { bytes.new ≡ with_front self.now bytes.old }
@@ -122,7 +122,7 @@ impl FieldRow {
         bytes[..row.len()].copy_from_slice(row);
     }
 
-    /// The bytes of a block whose fields are all laid.
+    /// The bytes of a block whose fields have all been laid.
     pub fn into_block(self) -> [u8; 512]
         requires { length self ≡ 512 }
         ensures { result ≡ self }

@@ -53,7 +53,7 @@ impl FileFlags {
         self.contains(FileFlags::THREAD_EXISTS)
     }
 
-    /// The flags with the lock as said, and every other bit as it was.
+    /// The flags with the lock set or cleared, and every other bit as it was.
     pub fn with_lock(self, locked: bool) -> FileFlags
         ensures { result.0 ≡ with_bit 0 locked self.0 }
     {
@@ -62,7 +62,7 @@ impl FileFlags {
         flags
     }
 
-    /// The flags with the thread as said, and every other bit as it was.
+    /// The flags with the thread bit set or cleared, and every other bit as it was.
     pub fn with_thread(self, exists: bool) -> FileFlags
         ensures { result.0 ≡ with_bit 1 exists self.0 }
     {

@@ -13,7 +13,7 @@ use bitflags::Flags;
 /// What a file's record has of one fork.
 #[derive(Clone, Copy, Debug, PartialEq, Eq)]
 pub struct ForkRecord {
-    /// filStBlk, filRStBlk: kept, and of no use to this program.
+    /// filStBlk, filRStBlk: kept, and not used by this program.
     pub first_block: u16,
     /// filLgLen, filRLgLen: the logical length, in bytes.
     pub length: u32,
@@ -40,7 +40,7 @@ pub struct FileRecord {
     pub data: ForkRecord,
     /// The resource fork.
     pub resource: ForkRecord,
-    /// filCrDat: when it was made, in seconds since midnight of 1 January 1904.
+    /// filCrDat: when it was made, in seconds since midnight, 1 January 1904.
     pub created: u32,
     /// filMdDat: when it was last changed, in the same seconds.
     pub modified: u32,
@@ -48,14 +48,14 @@ pub struct FileRecord {
     pub backup: u32,
     /// filFndrInfo (FXInfo): what else the Finder keeps.
     pub extended_finder_info: [u8; 16],
-    /// filClpSize: the bytes that the file grows by, 0 where it says nothing.
+    /// filClpSize: how many bytes the file grows by; 0 if the file doesn't say.
     pub clump_size: u16,
     /// filResrv: kept as it is.
     pub reserved_area: [u8; 4],
 }
 
 impl ForkRecord {
-    /// A fork without a byte.
+    /// A fork without bytes.
     pub const EMPTY: ForkRecord = ForkRecord {
         first_block: 0,
         length: 0,
@@ -63,7 +63,7 @@ impl ForkRecord {
         extents: [Extent { first: 0, count: 0 }; 3],
     };
 
-    /// The fork's three numbers, one behind the other.
+    /// The fork's three numbers, one after the other.
     fn laid(&self) -> FieldRow
         ensures bytes { result ≡ fork_bytes self.now }
         ensures length { length result ≡ 10 }
@@ -97,8 +97,8 @@ impl FileRecord {
     /// How many bytes the record has.
     pub const LENGTH: usize = 102;
 
-    /// The record of a new file: its ID, `now` as the dates of its making and of its last change, the flag of a record
-    /// in use, and zeros.
+    /// The record of a new file: its ID, `now` as the date when it was made and last changed, the flag of a record in use, and
+    /// zeros.
     #[tactic(auto, unfolding(crate::specs::Records::new_file))]
     pub fn new(id: u32, now: u32) -> FileRecord
         ensures { result ≡ new_file id now }
@@ -120,7 +120,7 @@ impl FileRecord {
         }
     }
 
-    /// The record that the bytes begin with. None exactly where they are fewer than 102, or their type is not 2.
+    /// The record that the bytes begin with. None exactly when they are fewer than 102, or their type is not 2.
     #[tactic(auto, unfolding(crate::specs::Records::begins_file, crate::specs::Records::file_record_of))]
     pub fn read(bytes: &[u8]) -> Option<FileRecord>
         ensures { SomeIff result (IsTrue (begins_file bytes.now)) (file_record_of bytes.now) }
@@ -145,7 +145,7 @@ impl FileRecord {
         })
     }
 
-    /// The record's fields, one behind the other.
+    /// The record's fields, one after the other.
     #[tactic(auto, unfolding(crate::specs::RecordForms::file_record_bytes))]
     fn laid(&self) -> FieldRow
         ensures bytes { result ≡ file_record_bytes self.now }

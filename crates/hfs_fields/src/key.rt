@@ -42,7 +42,7 @@ fn characters_at(bytes: &[u8], at: usize) -> &[u8]
     &bytes[start..end]
 }
 
-/// The name at `at`: a length byte, and so many characters. None exactly where the length is above 31.
+/// The name at `at`: a length byte, and that many characters. None exactly when the length is above 31.
 pub(crate) fn name_at(bytes: &[u8], at: usize) -> Option<Name>
     requires length { at < length bytes.now }
     requires characters { HoldsName at bytes.now }
@@ -74,8 +74,8 @@ fn is_body_length(length: usize) -> bool
 }
 
 impl CatKey {
-    /// The key that the bytes begin with. None exactly where the bytes are too few, the name's length is above 31,
-    /// or the key's length has no room for the name or is above 37.
+    /// The key that the bytes begin with. None exactly when the bytes are too few, the name's length is above 31, or the key's
+    /// length has no room for the name or is above 37.
     #[tactic(auto, unfolding(crate::specs::Keys::is_cat_key, crate::specs::Keys::cat_key_of))]
     pub fn read(bytes: &[u8]) -> Option<CatKey>
         ensures { SomeIff result (IsTrue (is_cat_key bytes.now)) (cat_key_of bytes.now) }
@@ -90,8 +90,8 @@ impl CatKey {
         })
     }
 
-    /// The key of a leaf's record and the place where its body begins, counted in bytes from the record's beginning.
-    /// None exactly where the record has no such key or no body of a thread, a directory or a file.
+    /// The key of a leaf's record and the place where its body begins, counted in bytes from the record's beginning. None exactly
+    /// when the record has no such key or no body of a thread, a directory or a file.
     #[tactic(auto, unfolding(crate::specs::Keys::is_cat_leaf, crate::specs::Keys::is_cat_key, crate::specs::Keys::cat_body_start))]
     pub fn read_leaf(bytes: &[u8]) -> Option<(CatKey, usize)>
         ensures key { SomeIff result (IsTrue (is_cat_leaf bytes.now)) (cat_leaf_of bytes.now) }
@@ -105,8 +105,8 @@ impl CatKey {
         Some((key, start))
     }
 
-    /// The key of an index node's record, and the number of the node below it.
-    /// None exactly where the record has not 42 bytes, its key not the length 37, or its name more than 31 characters.
+    /// The key of an index node's record, and the number of the node below it. None exactly when the record isn't 42 bytes long,
+    /// the key's length isn't 37, or the name has more than 31 characters.
     #[tactic(auto, unfolding(crate::specs::Keys::is_cat_index, crate::specs::Keys::cat_child_of))]
     pub fn read_index(bytes: &[u8]) -> Option<(CatKey, u32)>
         ensures { SomeIff result (IsTrue (is_cat_index bytes.now)) (cat_index_of bytes.now) }
@@ -118,7 +118,7 @@ impl CatKey {
         Some((key, u32_at(bytes, 38)))
     }
 
-    /// How many bytes the key takes in a leaf, with the zero byte that may fill it up to an even place.
+    /// How many bytes the key takes in a leaf, including the zero byte that may pad it to an even length.
     pub fn leaf_length(&self) -> usize
         ensures { result ≡ length (cat_leaf_bytes self.now) }
     {
@@ -140,8 +140,8 @@ impl CatKey {
         row
     }
 
-    /// Writes the key as it stands in a leaf: its length is 6 and the name's length, and a zero byte follows where
-    /// the key would end at an odd place.
+    /// Writes the key as it is stored in a leaf: its length is 6 and the name's length, and a zero byte follows if the key would
+    /// end at an odd place.
     pub fn write(&self, bytes: &mut [u8])
         requires { length (cat_leaf_bytes self.now) ≤ length bytes.old }
         ensures written { bytes.new ≡ with_front (cat_leaf_bytes self.now) bytes.old }
@@ -155,8 +155,8 @@ impl CatKey {
         row.copy_to(bytes);
     }
 
-    /// Writes a record of an index node, 42 bytes: the key with the length 37, its name filled up with zero bytes, and
-    /// the number of the node below.
+    /// Writes a record of an index node, 42 bytes: the key with the length 37, its name padded with zero bytes, and the number of
+    /// the node below.
     pub fn write_index(&self, child: u32, bytes: &mut [u8])
         requires { 42 ≤ length bytes.old }
         ensures written { bytes.new ≡ cat_index_record self.now child ++ drop 42 bytes.old }
@@ -193,7 +193,7 @@ impl CatKey {
 }
 
 impl ExtKey {
-    /// The key that the bytes begin with. None exactly where the bytes are fewer than 8, or the key's length is not 7.
+    /// The key that the bytes begin with. None exactly when the bytes are fewer than 8, or the key's length is not 7.
     #[tactic(auto, unfolding(crate::specs::Keys::is_ext_key, crate::specs::Keys::ext_key_of))]
     pub fn read(bytes: &[u8]) -> Option<ExtKey>
         ensures { SomeIff result (IsTrue (is_ext_key bytes.now)) (ext_key_of bytes.now) }
@@ -208,7 +208,7 @@ impl ExtKey {
         })
     }
 
-    /// The key of a leaf's record. None exactly where the record has not 20 bytes, or its key not the length 7.
+    /// The key of a leaf's record. None exactly when the record isn't 20 bytes long, or the key's length isn't 7.
     #[tactic(auto, unfolding(crate::specs::Keys::is_ext_leaf, crate::specs::Keys::is_ext_key))]
     pub fn read_leaf(bytes: &[u8]) -> Option<(ExtKey, usize)>
         ensures key { SomeIff result (IsTrue (is_ext_leaf bytes.now)) (ext_key_of bytes.now, 8) }
@@ -221,8 +221,8 @@ impl ExtKey {
         Some((key, 8))
     }
 
-    /// The key of an index node's record, and the number of the node below it.
-    /// None exactly where the record has not 12 bytes, or its key not the length 7.
+    /// The key of an index node's record, and the number of the node below it. None exactly when the record isn't 12 bytes long,
+    /// or the key's length isn't 7.
     #[tactic(auto, unfolding(crate::specs::Keys::is_ext_index, crate::specs::Keys::ext_child_of))]
     pub fn read_index(bytes: &[u8]) -> Option<(ExtKey, u32)>
         ensures { SomeIff result (IsTrue (is_ext_index bytes.now)) (ext_index_of bytes.now) }

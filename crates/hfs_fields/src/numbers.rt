@@ -24,7 +24,7 @@ pub fn u32_at(bytes: &[u8], at: usize) -> u32
     BigEndian::read_u32(&bytes[at..])
 }
 
-/// Writes the number in the two bytes of a block from `at`, counted from 0, and no other byte.
+/// Writes the number into the two bytes of a block from `at`, counted from 0, and no other byte.
 pub fn put_u16(block: &mut [u8; 512], at: usize, number: u16)
     requires { at ≤ 510 }
     ensures put { IsPut at (big_bytes 2 number) block.old block.new }
@@ -35,7 +35,7 @@ pub fn put_u16(block: &mut [u8; 512], at: usize, number: u16)
     put(block, at, &bytes);
 }
 
-/// Writes the number in the four bytes of a block from `at`, counted from 0, and no other byte.
+/// Writes the number into the four bytes of a block from `at`, counted from 0, and no other byte.
 pub fn put_u32(block: &mut [u8; 512], at: usize, number: u32)
     requires { at ≤ 508 }
     ensures put { IsPut at (big_bytes 4 number) block.old block.new }

@@ -1,4 +1,4 @@
-//! A thread record in the catalog: where an item stands, found by its ID.
+//! A thread record in the catalog: where an item is, found by its ID.
 ghost use Rattle.std.specs.Prelude.{◌≡◌, ◌≤◌, ◌++◌, length, drop, IsTrue};
 ghost use Rattle.std.specs.Option.{SomeIff};
 ghost use Rattle.hfs_fields.specs.Records.{begins_thread, thread_record_of, thread_kind_of, new_thread};
@@ -52,8 +52,8 @@ impl ThreadRecord {
         }
     }
 
-    /// The record that the bytes begin with. None exactly where they are fewer than 46, their type is neither 3 nor 4,
-    /// or the name's length is above 31.
+    /// The record that the bytes begin with. None exactly when they are fewer than 46, their type is neither 3 nor 4, or the
+    /// name's length is above 31.
     #[tactic(auto, unfolding(crate::specs::Records::begins_thread, crate::specs::Records::thread_record_of))]
     pub fn read(bytes: &[u8]) -> Option<ThreadRecord>
         ensures { SomeIff result (IsTrue (begins_thread bytes.now)) (thread_record_of bytes.now) }
@@ -71,7 +71,7 @@ impl ThreadRecord {
         })
     }
 
-    /// The record's fields, one behind the other.
+    /// The record's fields, one after the other.
     #[tactic(auto, unfolding(crate::specs::RecordForms::thread_record_bytes))]
     fn laid(&self) -> FieldRow
         ensures bytes { result ≡ thread_record_bytes self.now }
@@ -89,7 +89,7 @@ impl ThreadRecord {
         row
     }
 
-    /// Writes the record's 46 bytes, the name filled up with zero bytes.
+    /// Writes the record's 46 bytes, with the name padded with zero bytes.
     pub fn write(&self, bytes: &mut [u8])
         requires { 46 ≤ length bytes.old }
         ensures written { bytes.new ≡ thread_record_bytes self.now ++ drop 46 bytes.old }

@@ -1,5 +1,5 @@
-//! The system's files, as words that write use them: new ones, whose bytes are known by what was done with them, and looks at ones that
-//! are read, behind the last read too.
+//! The system's files, as words that write use them: new ones, whose bytes are known by what was done with them, and looks at
+//! files that are read, even after the last read.
 #![tactic(auto)]
 
 mod looks;

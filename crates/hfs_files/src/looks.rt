@@ -1,4 +1,4 @@
-//! Looks at a file, beside which it is read.
+//! Looks at a file while it is being read.
 ghost use Rattle.std.specs.Prelude.{◌≡◌, IfOk, OnOk};
 ghost use Rattle.hfs_files.specs.Looks.{HasTold};
 ghost use Rattle.hfs_files.specs.declared.stamp.Stamp.{Stamp};
@@ -11,23 +11,23 @@ use std::snapshot::Snapshot;
 
 /// What looks at a file, which is read as an `R`.
 pub trait Looks<R> {
-    /// What the first look told, which was made before the file was read.
+    /// What the first look found, which was made before the file was read.
     ghost first: { Self → Stamp };
 
-    /// The last thing that was done with the file, read as far as it is here, is a look, and it told this.
+    /// The last thing that was done with the file, read this far, is a look, and it found this.
     ghost told: { Self → R → Stamp → Type 0 };
 
-    /// What the first look told.
+    /// What the first look found.
     fn first(&self) -> Stamp
         ensures { result ≡ first self.now };
 
-    /// Looks at the file, as far as it was read.
+    /// Looks at the file, read this far.
     fn look(&mut self, file: &R) -> io::Result<Stamp>
         ensures told { IfOk result (told self.new file.now) }
         ensures first { first self.new ≡ first self.old };
 }
 
-/// Looks whether a file is as the first look found it. Error: it isn't, or that can't be told.
+/// Checks that a file is as the first look found it. Error: it isn't, or that can't be checked.
 pub fn look_again<R, L: Looks<R>>(looks: &mut L, file: &R) -> io::Result<()>
     ensures settled { OnOk result (L.told looks.new file.now (L.first looks.new)) }
     ensures first { L.first looks.new ≡ L.first looks.old }
@@ -43,13 +43,13 @@ pub fn look_again<R, L: Looks<R>>(looks: &mut L, file: &R) -> io::Result<()>
 /// A look at a file.
 #[derive(Drop)]
 struct LastLook<R> {
-    /// The file, as far as it was read.
+    /// The file, read this far.
     at: Snapshot<R>,
     stamp: Stamp,
 }
 
-/// Another handle of a file that was opened, with its first look and its last. That the handle is one of the same file, and that the
-/// system tells how many bytes a file has and when it was changed, is trusted, and nothing else.
+/// Another handle to a file that was opened, with its first look and its last. Only this is trusted: that it is a handle to the
+/// same file, and that the system says how many bytes a file has and when it was changed.
 #[derive(Drop)]
 pub struct TrustedLooks<F, R> {
     handle: F,
@@ -58,8 +58,8 @@ pub struct TrustedLooks<F, R> {
 }
 
 impl<F: OpenFile + Drop, R> TrustedLooks<F, R> {
-    /// The first look at a file that was opened, before it is read. Error: there is no other handle of it, or it tells no length and no
-    /// time.
+    /// The first look at a file that was opened, before it is read. Error: there can be no other handle to it, or it has no
+    /// length and no time.
     pub fn open(file: &F) -> io::Result<TrustedLooks<F, R>> {
         let handle = file.try_clone()?;
         let first = Stamp::of(&handle)?;

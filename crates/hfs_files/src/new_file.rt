@@ -12,9 +12,9 @@ use std::fs::OpenFile;
 use std::io;
 use std::io::{Seek, SeekFrom, Write};
 
-/// A file that was just made, with the list of what was done with it. Each step does one thing and notes it. That the system goes
-/// where it is told, writes there what it says it has written, has zeros where nothing was written, and gives a file the length that
-/// is asked for, is trusted, and nothing else.
+/// A file that was just made, with the list of what was done with it. Each step does one thing and notes it. Only this is
+/// trusted: that the system goes where it is told to, writes there what it says it has written, has zeros where nothing was
+/// written, and gives a file the length that is asked for.
 #[derive(Drop)]
 pub struct TrustedNewFile<F> {
     file: F,
@@ -22,7 +22,7 @@ pub struct TrustedNewFile<F> {
 }
 
 impl<F> TrustedNewFile<F> {
-    /// A file that was just made: it has no byte, and stands at its beginning.
+    /// A file that was just made: it is empty, and stands at its beginning.
     pub fn new(file: F) -> TrustedNewFile<F>
         ensures new { result.log.steps ≡ [] }
         ensures file { result.file ≡ file }
@@ -31,7 +31,7 @@ impl<F> TrustedNewFile<F> {
         TrustedNewFile { file, log }
     }
 
-    /// The file, to ask the system for what changes none of its bytes.
+    /// The file, to ask the system for things that change none of its bytes.
     pub fn file(&self) -> &F
         ensures { result.now ≡ self.now.file }
     {

@@ -1,4 +1,4 @@
-//! Writers of new files, which may leave zeros out, so that they stay holes.
+//! Writers of new files, which may leave zeros out so that they become holes.
 ghost use Rattle.std.specs.Prelude.{◌≡◌, [], length, replicate, IfOk, OnErr, OnOk, Some};
 ghost use Rattle.std.specs.Io.KnownBytes.{Appends, Keeps, WriteAppends};
 ghost use Rattle.std.specs.Io.{WritesAtMost};
@@ -11,7 +11,7 @@ use std::marker::Model;
 /// The most bytes that are looked at at once.
 const MOST_AT_ONCE: usize = 65_536;
 
-/// The largest of these bytes; 0 where there is none.
+/// The largest of these bytes; 0 if there is none.
 fn largest_of(bytes: &[u8]) -> u8
     ensures { result ≡ 0 → bytes.now ≡ replicate (length bytes.now) 0 }
 {
@@ -22,16 +22,16 @@ fn largest_of(bytes: &[u8]) -> u8
     largest
 }
 
-/// Writes a new file from its beginning on. It is known by the bytes that it was given; the file has them all once it was given its
-/// length by [`NewFileWriter::end`].
+/// Writes a new file from its beginning on. It is known by the bytes that it was given; the file has all of them once it was
+/// given its length by [`NewFileWriter::end`].
 #[derive(Drop)]
 pub struct NewFileWriter<P: PlacedWriter> {
     target: P,
-    /// Whether up to 65,536 bytes that are zeros alone are left out, and stay a hole.
+    /// Whether up to 65,536 bytes that are all zeros are left out, as a hole.
     leaves_holes: bool,
-    /// How many bytes there are, with those that were left out.
+    /// How many bytes there are, including those that were left out.
     len: u64,
-    /// Whether the file may stand elsewhere than behind all bytes: the last of them were left out, or a step failed.
+    /// Whether the file may stand elsewhere than after all bytes: the last ones were left out, or a step failed.
     is_away: bool,
 }
 
@@ -50,7 +50,7 @@ impl<P: PlacedWriter> Model for NewFileWriter<P> {
 }
 
 impl<P: PlacedWriter> NewFileWriter<P> {
-    /// A writer of a file that has no byte and stands at its beginning, which may leave holes.
+    /// A writer of an empty file that stands at its beginning, which may leave holes.
     pub fn new(target: P, leaves_holes: bool) -> NewFileWriter<P>
         requires bytes { P.bytes target ≡ Some [] }
         requires place { P.place target ≡ Some 0 }
@@ -64,7 +64,7 @@ impl<P: PlacedWriter> NewFileWriter<P> {
         }
     }
 
-    /// Writes some of these bytes behind what there is, and answers how many.
+    /// Writes some of these bytes after the others, and returns how many.
     fn write_on(&mut self, more: &[u8]) -> io::Result<usize>
         ensures bound { WritesAtMost result more.now }
         ensures bytes { WriteAppends self.old self.new result more.now }
@@ -82,7 +82,7 @@ impl<P: PlacedWriter> NewFileWriter<P> {
         Ok(count)
     }
 
-    /// Goes on behind so many zeros, which are not written.
+    /// Goes on after `count` zeros, which are not written.
     fn leave_out(&mut self, count: usize) -> io::Result<()>
         ensures zeros { OnOk result (Appends self.old self.new (replicate count 0)) }
         ensures kept { OnErr result (Keeps self.old self.new) }
@@ -95,7 +95,7 @@ impl<P: PlacedWriter> NewFileWriter<P> {
         Ok(())
     }
 
-    /// Gives the file its length, with the zeros at its end that were left out. It has all bytes then.
+    /// Gives the file its length, with the zeros at its end that were left out. It then has all bytes.
     pub fn end(self) -> io::Result<P>
     where
         P: Drop,

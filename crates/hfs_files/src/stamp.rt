@@ -5,16 +5,16 @@ use std::fs::OpenFile;
 use std::io;
 use std::os::unix::fs::MetadataExt;
 
-/// How many bytes a file has, and when it was changed last.
+/// How many bytes a file has, and when it was last changed.
 #[derive(Clone, Copy, Debug, Drop)]
 pub struct Stamp {
     /// How many bytes it has.
     pub len: u64,
-    /// When bytes were written last, in seconds since 1970.
+    /// When bytes were last written, in seconds since 1970.
     pub modified: i64,
     /// And how many nanoseconds later.
     pub modified_nanoseconds: i64,
-    /// When these or what is told of the file changed last, which no program can set.
+    /// When these or the file's attributes last changed, which no program can set.
     pub changed: i64,
     /// And how many nanoseconds later.
     pub changed_nanoseconds: i64,

@@ -1,16 +1,16 @@
-//! Images that are looked at again behind the last read.
+//! Images that are looked at again after the last read.
 ghost use Rattle.std.specs.Prelude.{◌≡◌, OnOk};
 ghost use Rattle.hfs_source.specs.Images.{OfEach};
 
 use hfs_sparse::BlockSource;
 use std::io;
 
-/// What can be looked at again behind the last read.
+/// Images that can be looked at again after the last read.
 pub trait Watched: BlockSource {
-    /// The last thing that was done with it is a look, which told what its first look did.
+    /// The last thing that was done with it is a look, which found what its first look found.
     ghost settled: { Self → Type 0 };
 
-    /// Looks whether it is as it was when it was opened. Error: it isn't, or that can't be told.
+    /// Checks that it is as it was when it was opened. Error: it isn't, or that can't be checked.
     fn look_again(&mut self) -> io::Result<()>
         ensures settled { OnOk result (settled self.new) }
         ensures narrows { OfEach (Self.Holds self.new) (Self.Holds self.old) }

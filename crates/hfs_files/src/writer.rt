@@ -6,20 +6,20 @@ ghost use Rattle.hfs_files.specs.Writes.{laid, sized_to};
 
 use std::io;
 
-/// A file that is written at places. What is known of its bytes is what was done with it.
+/// A file that is written at places. Its bytes are known by what was done with it.
 pub trait PlacedWriter {
-    /// Its bytes, where they are known.
+    /// Its bytes, if they are known.
     ghost bytes: { Self → Option (List ℕ) };
 
     /// Where the next write begins, if that is known.
     ghost place: { Self → Option ℕ };
 
-    /// Goes to a place, counted from 0, which may be behind the end.
+    /// Goes to a place, counted from 0, which may be past the end.
     fn go_to(&mut self, target: u64) -> io::Result<()>
         ensures place { OnOk result (place self.new ≡ Some target) }
         ensures bytes { bytes self.new ≡ bytes self.old };
 
-    /// Writes some of these bytes at its place, answers how many, and stands right after them then. At an error none is written.
+    /// Writes some of these bytes at its place, returns how many, and stands right after them. At an error none is written.
     fn write_on(&mut self, more: &[u8]) -> io::Result<usize>
         ensures bound { WritesAtMost result more.now }
         ensures bytes { MatchResult result
@@ -28,7 +28,7 @@ pub trait PlacedWriter {
         ensures place { IfOk result
             (λ n. place self.new ≡ option_map (λ from. from + n) (place self.old)) };
 
-    /// Gives it this length: it is cut, or gets zeros at its end.
+    /// Gives it this length, by cutting it or adding zeros at its end.
     fn set_len(&mut self, len: u64) -> io::Result<()>
         ensures bytes { OnOk result (bytes self.new ≡ option_map (sized_to len) (bytes self.old)) };
 }

@@ -13,15 +13,15 @@ use hfs_sparse::SeenBlocks;
 use std::alloc::Global;
 use std::marker::Brand;
 
-/// What was found of an image, and where its blocks are read from.
+/// What was found of an image, and what its blocks are read from.
 #[derive(Drop)]
 pub(crate) struct SeenFinds<S: PlacedBlocks> {
     pub(crate) source: SeenBlocks<S>,
-    /// What is found of it; None where there is no directory in it.
+    /// What was found; None if the image has no directory.
     pub(crate) found: Option<Finds>,
 }
 
-/// What is found of an image of `len` bytes as [`find_seen`] finds it, where the reads that may fail are picked.
+/// What is found of an image of `len` bytes as by [`find_seen`], with the reads that may fail already picked.
 fn find_picked<K: PickedFailures, S: PlacedBlocks + Drop>(
     alloc: Global,
     source: SeenBlocks<S>,
@@ -51,7 +51,7 @@ fn find_picked<K: PickedFailures, S: PlacedBlocks + Drop>(
     }
 }
 
-/// What is found of an image of `len` bytes, as [`finds_of`] finds it. Errors, with the source back: a read failed, memory was
+/// What is found of an image of `len` bytes, as by [`finds_of`]. Errors, with the source handed back: a read failed, memory was
 /// refused.
 pub(crate) fn find_seen<S: PlacedBlocks + Drop>(
     alloc: Global,

@@ -39,7 +39,7 @@ fn is_unsure<B: Blocks>(blocks: &B, mdb: &Mdb) -> bool
     !tree_begins(blocks, mdb, &mdb.extents_file) && !tree_begins(blocks, mdb, &mdb.catalog_file)
 }
 
-/// Whether the catalog is right, whose file has these blocks, where these are the records of the extents tree.
+/// Whether the catalog whose file has these blocks is right, given the records of the extents tree.
 fn is_right<B: Blocks>(
     alloc: Global,
     blocks: &B,
@@ -98,8 +98,8 @@ pub(crate) fn finds_by<B: Blocks>(
     })
 }
 
-/// What is found of an image by the block that is taken for its directory; None where no block will do, or the image has fewer than
-/// 1,536 bytes or more than 2,147,483,648. The only error is want of memory.
+/// What is found of an image by the block that is taken for its directory. None if no block will do, or if the image has fewer
+/// than 1,536 bytes or more than 2,147,483,648. Fails only when out of memory.
 pub fn find_in(alloc: Global, image: &[u8]) -> Result<Option<Finds>, AllocError>
     ensures { IfOk result (IsFoundIn image.now) }
 {

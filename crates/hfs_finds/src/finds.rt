@@ -13,21 +13,21 @@ pub struct Finds {
     pub directory: u32,
     /// The directory.
     pub mdb: Mdb,
-    /// Whether neither tree begins where it says.
+    /// Whether neither tree begins where the directory says.
     pub is_unsure: bool,
     /// How many logical blocks the image has.
     pub total: u32,
     /// The records of the extents tree.
     pub overflow: Vec<OverflowRecord>,
-    /// The allocation blocks of the extents file in order, None in the place of each that is missing.
+    /// The allocation blocks of the extents file, in order, with None in place of each that is missing.
     pub extents_file: Vec<Option<u16>>,
-    /// Those of the catalog file.
+    /// The allocation blocks of the catalog file, likewise.
     pub catalog_file: Vec<Option<u16>>,
-    /// Whether the catalog has its shape, and in each record one of the four kinds.
+    /// Whether the catalog has its shape, and each of its records is of one of the four kinds.
     pub is_catalog_right: bool,
-    /// The items, in their order.
+    /// The items, in order.
     pub items: Vec<FoundRecord>,
-    /// Where they lie, and behind them the folders that only threads name.
+    /// Where the items lie, and after them the folders that only threads name.
     pub places: Places,
     ghost within: { directory < total },
     ghost size: { 512 ≤ mdb.allocation_block_size },

@@ -26,7 +26,7 @@ fn add_few_zeros(digest: &mut DigestWriter, count: u32)
     digest.add(&zeros[..count as usize]);
 }
 
-/// Adds so many zeros.
+/// Adds `count` zeros.
 fn add_zeros(digest: &mut DigestWriter, count: u32)
     ensures { digest.new ≡ digest.old ++ replicate count 0 }
 {
@@ -38,7 +38,7 @@ fn add_zeros(digest: &mut DigestWriter, count: u32)
     }
 }
 
-/// Adds so many bytes of an image from a block on, by one read.
+/// Adds bytes of an image, starting at a block, with one read.
 fn add_piece<S: PlacedBlocks>(
     source: &mut S,
     digest: &mut DigestWriter,
@@ -59,7 +59,7 @@ fn add_piece<S: PlacedBlocks>(
     Ok(())
 }
 
-/// Adds so many bytes of an image from a block on.
+/// Adds bytes of an image, starting at a block.
 fn add_bytes<S: PlacedBlocks>(
     source: &mut S,
     digest: &mut DigestWriter,
@@ -82,7 +82,7 @@ fn add_bytes<S: PlacedBlocks>(
     Ok(())
 }
 
-/// Adds the first bytes of an allocation block of an image of `total` logical blocks, so many.
+/// Adds the first bytes of an allocation block, in an image of `total` logical blocks.
 fn add_block<S: PlacedBlocks>(
     source: &mut S,
     digest: &mut DigestWriter,
@@ -103,7 +103,7 @@ fn add_block<S: PlacedBlocks>(
     Ok(())
 }
 
-/// Adds the first bytes of the block at a place of a fork, so many: zeros where it is missing.
+/// Adds the first bytes of the block at a place of a fork: zeros if it is missing.
 fn add_place<S: PlacedBlocks>(
     source: &mut S,
     digest: &mut DigestWriter,
@@ -126,7 +126,7 @@ fn add_place<S: PlacedBlocks>(
     }
 }
 
-/// Adds so many bytes of a fork in these blocks.
+/// Adds the first bytes of a fork in these blocks.
 fn add_fork<S: PlacedBlocks>(
     source: &mut S,
     digest: &mut DigestWriter,
@@ -148,7 +148,7 @@ fn add_fork<S: PlacedBlocks>(
     Ok(())
 }
 
-/// The SHA-256 digest of the bytes of a fork of an image of `total` logical blocks: zeros in the place of each block that is missing. Its
+/// The SHA-256 digest of a fork's bytes, in an image of `total` logical blocks, with zeros in place of each missing block. Its
 /// blocks are read once, and nothing is held. Error: a read failed, or a block lies outside the image.
 pub fn fork_digest<S: PlacedBlocks>(
     source: &mut S,

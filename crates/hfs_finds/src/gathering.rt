@@ -27,11 +27,11 @@ use std::alloc::{AllocError, Global};
 pub(crate) struct Gathered {
     /// The blocks that were read.
     pub(crate) read: SparseBlocks,
-    /// The block of the directory; None where other blocks are wanted.
+    /// The block of the directory; None if other blocks are wanted.
     pub(crate) directory: Option<u32>,
 }
 
-/// Reads the block in which a tree begins whose file has these extents, where it is there.
+/// Reads the block where the tree whose file has these extents begins, if it is there.
 #[tactic(auto, using(hfs_sparse::proofs::Seen::sees_itself))]
 fn fetch_beginning<S: BlockSource>(
     source: &mut S,
@@ -53,7 +53,7 @@ fn fetch_beginning<S: BlockSource>(
     Ok(())
 }
 
-/// Reads the blocks that tell whether block `n` serves for a directory.
+/// Reads the blocks that say whether block `n` can serve as a directory.
 fn fetch_place<S: BlockSource>(
     source: &mut S,
     read: &mut SparseBlocks,
@@ -73,7 +73,7 @@ fn fetch_place<S: BlockSource>(
     Ok(())
 }
 
-/// Reads the blocks that tell which of the two blocks serves in which a directory belongs.
+/// Reads the blocks that say which of a directory's two places has one that can serve.
 fn fetch_places<S: BlockSource>(
     source: &mut S,
     read: &mut SparseBlocks,
@@ -100,7 +100,7 @@ fn has_block(place: Option<u16>, b: u64) -> bool
     }
 }
 
-/// How many places of a file from place `i` on, at least that one, have blocks that follow each other, the first of which is `b`.
+/// How many places of a file from place `i` on, at least that one, have blocks that follow each other, starting with `b`.
 fn side_by_side(file: &[Option<u16>], i: usize, b: u16) -> usize
     requires { slice_index_or file.now i None ≡ Some b }
     ensures few { (1 ≤ result) × (i + result ≤ length file.now) }
@@ -116,7 +116,8 @@ fn side_by_side(file: &[Option<u16>], i: usize, b: u16) -> usize
     k
 }
 
-/// Reads the allocation block at place `i` of a file, and with it those at the places behind it that follow it. How many places they have.
+/// Reads the allocation block at place `i` of a file, and with it those at the next places as long as they follow it. Returns how
+/// many places these are.
 #[tactic(auto, using(hfs_sparse::proofs::Seen::sees_itself))]
 fn fetch_from<S: BlockSource>(
     source: &mut S,
@@ -148,7 +149,7 @@ fn fetch_from<S: BlockSource>(
     Ok(step)
 }
 
-/// Reads the allocation blocks of a file that are there, those that follow each other together.
+/// Reads those allocation blocks of a file that are there; blocks that follow each other are read together.
 #[tactic(auto, using(hfs_sparse::proofs::Seen::sees_itself))]
 fn fetch_file<S: BlockSource>(
     source: &mut S,
@@ -171,7 +172,7 @@ fn fetch_file<S: BlockSource>(
     Ok(())
 }
 
-/// All extents of the catalog file, where the extents file has these blocks.
+/// All extents of the catalog file, given the blocks of the extents file.
 fn extents_of<B: Blocks>(
     alloc: Global,
     blocks: &B,
@@ -191,7 +192,7 @@ fn extents_of<B: Blocks>(
     Ok(extents)
 }
 
-/// Reads the blocks of the extents file. All extents of the catalog file.
+/// Reads the blocks of the extents file, and returns all extents of the catalog file.
 #[tactic(auto, using(hfs_sparse::proofs::Seen::sees_itself))]
 fn fetch_extents<S: BlockSource>(
     alloc: Global,
@@ -220,7 +221,7 @@ fn fetch_extents<S: BlockSource>(
     }
 }
 
-/// Whether other blocks of the image than the catalog file's are looked at, whose extents and blocks these are.
+/// Whether blocks of the image other than the catalog file's are looked at, given the file's extents and blocks.
 fn is_elsewhere(
     alloc: Global,
     read: &SparseBlocks,
@@ -244,7 +245,7 @@ fn is_elsewhere(
     Ok(elsewhere)
 }
 
-/// Reads the blocks of both trees' files. Whether other blocks are looked at.
+/// Reads the blocks of both trees' files, and returns whether other blocks are looked at.
 fn fetch_files<S: BlockSource>(
     alloc: Global,
     source: &mut S,
@@ -272,15 +273,15 @@ fn fetch_files<S: BlockSource>(
     }
 }
 
-/// The directory, where no other blocks are looked at.
+/// The directory, if no other blocks are looked at.
 fn unless(elsewhere: bool, directory: u32) -> Option<u32>
     ensures { result ≡ (if elsewhere then None else Some directory) }
 {
     if elsewhere { None } else { Some(directory) }
 }
 
-/// Reads the blocks of an image of `count` blocks that are needed to find what there is of it: those that tell which of the two blocks
-/// serves in which a directory belongs, and by that one those of both trees' files. Errors: a read failed, memory was refused.
+/// Reads those blocks of an image of `count` blocks that are needed to find what there is of it: those that say which of a
+/// directory's two places has one that can serve, and then those of both trees' files. Errors: a read failed, memory was refused.
 pub(crate) fn gather<S: BlockSource>(
     alloc: Global,
     source: &mut S,

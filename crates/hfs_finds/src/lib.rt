@@ -1,4 +1,4 @@
-//! What is found of a damaged image: by its directory its items with their places, and the bytes of their forks.
+//! What is found of a damaged image: its items, by its directory, with their places and the bytes of their forks.
 #![tactic(auto)]
 
 mod again;

@@ -1,4 +1,4 @@
-//! A look at an image: it is sound and opened, or it is refused, and what there is of it is found.
+//! A look at an image: it is sound and opened, or it is refused and what there is of it is found.
 ghost use Rattle.std.specs.Prelude.{◌≡◌, ◌≤◌, ◌⊎◌, IfErr, IfOk, IfSome};
 ghost use Rattle.hfs_finds.specs.Looks.{AreFindsOfEach, HasFault, IsRefusedAs};
 ghost use Rattle.hfs_check.specs.Report.{report_of};
@@ -17,7 +17,8 @@ use hfs_source::PlacedBlocks;
 use hfs_sparse::{BlockSource, SeenBlocks, SparseFault};
 use std::alloc::Global;
 
-/// What is found of an image of `len` bytes, all of which are read at once, and let go. Errors: a read failed, memory was refused.
+/// What is found of an image of `len` bytes, all of which are read at once and then let go. Errors: a read failed, memory was
+/// refused.
 #[tactic(auto, using(crate::proofs::LookLemmas::all_found))]
 fn find_by_all<S: BlockSource>(
     alloc: Global,
@@ -40,8 +41,8 @@ fn find_by_all<S: BlockSource>(
     }
 }
 
-/// What is found of an image of `len` bytes, by the blocks that are needed for that, or by all of them, where others are wanted. None
-/// where there is no directory in it. Errors: a read failed, memory was refused.
+/// What is found of an image of `len` bytes, from the blocks that are needed for that, or from all blocks if others are wanted.
+/// None if the image has no directory. Errors: a read failed, memory was refused.
 pub fn finds_of<S: BlockSource>(
     alloc: Global,
     source: &mut S,
@@ -65,7 +66,7 @@ pub fn finds_of<S: BlockSource>(
 pub struct Unlooked<S: PlacedBlocks> {
     /// A read failed, or memory was refused.
     pub fault: SparseFault,
-    /// The source, of which some was read.
+    /// The source, a part of which was read.
     pub source: SeenBlocks<S>,
 }
 
@@ -100,7 +101,7 @@ fn refused_image<S: PlacedBlocks + Drop>(
     })
 }
 
-/// What there is of an image of `len` bytes that was not opened, where it is refused.
+/// What there is of an image of `len` bytes that was not opened, if it is refused.
 fn unopened_image<S: PlacedBlocks + Drop>(
     alloc: Global,
     back: Unopened<S>,
@@ -135,8 +136,8 @@ fn unopened_image<S: PlacedBlocks + Drop>(
     }
 }
 
-/// Looks at an image: reads the needed blocks and makes all checks, and gives it opened; or where it is refused, what there is of it, which is
-/// found in the blocks of the same source. Errors: a read failed, memory was refused.
+/// Looks at an image: reads the needed blocks, makes all checks, and returns it opened; or, if it is refused, what there is of
+/// it, found in the blocks of the same source. Errors: a read failed, memory was refused.
 pub fn look<S: PlacedBlocks + Drop>(
     alloc: Global,
     source: SeenBlocks<S>,
@@ -161,8 +162,8 @@ pub fn look<S: PlacedBlocks + Drop>(
     }
 }
 
-/// As [`look`], and gives of a sound image the report as well, which its checks make at once. Errors, with the source back: a read failed, memory
-/// was refused.
+/// As [`look`], but for a sound image also returns the report, which its checks make at the same time. Errors, with the source
+/// handed back: a read failed, memory was refused.
 pub fn look_reported<S: PlacedBlocks + Drop>(
     alloc: Global,
     source: SeenBlocks<S>,

@@ -1,4 +1,4 @@
-//! Finding what there is of an image, of which only the blocks are read that are needed.
+//! Finding what there is of an image from the needed blocks alone.
 ghost use Rattle.std.specs.Prelude.{◌≡◌, IfOk};
 ghost use Rattle.hfs_source.specs.Images.{OfEach};
 ghost use Rattle.hfs_sparse.specs.Seen.{EachKnown};
@@ -11,19 +11,20 @@ use hfs_rescue::read_mdb_at;
 use hfs_sparse::{BlockSource, SparseFault};
 use std::alloc::Global;
 
-/// What is found of an image by the blocks that are needed for it.
+/// What is found of an image from the blocks that are needed for it.
 #[derive(Drop)]
 pub enum NeededFinds {
-    /// What `find_in` answers of the whole image.
+    /// What `find_in` returns for the whole image.
     Found(Option<Finds>),
-    /// Other blocks are wanted: no directory is found in its place, or the catalog does not pass its check and is lacking.
+    /// Other blocks are wanted: there is no directory in its two places, or the catalog does not pass its check and is
+    /// incomplete.
     Whole,
 }
 
-/// What is found of an image of `len` bytes by the block that is taken for its directory, where that is found in one of the two blocks in which
-/// a directory belongs, and the catalog passes its check, or is whole as far as its size says and has a record: then only the blocks
-/// are read that tell which of the two serves, and those of both trees' files, in runs of up to 64 KB. Anywhere else other blocks of the
-/// image are looked at, and all of them are to be read. Errors: a read failed, memory was refused.
+/// What is found of an image of `len` bytes by the block that is taken for its directory, if that block is in one of a
+/// directory's two places, and the catalog passes its check, or has all blocks that its size asks for and a record. Then only
+/// these blocks are read: those that say which of the two serves, and those of both trees' files, in runs of up to 64 KB.
+/// Otherwise other blocks of the image are looked at, so all of them must be read. Errors: a read failed, memory was refused.
 pub fn needed_finds<S: BlockSource>(
     alloc: Global,
     source: &mut S,

@@ -1,4 +1,4 @@
-//! A refused image, with what is found of it.
+//! A refused image, and what is found of it.
 ghost use Rattle.std.proofs.Props.{props};
 ghost use Rattle.std.specs.Prelude.{◌≤◌, IfSome, Some};
 ghost use Rattle.hfs_finds.specs.Looks.{AreFindsOfEach, HasFault};
@@ -9,17 +9,17 @@ use hfs_check::MountFault;
 use hfs_source::PlacedBlocks;
 use hfs_sparse::SeenBlocks;
 
-/// An image that is refused: where its blocks are read from, why, and what is found of it; all this of each image that has the bytes which
-/// were read.
+/// An image that is refused: what its blocks are read from, why it is refused, and what is found of it. All this holds for every
+/// image consistent with the bytes read.
 #[derive(Drop)]
 pub struct RefusedImage<S: PlacedBlocks> {
-    /// Where its blocks are read from.
+    /// What its blocks are read from.
     pub source: SeenBlocks<S>,
     /// How many bytes it has.
     pub len: u64,
     /// Its first fault, in the order of docs/CHECKS.md.
     pub why: MountFault,
-    /// What is found of it; None where there is no directory in it.
+    /// What is found of it; None if it has no directory.
     pub found: Option<Finds>,
     ghost refused: { OfEach (S.Holds source.blocks) (HasFault why) } by { Prim.hlevel props },
     ghost long: { OfEach (S.Holds source.blocks) (HasLength len) } by { Prim.hlevel props },

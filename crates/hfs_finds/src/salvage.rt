@@ -6,7 +6,7 @@ use crate::finds::Finds;
 use hfs_remains::{Salvage, Trees};
 use std::alloc::{AllocError, Global};
 
-/// The forks of the items that are found, of which so many bytes are taken at most. The only error is want of memory.
+/// The forks of the items that are found; at most `limit` bytes are taken of all of them. Fails only when out of memory.
 pub fn salvage_of(alloc: Global, finds: &Finds, limit: u64) -> Result<Salvage<'_>, AllocError>
     ensures { IfOk result (IsSalvageOf finds.now limit) }
 {

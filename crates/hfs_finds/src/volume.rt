@@ -69,7 +69,7 @@ fn files_of<B: Blocks>(alloc: Global, blocks: &B, mdb: &Mdb) -> Result<Files, Al
     })
 }
 
-/// Adds a record of a catalog, where it is an item's.
+/// Adds a record of a catalog, if it is an item's.
 fn push_item(entry: CatalogRecord, items: &mut Vec<FoundRecord>) -> Result<(), AllocError>
     ensures { OnOk result (items.new.items ≡ items.old.items ++ young_item entry) }
 {
@@ -90,7 +90,7 @@ fn items_among(alloc: Global, entries: Vec<CatalogRecord>) -> Result<Vec<FoundRe
     Ok(items)
 }
 
-/// What is found of a volume by the directory in its place.
+/// What is found of a volume by the directory in its usual place.
 fn finds_by_trees(alloc: Global, volume: &NeededVolume) -> Result<Finds, AllocError>
     requires { IsOpenedOf None volume.now.count volume.now }
     ensures { IfOk result (AreFindsOf volume.now) }
@@ -137,8 +137,8 @@ fn block_total(extents: &[Extent; 3]) -> u32
     block_count(first) + block_count(second) + block_count(third)
 }
 
-/// What is found of a sound volume. None where its directory may be found elsewhere: its own extents of the catalog file have no block. The
-/// only error is want of memory.
+/// What is found of a sound volume. None if its directory may be found elsewhere, because the catalog file's own extents have no
+/// block. Fails only when out of memory.
 #[tactic(auto, using(crate::proofs::VolumeLemmas::opened_found))]
 pub(crate) fn finds_of_volume(
     alloc: Global,

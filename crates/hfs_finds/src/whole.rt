@@ -17,20 +17,20 @@ use hfs_source::PlacedBlocks;
 use hfs_sparse::{SeenBlocks, SparseFault};
 use std::alloc::Global;
 
-/// An image that was looked at, with what its check reports and what is found of it.
+/// An image that was looked at, with the report of its check and what is found of it.
 #[derive(Drop)]
 pub struct LookedImage<S: PlacedBlocks> {
-    /// Where its blocks are read from.
+    /// What its blocks are read from.
     pub source: SeenBlocks<S>,
     /// How many bytes it has.
     pub len: u64,
-    /// Its report, which tells why it is refused, if it is.
+    /// Its report, which says why it is refused, if it is.
     pub report: Report,
-    /// What is found of it; None where there is no directory in it.
+    /// What is found of it; None if it has no directory.
     pub found: Option<Finds>,
 }
 
-/// What is found of a sound image of `len` bytes by the usual way, whose blocks are read once more.
+/// What is found in the usual way of a sound image of `len` bytes, whose blocks are read once more.
 fn find_again<S: PlacedBlocks + Drop>(
     alloc: Global,
     source: SeenBlocks<S>,
@@ -58,8 +58,8 @@ fn find_again<S: PlacedBlocks + Drop>(
     })
 }
 
-/// What is found of a sound image of `len` bytes: by what opening read of it, or, where its directory may be found elsewhere, by
-/// the usual way.
+/// What is found of a sound image of `len` bytes, from what opening read of it; or in the usual way, if its directory may be
+/// found elsewhere.
 fn find_sound<S: PlacedBlocks + Drop>(
     alloc: Global,
     image: SeenImage<S>,
@@ -119,8 +119,8 @@ fn refused_looked<S: PlacedBlocks>(image: RefusedImage<S>) -> LookedImage<S>
     }
 }
 
-/// Looks at an image, as [`look_reported`] does, and gives what there is of it also where it is sound: then by what its checks read, of which
-/// nothing is read again. Errors, with the source back: a read failed, memory was refused.
+/// Looks at an image as [`look_reported`] does, and returns what there is of it even if it is sound: then from what its checks
+/// read, without reading anything again. Errors, with the source handed back: a read failed, memory was refused.
 pub fn look_and_find<S: PlacedBlocks + Drop>(
     alloc: Global,
     source: SeenBlocks<S>,

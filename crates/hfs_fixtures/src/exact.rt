@@ -25,7 +25,7 @@ fn first_key<K: Key>(bytes: &[u8; 512]) -> Option<K> {
     }
 }
 
-/// Whether each key of an index node is equal in order to its child's first key; so too of any other node.
+/// Whether each key of an index node is equal in order to its child's first key; true for any other node.
 fn has_first_keys<K: Key>(nodes: &NodeTable, bytes: &[u8; 512]) -> bool {
     let Ok(node) = view(bytes) else {
         return true;
@@ -52,7 +52,7 @@ fn has_first_keys<K: Key>(nodes: &NodeTable, bytes: &[u8; 512]) -> bool {
     true
 }
 
-/// Whether each key of each index node is equal in order to its child's first key. Nodes that are zeros are passed over.
+/// Whether each key of each index node is equal in order to its child's first key. Nodes of zeros are skipped.
 pub fn is_exact<K: Key>(nodes: &NodeTable) -> bool {
     let mut bytes = [0; 512];
     for n in 1..nodes.count() {

@@ -1,4 +1,4 @@
-//! Why a volume was not had.
+//! Why there is no volume.
 use hfs_format::FormatFault;
 use std::alloc::AllocError;
 use thiserror::Error;

@@ -1,9 +1,9 @@
 //! Small volumes for tests: new ones, and two with an item or two, whose bytes are laid by hand over a new one's.
 //!
-//! Block 2 is a volume's master directory block and block 3 its bitmap. Its allocation blocks have 512 bytes each and
-//! begin with block 4: blocks 4 and 5 are the extents tree, blocks 6 to 11 the catalog tree.
+//! Block 2 is a volume's master directory block and block 3 its bitmap. Its allocation blocks have 512 bytes each and begin with
+//! block 4: blocks 4 and 5 are the extents tree, blocks 6 to 11 the catalog tree.
 //!
-//! Beside them stand nodes in memory that edits of trees can write, and whether a tree's index keys are exact.
+//! Besides, there are nodes in memory that edits of trees can write, and a test whether a tree's index keys are exact.
 #![tactic(auto)]
 
 mod blocks;

@@ -7,7 +7,7 @@ use hfs_btree::Nodes;
 use hfs_btree_edits::NodesMut;
 use std::alloc::{AllocError, Global};
 
-/// Nodes that stand in memory one after the other.
+/// Nodes in memory, one after the other.
 #[derive(Drop)]
 pub struct NodeTable {
     pub nodes: Vec<[u8; 512]>,
@@ -15,7 +15,7 @@ pub struct NodeTable {
 }
 
 impl NodeTable {
-    /// A copy of these nodes; none where they are too many.
+    /// A copy of these nodes; None if there are too many.
     pub fn of_nodes(alloc: Global, nodes: &[[u8; 512]]) -> Result<Option<NodeTable>, AllocError> {
         let nodes = Vec::from_slice(alloc, nodes)?;
         if nodes.len() < 8_388_608 {

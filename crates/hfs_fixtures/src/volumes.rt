@@ -1,4 +1,4 @@
-//! The small volumes: a new one, and what others have in the place of its bytes, by hand.
+//! The small volumes: a new one, and what others have in place of its bytes, by hand.
 use crate::blocks::lay;
 use crate::fault::FixtureFault;
 use hfs_format::{FormatPlan, format};
@@ -58,12 +58,12 @@ const ONE_FILE: [Edit; 21] = [
     (7, 504, &[1]),
 ];
 
-/// A new volume with 64 blocks and so many catalog nodes.
+/// A new volume with 64 blocks and this many catalog nodes.
 pub fn new_image(alloc: Global, catalog_nodes: u32) -> Result<Vec<u8>, FixtureFault> {
     planned(alloc, 64, catalog_nodes)
 }
 
-/// A new volume `D` of so many blocks and catalog nodes, made at the moment 0.
+/// A new volume `D` with this many blocks and catalog nodes, made at the moment 0.
 fn planned(alloc: Global, blocks: u32, catalog_nodes: u32) -> Result<Vec<u8>, FixtureFault> {
     let plan = FormatPlan {
         name: Vec::from_slice(alloc, b"D")?,
@@ -75,7 +75,7 @@ fn planned(alloc: Global, blocks: u32, catalog_nodes: u32) -> Result<Vec<u8>, Fi
     Ok(format(alloc, plan)?)
 }
 
-/// Lays bytes in the place of an image's own.
+/// Lays bytes in place of an image's own.
 fn lay_all(image: &mut [u8], edits: &[Edit]) -> Result<(), FixtureFault> {
     for (block, at, bytes) in edits {
         lay(image, *block, *at, bytes)?;
@@ -95,7 +95,7 @@ pub fn fork_byte(k: usize) -> u8 {
     (k % 251) as u8
 }
 
-/// A volume of 64 blocks with the file `f` alone, whose fork has 2,000 bytes in four extents.
+/// A volume of 64 blocks with only the file `f`, whose fork has 2,000 bytes in four extents.
 pub fn one_file_image(alloc: Global) -> Result<Vec<u8>, FixtureFault> {
     let mut image = planned(alloc, 64, 6)?;
     lay_all(&mut image, &ONE_FILE)?;

@@ -18,7 +18,7 @@ use hfs_fields::{Extent, Mdb};
 use hfs_space::tree_runs;
 use std::alloc::{AllocError, Global};
 
-/// Zeros over part of a fork: whole blocks of zeros, and over these the blocks of which only a part is zeros.
+/// Zeros over part of a fork: whole blocks of zeros, and over them the blocks of which only a part is zeros.
 #[derive(Drop)]
 pub struct Cleared {
     /// The whole blocks, to be laid over the volume's.
@@ -88,14 +88,14 @@ fn two_parts<B: Blocks>(
     Ok(patch)
 }
 
-/// Zeros over `count` bytes of the blocks of a fork that has these extents, from its byte `offset` on: over those of blocks that
-/// come to it, or over those that it gets where it is lengthened. The fork's other bytes stay, and so do all blocks that have
+/// Zeros over `count` bytes of the blocks of a fork with these extents, from its byte `offset` on: over those of blocks that are
+/// added to it, or over those that it gains when it is lengthened. The fork's other bytes stay, and so do all blocks that have
 /// none of these bytes.
 ///
-/// Memory is taken for each run of blocks and for two blocks at most, however many the zeros are. The work is that of going
-/// once through the extents, and of putting those that have zeros in order.
+/// Memory is taken for each run of blocks and for at most two blocks, however many the zeros are. The work is going through the
+/// extents once, and sorting those that have zeros.
 ///
-/// Errors: `AllocError` where memory was refused.
+/// Errors: `AllocError` if memory was refused.
 ///
 /// Source: Inside Macintosh: Files, chapter 2, 'Extents overflow file'.
 pub fn clear_fork<B: Blocks>(

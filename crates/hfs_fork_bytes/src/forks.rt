@@ -15,13 +15,13 @@ use hfs_fields::{Extent, Mdb};
 use hfs_space::tree_runs;
 use std::alloc::{AllocError, Global};
 
-/// Writes bytes over the blocks of a fork that has these extents, from its byte `offset` on, into the patch over the volume's
-/// blocks. The bytes may reach behind the fork's length, but not behind its last block. The fork's other bytes stay, and so do
-/// all blocks that have none of these bytes.
+/// Writes bytes over the blocks of a fork with these extents, from its byte `offset` on, into the patch over the volume's blocks.
+/// The bytes may reach past the fork's length, but not past its last block. The fork's other bytes stay, and so do all blocks
+/// that have none of these bytes.
 ///
-/// The work is that of going once through the extents, and of a search among them for each block that has one of these bytes.
+/// The work is going through the extents once, and a search among them for each block that has one of these bytes.
 ///
-/// Errors: `AllocError` where memory was refused. Then some of the bytes may not be written.
+/// Errors: `AllocError` if memory was refused. Then some of the bytes may not be written.
 ///
 /// Source: Inside Macintosh: Files, chapter 2, 'Extents overflow file'.
 pub fn write_fork<B: Blocks>(
@@ -53,7 +53,7 @@ pub fn write_fork<B: Blocks>(
     Ok(())
 }
 
-/// Writes zeros as `write_fork` writes bytes: `count` of them. The patch holds each of the blocks.
+/// Writes `count` zeros, as `write_fork` writes bytes. The patch holds each of the blocks.
 pub(crate) fn clear_part<B: Blocks>(
     alloc: Global,
     blocks: &B,

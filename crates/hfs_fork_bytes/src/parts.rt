@@ -8,7 +8,7 @@ ghost use Rattle.hfs_fork_bytes.specs.Written.{AreBothWhole};
 use hfs_blocks::{Blocks, Patch};
 use std::alloc::AllocError;
 
-/// Reads block `n` with the patch over it, unless all of it is about to be overwritten, by `count` bytes.
+/// Reads block `n` with the patch over it, unless all of it is about to be overwritten with `count` bytes.
 fn read_unless_whole<B: Blocks>(
     below: &B,
     patch: &Patch,

@@ -12,7 +12,7 @@ use crate::parts::put_part;
 use hfs_blocks::{Blocks, Patch, Run, block_of};
 use std::alloc::AllocError;
 
-/// Writes bytes of a file whose blocks lie in these runs, from the file's byte `at` on. They stand in one block.
+/// Writes bytes of a file whose blocks lie in these runs, from the file's byte `at` on. They are in one block.
 fn put_in_file<B: Blocks>(
     below: &B,
     patch: &mut Patch,
@@ -37,7 +37,7 @@ fn put_in_file<B: Blocks>(
     Ok(())
 }
 
-/// How many of so many bytes from byte `at` on stand in one block with it.
+/// How many of `count` bytes from byte `at` on are in the same block.
 fn in_one_block(at: u64, count: u64) -> u64
     ensures { result ≡ min count (512 - at % 512) }
 {
@@ -75,8 +75,8 @@ pub(crate) fn write_runs<B: Blocks>(
     Ok(())
 }
 
-/// Writes zeros in the place of `count` bytes of a file whose blocks lie in these runs, from the file's byte `offset` on. Only
-/// the blocks that have one of these bytes change. At an error some of them may not be written.
+/// Writes zeros in place of `count` bytes of a file whose blocks lie in these runs, from the file's byte `offset` on. Only the
+/// blocks that have one of these bytes change. At an error some of them may not be written.
 pub(crate) fn clear_runs<B: Blocks>(
     below: &B,
     patch: &mut Patch,

@@ -60,7 +60,7 @@ impl Model for ZeroRuns {
 }
 
 impl ZeroRuns {
-    /// The blocks of these runs as zeros. Takes no memory.
+    /// These runs as blocks of zeros. Takes no memory.
     pub fn of(runs: Vec<Run>) -> ZeroRuns
         requires { AreOnce runs.items }
         ensures same { HaveSameBlocks runs.items result }
@@ -127,7 +127,7 @@ impl<B: Blocks> Blocks for Zeroed<'_, B> {
 
 /// The blocks of a file's runs from its block `from` on.
 ///
-/// Errors: `AllocError` where memory was refused.
+/// Errors: `AllocError` if memory was refused.
 pub fn runs_from(alloc: Global, runs: &[Run], from: u32) -> Result<Vec<Run>, AllocError>
     requires { AreRunsWithin runs.now 4294967296 }
     ensures blocks { IfOk result (λ rest. flat_map run_of rest.items

@@ -25,7 +25,7 @@ impl Model for BlockSize {
 }
 
 impl BlockSize {
-    /// A block of so many bytes; None of 0 bytes, and of more than 2,147,483,648.
+    /// A block of `bytes` bytes; None for 0 bytes, and for more than 2,147,483,648.
     pub fn new(bytes: u32) -> Option<Self>
         ensures { result ≡ (if is_block_size bytes then Some bytes else None) }
     {
@@ -36,14 +36,14 @@ impl BlockSize {
         }
     }
 
-    /// How many blocks so many bytes take.
+    /// How many blocks `length` bytes take.
     pub fn blocks(self, length: u32) -> u32
         ensures { result ≡ blocks self length }
     {
         length.div_ceil(self.bytes)
     }
 
-    /// How many bytes these blocks have.
+    /// How many bytes those blocks have.
     pub fn physical_length(self, length: u32) -> u64
         ensures { result ≡ physical_length self length }
     {

@@ -1,5 +1,5 @@
-//! The calls that write forks, as definitions over the model's volume (`specs/`), what holds of these (the functions of `laws`), and how
-//! many bytes an allocation block has.
+//! The calls that write forks, as definitions over the model's volume (`specs/`), what holds for them (the functions of `laws`),
+//! and how many bytes an allocation block has.
 #![tactic(auto)]
 
 mod block_size;

@@ -13,7 +13,7 @@ use hfs_space::Bitmap;
 use hfs_space_edits::release_extents;
 use std::alloc::AllocError;
 
-/// The patch in which the bits of the extents' blocks are set. The only error is want of memory.
+/// The patch in which the bits of the extents' blocks are set. Fails only when out of memory.
 pub(crate) fn claim_over<B: Blocks>(
     below: &B,
     mdb: &Mdb,
@@ -37,7 +37,7 @@ pub(crate) fn claim_over<B: Blocks>(
     Ok(bits)
 }
 
-/// The patch in which the bits of the extents' blocks are clear. The only error is want of memory.
+/// The patch in which the bits of the extents' blocks are clear. Fails only when out of memory.
 pub(crate) fn release_over<B: Blocks>(
     below: &B,
     mdb: &Mdb,

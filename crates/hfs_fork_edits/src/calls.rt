@@ -1,4 +1,4 @@
-//! SetEof and WriteFork, of a file that was looked for already.
+//! SetEof and WriteFork, for a file that has already been looked up.
 
 ghost use Rattle.hfs_fork_edits.specs.Calls.{IsForkVolumeIn, AreFoundIn, Gives, IsSetEofEdit, IsWriteForkEdit};
 
@@ -11,14 +11,14 @@ use hfs_call_patches::Change;
 use hfs_model::Fork;
 use std::alloc::{AllocError, Global};
 
-/// What SetEof makes of a volume, or what refuses it: of the folder's file of that name, which isn't locked, in a volume that may be
-/// changed, the fork is its first `length` bytes, with zeros after them where it was shorter. `found` is that file, or the code that
-/// refuses to write it.
+/// What SetEof makes of a volume, or what refuses it. It cuts the fork or adds zeros at its end, so that it has `length` bytes,
+/// for the folder's file of that name, which isn't locked, in a volume that may be changed. `found` is that file, or the code
+/// that refuses to write it.
 ///
-/// The codes come first, in the order of `to_set_eof`; then the want of blocks, then that of nodes of the extents tree. At a refusal
+/// The codes come first, in the order of `to_set_eof`; then too few blocks, then too few nodes of the extents tree. At a refusal
 /// there is no change.
 ///
-/// Errors: `AllocError` where memory was refused. Then there is no change either.
+/// Errors: `AllocError` if memory was refused. Then there is no change either.
 ///
 /// Source: Inside Macintosh: Files, chapter 2, 'Manipulating File Forks' and 'Extents overflow file'.
 pub fn set_eof<B: Blocks>(
@@ -54,8 +54,8 @@ pub fn set_eof<B: Blocks>(
     }
 }
 
-/// What WriteFork makes of a volume, or what refuses it: the fork has these bytes from the offset on, and is longer where they go past
-/// its end. As for SetEof otherwise.
+/// What WriteFork makes of a volume, or what refuses it: the fork gets these bytes from the offset on, and grows if they go past
+/// its end. Otherwise as for SetEof.
 pub fn write_fork<B: Blocks>(
     alloc: Global,
     volume: &ForkVolume<'_, B>,

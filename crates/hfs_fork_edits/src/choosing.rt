@@ -1,4 +1,5 @@
-//! What SetEof and WriteFork choose, where the file was looked for already. In each the first code that holds is the reply's.
+//! What SetEof and WriteFork choose, for a file that has already been looked up. In each, the first code that applies is the
+//! reply's.
 
 ghost use Rattle.std.specs.Prelude.{◌≡◌, Ok, IfOk};
 ghost use Rattle.hfs_fork_edits.specs.Found as spec;
@@ -8,13 +9,13 @@ use hfs_btree_edits::RecordPlace;
 use hfs_fields::{CatKey, FileRecord};
 use hfs_model::{END_OF_FILE, Fork, PARAMETER};
 
-/// The most bytes that a fork has.
+/// The most bytes that a fork may have.
 const MOST_BYTES: u32 = 2_147_483_647;
 
 /// The most bytes that one WriteFork writes.
 const MOST_WRITTEN: usize = 65_536;
 
-/// A file of the catalog, and where its record stands.
+/// A file of the catalog, and where its record is.
 #[derive(Clone, Copy)]
 pub struct FoundFile {
     /// The key of its record.
@@ -25,7 +26,7 @@ pub struct FoundFile {
     pub place: RecordPlace,
 }
 
-/// What was found, unless the length is above 2,147,483,647: -50.
+/// What was found, unless the length is above 2,147,483,647: then -50.
 fn if_short(length: u32, found: Result<FoundFile, i16>) -> Result<FoundFile, i16>
     ensures { result ≡ spec.if_short length found }
 {
@@ -35,7 +36,7 @@ fn if_short(length: u32, found: Result<FoundFile, i16>) -> Result<FoundFile, i16
     found
 }
 
-/// The file, unless its fork ends before the offset: -39.
+/// The file, unless its fork ends before the offset: then -39.
 fn unless_past(fork: Fork, offset: u32, found: FoundFile) -> Result<FoundFile, i16>
     ensures { result ≡ spec.unless_past fork offset found }
 {
@@ -45,7 +46,7 @@ fn unless_past(fork: Fork, offset: u32, found: FoundFile) -> Result<FoundFile, i
     Ok(found)
 }
 
-/// What was found, unless there are too many bytes or they would end too far behind: -50. Then -39.
+/// What was found, unless there are too many bytes or they would end too far on: then -50. After that, -39.
 fn if_writable(
     fork: Fork,
     offset: u32,
@@ -65,11 +66,11 @@ fn if_writable(
     }
 }
 
-/// The file whose fork SetEof makes so many bytes long, or the code that refuses it. `found` is the folder's file of that name, which
-/// isn't locked, in a volume that may be changed, or the code that refuses to write it: -44 or -46, -37, -120, -43, also of a folder,
-/// -45.
+/// The file whose fork SetEof gives this length, or the code that refuses it. `found` is the folder's file of that name, which
+/// isn't locked, in a volume that may be changed, or the code that refuses to write it: -44 or -46, -37, -120, -43 (also for a
+/// folder), -45.
 ///
-/// Errors: -50 where the length is above 2,147,483,647, also where the file wasn't found; else the code of `found`.
+/// Errors: -50 if the length is above 2,147,483,647, even if the file wasn't found; otherwise the code of `found`.
 pub fn to_set_eof(found: Result<FoundFile, i16>, length: u32) -> Result<FoundFile, i16>
     ensures chooses { spec.ChoosesSetEof found length result }
     ensures found { IfOk result (λ file. found ≡ Ok file) }
@@ -79,8 +80,8 @@ pub fn to_set_eof(found: Result<FoundFile, i16>, length: u32) -> Result<FoundFil
 
 /// The file into whose fork WriteFork writes these bytes from an offset on, or the code that refuses it; `found` as for SetEof.
 ///
-/// Errors: -50 of more than 65,536 bytes, and where the last would stand past 2,147,483,647 of them, also where the file wasn't found;
-/// then the code of `found`; -39 where the fork ends before the offset.
+/// Errors: -50 for more than 65,536 bytes, and if the last one would be past 2,147,483,647 of them, even if the file wasn't
+/// found; then the code of `found`; -39 if the fork ends before the offset.
 pub fn to_write_fork(
     found: Result<FoundFile, i16>,
     fork: Fork,

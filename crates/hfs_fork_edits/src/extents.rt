@@ -13,8 +13,7 @@ use hfs_model::Fork;
 use hfs_space::fork_extents;
 use std::alloc::{AllocError, Global};
 
-/// All extents of a file's fork in a sound volume, the nodes of whose extents tree lie in these runs. The only error is want of
-/// memory.
+/// All extents of a file's fork in a sound volume, given the runs of its extents tree. Fails only when out of memory.
 pub(crate) fn extents_of<B: Blocks>(
     alloc: Global,
     blocks: &B,

@@ -1,4 +1,4 @@
-//! The edits by which blocks come to a fork, over whose blocks zeros and bytes were laid already.
+//! The edits that add blocks to a fork, over which zeros and bytes have already been laid.
 
 ghost use Rattle.std.specs.Prelude.{◌≡◌, ◌+◌, ◌≤◌, ◌++◌, length, IfOk};
 ghost use Rattle.hfs_blocks.specs.Layers.{changes, AreWithin};
@@ -26,7 +26,7 @@ use hfs_fork_extents::NodesWanted;
 use hfs_model::Want;
 use std::alloc::{AllocError, Global};
 
-/// What is told where the extents tree has too few free nodes.
+/// What is reported if the extents tree has too few free nodes.
 fn nodes_wanted(nodes: NodesWanted) -> Want
     ensures { result ≡ want.ExtentNodes nodes.free nodes.depth }
 {
@@ -36,8 +36,8 @@ fn nodes_wanted(nodes: NodesWanted) -> Want
     }
 }
 
-/// The bits, the extents, the file's record and the counts of a volume in which these pieces, of `wanted` free blocks, come to the
-/// fork; or the want of nodes. The patch lies over blocks that differ from the volume's only in those of the fork that gets them.
+/// The bits, the extents, the file's record and the counts of a volume in which these pieces, of `wanted` free blocks, are added
+/// to the fork; or the lack of nodes. The patch lies over blocks that differ from the volume's only in those of the fork.
 pub(crate) fn gain<B: Blocks, Z: Blocks>(
     alloc: Global,
     volume: &ForkVolume<'_, B>,

@@ -1,4 +1,4 @@
-//! A fork that keeps its blocks, and gets those that it wants more.
+//! A fork that keeps its blocks, and gets more if it needs them.
 
 ghost use Rattle.std.specs.Prelude.{◌≡◌, ◌+◌, ◌<◌, ◌≤◌, ◌^◌, length};
 ghost use Rattle.hfs_model.specs.Forks.{physical_length, blocks};
@@ -18,8 +18,8 @@ use hfs_fork_calls::BlockSize;
 use hfs_model::Want;
 use std::alloc::{AllocError, Global};
 
-/// Where the zeros end of a fork that gets `length` bytes, and to which `wanted` blocks come: behind its last block, where blocks come;
-/// else at its end, or at `from`, where that is behind it.
+/// Where the zeros end of a fork that gets `length` bytes and `wanted` more blocks: after its last block, if blocks are added;
+/// otherwise at its end, or at `from`, if that is after it.
 fn zeros_end(block_size: BlockSize, wanted: u32, from: u32, length: u32) -> u32
     requires { physical_length block_size length < 2 ^ 32 }
     ensures { result ≡ zeros.zeros_end block_size wanted from length }
@@ -30,8 +30,8 @@ fn zeros_end(block_size: BlockSize, wanted: u32, from: u32, length: u32) -> u32
     from.max(length)
 }
 
-/// What is made of the volume where `wanted` blocks come to the fork, whose extents were these; or the want of blocks or of nodes. The
-/// only error is want of memory.
+/// What is made of the volume when `wanted` blocks are added to the fork, whose extents were these; or the lack of blocks or of
+/// nodes. Fails only when out of memory.
 pub(crate) fn grow<B: Blocks>(
     alloc: Global,
     volume: &ForkVolume<'_, B>,

@@ -27,8 +27,8 @@ pub(crate) struct Laid {
     pub written: Vec<Run>,
 }
 
-/// Zeros over the blocks of a fork that has these extents, from its byte `from` up to `end`, and over these the bytes, from its byte
-/// `offset` on. No other byte changes. The only error is want of memory.
+/// Zeros over the blocks of a fork with these extents, from its byte `from` up to `end`, and over these the bytes, from its byte
+/// `offset` on. No other byte changes. Fails only when out of memory.
 fn lay<B: Blocks>(
     alloc: Global,
     blocks: &B,

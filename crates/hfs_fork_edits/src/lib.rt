@@ -1,5 +1,5 @@
-//! What SetEof and WriteFork make of a volume's blocks, where the file was looked for already: which code refuses the call, what it
-//! wants of the volume, and the change.
+//! What SetEof and WriteFork make of a volume's blocks, for a file that has already been looked up: which code refuses the call,
+//! what it lacks, and the change.
 #![tactic(auto)]
 
 mod bits;

@@ -1,4 +1,4 @@
-//! The edits by which a fork loses its last blocks, over whose other blocks zeros and bytes were laid already.
+//! The edits that take its last blocks from a fork, over whose other blocks zeros and bytes have already been laid.
 
 ghost use Rattle.std.specs.Prelude.{◌≡◌, ◌+◌, ◌<◌, ◌≤◌, ◌^◌, length, IfOk};
 ghost use Rattle.hfs_blocks.specs.Layers.{changes, AreWithin};
@@ -22,7 +22,7 @@ use hfs_fields::{Extent, Mdb};
 use hfs_fork_calls::BlockSize;
 use std::alloc::{AllocError, Global};
 
-/// How many blocks are free where the blocks of these extents are free, too.
+/// How many blocks are free once the blocks of these extents are free as well.
 fn free_with(mdb: &Mdb, lost: &[Extent]) -> u16
     requires { mdb.now.free_blocks + block_total lost.now ≤ mdb.now.allocation_blocks }
     ensures { result ≡ mdb.now.free_blocks + block_total lost.now }
@@ -31,9 +31,9 @@ fn free_with(mdb: &Mdb, lost: &[Extent]) -> u16
     mdb.allocation_blocks - (used - block_count(lost))
 }
 
-/// The bits, the extents, the file's record and the counts of a volume in which the fork keeps its first `count` blocks, and loses
-/// those of the extents `lost`. The patch lies over blocks that differ from the volume's only in those that the fork keeps. The only
-/// error is want of memory.
+/// The bits, the extents, the file's record and the counts of a volume in which the fork keeps its first `count` blocks, and
+/// loses those of the extents `lost`. The patch lies over blocks that differ from the volume's only in those that the fork keeps.
+/// Fails only when out of memory.
 pub(crate) fn lose<B: Blocks, Z: Blocks>(
     alloc: Global,
     volume: &ForkVolume<'_, B>,

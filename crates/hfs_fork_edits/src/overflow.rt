@@ -20,7 +20,8 @@ use hfs_fork_extents::{NodesWanted, ShortFork, lengthen_fork, shorten_fork};
 use hfs_space::ForkKind;
 use std::alloc::{AllocError, Global};
 
-/// A fork to which blocks came: the first three extents that it has now, and the patch in which the extents tree has the others.
+/// A fork to which blocks were added: the first three extents that it now has, and the patch in which the extents tree has the
+/// others.
 #[derive(Drop)]
 pub(crate) struct Lengthened {
     pub first: [Extent; 3],
@@ -34,8 +35,8 @@ pub(crate) struct Shortened {
     pub patch: Patch,
 }
 
-/// Adds blocks to a fork, in the extents tree whose nodes lie in these runs, over a patch. The only error but want of nodes is want of
-/// memory.
+/// Adds blocks to a fork, in the extents tree whose nodes lie in these runs, over a patch. The only error besides too few nodes
+/// is running out of memory.
 pub(crate) fn lengthen_over<B: Blocks>(
     alloc: Global,
     below: &B,
@@ -77,7 +78,7 @@ pub(crate) fn lengthen_over<B: Blocks>(
     }
 }
 
-/// Leaves a fork its first `count` blocks, in the extents tree whose nodes lie in these runs, over a patch. The only error is want
+/// Cuts a fork to its first `count` blocks, in the extents tree whose nodes lie in these runs, over a patch. Fails only when out
 /// of memory.
 pub(crate) fn shorten_over<B: Blocks>(
     alloc: Global,

@@ -19,8 +19,8 @@ use hfs_catalog_edits::set_record_at;
 use hfs_fields::{CatKey, FileRecord};
 use std::alloc::{AllocError, Global};
 
-/// The patch in which a file's record stands in the place of the one under this key, which is a file's, in the catalog whose nodes
-/// lie in these runs. The only error is want of memory.
+/// The patch that puts a file's record in place of the one under this key, which is a file's, in the catalog whose nodes lie in
+/// these runs. Fails only when out of memory.
 pub(crate) fn set_file_over<B: Blocks>(
     alloc: Global,
     below: &B,

@@ -1,4 +1,4 @@
-//! A file's record and the volume's counts, where a fork of the file changes.
+//! A file's record and the volume's counts, when a fork of the file changes.
 
 ghost use Rattle.std.specs.Prelude.{◌≡◌, ◌<◌, ◌≤◌, ◌^◌};
 ghost use Rattle.hfs_model.specs.Forks.{physical_length};
@@ -30,7 +30,7 @@ pub(crate) fn fork_of(fork: Fork, file: &FileRecord) -> ForkRecord
     }
 }
 
-/// The file's record with a fork of so many bytes, which has these first extents, modified now. Its first block stays.
+/// The file's record with a fork of `length` bytes that has these first extents, modified now. Its first block stays.
 pub(crate) fn file_with(
     block_size: BlockSize,
     fork: Fork,
@@ -62,7 +62,7 @@ pub(crate) fn file_with(
     }
 }
 
-/// The volume's counts with so many free blocks, last changed now.
+/// The volume's counts with this many free blocks, last changed now.
 pub(crate) fn counts_with(mdb: &Mdb, free_blocks: u16, now: u32) -> Mdb
     ensures { result ≡ counts_with free_blocks now mdb.now }
 {

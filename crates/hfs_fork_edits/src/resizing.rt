@@ -1,4 +1,4 @@
-//! A fork that gets another number of bytes, and given ones of them.
+//! A fork that gets another length, and given bytes.
 
 ghost use Rattle.std.specs.Prelude.{◌≡◌, length};
 ghost use Rattle.hfs_fork_edits.specs.Calls.{IsForkVolumeIn, IsFoundIn, Gives, IsResized, HasPlaces};
@@ -15,7 +15,7 @@ use hfs_fork_calls::BlockSize;
 use hfs_model::Want;
 use std::alloc::{AllocError, Global};
 
-/// What is made of the volume, or the want of blocks or nodes. The only error is want of memory.
+/// What is made of the volume, or the lack of blocks or nodes. Fails only when out of memory.
 pub(crate) fn resize<B: Blocks>(
     alloc: Global,
     volume: &ForkVolume<'_, B>,
@@ -33,7 +33,7 @@ pub(crate) fn resize<B: Blocks>(
     let Some(block_size) = BlockSize::new(volume.mdb.allocation_block_size) else {
         unreachable!();
     };
-    // A proof knows that the blocks are counted by 16 bits once it has seen their number.
+    // Once a proof has seen the number of blocks, it knows that it has 16 bits.
     let _blocks = volume_blocks(volume.mdb);
     let file = &resizing.found.file;
     let was = extents_of(alloc, volume.blocks, volume.extents, file, resizing.fork)?;

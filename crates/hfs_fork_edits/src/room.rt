@@ -1,4 +1,4 @@
-//! The free blocks that come to a fork.
+//! The free blocks that are added to a fork.
 
 ghost use Rattle.std.specs.Prelude.{◌≡◌, ◌+◌, ◌<◌, ◌≤◌, IfOk};
 ghost use Rattle.hfs_space.specs.Bitmap.{bitmap_len};
@@ -14,7 +14,7 @@ use hfs_model::Want;
 use hfs_space::Bitmap;
 use std::alloc::{AllocError, Global};
 
-/// The blocks that come to a fork, as pieces in their order, and all extents that it has with them.
+/// The blocks that are added to a fork, as pieces in order, and all extents that it then has.
 #[derive(Drop)]
 pub(crate) struct Growing {
     pub pieces: Vec<Extent>,
@@ -29,7 +29,7 @@ pub(crate) fn block_count(extents: &[Extent]) -> u16
     extents.iter().map(|extent| extent.count).sum()
 }
 
-/// The block directly after the last one of a fork with these extents; None where they have none.
+/// The block directly after the last one of a fork with these extents; None if they have none.
 fn block_after(extents: &[Extent]) -> Option<u16>
     requires { AreExtentsWithin 65535 extents.now }
     ensures { result ≡ spec.block_after extents.now }
@@ -44,8 +44,8 @@ fn block_after(extents: &[Extent]) -> Option<u16>
     after
 }
 
-/// The free blocks of a volume that come to a fork with these extents, which wants so many more, or how many are free where these
-/// are fewer. The only other error is want of memory.
+/// The free blocks of a volume that are added to a fork with these extents, which wants this many more, or how many are free if
+/// these are fewer. The only other error is running out of memory.
 pub(crate) fn pieces_for<B: Blocks>(
     alloc: Global,
     blocks: &B,
@@ -68,7 +68,7 @@ pub(crate) fn pieces_for<B: Blocks>(
     blocks_that_come(alloc, &bitmap, block_after(extents), wanted)
 }
 
-/// What is told where fewer blocks are free than are wanted.
+/// What is reported if fewer blocks are free than are wanted.
 fn room_wanted(room: Room) -> Want
     ensures { result ≡ want.Room room.free room.wanted }
 {
@@ -78,8 +78,8 @@ fn room_wanted(room: Room) -> Want
     }
 }
 
-/// The free blocks that come to a fork with these extents, which wants so many more, and its extents with them; or the want of
-/// blocks. The only other error is want of memory.
+/// The free blocks that are added to a fork with these extents, which wants this many more, and its extents with them; or the
+/// lack of blocks. The only other error is running out of memory.
 pub(crate) fn find_growing<B: Blocks>(
     alloc: Global,
     blocks: &B,

@@ -24,8 +24,8 @@ use hfs_fields::{CatKey, Extent, FileRecord, Mdb};
 use hfs_fork_calls::BlockSize;
 use std::alloc::{AllocError, Global};
 
-/// The patch in which a file's record stands in the place of the one under this key, and then these counts in the master directory
-/// block of `blocks`, of which no other byte changes. The only error is want of memory.
+/// The patch that puts a file's record in place of the one under this key, and then these counts into the master directory block
+/// of `blocks`, in which no other byte changes. Fails only when out of memory.
 fn settle<B: Blocks, Z: Blocks>(
     alloc: Global,
     blocks: &B,
@@ -55,8 +55,8 @@ fn settle<B: Blocks, Z: Blocks>(
     Ok(settled)
 }
 
-/// The patch in which the file's record says what the fork is now, with these first extents, and the volume counts so many free
-/// blocks. The only error is want of memory.
+/// The patch in which the file's record has the fork as it is now, with these first extents, and the volume counts this many free
+/// blocks. Fails only when out of memory.
 pub(crate) fn settle_fork<B: Blocks, Z: Blocks>(
     alloc: Global,
     volume: &ForkVolume<'_, B>,

@@ -16,8 +16,8 @@ use hfs_fork_calls::BlockSize;
 use hfs_fork_extents::{cut_all, surplus};
 use std::alloc::{AllocError, Global};
 
-/// What is made of the volume where the fork, whose extents were these, keeps its first `count` blocks, which are fewer. The only
-/// error is want of memory.
+/// What is made of the volume when the fork, whose extents were these, keeps its first `count` blocks, which are fewer. Fails
+/// only when out of memory.
 pub(crate) fn shrink<B: Blocks>(
     alloc: Global,
     volume: &ForkVolume<'_, B>,

@@ -1,4 +1,4 @@
-//! A volume in which a fork is to change, and what is made of it.
+//! A volume in which a fork is changed, and what is made of it.
 
 ghost use Rattle.std.specs.Prelude.{◌≡◌, Some};
 ghost use Rattle.hfs_model.specs.declared.reply.Value.TheVariants as value;
@@ -10,7 +10,7 @@ use hfs_fields::Mdb;
 use hfs_fork_bytes::ZeroRuns;
 use hfs_model::{Fork, Value, Want};
 
-/// A sound volume's blocks, with what mounting found out of them.
+/// A sound volume's blocks, with what mounting found out about them.
 #[derive(Drop)]
 pub struct ForkVolume<'a, B: Blocks> {
     pub blocks: &'a B,
@@ -22,7 +22,7 @@ pub struct ForkVolume<'a, B: Blocks> {
     pub catalog: &'a [Run],
 }
 
-/// What a file's fork gets: so many bytes, of them zeros from `from` on as far as it had none, and the given ones from `offset` on.
+/// What a file's fork gets: this length, zeros from `from` on where it had no bytes, and the given bytes from `offset` on.
 #[derive(Clone, Copy)]
 pub(crate) struct Resizing<'a> {
     pub found: &'a FoundFile,
@@ -39,11 +39,11 @@ pub(crate) struct Resizing<'a> {
 pub enum ForkRefusal {
     /// A code other than 0 and -34.
     Code(i16),
-    /// Too few blocks or nodes, where it would be done otherwise: -34.
+    /// Too few blocks or nodes for a call that would otherwise succeed: -34.
     Want(Want),
 }
 
-/// The patch that a fork's edits make, and the volume's counts behind them.
+/// The patch that a fork's edits make, and the volume's counts after them.
 #[derive(Drop)]
 pub(crate) struct Settled {
     pub patch: Patch,

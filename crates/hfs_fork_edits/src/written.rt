@@ -24,7 +24,7 @@ fn first_written(from: u32, end: u32, offset: u32, count: u32) -> u32
     zeros.min(bytes)
 }
 
-/// The place behind the last of these zeros and bytes.
+/// The place after the last of these zeros and bytes.
 fn last_written(from: u32, end: u32, offset: u32, count: u32) -> u32
     requires { offset + count < 2 ^ 32 }
     ensures { result ≡ spec.last_written from end offset count }
@@ -34,8 +34,8 @@ fn last_written(from: u32, end: u32, offset: u32, count: u32) -> u32
     zeros.max(bytes)
 }
 
-/// The runs of a fork's blocks, which has these extents, from the first to the last that has one of the zeros, from the byte `from` up
-/// to `end`, or one of the `count` bytes from `offset` on. The only error is want of memory.
+/// The runs of the blocks of a fork with these extents, from the first to the last that has one of the zeros, from the byte
+/// `from` up to `end`, or one of the `count` bytes from `offset` on. Fails only when out of memory.
 pub(crate) fn written_runs<B: Blocks>(
     alloc: Global,
     blocks: &B,

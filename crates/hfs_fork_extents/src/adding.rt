@@ -1,4 +1,4 @@
-//! Records of a fork that come to the extents tree.
+//! Adding records of a fork to the extents tree.
 
 ghost use Rattle.std.specs.Prelude.{◌≡◌, ◌+◌, ◌*◌, ◌/◌, ◌^◌, ◌<◌, ◌≤◌, OnOk, length, take, drop};
 ghost use Rattle.hfs_btree.specs.Header.{header_in};
@@ -16,7 +16,7 @@ use hfs_fields::Extent;
 use hfs_space::ForkKind;
 use std::alloc::{AllocError, Global};
 
-/// Puts the fork's extents from `places` on into new records, three into each, which begin where the ones before them end.
+/// Puts the fork's extents from `places` on into new records, three into each; a record begins where the one before it ends.
 pub(crate) fn add_records<S: NodesMut>(
     alloc: Global,
     nodes: &mut S,

@@ -1,4 +1,4 @@
-//! The extents of a fork of which only the first blocks stay, and those of the blocks that it loses.
+//! The extents of a fork that is cut to its first blocks, and those of the blocks that it loses.
 
 ghost use Rattle.std.specs.Prelude.{ℕ, ◌≡◌, ◌≤◌, ◌++◌, IfOk, take, drop, length};
 ghost use Rattle.hfs_space.specs.Extents.{extent_blocks, AreExtentsWithin};
@@ -23,8 +23,8 @@ fn first_blocks(extent: Extent, count: u32) -> Extent
     }
 }
 
-/// The first `count` blocks of three extents, as those of a file's record or of a record of the extents tree. Each keeps its
-/// place; one that loses its last block is 0, 0, and one that had none stays as it is. Takes no memory.
+/// The first `count` blocks of three extents, such as those of a file's record or of a record of the extents tree. Each keeps its
+/// place; one that loses its last block becomes 0, 0, and one that had none stays as it is. Takes no memory.
 pub fn cut_extents(extents: &[Extent; 3], count: u32) -> [Extent; 3]
     ensures extents { result ≡ spec.cut count extents.now }
     ensures blocks { extent_blocks result ≡ take count (extent_blocks extents.now) }
@@ -39,8 +39,8 @@ pub fn cut_extents(extents: &[Extent; 3], count: u32) -> [Extent; 3]
     ]
 }
 
-/// The first `count` blocks of a fork's extents, each of which keeps its place; one that loses its last block is 0, 0, and one that had
-/// none stays as it is. Takes no memory.
+/// Cuts a fork's extents to their first `count` blocks. Each keeps its place; one that loses its last block becomes 0, 0, and one
+/// that had none stays as it is. Takes no memory.
 pub fn cut_all(extents: &mut Vec<Extent>, count: u32)
     ensures { extents.new.items ≡ spec.cut count extents.old.items }
 {
@@ -52,9 +52,9 @@ pub fn cut_all(extents: &mut Vec<Extent>, count: u32)
     }
 }
 
-/// The blocks of a fork's extents behind the first `count`, as extents: those that a fork loses which is cut.
+/// The blocks of a fork's extents after the first `count`, as extents: those that a fork loses when it is cut.
 ///
-/// Errors: `AllocError` where memory was refused.
+/// Errors: `AllocError` if memory was refused.
 pub fn surplus(alloc: Global, extents: &[Extent], count: u32) -> Result<Vec<Extent>, AllocError>
     requires { AreExtentsWithin 65535 extents.now }
     ensures extents { IfOk result (λ rest. rest.items ≡ spec.surplus count extents.now) }

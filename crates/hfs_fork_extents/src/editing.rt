@@ -16,8 +16,8 @@ use hfs_fields::{ExtKey, Extent};
 use hfs_space::ForkKind;
 use std::alloc::{AllocError, Global};
 
-/// Puts a record of a fork, which begins at its block `block`, behind all others of it. Where there are free nodes enough for
-/// more, there are for the others then.
+/// Adds a record of a fork, which begins at its block `block`, after all others of it. If there are enough free nodes for more
+/// records, there are then enough for the others.
 pub(crate) fn add_record<S: NodesMut>(
     alloc: Global,
     nodes: &mut S,
@@ -48,7 +48,7 @@ pub(crate) fn add_record<S: NodesMut>(
     Ok(())
 }
 
-/// Gives the record of a fork that begins at its block `block` these extents. No node comes or goes.
+/// Gives the record of a fork that begins at its block `block` these extents. No node is added or removed.
 pub(crate) fn set_record<S: NodesMut>(
     alloc: Global,
     nodes: &mut S,

@@ -1,4 +1,4 @@
-//! A fork to which blocks come, with its records in the extents tree.
+//! Adding blocks to a fork, with its records in the extents tree.
 
 ghost use Rattle.std.specs.Prelude.{◌≡◌, ◌+◌, ◌*◌, ◌^◌, ◌<◌, ◌≤◌, IfNone, IfOk, IfErr, OnOk, MatchOption, length};
 ghost use Rattle.std.specs.List.{All};
@@ -29,7 +29,7 @@ pub struct NodesWanted {
     pub depth: u16,
 }
 
-/// The free nodes and levels of an extents tree that has fewer of the first than `coming` more records may want.
+/// The free nodes and levels of an extents tree, if it has fewer free nodes than `coming` more records may need.
 fn nodes_wanted<N: Nodes>(nodes: &N, coming: u32) -> Option<NodesWanted>
     requires { IsExtentsTree (N.nodes nodes.now) }
     ensures { MatchOption result (HasNodesFor coming (N.nodes nodes.now))
@@ -47,14 +47,13 @@ fn nodes_wanted<N: Nodes>(nodes: &N, coming: u32) -> Option<NodesWanted>
     None
 }
 
-/// Adds blocks to a fork, whose own record has the extents `first`, and answers the first three extents that it has then; the
+/// Adds blocks to a fork whose own record has the extents `first`, and returns the first three extents that it then has; the
 /// others are in the extents tree. A piece that begins directly after the fork's last block lengthens its last extent. Any other
-/// comes to the next place, in a new record of three where all places are in use. The key of such a record has the number of the
-/// fork's blocks before it.
+/// takes the next place, in a new record of three if all places are in use. The key of such a record has the number of the fork's
+/// blocks before it.
 ///
-/// Errors: `NodesWanted` exactly where the extents tree has fewer free nodes than the records that come may want
-/// (`extents_need`); nothing is written then. `AllocError` where memory was refused; then nothing is known of the nodes, which are
-/// to be thrown away.
+/// Errors: `NodesWanted` exactly when the extents tree has fewer free nodes than the added records may need (`extents_need`);
+/// nothing is written then. `AllocError` if memory was refused; then nothing is known of the nodes, which must be thrown away.
 ///
 /// Source: Inside Macintosh: Files, chapter 2, 'Extents overflow file'.
 pub fn lengthen_fork<S: NodesMut>(

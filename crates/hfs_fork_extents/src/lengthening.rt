@@ -1,4 +1,4 @@
-//! The extents of a fork to which blocks come.
+//! Adding blocks to a fork's extents.
 
 ghost use Rattle.std.specs.Prelude.{◌≡◌, ◌+◌, ◌<◌, ◌≤◌, ◌++◌, length, OnOk, IfOk};
 ghost use Rattle.std.specs.List.{All};
@@ -24,7 +24,7 @@ fn used_places(extents: &[Extent]) -> usize
     used
 }
 
-/// The last of the first `used` extents; one that is not in use where there is none.
+/// The last of the first `used` extents; one that is not in use if there is none.
 fn last_used(extents: &[Extent], used: usize) -> Extent
     requires { used ≤ length extents.now }
     ensures { result ≡ spec.last_used extents.now used }
@@ -43,7 +43,7 @@ fn joins(extent: Extent, piece: Extent) -> bool
     extent.count > 0 && end == u32::from(piece.first)
 }
 
-/// Puts a piece at a place; where there is none, into a new record of three.
+/// Puts a piece at a place; if there is none, into a new record of three.
 fn put_at(extents: &mut Vec<Extent>, place: usize, piece: Extent) -> Result<(), AllocError>
     ensures { OnOk result (extents.new.items ≡ spec.with_place extents.old.items place piece) }
 {
@@ -57,7 +57,7 @@ fn put_at(extents: &mut Vec<Extent>, place: usize, piece: Extent) -> Result<(), 
     Ok(())
 }
 
-/// Adds a piece behind the first `used` extents, and answers how many are in use then.
+/// Adds a piece after the first `used` extents, and returns how many are then in use.
 fn add_piece(extents: &mut Vec<Extent>, used: usize, piece: Extent) -> Result<usize, AllocError>
     requires used { used ≤ length extents.old.items }
     requires within { piece.first + piece.count ≤ 65535 }
@@ -77,11 +77,11 @@ fn add_piece(extents: &mut Vec<Extent>, used: usize, piece: Extent) -> Result<us
     Ok(used + 1)
 }
 
-/// Adds blocks to a fork's extents, those of its record and then those of its records of the extents tree, by threes. A piece
-/// that begins directly after the last extent's blocks lengthens that extent. Any other comes to the next place, in a new record
-/// of three where all places are in use. All other extents keep their places.
+/// Adds blocks to a fork's extents, those of its record and then those of its records of the extents tree, in threes. A piece
+/// that begins directly after the last extent's blocks lengthens that extent. Any other takes the next place, in a new record of
+/// three if all places are in use. All other extents keep their places.
 ///
-/// Errors: `AllocError` where memory was refused. Then nothing is known of the extents, which are to be thrown away.
+/// Errors: `AllocError` if memory was refused. Then nothing is known of the extents, which must be thrown away.
 ///
 /// Source: Inside Macintosh: Files, chapter 2, 'Extents overflow file'.
 pub fn lengthen(extents: &mut Vec<Extent>, pieces: &[Extent]) -> Result<(), AllocError>

@@ -1,4 +1,4 @@
-//! The extents of a fork that comes to have another number of allocation blocks.
+//! The extents of a fork whose number of allocation blocks changes.
 #![tactic(auto)]
 
 mod adding;

@@ -1,4 +1,4 @@
-//! The records of the extents tree of a fork that loses its last blocks.
+//! The records in the extents tree of a fork that loses its last blocks.
 
 ghost use Rattle.std.specs.Prelude.{◌≡◌, OnOk};
 ghost use Rattle.hfs_btree_edits.specs.Edits.{Edits};
@@ -24,12 +24,12 @@ pub(crate) fn byte_of(fork: ForkKind) -> u8
     }
 }
 
-/// Takes those records of a fork out of the extents tree that begin at its block `block` or behind it. Its records before that
+/// Removes those records of a fork from the extents tree that begin at its block `block` or after it. Its records before that
 /// block stay, and so do the extents of every other fork.
 ///
-/// The work is that of a search and a removal for each record that goes, however many others there are.
+/// The work is a search and a removal for each record that is removed, however many others there are.
 ///
-/// Errors: `AllocError` where memory was refused. Then nothing is known of the nodes, which are to be thrown away.
+/// Errors: `AllocError` if memory was refused. Then nothing is known of the nodes, which must be thrown away.
 ///
 /// Source: Inside Macintosh: Files, chapter 2, 'Extents overflow file'.
 pub fn cut_records<S: NodesMut>(

@@ -13,8 +13,8 @@ use hfs_fields::Extent;
 use hfs_space::ForkKind;
 use std::alloc::{AllocError, Global};
 
-/// Gives the last of a fork's extents, of which there are `places`, the values that stand there now: those in its last record, or,
-/// where it has none, those in its own. `first` are the first three before that.
+/// Gives the last of a fork's `places` extents their current values: those in its last record, or, if it has none, those in its
+/// own. `first` are the first three before that.
 pub(crate) fn settle_last<S: NodesMut>(
     alloc: Global,
     nodes: &mut S,

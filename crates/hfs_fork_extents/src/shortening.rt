@@ -1,4 +1,4 @@
-//! A fork of which only the first blocks stay, with its records in the extents tree.
+//! Cutting a fork to its first blocks, with its records in the extents tree.
 
 ghost use Rattle.std.specs.Prelude.{◌≡◌, ◌≤◌, IfOk, OnOk};
 ghost use Rattle.hfs_space.specs.Extents.{AreExtentsWithin, block_total, fork_byte};
@@ -24,12 +24,12 @@ pub struct ShortFork {
     pub surplus: Vec<Extent>,
 }
 
-/// Leaves a fork, whose own record has the extents `first`, its first `count` blocks. Each extent keeps its place; one that loses
-/// its last block is 0, 0. Records that hold no block then leave the extents tree.
+/// Cuts a fork, whose own record has the extents `first`, to its first `count` blocks. Each extent keeps its place; one that
+/// loses its last block becomes 0, 0. Records without blocks are then removed from the extents tree.
 ///
-/// The work is that of going through the fork's records, and of a search and a removal for each one that goes.
+/// The work is going through the fork's records, and a search and a removal for each one that is removed.
 ///
-/// Errors: `AllocError` where memory was refused. Then nothing is known of the nodes, which are to be thrown away.
+/// Errors: `AllocError` if memory was refused. Then nothing is known of the nodes, which must be thrown away.
 ///
 /// Source: Inside Macintosh: Files, chapter 2, 'Extents overflow file'.
 pub fn shorten_fork<S: NodesMut>(

@@ -1,4 +1,4 @@
-//! Extents by threes, as the records of the extents tree have them.
+//! Extents in threes, as the records of the extents tree have them.
 
 ghost use Rattle.std.specs.Prelude.{◌≡◌, ◌+◌, ◌*◌, ◌^◌, ◌<◌, ◌≤◌, length, take, drop};
 ghost use Rattle.hfs_space.specs.Extents.{block_total, record_extents};
@@ -37,7 +37,7 @@ pub(crate) fn record_body(extents: &[Extent; 3]) -> [u8; 12]
     bytes
 }
 
-/// Of the threes behind the first, how many begin before the fork's block `count`.
+/// How many of the threes after the first begin before the fork's block `count`.
 pub(crate) fn threes_left(extents: &[Extent], count: u32) -> usize
     requires some { 3 ≤ length extents.now }
     requires threes { AreThrees (drop 3 extents.now) }

@@ -1,4 +1,4 @@
-//! The pieces that come where a fork is written or cut.
+//! The pieces that are put in when a fork is written or cut.
 ghost use Rattle.std.specs.Prelude.{◌≡◌, ◌+◌, ◌<◌, ◌++◌, take, drop, IfOk};
 ghost use Rattle.hfs_fork_pieces.specs.declared.piece.Piece.{Piece};
 ghost use Rattle.hfs_fork_pieces.specs.Pieces.{end_of};
@@ -9,7 +9,7 @@ use crate::piece::{Piece, Source};
 use hfs_model::SharedBytes;
 use std::alloc::{AllocError, Global};
 
-/// What stays of the pieces from that number on before a place at which the first of them has not ended.
+/// Appends what stays of the pieces from that number on before a place, which the first of them reaches.
 pub(crate) fn push_front(
     come: Vec<Piece>,
     pieces: &[Piece],
@@ -33,7 +33,7 @@ pub(crate) fn push_front(
     Ok(come)
 }
 
-/// What stays of the piece of that number after a place before which it begins.
+/// Appends what stays of the piece with that number after a place, before which it begins.
 fn push_back(
     come: Vec<Piece>,
     pieces: &[Piece],
@@ -57,8 +57,8 @@ fn push_back(
     Ok(come)
 }
 
-/// The pieces that come with bytes from a place on: what stays of the piece in which they begin, the bytes, and what stays of the piece
-/// in which they end.
+/// The pieces for bytes that are written from a place on: what stays of the piece in which they begin, the bytes, and what stays
+/// of the piece in which they end.
 pub(crate) fn coming(
     alloc: Global,
     pieces: &[Piece],

@@ -7,7 +7,7 @@ ghost use Rattle.hfs_fork_pieces.specs.Edits.{HaveEnded};
 
 use crate::piece::Piece;
 
-/// How many of the pieces end at this place or before it. A binary search.
+/// How many of the pieces end at or before this place. A binary search.
 pub(crate) fn ended(pieces: &[Piece], place: u32) -> usize
     requires { IsNonDecreasingBy (λ (p : Piece). p.end) pieces.now }
     ensures { HaveEnded pieces.now place result }
@@ -15,7 +15,7 @@ pub(crate) fn ended(pieces: &[Piece], place: u32) -> usize
     pieces.partition_point(|piece| piece.end <= place)
 }
 
-/// Where the piece of that number begins, or where the last one ends.
+/// Where the piece with that number begins, or where the last one ends.
 pub(crate) fn start_of(pieces: &[Piece], number: usize) -> u32
     requires { number ≤ length pieces.now }
     ensures { result ≡ end_of 0 (take number pieces.now) }

@@ -1,4 +1,4 @@
-//! A file's fork by pieces.
+//! A file's fork in pieces.
 ghost use Rattle.std.specs.Prelude.{◌≡◌, ◌+◌, ◌<◌, ◌≤◌, ◌^◌, true, take, length, OnOk, OnErr};
 ghost use Rattle.hfs_model.specs.Forks.{resized, written};
 ghost use Rattle.hfs_fork_pieces.specs.Pieces.{ArePieces, fork_length};
@@ -11,18 +11,18 @@ use crate::piece_list::PieceList;
 use hfs_model::SharedBytes;
 use std::alloc::{AllocError, Global};
 
-/// The bytes of a file's fork over those that it has in the base. No byte of either is copied.
+/// The bytes of a file's fork, over those that it has in the base. No byte of either is copied.
 #[derive(Clone, Drop)]
 pub struct ForkPieces {
     /// How many bytes the fork has in the base.
     pub base_len: u32,
-    /// Whether the pieces are the fork's; it is the base's fork else.
+    /// Whether the fork consists of the pieces; otherwise it is the base's fork.
     pub touched: bool,
     pub pieces: PieceList,
 }
 
 impl ForkPieces {
-    /// The fork as it is in the base, where it has so many bytes. Takes no memory.
+    /// The fork as it is in the base, where it has this many bytes. Takes no memory.
     pub fn untouched(alloc: Global, base_len: u32) -> ForkPieces
         ensures { IsUntouched base_len result }
     {
@@ -45,7 +45,7 @@ impl ForkPieces {
         start_of(pieces, pieces.len())
     }
 
-    /// Makes a piece of the base's fork, where the fork has no pieces yet. At want of memory nothing has changed.
+    /// Makes a piece of the base's fork, if the fork has no pieces yet. When out of memory, nothing has changed.
     fn touch(&mut self) -> Result<(), AllocError>
         requires { ArePieces self.old }
         ensures ok { OnOk result (IsTouched self.old self.new) }
@@ -77,8 +77,8 @@ impl ForkPieces {
         self.pieces.replace(number, count, front)
     }
 
-    /// Makes the fork its first bytes, or adds zeros after them, so that it has so many. Takes no memory for zeros. At want of memory the
-    /// fork has the bytes that it had.
+    /// Makes the fork `count` bytes long, by cutting it or adding zeros at its end. Takes no memory for zeros. When out of
+    /// memory, the fork has the bytes that it had.
     pub fn set_length(&mut self, alloc: Global, count: u32) -> Result<(), AllocError>
         requires { ArePieces self.old }
         ensures ok { OnOk result (Makes (resized count) self.old self.new) }
@@ -94,8 +94,8 @@ impl ForkPieces {
         })
     }
 
-    /// Puts bytes of a call in the place of those from `offset` on, also past the end. They are shared from then on. At want of memory the
-    /// fork has the bytes that it had.
+    /// Puts a call's bytes in place of those from `offset` on, which may be past the end. They are shared from then on. When out
+    /// of memory, the fork has the bytes that it had.
     pub fn write(
         &mut self,
         alloc: Global,

@@ -1,4 +1,5 @@
-//! A file's fork that calls wrote, by pieces: parts of the fork as it was, zeros, and parts of the calls' bytes, which are shared.
+//! A file's fork that calls wrote, in pieces: parts of the fork as it was, zeros, and parts of the calls' bytes, which are
+//! shared.
 #![tactic(auto)]
 
 mod coming;

@@ -6,7 +6,7 @@ ghost use Rattle.hfs_fork_pieces.specs.Edits.{MaySkip};
 use hfs_model::SharedBytes;
 use std::alloc::AllocError;
 
-/// Where the bytes of a piece are found, from the first of them on.
+/// Where the bytes of a piece are found, from the first one on.
 #[derive(Drop)]
 pub enum Source {
     /// In the base's fork, at this place.
@@ -20,7 +20,7 @@ pub enum Source {
 /// A piece of a fork.
 #[derive(Drop)]
 pub struct Piece {
-    /// The place in the fork where it ends. It begins where the piece before it ends, the first at 0.
+    /// The place in the fork where it ends. It begins where the piece before it ends; the first begins at 0.
     pub end: u32,
     pub source: Source,
 }
@@ -52,7 +52,7 @@ impl Clone for Piece {
 }
 
 impl Source {
-    /// The source of the bytes after the first `count`, which shares what this one shares.
+    /// The source of the bytes after the first `count`; it shares what this one shares.
     pub(crate) fn skipped(&self, count: u32) -> Result<Source, AllocError>
         requires { MaySkip count self.now }
         ensures { IfOk result (λ source. source ≡ skipped count self.now) }

@@ -38,7 +38,7 @@ impl PieceList {
         &self.items
     }
 
-    /// One more piece. At want of memory nothing has changed.
+    /// Adds a piece. When out of memory, nothing has changed.
     pub(crate) fn push(&mut self, piece: Piece) -> Result<(), AllocError>
         ensures ok { OnOk result (self.new ≡ self.old ++ piece ∷ []) }
         ensures err { OnErr result (self.new ≡ self.old) }
@@ -49,7 +49,7 @@ impl PieceList {
         Ok(())
     }
 
-    /// Puts pieces in the place of those from one number to another. At want of memory nothing has changed.
+    /// Puts pieces in place of those from one number up to another. When out of memory, nothing has changed.
     pub(crate) fn replace(
         &mut self,
         from: usize,

@@ -7,19 +7,19 @@ use crate::finding::{ended, start_of};
 use crate::fork::ForkPieces;
 use crate::piece::Source;
 
-/// Bytes of a fork side by side that come of one source.
+/// Consecutive bytes of a fork that come from one source.
 #[derive(Clone, Copy)]
 pub enum Stretch<'a> {
-    /// So many bytes of the base's fork, from this place on.
+    /// This many bytes of the base's fork, from this place on.
     Base { from: u32, count: u32 },
-    /// So many zeros.
+    /// This many zeros.
     Zeros { count: u32 },
     /// These bytes of a call.
     Given { bytes: &'a [u8] },
 }
 
 impl Source {
-    /// So many of its bytes, after the first `skip`.
+    /// `count` of its bytes, after the first `skip`.
     fn part(&self, skip: u32, count: u32) -> Stretch<'_>
         requires { MayRead skip count self.now }
         ensures { IsPart skip count self.now result }
@@ -41,7 +41,7 @@ impl Source {
 }
 
 impl ForkPieces {
-    /// The bytes from a place on as far as they come of one source, and at most so many. A binary search; takes no memory.
+    /// The bytes from a place on, as far as they come from one source, but at most `most`. A binary search; takes no memory.
     pub fn stretch(&self, place: u32, most: u32) -> Stretch<'_>
         requires pieces { ArePieces self.now }
         requires within { place < fork_length self.now }

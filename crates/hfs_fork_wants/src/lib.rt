@@ -1,4 +1,4 @@
-//! What a call that writes a fork wants of a volume: allocation blocks, and nodes of the extents tree.
+//! What a call that writes a fork needs of a volume: allocation blocks, and nodes of the extents tree.
 #![tactic(auto)]
 
 mod room;

@@ -1,4 +1,4 @@
-//! What is there, what comes, and whether that is enough.
+//! What is there, what is added, and whether there is enough.
 ghost use Rattle.std.specs.Prelude.{◌≡◌};
 ghost use Rattle.hfs_fork_wants.specs.Wants.{blocks_wanted, want_of, ForkWantsAreTold, SetEofWantsAreTold, WriteForkWantsAreTold};
 
@@ -19,7 +19,7 @@ pub struct Supply {
     pub records: u32,
 }
 
-/// What comes to a fork that grows.
+/// What is added to a fork that grows.
 #[derive(Clone, Copy)]
 pub struct Growth {
     /// Allocation blocks.
@@ -28,14 +28,14 @@ pub struct Growth {
     pub records: u32,
 }
 
-/// How many allocation blocks come to a fork that has `have` of them, and gets so many bytes.
+/// How many allocation blocks are added to a fork that has `have` of them, and gets `length` bytes.
 pub fn blocks_wanted(block_size: BlockSize, have: u32, length: u32) -> u32
     ensures { result ≡ blocks_wanted block_size have length }
 {
     block_size.blocks(length).saturating_sub(have)
 }
 
-/// What is wanting, if something is: allocation blocks first, then nodes of the extents tree for the records that come to it.
+/// What is lacking, if anything: allocation blocks first, then nodes of the extents tree for the records that are added to it.
 pub fn fork_want(supply: Supply, growth: Growth) -> Option<Want>
     ensures { result ≡ want_of supply growth }
 {
@@ -54,18 +54,18 @@ pub fn fork_want(supply: Supply, growth: Growth) -> Option<Want>
     None
 }
 
-/// Of a fork that gets at most so many allocation blocks, where no more blocks come, and no more records than there are threes of
-/// them, too few blocks are told with what is wanted of them, and too few nodes where one record or more wants them.
+/// For a fork that gets at most this many allocation blocks, where no more blocks are added, and no more records than there are
+/// threes of them: too few blocks are reported with how many are wanted, and too few nodes if one record or more wants them.
 pub fn fork_wants_are_told()
     ensures { ForkWantsAreTold }
 {}
 
-/// What a SetEof that would be done otherwise may meet want of is such a want of a fork of the new length.
+/// What a SetEof that would otherwise succeed may lack is what a fork of the new length lacks.
 pub fn set_eof_wants_are_told()
     ensures { SetEofWantsAreTold }
 {}
 
-/// So is what a WriteFork may meet want of; the new length is the greater of the fork's length and where the bytes end.
+/// So is what a WriteFork may lack; the new length is the greater of the fork's length and where the bytes end.
 pub fn write_fork_wants_are_told()
     ensures { WriteForkWantsAreTold }
 {}

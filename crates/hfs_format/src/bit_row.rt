@@ -1,10 +1,10 @@
-//! Rows of bits of which the first are set, by whole bytes.
+//! Rows of bits of which the first ones are set, as whole bytes.
 ghost use Rattle.std.specs.Prelude.{◌≡◌, ◌+◌, ◌<◌, ◌≤◌, ◌++◌, length};
 ghost use Rattle.hfs_format.specs.BitRow.{bit_row_byte, bit_row};
 
 use hfs_fields::FieldRow;
 
-/// Byte `j` of a row of bits of which the first `set` are set. The most significant bit of byte 0 is the first bit.
+/// Byte `j` of a row of bits of which the first `set` are set. The most significant bit of byte 0 comes first.
 #[tactic(auto, using(crate::proofs::FirstBits::left_over), unfolding(crate::specs::BitRow::bit_row_byte))]
 fn bit_row_byte(set: u32, j: u32) -> u8
     requires { j < 1048576 }
@@ -14,7 +14,7 @@ fn bit_row_byte(set: u32, j: u32) -> u8
     (256 - (1u32 << (8 - bits))) as u8
 }
 
-/// Lays `count` bytes of a row of bits of which the first `set` are set, from byte `first` on.
+/// Appends `count` bytes of a row of bits of which the first `set` are set, starting at byte `first`.
 #[tactic(auto, unfolding(crate::specs::BitRow::bit_row))]
 pub fn push_bits(row: &mut FieldRow, set: u32, first: u32, count: u32)
     requires room { length row.old + count ≤ 512 }

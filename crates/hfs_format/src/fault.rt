@@ -1,7 +1,7 @@
 //! Why a plan of a new volume is refused.
 use thiserror::Error;
 
-/// Why no new volume was made. The first four are asked in this order, before any memory is asked for.
+/// Why no new volume was made. The first four are checked in this order, before any memory is asked for.
 #[derive(Clone, Copy, Debug, PartialEq, Eq, Error)]
 pub enum FormatFault {
     /// The name isn't an item name of 1 to 27 characters.
@@ -16,7 +16,7 @@ pub enum FormatFault {
     /// The two files need more allocation blocks than the volume has.
     #[error("no room")]
     NoRoom,
-    /// Memory was refused, which says nothing of the plan but that it has none of the other faults.
+    /// Memory was refused. The plan then has none of the other faults.
     #[error("out of memory")]
     Memory,
 }

@@ -18,7 +18,7 @@ use crate::tree_header::{empty_tree, one_leaf_tree, tree_block};
 use hfs_fields::FieldRow;
 use std::alloc::{AllocError, Global};
 
-/// Block `k` of the bitmap, counted from 0: the files' allocation blocks are the first ones.
+/// Block `k` of the bitmap, counted from 0. The files' allocation blocks are the first ones.
 fn bitmap_block(volume: &Layout, k: u32) -> [u8; 512]
     requires { k < 100 }
     ensures { result ≡ bit_row (used_blocks volume.now) (512 * k) 512 }
@@ -64,7 +64,7 @@ pub(crate) fn new_block(volume: &Layout, k: u32) -> [u8; 512]
     }
 }
 
-/// The blocks of the volume, one behind the other.
+/// The blocks of the volume, one after the other.
 #[tactic(auto, unfolding(crate::specs::Image::volume_image))]
 fn volume_image(alloc: Global, volume: &Layout) -> Result<Vec<u8>, AllocError>
     requires { IsLayout volume.now }
@@ -78,17 +78,16 @@ fn volume_image(alloc: Global, volume: &Layout) -> Result<Vec<u8>, AllocError>
     Ok(image)
 }
 
-/// The image of a new volume, `512 * plan.blocks` bytes: two empty boot blocks, the master directory block, the bitmap,
-/// the extents file with an empty tree, the catalog file with the root folder and its thread, and the alternate master
-/// directory block in the last block but one. A tree of more than 2,048 nodes has its map nodes behind its header node. Each
-/// byte that these don't name is 0. All dates are `plan.now`. The image passes every check of a volume, and holds the root
-/// folder alone.
+/// The image of a new volume, `512 * plan.blocks` bytes: two empty boot blocks, the master directory block, the bitmap, the
+/// extents file with an empty tree, the catalog file with the root folder and its thread, and the alternate master directory
+/// block in the last block but one. A tree of more than 2,048 nodes has its map nodes after its header node. All other bytes are
+/// 0. All dates are `plan.now`. The image passes every check of a volume, and holds only the root folder.
 ///
-/// Errors: the first of `BadName`, `BadSize`, `BadNodes` and `NoRoom` that the plan has, as `FormatFault` says, before
-/// any memory is asked for; `Memory` only where memory was refused.
+/// Errors: the first of `BadName`, `BadSize`, `BadNodes` and `NoRoom` that applies to the plan, before any memory is asked for;
+/// `Memory` only if memory was refused.
 ///
-/// Source: the format of each part is that of Inside Macintosh: Files, chapter 2, "Data Organization on Volumes"; where
-/// the parts lie is this project's own choice.
+/// Source: the format of each part is that of Inside Macintosh: Files, chapter 2, "Data Organization on Volumes"; where the parts
+/// lie is this project's own choice.
 #[tactic(auto, unfolding(crate::specs::Plan::layout_of), using(crate::proofs::PlanFacts::is_layout_laid))]
 pub fn format(alloc: Global, plan: FormatPlan) -> Result<Vec<u8>, FormatFault>
     ensures image { IfOk result (spec.IsNewImage plan) }

@@ -11,22 +11,22 @@ use hfs_fields::Name;
 /// The file of a tree.
 #[derive(Clone, Copy)]
 pub struct TreeFile {
-    /// Allocation blocks.
+    /// How many allocation blocks it has.
     pub blocks: u16,
-    /// Nodes of 512 bytes, as many as the allocation blocks hold.
+    /// How many nodes of 512 bytes it has: as many as the allocation blocks hold.
     pub nodes: u32,
 }
 
-/// Where the parts of a new volume lie, and what its blocks tell.
+/// Where the parts of a new volume lie, and what its blocks hold.
 #[derive(Clone, Copy)]
 pub struct Layout {
     /// The volume's name, an item name of at most 27 characters.
     pub name: Name,
-    /// The moment of all dates, in seconds since midnight of 1 January 1904.
+    /// The moment of all dates, in seconds since midnight, 1 January 1904.
     pub moment: u32,
-    /// Logical blocks of 512 bytes of the volume.
+    /// How many logical blocks of 512 bytes the volume has.
     pub blocks: u32,
-    /// Logical blocks of an allocation block.
+    /// How many logical blocks an allocation block has.
     pub factor: u32,
     /// drAlBlSt: the logical block where allocation block 0 begins.
     pub start: u16,
@@ -38,7 +38,7 @@ pub struct Layout {
     pub catalog: TreeFile,
 }
 
-/// How many logical blocks an allocation block has: the least number that leaves at most 65,535 allocation blocks.
+/// How many logical blocks an allocation block has: the smallest number that leaves at most 65,535 allocation blocks.
 #[tactic(auto, unfolding(crate::specs::Plan::block_factor))]
 fn block_factor(blocks: u32) -> u32
     requires { blocks ≤ 4194304 }
@@ -65,7 +65,7 @@ fn allocation_start(blocks: u32, factor: u32) -> u16
     (3 + (blocks / factor + 4095) / 4096) as u16
 }
 
-/// How many allocation blocks so many nodes take.
+/// How many allocation blocks `nodes` nodes take.
 #[tactic(auto, unfolding(crate::specs::Plan::file_blocks), using(crate::proofs::Rounding::few_blocks))]
 fn file_blocks(factor: u32, nodes: u32) -> u64
     requires some { 1 ≤ factor }
@@ -75,7 +75,7 @@ fn file_blocks(factor: u32, nodes: u32) -> u64
     (u64::from(nodes) + u64::from(factor - 1)) / u64::from(factor)
 }
 
-/// The file of so many allocation blocks.
+/// The file of `blocks` allocation blocks.
 fn tree_file(factor: u32, blocks: u16) -> TreeFile
     requires { factor ≤ 65 }
     ensures { result ≡ record { blocks = blocks; nodes = blocks * factor } }
@@ -86,8 +86,8 @@ fn tree_file(factor: u32, blocks: u16) -> TreeFile
     }
 }
 
-/// The files of so many nodes of the extents tree and of the catalog. None exactly where their allocation blocks are more than
-/// the volume has.
+/// The files of the extents tree and the catalog with these numbers of nodes. None exactly when they need more allocation blocks
+/// than the volume has.
 fn tree_files(
     factor: u32,
     room: u16,
@@ -109,7 +109,7 @@ fn tree_files(
     ))
 }
 
-/// The name of a volume. None exactly where it isn't an item name of at most 27 characters.
+/// The name of a volume. None exactly when it isn't an item name of at most 27 characters.
 fn volume_name(bytes: &[u8]) -> Option<Name>
     ensures name { SomeIff result (IsTrue (spec.is_volume_name bytes.now)) bytes.now }
     ensures short { IfSome result (λ name. length name ≤ 27) }
@@ -118,7 +118,7 @@ fn volume_name(bytes: &[u8]) -> Option<Name>
     if bytes.len() > 27 { None } else { Some(name) }
 }
 
-/// How many allocation blocks lie between their beginning and the last two logical blocks.
+/// How many allocation blocks lie between their start and the last two logical blocks.
 #[tactic(auto, unfolding(crate::specs::Plan::allocation_blocks))]
 fn allocation_blocks(blocks: u32, start: u16, factor: u32) -> u16
     requires small { blocks / factor < 65536 }

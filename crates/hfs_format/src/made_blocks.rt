@@ -1,4 +1,4 @@
-//! The blocks of a new volume's image, each made where it is read.
+//! The blocks of a new volume's image, each made when it is read.
 ghost use Rattle.std.specs.Prelude.{◌≡◌, ◌+◌, ◌*◌, ◌≤◌, length, IfOk, MatchResult, OnErr, OnOk};
 ghost use Rattle.std.specs.Io.KnownBytes.{Appends};
 ghost use Rattle.hfs_texts.specs.Writing.{AppendsFront};
@@ -22,7 +22,7 @@ use std::io;
 use std::io::{ErrorKind, Write};
 
 impl PlannedImage {
-    /// The image that `format` makes of the plan. It takes no memory. Errors: the plan's first fault, which is never `Memory`.
+    /// The image that `format` makes of the plan. Takes no memory. Errors: the plan's first fault, which is never `Memory`.
     #[tactic(auto, unfolding(crate::specs::Plan::layout_of), using(crate::proofs::Ranges::is_planned_laid))]
     pub fn of(plan: &FormatPlan) -> Result<PlannedImage, FormatFault>
         ensures answer { MatchResult result (IsImageOf plan.entry.now) (HasFault plan.entry.now) }
@@ -43,8 +43,8 @@ impl PlannedImage {
         self.volume.blocks
     }
 
-    /// Writes the image, some blocks at a time. It takes no memory. At an error a part may have gone out, from the first
-    /// byte on, and nothing else.
+    /// Writes the image, a few blocks at a time. Takes no memory. At an error, only some of the first bytes may have been
+    /// written.
     #[tactic(auto, using(crate::proofs::Ranges::is_layout_planned))]
     pub fn write<W: Write>(&self, writer: &mut W) -> io::Result<()>
         ensures ok { OnOk result (Appends (W.contents writer.old) (W.contents writer.new)
@@ -63,10 +63,10 @@ impl PlannedImage {
     }
 }
 
-/// The most blocks that are made at once where an image is written.
+/// The most blocks that are made at once while an image is written.
 const MOST_AT_ONCE: u32 = 8;
 
-/// Writes the blocks from number `first` on, so many.
+/// Writes `count` blocks, starting at number `first`.
 fn write_blocks<W: Write>(volume: &Layout, first: u32, count: u32, writer: &mut W) -> io::Result<()>
     requires layout { IsLayout volume.now }
     requires few { count ≤ 8 }
@@ -95,7 +95,7 @@ fn make_blocks(volume: &Layout, first: u32, count: u32, into: &mut [u8])
     }
 }
 
-/// Reads of whole blocks within the image don't fail; others are `UnexpectedEof`.
+/// Reads of whole blocks within the image never fail; others are `UnexpectedEof`.
 impl BlockSource for PlannedImage {
     ghost use Rattle.std.specs.Prelude.{Some};
 

@@ -7,7 +7,7 @@ ghost use Rattle.hfs_format.specs.NewMdb as spec;
 use crate::layout::Layout;
 use hfs_fields::{Extent, Mdb, Name, VolumeAttributes};
 
-/// The characters of a name, and zeros behind them.
+/// The characters of a name, and zeros after them.
 fn characters(name: &[u8]) -> [u8; 27]
     requires { length name.now ≤ 27 }
     ensures { result ≡ name.now ++ replicate (27 - length name.now) 0 }

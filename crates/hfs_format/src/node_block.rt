@@ -5,7 +5,7 @@ ghost use Rattle.hfs_format.specs.NewTrees as spec;
 use hfs_fields::FieldRow;
 use hfs_node::NodeKind;
 
-/// The descriptor of a node between these.
+/// The descriptor of a node with these links.
 pub fn descriptor(forward: u32, backward: u32, kind: NodeKind, height: u8, records: u16) -> FieldRow
     ensures bytes { result ≡ spec.descriptor forward backward kind height records }
     ensures length { length result ≡ 14 }
@@ -19,7 +19,7 @@ pub fn descriptor(forward: u32, backward: u32, kind: NodeKind, height: u8, recor
     row
 }
 
-/// A leaf of two records.
+/// A leaf with two records.
 pub fn leaf_block(first: &FieldRow, second: &FieldRow) -> [u8; 512]
     requires { length first.now + length second.now ≤ 492 }
     ensures { result ≡ spec.node_bytes (spec.lone_leaf (first.now ∷ second.now ∷ [])) }

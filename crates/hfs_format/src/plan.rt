@@ -3,15 +3,15 @@
 /// The plan of a new volume.
 #[derive(Debug, Drop)]
 pub struct FormatPlan {
-    /// The volume's name, 1 to 27 characters of an item name.
+    /// The volume's name, an item name of 1 to 27 characters.
     pub name: Vec<u8>,
-    /// Logical blocks of 512 bytes: 8 to 4,194,304.
+    /// How many logical blocks of 512 bytes it has: 8 to 4,194,304.
     pub blocks: u32,
-    /// Nodes of the extents file, at least 1. The file has whole allocation blocks, and as many nodes as fit them. Map nodes
-    /// are among them: one for each 3,936 nodes beyond 2,048, and for what remains.
+    /// How many nodes the extents file has, at least 1. The file takes whole allocation blocks, and has as many nodes as fit into
+    /// them. They include the map nodes: one for each 3,936 nodes beyond 2,048, or part of that many.
     pub extents_nodes: u32,
-    /// Nodes of the catalog file, at least 2, in whole allocation blocks likewise.
+    /// How many nodes the catalog file has, at least 2, in whole allocation blocks likewise.
     pub catalog_nodes: u32,
-    /// The moment of all dates, in seconds since midnight of 1 January 1904.
+    /// The moment of all dates, in seconds since midnight, 1 January 1904.
     pub now: u32,
 }

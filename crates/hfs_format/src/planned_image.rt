@@ -3,7 +3,7 @@ ghost use Rattle.hfs_format.specs.Plan.{IsPlanned};
 
 use crate::layout::Layout;
 
-/// The image of a new volume, of which no block is held: each is made where it is read.
+/// The image of a new volume. No block is held: each is made when it is read.
 #[derive(Clone, Copy)]
 pub struct PlannedImage {
     pub(crate) volume: Layout,

@@ -9,7 +9,7 @@ use crate::layout::Layout;
 use crate::node_block::leaf_block;
 use hfs_fields::{CatKey, DirRecord, FieldRow, Name, ThreadKind, ThreadRecord};
 
-/// A key as it stands in a leaf.
+/// A key as it is stored in a leaf.
 fn key_row(parent: u32, name: Name) -> FieldRow
     requires { length name ≤ 31 }
     ensures bytes { result ≡ cat_leaf_bytes (record { parent = parent; name = name }) }
@@ -23,7 +23,7 @@ fn key_row(parent: u32, name: Name) -> FieldRow
     row
 }
 
-/// The root folder's record: all its dates are the moment of the volume's making.
+/// The root folder's record. All its dates are the moment when the volume is made.
 #[tactic(auto, unfolding(crate::specs::NewTrees::root_record))]
 fn root_record(volume: &Layout) -> FieldRow
     requires { IsLayout volume.now }

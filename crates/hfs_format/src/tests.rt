@@ -23,7 +23,7 @@ fn plan_of(
     })
 }
 
-/// Writes bytes into a block of an image, where it has them.
+/// Writes bytes into a block of an image, if it has them.
 fn lay(image: &mut Vec<u8>, block: usize, at: usize, bytes: &[u8])
     requires block { block < 65536 }
     requires place { at < 512 }
@@ -36,7 +36,7 @@ fn lay(image: &mut Vec<u8>, block: usize, at: usize, bytes: &[u8])
     image[start..end].copy_from_slice(bytes);
 }
 
-/// Writes the master directory block of a volume with name `D` and 64 blocks.
+/// Writes the master directory block of a volume named `D` with 64 blocks.
 fn lay_mdb(image: &mut Vec<u8>, block: usize, nodes: u8)
     requires { block < 65536 }
 {
@@ -101,7 +101,7 @@ fn lay_trees(image: &mut Vec<u8>, nodes: u8) {
     lay(image, 7, 506, &[0, 146, 0, 92, 0, 14]);
 }
 
-/// The image of a volume with name `D`, of so many bytes, with 2 extents nodes and so many catalog nodes.
+/// The image of a volume named `D`, of `len` bytes, with 2 extents nodes and `nodes` catalog nodes.
 fn expected_image(
     alloc: Global,
     len: usize,
@@ -205,7 +205,7 @@ fn the_largest_volume_is_laid_out(rt: HostRuntime) -> Result<(), Fail> {
     Ok(())
 }
 
-/// Whether an image has these bytes in blocks, each from a place on.
+/// Whether an image has these bytes in these blocks, each from a place on.
 fn has_all(image: &[u8], pieces: &[(usize, usize, &[u8])]) -> bool {
     for (block, at, bytes) in pieces {
         if *block >= 65_536 || *at >= 512 || !has(image, *block, *at, *bytes) {
@@ -215,7 +215,8 @@ fn has_all(image: &[u8], pieces: &[(usize, usize, &[u8])]) -> bool {
     true
 }
 
-/// An extents file of 2,049 nodes in the blocks from 8 on has one map node, a catalog of 5,985 from block 2,057 on two.
+/// An extents file of 2,049 nodes in the blocks from 8 on has one map node, and a catalog of 5,985 in those from 2,057 on has
+/// two.
 #[test]
 fn large_trees_have_map_nodes(rt: HostRuntime) -> Result<(), Fail> {
     let image = format(rt.alloc(), plan_of(rt.alloc(), b"D", 20_000, 2_049, 5_985)?)?;
@@ -263,7 +264,7 @@ fn large_trees_have_map_nodes(rt: HostRuntime) -> Result<(), Fail> {
     Ok(())
 }
 
-/// The last trees that need no map node, or no second one.
+/// The largest trees that need no map node, or only one.
 #[test]
 fn map_nodes_begin_where_they_are_wanted(rt: HostRuntime) -> Result<(), Fail> {
     let image = format(rt.alloc(), plan_of(rt.alloc(), b"D", 20_000, 2_048, 5_984)?)?;
@@ -288,7 +289,7 @@ fn large_trees_are_those_of_hformat(rt: HostRuntime) -> Result<(), Fail> {
         plan_of(rt.alloc(), b"D", 70_000, 32_704, 32_704)?,
     )?;
     let pieces: [(usize, usize, &[u8]); 11] = [
-        // the extents file begins behind the bitmap, whose 35,000 bits take 9 blocks
+        // the extents file begins after the bitmap, whose 35,000 bits take 9 blocks
         (12, 0, &[0, 0, 0, 1, 0, 0, 0, 0, 1, 0, 0, 3, 0, 0]),
         (12, 32, &[2, 0, 0, 7, 0, 0, 0x7f, 0xc0, 0, 0, 0x7f, 0xb7]),
         (12, 248, &[0xff, 0x80, 0]),
@@ -313,7 +314,7 @@ fn large_trees_are_those_of_hformat(rt: HostRuntime) -> Result<(), Fail> {
     Ok(())
 }
 
-/// The first fault of a plan, found before any memory of the image is asked for.
+/// The first fault of a plan, found before any memory for the image is asked for.
 fn fault_of(
     alloc: Global,
     name: &[u8],

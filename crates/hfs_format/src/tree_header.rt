@@ -9,7 +9,7 @@ use hfs_btree::Header;
 use hfs_fields::FieldRow;
 use hfs_node::NodeKind;
 
-/// How many map nodes a tree of so many nodes has. A map node's record is 492 bytes long.
+/// How many map nodes a tree of `nodes` nodes has. A map node's record is 492 bytes long.
 #[tactic(auto, unfolding(crate::specs::NewTrees::map_node_count))]
 fn map_node_count(nodes: u32) -> u32
     requires { nodes ≤ 4194304 }
@@ -20,8 +20,8 @@ fn map_node_count(nodes: u32) -> u32
     (nodes.saturating_sub(2_048) + 3_935) / 3_936
 }
 
-/// The header record of a tree without a leaf, of so many nodes. `key_len` is the length of its index nodes' keys, without
-/// their length byte.
+/// The header record of a tree of `nodes` nodes without a leaf. `key_len` is the length of its index nodes' keys, without their
+/// length byte.
 #[tactic(auto, unfolding(crate::specs::NewTrees::empty_tree))]
 pub fn empty_tree(key_len: u16, nodes: u32) -> Header
     requires some { 1 ≤ nodes }
@@ -42,8 +42,8 @@ pub fn empty_tree(key_len: u16, nodes: u32) -> Header
     }
 }
 
-/// The header record of a tree of so many nodes with one leaf of so many records, which follows the header node and the
-/// map nodes.
+/// The header record of a tree of `nodes` nodes with one leaf of `records` records, which follows the header node and the map
+/// nodes.
 #[tactic(auto, unfolding(crate::specs::NewTrees::one_leaf_tree))]
 pub fn one_leaf_tree(key_len: u16, nodes: u32, records: u32) -> Header
     requires some { 2 ≤ nodes }
@@ -85,7 +85,7 @@ fn header_record(tree: &Header) -> FieldRow
     row
 }
 
-/// The node behind node `j` of those that hold the map; 0 behind the last.
+/// The node after node `j` among those that hold the map; 0 after the last.
 #[tactic(auto, unfolding(crate::specs::NewTrees::next_map_node))]
 fn next_map_node(tree: &Header, j: u32) -> u32
     requires { IsNewTree tree.now }
@@ -134,7 +134,7 @@ fn map_block(tree: &Header, j: u32) -> [u8; 512]
     row.into_block()
 }
 
-/// Node `j` of such a tree: its header node, its map nodes, and zeros behind them.
+/// Node `j` of such a tree: its header node, its map nodes, and zeros after them.
 #[tactic(auto, unfolding(crate::specs::NewTrees::tree_block))]
 pub fn tree_block(tree: &Header, j: u32) -> [u8; 512]
     requires { IsNewTree tree.now }

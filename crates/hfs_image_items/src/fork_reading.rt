@@ -12,7 +12,7 @@ use hfs_needed::{ForkRuns, SeenImage};
 use hfs_source::PlacedBlocks;
 use std::alloc::{AllocError, Global};
 
-/// Where reading a fork stands.
+/// How far a fork has been read.
 #[derive(Drop)]
 pub(crate) struct ForkReading {
     /// All pieces of its blocks.
@@ -35,7 +35,7 @@ pub(crate) fn empty_fork(alloc: Global) -> ForkReading
     }
 }
 
-/// Begins with a fork, whose bytes lie there. Error: memory was refused.
+/// Begins reading a fork whose bytes lie there. Error: memory was refused.
 pub(crate) fn begin_fork(alloc: Global, found: &ForkRuns) -> Result<ForkReading, AllocError>
     requires { AreRunsWithin found.now.runs.items 4294967296 }
     ensures { (image : List ℕ) → IfOk result (λ fork. fork_rest image fork
@@ -49,7 +49,7 @@ pub(crate) fn begin_fork(alloc: Global, found: &ForkRuns) -> Result<ForkReading,
     })
 }
 
-/// Reads so many bytes of the blocks from number `first` on in the place of a piece.
+/// Replaces a piece with this many bytes of the blocks from number `first` on.
 fn fill_piece<S: PlacedBlocks>(
     image: &mut SeenImage<S>,
     first: u32,
@@ -69,7 +69,7 @@ fn fill_piece<S: PlacedBlocks>(
     }
 }
 
-/// Reads the next bytes of a fork, at most 65,536, in the place of a piece, and none where none are left.
+/// Replaces a piece with the next bytes of a fork, at most 65,536, or with none at its end.
 #[tactic(auto, using(crate::proofs::ReadLemmas::reads_none))]
 pub(crate) fn read_fork<S: PlacedBlocks>(
     image: &mut SeenImage<S>,

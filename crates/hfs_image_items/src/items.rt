@@ -29,31 +29,32 @@ use std::alloc::{AllocError, Global};
 /// An item that came.
 #[derive(Drop)]
 struct CameItem {
-    /// The path of the folder that holds it, with a slash behind it.
+    /// The path of the folder that holds it, followed by a slash.
     above: String,
     /// Its host name.
     name: String,
     info: Info,
 }
 
-/// The items of an opened image below its root, one after the other, and the bytes of their forks in pieces, each block of which is read once.
+/// The items of an opened image below its root, one after the other, and the bytes of their forks in pieces. Each block of these
+/// is read once.
 #[derive(Drop)]
 pub struct ImageItems<'a, S: PlacedBlocks, W: Watch> {
     alloc: Global,
     image: SeenImage<S>,
-    /// What is told of the root.
+    /// What is known of the root.
     pub root: Info,
-    /// The rows of the items that are to come.
+    /// The rows of the items that are left.
     rows: Inventory,
     came: CameItem,
     reading: Reading,
     watch: &'a W,
-    /// How many items came, and how many there are.
+    /// How many items have come, and how many there are.
     count: u64,
     all: u64,
 }
 
-/// The rows behind the root's, and what is told of the root. Error: memory was refused.
+/// The rows after the root's, and what is known of the root. Error: memory was refused.
 #[tactic(auto, using(crate::proofs::SourceLemmas::rows_behind, crate::proofs::SourceLemmas::begins_with, crate::proofs::RootLemmas::row_of_seen))]
 fn rows_below<S: PlacedBlocks + Drop>(
     alloc: Global,
@@ -70,7 +71,7 @@ fn rows_below<S: PlacedBlocks + Drop>(
     Ok((rows, root))
 }
 
-/// Where both forks of a file lie. None of a folder. Error: memory was refused.
+/// Where both forks of a file lie; None for a folder. Error: memory was refused.
 #[tactic(auto, using(crate::proofs::SourceLemmas::fork_lies, crate::proofs::SourceLemmas::fork_refused, crate::proofs::SourceLemmas::folder_empty))]
 fn runs_of<S: PlacedBlocks + Drop>(
     alloc: Global,
@@ -98,7 +99,7 @@ fn bag_kind(kind: ItemKind) -> BagKind
     }
 }
 
-/// What is told of an item whose forks lie there.
+/// The head of an item whose forks lie there.
 fn head_of(info: &Info, runs: &Option<FileRuns>) -> BagHead
     ensures { (image : List ℕ) → LieThere info.now runs.now image → (above name : List ℕ)
         → IsHead result (item_at (entries_in image) above name info.now) }
@@ -136,7 +137,7 @@ fn came_item(alloc: Global, path: &[Name], info: Info) -> Result<CameItem, Alloc
     Ok(CameItem { above, name, info })
 }
 
-/// The data fork of an item, from its first byte on. Error: memory was refused.
+/// The data fork of an item, to be read from its first byte. Error: memory was refused.
 #[tactic(auto, using(crate::proofs::SourceLemmas::fork_begun))]
 fn open_data<S: PlacedBlocks + Drop>(
     alloc: Global,
@@ -152,7 +153,7 @@ fn open_data<S: PlacedBlocks + Drop>(
     }
 }
 
-/// The resource fork of an item, from its first byte on. Error: memory was refused.
+/// The resource fork of an item, to be read from its first byte. Error: memory was refused.
 #[tactic(auto, using(crate::proofs::SourceLemmas::fork_begun))]
 fn open_resource<S: PlacedBlocks + Drop>(
     alloc: Global,
@@ -168,7 +169,7 @@ fn open_resource<S: PlacedBlocks + Drop>(
     }
 }
 
-/// The table of all items, from its head on. Error: memory was refused.
+/// The table of all items, to be read from its head. Error: memory was refused.
 #[tactic(auto, using(crate::proofs::SourceLemmas::table_begun))]
 fn open_table<S: PlacedBlocks + Drop>(
     alloc: Global,
@@ -184,7 +185,7 @@ fn open_table<S: PlacedBlocks + Drop>(
     })
 }
 
-/// A stream of an item, from its first byte on. Error: memory was refused.
+/// A stream of an item, to be read from its first byte. Error: memory was refused.
 fn open_stream<S: PlacedBlocks + Drop>(
     alloc: Global,
     image: &SeenImage<S>,
@@ -202,7 +203,7 @@ fn open_stream<S: PlacedBlocks + Drop>(
     }
 }
 
-/// The items of an image, of which these rows are to come, behind that of the root.
+/// The items of an image, with these rows left after that of the root.
 fn begin<'a, S: PlacedBlocks + Drop, W: Watch>(
     alloc: Global,
     image: SeenImage<S>,
@@ -233,7 +234,7 @@ fn begin<'a, S: PlacedBlocks + Drop, W: Watch>(
     }
 }
 
-/// Why the items of an image were not begun with, and the image.
+/// Why the items of an image can't be given, and the image.
 #[derive(Drop)]
 pub struct Unbegun<S: PlacedBlocks> {
     /// Why.
@@ -242,8 +243,8 @@ pub struct Unbegun<S: PlacedBlocks> {
 }
 
 impl<'a, S: PlacedBlocks + Drop, W: Watch> ImageItems<'a, S, W> {
-    /// The items of an image, of which there are so many. Errors, with the image back: memory was refused; `ReadFailed` where there is no root, as in
-    /// no image that holds.
+    /// The items of an image, `all` in number. Errors, with the image handed back: memory was refused; `ReadFailed` if there is
+    /// no root, which no sound image lacks.
     pub fn new(
         alloc: Global,
         image: SeenImage<S>,
@@ -267,7 +268,7 @@ impl<'a, S: PlacedBlocks + Drop, W: Watch> ImageItems<'a, S, W> {
         Ok(begin(alloc, image, rows, &info, all, watch))
     }
 
-    /// The image back.
+    /// The image, handed back.
     pub fn into_image(self) -> SeenImage<S>
         ensures { result ≡ self.entry.image }
     {

@@ -1,23 +1,22 @@
-//! What holds of the definitions, each as the contract of a function that does nothing.
+//! What holds for the definitions, each law as the contract of a function that does nothing.
 ghost use Rattle.hfs_image_items.specs.Laws.{BagPathsAreTold, ItemsArePlaced, SoundItemsArePlaced, SoundPathsAreTold};
 
-/// The items of a lawful volume have plain names and paths of their own, also where case is not told apart: no path
-/// leads out of the bag.
+/// The items of a lawful volume have plain names and paths of their own, even ignoring case: no path leads out of the bag.
 pub fn items_are_placed()
     ensures { ItemsArePlaced }
 {}
 
-/// Each item of a lawful volume but its root lies in the bag at the path that its line in the table tells.
+/// Each item of a lawful volume except its root lies in the bag at the path that its line in the table gives.
 pub fn bag_paths_are_told()
     ensures { BagPathsAreTold }
 {}
 
-/// So it is with the items of each sound image, whatever bytes it has.
+/// The same holds for the items of each sound image, whatever bytes it has.
 pub fn sound_items_are_placed()
     ensures { SoundItemsArePlaced }
 {}
 
-/// And each of them but the root lies at the path that its line tells.
+/// And each of them except the root lies at the path that its line gives.
 pub fn sound_paths_are_told()
     ensures { SoundPathsAreTold }
 {}

@@ -1,4 +1,4 @@
-//! The items of an opened image, as a bag is filled from them.
+//! The items of an opened image, as the source of a bag.
 #![tactic(auto)]
 
 mod fork_reading;

@@ -17,7 +17,7 @@ fn names_between(path: &[Name]) -> &[Name]
     &path[1..count - 1]
 }
 
-/// The path of the folder that holds an item, from the one below the root down, with a slash behind each name.
+/// The path of the folder that holds an item, from the one below the root down, with a slash after each name.
 #[tactic(auto, unfolding(crate::specs::Items::folders_text))]
 pub(crate) fn folders_text(alloc: Global, path: &[Name]) -> Result<String, AllocError>
     ensures { IfOk result (λ text. string_bytes text ≡ folders_text (names_between path.now)) }

@@ -1,7 +1,7 @@
 //! Blocks that are read at once.
 ghost use Rattle.std.specs.Prelude.{◌≤◌};
 
-/// Blocks that stand side by side.
+/// Blocks that are next to each other.
 #[derive(Clone, Copy)]
 pub(crate) struct Piece {
     /// The number of the first.

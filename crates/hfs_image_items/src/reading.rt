@@ -1,4 +1,4 @@
-//! What of a source is being read.
+//! What is being read from a source.
 ghost use Rattle.std.specs.Prelude.{◌≡◌, ◌+◌, length, IfErr, OnOk};
 ghost use Rattle.hfs_source.specs.Images.{OfEach};
 ghost use Rattle.hfs_image_items.specs.Faults.{FailsToRead};
@@ -18,7 +18,7 @@ pub(crate) enum Reading {
     Table(TableReading),
 }
 
-/// Reads the next bytes of a stream in the place of a piece, and none where none are left.
+/// Replaces a piece with the next bytes of a stream, or with none at its end.
 pub(crate) fn read_next<S: PlacedBlocks>(
     alloc: Global,
     image: &mut SeenImage<S>,

@@ -6,19 +6,19 @@ use hfs_inventory::Inventory;
 use hfs_table::{push_bag_head, push_bag_row};
 use std::alloc::{AllocError, Global};
 
-/// From how many bytes of text on a piece is whole.
+/// A piece of text with at least this many bytes is whole.
 const PIECE: usize = 65_536;
 
-/// Where reading the table stands.
+/// How far the table has been read.
 #[derive(Drop)]
 pub(crate) struct TableReading {
-    /// The rows that are to come.
+    /// The rows that are left.
     pub(crate) rows: Inventory,
     /// Whether the head was read.
     pub(crate) is_begun: bool,
 }
 
-/// Appends the line of the next row, and answers whether there was one.
+/// Appends the line of the next row, and returns whether there was one.
 fn push_next(alloc: Global, piece: &mut Vec<u8>, rows: &mut Inventory) -> Result<bool, AllocError>
     ensures { IfOk result (λ more. AddsRow more piece.old.items piece.new.items rows.old.left
         rows.new.left) }
@@ -30,7 +30,7 @@ fn push_next(alloc: Global, piece: &mut Vec<u8>, rows: &mut Inventory) -> Result
     Ok(true)
 }
 
-/// Puts the lines of the next rows in the place of a piece, until it is whole or there are none.
+/// Replaces a piece with the lines of the next rows, until it is whole or there are none.
 #[tactic(auto, using(crate::proofs::TableLemmas::row_more, crate::proofs::TableLemmas::rows_fewer, crate::proofs::TableLemmas::rows_done, crate::proofs::TableLemmas::rows_read))]
 fn read_rows(alloc: Global, rows: &mut Inventory, piece: &mut Vec<u8>) -> Result<(), AllocError>
     requires { piece.old.items ≡ [] }
@@ -45,7 +45,7 @@ fn read_rows(alloc: Global, rows: &mut Inventory, piece: &mut Vec<u8>) -> Result
     Ok(())
 }
 
-/// Reads the next text of the table in the place of a piece, and none where none is left. Error: memory was refused.
+/// Replaces a piece with the next text of the table, or with none at its end. Error: memory was refused.
 #[tactic(auto, using(crate::proofs::TableLemmas::head_read))]
 pub(crate) fn read_table(
     alloc: Global,

@@ -13,7 +13,7 @@ use hfs_fields::{FieldRow, u16_at, u32_at};
 use hfs_source::PlacedBytes;
 use std::io;
 
-/// The dates of a file, in seconds since midnight of 1 January 1904; 0 where one isn't set.
+/// The dates of a file, in seconds since midnight, 1 January 1904; 0 for a date that isn't set.
 #[derive(Clone, Copy)]
 pub struct FileDates {
     /// When it was made.
@@ -24,18 +24,18 @@ pub struct FileDates {
     pub backup: u32,
 }
 
-/// What an AppleDouble file holds of the item that it stands beside.
+/// What an AppleDouble file holds about the item that it belongs to.
 #[derive(Clone, Copy)]
 pub struct AppleDoubleFile {
-    /// What the Finder keeps of it; zeros where the file doesn't tell.
+    /// What the Finder keeps about it; zeros if the file doesn't say.
     pub finder: [u8; 32],
-    /// Its dates, where the file tells them.
+    /// Its dates, if the file has them.
     pub dates: Option<FileDates>,
-    /// Where its resource fork lies; of no bytes where there is none.
+    /// Where its resource fork lies; empty if there is none.
     pub resource_fork: ForkPlace,
 }
 
-/// Where the parts lie that are asked for.
+/// Where the parts that are used lie.
 #[derive(Clone, Copy)]
 pub struct FoundParts {
     /// What the Finder keeps.
@@ -46,7 +46,7 @@ pub struct FoundParts {
     pub dates: Option<ForkPlace>,
 }
 
-/// A date by seconds since 2000, in 32 bits of which the highest is the sign.
+/// A date from seconds since 2000, in 32 bits of which the highest is the sign.
 #[tactic(auto, unfolding(crate::specs::Dates::mac_date))]
 fn mac_date(seconds: u32) -> u32
     ensures { result ≡ mac_date seconds }
@@ -62,7 +62,7 @@ fn mac_date(seconds: u32) -> u32
     }
 }
 
-/// Where the part lies that an entry tells of.
+/// Where the part of an entry lies.
 fn entry_place(entry: &[u8; 12]) -> ForkPlace
     ensures { result ≡ entry_place entry.now }
 {
@@ -72,14 +72,14 @@ fn entry_place(entry: &[u8; 12]) -> ForkPlace
     }
 }
 
-/// Whether a part lies in a file of so many bytes.
+/// Whether a part lies in a file of `len` bytes.
 fn lies_within(len: u64, place: ForkPlace) -> bool
     ensures { result ≡ lies_within len place }
 {
     place.start <= len && u64::from(place.len) <= len - place.start
 }
 
-/// The place that a part has, or this one.
+/// The part's place if it has one, or else this one.
 fn first_of(part: Option<ForkPlace>, place: ForkPlace) -> Option<ForkPlace>
     ensures { result ≡ option_or part (Some place) }
 {
@@ -89,7 +89,7 @@ fn first_of(part: Option<ForkPlace>, place: ForkPlace) -> Option<ForkPlace>
     }
 }
 
-/// The parts with one entry more: of two for the same part the first counts.
+/// The parts with one more entry; of two entries for the same part, the first counts.
 #[tactic(auto, unfolding(crate::specs::AppleDouble::with_entry))]
 fn with_entry(entry: &[u8; 12], parts: FoundParts) -> FoundParts
     ensures { result ≡ with_entry entry.now parts }
@@ -119,7 +119,7 @@ fn with_entry(entry: &[u8; 12], parts: FoundParts) -> FoundParts
     }
 }
 
-/// Whether a file of so many bytes begins with a head of AppleDouble, version 2, and has room for as many entries as it tells.
+/// Whether a file of `len` bytes begins with a head of AppleDouble, version 2, and has room for as many entries as it says.
 #[tactic(auto, unfolding(crate::specs::AppleDouble::is_apple_double_head))]
 fn is_apple_double_head(len: u64, head: &[u8; 26]) -> bool
     ensures head { result ≡ is_apple_double_head len head.now }
@@ -130,7 +130,7 @@ fn is_apple_double_head(len: u64, head: &[u8; 26]) -> bool
         && 26 + 12 * u64::from(u16_at(head, 24)) <= len
 }
 
-/// The parts that so many entries tell of, each of which lies in the file; or none, where one doesn't.
+/// The parts of this many entries, each of which lies in the file; None if one doesn't.
 #[tactic(auto, using(crate::proofs::Entries::some_fail_later))]
 fn read_entries<S: PlacedBytes>(
     source: &mut S,
@@ -166,7 +166,7 @@ fn read_entries<S: PlacedBytes>(
     Ok(Some(parts))
 }
 
-/// The parts of a file of so many bytes.
+/// The parts of a file of `len` bytes.
 #[tactic(auto, unfolding(crate::specs::AppleDouble::parts_in, crate::specs::AppleDouble::parts_with), using(crate::proofs::Entries::some_fail_later))]
 fn read_parts<S: PlacedBytes>(source: &mut S, len: u64) -> io::Result<Option<FoundParts>>
     requires { OfEach (S.Holds source.old) (HasLength len) }
@@ -188,7 +188,7 @@ fn read_parts<S: PlacedBytes>(source: &mut S, len: u64) -> io::Result<Option<Fou
     read_entries(source, len, u16_at(&head, 24))
 }
 
-/// These bytes and zeros behind them, 32 in all.
+/// These bytes, followed by zeros: 32 in all.
 fn with_zeros(bytes: &[u8]) -> [u8; 32]
     requires { length bytes.now ≤ 32 }
     ensures { result ≡ bytes.now ++ replicate (32 - length bytes.now) 0 }
@@ -201,7 +201,7 @@ fn with_zeros(bytes: &[u8]) -> [u8; 32]
     whole
 }
 
-/// The first 32 bytes of what the Finder keeps, with zeros behind where there are fewer.
+/// The first 32 bytes of what the Finder keeps, followed by zeros if there are fewer.
 #[tactic(auto, unfolding(crate::specs::AppleDouble::finder_in), using(crate::proofs::Entries::finder_read))]
 fn read_finder<S: PlacedBytes>(
     source: &mut S,
@@ -236,7 +236,7 @@ fn dates_of(bytes: &[u8; 16]) -> FileDates
     }
 }
 
-/// The dates, where their part has all four.
+/// The dates, if their part has all four.
 #[tactic(auto, unfolding(crate::specs::AppleDouble::dates_in))]
 fn read_dates<S: PlacedBytes>(
     source: &mut S,
@@ -262,7 +262,7 @@ fn read_dates<S: PlacedBytes>(
     Ok(Some(dates_of(&bytes)))
 }
 
-/// The fork that lies there, or an empty one.
+/// The fork at this place, or an empty one.
 fn fork_of(part: Option<ForkPlace>) -> ForkPlace
     ensures { result ≡ fork_of part }
 {
@@ -272,8 +272,8 @@ fn fork_of(part: Option<ForkPlace>) -> ForkPlace
     }
 }
 
-/// What a file holds that is AppleDouble, version 2: its parts may stand in any order, each of them inside the file. None exactly where
-/// it isn't. Error: a read failed. See [`crate::apple_double_read_back`].
+/// What an AppleDouble file, version 2, holds. Its parts may come in any order, each inside the file. None exactly when it isn't
+/// such a file. Error: a read failed. See [`crate::apple_double_read_back`].
 #[tactic(auto, using(crate::proofs::Entries::some_fail_later, crate::proofs::Entries::apple_double_none, crate::proofs::Entries::apple_double_some))]
 pub fn read_apple_double<S: PlacedBytes>(source: &mut S) -> io::Result<Option<AppleDoubleFile>>
     ensures found { IfOk result (λ found. OfEach (S.Holds source.new)

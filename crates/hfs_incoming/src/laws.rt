@@ -1,4 +1,4 @@
-//! What is written comes back.
+//! What is written can be read back.
 ghost use Rattle.std.specs.Prelude.{◌≡◌, ◌≤◌, ℕ, List, length};
 ghost use Rattle.hfs_names.specs.HostNames.{host_name};
 ghost use Rattle.hfs_names.specs.PlainTexts.{plain_text};
@@ -6,8 +6,8 @@ ghost use Rattle.hfs_incoming.specs.Laws.{AreHostNamesRead, IsAppleDoubleReadBac
 
 use hfs_encodings::{AppleDoubleHead, MacBinaryHead};
 
-/// The laws of host names that are read back: each name of any bytes but the empty one comes back from its host name, so each item
-/// name does; and what an item is called in the place of letters that are no item name is one.
+/// The laws of host names that are read back: every nonempty name, whatever its bytes, comes back from its host name, so each
+/// item name does; and the name that an item gets in place of letters that are no item name is an item name.
 pub fn host_item_name_laws()
     ensures { AreHostNamesRead host_name }
 {}
@@ -17,7 +17,7 @@ pub fn plain_text_laws()
     ensures { IsPlainTextRead plain_text }
 {}
 
-/// The law of MacBinary: header and forks come back from the file that is written of them, where it has a name.
+/// The law of MacBinary: header and forks come back from the file that is written from them, if it has a name.
 pub fn macbinary_read_back(head: MacBinaryHead)
     ensures { (data_fork resource_fork : List ℕ) → 1 ≤ length head.name
         → length data_fork ≡ head.data_length → length resource_fork ≡ head.resource_length
@@ -26,7 +26,7 @@ pub fn macbinary_read_back(head: MacBinaryHead)
     let _bytes = head.bytes();
 }
 
-/// The law of AppleDouble: Finder bytes and resource fork come back from the file that is written of them.
+/// The law of AppleDouble: Finder bytes and resource fork come back from the file that is written from them.
 pub fn apple_double_read_back(head: AppleDoubleHead)
     ensures { (fork : List ℕ) → length fork ≡ head.resource_length
         → IsAppleDoubleReadBack head fork }

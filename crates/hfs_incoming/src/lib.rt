@@ -1,5 +1,5 @@
-//! Files of a host that are to come onto a disk, taken apart: the name of each, what the Finder keeps of it, its dates, and where its
-//! forks lie.
+//! Files of a host that are to be put on a disk, taken apart: the name of each, what the Finder keeps about it, its dates, and
+//! where its forks lie.
 #![tactic(auto)]
 
 mod apple_double;

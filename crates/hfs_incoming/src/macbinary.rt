@@ -22,7 +22,7 @@ pub struct MacBinaryFile {
     pub finder_info: [u8; 16],
     /// Whether the file is locked.
     pub locked: bool,
-    /// When it was made, in seconds since midnight of 1 January 1904.
+    /// When it was made, in seconds since midnight, 1 January 1904.
     pub created: u32,
     /// When it was last changed, in the same seconds.
     pub modified: u32,
@@ -32,14 +32,14 @@ pub struct MacBinaryFile {
     pub resource_fork: ForkPlace,
 }
 
-/// Whether a byte is the number of MacBinary II or III.
+/// Whether a byte is the version number of MacBinary II or III.
 fn is_version(byte: u8) -> bool
     ensures { result ≡ is_version byte }
 {
     byte == 129 || byte == 130
 }
 
-/// Whether a header is one of MacBinary II or III: its zeros, a name of 1 to 63 bytes, its versions, and the check.
+/// Whether a header is one of MacBinary II or III: its zeros, a name of 1 to 63 bytes, its versions, and the checksum.
 #[tactic(auto, unfolding(crate::specs::MacBinary::is_macbinary_head))]
 fn is_macbinary_head(head: &[u8; 128]) -> bool
     ensures head { result ≡ is_macbinary_head head.now }
@@ -56,7 +56,7 @@ fn is_macbinary_head(head: &[u8; 128]) -> bool
         && u16_at(head, 124) == check
 }
 
-/// So many bytes, filled up to a multiple of 128.
+/// This many bytes, padded to a multiple of 128.
 fn filled_length(len: u32) -> u64
     ensures filled { result ≡ filled_length len }
     ensures small { result < 2 ^ 33 }
@@ -64,7 +64,7 @@ fn filled_length(len: u32) -> u64
     u64::from(len) + padding(len as usize) as u64
 }
 
-/// Where the data fork lies: behind the header, and behind a second one whose length it tells.
+/// Where the data fork lies: after the header, and after a second header whose length it gives.
 #[tactic(auto, unfolding(crate::specs::MacBinary::data_place))]
 fn data_place(head: &[u8; 128]) -> ForkPlace
     ensures place { result ≡ data_place head.now }
@@ -76,7 +76,7 @@ fn data_place(head: &[u8; 128]) -> ForkPlace
     }
 }
 
-/// Where the resource fork lies: behind the data fork.
+/// Where the resource fork lies: after the data fork.
 #[tactic(auto, unfolding(crate::specs::MacBinary::resource_place))]
 fn resource_place(head: &[u8; 128]) -> ForkPlace
     ensures place { result ≡ resource_place head.now }
@@ -98,7 +98,7 @@ fn macbinary_end(head: &[u8; 128]) -> u64
     resource_fork.start + filled_length(resource_fork.len)
 }
 
-/// Type, creator, flags, location and folder, in the turn in which the Finder keeps them.
+/// Type, creator, flags, location and folder, in the order in which the Finder keeps them.
 fn finder_info_in(head: &[u8; 128]) -> [u8; 16]
     ensures { result ≡ finder_info_in head.now }
 {
@@ -111,7 +111,7 @@ fn finder_info_in(head: &[u8; 128]) -> [u8; 16]
     info
 }
 
-/// What the header tells of a file that is MacBinary.
+/// What the header of a MacBinary file says.
 #[tactic(auto, unfolding(crate::specs::MacBinary::macbinary_of))]
 fn macbinary_of(head: &[u8; 128]) -> MacBinaryFile
     requires { slice_index head.now 1 ≤ 63 }
@@ -129,7 +129,7 @@ fn macbinary_of(head: &[u8; 128]) -> MacBinaryFile
     }
 }
 
-/// What the header tells of a file of so many bytes, where they are header and forks and nothing else.
+/// What the header of a file of `len` bytes says, if the file is header and forks and nothing else.
 #[tactic(auto, unfolding(crate::specs::MacBinary::macbinary_with))]
 fn macbinary_with(len: u64, head: &[u8; 128]) -> Option<MacBinaryFile>
     ensures { result ≡ macbinary_with len head.now }
@@ -141,8 +141,8 @@ fn macbinary_with(len: u64, head: &[u8; 128]) -> Option<MacBinaryFile>
     }
 }
 
-/// What a file holds that is MacBinary II or III: header and forks as long as the header tells, and nothing behind them. None
-/// exactly where it isn't. Error: a read failed. See [`crate::macbinary_read_back`].
+/// What a MacBinary II or III file holds: the header, forks as long as it says, and nothing after them. None exactly when it
+/// isn't such a file. Error: a read failed. See [`crate::macbinary_read_back`].
 #[tactic(auto, unfolding(crate::specs::MacBinary::macbinary_in))]
 pub fn read_macbinary<S: PlacedBytes>(source: &mut S) -> io::Result<Option<MacBinaryFile>>
     ensures found { IfOk result (λ found. OfEach (S.Holds source.new)

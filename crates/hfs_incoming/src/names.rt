@@ -1,4 +1,4 @@
-//! The name that an item gets by its name outside.
+//! The name that an item gets from its name outside.
 ghost use Rattle.std.specs.Prelude.{◌≡◌, ◌≤◌, chars, length, map};
 ghost use Rattle.hfs_fields.specs.Names.{is_name_character};
 ghost use Rattle.hfs_incoming.specs.Spelled.{host_letters, letters_in, plain_letters};
@@ -7,23 +7,23 @@ ghost use Rattle.hfs_incoming.specs.Names.{given_name, named_letter, renamed};
 use crate::spelled::{SEEN, Spelling, first_letters};
 use hfs_fields::{FieldRow, Name};
 
-/// The name that an item gets by letters which may be no item name.
+/// The name that an item gets from letters, which may be no item name.
 #[derive(Clone, Copy)]
 pub enum GivenName {
     /// They are an item name.
     Item(Name),
-    /// They are none: the item name that may stand in their place.
+    /// They are no item name; this is the one in their place.
     Other(Name),
 }
 
-/// Whether a letter is one that an item name may have.
+/// Whether an item name may have this letter.
 fn is_name_character(letter: u8) -> bool
     ensures { result ≡ is_name_character letter }
 {
     32 <= letter && letter <= 126 && letter != b':' && letter != b'`'
 }
 
-/// The letter, or `_` where no item name has it.
+/// The letter, or `_` if no item name may have it.
 #[tactic(auto, unfolding(crate::specs::Names::named_letter))]
 fn named_letter(letter: u8) -> u8
     ensures { result ≡ named_letter letter }
@@ -60,7 +60,7 @@ fn name_of(row: &FieldRow) -> Name
     name
 }
 
-/// The item name in the place of letters that are none.
+/// The item name in place of letters that are none.
 #[tactic(auto, using(crate::proofs::Given::renamed_some))]
 fn renamed(letters: &[u8]) -> Name
     ensures { result ≡ renamed letters.now }
@@ -74,8 +74,8 @@ fn renamed(letters: &[u8]) -> Name
     }
 }
 
-/// The name that an item gets by letters in Mac OS Roman: these, where they are an item name. In the place of others stands one with
-/// `_` for each letter that no item name has, cut to 31 letters.
+/// The name that an item gets from letters in Mac OS Roman: these, if they are an item name. Otherwise a name with `_` for each
+/// letter that no item name may have, cut to 31 letters.
 #[tactic(auto, unfolding(crate::specs::Names::given_name))]
 pub fn given_name(letters: &[u8]) -> GivenName
     ensures { result ≡ given_name letters.now }
@@ -86,7 +86,7 @@ pub fn given_name(letters: &[u8]) -> GivenName
     }
 }
 
-/// The name that an item gets by letters that are spelled so in a text.
+/// The name that an item gets from letters in this spelling in a text.
 fn read_name(spelling: Spelling, text: &str) -> GivenName
     ensures { result ≡ given_name (letters_in spelling (chars text.now)) }
 {
@@ -96,16 +96,16 @@ fn read_name(spelling: Spelling, text: &str) -> GivenName
     given_name(&letters[..row.len()])
 }
 
-/// The name that an item gets by its host name, which is the last part of a path: `=` and two upper-case hexadecimal digits are a byte,
-/// any other character is itself, in Mac OS Roman. See [`crate::host_item_name_laws`].
+/// The name that an item gets from its host name, which is the last part of a path: `=` and two upper-case hexadecimal digits
+/// stand for a byte, any other character stands for itself, in Mac OS Roman. See [`crate::host_item_name_laws`].
 pub fn host_item_name(text: &str) -> GivenName
     ensures { result ≡ given_name (host_letters (chars text.now)) }
 {
     read_name(Spelling::HostName, text)
 }
 
-/// The name that an item gets by the plain text of its name: a backslash and two lower-case hexadecimal digits are a byte, any other
-/// character is itself, in Mac OS Roman. See [`crate::plain_text_laws`].
+/// The name that an item gets from the plain text of its name: a backslash and two lower-case hexadecimal digits stand for a
+/// byte, any other character stands for itself, in Mac OS Roman. See [`crate::plain_text_laws`].
 pub fn plain_item_name(text: &str) -> GivenName
     ensures { result ≡ given_name (plain_letters (chars text.now)) }
 {

@@ -6,7 +6,7 @@ ghost use Rattle.hfs_incoming.specs.Failing.{SomeFail};
 use hfs_source::PlacedBytes;
 use std::io;
 
-/// Reads bytes that a file of so many bytes has.
+/// Reads bytes of a file of `len` bytes.
 pub(crate) fn read_piece<S: PlacedBytes>(
     source: &mut S,
     len: u64,

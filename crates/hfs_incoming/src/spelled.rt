@@ -4,16 +4,16 @@ ghost use Rattle.hfs_incoming.specs.Spelled.{digit_value, digits_in, letter_valu
 
 use hfs_fields::FieldRow;
 
-/// How a text spells the letters of a name: each by its character, or by a mark and two hexadecimal digits.
+/// How a text spells the letters of a name: each as its character, or as a mark and two hexadecimal digits.
 #[derive(Clone, Copy)]
 pub enum Spelling {
-    /// As a host name does: by `=` and upper-case digits.
+    /// As a host name does: with `=` and upper-case digits.
     HostName,
-    /// As plain text does: by a backslash and lower-case digits.
+    /// As plain text does: with a backslash and lower-case digits.
     PlainText,
 }
 
-/// How many letters are looked at: one more than an item name has.
+/// How many letters are looked at: one more than an item name may have.
 pub(crate) const SEEN: usize = 32;
 
 /// The mark before the two digits.
@@ -26,7 +26,7 @@ fn mark(spelling: Spelling) -> char
     }
 }
 
-/// What a hexadecimal digit from ten on says; 16 of what is none.
+/// The value of a hexadecimal digit from ten on; 16 if it is none.
 #[tactic(auto, unfolding(crate::specs::Spelled::letter_value))]
 fn letter_value(spelling: Spelling, character: char) -> u8
     ensures value { result ≡ letter_value spelling character }
@@ -50,7 +50,7 @@ fn letter_value(spelling: Spelling, character: char) -> u8
     }
 }
 
-/// What a hexadecimal digit says; 16 of what is none.
+/// The value of a hexadecimal digit; 16 if it is none.
 #[tactic(auto, unfolding(crate::specs::Spelled::digit_value))]
 fn digit_value(spelling: Spelling, character: char) -> u8
     ensures value { result ≡ digit_value spelling character }
@@ -63,7 +63,7 @@ fn digit_value(spelling: Spelling, character: char) -> u8
     }
 }
 
-/// The letter, where it is of ASCII; else 0, which no item name has either.
+/// The letter, if it is ASCII; else 0, which no item name has either.
 #[tactic(auto, unfolding(crate::specs::Spelled::seen_letter))]
 fn seen_letter(letter: u8) -> u8
     ensures { result ≡ seen_letter letter }
@@ -71,7 +71,7 @@ fn seen_letter(letter: u8) -> u8
     if letter < 128 { letter } else { 0 }
 }
 
-/// The letter of a character that is its own.
+/// The letter of a character that stands for itself.
 #[tactic(auto, using(crate::proofs::Letters::ascii_seen, crate::proofs::Letters::other_seen))]
 fn seen_character(character: char) -> u8
     ensures { result ≡ seen_letter (roman_byte character) }
@@ -83,7 +83,7 @@ fn seen_character(character: char) -> u8
     }
 }
 
-/// The first character of a text, and what stands behind it.
+/// The first character of a text, and the rest of it.
 fn split_first(text: &str) -> Option<(char, &str)>
     ensures { MatchOption result (chars text.now ≡ [])
         (λ first. chars text.now ≡ first.0 ∷ chars first.1.now) }
@@ -95,7 +95,7 @@ fn split_first(text: &str) -> Option<(char, &str)>
     }
 }
 
-/// The byte that two characters say, where they are digits, and what stands behind them.
+/// The byte that two characters stand for, if they are digits, and what follows them.
 #[tactic(auto, unfolding(crate::specs::Spelled::digits_in))]
 fn byte_of(spelling: Spelling, high: char, low: char, behind: &str) -> Option<(u8, &str)>
     ensures { MatchOption result (digits_in spelling (high ∷ low ∷ chars behind.now) ≡ None)
@@ -111,7 +111,7 @@ fn byte_of(spelling: Spelling, high: char, low: char, behind: &str) -> Option<(u
     }
 }
 
-/// The byte that two digits say at a text's beginning, and what stands behind them.
+/// The byte that two digits at a text's beginning stand for, and what follows them.
 #[tactic(auto, unfolding(crate::specs::Spelled::digits_in))]
 fn digits_in(spelling: Spelling, text: &str) -> Option<(u8, &str)>
     ensures { MatchOption result (digits_in spelling (chars text.now) ≡ None)
@@ -126,7 +126,7 @@ fn digits_in(spelling: Spelling, text: &str) -> Option<(u8, &str)>
     }
 }
 
-/// The letter that begins with a character, and what stands behind it.
+/// The letter that begins with a character, and what follows it.
 #[tactic(auto, using(crate::proofs::Letters::plain_first, crate::proofs::Letters::no_digits, crate::proofs::Letters::escape_first))]
 fn letter_at(spelling: Spelling, first: char, behind: &str) -> (u8, &str)
     ensures { seen_letters spelling (first ∷ chars behind.now)
@@ -141,7 +141,7 @@ fn letter_at(spelling: Spelling, first: char, behind: &str) -> (u8, &str)
     }
 }
 
-/// The first letter of a text, and what stands behind it.
+/// The first letter of a text, and what follows it.
 fn next_letter(spelling: Spelling, text: &str) -> Option<(u8, &str)>
     ensures { MatchOption result (chars text.now ≡ [])
         (λ next. seen_letters spelling (chars text.now)

@@ -15,17 +15,18 @@ use hfs_model::Info;
 use std::alloc::{AllocError, Global};
 use std::marker::Model;
 
-/// The ID under which the root stands, which is no folder's.
+/// The root's parent ID, which is no folder's.
 const ABOVE_ROOT: u32 = 1;
 
-/// The items that a catalog's records tell of, one after the other in the order of the table: the root first, behind each folder its children
-/// in name order, and behind each child what lies in it. Contracts see the path of the row that was last given, and the rows to come.
+/// The items in a catalog's records, one after the other in the order of the table: the root first, after each folder its
+/// children in name order, and after each child what is in it. Contracts see the path of the row that was last returned, and the
+/// rows that are left.
 ///
-/// Beside the records it takes memory for the folders on the way to an item alone.
+/// Besides the records, it only takes memory for the folders on the way to an item.
 #[derive(Drop)]
 pub struct Inventory {
     records: Vec<CatalogRecord>,
-    /// The names from the root's down to that of the item whose row was last given.
+    /// The names from the root's down to that of the item whose row was last returned.
     path: Vec<Name>,
     /// From the outermost inwards.
     levels: Vec<Level>,
@@ -41,7 +42,8 @@ impl Model for Inventory {
     ghost invariant = { λ i. CanGoOn i.records.items i.path.items i.levels.items };
 }
 
-/// Appends the name of the item at a place to the path of its folder, and the level of what lies in it; answers what is told of it.
+/// Appends the name of the item at a place to the path of its folder, and the level of what is in it; returns what is known of
+/// it.
 fn enter(
     records: &[CatalogRecord],
     path: &mut Vec<Name>,
@@ -72,7 +74,7 @@ fn enter(
 }
 
 impl Inventory {
-    /// The items of the records of a catalog, in the order of their keys. The only error is want of memory.
+    /// The items in the records of a catalog, which are in the order of their keys. Fails only when out of memory.
     pub fn new(alloc: Global, records: Vec<CatalogRecord>) -> Result<Inventory, AllocError>
         requires { Rises cat_cmp records.items }
         ensures { IfOk result (λ i. i.left ≡ catalog_rows records.items) }
@@ -90,8 +92,8 @@ impl Inventory {
         })
     }
 
-    /// What is told of the next item, or None behind the last one. The only error is want of memory, and then nothing is promised of
-    /// the rows to come.
+    /// The next item, or None after the last one. Fails only when out of memory, and then nothing is promised about the rows that
+    /// are left.
     pub fn next(&mut self) -> Result<Option<Info>, AllocError>
         ensures { IfOk result (GivesRow self.old self.new) }
     {
@@ -104,7 +106,7 @@ impl Inventory {
         }
     }
 
-    /// The names from the root's down to that of the item whose row was last given.
+    /// The names from the root's down to that of the item whose row was last returned.
     pub fn path(&self) -> &[Name]
         ensures { result.now ≡ self.now.path }
     {

@@ -1,7 +1,7 @@
-//! What holds of the definitions, each as the contract of a function that does nothing.
+//! What holds for the definitions, each law as the contract of a function that does nothing.
 ghost use Rattle.hfs_inventory.specs.Laws.{TablesAreInventories};
 
-/// The table of a lawful volume has each of its items exactly once, and behind its folder.
+/// The table of a lawful volume has each of its items exactly once, and after its folder.
 pub fn tables_are_inventories()
     ensures { TablesAreInventories }
 {}

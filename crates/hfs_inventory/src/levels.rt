@@ -7,12 +7,12 @@ ghost use Rattle.hfs_inventory.specs.Levels.{FindsItem, FindsRow};
 use hfs_catalog::{CatalogRecord, is_item};
 use std::alloc::AllocError;
 
-/// A folder whose children's rows are being given.
+/// A folder whose children's rows are being returned.
 #[derive(Clone, Copy)]
 pub(crate) struct Level {
-    /// The ID of the folder, under which its children's records stand.
+    /// The ID of the folder, which its children's records have as parent.
     pub(crate) folder: u32,
-    /// The place from which on the next child's record stands.
+    /// The place from which on to look for the next child's record.
     pub(crate) next: usize,
 }
 
@@ -30,8 +30,8 @@ fn next_item(records: &[CatalogRecord], level: Level) -> Option<usize>
     None
 }
 
-/// The place of the record whose row comes next; of the levels those that have no row left go, and the last that stays goes on behind that
-/// record. In a lawful volume no folders lie deeper in one another than there are records; records that say otherwise end there.
+/// The place of the record whose row comes next. Levels that have no rows left are removed, and the last that stays goes on after
+/// that record. In a lawful volume, folders are not nested deeper than there are records; records that say otherwise end there.
 pub(crate) fn next_row(
     records: &[CatalogRecord],
     levels: &mut Vec<Level>,

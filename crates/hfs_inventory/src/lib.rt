@@ -1,5 +1,5 @@
-//! The items of a volume in the order of its table: the root first, behind each folder those of its children in name order, and behind each
-//! child what lies in it.
+//! The items of a volume in the order of its table: the root first, after each folder those of its children in name order, and
+//! after each child what is in it.
 #![tactic(auto)]
 
 mod inventory;

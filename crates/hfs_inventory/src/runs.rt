@@ -1,4 +1,4 @@
-//! The records under one ID, which stand together.
+//! The records with the same parent ID, which come one after another.
 ghost use Rattle.std.specs.Prelude.{◌≡◌, ◌≤◌, ◌==◌, length, drop, filter};
 ghost use Rattle.std.specs.List.{list_any};
 ghost use Rattle.hfs_fields.specs.Keys.{cat_cmp};
@@ -9,8 +9,8 @@ ghost use Rattle.hfs_inventory.specs.Levels.{first_under};
 
 use hfs_catalog::{CatalogRecord, is_thread};
 
-/// The place of the first record under an ID, or under a later one where it has none, among records in the order of their keys. A binary
-/// search.
+/// The place of the first record with a parent ID, or with a later one if it has none, among records in the order of their keys.
+/// A binary search.
 pub(crate) fn place_of(records: &[CatalogRecord], id: u32) -> usize
     requires { Rises cat_cmp records.now }
     ensures bound { result ≤ length records.now }
@@ -19,7 +19,7 @@ pub(crate) fn place_of(records: &[CatalogRecord], id: u32) -> usize
     records.partition_point(|record| record.key().parent < id)
 }
 
-/// Whether there is a thread among the records under an ID, of which the first stands at this place.
+/// Whether there is a thread among the records with this parent ID, the first of which is at this place.
 pub(crate) fn is_threaded(records: &[CatalogRecord], first: usize, id: u32) -> bool
     ensures { result ≡ list_any (λ (r : Record). is_thread r.1) (first_under id (drop first records.now)) }
 {

@@ -1,4 +1,4 @@
-//! What is told of an item by its record.
+//! What a record says about its item.
 ghost use Rattle.std.specs.Prelude.{◌≡◌, ◌++◌, IsTrue};
 ghost use Rattle.hfs_fields.specs.Records.{is_item};
 ghost use Rattle.hfs_catalog.specs.Lookups.{catalog_item};
@@ -9,7 +9,7 @@ use hfs_catalog::{CatalogItem, CatalogRecord, ItemRecord, item_of};
 use hfs_fields::{CatKey, DirRecord, FileRecord};
 use hfs_model::{Info, ItemKind};
 
-/// The 32 Finder bytes of an item, which stand in two places of its record.
+/// The 32 Finder bytes of an item, which are in two places of its record.
 fn finder_bytes(info: &[u8; 16], extended: &[u8; 16]) -> [u8; 32]
     ensures { result ≡ info.now ++ extended.now }
 {
@@ -61,7 +61,7 @@ fn file_told(has_thread: bool, key: CatKey, file: &FileRecord) -> Info
     }
 }
 
-/// What is told of an item. Only of a file it is told whether it has a thread.
+/// What is known of an item. Whether it has a thread only applies to a file.
 fn item_told(item: &CatalogItem, has_thread: bool) -> Info
     ensures { result ≡ item_told has_thread item.now }
 {
@@ -71,7 +71,7 @@ fn item_told(item: &CatalogItem, has_thread: bool) -> Info
     }
 }
 
-/// What is told of the item of a record.
+/// What is known of the item of a record.
 pub(crate) fn record_told(stored: &CatalogRecord, has_thread: bool) -> Info
     requires { IsTrue (is_item stored.now.1) }
     ensures { result ≡ item_told has_thread (catalog_item stored.now) }

@@ -1,4 +1,4 @@
-//! What each change makes of a table. A change that `step` refuses leaves it.
+//! What each change makes of a table. A change that `step` refuses leaves it as it was.
 ghost use Rattle.std.specs.Prelude.{IsTrue, OnOk, OnErr};
 ghost use Rattle.hfs_model.specs.Changes.{set_f_info, set_lock, delete, new_file, new_folder};
 ghost use Rattle.hfs_model.specs.FileIds.{create_file_id, delete_file_id};
@@ -54,7 +54,8 @@ impl Table {
         self.changed = now;
     }
 
-    /// Makes a fork of a file its first bytes, with zeros after them where it was shorter. At want of memory the items are as they were.
+    /// Makes a fork of a file `length` bytes long, by cutting it or adding zeros at its end. When out of memory, the items are as
+    /// they were.
     pub fn set_eof(
         &mut self,
         alloc: Global,
@@ -79,7 +80,7 @@ impl Table {
         Ok(())
     }
 
-    /// Writes bytes over a fork of a file, which are shared from then on. At want of memory the items are as they were.
+    /// Writes bytes over a fork of a file; the bytes are shared from then on. When out of memory, the items are as they were.
     pub fn write_fork(
         &mut self,
         alloc: Global,
@@ -131,7 +132,7 @@ impl Table {
         self.changed = now;
     }
 
-    /// Takes the thread of the file of that ID away.
+    /// Removes the thread of the file with that ID.
     pub fn delete_file_id(&mut self, id: u32, now: u32)
         requires { IsTable self.old }
         ensures { Leaves self.new (delete_file_id (volume_of self.old) id now).0 }
@@ -144,7 +145,7 @@ impl Table {
         self.changed = now;
     }
 
-    /// A new item of that kind. The only error is want of memory, and then the items are as they were.
+    /// A new item of that kind. Fails only when out of memory, and then the items are as they were.
     #[tactic(auto, unfolding(hfs_model::specs::Changes::create))]
     fn add(&mut self, kind: RowKind, dir: u32, name: &[u8], now: u32) -> Result<(), AllocError>
         requires table { IsTable self.old }
@@ -175,7 +176,7 @@ impl Table {
         Ok(())
     }
 
-    /// A new, empty file. The only error is want of memory, and then the items are as they were.
+    /// A new, empty file. Fails only when out of memory, and then the items are as they were.
     pub fn create(
         &mut self,
         alloc: Global,
@@ -192,7 +193,7 @@ impl Table {
         self.add(kind, dir, name, now)
     }
 
-    /// A new, empty folder. The only error is want of memory, and then the items are as they were.
+    /// A new, empty folder. Fails only when out of memory, and then the items are as they were.
     pub fn dir_create(&mut self, dir: u32, name: &[u8], now: u32) -> Result<(), AllocError>
         requires table { IsTable self.old }
         requires lawful { AreLawful (items_of self.old) self.old.next_id }
@@ -203,7 +204,7 @@ impl Table {
         self.add(kind, dir, name, now)
     }
 
-    /// Takes an item out.
+    /// Removes an item.
     pub fn delete(&mut self, dir: u32, name: &[u8], now: u32)
         requires { IsTable self.old }
         ensures { Leaves self.new (delete (volume_of self.old) dir name.now now).0 }
@@ -220,7 +221,7 @@ impl Table {
         self.changed = now;
     }
 
-    /// Takes in a change that takes no memory. One that is refused leaves the table.
+    /// Takes in a change that takes no memory. A change that is refused leaves the table as it was.
     fn absorb_in_place(&mut self, call: &Call)
         requires table { IsTable self.old }
         requires in_place { IsTrue (is_in_place call.now) }
@@ -267,8 +268,8 @@ impl Table {
         }
     }
 
-    /// Takes in a change. One that is refused leaves the table, as do calls that read. The only error is want of memory,
-    /// and then the items are as they were.
+    /// Takes in a change. A change that is refused leaves the table as it was, and so does a call that reads. Fails only when out
+    /// of memory, and then the items are as they were.
     pub fn absorb(&mut self, alloc: Global, call: &Call) -> Result<(), AllocError>
         requires table { IsTable self.old }
         requires lawful { AreLawful (items_of self.old) self.old.next_id }

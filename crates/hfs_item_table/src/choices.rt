@@ -1,4 +1,4 @@
-//! What a change first chooses: an item, an ID, or the code that refuses it.
+//! What a change chooses first: an item, an ID, or the code that refuses it.
 ghost use Rattle.std.specs.Prelude.{◌≡◌, length, true, IsTrue, IfOk, OnOk};
 ghost use Rattle.hfs_fields.specs.Names.{is_item_name};
 ghost use Rattle.hfs_model.specs.Choices.{is_locked, lock_code, child_to_change, file_to_change, to_set_f_info, to_set_cat_info, to_create, to_delete, to_rename, to_move, is_busy, is_full, is_held, is_taken, lies_in};
@@ -61,7 +61,7 @@ impl Table {
         }
     }
 
-    /// The same of a file.
+    /// The same for a file.
     #[tactic(auto, unfolding(hfs_model::specs::Choices::file_to_change))]
     pub(crate) fn file_to_change(&self, dir: u32, name: &[u8]) -> Result<Found<'_>, i16>
         requires { IsTable self.now }
@@ -109,7 +109,7 @@ impl Table {
         self.to_set_f_info(dir, name)
     }
 
-    /// How many bytes a fork of a row has, 0 of a folder.
+    /// How many bytes a fork of a row has; 0 for a folder.
     fn fork_len(&self, id: u32, row: &Row, fork: Fork) -> u32
         requires table { IsTable self.now }
         requires row { IsKindIn self.now id row.now.kind }
@@ -124,7 +124,7 @@ impl Table {
         }
     }
 
-    /// The file over a fork of which so many bytes are written from an offset on.
+    /// The file into whose fork these bytes are written from an offset on.
     #[tactic(auto, unfolding(hfs_model::specs::ForkCalls::to_write_fork, hfs_model::specs::Choices::to_set_f_info))]
     pub(crate) fn to_write_fork(
         &self,
@@ -168,7 +168,7 @@ impl Table {
         }
     }
 
-    /// The file of that ID, which has a thread.
+    /// The file with that ID, which has a thread.
     #[tactic(auto, unfolding(hfs_model::specs::FileIds::file_of_id))]
     pub(crate) fn file_of_id(&self, id: u32) -> Result<Found<'_>, i16>
         requires { IsTable self.now }
@@ -203,7 +203,7 @@ impl Table {
         }
     }
 
-    /// The file of that ID, which has a thread, in a volume that may be changed.
+    /// The file with that ID, which has a thread, in a volume that may be changed.
     #[tactic(auto, unfolding(hfs_model::specs::FileIds::to_delete_file_id))]
     pub(crate) fn to_delete_file_id(&self, id: u32) -> Result<Found<'_>, i16>
         requires { IsTable self.now }
@@ -281,7 +281,7 @@ impl Table {
         Ok(found)
     }
 
-    /// Whether `up` stands at most `steps` parents up from `dir`.
+    /// Whether `up` is at most `steps` parents up from `dir`.
     fn lies_in(&self, steps: usize, dir: u32, up: u32) -> bool
         requires { IsTable self.now }
         ensures { result ≡ lies_in (table_entries self.now) steps dir up }
@@ -309,7 +309,7 @@ impl Table {
         self.by_id.len()
     }
 
-    /// Whether a move there would put the item into itself.
+    /// Whether moving the item there would put it into itself.
     #[tactic(auto, unfolding(hfs_model::specs::Choices::is_bad_move))]
     fn is_bad_move(&self, id: u32, row: &Row, dir: u32) -> bool
         requires { IsTable self.now }
@@ -349,7 +349,7 @@ impl Table {
         Ok(found)
     }
 
-    /// Whether the folder of that ID has no room for one more child.
+    /// Whether the folder with that ID has no room for another child.
     #[tactic(auto, unfolding(hfs_model::specs::Choices::is_full))]
     fn is_full(&self, dir: u32) -> bool
         requires table { IsTable self.now }

@@ -1,4 +1,4 @@
-//! Rows that are written.
+//! Writing rows.
 ghost use Rattle.std.specs.Prelude.{◌≡◌, ℕ, false, List, Some, OnOk, OnErr};
 ghost use Rattle.std.specs.Ordering.{nat_cmp};
 ghost use Rattle.std.specs.BTreeMap as tree;
@@ -57,7 +57,7 @@ pub fn set_lock(rows: &mut BTreeMap<u32, Row>, id: u32, locked: bool)
     }
 }
 
-/// Gives a file a thread or takes it away, and sets or clears bit 1 of its flags.
+/// Gives a file a thread or removes it, and sets or clears bit 1 of its flags.
 pub fn set_thread(rows: &mut BTreeMap<u32, Row>, id: u32, there: bool)
     ensures { Writes (with_thread there) id rows.old rows.new }
 {
@@ -90,7 +90,7 @@ pub fn add_child(rows: &mut BTreeMap<u32, Row>, id: u32, now: u32)
     }
 }
 
-/// Sets a folder's modified date, and counts one child less.
+/// Sets a folder's modified date, and counts one child fewer.
 pub fn drop_child(rows: &mut BTreeMap<u32, Row>, id: u32, now: u32)
     ensures { Writes (without_child now) id rows.old rows.new }
 {
@@ -102,7 +102,7 @@ pub fn drop_child(rows: &mut BTreeMap<u32, Row>, id: u32, now: u32)
     }
 }
 
-/// Gives a row another name.
+/// Renames a row.
 pub fn set_name(rows: &mut BTreeMap<u32, Row>, id: u32, name: Name)
     ensures { Writes (with_name name) id rows.old rows.new }
 {
@@ -111,7 +111,7 @@ pub fn set_name(rows: &mut BTreeMap<u32, Row>, id: u32, name: Name)
     }
 }
 
-/// Puts a row under another folder.
+/// Moves a row to another folder.
 pub fn set_parent(rows: &mut BTreeMap<u32, Row>, id: u32, parent: u32)
     ensures { Writes (with_parent parent) id rows.old rows.new }
 {
@@ -120,7 +120,7 @@ pub fn set_parent(rows: &mut BTreeMap<u32, Row>, id: u32, parent: u32)
     }
 }
 
-/// Puts an ID at another place. The only error is want of memory, and then each ID stands where it stood.
+/// Moves an ID to another place. Fails only when out of memory, and then each ID is where it was.
 pub fn move_name(
     names: &mut BTreeMap<Place, u32>,
     id: u32,
@@ -142,7 +142,7 @@ pub fn move_name(
     Ok(())
 }
 
-/// The row of a new item, made now.
+/// The row of a new item, made at the moment `now`.
 pub fn new_row(kind: RowKind, dir: u32, name: Name, now: u32) -> Row
     ensures { result ≡ new_row kind dir name now }
 {

@@ -5,7 +5,7 @@ use hfs_fields::Extent;
 use std::alloc::AllocError;
 use std::marker::Model;
 
-/// Extents, one behind the other. Contracts see their list.
+/// Extents, one after the other. Contracts see their list.
 #[derive(Drop)]
 pub struct Extents {
     items: Vec<Extent>,

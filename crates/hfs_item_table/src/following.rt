@@ -1,4 +1,4 @@
-//! Rows that are looked up one after the other.
+//! Looking up rows one after the other.
 ghost use Rattle.std.specs.Prelude.{◌≡◌, IfSome, Some};
 ghost use Rattle.std.specs.Ordering.{nat_cmp};
 ghost use Rattle.std.specs.BTreeMap as tree;
@@ -16,7 +16,7 @@ impl Table {
         self.by_id.range(id..)
     }
 
-    /// The row of an ID, where it is the next of these.
+    /// The row of an ID, if it is the next of these.
     fn next_row<'a>(&'a self, rows: &mut Range<'a, u32, Row>, id: u32) -> Option<&'a Row>
         requires { HasRows self.now rows.old }
         ensures rows { HasRows self.now rows.new }
@@ -28,7 +28,7 @@ impl Table {
         if *next == id { Some(row) } else { None }
     }
 
-    /// The row of an ID, and `rows` go on behind it. It is found at once where it is their next, as is the row of an item that
+    /// The row of an ID; `rows` goes on after it. It is found at once if it is their next one, such as the row of an item that
     /// was made right after the one looked up before.
     pub(crate) fn row_among<'a>(
         &'a self,

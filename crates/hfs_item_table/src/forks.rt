@@ -1,4 +1,4 @@
-//! Forks of rows that are written.
+//! Writing forks of rows.
 ghost use Rattle.std.specs.Prelude.{◌≡◌, ◌≤◌, ◌++◌, Some, OnOk, OnErr};
 ghost use Rattle.std.specs.Ordering.{nat_cmp};
 ghost use Rattle.std.specs.BTreeMap as tree;
@@ -20,13 +20,13 @@ use std::collections::BTreeMap;
 /// What a call makes of the bytes of a fork.
 #[derive(Clone, Copy)]
 pub enum ForkEdit<'a> {
-    /// So many of them, with zeros after them where there were fewer.
+    /// Cuts them to `count`, or adds zeros up to `count`.
     SetLength { count: u32 },
-    /// These in the place of those from a place on.
+    /// Puts these bytes in place of those from `offset` on.
     Write { offset: u32, bytes: &'a SharedBytes },
 }
 
-/// Writes the four lowest bytes of a number over a file's kept bytes, the highest of them first.
+/// Writes the four lowest bytes of a number over a file's kept bytes, highest byte first.
 #[tactic(auto, using(hfs_model::proofs::ForkLemmas::four_of_eight))]
 fn put_number(kept: &mut [u8; 102], at: usize, number: u64)
     requires { at ≤ 98 }
@@ -48,7 +48,7 @@ fn set_physical_length(kept: &mut [u8; 102], fork: Fork, bytes: u64)
     }
 }
 
-/// How many bytes the allocation blocks have that so many bytes take; none where a block has none.
+/// How many bytes the allocation blocks have that `length` bytes take; 0 if a block has none.
 fn physical_length(block_size: u32, length: u32) -> u64
     ensures { result ≡ physical_length block_size length }
 {
@@ -59,7 +59,7 @@ fn physical_length(block_size: u32, length: u32) -> u64
     }
 }
 
-/// Edits a fork. At want of memory it has the bytes that it had.
+/// Edits a fork. When out of memory, it has the bytes that it had.
 fn edit_pieces(alloc: Global, pieces: &mut ForkPieces, edit: ForkEdit) -> Result<(), AllocError>
     requires pieces { ArePieces pieces.old }
     requires may { MayEdit edit pieces.old }
@@ -90,7 +90,7 @@ fn edit_data(
     Ok(())
 }
 
-/// The same of its resource fork.
+/// The same for its resource fork.
 fn edit_resource(
     alloc: Global,
     file: &mut RowFile,
@@ -127,7 +127,7 @@ fn edit_file(
     }
 }
 
-/// Edits a fork of a row, which is modified now; a folder has none. At want of memory the fork has the bytes that it had.
+/// Edits a fork of a row, which is modified now; a folder has none. When out of memory, the fork has the bytes that it had.
 fn edit_row(
     alloc: Global,
     row: &mut Row,
@@ -147,7 +147,7 @@ fn edit_row(
     Ok(())
 }
 
-/// Edits a fork of the file of that ID.
+/// Edits a fork of the file with that ID.
 pub fn edit_fork(
     alloc: Global,
     rows: &mut BTreeMap<u32, Row>,

@@ -1,4 +1,4 @@
-//! Items that get another name, or stand in another folder. A change that `step` refuses leaves the table.
+//! Renaming items, and moving them to another folder. A change that `step` refuses leaves the table as it was.
 ghost use Rattle.std.specs.Prelude.{OnOk, OnErr};
 ghost use Rattle.hfs_item_table.specs.Edits.{Leaves, MovesItem, Renames};
 ghost use Rattle.hfs_item_table.specs.Tables.{volume_of, IsTable};
@@ -10,7 +10,7 @@ use hfs_fields::Name;
 use std::alloc::AllocError;
 
 impl Table {
-    /// Gives an item another name. The only error is want of memory, and then the items are as they were.
+    /// Renames an item. Fails only when out of memory, and then the items are as they were.
     pub fn rename(
         &mut self,
         dir: u32,
@@ -43,7 +43,7 @@ impl Table {
         Ok(())
     }
 
-    /// Puts an item into another folder. The only error is want of memory, and then the items are as they were.
+    /// Moves an item to another folder. Fails only when out of memory, and then the items are as they were.
     pub fn cat_move(
         &mut self,
         dir: u32,

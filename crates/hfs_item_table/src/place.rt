@@ -1,4 +1,4 @@
-//! Where an item stands: its folder, and its name there.
+//! Where an item is: its folder, and its name there.
 ghost use Rattle.std.specs.Prelude.{◌≡◌, [], Some, refl};
 ghost use Rattle.std.specs.Ordering.{is_eq};
 ghost use Rattle.std.specs.Cmp;
@@ -8,8 +8,8 @@ ghost use Rattle.hfs_item_table.specs.Places.{place, place_cmp, place_cmp_total}
 use hfs_fields::Name;
 use std::cmp::Ordering;
 
-/// The ID of an item's folder, and its name. Places are ordered by the ID and then by name order, so two are equal where
-/// the names are the same but for case.
+/// The ID of an item's folder, and its name. Places are ordered by the ID and then by name order, so two are equal if the names
+/// are the same except for case.
 #[derive(Clone, Copy)]
 pub struct Place {
     /// The ID of the folder.

@@ -1,4 +1,4 @@
-//! What rows keep of an item.
+//! What rows hold of an item.
 ghost use Rattle.std.specs.Prelude.{◌≡◌};
 ghost use Rattle.hfs_item_table.specs.Places.{place};
 
@@ -8,10 +8,10 @@ use hfs_fields::Name;
 use hfs_fork_pieces::ForkPieces;
 use std::alloc::AllocError;
 
-/// A folder or a file, without its ID. Its bytes stand in the base.
+/// A folder or a file, without its ID. The bytes of its forks are in the base.
 #[derive(Drop)]
 pub struct Row {
-    /// The ID of the folder that holds it, 1 of the root.
+    /// The ID of the folder that holds the item; 1 for the root.
     pub parent: u32,
     pub name: Name,
     pub created: u32,
@@ -22,7 +22,7 @@ pub struct Row {
 }
 
 impl Row {
-    /// Where its item stands.
+    /// Where its item is.
     pub fn place(&self) -> Place
         ensures { result ≡ place self.now.parent self.now.name }
     {
@@ -44,7 +44,7 @@ impl Clone for Row {
     }
 }
 
-/// Whether it is a folder or a file, and what only such an item has.
+/// Whether an item is a folder or a file, and what only that kind has.
 #[derive(Clone, Drop)]
 pub enum RowKind {
     Folder {
@@ -60,13 +60,13 @@ pub enum RowKind {
 pub struct RowFile {
     pub kept: [u8; 102],
     pub locked: bool,
-    /// Whether the catalog has a thread record of it.
+    /// Whether the catalog has a thread record for it.
     pub has_thread: bool,
     pub data: RowFork,
     pub resource: RowFork,
 }
 
-/// Where a fork's bytes stand in the base, and what calls made of them.
+/// Where a fork's bytes are in the base, and what calls made of them.
 #[derive(Clone, Drop)]
 pub struct RowFork {
     pub extents: Extents,

@@ -60,8 +60,8 @@ fn success(value: Value) -> Reply
     Reply { code: 0, value }
 }
 
-/// The reply of these bytes, which were read from an offset on of a fork that has `length` bytes: -39 where `count` of them
-/// end behind the fork.
+/// The reply with these bytes, which were read from `offset` on in a fork of `size` bytes: -39 if `count` bytes would end past
+/// the fork.
 fn part_reply(bytes: Vec<u8>, size: u32, offset: u32, count: u32) -> Reply
     ensures { result ≡ part_reply bytes.items size offset count }
 {
@@ -77,7 +77,7 @@ fn part_reply(bytes: Vec<u8>, size: u32, offset: u32, count: u32) -> Reply
 }
 
 impl Table {
-    /// A copy over the same base, of which no byte is copied. The only error is want of memory.
+    /// A copy over the same base, without copying any byte. Fails only when out of memory.
     pub fn copied(&self) -> Result<Table, AllocError>
         requires { IsTable self.now }
         ensures table { IfOk result IsTable }
@@ -112,7 +112,7 @@ impl Table {
         self.by_id.get(&id)
     }
 
-    /// What is told of the item of a row.
+    /// What a reply says about the item of a row.
     #[tactic(auto, unfolding(hfs_model::specs::Replies::info_of))]
     fn info(&self, id: u32, row: &Row) -> Info
         requires table { IsTable self.now }
@@ -178,7 +178,7 @@ impl Table {
         }
     }
 
-    /// What is told of the folder of that ID.
+    /// Answers with the folder that has this ID.
     #[tactic(auto, unfolding(hfs_model::specs::Reading::get_dir_info))]
     pub fn get_dir_info(&self, dir: u32) -> Reply
         requires { IsTable self.now }
@@ -193,7 +193,7 @@ impl Table {
         }
     }
 
-    /// What is told of the folder's item of that name.
+    /// Answers with the folder's item of that name.
     #[tactic(auto, unfolding(hfs_model::specs::Reading::get_cat_info))]
     pub fn get_cat_info(&self, dir: u32, name: &[u8]) -> Reply
         requires { IsTable self.now }
@@ -211,7 +211,7 @@ impl Table {
         }
     }
 
-    /// The folder and the name of the file of that ID, which has a thread.
+    /// Answers with the folder and the name of the file with that ID, which has a thread.
     #[tactic(auto, unfolding(hfs_model::specs::FileIds::resolve_file_id))]
     pub fn resolve_file_id(&self, id: u32) -> Reply
         requires { IsTable self.now }
@@ -226,7 +226,7 @@ impl Table {
         }
     }
 
-    /// What is told of a folder's children, in name order.
+    /// What a reply says about a folder's children, in name order.
     fn infos(&self, alloc: Global, dir: u32) -> Result<Vec<Info>, AllocError>
         requires table { IsTable self.now }
         requires lawful { IsLawful (volume_of self.now) }
@@ -244,7 +244,7 @@ impl Table {
         Ok(infos)
     }
 
-    /// What is told of the folder's children, in name order.
+    /// Answers with the folder's children, in name order.
     #[tactic(auto, unfolding(hfs_model::specs::Reading::list))]
     pub fn list(&self, alloc: Global, dir: u32) -> Result<Reply, AllocError>
         requires table { IsTable self.now }
@@ -254,13 +254,13 @@ impl Table {
         if !self.is_folder(dir) {
             return Ok(refusal(NOT_A_FOLDER));
         }
-        // A proof knows that a folder's ID isn't the greatest of 32 bits once it has seen the next one.
+        // Once a proof has seen the next ID, it knows that a folder's ID isn't the greatest of 32 bits.
         let _next = self.next_id();
         let infos = self.infos(alloc, dir)?;
         Ok(success(Value::Many(Infos::new(infos))))
     }
 
-    /// What is told of the folder's child at that place in name order, counted from 0.
+    /// What a reply says about the folder's child at that place in name order, counted from 0.
     fn info_at(&self, dir: u32, at: u32) -> Option<Info>
         requires table { IsTable self.now }
         requires lawful { IsLawful (volume_of self.now) }
@@ -281,8 +281,8 @@ impl Table {
         None
     }
 
-    /// What is told of the folder's child at that place in name order, counted from 1. The places before it are passed, and no
-    /// more is told. Takes no memory.
+    /// Answers with the folder's child at that place in name order, counted from 1. The places before it are only counted. Takes
+    /// no memory.
     #[tactic(auto, unfolding(hfs_model::specs::Reading::get_indexed))]
     pub fn get_indexed(&self, dir: u32, index: u32) -> Reply
         requires table { IsTable self.now }
@@ -295,7 +295,7 @@ impl Table {
         if !self.is_folder(dir) {
             return refusal(NOT_A_FOLDER);
         }
-        // A proof knows that a folder's ID isn't the greatest of 32 bits once it has seen the next one.
+        // Once a proof has seen the next ID, it knows that a folder's ID isn't the greatest of 32 bits.
         let _next = self.next_id();
         match self.info_at(dir, index - 1) {
             Some(info) => success(Value::One(info)),
@@ -303,7 +303,7 @@ impl Table {
         }
     }
 
-    /// Adds the bytes of a fork from a place on as far as they come of one source, and at most so many. Answers how many these are.
+    /// Appends the bytes of a fork from a place on, as far as they come from one source, but at most `most`. Returns how many.
     fn push_stretch(
         &self,
         alloc: Global,
@@ -337,7 +337,7 @@ impl Table {
         }
     }
 
-    /// Bytes of a file's fork from a place on: so many, or as many as there are.
+    /// Bytes of a file's fork from a place on: `count` of them, or as many as there are.
     pub fn fork_bytes(
         &self,
         alloc: Global,
@@ -376,7 +376,7 @@ impl Table {
         Ok(part_reply(bytes, fork.pieces.len(), offset, count))
     }
 
-    /// At most `count` bytes of a file's fork, from an offset on.
+    /// At most `count` bytes of a file's fork, starting at an offset.
     #[tactic(auto, unfolding(hfs_model::specs::Reading::read_fork))]
     pub fn read_fork(
         &self,

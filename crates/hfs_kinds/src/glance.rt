@@ -1,4 +1,4 @@
-//! What the bytes at a file's known places say. The source of each sign stands in docs/FORMATS.md.
+//! What the bytes at known places of a file say. docs/FORMATS.md has the source of each sign.
 ghost use Rattle.std.specs.Prelude.{◌≡◌};
 ghost use Rattle.hfs_kinds.specs.Kinds.{archive_kind, beginning_kind, begins, creator_kind, fork_kind, has_type, is_macbinary, kind_of, packed_kind, told_kind, volume_kind};
 
@@ -20,18 +20,18 @@ pub struct Glance {
     pub directory: Piece,
     /// From byte 32,769: the first descriptor of a CD.
     pub descriptor: Piece,
-    /// From the byte that 512 stand behind: the trailer of a disk image.
+    /// From 512 bytes before the end: the trailer of a disk image.
     pub trailer: Piece,
     /// The first types of its resources, and zeros.
     pub types: [u32; 16],
-    /// What `._X` says of it, where it is called X.
+    /// What `._X` says about it, if it is called X.
     pub beside: Beside,
 }
 
-/// The bytes of an AppleDouble file that say what the file beside it is. All are zeros where there is none.
+/// The bytes of an AppleDouble file that say what the file next to it is. All are zeros if there is none.
 #[derive(Clone, Copy)]
 pub struct Beside {
-    /// From the creator on among the Finder's bytes.
+    /// The Finder's bytes from the creator on.
     pub creator: Piece,
     /// The first types of its resources, and zeros.
     pub types: [u32; 16],
@@ -40,7 +40,7 @@ pub struct Beside {
 /// The type of a resource that holds the map of a compressed disk image: `bcem`.
 const BLOCK_MAP: u32 = 0x6263_656D;
 
-/// Whether a piece begins with these bytes, of which it may have sixteen.
+/// Whether a piece begins with these bytes, at most sixteen.
 #[tactic(auto, unfolding(crate::specs::Kinds::begins))]
 fn begins(piece: &Piece, sign: &[u8]) -> bool
     ensures { result ≡ begins sign.now piece.now }
@@ -149,7 +149,7 @@ fn beginning_kind(glance: &Glance) -> Option<Kind>
     }
 }
 
-/// What a file is by what it says itself, or by its creator in the AppleDouble file beside it.
+/// What a file is by its own bytes, or by its creator in the AppleDouble file next to it.
 #[tactic(auto, unfolding(crate::specs::Kinds::told_kind))]
 fn told_kind(glance: &Glance) -> Option<Kind>
     ensures { result ≡ told_kind glance.now }
@@ -161,7 +161,7 @@ fn told_kind(glance: &Glance) -> Option<Kind>
 }
 
 impl Kind {
-    /// What a file is that has no HFS volume where it begins; none where it has one, or its bytes don't say it.
+    /// What a file is that has no HFS volume at its beginning; None if it has one, or its bytes don't say.
     #[tactic(auto, unfolding(crate::specs::Kinds::kind_of))]
     pub fn of(glance: &Glance) -> Option<Kind>
         ensures { result ≡ kind_of glance.now }

@@ -1,17 +1,17 @@
-//! The kinds of files that people have beside HFS volumes, and what opens them.
+//! The kinds of files that people have besides HFS volumes, and what opens them.
 ghost use Rattle.std.specs.Prelude.{Some};
 ghost use Rattle.hfs_kinds.specs.Texts.{kind_text};
 
 use std::fmt;
 
-/// What a file is. Its `Display` is a noun for a terminal, and the program of Debian that opens it, where there is one.
+/// What a file is. Its `Display` is a noun for a terminal, and the Debian program that opens it, if there is one.
 #[derive(Clone, Copy, Debug, PartialEq, Eq)]
 pub enum Kind {
     /// A volume of HFS Plus without a wrapper.
     HfsPlus,
     /// A volume of the file system before HFS.
     Mfs,
-    /// A CD without an HFS volume where it begins.
+    /// A CD without an HFS volume at its beginning.
     Iso9660,
     /// A disk image of Mac OS X.
     Udif,
@@ -19,7 +19,7 @@ pub enum Kind {
     Ndif,
     /// A disk archive of DART.
     Dart,
-    /// What gzip compressed.
+    /// A file compressed with gzip.
     Gzip,
     /// A zip archive.
     Zip,

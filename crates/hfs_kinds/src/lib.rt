@@ -1,4 +1,4 @@
-//! What a file is that has no HFS volume where it begins.
+//! What a file is that has no HFS volume at its beginning.
 #![tactic(auto)]
 
 mod glance;

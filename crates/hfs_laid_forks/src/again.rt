@@ -1,4 +1,4 @@
-//! A second look at the files of a host, behind the last read.
+//! A second look at the files of a host, after the last read.
 ghost use Rattle.std.specs.Prelude.{◌≡◌, ◌↔◌, IsTrue, OnOk, Some};
 ghost use Rattle.hfs_sources.specs.Trees.{OfEachTree};
 ghost use Rattle.hfs_laid_forks.specs.Again.{AreUnchanged, IsAsSeen, IsUnchanged, seen_file};
@@ -7,7 +7,7 @@ use hfs_put_plan::EntryKind;
 use hfs_sources::{HostFault, HostTime, HostTree, Look, SourceItem, cannot_read};
 use std::alloc::Global;
 
-/// Whether both are of one kind, and files of one length.
+/// Whether both are of the same kind, and files of the same length.
 fn is_same_kind(kind: EntryKind, other: EntryKind) -> bool
     ensures { IsTrue result ↔ (kind ≡ other) }
 {
@@ -30,7 +30,7 @@ fn is_same_kind(kind: EntryKind, other: EntryKind) -> bool
     }
 }
 
-/// Whether both are one time.
+/// Whether both times are the same.
 fn is_same_time(time: HostTime, other: HostTime) -> bool
     ensures { IsTrue result ↔ (time ≡ other) }
 {
@@ -44,7 +44,7 @@ fn is_same(look: Look, other: Look) -> bool
     is_same_kind(look.kind, other.kind) && is_same_time(look.modified, other.modified)
 }
 
-/// Looks again at what a path leads to. Fault: `CannotRead` of the path, where it leads to nothing or to anything else.
+/// Looks again at what a path leads to. Fault: `CannotRead` of the path, if it leads to nothing or to something else.
 fn look_at_path<T: HostTree>(
     alloc: Global,
     tree: &mut T,
@@ -66,7 +66,7 @@ fn look_at_path<T: HostTree>(
     }
 }
 
-/// What was seen of a file; none of a folder.
+/// What was seen of a file; None for a folder.
 fn seen_file(look: Option<Look>) -> Option<Look>
     ensures { result ≡ seen_file look }
 {
@@ -80,7 +80,7 @@ fn seen_file(look: Option<Look>) -> Option<Look>
     }
 }
 
-/// Looks again at a file, where one was seen.
+/// Looks again at a file, if one was seen.
 fn look_at_file<T: HostTree>(
     alloc: Global,
     tree: &mut T,
@@ -114,8 +114,8 @@ fn look_at_item<T: HostTree>(
     }
 }
 
-/// Looks again at the files of all items, their own and those that belong to them by their names. Faults: `CannotRead` of the first
-/// file that isn't there any more, has another length, or was changed at another time; the tree's.
+/// Looks again at the files of all items, their own and those that belong to them by their names. Faults: `CannotRead` of the
+/// first file that is gone, has another length, or was changed at another time; those of the tree.
 pub fn look_again<T: HostTree>(
     alloc: Global,
     tree: &mut T,

@@ -11,13 +11,13 @@ use hfs_sources::{HostFault, HostTree, SourceItem, cannot_read};
 use std::alloc::Global;
 use std::marker::Model;
 
-/// Files of a host that are read by their paths and places. What is read of them is said of each tree that has what was read.
+/// Files of a host that are read by path and position. What is read from them holds for every tree consistent with what was read.
 pub trait PlacedFiles {
-    /// The trees that have what was read so far.
+    /// The trees consistent with what was read so far.
     ghost Holds: { Self → Tree → Type 0 };
 
-    /// Reads the bytes of the file at a path from byte `place` of it on, as many as there is room for. Faults: the tree's, where the
-    /// file can't be opened; `CannotRead` of the path, where the read fails or the file ends before the room is full; `NoMemory`.
+    /// Reads bytes of the file at a path, from byte `place` on, as many as there is room for. Faults: those of the tree, if the
+    /// file can't be opened; `CannotRead` of the path, if the read fails or the file ends before the room is full; `NoMemory`.
     fn read_at(
         &mut self,
         alloc: Global,
@@ -29,14 +29,14 @@ pub trait PlacedFiles {
             (λ host. HasAt place into.new (host.bytes path.now))) }
         ensures held { OfEachTree (Holds self.new) (Holds self.old) };
 
-    /// Looks again at the files of all items. Faults: as of [`look_again`].
+    /// Looks again at the files of all items. Faults: as for [`look_again`].
     fn look_again(&mut self, alloc: Global, items: &[SourceItem]) -> Result<(), HostFault>
         ensures same { OnOk result (OfEachTree (Holds self.new) (AreUnchanged items.now)) }
         ensures held { OfEachTree (Holds self.new) (Holds self.old) };
 }
 
-/// A host's tree, of which the file that was read last stays open. Contracts see the tree, the open file, and the path by which the
-/// last file was opened.
+/// A host's tree, whose file that was read last stays open. Contracts see the tree, the open file, and the path by which the last
+/// file was opened.
 #[derive(Drop)]
 pub struct HostFiles<T: HostTree> {
     tree: T,
@@ -56,7 +56,7 @@ impl<T: HostTree> Model for HostFiles<T> {
 }
 
 impl<T: HostTree + Drop> HostFiles<T> {
-    /// A tree of which no file is open. Takes no memory.
+    /// A tree with no open file. Takes no memory.
     pub fn new(alloc: Global, tree: T) -> HostFiles<T>
         ensures { result ≡ record { tree = tree; path = []; file = None } }
     {
@@ -67,7 +67,7 @@ impl<T: HostTree + Drop> HostFiles<T> {
         }
     }
 
-    /// Opens a file by its path, or takes out the one that is open by it; another is taken back before.
+    /// Opens a file by its path, or takes the one that is open by this path; another open file is handed back to the tree first.
     fn open(&mut self, alloc: Global, path: &str) -> Result<T::File, HostFault>
         ensures path { OnOk result (self.new.path ≡ path.now) }
         ensures out { self.new.file ≡ None }
@@ -92,7 +92,7 @@ impl<T: HostTree + Drop> HostFiles<T> {
         self.tree.open(alloc, path)
     }
 
-    /// Takes back the file that is open.
+    /// Hands the open file back to the tree.
     fn close(&mut self)
         ensures closed { self.new.file ≡ None }
         ensures held { OfEachTree (T.Holds self.new.tree) (IsReadOf T.Holds T.File.Holds self.old) }

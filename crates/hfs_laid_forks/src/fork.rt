@@ -1,4 +1,4 @@
-//! Bytes of forks, which are read of the files of a host in which they lie.
+//! The bytes of forks, read from the files of a host that have them.
 ghost use Rattle.std.specs.Prelude.{◌≡◌, ◌+◌, ◌≤◌, OnOk, Some, drop, length};
 ghost use Rattle.hfs_source.specs.Images.{HasAt};
 ghost use Rattle.hfs_sources.specs.Forks.{fork_bytes, span_bytes};
@@ -10,7 +10,7 @@ use crate::piece::least;
 use hfs_sources::{ForkRun, ForkSpan, HostFault, SourceItem, cannot_read};
 use std::alloc::Global;
 
-/// Reads the bytes of a span of a file from byte `offset + from` of the span on, with zeros behind its end.
+/// Reads bytes of a span of a file, from its byte `offset + from` on, with zeros past its end.
 fn read_span<H: PlacedFiles>(
     alloc: Global,
     files: &mut H,
@@ -38,7 +38,7 @@ fn read_span<H: PlacedFiles>(
     files.read_at(alloc, path, place, &mut into[..count])
 }
 
-/// Reads the bytes of a run's fork of an item from a byte of the run on, with zeros behind the fork's end.
+/// Reads bytes of an item's fork in a run, from a byte of the run on, with zeros past the fork's end.
 fn read_fork<H: PlacedFiles>(
     alloc: Global,
     files: &mut H,
@@ -64,7 +64,7 @@ fn read_fork<H: PlacedFiles>(
     }
 }
 
-/// Reads what is to stand in a run, from a byte of the run on. Faults: as of [`PlacedFiles::read_at`].
+/// Reads what is to be in a run, from a byte of the run on. Faults: as for [`PlacedFiles::read_at`].
 pub(crate) fn read_run<H: PlacedFiles>(
     alloc: Global,
     files: &mut H,

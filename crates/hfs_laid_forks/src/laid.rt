@@ -1,4 +1,4 @@
-//! A file in which the forks of files of a host are laid.
+//! A file with the forks of a host's files laid into it.
 ghost use Rattle.std.specs.Prelude.{◌≡◌, ◌+◌, false, IfNone, IfSome, IsTrue, None, nat_le};
 ghost use Rattle.hfs_source.specs.Images.{OfEach};
 ghost use Rattle.hfs_laid_forks.specs.Runs.{are_apart, lie_in};
@@ -8,27 +8,27 @@ use hfs_source::PlacedBytes;
 use hfs_sources::{ForkRun, HostFault, SourceItem};
 use std::alloc::Global;
 
-/// The bytes of a file with the forks of items of a host's tree in the place of its own in some runs, and with zeros there behind a
-/// fork's end.
+/// The bytes of a file in which some runs have the forks of items of a host's tree in place of the file's own bytes, with zeros
+/// past a fork's end.
 #[derive(Drop)]
 pub struct LaidForks<B, H> {
     pub alloc: Global,
     /// The file's own bytes.
     pub bytes: B,
-    /// Where the forks are read.
+    /// What the forks are read from.
     pub files: H,
     /// The items, to which the runs point.
     pub items: Vec<SourceItem>,
-    /// In which runs the forks lie, in the order of their places.
+    /// The runs that the forks are in, in the order of their places.
     pub runs: Vec<ForkRun>,
-    /// The byte of the file from which these places count.
+    /// The byte of the file from which these places are counted.
     pub start: u64,
     /// Why the tree couldn't be read, the first time.
     pub fault: Option<HostFault>,
     ghost apart: { IsTrue (are_apart 0 runs.items) },
 }
 
-/// Whether runs that end at a byte lie in so many bytes, if their places count from byte `start` of these.
+/// Whether runs that end at a byte lie within `len` bytes, if their places are counted from byte `start`.
 fn is_inside(end: u128, start: u64, len: u64) -> bool
     ensures { result ≡ nat_le (start + end) len }
 {
@@ -37,7 +37,7 @@ fn is_inside(end: u128, start: u64, len: u64) -> bool
 }
 
 impl<B: PlacedBytes + Drop, H: Drop> LaidForks<B, H> {
-    /// The file with these forks laid in it. None where the runs don't lie one behind the other in the file.
+    /// The file with these forks laid into it. None if the runs don't lie one after the other in the file.
     pub fn new(
         alloc: Global,
         bytes: B,

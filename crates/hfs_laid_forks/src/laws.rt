@@ -1,7 +1,8 @@
-//! What laying forks in a file says of an image inside it.
+//! What laying forks into a file means for an image inside it.
 ghost use Rattle.hfs_laid_forks.specs.Laws.{AreLaidInImages};
 
-/// The law of forks that are laid in a file, from the first byte of an image in it on: the image gets them, and nothing else changes.
+/// The law of forks that are laid into a file, from the first byte of an image in it on: the image gets them, and nothing else
+/// changes.
 pub fn laid_forks_laws()
     ensures { AreLaidInImages }
 {}

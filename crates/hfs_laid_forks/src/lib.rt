@@ -1,4 +1,4 @@
-//! Bytes of an image in which the forks of files of a host lie, read as they are wanted.
+//! Bytes of an image with the forks of a host's files laid into it, read when they are needed.
 #![tactic(auto)]
 
 mod again;

@@ -1,4 +1,4 @@
-//! Pieces of a file in which forks are laid, each of which lies in one run or in none.
+//! Pieces of a file with forks laid into it, each in one run or in none.
 ghost use Rattle.std.specs.Prelude.{◌≡◌, ◌-◌, ◌<◌, ◌≤◌, IsTrue, min};
 ghost use Rattle.hfs_laid_forks.specs.declared.piece.Piece.TheVariants.{OfRun, Own};
 ghost use Rattle.hfs_laid_forks.specs.Pieces.{IsInRun, IsPieceAt, piece_len};
@@ -10,9 +10,9 @@ use hfs_sources::ForkRun;
 /// A piece of the bytes.
 #[derive(Clone, Copy)]
 pub(crate) enum Piece {
-    /// So many of the file's own.
+    /// This many of the file's own bytes.
     Own(usize),
-    /// Of what stands in a run: from a byte of it on, so many.
+    /// Bytes of what is in a run: from a byte of it on, this many.
     OfRun(ForkRun, u64, usize),
 }
 
@@ -28,7 +28,7 @@ impl Piece {
     }
 }
 
-/// The lesser of both.
+/// The lesser of the two.
 pub(crate) fn least(room: usize, count: u64) -> usize
     ensures { result ≡ min room count }
 {

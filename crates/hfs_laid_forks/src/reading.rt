@@ -1,4 +1,4 @@
-//! Reading a file in which the forks of files of a host are laid.
+//! Reading a file with the forks of a host's files laid into it.
 ghost use Rattle.std.specs.Prelude.{◌≡◌, ◌<◌, IsOk, OnErr, OnOk, Some, length};
 ghost use Rattle.std.specs.Option.{option_or};
 ghost use Rattle.hfs_source.specs.Images.{FailsWhere, HasAt, OfEach};
@@ -18,7 +18,7 @@ use std::io;
 use std::io::ErrorKind;
 
 impl<B: PlacedBytes + Drop, H: PlacedFiles + Drop> LaidForks<B, H> {
-    /// Looks again at the files of all items, behind the last read. Faults: as of [`look_again`](crate::look_again).
+    /// Looks again at the files of all items, after the last read. Faults: as for [`look_again`](crate::look_again).
     pub fn look_again(&mut self) -> Result<(), HostFault>
         ensures same { OnOk result (OfEachTree (H.Holds self.new.files)
             (AreUnchanged self.new.items.items)) }
@@ -29,7 +29,7 @@ impl<B: PlacedBytes + Drop, H: PlacedFiles + Drop> LaidForks<B, H> {
         self.files.look_again(self.alloc, &self.items)
     }
 
-    /// Keeps a fault of the tree, where none is kept yet, and answers one of a read.
+    /// Keeps a fault of the tree, if none is kept yet, and returns a fault of a read.
     fn noted(&mut self, fault: HostFault) -> io::Error
         ensures { self.new ≡ record self.old { fault = option_or self.old.fault (Some fault) } }
     {

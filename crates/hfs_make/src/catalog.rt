@@ -7,7 +7,7 @@ ghost use Rattle.hfs_make.specs.Least.{IsLeastFrom};
 
 use crate::items::NewItem;
 
-/// How many bytes a key takes in a leaf, by the characters of its name.
+/// How many bytes a key takes in a leaf, by the length of its name.
 #[tactic(auto, unfolding(crate::specs::Catalogs::key_bytes))]
 fn key_bytes(name_len: u8) -> u32
     ensures value { result ≡ spec.key_bytes name_len }
@@ -16,7 +16,7 @@ fn key_bytes(name_len: u8) -> u32
     (u32::from(name_len) + 8) / 2 * 2
 }
 
-/// How many bytes the record of a folder and its thread take, with their places.
+/// How many bytes a folder's record and its thread take, with their offsets.
 #[tactic(auto, unfolding(crate::specs::Catalogs::folder_bytes))]
 fn folder_bytes(name_len: u8) -> u32
     ensures value { result ≡ spec.folder_bytes name_len }
@@ -25,7 +25,7 @@ fn folder_bytes(name_len: u8) -> u32
     key_bytes(name_len) + 70 + 2 + key_bytes(0) + 46 + 2
 }
 
-/// How many bytes the record of a file takes, with its place.
+/// How many bytes a file's record takes, with its offset.
 #[tactic(auto, unfolding(crate::specs::Catalogs::file_bytes))]
 fn file_bytes(name_len: u8) -> u32
     ensures value { result ≡ spec.file_bytes name_len }
@@ -45,7 +45,7 @@ fn item_bytes(item: NewItem) -> u32
     }
 }
 
-/// How many bytes the records of the root and of all that lies in it take.
+/// How many bytes the records of the root and of everything in it take.
 fn records_bytes(name_len: u8, items: &[NewItem]) -> u128
     ensures value { result ≡ spec.records_bytes name_len items.now }
     ensures few { result < 2 ^ 76 }
@@ -57,7 +57,7 @@ fn records_bytes(name_len: u8, items: &[NewItem]) -> u128
     bytes
 }
 
-/// How many nodes stand above so many, in so many levels at most.
+/// How many nodes there are above `below` ones, in at most this many levels.
 #[tactic(auto, unfolding(crate::specs::Catalogs::index_nodes))]
 fn index_nodes(levels: u32, below: u128) -> u128
     requires { below < 2 ^ 76 }
@@ -72,7 +72,7 @@ fn index_nodes(levels: u32, below: u128) -> u128
     }
 }
 
-/// The nodes of leaves half full and of their index, and a quarter of them more.
+/// The nodes of half-full leaves and of their index, and a quarter more.
 #[tactic(auto, unfolding(crate::specs::Catalogs::record_nodes, crate::specs::Catalogs::leaves))]
 fn record_nodes(bytes: u128) -> u128
     requires { bytes < 2 ^ 76 }
@@ -83,7 +83,7 @@ fn record_nodes(bytes: u128) -> u128
     (5 * (leaves + index_nodes(32, leaves)) + 3) / 4
 }
 
-/// The least number of nodes of which so many are left beside the header node and the map nodes.
+/// The least number of nodes that leaves `left` besides the header node and the map nodes.
 #[tactic(auto, unfolding(crate::specs::Catalogs::with_map_nodes))]
 fn with_map_nodes(left: u128) -> u128
     requires { left < 2 ^ 80 }
@@ -95,8 +95,8 @@ fn with_map_nodes(left: u128) -> u128
     nodes + (nodes.saturating_sub(2_048) + 3_934) / 3_935
 }
 
-/// How many nodes the catalog of a volume gets whose name has so many characters and in which these items lie, so many `times` what
-/// these want: 1, and more where they have not sufficed.
+/// How many nodes the catalog of a volume gets whose name has this length and that will hold these items, `times` what they need:
+/// 1, and more if that was not enough.
 pub fn catalog_nodes(name_len: u8, items: &[NewItem], times: u32) -> u128
     ensures { result ≡ spec.catalog_nodes name_len items.now times }
 {

@@ -1,7 +1,7 @@
 //! Why no new volume is planned.
 use thiserror::Error;
 
-/// Why no new volume is planned. The first two are of what was asked for, and come before anything that is to come is looked at.
+/// Why no new volume is planned. The first two are faults of what was asked for, and come before any source is looked at.
 #[derive(Clone, Copy, Debug, PartialEq, Eq, Error)]
 pub enum MakeFault {
     /// The volume has no name, or one that isn't an item name of 1 to 27 characters.
@@ -10,7 +10,7 @@ pub enum MakeFault {
     /// The size isn't whole blocks of 512 bytes, from 64 KB to 2 GB.
     #[error("bad size")]
     BadSize,
-    /// No volume of up to 2 GB holds all that is to come, or the trees alone have no room in the size that was asked for.
+    /// No volume of up to 2 GB can hold all items, or the size that was asked for has no room even for the trees.
     #[error("no room")]
     NoRoom,
     /// Memory was refused.

@@ -1,6 +1,6 @@
-//! What is to come into a new volume, as far as its size depends on it.
+//! The items of a new volume, as far as its size depends on them.
 
-/// A file that is to come.
+/// A file that is to be put on the volume.
 #[derive(Clone, Copy)]
 pub struct NewFile {
     /// How many characters its name has.
@@ -11,10 +11,10 @@ pub struct NewFile {
     pub resource_len: u64,
 }
 
-/// An item that is to come.
+/// An item that is to be put on the volume.
 #[derive(Clone, Copy)]
 pub enum NewItem {
-    /// A folder, whose name has so many characters.
+    /// A folder, whose name has this many characters.
     Folder(u8),
     File(NewFile),
 }

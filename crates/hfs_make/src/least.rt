@@ -1,4 +1,4 @@
-//! The least size that holds all.
+//! The smallest size that holds everything.
 ghost use Rattle.std.specs.Prelude.{◌≡◌, ◌≤◌, IfSome};
 ghost use Rattle.hfs_format.specs.Plan as plan;
 ghost use Rattle.hfs_make.specs.Least.{FindsLeast, FindsLeastWithin};
@@ -7,10 +7,10 @@ ghost use Rattle.hfs_make.specs.Wanted.{has_blocks, holds_all};
 use crate::items::NewItem;
 use crate::wanted::wanted_blocks;
 
-/// The most blocks of 512 bytes that a volume has: 2 GB.
+/// The most blocks of 512 bytes that a volume may have: 2 GB.
 const MOST_BLOCKS: u32 = 4_194_304;
 
-/// How many allocation blocks a volume of so many blocks has.
+/// How many allocation blocks a volume of `blocks` blocks has.
 #[tactic(auto, using(crate::proofs::PlanNumbers::allocation_blocks_is, crate::proofs::PlanNumbers::few_quotients))]
 fn allocation_blocks(blocks: u32, factor: u32) -> u32
     requires few { blocks ≤ 4194304 }
@@ -22,7 +22,7 @@ fn allocation_blocks(blocks: u32, factor: u32) -> u32
     blocks.saturating_sub(2).saturating_sub(start) / factor
 }
 
-/// Whether a volume of so many blocks has so many allocation blocks.
+/// Whether a volume of `blocks` blocks has `wanted` allocation blocks.
 fn has_blocks(blocks: u32, factor: u32, wanted: u128) -> bool
     requires few { blocks ≤ 4194304 }
     requires some { 1 ≤ factor }
@@ -32,7 +32,8 @@ fn has_blocks(blocks: u32, factor: u32, wanted: u128) -> bool
     wanted <= u128::from(allocation_blocks(blocks, factor))
 }
 
-/// The least number of blocks from `first` to `last` whose volume has so many allocation blocks, each of so many blocks.
+/// The smallest number of blocks from `first` to `last` with which a volume has `wanted` allocation blocks, each of `factor`
+/// blocks.
 fn least_with_blocks(first: u32, last: u32, factor: u32, wanted: u128) -> Option<u32>
     requires range { first ≤ last }
     requires few { last ≤ 4194304 }
@@ -57,7 +58,7 @@ fn least_with_blocks(first: u32, last: u32, factor: u32, wanted: u128) -> Option
     Some(high)
 }
 
-/// The least number of blocks from `from` on whose volume holds all.
+/// The smallest number of blocks, at least `from`, with which a volume holds everything.
 pub(crate) fn least_blocks(nodes: u32, items: &[NewItem], from: u32) -> Option<u32>
     ensures least { FindsLeast from (holds_all nodes items.now) result }
     ensures few { IfSome result (λ least. least ≤ 4194304) }

@@ -1,4 +1,4 @@
-//! The plan of a new volume with all that is to come into it: its name, its size, and its catalog.
+//! The plan of a new volume for all its items: its name, its size, and its catalog.
 #![tactic(auto)]
 
 mod catalog;

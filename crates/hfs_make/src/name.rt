@@ -20,7 +20,7 @@ pub enum NameSource<'a> {
     Nameless,
 }
 
-/// The name that was given, where it is an item name.
+/// The name that was given, if it is an item name.
 fn item_name(given: GivenName) -> Option<Name>
     ensures { result ≡ item_letters given }
 {
@@ -30,7 +30,7 @@ fn item_name(given: GivenName) -> Option<Name>
     }
 }
 
-/// The item name that is read from this.
+/// The item name that is read from this source.
 fn name_in(source: NameSource<'_>) -> Option<Name>
     ensures { result ≡ name_in source.entry }
 {
@@ -42,7 +42,8 @@ fn name_in(source: NameSource<'_>) -> Option<Name>
     }
 }
 
-/// The name of a volume. Error: `BadName` exactly where there is none, or it isn't an item name of at most 27 characters; it is never cut.
+/// The name of a volume. Error: `BadName` exactly when there is none, or it isn't an item name of at most 27 characters; it is
+/// never cut.
 pub fn read_name(source: NameSource<'_>) -> Result<VolumeName, MakeFault>
     ensures { MatchResult result (IsNameOf source.entry) (IsBadName source.entry) }
 {

@@ -1,4 +1,4 @@
-//! The image of a new volume, read by its places.
+//! The image of a new volume, read by position.
 ghost use Rattle.std.specs.Prelude.{◌≡◌, ◌≤◌, ◌+◌, ◌*◌, Some, OnOk, length};
 ghost use Rattle.hfs_format.specs.Image.{image_bytes};
 ghost use Rattle.hfs_source.specs.Images.{HasAt};
@@ -9,13 +9,13 @@ use hfs_sparse::BlockSource;
 use std::io;
 use std::io::ErrorKind;
 
-/// The image of a new volume, of which no byte is held: each block is made where some of it is read.
+/// The image of a new volume. No byte is held: each block is made when a part of it is read.
 #[derive(Clone, Copy)]
 pub struct NewImage {
     pub planned: PlannedImage,
 }
 
-/// Reads bytes of one block of 512 bytes, from one of its bytes on, as many as there is room for, which end in it.
+/// Reads bytes of one block of 512 bytes, from its byte `skip` on, as many as there is room for, which end within it.
 fn read_part(image: &mut PlannedImage, block: u32, skip: usize, into: &mut [u8]) -> io::Result<()>
     requires { skip + length into.old ≤ 512 }
     ensures same { image_bytes image.new ≡ image_bytes image.old }

@@ -15,7 +15,7 @@ use crate::size::chosen_blocks;
 use hfs_format::{FormatFault, FormatPlan, PlannedImage};
 use std::alloc::Global;
 
-/// How many nodes the catalog gets; none where they are more than a volume of 2 GB has blocks.
+/// How many nodes the catalog gets; None if they are more than a volume of 2 GB has blocks.
 fn few_nodes(volume: &NewVolume<'_>) -> Option<u32>
     ensures { SomeIff result (spec.nodes_of volume.now ≤ 4194304) (spec.nodes_of volume.now) }
 {
@@ -27,7 +27,7 @@ fn few_nodes(volume: &NewVolume<'_>) -> Option<u32>
     Some(nodes as u32)
 }
 
-/// How many blocks of 512 bytes the volume gets with a catalog of so many nodes.
+/// How many blocks of 512 bytes the volume gets with a catalog of `nodes` nodes.
 fn size_blocks(volume: &NewVolume<'_>, nodes: u32) -> Option<u32>
     ensures { MatchOption result (HasNoBlocks volume.now nodes) (IsSizeFor volume.now nodes) }
 {
@@ -37,7 +37,7 @@ fn size_blocks(volume: &NewVolume<'_>, nodes: u32) -> Option<u32>
     }
 }
 
-/// The image of a plan that has no fault, or wants more room than there is.
+/// The image of a plan that has no fault, or needs more room than there is.
 fn image_of(plan: &FormatPlan) -> Result<PlannedImage, MakeFault>
     requires { (fault : FormatFault) → HasFault plan.now fault → fault ≡ format.NoRoom }
     ensures { MatchResult result (IsImageOf plan.entry.now) (IsFormatFault plan.entry.now) }
@@ -54,8 +54,8 @@ fn image_of(plan: &FormatPlan) -> Result<PlannedImage, MakeFault>
     }
 }
 
-/// The image of a new volume, in which nothing lies yet. Errors: `NoRoom` where no volume of up to 2 GB holds all that is to come, or
-/// where the trees alone have no room in the size that is asked for; `Memory`.
+/// The image of a new, empty volume. Errors: `NoRoom` if no volume of up to 2 GB can hold all items, or if the size that was
+/// asked for has no room even for the trees; `Memory`.
 pub fn plan_volume(alloc: Global, volume: &NewVolume<'_>) -> Result<PlannedImage, MakeFault>
     ensures { MatchResult result (IsMadeFor volume.now) (IsPlanFault volume.now) }
 {

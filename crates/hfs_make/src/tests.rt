@@ -5,7 +5,7 @@ use hfs_sparse::BlockSource;
 use std::alloc::{AllocError, Global};
 use std::test::Fail;
 
-/// How many blocks a typed size has; 0 where it is refused.
+/// How many blocks a typed size has; 0 if it is refused.
 fn typed(text: &str) -> u32 {
     match read_size(text) {
         Ok(size) => size.blocks,
@@ -92,7 +92,7 @@ fn names_are_read(rt: HostRuntime) {
     }
 }
 
-/// So many files with names of 8 characters and so many bytes in their data forks.
+/// `count` files with names of 8 characters and `data_len` bytes in their data forks.
 fn files(alloc: Global, count: u32, data_len: u64) -> Result<Vec<NewItem>, AllocError> {
     let mut items = Vec::new(alloc);
     for _ in 0..count {
@@ -163,7 +163,7 @@ fn planned(
     plan_volume(alloc, &volume)
 }
 
-/// How many blocks a volume has; 0 where it is refused for want of room.
+/// How many blocks a volume has; 0 if it is refused for lack of room.
 fn planned_blocks(alloc: Global, size: &str, items: &[NewItem]) -> Result<u32, MakeFault> {
     match planned(alloc, "D", size, items) {
         Ok(image) => Ok(image.count()),
@@ -200,7 +200,7 @@ fn new_images_are_read_by_places(rt: HostRuntime) -> Result<(), Fail> {
     let planned = planned(rt.alloc(), "D", "", &none)?;
     let mut image = NewImage { planned };
     assert!(rt; PlacedBytes::len(&image) == 111_104);
-    // the master directory block: its moment, and behind these its name; 8 nodes of the extents file, and 3 of the catalog
+    // the master directory block: its moment, and after these its name; 8 nodes of the extents file, and 3 of the catalog
     assert!(rt; has(&mut image, 1_024, &[0x42, 0x44, 0, 0, 0, 77, 0, 0, 0, 77]));
     assert!(rt; has(&mut image, 1_060, &[1, b'D', 0]));
     assert!(rt; has(&mut image, 1_154, &[0, 0, 0x10, 0, 0, 0, 0, 8]));

@@ -6,7 +6,7 @@ use crate::fault::MakeFault;
 use crate::volume_size::VolumeSize;
 use std::str::from_utf8;
 
-/// The digits of a size, and how many bytes each one has that they count.
+/// The digits of a size, and how many bytes one of the units has that they count.
 #[tactic(auto, unfolding(crate::specs::TypedSizes::digits_in, crate::specs::TypedSizes::unit_in))]
 fn parted(text: &[u8]) -> (&[u8], u64)
     ensures digits { result.0.now ≡ digits_in text.now }
@@ -22,7 +22,7 @@ fn parted(text: &[u8]) -> (&[u8], u64)
     }
 }
 
-/// The number that digits are; none where they are none, or where it is above 18,446,744,073,709,551,615.
+/// The number in these digits; None if they are none, or if it is above 18,446,744,073,709,551,615.
 fn number_of(digits: &[u8]) -> Option<u64>
     ensures { IsNumberOf digits.now result }
 {
@@ -35,8 +35,8 @@ fn number_of(digits: &[u8]) -> Option<u64>
     }
 }
 
-/// The size that a text names: bytes, or with `K`, `M` or `G` behind 1,024, 1,048,576 or 1,073,741,824 bytes. Error: `BadSize`
-/// exactly where it names none, or one that isn't whole blocks of 512 bytes from 64 KB to 2 GB.
+/// The size in a text: bytes, or, with `K`, `M` or `G` at the end, units of 1,024, 1,048,576 or 1,073,741,824 bytes. Error:
+/// `BadSize` exactly when it is none, or one that isn't whole blocks of 512 bytes from 64 KB to 2 GB.
 pub fn read_size(text: &str) -> Result<VolumeSize, MakeFault>
     ensures { MatchResult result (IsSizeOf text.now) (IsBadSize text.now) }
 {

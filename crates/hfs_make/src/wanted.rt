@@ -1,4 +1,4 @@
-//! What a new volume is wanted to hold.
+//! What a new volume must hold.
 ghost use Rattle.std.specs.Prelude.{◌≡◌, ◌+◌, ◌*◌, ◌<◌, ◌≤◌, ◌^◌};
 ghost use Rattle.std.specs.Int.{div_ceil};
 ghost use Rattle.hfs_format.specs.Plan as plan;
@@ -6,7 +6,7 @@ ghost use Rattle.hfs_make.specs.Wanted as spec;
 
 use crate::items::NewItem;
 
-/// How many allocation blocks of so many bytes a fork takes.
+/// How many allocation blocks of `size` bytes a fork takes.
 #[tactic(auto, using(crate::proofs::PlanNumbers::few_blocks))]
 fn blocks_in(len: u64, size: u64) -> u64
     requires { 512 ≤ size }
@@ -16,7 +16,7 @@ fn blocks_in(len: u64, size: u64) -> u64
     len.div_ceil(size)
 }
 
-/// How many allocation blocks of so many blocks the forks of an item take.
+/// How many allocation blocks of `factor` blocks the forks of an item take.
 fn fork_blocks(factor: u32, item: NewItem) -> u64
     requires some { 1 ≤ factor }
     requires few { factor ≤ 65 }
@@ -32,7 +32,7 @@ fn fork_blocks(factor: u32, item: NewItem) -> u64
     }
 }
 
-/// How many allocation blocks so many nodes take.
+/// How many allocation blocks `nodes` nodes take.
 #[tactic(auto, using(crate::proofs::PlanNumbers::file_blocks_is))]
 fn file_blocks(factor: u32, nodes: u32) -> u64
     requires some { 1 ≤ factor }
@@ -43,7 +43,7 @@ fn file_blocks(factor: u32, nodes: u32) -> u64
     (u64::from(nodes) + u64::from(factor - 1)) / u64::from(factor)
 }
 
-/// How many allocation blocks both trees take, and the forks of all items.
+/// How many allocation blocks both trees and the forks of all items take.
 pub(crate) fn wanted_blocks(nodes: u32, items: &[NewItem], factor: u32) -> u128
     requires some { 1 ≤ factor }
     requires few { factor ≤ 65 }

@@ -1,4 +1,4 @@
-//! What is to come into a new volume, as far as its size depends on it.
+//! The items of a new volume, as far as its size depends on them.
 ghost use Rattle.std.specs.Prelude.{◌≡◌, IfOk, map};
 ghost use Rattle.hfs_sources.specs.Plans.{is_folder};
 ghost use Rattle.hfs_make_items.specs.Items.{name_len, new_item, new_item_of};
@@ -9,7 +9,7 @@ use hfs_put_plan::EntryKind;
 use hfs_sources::{ItemPlan, Look, SourceItem};
 use std::alloc::{AllocError, Global};
 
-/// Whether it is there, and a folder.
+/// Whether it exists and is a folder.
 fn is_folder(own: Option<Look>) -> bool
     ensures { result ≡ is_folder own }
 {
@@ -23,7 +23,7 @@ fn is_folder(own: Option<Look>) -> bool
     }
 }
 
-/// How many characters a name has; none where there is no name.
+/// How many characters a name has; 0 if there is no name.
 fn name_len(name: Option<Name>) -> u8
     ensures { result ≡ name_len name }
 {
@@ -33,7 +33,7 @@ fn name_len(name: Option<Name>) -> u8
     }
 }
 
-/// What is planned of an item of a host, as far as the volume's size depends on it.
+/// An item of a host, as far as the volume's size depends on its plan.
 fn new_item(plan: &ItemPlan) -> NewItem
     ensures { result ≡ new_item plan.now }
 {
@@ -49,7 +49,7 @@ fn new_item(plan: &ItemPlan) -> NewItem
     }
 }
 
-/// What is to come of a host's folders and files, item by item. Error: memory was refused.
+/// The items of a host's folders and files, one by one. Error: memory was refused.
 pub fn new_items(alloc: Global, items: &[SourceItem]) -> Result<Vec<NewItem>, AllocError>
     ensures { IfOk result (λ new. new.items ≡ map new_item_of items.now) }
 {

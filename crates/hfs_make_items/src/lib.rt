@@ -1,5 +1,5 @@
-//! What comes into a new volume out of a host's folders and files: its list, what its size depends on, and the name that the volume gets
-//! by it.
+//! What is put on a new volume from folders and files of a host: the list, what the volume's size depends on, and the name that
+//! the volume gets from it.
 #![tactic(auto)]
 
 mod items;

@@ -1,4 +1,4 @@
-//! The list of what comes into a new volume.
+//! The list of what is put on a new volume.
 ghost use Rattle.std.specs.Prelude.{◌≡◌, IfOk, map};
 ghost use Rattle.hfs_sources.specs.Trees.{OfEachTree};
 ghost use Rattle.hfs_make_items.specs.Lists.{IsListOf, IsNewList, is_folder_kind, is_plain, is_plain_folder};
@@ -20,7 +20,7 @@ fn is_folder(look: Look) -> bool
     }
 }
 
-/// Whether a source that leads to what is seen so is a folder and no bag.
+/// Whether a source that leads to what is seen here is a folder and no bag.
 fn is_plain<T: HostTree>(
     alloc: Global,
     tree: &mut T,
@@ -54,7 +54,7 @@ fn is_plain_folder<T: HostTree>(
     }
 }
 
-/// The list of one source: of a folder that is no bag what lies in it.
+/// The list of one source; for a folder that is no bag, what is in it.
 fn list_one<T: HostTree, B: ToldItems>(
     alloc: Global,
     tree: &mut T,
@@ -74,8 +74,8 @@ fn list_one<T: HostTree, B: ToldItems>(
     }
 }
 
-/// The list of all that comes into a new volume: of one folder that is no bag what lies in it, and else what `put` puts. Faults: as
-/// `list_sources` of `hfs_sources` has them.
+/// The list of what is put on a new volume: for one folder that is no bag, what is in it; otherwise what `put` puts. Faults: as
+/// for `list_sources` of `hfs_sources`.
 pub fn list_new<T: HostTree, B: ToldItems>(
     alloc: Global,
     tree: &mut T,

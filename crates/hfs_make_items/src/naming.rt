@@ -1,4 +1,4 @@
-//! The name that a new volume gets by what comes.
+//! The name that a new volume gets from its sources.
 ghost use Rattle.std.specs.Path.{path_file_name};
 ghost use Rattle.std.specs.Prelude.{◌≡◌, IfOk, map};
 ghost use Rattle.hfs_bag_facts.specs.Tags.{name_told};
@@ -13,7 +13,7 @@ use std::alloc::Global;
 use std::path::Path;
 use std::str::from_utf8;
 
-/// The name by the plain text that a bag tells of its disk.
+/// The name from the plain text that a bag gives for its disk.
 fn plain_name(text: &[u8]) -> Result<VolumeName, MakeFault>
     ensures { IsReadAs (plain_name text.now) result }
 {
@@ -23,7 +23,7 @@ fn plain_name(text: &[u8]) -> Result<VolumeName, MakeFault>
     }
 }
 
-/// The name by the last part of a path.
+/// The name from the last part of a path.
 fn part_name(path: &str) -> Result<VolumeName, MakeFault>
     ensures { IsReadAs (part_name (path_file_name path.now)) result }
 {
@@ -33,7 +33,7 @@ fn part_name(path: &str) -> Result<VolumeName, MakeFault>
     }
 }
 
-/// The name by what is seen of a source: a file gives none.
+/// The name from what is seen of a source; a file gives none.
 fn look_name(look: Look, source: &str) -> Result<VolumeName, MakeFault>
     ensures { IsReadAs (look_name look.kind source.now) result }
 {
@@ -44,7 +44,7 @@ fn look_name(look: Look, source: &str) -> Result<VolumeName, MakeFault>
     }
 }
 
-/// The name by what a source leads to.
+/// The name from what a source leads to.
 fn target_name<T: HostTree>(
     alloc: Global,
     tree: &mut T,
@@ -60,7 +60,7 @@ fn target_name<T: HostTree>(
     }
 }
 
-/// The name by one source.
+/// The name from one source.
 fn source_name<T: HostTree>(
     alloc: Global,
     tree: &mut T,
@@ -76,8 +76,9 @@ fn source_name<T: HostTree>(
     }
 }
 
-/// The name of a volume by the sources that come: of one bag the name that it tells of its disk, else of one folder its last part. There is
-/// none, or one that no volume has: `BadName`. Faults: `CannotRead` of what can't be read or is not there, `NoMemory`.
+/// The name of a volume from its sources: from one bag, the name that it gives for its disk; from one folder, the last part of
+/// its path. `BadName` if there is none, or one that no volume may have. Faults: `CannotRead` of what can't be read or doesn't
+/// exist, `NoMemory`.
 pub fn found_name<T: HostTree>(
     alloc: Global,
     tree: &mut T,

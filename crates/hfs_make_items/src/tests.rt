@@ -1,4 +1,4 @@
-//! What comes into a new volume out of trees in memory.
+//! What is put on a new volume from trees in memory.
 use super::*;
 use hfs_make::{MakeFault, NewItem, VolumeName};
 use hfs_put_plan::EntryKind;
@@ -123,7 +123,7 @@ fn is_item(item: &SourceItem, path: &str, parent: Option<usize>) -> bool {
     item.path() == path && item.parent() == parent
 }
 
-/// Whether a file comes with so many characters in its name, and so many bytes in its data fork.
+/// Whether this is a file with this many characters in its name, and this many bytes in its data fork.
 fn is_file(item: NewItem, name_len: u8, data_len: u64) -> bool {
     match item {
         NewItem::Folder(_) => false,
@@ -133,13 +133,13 @@ fn is_file(item: NewItem, name_len: u8, data_len: u64) -> bool {
     }
 }
 
-/// How items are taken in these tests.
+/// How the sources are read in these tests.
 const HOW: PutOptions = PutOptions {
     macbinary: false,
     rename: false,
 };
 
-/// Whether what lies in the folder is listed, without the folder itself.
+/// Whether what is in the folder is listed, without the folder itself.
 fn lists_inside(rt: &HostRuntime) -> bool {
     let nodes = nodes(b"");
     let mut tree = MemoryTree { nodes: &nodes };

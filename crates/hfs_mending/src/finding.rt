@@ -1,4 +1,4 @@
-//! Where the trees of a volume lie that is right but for its counts.
+//! Where the trees lie of a volume in which only counts are wrong.
 ghost use Rattle.std.specs.Prelude.{IfOk};
 ghost use Rattle.hfs_check.specs.Sound.{IsMdbSound};
 ghost use Rattle.hfs_needed.specs.Finding.{FindsTreeFile};
@@ -10,7 +10,7 @@ use hfs_repair::mendable_catalog_file;
 use hfs_space::{is_tree_file, tree_runs};
 use std::alloc::{AllocError, Global};
 
-/// The runs of a tree's file that has these extents and this size in bytes. None where the file is wrong.
+/// The runs of the tree file with these extents and this size in bytes. None if the file is wrong.
 #[tactic(auto, using(hfs_repair::proofs::Openings::extents_within))]
 pub(crate) fn file_runs<B: Blocks>(
     alloc: Global,
@@ -30,8 +30,8 @@ pub(crate) fn file_runs<B: Blocks>(
     }
 }
 
-/// The runs of the catalog tree, behind an extents tree that is right but for its two counts. None where that tree or the catalog file is
-/// wrong.
+/// The runs of the catalog tree, after an extents tree that is right apart from its two counts. None if that tree or the catalog
+/// file is wrong.
 pub(crate) fn catalog_runs<B: Blocks>(
     alloc: Global,
     blocks: &B,

@@ -1,4 +1,4 @@
-//! Reading the blocks that decide an image's counted numbers and its first fault, with changed blocks laid over it.
+//! Reading the blocks that decide an image's counts and its first fault, with changed blocks laid over it.
 ghost use Rattle.std.specs.Prelude.{◌≡◌, ◌≤◌, IsSome, OnOk};
 ghost use Rattle.hfs_blocks.specs.Layers.{changes};
 ghost use Rattle.hfs_check.specs.Agree.{bitmap_blocks};
@@ -16,7 +16,7 @@ use hfs_fields::Mdb;
 use hfs_sparse::{BlockSource, SparseBlocks, SparseFault, fetch, fetch_range, fetch_runs};
 use std::alloc::Global;
 
-/// Reads the nodes of the catalog, where those of the extents tree were read, which says where the catalog goes on.
+/// Reads the nodes of the catalog, after those of the extents tree, which says where the catalog continues.
 #[tactic(auto, using(hfs_sparse::proofs::Seen::sees_itself))]
 fn gather_catalog<S: BlockSource>(
     alloc: Global,
@@ -46,7 +46,7 @@ fn gather_catalog<S: BlockSource>(
     Ok(())
 }
 
-/// Reads the nodes of both trees, where the master directory block and the bitmap were read.
+/// Reads the nodes of both trees, after the master directory block and the bitmap.
 #[tactic(auto, using(hfs_sparse::proofs::Seen::sees_itself))]
 fn gather_trees<S: BlockSource>(
     alloc: Global,
@@ -78,7 +78,7 @@ fn gather_trees<S: BlockSource>(
     Ok(())
 }
 
-/// Reads the bitmap and the nodes of both trees, behind a master directory block that was read and is right.
+/// Reads the bitmap and the nodes of both trees, after a master directory block that is right was read.
 fn gather_rest<S: BlockSource>(
     alloc: Global,
     source: &mut S,
@@ -102,9 +102,9 @@ fn gather_rest<S: BlockSource>(
     Ok(())
 }
 
-/// Reads the blocks that decide which counted numbers are wrong in an image of `count` blocks with these changed ones, and its first fault, each
-/// unless it was read before: the master directory block, the bitmap, and all nodes of both trees, free ones too. Nothing is read behind a
-/// part that is wrong. Errors: a read failed, memory was refused.
+/// Reads the blocks that decide which counts are wrong in an image of `count` blocks with these changed ones, and its first
+/// fault, each unless it was read before: the master directory block, the bitmap, and all nodes of both trees, even free ones.
+/// Nothing is read after a part that is wrong. Errors: a read failed, memory was refused.
 #[tactic(auto, using(hfs_check::proofs::LawsProved::mdb_is_sound))]
 pub(crate) fn gather_mending<S: BlockSource>(
     alloc: Global,

@@ -1,4 +1,4 @@
-//! Bytes that are put into blocks, each block as it was read or as it was changed before.
+//! Putting bytes into blocks, each block as it was read or as it was changed before.
 ghost use Rattle.std.specs.Prelude.{◌≡◌, ◌*◌, ◌<◌, ◌∷◌, [], OnOk, IfOk};
 ghost use Rattle.hfs_blocks.specs.Layers.{changes, AreWithin, KeepsWithin};
 ghost use Rattle.hfs_needed.specs.Gathered.{HasRead};
@@ -38,7 +38,8 @@ fn lay_put<S: BlockSource>(
     }
 }
 
-/// The blocks of an image of `count` blocks with these bytes put into them, one after the other. Errors: as the first that fails has them.
+/// The blocks of an image of `count` blocks with these bytes put into them, one after the other. Errors: as for the first that
+/// fails.
 #[tactic(auto, using(hfs_sparse::proofs::Seen::sees_itself))]
 pub(crate) fn lay_puts<S: BlockSource>(
     alloc: Global,

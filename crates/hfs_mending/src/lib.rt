@@ -1,4 +1,4 @@
-//! The counted numbers of an image that is read where it is needed: what a repair changes of it, what it tells, and what is then refused.
+//! The counts of an image that is read on demand: what a repair changes of it, what it reports, and what is then refused.
 #![tactic(auto)]
 
 mod finding;

@@ -1,4 +1,4 @@
-//! What a repair of an image changes, tells and leaves, by the blocks that it needs.
+//! What a repair of an image changes, reports and leaves, from the blocks that it needs.
 ghost use Rattle.std.specs.Prelude.{◌≡◌, ◌/◌, ◌≤◌, [], Some, None, IfOk};
 ghost use Rattle.hfs_blocks.specs.Layers.{changes, AreWithin};
 ghost use Rattle.hfs_needed.specs.Gathered.{HasRead};
@@ -14,18 +14,18 @@ use hfs_repair::{Fix, Mending};
 use hfs_sparse::{BlockSource, SparseBlocks, SparseFault};
 use std::alloc::Global;
 
-/// What a repair of an image changes and tells, and what is then wrong with it.
+/// What a repair of an image changes and reports, and what is then wrong with it.
 #[derive(Drop)]
 pub struct Mended {
-    /// The blocks that the repair changes, as they are then.
+    /// The blocks that the repair changes, as they are afterwards.
     pub patch: Patch,
     /// The numbers that were wrong, each once, in the order of `FixPlace`.
     pub fixes: Vec<Fix>,
-    /// The first fault of the repaired image, where it has one.
+    /// The first fault of the repaired image, if it has one.
     pub fault: Option<MountFault>,
 }
 
-/// What is told of an image whose length is wrong: it is left as it is.
+/// The result for an image whose length is wrong: it is left as it is.
 fn unmended(alloc: Global, fault: MountFault) -> Mended
     ensures patch { result.patch ≡ [] }
     ensures fixes { result.fixes.items ≡ [] }
@@ -60,7 +60,7 @@ fn fault_over<S: BlockSource>(
     }
 }
 
-/// What a repair of an image of `count` blocks changes, tells and leaves.
+/// What a repair of an image of `count` blocks changes, reports and leaves.
 fn mend_blocks<S: BlockSource>(
     alloc: Global,
     source: &mut S,
@@ -87,9 +87,10 @@ fn mend_blocks<S: BlockSource>(
     })
 }
 
-/// What a repair of an image of `len` bytes changes, tells and leaves, of which only the blocks are read that decide it: the master directory block, the bitmap,
-/// and all nodes of both trees. Errors: a read failed, or the image ends before that many bytes; memory was refused. A fault of the image is
-/// no error: it is told of. What is told is said of each image that has the bytes which were read.
+/// What a repair of an image of `len` bytes changes, reports and leaves. Only the blocks are read that decide it: the master
+/// directory block, the bitmap, and all nodes of both trees. The result holds for every image consistent with the bytes read.
+/// Errors: a read failed, or the image ends before that many bytes; memory was refused. A fault of the image is no error: the
+/// result has it.
 pub fn mend_needed<S: BlockSource>(
     alloc: Global,
     source: &mut S,

@@ -5,8 +5,8 @@ use crate::call::Call;
 use std::alloc::{AllocError, Global};
 use std::marker::Model;
 
-/// Bytes in memory that are never changed, as those that calls take. A copy or a part of them copies no byte, and another thread may hold
-/// it. Contracts see their list.
+/// Bytes in memory that never change, such as those that calls take. Copying them, or a part of them, copies no byte, and other
+/// threads may hold the copy. Contracts see their list.
 #[derive(Drop)]
 pub struct SharedBytes {
     bytes: bytes::Bytes,
@@ -21,7 +21,7 @@ impl Model for SharedBytes {
 }
 
 impl SharedBytes {
-    /// A copy of the bytes, which are shared from then on. `Err` only where memory is wanting.
+    /// A copy of the bytes, shared from then on. `Err` only when out of memory.
     pub fn from_slice(alloc: Global, bytes: &[u8]) -> Result<Self, AllocError>
         ensures { IfOk result (λ b. b ≡ bytes.now) }
     {
@@ -30,7 +30,7 @@ impl SharedBytes {
         })
     }
 
-    /// The bytes of a `Vec`, which are shared from then on: none is copied. `Err` only where memory is wanting.
+    /// The bytes of a `Vec`, shared from then on; none is copied. `Err` only when out of memory.
     pub fn from_vec(items: Vec<u8>) -> Result<Self, AllocError>
         ensures { IfOk result (λ b. b ≡ items.items) }
     {
@@ -46,7 +46,7 @@ impl SharedBytes {
         self.bytes.as_slice()
     }
 
-    /// The bytes from one place to another, which are shared, too. `Err` only where there are too many owners.
+    /// The bytes from `from` up to `to`, shared as well. `Err` only if there are too many owners.
     pub fn part(&self, from: usize, to: usize) -> Result<Self, AllocError>
         requires rising { from ≤ to }
         requires within { to ≤ length self.now }
@@ -72,7 +72,7 @@ fn crosses<T: Send>() {}
 
 fn shares<T: Sync>() {}
 
-/// Shared bytes go to other threads, and several threads read them at once; calls, too. It does nothing: that it passes the compiler is
+/// Shared bytes and calls may go to other threads, and several threads may read them at once. Does nothing: that it compiles is
 /// what it says.
 pub fn may_cross() {
     crosses::<SharedBytes>();

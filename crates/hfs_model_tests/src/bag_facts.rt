@@ -1,4 +1,4 @@
-//! What bags in a tree in memory tell of their items, and the digests of their files.
+//! What bags in a tree in memory say about their items, and the digests of their files.
 use crate::sources::{DOUBLE, file, folder};
 use hfs_bag_facts::{BagFacts, ManifestDigests, bag_name, first_wrong_file};
 use hfs_put_plan::ToldFacts;
@@ -7,8 +7,8 @@ use hfs_sources::{
 };
 use std::alloc::Global;
 
-/// The table of a bag with three items: a locked file with all three dates, a folder, and a file in it, of which a second row tells
-/// other dates; and rows that are none: a date that no calendar has, and one field.
+/// The table of a bag with three items: a locked file with all three dates, a folder, and a file in it, for which a second row
+/// gives other dates; and rows that are none: a date that no calendar has, and one field.
 const ITEMS: &'static [u8] =
     b"path,kind,id,parent,type,creator,flags,locked,file_id,created,modified,backup,items,data_bytes,resource_bytes,finder,bag_path\r\nD,folder,2,1,,,0000,,,,,,2,,,00,\r\nD:f,file,16,2,TEXT,ttxt,0000,yes,no,2000-01-01T00:00:00,2000-02-29T00:00:00,1904-01-01T00:00:01,,5,3,00,f\r\n\"D:a,b\",folder,17,2,,,0000,,,1904-02-29T00:00:00,1904-01-01T00:00:01,,1,,,00,\"a,b\"\r\n\"D:a,b:x\",file,18,17,,,0000,no,no,1904-01-01T00:00:01,,,,2,0,00,\"a,b/x\"\r\nnone\r\n\"D:a,b:x\",file,18,17,,,0000,no,no,,1904-02-29T00:00:00,,,2,0,00,\"a,b/x\"\r\nD:f,file,16,2,TEXT,ttxt,0000,no,no,1905-02-29T00:00:00,,,,5,3,00,f\r\n";
 
@@ -16,7 +16,7 @@ const ITEMS: &'static [u8] =
 const MANIFEST: &'static [u8] =
     b"2cf24dba5fb0a30e26e83b2ac5b9e29e1b161e5c1fa7425e73043362938b9824  data/f\n2d939741182bdb609ddb2f39802ee9f7ab41c64489064080472995634264212c  data/._f\r\nnone\n2cf24dba5fb0a30e26e83b2ac5b9e29e1b161e5c1fa7425e73043362938b9824  data/a,b/x\n769a4e6d0003189c7e96c5d9b7e810a0d11c3a12832527ec94b0f86d277f51ca  data/a,b/x\n";
 
-/// The nodes of the bag, in whose file these bytes are.
+/// The nodes of the bag, whose file has these bytes.
 fn bag<'a>(bytes: &'a [u8]) -> [HostNode<'a>; 10] {
     [
         folder("", "bag", "bag"),
@@ -42,7 +42,7 @@ fn bag<'a>(bytes: &'a [u8]) -> [HostNode<'a>; 10] {
     ]
 }
 
-/// Whether this is told.
+/// Whether these facts are given.
 fn tells(told: Option<ToldFacts>, locked: bool, created: u32, modified: u32, backup: u32) -> bool {
     match told {
         Some(told) => {
@@ -87,13 +87,13 @@ fn a_table_of_no_bag_tells_nothing(rt: HostRuntime) {
     }
 }
 
-/// How items are taken in these tests.
+/// How the sources are read in these tests.
 const HOW: PutOptions = PutOptions {
     macbinary: false,
     rename: false,
 };
 
-/// The first file of this bag that is wrong; none where the bag is read as it is.
+/// The first file of this bag that is wrong; None if the bag is read as it is.
 fn wrong_file(alloc: Global, nodes: &[HostNode<'_>]) -> Result<Option<String>, HostFault> {
     let mut tree = MemoryTree { nodes };
     let manifests = ManifestDigests::read(alloc, &mut tree, &["bag"])?;
@@ -114,7 +114,7 @@ fn has_facts(item: &SourceItem, path: &str, locked: bool, dates: (u32, u32, u32)
         && facts.dates.backup == dates.2
 }
 
-/// The items of this bag with what it tells of them.
+/// The items of this bag with what it says about them.
 fn told_items(alloc: Global, nodes: &[HostNode<'_>]) -> Result<Vec<SourceItem>, HostFault> {
     let mut tree = MemoryTree { nodes };
     let facts = BagFacts::read(alloc, &mut tree, &["bag"])?;
@@ -168,7 +168,7 @@ fn the_first_wrong_file_is_told(rt: HostRuntime) {
     assert!(rt; !is_first_wrong(alloc, &nodes, ""), "no source");
 }
 
-/// Whether the name of the disk that a bag was taken of is told so; none, where nothing is.
+/// Whether the name of the disk that a bag was taken from is this one; None if there is none.
 fn is_named(alloc: Global, nodes: &[HostNode<'_>], wanted: Option<&[u8]>) -> bool {
     let mut tree = MemoryTree { nodes };
     match bag_name(alloc, &mut tree, "bag") {

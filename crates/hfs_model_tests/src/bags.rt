@@ -1,4 +1,4 @@
-//! What the tag files of a bag tell, and what folders of a host are to become on a disk.
+//! What the tag files of a bag say, and what folders of a host become on a disk.
 use csv::{ByteRecord, Error, Reader};
 use hfs_bag_tags::{ItemRow, bag_path, external_identifier, item_row, manifest_line, read_moment};
 use hfs_fields::Name;
@@ -10,7 +10,7 @@ use hfs_put_plan::{
 use std::alloc::Global;
 use std::test::Fail;
 
-/// Whether plain text gives this name, which is an item name or stands in the place of one.
+/// Whether plain text gives this name, which is an item name or is in place of one.
 fn gives(text: &str, is_item: bool, wanted: &[u8]) -> bool {
     match plain_item_name(text) {
         GivenName::Item(name) => is_item && name.bytes() == wanted,
@@ -44,7 +44,7 @@ fn plain_text_read_back(rt: HostRuntime) {
     }
 }
 
-/// Moments, and their dates where they are moments.
+/// Moments, and their dates if they are moments.
 const MOMENTS: [(&'static [u8], Option<u32>); 14] = [
     (b"", Some(0)),
     (b"1904-01-01T00:00:01", Some(1)),
@@ -73,7 +73,7 @@ fn moments_read_back(rt: HostRuntime) {
 const TABLE: &'static [u8] =
     b"path,kind,id,parent,type,creator,flags,locked,file_id,created,modified,backup,items,data_bytes,resource_bytes,finder,bag_path\r\nD:f,file,16,2,TEXT,ttxt,4101,yes,no,2000-01-01T00:00:00,2040-02-06T06:28:15,1904-01-01T00:00:01,,2000,3,54455854747478744101010203040506101112131415161718191a1b1c1d1e1f,f\r\n\"D:A,\"\"b\\5c\",file,18,2,,,0000,no,yes,,,,,0,0,00,\"A,=22b=5C\"\r\n";
 
-/// The row so many lines below the head, and its fields.
+/// The row this many lines below the head, and its fields.
 fn row_of(alloc: Global, lines: u64) -> Result<ByteRecord, Error> {
     let mut reader = Reader::from_reader(alloc, TABLE);
     let mut row = ByteRecord::new(alloc);
@@ -83,7 +83,7 @@ fn row_of(alloc: Global, lines: u64) -> Result<ByteRecord, Error> {
     Ok(row)
 }
 
-/// Whether a row tells this.
+/// Whether a row gives these facts.
 fn tells(row: Option<ItemRow>, locked: bool, created: u32, modified: u32, backup: u32) -> bool {
     match row {
         Some(row) => {
@@ -97,7 +97,7 @@ fn tells(row: Option<ItemRow>, locked: bool, created: u32, modified: u32, backup
     }
 }
 
-/// Whether the row so many lines below the head has this path and tells this.
+/// Whether the row this many lines below the head has this path and gives these facts.
 fn has_row(alloc: Global, lines: u64, path: &[u8], locked: bool, dates: (u32, u32, u32)) -> bool {
     match row_of(alloc, lines) {
         Ok(row) => {
@@ -128,12 +128,12 @@ const INFO: &'static [u8] =
 const LINE: &'static [u8] =
     b"63d8d35920be456776a35578ade76725c687821ad55d4bb950225fed2d33e6cb  data/f";
 
-/// Whether a digest begins and ends so.
+/// Whether a digest has this first and this last byte.
 fn has_ends(digest: &[u8; 32], first: u8, last: u8) -> bool {
     digest[0] == first && digest[31] == last
 }
 
-/// Whether a line tells a digest that begins and ends so, of this path.
+/// Whether a line gives a digest with this first and this last byte, for this path.
 fn is_line(line: &[u8], first: u8, last: u8, wanted: &[u8]) -> bool {
     let Some(found) = manifest_line(line) else {
         return false;
@@ -155,7 +155,7 @@ fn lines_read_back(rt: HostRuntime) {
     assert!(rt; !is_line(b"63d8  data/f", 0x63, 0xd8, b"data/f"), "short");
 }
 
-/// An entry that is a file of no bytes.
+/// An entry that is an empty file.
 fn file(name: &[u8]) -> Entry<'_> {
     Entry {
         name,

@@ -14,7 +14,7 @@ pub fn volume(alloc: Global) -> Result<PlainVolume, AllocError> {
     }
 }
 
-/// What a reply tells of an item, where its code is 0.
+/// What a reply says about an item, if its code is 0.
 fn info_of(reply: &Reply) -> Option<Info> {
     match &reply.value {
         Value::One(info) => { if reply.code == 0 { Some(*info) } else { None } }
@@ -22,7 +22,7 @@ fn info_of(reply: &Reply) -> Option<Info> {
     }
 }
 
-/// What is told of an item of the root.
+/// What is known of an item of the root.
 pub fn root_item(plain: &PlainVolume, name: &[u8]) -> Option<Info> {
     info_of(&plain.get_cat_info(2, name))
 }

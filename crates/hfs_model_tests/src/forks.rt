@@ -1,4 +1,4 @@
-//! Forks that are written: codes, bytes, lengths and dates by hand. Blocks have 512 bytes where nothing else is said.
+//! Forks that are written: codes, bytes, lengths and dates by hand. Blocks have 512 bytes unless said otherwise.
 use crate::fixture::{root_item, volume};
 use hfs_model::{Call, File, Fork, Kind, SharedBytes, Value};
 use hfs_store::PlainVolume;
@@ -17,7 +17,7 @@ fn write(plain: &mut PlainVolume, offset: u32, bytes: &[u8]) -> Result<i16, Fail
     Ok(reply.code)
 }
 
-/// The bytes of the data fork of `a`, as a read of 2,000 tells them.
+/// The bytes of the data fork of `a`, as a read of 2,000 gives them.
 fn is_data(plain: &PlainVolume, wanted: &[u8]) -> Result<bool, Fail> {
     let reply = plain.read_fork(2, b"a", Fork::DataFork, 0, 2000)?;
     Ok(match &reply.value {
@@ -35,14 +35,14 @@ fn is_filled(plain: &PlainVolume, first: &[u8], length: usize) -> Result<bool, F
     })
 }
 
-/// Whether bytes begin with these, and are zeros from there to that length.
+/// Whether bytes begin with these, and are zeros from there up to that length.
 fn has_zeros(bytes: &[u8], first: &[u8], length: usize) -> bool {
     bytes.len() == length
         && bytes.starts_with(first)
         && bytes.iter().filter(|byte| **byte == 0).count() + first.len() == length
 }
 
-/// The file `a`, the only item beside the root.
+/// The file `a`, the only item besides the root.
 fn file_a(plain: &PlainVolume) -> Option<&File> {
     match plain.entries() {
         [_, (_, item)] => match &item.kind {
@@ -67,7 +67,7 @@ fn lengths(plain: &PlainVolume) -> Option<(u32, u32, u32)> {
     Some((info.data_len, info.res_len, info.modified))
 }
 
-/// So many bytes 7.
+/// `count` bytes 7.
 fn sevens(alloc: Global, count: usize) -> Result<Vec<u8>, AllocError> {
     vec![in alloc; 7; count]
 }
@@ -102,7 +102,7 @@ fn set_eof_call(alloc: Global, length: u32) -> Result<Call, AllocError> {
     })
 }
 
-/// The code of a call of which a copy is made.
+/// The code of a call, of which a copy is made.
 fn code(plain: &mut PlainVolume, call: &Call) -> Result<i16, Fail> {
     let reply = plain.call(&call.copied()?)?;
     Ok(reply.code)
@@ -127,7 +127,7 @@ fn calls_write_forks(rt: HostRuntime) -> Result<(), Fail> {
     Ok(())
 }
 
-/// Of blocks that are wanting the definitions know nothing: a fork has as many as its bytes take.
+/// The definitions know nothing of a lack of blocks: a fork has as many as its bytes take.
 #[test]
 fn blocks_are_never_wanting(rt: HostRuntime) -> Result<(), Fail> {
     let mut plain = with_a(rt.alloc())?;
@@ -243,7 +243,7 @@ fn codes_past_the_most(plain: &mut PlainVolume) -> Result<(i16, i16), Fail> {
     Ok((set, written))
 }
 
-/// Of several codes that hold the first is told: -50, that of the locked volume, -37, -120, -43, -45, -39.
+/// Of several codes that apply, the first is answered: -50, that of the locked volume, -37, -120, -43, -45, -39.
 #[test]
 fn the_first_code_is_told(rt: HostRuntime) -> Result<(), Fail> {
     let mut plain = with_a(rt.alloc())?;

@@ -5,7 +5,7 @@ use hfs_incoming::{
 };
 use hfs_source::MemoryBytes;
 
-/// Whether a host name gives this name, which is an item name or stands in the place of one.
+/// Whether a host name gives this name, which is an item name or is in place of one.
 fn gives(text: &str, is_item: bool, wanted: &[u8]) -> bool {
     match host_item_name(text) {
         GivenName::Item(name) => is_item && name.bytes() == wanted,
@@ -42,7 +42,7 @@ fn host_names_read_back(rt: HostRuntime) {
     }
 }
 
-/// The header of a file `f` of 2,000 and 3 bytes, locked, as it was worked out by hand.
+/// The header of a file `f` with forks of 2,000 and 3 bytes, locked, worked out by hand.
 const FRONT: [u8; 128] = [
     0, 1, b'f', 0, 0, 0, 0, 0, 0, 0, 0, 0, 0, 0, 0, 0, 0, 0, 0, 0, 0, 0, 0, 0, 0, 0, 0, 0, 0, 0, 0,
     0, 0, 0, 0, 0, 0, 0, 0, 0, 0, 0, 0, 0, 0, 0, 0, 0, 0, 0, 0, 0, 0, 0, 0, 0, 0, 0, 0, 0, 0, 0, 0,
@@ -65,7 +65,7 @@ fn is_named_f(name: GivenName) -> bool {
     }
 }
 
-/// Whether all that is told is what stands in that header.
+/// Whether everything that is read is what is in that header.
 fn is_f(file: MacBinaryFile) -> bool {
     is_named_f(file.name)
         && file.finder_info == *b"TEXTttxt\x41\x01\x01\x02\x03\x04\x05\x06"
@@ -75,7 +75,7 @@ fn is_f(file: MacBinaryFile) -> bool {
         && lies_at(&file, (128, 2_000), (2_176, 3))
 }
 
-/// Whether a file of so many bytes with this header is MacBinary, with what stands in that header.
+/// Whether a file of this length with this header is MacBinary, with what is in that header.
 fn tells_f(front: &[u8; 128], len: usize) -> bool {
     let mut file = [0; 2_560];
     file[..128].copy_from_slice(front);
@@ -120,7 +120,7 @@ fn are_dates(dates: Option<FileDates>) -> bool {
     }
 }
 
-/// Whether all that is told is what stands in that file.
+/// Whether everything that is read is what is in that file.
 fn is_double(file: AppleDoubleFile) -> bool {
     file.finder
         == *b"TEXTttxt\x01\x02\x03\x04\x05\x06\x07\x08\x09\x0a\x0b\x0c\x0d\x0e\x0f\x10\x11\x12\x13\x14\x15\x16\x17\x18"
@@ -128,7 +128,7 @@ fn is_double(file: AppleDoubleFile) -> bool {
         && are_dates(file.dates)
 }
 
-/// Whether the first bytes of that file are AppleDouble, with what stands in it.
+/// Whether the first bytes of that file are AppleDouble, with what is in it.
 fn tells_double(len: usize) -> bool {
     let file = DOUBLE;
     let len = len.min(121);

@@ -1,4 +1,4 @@
-//! Forks of files of a host, read in their places in an image.
+//! Forks of files of a host, read at their places in an image.
 use hfs_laid_forks::{HostFiles, LaidForks, look_again};
 use hfs_model::Fork;
 use hfs_put_plan::EntryKind;
@@ -35,7 +35,7 @@ fn file<'a>(name: &'a str, path: &'a str, bytes: &'a [u8], seconds: i64) -> Host
     }
 }
 
-/// Two files, the first with a resource fork beside it.
+/// Two files, the first with a resource fork next to it.
 fn nodes<'a>() -> [HostNode<'a>; 3] {
     [
         file("a", "s/a", b"hello", 1),
@@ -64,7 +64,7 @@ fn runs() -> [ForkRun; 4] {
     ]
 }
 
-/// Twenty bytes of an image behind three of a header.
+/// Twenty bytes of an image after three of a header.
 const FILE: [u8; 23] = *b"...ABCDEFGHIJKLMNOPQRST";
 
 /// The same with the forks in them.
@@ -83,7 +83,7 @@ fn items_of(rt: &HostRuntime, nodes: &[HostNode<'_>]) -> Vec<SourceItem> {
     }
 }
 
-/// The forks of both files, as the first nodes have them, laid in the file out of the other nodes.
+/// The forks of both files, as the first nodes have them, laid into the file from the other nodes.
 fn laid<'a>(
     rt: &HostRuntime,
     first: &[HostNode<'_>],

@@ -1,5 +1,5 @@
-//! Tests of names, records and nodes, of what comes from a host and of what a bag tells, of shared bytes, of the text of scripts, and of what the plain
-//! program alone can be asked for. Each code of each call, and worked lists of calls, stand as text in
+//! Tests of names, records and nodes, of what comes from a host and of what a bag says, of shared bytes, of the text of scripts,
+//! and of what only the plain program can be asked for. Each code of each call, and worked lists of calls, are text in
 //! `tests/volumes/lists`.
 #![tactic(auto)]
 

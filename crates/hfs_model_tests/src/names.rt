@@ -2,7 +2,7 @@
 use hfs_fields::{Name, is_item_name, same_name};
 use std::cmp::Ordering;
 
-/// Whether a name of these bytes is one and has them, where it is wanted, and is none where it isn't.
+/// Whether a name of these bytes is one and has them, if it should be, and is none if it shouldn't.
 fn is_kept(bytes: &[u8], wanted: bool) -> bool {
     match Name::new(bytes) {
         Some(name) => name.bytes() == bytes,

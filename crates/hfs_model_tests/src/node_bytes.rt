@@ -35,7 +35,7 @@ fn node_with(alloc: Global, kind: NodeKind, records: &[&[u8]]) -> Result<Node, A
     })
 }
 
-/// Whether a view of these bytes, and the node that is read of them, have this fault.
+/// Whether a view of these bytes, and the node that is read from them, have this fault.
 fn has_fault(alloc: Global, bytes: &[u8; 512], fault: NodeFault) -> bool {
     view(bytes).err() == Some(fault) && decode(alloc, bytes).err() == Some(fault)
 }
@@ -86,7 +86,7 @@ fn are(records: &Records, want: &[&[u8]]) -> bool {
     true
 }
 
-/// The bytes of a node, written over others; none where it has no room.
+/// The bytes of a node, written over others; None if it has no room.
 fn written(node: &Node) -> Option<[u8; 512]> {
     if !fits(node) {
         return None;
@@ -120,7 +120,7 @@ fn a_node_is_written_whole(rt: HostRuntime) -> Result<(), Fail> {
     Ok(())
 }
 
-/// Puts `x` behind the first of three records.
+/// Puts `x` after the first of three records.
 fn insert(alloc: Global, records: &mut Records) -> Result<bool, AllocError> {
     if records.is_empty() {
         return Ok(false);
@@ -129,7 +129,7 @@ fn insert(alloc: Global, records: &mut Records) -> Result<bool, AllocError> {
     Ok(are(records, &[b"a", b"x", b"b", b"c"]))
 }
 
-/// Takes the first record away.
+/// Removes the first record.
 fn remove(records: &mut Records) -> bool {
     !records.is_empty()
         && records.remove(0).as_slice() == b"a".as_slice()
@@ -145,7 +145,7 @@ fn replace(alloc: Global, records: &mut Records) -> Result<bool, AllocError> {
     Ok(old.as_slice() == b"c".as_slice() && are(records, &[b"x", b"b", b"y"]))
 }
 
-/// Cuts the node behind its first record.
+/// Cuts the node after its first record.
 fn cut(node: &mut Node) -> Result<bool, AllocError> {
     if node.records.is_empty() {
         return Ok(false);

@@ -1,4 +1,4 @@
-//! Forks that are kept by pieces.
+//! Forks that are kept in pieces.
 ghost use Rattle.std.specs.Prelude.{◌<◌, OnOk};
 ghost use Rattle.hfs_fork_pieces.specs.Pieces.{ArePieces, fork_length};
 
@@ -56,7 +56,7 @@ fn bytes_are_laid_over_pieces(rt: HostRuntime) -> Result<(), Fail> {
     Ok(())
 }
 
-/// Ends that are set: no byte behind an old end comes back.
+/// Ends that are set: no byte past an old end comes back.
 #[test]
 fn pieces_get_other_ends(rt: HostRuntime) -> Result<(), Fail> {
     let alloc = rt.alloc();

@@ -1,7 +1,7 @@
 //! Each record of the catalog as a row of bytes with every field different, read and written.
 use hfs_fields::{DirRecord, Extent, FileFlags, FileRecord, ForkRecord, ThreadKind, ThreadRecord};
 
-/// The bytes but the last.
+/// The bytes without the last.
 fn without_last(bytes: &[u8]) -> &[u8] {
     match bytes {
         [rest @ .., _] => rest,

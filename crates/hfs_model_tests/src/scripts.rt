@@ -4,7 +4,7 @@ use hfs_scripts::{Caller, ScriptLine, TextFault, read_script, script_text};
 use std::alloc::{AllocError, Global};
 use std::test::Fail;
 
-/// Whether a script reads, and its lines have this text.
+/// Whether a script can be read, and its lines have this text.
 fn has_text(alloc: Global, script: &[u8], text: &[u8]) -> bool {
     match read_script(alloc, script, 0) {
         Ok(script) => is_text_of(alloc, script.lines(), text),
@@ -55,7 +55,7 @@ fn scripts_have_their_text(rt: HostRuntime) {
     }
 }
 
-/// Two lines: one that has a text, and one of this caller and call.
+/// Two lines: one that has a text, and one with this caller and call.
 fn two_lines(alloc: Global, caller: Caller, call: Call) -> Result<Vec<ScriptLine>, AllocError> {
     let mut lines = Vec::new(alloc);
     lines.push(ScriptLine {
@@ -66,7 +66,7 @@ fn two_lines(alloc: Global, caller: Caller, call: Call) -> Result<Vec<ScriptLine
     Ok(lines)
 }
 
-/// Whether a line behind one that has a text has none.
+/// Whether a line has no text when it follows one that has.
 fn is_unwritable(alloc: Global, caller: Caller, call: Call) -> Result<bool, AllocError> {
     let lines = two_lines(alloc, caller, call)?;
     match script_text(alloc, &lines, 5) {

@@ -1,4 +1,4 @@
-//! What comes out of a host's folders: the walk over a tree in memory.
+//! Items from a host's folders: the walk over a tree in memory.
 use hfs_model::Fork;
 use hfs_put_plan::{EntryKind, Why, why_not};
 use hfs_sources::{
@@ -12,7 +12,7 @@ pub(crate) const DOUBLE: [u8; 41] = [
     0, 0, 0, 2, 0, 0, 0, 38, 0, 0, 0, 3, 82, 69, 83,
 ];
 
-/// A node that was changed 1 second behind the beginning of 1970.
+/// A node that was changed 1 second after the beginning of 1970.
 fn node<'a>(
     folder: &'a str,
     name: &'a str,
@@ -119,10 +119,10 @@ fn a_folder_and_a_bag_are_walked(rt: HostRuntime) {
     }
 }
 
-/// What is wanted of the files in which an item's resource fork lies: its path, and that file's.
+/// What is wanted of the files that have an item's resource fork: its path, and that file's.
 type DoubleRow = (&'static str, Option<&'static str>);
 
-/// Those of a file beside which one belongs to it, of one that belongs to what isn't there, and of one alone.
+/// Those of a file with one that belongs to it, of one that belongs to a file that doesn't exist, and of one alone.
 const DOUBLES: [DoubleRow; 3] = [
     ("s/b", Some("s/._b")),
     ("s/._z", Some("s/._z")),

@@ -15,7 +15,7 @@ fn is_part(reply: &Reply, code: i16, wanted: &[u8]) -> bool {
     }
 }
 
-/// Whether a part of the data fork of a file of the root is answered by that code and these bytes.
+/// Whether a part of the data fork of a file of the root is answered with that code and these bytes.
 fn is_read(
     plain: &PlainVolume,
     name: &[u8],
@@ -51,7 +51,7 @@ fn lay_fork(rt: &impl Abort, alloc: Global, plain: &mut PlainVolume) -> Result<(
     }
 }
 
-/// Wants parts of the data fork of `f` to be answered by a code and bytes.
+/// Wants parts of the data fork of `f` to be answered with a code and bytes.
 fn expect_parts(rt: &impl Abort, plain: &PlainVolume) -> Result<(), Fail> {
     let parts: [(u32, u32, i16, &[u8]); 5] = [
         (

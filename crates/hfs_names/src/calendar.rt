@@ -12,7 +12,7 @@ pub struct Day {
     pub day: u32,
 }
 
-/// The days of four years of which the first is a leap year and no other.
+/// The days of four years, the first of which is a leap year and no other.
 const FOUR_YEARS: u32 = 1461;
 
 #[tactic(auto, unfolding(crate::specs::Calendar::is_leap_year))]
@@ -30,7 +30,7 @@ fn month_lengths(year: u32) -> [u32; 12]
     [31, february, 31, 30, 31, 30, 31, 31, 30, 31, 30, 31]
 }
 
-/// The day that comes so many days behind the first of a year.
+/// The day that comes `days` days after the first of a year.
 fn day_of_year(year: u32, days: u32) -> Day
     requires { days < year_length year }
     ensures { result ≡ day_of_year year days }
@@ -50,7 +50,7 @@ fn day_of_year(year: u32, days: u32) -> Day
     unreachable!()
 }
 
-/// The day that comes so many days behind 1 January 1904. In its years each fourth is a leap year, since 2000 is one.
+/// The day that comes `days` days after 1 January 1904. Every fourth year is a leap year there, since 2000 is one.
 pub(crate) fn day_since_1904(days: u32) -> Day
     requires { days < 49711 }
     ensures { result ≡ day_since_1904 days }

@@ -29,7 +29,7 @@ fn roman_character(byte: u8) -> char
     }
 }
 
-/// Bytes of ASCII as text: they are UTF-8 already, which is proved and not looked at again.
+/// ASCII bytes as text: they are UTF-8 already, which is proved and not checked again.
 pub(crate) fn ascii_text(bytes: &[u8]) -> &str
     requires { IsAscii bytes.now }
     ensures { result.now ≡ bytes.now }

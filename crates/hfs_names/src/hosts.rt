@@ -11,19 +11,19 @@ use crate::plain::is_control;
 use hfs_fields::same_name;
 use std::alloc::{AllocError, Global};
 
-/// The characters that mean something to some host, and `=`, which stands before the digits of an escaped one.
+/// The characters that mean something to some host, and `=`, which precedes the digits of an escaped one.
 const RESERVED: [u8; 11] = *b"%=/\\:*?\"<>|";
 
 /// The names that some hosts keep for devices.
 const DEVICES: [[u8; 3]; 4] = [*b"CON", *b"PRN", *b"AUX", *b"NUL"];
 
-/// The same with a number.
+/// The same, followed by a digit.
 const PORTS: [[u8; 4]; 18] = [
     *b"COM1", *b"COM2", *b"COM3", *b"COM4", *b"COM5", *b"COM6", *b"COM7", *b"COM8", *b"COM9",
     *b"LPT1", *b"LPT2", *b"LPT3", *b"LPT4", *b"LPT5", *b"LPT6", *b"LPT7", *b"LPT8", *b"LPT9",
 ];
 
-/// Whether no host name has this character as it is.
+/// Whether this character is escaped in every host name.
 #[tactic(auto, unfolding(crate::specs::HostNames::is_reserved))]
 fn is_reserved(character: u8) -> bool
     ensures { result ≡ is_reserved character }
@@ -45,7 +45,7 @@ fn first_point(name: &[u8]) -> Option<usize>
     name.iter().position(|character| *character == b'.')
 }
 
-/// What stands before a name's first point, or all of it where it has none.
+/// What precedes a name's first point, or all of it if it has none.
 fn stem(name: &[u8]) -> &[u8]
     ensures { result.now ≡ before_first (λ c. c == 46) name.now }
 {
@@ -76,7 +76,7 @@ fn is_device_name(name: &[u8]) -> bool
     is_device(stem) || is_port(stem)
 }
 
-/// Appends a character, as `=` and two upper-case hexadecimal digits where it is escaped.
+/// Appends a character, as `=` and two upper-case hexadecimal digits if it is escaped.
 #[tactic(auto, unfolding(crate::specs::HostNames::host_character))]
 fn push_host_character(text: &mut String, is_escaped: bool, character: u8) -> Result<(), AllocError>
     ensures { OnOk result (Gains text.old text.new (host_character is_escaped character)) }
@@ -88,7 +88,7 @@ fn push_host_character(text: &mut String, is_escaped: bool, character: u8) -> Re
     push_character(text, character)
 }
 
-/// Appends what stands for the characters behind the first.
+/// Appends the rest of the characters, each as it is or escaped.
 #[tactic(auto, unfolding(crate::specs::HostNames::host_rest))]
 fn push_host_rest(text: &mut String, characters: &[u8]) -> Result<(), AllocError>
     ensures { OnOk result (Gains text.old text.new (host_rest characters.now)) }
@@ -114,8 +114,8 @@ fn is_first_escaped(character: u8, behind: &[u8], name: &[u8]) -> bool
         || behind.is_empty() && is_dropped_at_end(character)
 }
 
-/// Appends the host name of an item's name, which any file system takes: each character as it is, but `=` and two upper-case
-/// hexadecimal digits for what some host doesn't take in its place. See [`crate::host_name_laws`].
+/// Appends the host name of an item's name, which any file system accepts: each character as it is, except that a character which
+/// some host doesn't accept there becomes `=` and two upper-case hexadecimal digits. See [`crate::host_name_laws`].
 #[tactic(auto, unfolding(crate::specs::HostNames::host_name))]
 pub fn push_host_name(text: &mut String, name: &[u8]) -> Result<(), AllocError>
     ensures { OnOk result (Gains text.old text.new (host_name name.now)) }

@@ -10,7 +10,7 @@ use std::alloc::AllocError;
 
 const SECONDS_OF_DAY: u32 = 86_400;
 
-/// Appends a day as YYYY-MM-DD, at once.
+/// Appends a day as YYYY-MM-DD, all at once.
 #[tactic(auto, unfolding(crate::specs::Moments::day_text, crate::specs::Digits::four_digits, crate::specs::Digits::two_digits), using(crate::proofs::AsciiLemmas::ascii_ten))]
 fn push_day(text: &mut String, day: Day) -> Result<(), AllocError>
     requires year { day.year < 10000 }
@@ -36,7 +36,7 @@ fn push_day(text: &mut String, day: Day) -> Result<(), AllocError>
     ]))
 }
 
-/// Appends the time so many seconds behind midnight as hh:mm:ss, at once.
+/// Appends the time `seconds` seconds after midnight as hh:mm:ss, all at once.
 #[tactic(auto, unfolding(crate::specs::Moments::time_text, crate::specs::Digits::two_digits), using(crate::proofs::AsciiLemmas::ascii_eight))]
 fn push_time(text: &mut String, seconds: u32) -> Result<(), AllocError>
     requires { seconds < 86400 }
@@ -57,8 +57,8 @@ fn push_time(text: &mut String, seconds: u32) -> Result<(), AllocError>
     ]))
 }
 
-/// Appends the moment of a date, which is in seconds since midnight of 1 January 1904: nothing where it is 0, else
-/// YYYY-MM-DDThh:mm:ss of the Gregorian calendar, without a zone, since the Macintosh knew none.
+/// Appends the moment of a date, which is in seconds since midnight, 1 January 1904: nothing if it is 0, otherwise
+/// YYYY-MM-DDThh:mm:ss in the Gregorian calendar, without a time zone, since the Macintosh kept none.
 #[tactic(auto, unfolding(crate::specs::Moments::moment))]
 pub fn push_moment(text: &mut String, date: u32) -> Result<(), AllocError>
     ensures { OnOk result (Gains text.old text.new (moment date)) }

@@ -9,7 +9,8 @@ use crate::plain::push_plain_text;
 use hfs_fields::Name;
 use std::alloc::AllocError;
 
-/// Appends the Mac path of an item, by the names that lead to it, from the root's down: their plain texts with `:` between.
+/// Appends the Mac path of an item, from the names that lead to it, starting with the root's: their plain texts, separated by
+/// `:`.
 #[tactic(auto, unfolding(crate::specs::Paths::mac_path))]
 pub fn push_mac_path(text: &mut String, names: &[Name]) -> Result<(), AllocError>
     ensures { OnOk result (Gains text.old text.new (mac_path names.now)) }
@@ -41,8 +42,8 @@ pub fn push_mac_path_characters(text: &mut String, names: &[Name]) -> Result<(),
     Ok(())
 }
 
-/// Appends the host path of an item, by the names that lead to it, from the one below the root down: their host names with `/`
-/// between. The root's is empty.
+/// Appends the host path of an item, from the names that lead to it, starting below the root: their host names, separated by `/`.
+/// The root's is empty.
 #[tactic(auto, unfolding(crate::specs::Paths::host_path))]
 pub fn push_host_path(text: &mut String, names: &[Name]) -> Result<(), AllocError>
     ensures { OnOk result (Gains text.old text.new (host_path names.now)) }

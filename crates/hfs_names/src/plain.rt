@@ -7,7 +7,7 @@ use crate::characters::{ascii_text, push_character};
 use crate::digits::push_hex_byte;
 use std::alloc::AllocError;
 
-/// Whether a byte is no printable character.
+/// Whether a byte is not a printable character.
 pub(crate) fn is_control(byte: u8) -> bool
     ensures { result ≡ is_control byte }
 {
@@ -25,7 +25,7 @@ fn push_plain_character(text: &mut String, byte: u8) -> Result<(), AllocError>
     push_character(text, byte)
 }
 
-/// Whether a byte stands for itself in plain text: it is of ASCII, printable, and no backslash.
+/// Whether a byte stands for itself in plain text: printable ASCII, and no backslash.
 #[tactic(auto, unfolding(crate::specs::PlainTexts::is_itself))]
 fn is_itself(byte: u8) -> bool
     ensures { result ≡ is_itself byte }
@@ -56,8 +56,8 @@ fn push_each(text: &mut String, bytes: &[u8]) -> Result<(), AllocError>
     Ok(())
 }
 
-/// Appends the plain text of bytes: each character as it is, but a backslash and two lower-case hexadecimal digits for a byte
-/// below $20, $7F and the backslash.
+/// Appends the plain text of bytes: each character as it is, except that a byte below $20, $7F and the backslash become a
+/// backslash and two lower-case hexadecimal digits.
 pub fn push_plain_text(text: &mut String, bytes: &[u8]) -> Result<(), AllocError>
     ensures { OnOk result (Gains text.old text.new (plain_text bytes.now)) }
 {

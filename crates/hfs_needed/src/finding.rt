@@ -1,4 +1,4 @@
-//! Where the needed parts of a volume lie, each found by those before it.
+//! Where the needed parts of a volume lie, each found from those before it.
 ghost use Rattle.std.specs.Prelude.{◌≡◌, true, false, IfOk};
 ghost use Rattle.hfs_check.specs.Parts.{mdb_in};
 ghost use Rattle.hfs_check.specs.Sound.{IsMdbSound};
@@ -12,7 +12,7 @@ use hfs_fields::{Extent, Mdb};
 use hfs_space::{ForkKind, fork_extents, is_tree_file, tree_runs};
 use std::alloc::{AllocError, Global};
 
-/// The runs of a tree's file that has these extents and this size in bytes. None where the file is wrong.
+/// The runs of the tree file with these extents and this size in bytes. None if the file is wrong.
 fn file_runs<B: Blocks>(
     alloc: Global,
     blocks: &B,
@@ -31,7 +31,7 @@ fn file_runs<B: Blocks>(
     }
 }
 
-/// The runs of the extents tree. None where its file is wrong.
+/// The runs of the extents tree. None if its file is wrong.
 pub(crate) fn extents_runs<B: Blocks>(
     alloc: Global,
     blocks: &B,
@@ -44,7 +44,7 @@ pub(crate) fn extents_runs<B: Blocks>(
     file_runs(alloc, blocks, mdb, &mdb.extents_file, mdb.extents_file_size)
 }
 
-/// Whether the extents tree is right, which lies in these runs.
+/// Whether the extents tree in these runs is right.
 fn is_extents_tree_right<B: Blocks>(
     alloc: Global,
     blocks: &B,
@@ -68,8 +68,7 @@ fn is_extents_tree_right<B: Blocks>(
     }
 }
 
-/// The runs of the catalog tree, behind an extents tree that is right, which lies in these runs. None where the catalog file is
-/// wrong.
+/// The runs of the catalog tree, given those of an extents tree that is right. None if the catalog file is wrong.
 fn right_catalog_runs<B: Blocks>(
     alloc: Global,
     blocks: &B,
@@ -90,7 +89,7 @@ fn right_catalog_runs<B: Blocks>(
     file_runs(alloc, blocks, mdb, &extents, mdb.catalog_file_size)
 }
 
-/// The runs of the catalog tree. None where the extents tree, which lies in these runs, or the catalog file is wrong.
+/// The runs of the catalog tree, given those of the extents tree. None if the extents tree or the catalog file is wrong.
 pub(crate) fn catalog_runs<B: Blocks>(
     alloc: Global,
     blocks: &B,

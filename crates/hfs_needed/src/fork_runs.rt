@@ -20,10 +20,10 @@ use hfs_space::ForkKind;
 use hfs_sparse::SparseBlocks;
 use std::alloc::{AllocError, Global};
 
-/// Where the bytes of a fork lie: the first so many bytes of the blocks of these runs.
+/// Where the bytes of a fork lie: the first ones in the blocks of these runs.
 #[derive(Drop)]
 pub struct ForkRuns {
-    /// The runs, in their order.
+    /// The runs, in order.
     pub runs: Vec<Run>,
     /// How many bytes the fork has.
     pub length: u32,
@@ -36,7 +36,7 @@ pub struct FileRuns {
     pub resource: ForkRuns,
 }
 
-/// Where the bytes of a fork of a file lie, which is found by the blocks that were read.
+/// Where the bytes of a file's fork lie, found in the blocks that were read.
 fn runs_of_kind(
     alloc: Global,
     read: &SparseBlocks,
@@ -86,8 +86,8 @@ fn runs_of_file(
     Ok(FileRuns { data, resource })
 }
 
-/// Where the bytes of both forks of the folder's file of that name lie, in an image that was opened so; or what a call that reads a fork
-/// answers where there is no such file: -37, -120 or -43. Nothing is read. Error: memory was refused.
+/// Where the bytes of both forks of the folder's file of that name lie, in an image that was opened this way; or what a call that
+/// reads a fork answers if there is no such file: -37, -120 or -43. Nothing is read. Error: memory was refused.
 pub(crate) fn opened_runs(
     alloc: Global,
     volume: &NeededVolume,

@@ -25,7 +25,7 @@ use hfs_sparse::{BlockSource, CopyFault, SparseBlocks, SparseFault, copy_runs, r
 use std::alloc::{AllocError, Global};
 use std::io::Write;
 
-/// The runs of the blocks of a fork of a file that have one of its bytes, in their order: its extents, which are found by the blocks that were
+/// The runs of those blocks of a file's fork that have one of its bytes, in order; its extents are found in the blocks that were
 /// read.
 pub(crate) fn kind_runs(
     alloc: Global,
@@ -51,7 +51,7 @@ pub(crate) fn kind_runs(
     tree_runs(alloc, &blocks, &sound.mdb, &extents, fork.length)
 }
 
-/// The bytes of a fork of a file: of its runs, those blocks are read from the source that have one of its bytes.
+/// The bytes of a file's fork. Of its blocks only those that have one of its bytes are read from the source.
 fn read_kind<S: BlockSource>(
     alloc: Global,
     source: &mut S,
@@ -78,7 +78,7 @@ fn read_kind<S: BlockSource>(
     Ok(bytes)
 }
 
-/// The bytes of one of both forks of a file.
+/// The bytes of one of a file's two forks.
 #[tactic(auto, using(crate::proofs::Named::data_sound, crate::proofs::Named::resource_sound))]
 pub(crate) fn read_file<S: BlockSource>(
     alloc: Global,
@@ -110,7 +110,8 @@ pub(crate) fn read_file<S: BlockSource>(
     }
 }
 
-/// The record of the folder's file of that name, or the reply that refuses it, where these blocks were read of a volume of `count` blocks.
+/// The record of the folder's file of that name, or the reply that refuses it, by the blocks that were read of a volume of
+/// `count` blocks.
 pub(crate) fn find_file(
     read: &SparseBlocks,
     count: u32,
@@ -130,7 +131,7 @@ pub(crate) fn find_file(
     file_named(&nodes, dir, name)
 }
 
-/// Writes the bytes of a fork of a file piece by piece, as they are read.
+/// Writes the bytes of a file's fork piece by piece, while they are read.
 fn write_kind<S: BlockSource, W: Write>(
     alloc: Global,
     source: &mut S,
@@ -165,7 +166,7 @@ fn write_kind<S: BlockSource, W: Write>(
     copy_runs(alloc, source, &runs, fork.length, writer)
 }
 
-/// Writes the bytes of one of both forks of a file piece by piece, as they are read.
+/// Writes the bytes of one of a file's two forks piece by piece, while they are read.
 #[tactic(auto, using(crate::proofs::Named::data_sound, crate::proofs::Named::resource_sound))]
 fn write_file<S: BlockSource, W: Write>(
     alloc: Global,
@@ -209,8 +210,8 @@ fn write_file<S: BlockSource, W: Write>(
     }
 }
 
-/// Writes the bytes of a file's fork of an image that was opened so, piece by piece, as they are read; or answers what a call that reads the
-/// fork answers where there is none: -37, -120 or -43, and nothing is written. Errors: as [`copy_runs`] has them.
+/// Writes the bytes of a file's fork piece by piece, while they are read, in an image that was opened this way. If there is no
+/// such fork, writes nothing and returns what a call that reads it answers: -37, -120 or -43. Errors: as for [`copy_runs`].
 pub(crate) fn write_opened<S: BlockSource, W: Write>(
     alloc: Global,
     source: &mut S,

@@ -18,7 +18,7 @@ use hfs_fields::{CatKey, ExtKey, Mdb};
 use hfs_sparse::{BlockSource, SparseBlocks, SparseFault, fetch, fetch_range};
 use std::alloc::Global;
 
-/// Reads what is needed of the catalog, where what is needed of the extents tree was read, which lies in these runs.
+/// Reads what is needed of the catalog, after what is needed of the extents tree in these runs was read.
 #[tactic(auto, using(hfs_sparse::proofs::Seen::sees_itself))]
 fn gather_catalog<S: BlockSource>(
     alloc: Global,
@@ -49,7 +49,7 @@ fn gather_catalog<S: BlockSource>(
     Ok(())
 }
 
-/// Reads what is needed of both trees, where the master directory block was read.
+/// Reads what is needed of both trees, after the master directory block was read.
 #[tactic(auto, using(hfs_sparse::proofs::Seen::sees_itself))]
 fn gather_trees<S: BlockSource>(
     alloc: Global,
@@ -77,7 +77,7 @@ fn gather_trees<S: BlockSource>(
     Ok(())
 }
 
-/// Reads what is needed behind a master directory block that was read and is right.
+/// Reads what else is needed, after a master directory block that is right was read.
 fn gather_rest<S: BlockSource>(
     alloc: Global,
     source: &mut S,
@@ -102,9 +102,10 @@ fn gather_rest<S: BlockSource>(
     Ok(())
 }
 
-/// The blocks that the checks and the report of an image of `count` blocks need, found by what was read before: the master
-/// directory block, its copy, the bitmap, and of the extents tree and the catalog the header node, the map nodes and those that the
-/// map marks. Nothing behind a part that is wrong is read, and no block twice.
+/// The blocks that the checks and the report on an image of `count` blocks need, found from what was read before: the master
+/// directory block, its copy, the bitmap, and of both trees the header node, the map nodes and the nodes that the map marks.
+/// Nothing is read after a part that is wrong, and no block is read twice.
+///
 /// Errors: a read failed, memory was refused.
 #[tactic(auto, using(hfs_check::proofs::LawsProved::mdb_is_sound))]
 pub fn gather_needed<S: BlockSource>(

@@ -15,8 +15,8 @@ use hfs_queries::{Detail, list};
 use hfs_sparse::SparseBlocks;
 use std::alloc::{AllocError, Global};
 
-/// What the children's own records tell of all children of a folder, in name order, where these blocks were read of a volume of `count`
-/// blocks.
+/// What the children's own records say about all children of a folder, in name order, by the blocks that were read of a volume of
+/// `count` blocks.
 pub(crate) fn list_in_brief(
     alloc: Global,
     read: &SparseBlocks,
@@ -35,7 +35,7 @@ pub(crate) fn list_in_brief(
     list(alloc, &nodes, dir, Detail::Brief)
 }
 
-/// All records of the catalog, where these blocks were read of a volume of `count` blocks.
+/// All records of the catalog, by the blocks that were read of a volume of `count` blocks.
 pub fn catalog_records(
     alloc: Global,
     read: &SparseBlocks,

@@ -1,4 +1,4 @@
-//! Blocks of which it is noted whether a read failed.
+//! Blocks with a note whether a read failed.
 ghost use Rattle.std.proofs.lemmas.Option.{none-some};
 ghost use Rattle.std.specs.Prelude.{◌≡◌, ℕ, ⊤, true, None};
 ghost use Rattle.hfs_source.specs.Images.{FailsWhere};
@@ -9,7 +9,7 @@ use hfs_sparse::{BlockSource, SeenBlocks, SparseFault};
 use std::io;
 use std::marker::{Brand, Model, PhantomData};
 
-/// Reads that may fail, and a number of bytes, which are picked, for proofs alone: those of a source before anything is read of it.
+/// Reads that may fail, and a number of bytes, both picked for proofs only: those of a source before anything is read of it.
 pub trait PickedFailures {
     ghost fails: { ℕ → ℕ → Type 0 };
 
@@ -22,8 +22,8 @@ impl PickedFailures for Brand {
     ghost len = { 0 };
 }
 
-/// Blocks that are read from a source, with a note whether a read of bytes that it has failed. So what reads them needn't tell
-/// why: what is told of a fault stands on the note.
+/// Blocks that are read from a source, with a note whether a read within its length failed. So code that reads them needn't say
+/// why it failed: the note distinguishes a failed read from refused memory.
 #[derive(Drop)]
 pub struct NotedBlocks<S: PlacedBlocks, K: PickedFailures> {
     blocks: S,
@@ -45,7 +45,7 @@ impl<S: PlacedBlocks, K: PickedFailures> Model for NotedBlocks<S, K> {
 }
 
 impl<S: PlacedBlocks, K: PickedFailures> NotedBlocks<S, K> {
-    /// The blocks of a source that has so many bytes, no read of which failed yet.
+    /// The blocks of a source of `len` bytes, before any read of it failed.
     pub fn new(source: SeenBlocks<S>, len: u64) -> NotedBlocks<S, K>
         requires fails { FailsWhere (S.Fails source.blocks) K.fails }
         requires len { len ≡ K.len }
@@ -59,7 +59,7 @@ impl<S: PlacedBlocks, K: PickedFailures> NotedBlocks<S, K> {
         }
     }
 
-    /// The source, and whether a read of bytes that it has failed.
+    /// The source, and whether a read within its length failed.
     pub fn into_source(self) -> (SeenBlocks<S>, bool)
         ensures source { result.0.blocks ≡ self }
         ensures failed { result.1 ≡ true → SomeFailsWithin K.len K.fails }
@@ -97,7 +97,7 @@ impl<S: PlacedBlocks, K: PickedFailures> BlockSource for NotedBlocks<S, K> {
     ghost known_holds = { λ noted bytes e. absurd (none-some bytes e) };
 }
 
-/// The fault of reading blocks, where it is known whether a read failed: if none did, memory was refused.
+/// The fault of reading blocks, given whether a read failed: if none did, memory was refused.
 pub fn noted_fault(fault: SparseFault, failed: bool) -> SparseFault
     ensures { result ≡ SparseFault.ReadFailed → failed ≡ true }
 {

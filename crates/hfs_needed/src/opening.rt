@@ -10,14 +10,14 @@ use hfs_check::{MountFault, SoundVolume, check_blocks};
 use hfs_sparse::{BlockSource, SparseBlocks, SparseFault};
 use std::alloc::Global;
 
-/// Why nothing is told of a volume.
+/// Why a volume was not opened.
 #[derive(Clone, Copy, Debug, PartialEq, Eq)]
 pub enum NeededFault {
     /// A read failed, or the reader ended too early.
     ReadFailed,
     /// Memory was refused.
     Memory,
-    /// The image is refused for this fault, the first of docs/CHECKS.md's order.
+    /// The image is refused for this fault, the first in the order of docs/CHECKS.md.
     Refused(MountFault),
 }
 
@@ -32,7 +32,7 @@ impl NeededFault {
         }
     }
 
-    /// This fault, where it is known whether a read failed: if none did, and the image isn't refused, memory was.
+    /// This fault, given whether a read failed: if none did and the image isn't refused, memory was refused.
     pub(crate) fn noted(self, failed: bool) -> NeededFault
         ensures read { result ≡ NeededFault.ReadFailed → failed ≡ true }
         ensures refused { (why : MountFault) → result ≡ NeededFault.Refused why
@@ -52,7 +52,7 @@ impl NeededFault {
     }
 }
 
-/// The needed blocks of a sound volume, and what its checks found out.
+/// The needed blocks of a sound volume, and what its checks found.
 #[derive(Drop)]
 pub struct NeededVolume {
     /// The blocks that were read.

@@ -20,7 +20,7 @@ use hfs_sparse::SparseBlocks;
 /// The ID of the root.
 const ROOT: u32 = 2;
 
-/// What is told of the folder's item of that name. A name that no item may have leads nowhere.
+/// The reply about the folder's item of that name. A name that no item may have leads nowhere.
 fn told_child<N: Nodes>(nodes: &N, dir: u32, name: &[u8]) -> Reply
     requires { IsCatalog (N.nodes nodes.now) }
     ensures { result ≡ spec.told_child (cat_info (catalog_of (N.nodes nodes.now))) dir name.now }
@@ -32,7 +32,7 @@ fn told_child<N: Nodes>(nodes: &N, dir: u32, name: &[u8]) -> Reply
     }
 }
 
-/// What is told one name further on a path. Where nothing was told of an item, that stays.
+/// The reply for one more name on a path. A reply without an item stays as it is.
 #[tactic(auto, unfolding(crate::specs::Paths::told_next))]
 fn told_next<N: Nodes>(nodes: &N, told: Reply, name: &[u8]) -> Reply
     requires { IsCatalog (N.nodes nodes.now) }
@@ -44,7 +44,7 @@ fn told_next<N: Nodes>(nodes: &N, told: Reply, name: &[u8]) -> Reply
     told
 }
 
-/// What is told behind all these names.
+/// The reply after all these names.
 fn told_behind<N: Nodes>(nodes: &N, root: Reply, below: &[Name]) -> Reply
     requires { IsCatalog (N.nodes nodes.now) }
     ensures { result
@@ -67,7 +67,7 @@ fn is_root_name(name: &[u8], root: &Value) -> bool
     }
 }
 
-/// What is told of the item that these names lead to.
+/// The reply about the item that these names lead to.
 #[tactic(auto, unfolding(crate::specs::Paths::told_at))]
 fn path_told<N: Nodes>(nodes: &N, names: &[Name]) -> Reply
     requires { IsCatalog (N.nodes nodes.now) }
@@ -85,7 +85,7 @@ fn path_told<N: Nodes>(nodes: &N, names: &[Name]) -> Reply
     }
 }
 
-/// What is told of the item that these names lead to, where these blocks were read of a volume of `count` blocks.
+/// The reply about the item that these names lead to, by the blocks that were read of a volume of `count` blocks.
 pub(crate) fn told_in(read: &SparseBlocks, count: u32, trees: &VolumeTrees, names: &[Name]) -> Reply
     requires sound { AreBlocksSound count (sparse read.now) }
     requires trees { HasTrees count (sparse read.now) trees.now }

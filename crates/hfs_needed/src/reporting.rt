@@ -36,8 +36,8 @@ fn gathered_report<S: BlockSource>(
     }
 }
 
-/// Reports on an image of `len` bytes, of which only the blocks are read that its checks need: what the report on the whole image tells.
-/// Errors: a read failed, memory was refused.
+/// Reports on an image of `len` bytes; only the blocks that its checks need are read. The result is the report on the whole
+/// image. Errors: a read failed, memory was refused.
 pub(crate) fn needed_report<S: BlockSource>(
     alloc: Global,
     source: &mut S,
@@ -58,14 +58,14 @@ pub(crate) fn needed_report<S: BlockSource>(
     gathered_report(alloc, source, (len / 512) as u32)
 }
 
-/// A sound volume of which the needed blocks were read, and its report.
+/// A sound volume whose needed blocks were read, and its report.
 #[derive(Drop)]
 pub(crate) struct ReportedVolume {
     pub(crate) volume: NeededVolume,
     pub(crate) report: Report,
 }
 
-/// What opening keeps of a sound volume of which these blocks were read.
+/// What opening keeps of a sound volume, given the blocks that were read.
 fn sound_volume(alloc: Global, read: SparseBlocks, count: u32) -> Result<NeededVolume, AllocError>
     requires some { 3 ≤ count }
     requires sound { AreBlocksSound count (sparse read) }
@@ -117,8 +117,8 @@ fn report_opened<S: BlockSource>(
     }
 }
 
-/// Reads the needed blocks of an image of `len` bytes, and reports on them: all checks are made once. Errors: a read failed, memory was
-/// refused, or the image is refused.
+/// Reads the needed blocks of an image of `len` bytes, and reports on them; all checks are made only once. Errors: a read failed,
+/// memory was refused, or the image is refused.
 pub(crate) fn open_reported<S: BlockSource>(
     alloc: Global,
     source: &mut S,

@@ -1,4 +1,4 @@
-//! An image that is opened and checked once, of which what is answered holds for each image that has the bytes which were read.
+//! An image that is opened and checked once, whose answers hold for every image consistent with the bytes read.
 ghost use Rattle.std.specs.Prelude.{◌≡◌, ◌*◌, Err, IfErr, IfOk, None, OnErr, OnOk, length};
 ghost use Rattle.hfs_texts.specs.Writing.{AppendsFront};
 ghost use Rattle.hfs_blocks.specs.Blocks.{AreRunsWithin};
@@ -34,8 +34,8 @@ use std::io;
 use std::io::Write;
 use std::marker::{Brand, Model};
 
-/// A sound image whose needed blocks were read and checked once. What it answers is what each image answers that has the bytes which were
-/// read: over memory the image itself, over a file each that it may be.
+/// A sound image whose needed blocks were read and checked once. What it answers, every image consistent with the bytes read
+/// answers: over memory that is the image itself, over a file each that it may be.
 #[derive(Drop)]
 pub struct SeenImage<S: PlacedBlocks> {
     /// Where blocks are read from.
@@ -55,18 +55,18 @@ impl<S: PlacedBlocks> Model for SeenImage<S> {
     ghost invariant = { λ o. IsSeenAs (S.Holds o.source.blocks) o.len o.volume };
 }
 
-/// Why an image was not opened, and where it was read from.
+/// Why an image was not opened, and what it was read from.
 #[derive(Drop)]
 pub struct Unopened<S> {
     /// Why.
     pub fault: NeededFault,
-    /// The source, of which some was read.
+    /// The source, a part of which was read.
     pub source: SeenBlocks<S>,
 }
 
 impl<S: PlacedBlocks> SeenImage<S> {
-    /// Reads the needed blocks of an image, and makes all checks. Errors, with the source back: a read failed, memory was refused, or the
-    /// image is refused.
+    /// Reads the needed blocks of an image, and makes all checks. Errors, with the source handed back: a read failed, memory was
+    /// refused, or the image is refused.
     pub fn open(alloc: Global, source: SeenBlocks<S>) -> Result<SeenImage<S>, Unopened<S>>
         ensures sound { IfOk result (λ image. OfEach (S.Holds image) HasNoFault) }
         ensures narrows { IfOk result (λ image. OfEach (S.Holds image) (S.Holds source.blocks)) }
@@ -84,7 +84,8 @@ impl<S: PlacedBlocks> SeenImage<S> {
         open_noted::<Brand, S>(alloc, source, len)
     }
 
-    /// As [`SeenImage::open`], and gives the image's report as well, which tells of a sound volume: all checks are made once.
+    /// As [`SeenImage::open`], but also returns the report on the image, which is that of a sound volume; all checks are made
+    /// only once.
     pub fn open_reported(
         alloc: Global,
         source: SeenBlocks<S>,
@@ -107,7 +108,7 @@ impl<S: PlacedBlocks> SeenImage<S> {
         report_noted::<Brand, S>(alloc, source, len)
     }
 
-    /// What was read of the image, and what its checks found out: all that is told of it but for the bytes of forks.
+    /// What was read of the image, and what its checks found: everything except the bytes of forks.
     pub fn volume(&self) -> &NeededVolume
         ensures opened { OfEach (S.Holds self.now) (IsOpenedBy result.now) }
         ensures sound { IsOpenedOf None result.now.count result.now }
@@ -115,7 +116,7 @@ impl<S: PlacedBlocks> SeenImage<S> {
         &self.volume
     }
 
-    /// What the image is read from, of which all is known that was known of the image.
+    /// What the image is read from, with everything that was known of the image.
     pub fn into_source(self) -> SeenBlocks<S>
         ensures { result.blocks ≡ self }
     {
@@ -127,7 +128,7 @@ impl<S: PlacedBlocks> SeenImage<S> {
         source
     }
 
-    /// The reply to List of a folder, with has_id false in each item. Nothing is read. Error: memory was refused.
+    /// The reply to List of a folder, with `has_id` false for each item. Nothing is read. Error: memory was refused.
     pub fn list(&self, alloc: Global, dir: u32) -> Result<Reply, AllocError>
         ensures { IfOk result (λ reply. OfEach (S.Holds self.now)
             (λ image. reply ≡ brief_list image dir)) }
@@ -136,9 +137,9 @@ impl<S: PlacedBlocks> SeenImage<S> {
         list_in_brief(alloc, &volume.read, volume.count, &volume.sound.trees, dir)
     }
 
-    /// What is told of the item that the names of a path lead to, from the root's down: the reply to GetCatInfo of it, or to GetDirInfo of
-    /// the root. An empty first name stands for the root's. -43 where the first name isn't the root's or a name leads nowhere, -120
-    /// where the way goes through a file. Nothing is read.
+    /// The reply about the item that the names of a path lead to, from the root's down: that to GetCatInfo, or to GetDirInfo for
+    /// the root. An empty first name stands for the root's. -43 if the first name isn't the root's or a name leads nowhere, -120
+    /// if the path goes through a file. Nothing is read.
     pub fn item_at(&self, names: &[Name]) -> Reply
         ensures { OfEach (S.Holds self.now)
             (λ image. result ≡ path_told (entries_of (volume_of image)) names.now) }
@@ -147,7 +148,7 @@ impl<S: PlacedBlocks> SeenImage<S> {
         told_in(&volume.read, volume.count, &volume.sound.trees, names)
     }
 
-    /// All items, one after the other in the order of the table. Nothing is read. Error: memory was refused.
+    /// All items, one after the other, in the order of the table. Nothing is read. Error: memory was refused.
     pub fn inventory(&self, alloc: Global) -> Result<Inventory, AllocError>
         ensures { IfOk result (λ inventory. OfEach (S.Holds self.now)
             (λ image. inventory.left ≡ told_rows (entries_of (volume_of image)))) }
@@ -157,10 +158,10 @@ impl<S: PlacedBlocks> SeenImage<S> {
         Inventory::new(alloc, records)
     }
 
-    /// Writes the bytes of a file's fork piece by piece, as they are read, at most 65,536 at a time: memory doesn't grow with the fork. Or answers
-    /// what a call that reads the fork answers where there is none: -37, -120 or -43, and nothing is written. Errors: a read failed or
-    /// memory was refused, before anything was written; a read failed behind bytes that were written, or the writer failed: then a part
-    /// of the fork may have gone out, from its beginning on, and nothing else.
+    /// Writes the bytes of a file's fork piece by piece, while they are read, at most 65,536 at a time, so memory doesn't grow
+    /// with the fork. If there is no such fork, writes nothing and returns what a call that reads it answers: -37, -120 or -43.
+    /// Errors: memory was refused or a read failed, before anything was written; a read failed after some bytes were written, or
+    /// the writer failed: then only the beginning of the fork may have been written.
     pub fn write_fork<W: Write>(
         &mut self,
         alloc: Global,
@@ -182,8 +183,8 @@ impl<S: PlacedBlocks> SeenImage<S> {
         write_opened(alloc, source, volume, dir, name, fork, writer)
     }
 
-    /// Where the bytes of both forks of the folder's file of that name lie; or what a call that reads a fork answers where there is no such
-    /// file: -37, -120 or -43. Nothing is read. Error: memory was refused.
+    /// Where the bytes of both forks of the folder's file of that name lie; or what a call that reads a fork answers if there is
+    /// no such file: -37, -120 or -43. Nothing is read. Error: memory was refused.
     pub fn file_runs(
         &self,
         alloc: Global,
@@ -204,8 +205,8 @@ impl<S: PlacedBlocks> SeenImage<S> {
         opened_runs(alloc, &self.volume, dir, name)
     }
 
-    /// Reads the blocks from number `first` on, as many as there is room for in `into`, by one read. Error: the read failed, or the image ends
-    /// before the room is full.
+    /// Reads blocks from number `first` on, as many as `into` has room for, in one read. Error: the read failed, or the image
+    /// ends before the room is full.
     pub fn read_blocks(&mut self, first: u32, into: &mut [u8]) -> io::Result<()>
         ensures read { OnOk result (OfEach (S.Holds self.new) (HasAt (512 * first) into.new)) }
         ensures narrows { OfEach (S.Holds self.new) (S.Holds self.old) }
@@ -217,8 +218,8 @@ impl<S: PlacedBlocks> SeenImage<S> {
 }
 
 impl<S: PlacedBlocks + Drop> SeenImage<S> {
-    /// What is told of a file, and the bytes of both its forks, whose own blocks alone are read, and what they are read from; or
-    /// what a call that reads a fork answers where there is no such file: -37, -120 or -43. Errors: a read failed, memory was
+    /// The reply about a file, the bytes of both its forks, and what they are read from; only the forks' own blocks are read. Or
+    /// what a call that reads a fork answers if there is no such file: -37, -120 or -43. Errors: a read failed, memory was
     /// refused.
     pub fn file(
         self,
@@ -242,7 +243,7 @@ impl<S: PlacedBlocks + Drop> SeenImage<S> {
     }
 }
 
-/// Opens an image of `len` bytes as [`SeenImage::open`] does, where the reads that may fail are picked.
+/// Opens an image of `len` bytes as [`SeenImage::open`] does, with the reads that may fail already picked.
 fn open_noted<K: PickedFailures, S: PlacedBlocks>(
     alloc: Global,
     source: SeenBlocks<S>,
@@ -277,7 +278,7 @@ fn open_noted<K: PickedFailures, S: PlacedBlocks>(
     }
 }
 
-/// Opens an image of `len` bytes as [`SeenImage::open_reported`] does, where the reads that may fail are picked.
+/// Opens an image of `len` bytes as [`SeenImage::open_reported`] does, with the reads that may fail already picked.
 fn report_noted<K: PickedFailures, S: PlacedBlocks>(
     alloc: Global,
     source: SeenBlocks<S>,
@@ -317,7 +318,7 @@ fn report_noted<K: PickedFailures, S: PlacedBlocks>(
     }
 }
 
-/// What is told of a file of an image of `len` bytes as [`SeenImage::file`] tells it, where the reads that may fail are picked.
+/// A file of an image of `len` bytes as [`SeenImage::file`] returns it, with the reads that may fail already picked.
 fn file_noted<K: PickedFailures, S: PlacedBlocks + Drop>(
     alloc: Global,
     source: SeenBlocks<S>,

@@ -28,7 +28,7 @@ fn extents_tree(
     tree_runs(alloc, &read.volume(count), mdb, &mdb.extents_file, size)
 }
 
-/// All extents of the catalog file, where the extents tree lies in these runs.
+/// All extents of the catalog file, given the runs of the extents tree.
 fn catalog_file(
     alloc: Global,
     read: &SparseBlocks,
@@ -48,7 +48,7 @@ fn catalog_file(
     fork_extents(alloc, &nodes, 4, ForkKind::Data, &mdb.catalog_file)
 }
 
-/// The runs of the catalog tree, whose file has these extents.
+/// The runs of the catalog tree, given the extents of its file.
 fn catalog_tree(
     alloc: Global,
     read: &SparseBlocks,
@@ -65,7 +65,7 @@ fn catalog_tree(
     tree_runs(alloc, &read.volume(count), mdb, extents, size)
 }
 
-/// Where both trees of a sound volume lie. Unlike the checks, which find them as well, this makes none.
+/// Where both trees of a sound volume lie. The checks find them as well; this makes no checks.
 pub(crate) fn sound_trees(
     alloc: Global,
     read: &SparseBlocks,

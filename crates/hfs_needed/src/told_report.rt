@@ -12,7 +12,7 @@ use hfs_sparse::{SeenBlocks, SparseFault};
 use std::alloc::Global;
 use std::marker::Brand;
 
-/// Reports on an image of `len` bytes as [`seen_report`] does, where the reads that may fail are picked.
+/// Reports on an image of `len` bytes as [`seen_report`] does, with the reads that may fail already picked.
 fn report_picked<K: PickedFailures, S: PlacedBlocks + Drop>(
     alloc: Global,
     source: SeenBlocks<S>,
@@ -37,8 +37,8 @@ fn report_picked<K: PickedFailures, S: PlacedBlocks + Drop>(
     }
 }
 
-/// Reports on an image, of which only the blocks are read that its checks need, and gives the source back: what the report on each image tells
-/// that has the bytes which were read. Errors: a read failed, memory was refused.
+/// Reports on an image, and hands the source back; only the blocks that its checks need are read. The result is the report on
+/// every image consistent with the bytes read. Errors: a read failed, memory was refused.
 pub fn seen_report<S: PlacedBlocks + Drop>(
     alloc: Global,
     source: SeenBlocks<S>,

@@ -1,4 +1,4 @@
-//! What the header node of a tree tells before anything else of the tree was read.
+//! What a tree's header node says before anything else of the tree was read.
 ghost use Rattle.std.specs.Prelude.{◌≡◌, true, false, IfOk, MatchOption};
 ghost use Rattle.hfs_node.specs.Node.{node_of};
 ghost use Rattle.hfs_btree_checks.specs.Shape.{is_header_value, is_header_record, is_header_with, own_header};
@@ -8,14 +8,14 @@ use hfs_btree::{Header, Key};
 use hfs_node::{NodeKind, NodeView, view};
 use std::alloc::{AllocError, Global};
 
-/// What a header node tells of its tree's map.
+/// What a header node says about its tree's map.
 #[derive(Drop)]
 pub(crate) struct TreeHead {
     /// How many nodes the tree has.
     pub(crate) nodes: u32,
-    /// The first map node, 0 where there is none.
+    /// The first map node; 0 if there is none.
     pub(crate) first: u32,
-    /// The part of the node map that the header node has.
+    /// The header node's part of the node map.
     pub(crate) map: Vec<u8>,
 }
 
@@ -29,7 +29,7 @@ fn is_header(node: &NodeView) -> bool
     }
 }
 
-/// Whether the header record is one of a tree with these keys in a file of `size` bytes.
+/// Whether the header record is that of a tree with these keys in a file of `size` bytes.
 #[tactic(auto, unfolding(hfs_btree_checks::specs::Shape::is_header_record))]
 fn is_right_header<K: Key>(header: &Header, size: u32) -> bool
     ensures { result ≡ is_header_record K.Key size header.now }
@@ -41,8 +41,8 @@ fn is_right_header<K: Key>(header: &Header, size: u32) -> bool
         && header.depth <= 16
 }
 
-/// The header record of a tree with these keys in a file of `size` bytes, whose node 0 this is. None exactly where it isn't that of
-/// such a tree.
+/// The header record of a tree with these keys in a file of `size` bytes, from node 0. None exactly when it isn't the header node
+/// of such a tree.
 fn right_header<K: Key>(node: &NodeView, size: u32) -> Option<Header>
     ensures { MatchOption result (is_header_with K.Key size node.now ≡ false)
         (λ header. (is_header_with K.Key size node.now ≡ true) × (header ≡ own_header node.now)) }
@@ -58,7 +58,8 @@ fn right_header<K: Key>(node: &NodeView, size: u32) -> Option<Header>
     }
 }
 
-/// What node 0 tells of a tree with these keys in a file of `size` bytes. None exactly where it isn't the header node of such a tree.
+/// What node 0 says about a tree with these keys in a file of `size` bytes. None exactly when it isn't the header node of such a
+/// tree.
 pub(crate) fn read_head<K: Key>(
     alloc: Global,
     block: &[u8; 512],

@@ -1,4 +1,4 @@
-//! Reading the nodes of a tree that decide: its header node, its map nodes, and the nodes that its map marks.
+//! Reading those nodes of a tree that decide: its header node, its map nodes, and the nodes that its map marks.
 ghost use Rattle.std.specs.Prelude.{◌≡◌, ℕ, ◌+◌, ◌*◌, ◌<◌, ◌≤◌, true, [], length, slice_index_or, OnOk, IfOk};
 ghost use Rattle.std.specs.List.{flat_map};
 ghost use Rattle.std.specs.Vec.{vec_len};
@@ -18,7 +18,7 @@ use hfs_node::{NodeKind, NodeView, view};
 use hfs_sparse::{BlockSource, SparseBlocks, SparseFault, fetch, fetch_range};
 use std::alloc::Global;
 
-/// Reads node `n` of a tree's file, unless it was read before, and copies it.
+/// Reads node `n` of a tree's file, unless it was already read, and copies it.
 fn fetch_node<S: BlockSource>(
     source: &mut S,
     read: &mut SparseBlocks,
@@ -40,8 +40,8 @@ fn fetch_node<S: BlockSource>(
     Ok(())
 }
 
-/// Reads node 0, and what it tells of the tree's map. None exactly where it isn't the header node of a tree with these keys in a file
-/// of `size` bytes.
+/// Reads node 0, and what it says about the tree's map. None exactly when it isn't the header node of a tree with these keys in a
+/// file of `size` bytes.
 fn fetch_head<K: Key, S: BlockSource>(
     alloc: Global,
     source: &mut S,
@@ -75,8 +75,8 @@ fn is_map(node: &NodeView) -> bool
     }
 }
 
-/// Reads node `n`. Where it is a map node, its part of the node map is added to `map`, and the node behind it, or 0, is the answer. None
-/// where it is no map node.
+/// Reads node `n`. If it is a map node, appends its part of the node map to `map`, and returns the node after it, or 0. None if
+/// it is no map node.
 fn fetch_map_node<S: BlockSource>(
     source: &mut S,
     read: &mut SparseBlocks,
@@ -107,9 +107,9 @@ fn fetch_map_node<S: BlockSource>(
     Ok(Some(node.forward()))
 }
 
-/// Reads the chain of map nodes from node `first` on, 0 where there is none, of a tree of `count` nodes, as far as it is one: up to the
-/// first that is no map node, none of the tree's, or was met before. Marks each as met, and adds their parts of the node map to `map`.
-/// Whether the chain is one.
+/// Reads the chain of map nodes of a tree of `count` nodes, from node `first` on, or none if that is 0. Stops at the first node
+/// that is no map node, isn't in the tree, or was met before. Marks each as met, appends their parts of the node map to `map`,
+/// and returns whether the chain is right.
 #[tactic(auto, using(hfs_sparse::proofs::Seen::sees_itself))]
 fn fetch_chain<S: BlockSource>(
     source: &mut S,
@@ -151,7 +151,8 @@ fn fetch_chain<S: BlockSource>(
     Ok(true)
 }
 
-/// Reads the map nodes of a tree whose header node tells this, as far as they are a chain. The node map; None only where it is wrong.
+/// Reads the map nodes of a tree with this header node, as far as they form a chain, and returns the node map; None only if the
+/// map is wrong.
 #[tactic(auto, using(hfs_sparse::proofs::Seen::sees_itself))]
 fn fetch_map<S: BlockSource>(
     alloc: Global,
@@ -187,7 +188,7 @@ fn fetch_map<S: BlockSource>(
     Ok(Some(map))
 }
 
-/// How many nodes from node `n` on, at least that one, are marked and lie side by side, up to node `end`.
+/// How many nodes from node `n` on, at least that one, are marked and lie next to each other, up to node `end`.
 fn marked_beside(runs: &[Run], map: &[u8], n: u32, end: u32) -> u32
     requires some { n < end }
     requires bits { end ≤ 8 * length map.now }
@@ -208,7 +209,8 @@ fn marked_beside(runs: &[Run], map: &[u8], n: u32, end: u32) -> u32
     end - n
 }
 
-/// Reads node `n`, if the map marks it, and with it the marked nodes right behind it, up to node `end`. How many nodes it looked at.
+/// Reads node `n`, if the map marks it, and with it the marked nodes right after it, up to node `end`. Returns how many nodes it
+/// looked at.
 #[tactic(auto, using(hfs_sparse::proofs::Seen::sees_itself))]
 fn fetch_marked_from<S: BlockSource>(
     source: &mut S,
@@ -236,7 +238,7 @@ fn fetch_marked_from<S: BlockSource>(
     Ok(count)
 }
 
-/// Reads those of the first `count` nodes that the map marks, those that lie side by side together.
+/// Reads those of the first `count` nodes that the map marks; nodes next to each other are read together.
 #[tactic(auto, using(hfs_sparse::proofs::Seen::sees_itself))]
 fn fetch_marked<S: BlockSource>(
     source: &mut S,
@@ -260,8 +262,8 @@ fn fetch_marked<S: BlockSource>(
     Ok(())
 }
 
-/// Reads what decides of a tree with these keys whose file has `size` bytes and lies in these runs: its header node, where that is right
-/// its map nodes, and where the map can be right the nodes that it marks.
+/// Reads what decides about a tree with these keys, whose file has `size` bytes and lies in these runs: its header node; if that
+/// is right, its map nodes; and if the map can be right, the nodes that it marks.
 pub(crate) fn gather_tree<K: Key, S: BlockSource>(
     alloc: Global,
     source: &mut S,

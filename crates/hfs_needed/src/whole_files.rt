@@ -1,4 +1,4 @@
-//! What is told of a file, and both its forks, by the needed blocks of an image.
+//! A file with both forks, by the needed blocks of an image.
 ghost use Rattle.std.specs.Prelude.{◌≡◌, None, IfOk};
 ghost use Rattle.hfs_check.specs.Parts.{catalog_in};
 ghost use Rattle.hfs_check.specs.Sound.{AreBlocksSound};
@@ -29,7 +29,7 @@ pub struct NeededFile {
     pub resource: Vec<u8>,
 }
 
-/// What is told of the folder's item of that name, where these blocks were read of a volume of `count` blocks.
+/// The reply about the folder's item of that name, by the blocks that were read of a volume of `count` blocks.
 fn tell_of(read: &SparseBlocks, count: u32, trees: &VolumeTrees, dir: u32, name: &[u8]) -> Reply
     requires sound { AreBlocksSound count (sparse read.now) }
     requires trees { HasTrees count (sparse read.now) trees.now }
@@ -42,8 +42,8 @@ fn tell_of(read: &SparseBlocks, count: u32, trees: &VolumeTrees, dir: u32, name:
     get_cat_info(&nodes, dir, name)
 }
 
-/// What is told of a file of an image that was opened so, and the bytes of both its forks; or what a call that reads a fork answers where there is
-/// no such file: -37, -120 or -43. Errors: a read failed, memory was refused.
+/// The reply about a file of an image that was opened this way, and the bytes of both its forks; or what a call that reads a fork
+/// answers if there is no such file: -37, -120 or -43. Errors: a read failed, memory was refused.
 pub(crate) fn opened_file<S: BlockSource>(
     alloc: Global,
     source: &mut S,

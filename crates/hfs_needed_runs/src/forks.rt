@@ -28,7 +28,7 @@ use hfs_working::WorkingVolume;
 use indexmap::IndexMap;
 use std::alloc::{AllocError, Global};
 
-/// Appends where a fork of a file lies, which is found by the blocks that were read.
+/// Appends where a fork of a file lies, found in the blocks that were read.
 fn push_fork(
     alloc: Global,
     runs: &mut Vec<Run>,
@@ -140,7 +140,7 @@ fn push_once(
     Ok(())
 }
 
-/// Appends where both forks of the file lie that a call names, if it names one.
+/// Appends where both forks lie of the file that a call names, if it names one.
 fn push_named(
     alloc: Global,
     runs: &mut Vec<Run>,
@@ -169,7 +169,7 @@ fn push_named(
     }
 }
 
-/// Where the forks of the files lie that these lines name, each file's once.
+/// Where the forks lie of the files that these lines name, once for each file.
 fn named_forks(
     alloc: Global,
     read: &SparseBlocks,
@@ -214,10 +214,10 @@ fn fetch_forks<S: BlockSource>(
     Ok(())
 }
 
-/// Reads both forks of each file that a line of a script names by its folder and name, of whatever call, where a line of the script reads
-/// or writes a fork at all; a fork's blocks behind its end are read, too. So a read of a fork finds its bytes, and a block that is written in part
-/// has its others, also where the file was renamed or moved by then. At an error some of these blocks may have been read. Errors: a read
-/// failed, memory was refused.
+/// Reads both forks of each file that a line of a script names by its folder and name, in whatever call, if any line of the
+/// script reads or writes a fork; a fork's blocks past its end are read as well. So a read of a fork finds its bytes, and a block
+/// that is written in part has its other bytes, even if the file was renamed or moved by then. At an error some of these blocks
+/// may have been read. Errors: a read failed, memory was refused.
 #[tactic(auto, using(hfs_sparse::proofs::Seen::sees_itself))]
 pub fn fetch_named_forks<S: BlockSource>(
     alloc: Global,

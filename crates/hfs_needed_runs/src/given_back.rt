@@ -1,4 +1,4 @@
-//! Blocks that calls filled with zeros and that went back to the volume in the same run.
+//! Blocks that calls filled with zeros and that were freed again in the same run.
 ghost use Rattle.std.specs.Prelude.{◌≡◌, ◌+◌, ◌<◌, ◌≤◌, ◌∷◌, [], IfOk, IfNone, OnOk};
 ghost use Rattle.std.specs.List.{flat_map, range_with_len};
 ghost use Rattle.hfs_blocks.specs.Blocks.{block_at, block_count, run_of};
@@ -47,7 +47,8 @@ fn free_blocks_in(alloc: Global, volume: &Volume) -> Result<Vec<Run>, AllocError
     Ok(runs)
 }
 
-/// Where the free blocks of a volume lie, if there are files whose forks a script may have written. The only error is want of memory.
+/// Where the free blocks of a volume lie, if there are files whose forks a script may have written. Fails only when out of
+/// memory.
 pub(crate) fn free_blocks(
     alloc: Global,
     volume: &Volume,
@@ -63,7 +64,7 @@ pub(crate) fn free_blocks(
     }
 }
 
-/// Puts in block `n`, where it is changed and one of zeros.
+/// Keeps block `n`, if it is changed and has only zeros.
 fn keep_changed_zeros(
     kept: &mut ChangedBlocks,
     changed: &ChangedBlocks,
@@ -81,7 +82,7 @@ fn keep_changed_zeros(
     kept.put(n, block)
 }
 
-/// Puts in those of `count` blocks from number `first` on that are changed and of zeros.
+/// Keeps those of `count` blocks from number `first` on that are changed and have only zeros.
 fn keep_changed_zeros_of(
     kept: &mut ChangedBlocks,
     changed: &ChangedBlocks,
@@ -98,7 +99,8 @@ fn keep_changed_zeros_of(
     Ok(())
 }
 
-/// Puts in those of the blocks of these runs that are changed and of zeros: a block that isn't changed may not have been read.
+/// Keeps those of the blocks of these runs that are changed and have only zeros: a block that isn't changed may not have been
+/// read.
 pub(crate) fn keep_given_back(
     kept: &mut ChangedBlocks,
     changed: &ChangedBlocks,

@@ -1,4 +1,5 @@
-//! Which blocks of a volume go out: those that are other than they were, and those of zeros of forks and of free blocks.
+//! Which blocks of a volume are written: those that differ from what they were, and the zero blocks of forks and among free
+//! blocks.
 ghost use Rattle.std.specs.Prelude.{◌≡◌, ◌≢◌, ◌+◌, ◌<◌, ◌≤◌, ◌∷◌, [], true, false, IfOk, OnOk};
 ghost use Rattle.std.specs.List.{flat_map, range_with_len};
 ghost use Rattle.hfs_blocks.specs.Blocks.{block_count, run_of};
@@ -21,7 +22,7 @@ fn is_same(first: &[u8; 512], second: &[u8; 512]) -> bool
     first.as_slice() == second.as_slice()
 }
 
-/// Puts in block `n`, where it is changed and other than it was.
+/// Keeps block `n`, if it is changed and differs from what it was.
 fn keep_changed<B: Blocks>(
     kept: &mut ChangedBlocks,
     now: &ChangedOver<'_, B>,
@@ -42,7 +43,7 @@ fn keep_changed<B: Blocks>(
     kept.put(n, block)
 }
 
-/// Puts in those of the first `count` blocks that are changed and other than they were.
+/// Keeps those of the first `count` blocks that are changed and differ from what they were.
 fn keep_all_changed<B: Blocks>(
     kept: &mut ChangedBlocks,
     now: &ChangedOver<'_, B>,
@@ -58,7 +59,7 @@ fn keep_all_changed<B: Blocks>(
     Ok(())
 }
 
-/// Whether a block has zeros alone.
+/// Whether a block has only zeros.
 #[tactic(auto, unfolding(hfs_sparse::specs::Sparse::zero_block))]
 pub(crate) fn is_zeros(block: &[u8; 512]) -> bool
     ensures zeros { result ≡ true → block.now ≡ zero_block }
@@ -67,7 +68,7 @@ pub(crate) fn is_zeros(block: &[u8; 512]) -> bool
     block.as_slice() == [0; 512].as_slice()
 }
 
-/// Puts in block `n`, where it is one of zeros.
+/// Keeps block `n`, if it has only zeros.
 fn keep_zeros<B: Blocks>(kept: &mut ChangedBlocks, now: &B, n: u32) -> Result<(), AllocError>
     requires { n < B.total now.now }
     ensures { OnOk result (GainsZeros (B.blocks now.now) (n ∷ []) kept.old kept.new) }
@@ -80,7 +81,7 @@ fn keep_zeros<B: Blocks>(kept: &mut ChangedBlocks, now: &B, n: u32) -> Result<()
     kept.put(n, &block)
 }
 
-/// Puts in those of `count` blocks from number `first` on that are of zeros.
+/// Keeps those of `count` blocks from number `first` on that have only zeros.
 fn keep_zeros_of<B: Blocks>(
     kept: &mut ChangedBlocks,
     now: &B,
@@ -97,7 +98,7 @@ fn keep_zeros_of<B: Blocks>(
     Ok(())
 }
 
-/// Puts in those of the blocks of these runs that are of zeros.
+/// Keeps those of the blocks of these runs that have only zeros.
 fn keep_zeros_in<B: Blocks>(
     kept: &mut ChangedBlocks,
     now: &B,
@@ -113,10 +114,10 @@ fn keep_zeros_in<B: Blocks>(
     Ok(())
 }
 
-/// The blocks of a volume that go out: each that is other than it was when the volume was mounted, of the blocks in the runs of
-/// forks each of zeros, and of the free blocks each of zeros that is kept as changed. A block of zeros is as it was in a copy in
-/// which it wasn't read, and not in the image. Laid over the bytes as they were mounted, they make those that they are now.
-/// One of zeros takes a flag, and no bytes. The only error is want of memory.
+/// The blocks of a volume that are written: each that differs from what it was when the volume was mounted; in the runs of forks,
+/// each of zeros; and of the free blocks, each of zeros that is kept as changed. A block of zeros is as it was in a copy in which
+/// it wasn't read, but not in the image. Laid over the bytes as they were mounted, they give the bytes as they are now. A block
+/// of zeros takes a flag, and no bytes. Fails only when out of memory.
 pub fn kept_blocks(
     alloc: Global,
     volume: &Volume,

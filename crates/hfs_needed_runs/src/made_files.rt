@@ -28,7 +28,7 @@ pub(crate) struct ScriptFiles {
     pub(crate) next: u32,
 }
 
-/// The ID of the item that a reply tells of.
+/// The ID of the item that a reply describes.
 fn id_told(reply: &Reply) -> Option<u32>
     ensures { result ≡ id_told reply.now.value }
 {
@@ -102,8 +102,8 @@ fn named_ids(
     Ok(ids)
 }
 
-/// The files that these lines name in a volume, and those that will be made in it; none where no line reads or writes a fork. The only error is
-/// want of memory.
+/// The files that these lines name in a volume, and those that will be made in it; None if no line reads or writes a fork. Fails
+/// only when out of memory.
 pub(crate) fn script_files(
     alloc: Global,
     working: &WorkingVolume,

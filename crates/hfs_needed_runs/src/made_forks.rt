@@ -1,4 +1,4 @@
-//! Where the forks lie after a run that a script may have written.
+//! Where the forks lie that a script may have written, after a run.
 ghost use Rattle.std.specs.Prelude.{◌≡◌, true, false, [], IfOk, IfNone, IfSome, OnOk};
 ghost use Rattle.hfs_blocks.specs.Blocks.{block_at, block_count};
 ghost use Rattle.hfs_scans.specs.Members.{In};
@@ -20,7 +20,7 @@ use hfs_model::Fork;
 use hfs_volume::Volume;
 use std::alloc::{AllocError, Global};
 
-/// Whether the file of that ID is one of these, or was made since.
+/// Whether the file with that ID is one of these, or was made since.
 fn is_script_file(files: &ScriptFiles, id: u32) -> bool
     ensures same { result ≡ true → IsScriptFile files.now id }
     ensures others { result ≡ false → IsScriptFile files.now id → ⊥ }
@@ -63,7 +63,7 @@ fn push_forks(
     push_fork(alloc, runs, volume, file, Fork::ResFork)
 }
 
-/// Appends where both forks lie of a record's file, if it is one of these.
+/// Appends where both forks of a record's file lie, if it is one of these.
 fn push_record(
     alloc: Global,
     runs: &mut Vec<Run>,
@@ -88,7 +88,7 @@ fn push_record(
     push_forks(alloc, runs, volume, &file)
 }
 
-/// Where the forks of these files lie that are among the records of a volume.
+/// Where the forks lie of those of these files that are among the records of a volume.
 fn forks_among(
     alloc: Global,
     volume: &Volume,
@@ -118,7 +118,7 @@ fn forks_of(alloc: Global, volume: &Volume, files: &ScriptFiles) -> Result<Vec<R
     forks_among(alloc, volume, files, &records)
 }
 
-/// Where the forks of these files lie in a volume as it is now, if there are such files. The only error is want of memory.
+/// Where the forks of these files lie in a volume as it is now, if there are such files. Fails only when out of memory.
 pub(crate) fn made_forks(
     alloc: Global,
     volume: &Volume,

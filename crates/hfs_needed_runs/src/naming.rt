@@ -6,7 +6,7 @@ ghost use Rattle.hfs_needed_runs.specs.Naming.{read_forks, uses_fork};
 use hfs_model::Call;
 use hfs_scripts::ScriptLine;
 
-/// The folder and the name by which a call names an item, where it names one so.
+/// The folder and the name with which a call names an item, if it names one in this way.
 pub(crate) fn named_by(call: &Call) -> Option<(u32, &[u8])>
     ensures { MatchOption result (named_by call.now ≡ None)
         (λ place. named_by call.now ≡ Some (place.0, place.1.now)) }

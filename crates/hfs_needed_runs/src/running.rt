@@ -1,4 +1,4 @@
-//! A script that is run on a volume of which the working blocks were read.
+//! Running a script on a volume of which the working blocks were read.
 ghost use Rattle.std.specs.Prelude.{◌≡◌, ◌/◌, All, None, IfOk, IfErr};
 ghost use Rattle.hfs_blocks.specs.Layers.{changes, AreWithin};
 ghost use Rattle.hfs_check.specs.Sound.{IsSound};
@@ -23,19 +23,20 @@ use std::thread::Threads;
 /// What a run of a script made of an image of which only what it needs was read.
 #[derive(Drop)]
 pub struct NeededRan {
-    /// The blocks that go out, which are to be laid over the image.
+    /// The blocks that are written, to be laid over the image.
     pub patch: ChangedBlocks,
-    /// The answers, of which long bytes have no digits yet.
+    /// The answers; the digits of long bytes are left out for now.
     pub answers: Answers,
-    /// Whether each line was answered.
+    /// Whether every line was answered.
     pub whole: bool,
-    /// Whether viewers were shown each change at once, and none later for want of memory.
+    /// Whether viewers were shown each change at once, and none later for lack of memory.
     pub shown: bool,
 }
 
-/// Runs a script, as `run_volume_in_pieces` does, on a volume of an image of `len` bytes of which the working blocks were read, and the forks that the script
-/// may read or write. What goes out, laid over the image, agrees with the image but for the blocks of forks that calls wrote, and holds what it
-/// made of the copy: forks of files that its lines name, or that it made, too. Other forks are the image's. Faults in order: `NoPlace`; and `Memory`.
+/// Runs a script, as `run_volume_in_pieces` does, on a volume of an image of `len` bytes of which the working blocks were read,
+/// and the forks that the script may read or write. What is written, laid over the image, agrees with the image except for the
+/// blocks of forks that calls wrote, and holds what the script made of the copy, including the forks of files that its lines name
+/// or that it made. Other forks are the image's. Faults, in this order: `NoPlace`; also `Memory`.
 pub fn run_needed_at<R: Threads + Wait + Sync, G: Gate + Sync>(
     rt: &R,
     alloc: Global,

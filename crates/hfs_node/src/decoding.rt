@@ -36,8 +36,8 @@ impl<'a> NodeView<'a> {
     }
 }
 
-/// The node in these 512 bytes, or their first fault, as `view` tells it. The fault is `NodeFault::Memory`
-/// where the bytes are a node and memory for its records was refused.
+/// The node in these 512 bytes, or their first fault, as from `view`. The fault is `NodeFault::Memory` if the bytes are a node
+/// and memory for its records was refused.
 ///
 /// Source: Inside Macintosh: Files, chapter 2, "B*-Trees", the structure of nodes.
 pub fn decode(alloc: Global, bytes: &[u8; 512]) -> Result<Node, NodeFault>

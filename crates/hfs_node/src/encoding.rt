@@ -7,7 +7,7 @@ use crate::node::{BLANK_NODE, Descriptor, Node};
 use crate::rows::RecordRow;
 use hfs_fields::{put, put_u16, put_u32};
 
-/// Writes the descriptor but its reserved bytes.
+/// Writes the descriptor, except its reserved bytes.
 fn put_head<R: RecordRow>(head: &Descriptor, row: &R, out: &mut [u8; 512])
     requires { size_of (R.records row.now) ≤ 496 }
     ensures head { HasHead (node_from head.now (R.records row.now)) out.new }
@@ -19,7 +19,7 @@ fn put_head<R: RecordRow>(head: &Descriptor, row: &R, out: &mut [u8; 512])
     put_u16(out, 10, row.len() as u16);
 }
 
-/// Writes record `i` at its place, and its offset. Answers where the next one begins.
+/// Writes record `i` at its place, and its offset. Returns where the next one begins.
 fn put_record<R: RecordRow>(row: &R, i: usize, at: usize, out: &mut [u8; 512]) -> usize
     requires within { i < length (R.records row.now) }
     requires room { size_of (R.records row.now) ≤ 496 }

@@ -15,7 +15,7 @@ pub enum NodeKind {
     Leaf,
 }
 
-/// The kind that a node's type byte names.
+/// The kind with this type byte.
 #[tactic(auto, unfolding(crate::specs::Kind::kind_of))]
 pub(crate) fn kind_from(byte: u8) -> Option<NodeKind>
     ensures { result ≡ kind_of byte }

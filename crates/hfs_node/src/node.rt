@@ -9,12 +9,12 @@ use std::alloc::AllocError;
 /// The bytes of a node that was freed: zeros. They are no node.
 pub const BLANK_NODE: [u8; 512] = [0; 512];
 
-/// A node's descriptor, but for the number of its records.
+/// A node's descriptor, without the number of its records.
 #[derive(Debug, Clone, Copy, PartialEq, Eq)]
 pub struct Descriptor {
-    /// ndFLink: the next node of the level, 0 at its end.
+    /// ndFLink: the next node of the level; 0 at its end.
     pub forward: u32,
-    /// ndBLink: the node before it in the level, 0 at its beginning.
+    /// ndBLink: the previous node of the level; 0 at its beginning.
     pub backward: u32,
     /// ndType: what the node is for.
     pub kind: NodeKind,
@@ -25,9 +25,9 @@ pub struct Descriptor {
 /// A node: its descriptor's fields and its records.
 #[derive(Debug, Drop)]
 pub struct Node {
-    /// ndFLink: the next node of the level, 0 at its end.
+    /// ndFLink: the next node of the level; 0 at its end.
     pub forward: u32,
-    /// ndBLink: the node before it in the level, 0 at its beginning.
+    /// ndBLink: the previous node of the level; 0 at its beginning.
     pub backward: u32,
     /// ndType: what the node is for.
     pub kind: NodeKind,
@@ -37,7 +37,7 @@ pub struct Node {
     pub records: Records,
 }
 
-/// Whether the records and their offsets have room in a node.
+/// Whether the records and their offsets fit into a node.
 #[tactic(auto, using(crate::proofs::SizeLemmas::sizes))]
 pub fn fits(node: &Node) -> bool
     ensures { IsTrue result ↔ Fits node.now }
@@ -54,8 +54,8 @@ pub fn fits(node: &Node) -> bool
 }
 
 impl Node {
-    /// Cuts the node in two at place `at`: the second node has the records from there on, and like the
-    /// first one this node's links, kind and height. Where memory is refused nothing changes.
+    /// Cuts the node in two at place `at`: the second node has the records from there on, and the same links, kind and height as
+    /// the first. If memory is refused, nothing changes.
     pub fn split_off(&mut self, at: usize) -> Result<Node, AllocError>
         requires { at ≤ length self.old.records }
         ensures first { OnOk result

@@ -9,7 +9,7 @@ use crate::node::Descriptor;
 use hfs_fields::u32_at;
 use std::marker::Model;
 
-/// A node that is read in its 512 bytes: nothing is copied, and no memory is taken.
+/// A node that is read in its 512 bytes, without copying anything or taking memory.
 #[derive(Debug, Drop)]
 pub struct NodeView<'a> {
     bytes: &'a [u8; 512],
@@ -108,7 +108,7 @@ impl<'a> NodeView<'a> {
         count_at(self.bytes)
     }
 
-    /// Whether the node has no record.
+    /// Whether the node has no records.
     pub fn is_empty(&self) -> bool
         ensures { result ≡ (length self.now.records == 0) }
     {
@@ -136,7 +136,7 @@ impl<'a> NodeView<'a> {
         }
     }
 
-    /// The next node of the level, 0 at its end (ndFLink).
+    /// The next node of the level; 0 at its end (ndFLink).
     #[tactic(auto, unfolding(crate::specs::Node::node_with))]
     pub fn forward(&self) -> u32
         ensures { result ≡ self.now.forward }
@@ -145,7 +145,7 @@ impl<'a> NodeView<'a> {
         u32_at(bytes, 0)
     }
 
-    /// The node before it in the level, 0 at its beginning (ndBLink).
+    /// The previous node of the level; 0 at its beginning (ndBLink).
     #[tactic(auto, unfolding(crate::specs::Node::node_with))]
     pub fn backward(&self) -> u32
         ensures { result ≡ self.now.backward }

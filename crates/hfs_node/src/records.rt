@@ -5,8 +5,7 @@ use std::alloc::{AllocError, AllocFailed, Global};
 use std::marker::Model;
 use std::mem;
 
-/// The records of a node, each a list of bytes. It may have more of them, or longer ones, than a node
-/// has room for.
+/// The records of a node, each a list of bytes. They may be more, or longer, than a node has room for.
 #[derive(Debug, Drop)]
 pub struct Records {
     items: Vec<Vec<u8>>,
@@ -21,7 +20,7 @@ impl Model for Records {
 }
 
 impl Records {
-    /// No record. Takes no memory.
+    /// No records. Takes no memory.
     pub fn new(alloc: Global) -> Records
         ensures { result ≡ [] }
     {
@@ -52,7 +51,7 @@ impl Records {
         self.items.len()
     }
 
-    /// Whether there is no record.
+    /// Whether there are no records.
     pub fn is_empty(&self) -> bool
         ensures { result ≡ (length self.now == 0) }
     {
@@ -68,8 +67,7 @@ impl Records {
         record.as_slice()
     }
 
-    /// Puts a record behind the last one. Where memory is refused nothing changes, and the record comes
-    /// back.
+    /// Appends a record. If memory is refused, nothing changes, and the record is handed back.
     pub fn push(&mut self, bytes: Vec<u8>) -> Result<(), AllocFailed<Vec<u8>>>
         ensures ok { OnOk result (self.new ≡ self.old ++ bytes.items ∷ []) }
         ensures err { OnErr result (self.new ≡ self.old) }
@@ -78,8 +76,8 @@ impl Records {
         self.items.push(bytes)
     }
 
-    /// Puts a record at place `at`; those from there on move up by one. Where memory is refused nothing
-    /// changes, and the record comes back.
+    /// Inserts a record at place `at`; those from there on move up by one. If memory is refused, nothing changes, and the record
+    /// is handed back.
     #[tactic(auto, using(crate::proofs::Lists::record_edits))]
     pub fn insert(&mut self, at: usize, bytes: Vec<u8>) -> Result<(), AllocFailed<Vec<u8>>>
         requires { at ≤ length self.old }
@@ -90,7 +88,7 @@ impl Records {
         self.items.insert(at, bytes)
     }
 
-    /// Takes the record at place `at`; those behind it move down by one.
+    /// Removes and returns the record at place `at`; those after it move down by one.
     #[tactic(auto, using(crate::proofs::Lists::record_edits))]
     pub fn remove(&mut self, at: usize) -> Vec<u8>
         requires { at < length self.old }
@@ -100,7 +98,7 @@ impl Records {
         self.items.remove(at)
     }
 
-    /// Puts a record in the place of the one at `at`, which comes back.
+    /// Puts a record in place of the one at `at`, which is returned.
     #[tactic(auto, using(crate::proofs::Lists::record_edits))]
     pub fn replace(&mut self, at: usize, bytes: Vec<u8>) -> Vec<u8>
         requires { at < length self.old }
@@ -110,8 +108,7 @@ impl Records {
         mem::replace(&mut self.items[at], bytes)
     }
 
-    /// Cuts the records in two: those from place `at` on come back. Where memory is refused nothing
-    /// changes.
+    /// Cuts the records in two, and returns those from place `at` on. If memory is refused, nothing changes.
     #[tactic(auto, using(crate::proofs::Lists::record_edits))]
     pub fn split_off(&mut self, at: usize) -> Result<Records, AllocError>
         requires { at ≤ length self.old }

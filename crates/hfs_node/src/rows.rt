@@ -4,7 +4,7 @@ ghost use Rattle.std.specs.Prelude.{◌≡◌, ℕ, ◌<◌, ◌≤◌, List, []
 use crate::node_view::NodeView;
 use crate::records::Records;
 
-/// Records in their order.
+/// Records in order.
 pub trait RecordRow {
     ghost records: { Self → List (List ℕ) };
 
@@ -44,7 +44,7 @@ impl RecordRow for NodeView<'_> {
     }
 }
 
-/// The records of a node, with another one in the place of one of them.
+/// The records of a node, with another one in place of one of them.
 #[derive(Drop)]
 pub struct ReplacedRow<'a> {
     /// The node.
@@ -72,7 +72,7 @@ impl RecordRow for ReplacedRow<'_> {
     }
 }
 
-/// The records of a node, with one more in front of the one at a place, or behind the last.
+/// The records of a node, with one more in front of the one at a place, or after the last.
 #[derive(Drop)]
 pub struct InsertedRow<'a> {
     /// The node.

@@ -33,8 +33,8 @@ fn begins_with(url: &[u8], start: &[u8]) -> bool
     &url[..start.len().min(url.len())] == start
 }
 
-/// Whether links may begin with this URL: it begins with `http:` or `https:`, or it is relative, so
-/// that no colon stands before its first slash, question mark or number sign.
+/// Whether links may begin with this URL: it begins with `http:` or `https:`, or it is relative, so that no colon comes before
+/// its first slash, question mark or number sign.
 #[tactic(auto, unfolding(crate::specs::Bases::is_base))]
 pub fn is_base(url: &[u8]) -> bool
     ensures { result ≡ is_base url.now }

@@ -17,7 +17,7 @@ pub struct Cell {
     pub first: usize,
     /// Its last block.
     pub last: usize,
-    /// What its first block of the part that is shown is used for.
+    /// The use of the first of its blocks that are of the part that is shown.
     pub used: BlockUse,
 }
 
@@ -33,8 +33,8 @@ fn first_of(uses: &[BlockUse], part: Part) -> Option<BlockUse>
     None
 }
 
-/// What is shown of blocks by these parts: the first of them that one of the blocks is, and of that
-/// part the first block's use.
+/// What is shown of blocks by these parts: the first part that one of the blocks belongs to, and the use of the first block of
+/// that part.
 fn shown_by(parts: &[Part], uses: &[BlockUse]) -> Option<BlockUse>
     ensures { result ≡ shown_by parts.now uses.now }
 {
@@ -60,7 +60,7 @@ fn shown_use(uses: &[BlockUse]) -> BlockUse
     }
 }
 
-/// The least number of blocks in a cell with which so many blocks have no more than 4,096 cells.
+/// The smallest number of blocks per cell with which `blocks` blocks have no more than 4,096 cells.
 #[tactic(auto, unfolding(crate::specs::Cells::blocks_per_cell))]
 fn blocks_per_cell(blocks: usize) -> usize
     ensures value { result ≡ blocks_per_cell blocks }
@@ -83,8 +83,8 @@ fn cell_at(uses: &[BlockUse], per_cell: usize, first: usize) -> Cell
     }
 }
 
-/// The cells of a picture of blocks with these uses: one for each block, or for the least number of
-/// blocks with which there are no more than 4,096 cells. The only error is want of memory.
+/// The cells of a picture of blocks with these uses: one for each block, or for as few blocks as give no more than 4,096 cells.
+/// Fails only when out of memory.
 #[tactic(auto, unfolding(crate::specs::Cells::picture_cells))]
 pub fn picture_cells(alloc: Global, uses: &[BlockUse]) -> Result<Vec<Cell>, AllocError>
     ensures { IfOk result (λ cells. cells.items ≡ picture_cells uses.now) }

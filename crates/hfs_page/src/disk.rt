@@ -1,4 +1,4 @@
-//! The page of a sound volume, out of its blocks.
+//! The page of a sound volume, from its blocks.
 ghost use Rattle.std.specs.Prelude.{◌≡◌, ◌+◌, ◌≤◌, IfOk, OnErr, OnOk};
 ghost use Rattle.std.specs.Io.KnownBytes.{Appends};
 ghost use Rattle.hfs_check.specs.Parts.{catalog_in, mdb_in, overflow_in};
@@ -109,7 +109,7 @@ fn cells_in<B: Blocks>(
     picture_cells(alloc, &uses)
 }
 
-/// All that stands after the items.
+/// Everything after the items.
 fn back_in<B: Blocks>(
     alloc: Global,
     blocks: &B,
@@ -140,10 +140,9 @@ fn inventory(alloc: Global, records: Vec<CatalogRecord>) -> Result<Inventory, Pa
     }
 }
 
-/// Writes the page of a sound volume: what stands before the items, each item's row, and what
-/// stands after them. Beside the records of the catalog and what stands after the items, with the
-/// picture and the extents, 65,536 bytes and a row are in memory. Faults: memory was refused, or the
-/// writer failed; then a part of the page may have gone out, from its beginning on.
+/// Writes the page of a sound volume: what comes before the items, each item's row, and what comes after them. Besides the
+/// records of the catalog, and what comes after the items with the picture and the extents, 65,536 bytes and a row are in memory.
+/// Faults: memory was refused, or the writer failed; then only the beginning of the page may have been written.
 pub fn write_page<B: Blocks, W: Write>(
     alloc: Global,
     blocks: &B,

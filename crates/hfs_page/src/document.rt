@@ -1,4 +1,4 @@
-//! The text of a page before and after its items, and of one that has a fault alone.
+//! The text of a page before and after its items, and of one that only has a fault.
 ghost use Rattle.std.specs.Prelude.{◌≡◌, IfOk, OnOk};
 ghost use Rattle.hfs_page.specs.Document.{back_text, end_text, front_text, refused_page, version_text, volume_name};
 ghost use Rattle.hfs_page.specs.Facts.{head_text};
@@ -18,7 +18,7 @@ use hfs_catalog::CatalogRecord;
 use hfs_fields::Mdb;
 use std::alloc::{AllocError, Global};
 
-/// The characters of a name in its field of a length byte and characters.
+/// The characters of a name, from its field with a length byte and characters.
 fn volume_name(field: &[u8]) -> &[u8]
     ensures { result.now ≡ volume_name field.now }
 {
@@ -51,7 +51,7 @@ fn push_named_head(
     push_head(page, style, &name)
 }
 
-/// Appends all that stands before the items.
+/// Appends everything before the items.
 fn push_front(
     alloc: Global,
     page: &mut Vec<u8>,
@@ -67,7 +67,7 @@ fn push_front(
     push_bytes(page, b"<ul id=\"items\">\n")
 }
 
-/// All that stands before the items, where the image has so many blocks.
+/// Everything before the items, for an image of `total` blocks.
 pub(crate) fn front(
     alloc: Global,
     texts: &PageTexts<'_>,
@@ -101,7 +101,7 @@ fn push_end(page: &mut Vec<u8>, texts: &PageTexts<'_>) -> Result<(), AllocError>
     push_bytes(page, b"</main>\n</body>\n</html>\n")
 }
 
-/// Appends all that stands after the items.
+/// Appends everything after the items.
 fn push_back(
     alloc: Global,
     page: &mut Vec<u8>,
@@ -120,8 +120,8 @@ fn push_back(
     push_end(page, texts)
 }
 
-/// All that stands after the items, where `records` are all records of the catalog, `holdings` all
-/// extents, and `cells` those of the picture.
+/// Everything after the items; `records` are all records of the catalog, `holdings` all extents, and `cells` those of the
+/// picture.
 pub(crate) fn back(
     alloc: Global,
     texts: &PageTexts<'_>,

@@ -1,4 +1,4 @@
-//! What a page wears: a page asks for nothing from elsewhere, and does without its script.
+//! What all pages have in common. A page loads nothing from elsewhere, and works without its script.
 ghost use Rattle.std.specs.Prelude.{◌≡◌, [], ◌∷◌, codes};
 ghost use Rattle.hfs_page.specs.Dress.{IsDress};
 ghost use Rattle.hfs_page.specs.Markup.{Leads};
@@ -8,8 +8,8 @@ use crate::page_texts::PageTexts;
 use crate::script::script;
 use crate::style::page_style;
 
-/// The heading of the items, the field of the search, which the script shows, and the heads of the
-/// items' columns, of which the script makes buttons.
+/// The heading of the items, the search field, which the script shows, and the heads of the items' columns, which the script
+/// turns into buttons.
 fn columns() -> &'static [u8]
     ensures { Leads [] (codes "section" ∷ []) result.now }
 {
@@ -49,7 +49,7 @@ shows the first of these uses that one of its blocks has.</p>
 "
 }
 
-/// The texts of all pages that this version of the program prints, for the page of this image.
+/// The texts that this version of the program prints on all pages, for the page of this image.
 pub fn standard_texts<'a>(version: &'a [u8], image: PageImage<'a>) -> PageTexts<'a>
     ensures version { result.version.now ≡ version.now }
     ensures image { result.image ≡ image.entry }

@@ -21,9 +21,8 @@ fn push_escaped_byte(page: &mut Vec<u8>, byte: u8) -> Result<(), AllocError>
     }
 }
 
-/// Appends a text, with a reference in place of each of the five characters that markup is made of,
-/// so that it may stand between tags and in an attribute's quotes. What holds of it says
-/// [`crate::escaped_texts_are_text`].
+/// Appends a text, with a reference in place of each of the five characters that markup is made of, so that it may be put between
+/// tags and in an attribute's quotes. [`crate::escaped_texts_are_text`] says what holds for it.
 #[tactic(auto, unfolding(crate::specs::Escapes::escaped))]
 pub fn push_escaped(page: &mut Vec<u8>, text: &[u8]) -> Result<(), AllocError>
     ensures { OnOk result (Gains page.old page.new (escaped text.now)) }

@@ -1,4 +1,4 @@
-//! The extents of files, for whoever looks up a file's blocks.
+//! The extents of files, for looking up a file's blocks.
 ghost use Rattle.std.specs.Prelude.{OnOk};
 ghost use Rattle.std.specs.List.{flat_map};
 ghost use Rattle.hfs_page.specs.Extents.{extent_text, extents_text, owned_text, placed_text};
@@ -60,8 +60,8 @@ fn push_each(alloc: Global, page: &mut Vec<u8>, holdings: &[Holding]) -> Result<
     Ok(())
 }
 
-/// Appends a list, which no reader sees, of all extents of files: each with the file's ID, its first
-/// block, and how many it has.
+/// Appends a list, which no reader sees, of all extents of files: each with the file's ID, its first block, and how many blocks
+/// it has.
 #[tactic(auto, unfolding(crate::specs::Extents::extents_text))]
 pub fn push_extents(
     alloc: Global,

@@ -1,4 +1,4 @@
-//! What a page says of a volume before its picture.
+//! What a page says about a volume before its picture.
 ghost use Rattle.std.specs.Prelude.{◌++◌, ◌<◌, ◌^◌, OnOk, codes};
 ghost use Rattle.hfs_page.specs.Facts.{count_row, counts_text, digest_row, date_row, dates_text, head_text, image_rows, lengths_text, row_head, size_row, sizes_text, start_text, facts_start, facts_text, text_row};
 ghost use Rattle.hfs_page.specs.Pieces.{Gains};
@@ -65,7 +65,7 @@ fn push_blocks_row(
     push_count_row(alloc, page, label, u32::from(blocks))
 }
 
-/// Appends a number of bytes, in the unit that suits and by itself.
+/// Appends a number of bytes, in a suitable unit and exactly.
 fn push_length(alloc: Global, page: &mut Vec<u8>, bytes: u64) -> Result<(), AllocError>
     requires { bytes < 2 ^ 60 }
     ensures { OnOk result (Gains page.old page.new
@@ -91,7 +91,7 @@ fn push_size_row(
     push_length(alloc, page, bytes)
 }
 
-/// Appends how long an image of so many blocks of 512 bytes is, and how much of its volume is free.
+/// Appends how long an image of `total` blocks of 512 bytes is, and how much of its volume is free.
 #[tactic(auto, unfolding(crate::specs::Facts::lengths_text))]
 fn push_lengths(alloc: Global, page: &mut Vec<u8>, total: u32, mdb: &Mdb) -> Result<(), AllocError>
     ensures { OnOk result (Gains page.old page.new (lengths_text total mdb.now)) }
@@ -152,7 +152,7 @@ fn push_digest_row(page: &mut Vec<u8>, digest: Option<&[u8]>) -> Result<(), Allo
     }
 }
 
-/// Appends what the image's file is called, and its digest.
+/// Appends the name of the image's file, and its digest.
 #[tactic(auto, unfolding(crate::specs::Facts::image_rows))]
 pub fn push_image_rows(page: &mut Vec<u8>, image: &PageImage<'_>) -> Result<(), AllocError>
     ensures { OnOk result (Gains page.old page.new (image_rows image.now)) }
@@ -172,8 +172,8 @@ fn push_facts_start(page: &mut Vec<u8>) -> Result<(), AllocError>
     )
 }
 
-/// Appends the list of what the volume in this image of so many blocks is. It is of a sound one,
-/// since no other has a page with more than its fault.
+/// Appends the description of the volume in this image of `total` blocks. It is sound, since a refused image has a page with only
+/// its fault.
 pub(crate) fn push_facts(
     alloc: Global,
     page: &mut Vec<u8>,
@@ -192,7 +192,7 @@ pub(crate) fn push_facts(
     push_bytes(page, b"</dl>\n")
 }
 
-/// Appends what stands before a page's title. It tells a browser that the page may ask for nothing.
+/// Appends what comes before a page's title. It tells a browser that the page may load nothing.
 #[tactic(auto, unfolding(crate::specs::Facts::start_text))]
 fn push_start(page: &mut Vec<u8>) -> Result<(), AllocError>
     ensures { OnOk result (Gains page.old page.new start_text) }

@@ -1,4 +1,4 @@
-//! Who has which extents.
+//! Who owns which extents.
 ghost use Rattle.std.specs.Prelude.{◌≡◌, ◌∷◌, ◌++◌, ◌+◌, ◌≤◌, IfOk, OnOk, drop, length};
 ghost use Rattle.std.specs.List.{flat_map};
 ghost use Rattle.hfs_space.specs.Owners.{bad_extents, catalog_fork, extents_in};
@@ -13,7 +13,7 @@ use hfs_fields::{Extent, Mdb};
 use hfs_space::{CatalogFile, ForkKind, fork_extents, owned_extents};
 use std::alloc::{AllocError, Global};
 
-/// Adds extents that are no file's.
+/// Adds extents that no file owns.
 pub fn push_held(
     holdings: &mut Vec<Holding>,
     part: Part,
@@ -30,7 +30,7 @@ pub fn push_held(
     Ok(())
 }
 
-/// Adds the extents of a fork: up to the first that has a block, and behind it.
+/// Adds the extents of a fork: up to the first that has a block, and after it.
 pub fn push_fork_held(
     holdings: &mut Vec<Holding>,
     fork: FileFork,
@@ -53,14 +53,14 @@ pub fn push_fork_held(
     Ok(())
 }
 
-/// The part of the extents behind one of so many blocks.
+/// The part of the extents after one with this many blocks.
 fn part_behind(part: Part, count: u16) -> Part
     ensures { result ≡ part_behind part count }
 {
     if count == 0 { part } else { Part::LaterExtents }
 }
 
-/// Adds the extents of a fork of a file, those of the extents tree among them.
+/// Adds the extents of a fork of a file, including those in the extents tree.
 fn push_fork<N: Nodes>(
     alloc: Global,
     tree: &N,
@@ -137,7 +137,7 @@ fn push_files<N: Nodes>(
     Ok(())
 }
 
-/// The extents behind as many as these two rows have.
+/// The extents after as many as these two rows have.
 fn behind<'a>(all: &'a [Extent], first: &[Extent], second: &[Extent]) -> &'a [Extent]
     requires { length first.now + length second.now ≤ length all.now }
     ensures { result.now ≡ drop (length first.now + length second.now) all.now }
@@ -145,8 +145,8 @@ fn behind<'a>(all: &'a [Extent], first: &[Extent], second: &[Extent]) -> &'a [Ex
     &all[first.len() + second.len()..]
 }
 
-/// Adds the extents of the bad blocks. They are the last of all that a volume without files owns,
-/// behind those of the catalog file and the three of the extents file.
+/// Adds the extents of the bad blocks. They are the last of all that a volume without files owns, after those of the catalog file
+/// and the three of the extents file.
 
 fn push_bad<N: Nodes>(
     alloc: Global,
@@ -165,9 +165,8 @@ fn push_bad<N: Nodes>(
     push_held(holdings, Part::BadBlocks, bad)
 }
 
-/// All extents of a volume with what their blocks are used for, where `tree` is its extents tree,
-/// `catalog` has the extents of its catalog file, and `records` are all records of the catalog. The
-/// only error is want of memory.
+/// All extents of a volume with what their blocks are used for; `tree` is its extents tree, `catalog` has the extents of its
+/// catalog file, and `records` are all records of the catalog. Fails only when out of memory.
 #[tactic(auto, unfolding(crate::specs::Holdings::volume_holdings))]
 pub fn volume_holdings<N: Nodes>(
     alloc: Global,

@@ -13,10 +13,10 @@ use hfs_fields::Name;
 use hfs_model::{Info, ItemKind};
 use std::alloc::{AllocError, Global};
 
-/// How many folders stand open in one another; what lies deeper stands flat in the last of them.
+/// How many folders are nested at most; what is deeper is listed flat in the last of them.
 const MOST_OPEN: usize = 100;
 
-/// How many items the root has at most where it is open from the first.
+/// How many items the root may have if it is open from the start.
 const MOST_SHOWN: u32 = 1_000;
 
 /// Appends an item's name.
@@ -40,7 +40,7 @@ fn push_modified(alloc: Global, page: &mut Vec<u8>, date: u32) -> Result<(), All
     push_bytes(page, b"\n(modified)</span>")
 }
 
-/// Appends what comes after a number of items.
+/// Appends the word after a number of items.
 pub fn push_items_word(page: &mut Vec<u8>, count: u32) -> Result<(), AllocError>
     ensures { OnOk result (Gains page.old page.new (items_word count)) }
 {
@@ -51,7 +51,7 @@ pub fn push_items_word(page: &mut Vec<u8>, count: u32) -> Result<(), AllocError>
     }
 }
 
-/// Appends what is told of a folder.
+/// Appends what is known of a folder.
 #[tactic(auto, unfolding(crate::specs::Items::folder_text))]
 fn push_folder(alloc: Global, page: &mut Vec<u8>, info: &Info) -> Result<(), AllocError>
     ensures { OnOk result (Gains page.old page.new (folder_text info.now)) }
@@ -72,7 +72,7 @@ fn push_both(alloc: Global, page: &mut Vec<u8>, info: &Info) -> Result<(), Alloc
     push_told_size(alloc, page, b"<span>", bytes)
 }
 
-/// Appends how many bytes a fork has, after which fork it is.
+/// Appends how many bytes a fork has, preceded by which fork it is.
 fn push_fork(alloc: Global, page: &mut Vec<u8>, label: &[u8], bytes: u32) -> Result<(), AllocError>
     ensures { OnOk result (Gains page.old page.new (told_number label.now bytes)) }
 {
@@ -99,7 +99,7 @@ pub fn push_type(alloc: Global, page: &mut Vec<u8>, info: &Info) -> Result<(), A
     push_bytes(page, b"\n(type, creator)</span>")
 }
 
-/// Appends a file's name, as a link to the file where the URL of a bag is known.
+/// Appends a file's name, as a link to the file if the URL of a bag is known.
 #[tactic(auto, unfolding(crate::specs::Items::file_name))]
 fn push_file_name(
     alloc: Global,
@@ -117,7 +117,7 @@ fn push_file_name(
     push_bytes(page, b"</b>")
 }
 
-/// Appends what is told of a file.
+/// Appends what is known of a file.
 #[tactic(auto, unfolding(crate::specs::Items::file_text))]
 fn push_file(
     alloc: Global,
@@ -134,7 +134,7 @@ fn push_file(
     push_modified(alloc, page, info.modified)
 }
 
-/// Appends the ends of so many folders.
+/// Appends the ends of `count` folders.
 #[tactic(auto, unfolding(crate::specs::Items::closings))]
 pub fn push_closings(page: &mut Vec<u8>, count: usize) -> Result<(), AllocError>
     ensures { OnOk result (Gains page.old page.new (closings count)) }
@@ -156,8 +156,8 @@ fn push_row_start(alloc: Global, page: &mut Vec<u8>, info: &Info) -> Result<(), 
     push_bytes(page, b"\">")
 }
 
-/// Appends the beginning of a folder of so many items that opens and closes. The root, which lies in
-/// none, is open, but where it has so many that a browser would take seconds to lay them out.
+/// Appends the beginning of a folder of `valence` items that opens and closes. The root, which is in no folder, is open, unless
+/// it has so many that a browser would take seconds to lay them out.
 pub fn push_opening(page: &mut Vec<u8>, depth: usize, valence: u32) -> Result<(), AllocError>
     ensures { OnOk result (Gains page.old page.new (opening depth valence)) }
 {
@@ -168,7 +168,7 @@ pub fn push_opening(page: &mut Vec<u8>, depth: usize, valence: u32) -> Result<()
     }
 }
 
-/// Appends a folder that opens and closes, up to the place where its children stand.
+/// Appends a folder that opens and closes, up to the place of its children.
 #[tactic(auto, unfolding(crate::specs::Items::nested_text))]
 fn push_nested(
     alloc: Global,
@@ -184,7 +184,7 @@ fn push_nested(
     push_bytes(page, b"</summary><ul>\n")
 }
 
-/// Appends a folder that stands flat, since too many stand open above it.
+/// Appends a folder that is listed flat, since too many are open above it.
 #[tactic(auto, unfolding(crate::specs::Items::flat_text))]
 fn push_flat(alloc: Global, page: &mut Vec<u8>, info: &Info) -> Result<(), AllocError>
     ensures { OnOk result (Gains page.old page.new (flat_text info.now)) }
@@ -210,8 +210,7 @@ fn push_leaf(
     push_bytes(page, b"</li>\n")
 }
 
-/// Appends an item that lies in so many folders: all of a file, and of a folder what stands before
-/// its children.
+/// Appends an item that is in this many folders: all of a file, and of a folder what comes before its children.
 #[tactic(auto, unfolding(crate::specs::Items::item_text))]
 fn push_item(
     alloc: Global,
@@ -235,7 +234,7 @@ fn push_item(
     }
 }
 
-/// How many folders stand open behind an item that lies in so many of those that do.
+/// How many folders are open after an item that is in this many open ones.
 pub(crate) fn open_behind(depth: usize, info: &Info) -> usize
     ensures { result ≡ open_behind depth info.now }
 {
@@ -245,15 +244,15 @@ pub(crate) fn open_behind(depth: usize, info: &Info) -> usize
     }
 }
 
-/// In how many of the folders that stand open the item lies to which these names lead.
+/// How many of the open folders the item is in that these names lead to.
 pub(crate) fn depth_in(opened: usize, path: &[Name]) -> usize
     ensures { result ≡ depth_in opened path.now }
 {
     opened.min(path.len().saturating_sub(1))
 }
 
-/// Appends the row of an item with the names that lead to it, where so many folders stand open: the
-/// ends of those in which it doesn't lie, and then the item.
+/// Appends the row of the item that these names lead to, when this many folders are open: the ends of those that it isn't in, and
+/// then the item.
 #[tactic(auto, unfolding(crate::specs::Items::row_text))]
 pub(crate) fn push_row(
     alloc: Global,

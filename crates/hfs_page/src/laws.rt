@@ -1,11 +1,10 @@
-//! What holds of the definitions, each as the contract of a function that does nothing: a caller
-//! learns it by the call.
+//! What holds for the definitions, each law as the contract of a function that does nothing; a caller learns it by calling it.
 ghost use Rattle.hfs_page.specs.Escapes.{escaped};
 ghost use Rattle.hfs_page.specs.Laws.{AreTexts};
 ghost use Rattle.hfs_page.specs.Nested.{RefusedPagesNest, VolumePagesNest};
 
-/// The law of escaped texts: whoever reads one as markup reads the text and nothing else. No byte
-/// of it is `<`, `>`, `"` or `'`, and each `&` begins one of the five references.
+/// The law of escaped texts: reading one as markup gives the text and nothing else. No byte of it is `<`, `>`, `"` or `'`, and
+/// each `&` begins one of the five references.
 pub fn escaped_texts_are_text()
     ensures { AreTexts escaped }
 {}

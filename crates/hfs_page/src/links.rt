@@ -10,7 +10,7 @@ use hfs_fields::Name;
 use hfs_names::push_host_path;
 use std::alloc::{AllocError, Global};
 
-/// What a URL has as it is, beside letters and digits.
+/// What a URL has as it is, besides letters and digits.
 const KEPT: [u8; 5] = *b"-._~/";
 
 /// Whether a URL has this byte of a path as it is.
@@ -46,7 +46,7 @@ fn push_percent_byte(url: &mut Vec<u8>, byte: u8) -> Result<(), AllocError>
     }
 }
 
-/// Appends a path, each byte of it but letters, digits and `-._~/` as `%` and two digits.
+/// Appends a path, with each byte except letters, digits and `-._~/` as `%` and two digits.
 #[tactic(auto, unfolding(crate::specs::Links::percent_text))]
 fn push_percent(url: &mut Vec<u8>, path: &[u8]) -> Result<(), AllocError>
     ensures { OnOk result (Gains url.old url.new (percent_text path.now)) }
@@ -64,7 +64,7 @@ fn last_byte(base: &[u8]) -> Option<u8>
     base.last().copied()
 }
 
-/// Appends a slash behind a URL that has some bytes and doesn't end with one.
+/// Appends a slash after a URL that has some bytes and doesn't end with one.
 fn push_slash(url: &mut Vec<u8>, base: &[u8]) -> Result<(), AllocError>
     ensures { OnOk result (Gains url.old url.new (slash_text base.now)) }
 {
@@ -82,7 +82,7 @@ fn below_root(path: &[Name]) -> &[Name]
     &path[path.len().min(1)..]
 }
 
-/// Appends where the item to which these names lead, from the root's down, lies in a bag.
+/// Appends where the item lies in a bag that these names lead to, from the root's down.
 fn push_bag_path(text: &mut String, path: &[Name]) -> Result<(), AllocError>
     ensures { OnOk result (string_bytes text.new ≡ string_bytes text.old ++ bag_path path.now) }
 {
@@ -90,7 +90,7 @@ fn push_bag_path(text: &mut String, path: &[Name]) -> Result<(), AllocError>
     push_host_path(text, below_root(path))
 }
 
-/// Where the item to which these names lead lies in a bag.
+/// Where the item lies in a bag that these names lead to.
 fn bag_path(alloc: Global, path: &[Name]) -> Result<String, AllocError>
     ensures { IfOk result (λ text. string_bytes text ≡ bag_path path.now) }
 {
@@ -154,8 +154,7 @@ pub fn push_link_end(page: &mut Vec<u8>, base: Option<&[u8]>) -> Result<(), Allo
     }
 }
 
-/// Appends the beginning of a link to the file in a bag to which these names lead, if the bag's URL
-/// is known.
+/// Appends the beginning of a link to the file in a bag that these names lead to, if the bag's URL is known.
 pub(crate) fn push_bag_link(
     alloc: Global,
     page: &mut Vec<u8>,

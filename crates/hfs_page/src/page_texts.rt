@@ -1,10 +1,9 @@
-//! The texts of a page that no volume decides.
+//! The texts of a page that don't depend on a volume.
 
 use crate::page_image::PageImage;
 
-/// What is the same on every page: its style, what stands between what the volume is and its items,
-/// the legend after the picture, the script after all, and the version of the program that prints it;
-/// and what is known of the image.
+/// What is the same on every page: its style, what comes between the description of the volume and its items, the legend after
+/// the picture, the script at the end, and the version of the program that prints it; and what is known of the image.
 #[derive(Clone, Copy, Drop)]
 pub struct PageTexts<'a> {
     /// In the head.
@@ -13,10 +12,10 @@ pub struct PageTexts<'a> {
     pub columns: &'a [u8],
     /// After the picture: what its squares mean.
     pub legend: &'a [u8],
-    /// After all.
+    /// At the end.
     pub script: &'a [u8],
     /// The version of the program, as text.
     pub version: &'a [u8],
-    /// The image beside its volume.
+    /// The image besides its volume.
     pub image: PageImage<'a>,
 }

@@ -5,27 +5,26 @@ ghost use Rattle.hfs_page.specs.Parts.{rank};
 use hfs_fields::Extent;
 use hfs_space::ForkKind;
 
-/// A part of a disk, in the order in which a picture shows them: of the parts that a cell's blocks
-/// are, it shows the first.
+/// A part of a disk, in the order in which a picture shows them: it shows the first of the parts that a cell's blocks belong to.
 #[derive(Clone, Copy)]
 pub enum Part {
-    /// The bad blocks, which file 5 has.
+    /// The bad blocks, which file 5 owns.
     BadBlocks,
     /// The file of the extents tree.
     ExtentsTree,
     /// The catalog file.
     Catalog,
-    /// The extents of files' forks behind the first one that has a block.
+    /// The extents of files' forks after the first one that has a block.
     LaterExtents,
     /// The first extent that has a block, of each fork of a file.
     FirstExtents,
-    /// The blocks that are marked and that nobody has.
+    /// The blocks that are marked but have no owner.
     Stray,
     /// The blocks that are not marked.
     Free,
 }
 
-/// All parts, in their order.
+/// All parts, in order.
 pub(crate) const PARTS: [Part; 7] = [
     Part::BadBlocks,
     Part::ExtentsTree,
@@ -65,7 +64,7 @@ pub struct FileFork {
 #[derive(Clone, Copy)]
 pub struct BlockUse {
     pub part: Part,
-    /// The fork that has the block, where it is a file's.
+    /// The fork that owns the block, if it is a file's.
     pub fork: Option<FileFork>,
 }
 

@@ -15,10 +15,10 @@ use hfs_catalog::CatalogRecord;
 use hfs_space::ForkKind;
 use std::alloc::{AllocError, Global};
 
-/// How many cells stand in a row.
+/// How many cells a row has.
 const COLUMNS: usize = 64;
 
-/// Appends what a part is called.
+/// Appends the name of a part.
 pub fn push_part(page: &mut Vec<u8>, part: Part) -> Result<(), AllocError>
     ensures { OnOk result (Gains page.old page.new (part_text part)) }
 {
@@ -33,7 +33,7 @@ pub fn push_part(page: &mut Vec<u8>, part: Part) -> Result<(), AllocError>
     }
 }
 
-/// Appends what a fork is called.
+/// Appends the name of a fork.
 pub fn push_kind(page: &mut Vec<u8>, kind: ForkKind) -> Result<(), AllocError>
     ensures { OnOk result (Gains page.old page.new (fork_text kind)) }
 {
@@ -43,7 +43,7 @@ pub fn push_kind(page: &mut Vec<u8>, kind: ForkKind) -> Result<(), AllocError>
     }
 }
 
-/// Appends the name under which the record of this number stands.
+/// Appends the name in the key of the record with this number.
 fn push_name_of(
     alloc: Global,
     page: &mut Vec<u8>,
@@ -72,7 +72,7 @@ fn push_fork_owner(
     push_name_of(alloc, page, records, fork.number)
 }
 
-/// Appends whose fork has the blocks, if one has.
+/// Appends whose fork owns the blocks, if one does.
 fn push_owner(
     alloc: Global,
     page: &mut Vec<u8>,
@@ -125,7 +125,7 @@ fn push_class(alloc: Global, page: &mut Vec<u8>, label: &[u8], part: Part) -> Re
     push_told_count(alloc, page, label, usize::from(rank(part)))
 }
 
-/// Appends how many rows so many cells take.
+/// Appends how many rows this many cells take.
 fn push_rows(
     alloc: Global,
     page: &mut Vec<u8>,
@@ -137,7 +137,7 @@ fn push_rows(
     push_told_count(alloc, page, label, cells.div_ceil(COLUMNS))
 }
 
-/// Appends where a cell stands, and the class of its part.
+/// Appends where a cell is, and the class of its part.
 pub fn push_rect_head(
     alloc: Global,
     page: &mut Vec<u8>,
@@ -152,7 +152,7 @@ pub fn push_rect_head(
     push_bytes(page, b"\"><title>")
 }
 
-/// Appends the cell that stands at this place.
+/// Appends the cell at this place.
 fn push_cell(
     alloc: Global,
     page: &mut Vec<u8>,
@@ -168,7 +168,7 @@ fn push_cell(
     push_bytes(page, b"</title></rect>\n")
 }
 
-/// Appends all cells, each in its place.
+/// Appends all cells, each at its place.
 fn push_cells(
     alloc: Global,
     page: &mut Vec<u8>,

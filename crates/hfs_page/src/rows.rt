@@ -23,8 +23,8 @@ pub enum PageFault {
     OutputFailed,
 }
 
-/// Appends the row of the next item, where so many folders stand open, and answers how many do
-/// behind it; None behind the last one.
+/// Appends the row of the next item, when this many folders are open, and returns how many are open after it; None after the last
+/// one.
 fn push_next(
     alloc: Global,
     text: &mut Vec<u8>,
@@ -60,7 +60,7 @@ fn push_next_row(
     }
 }
 
-/// Writes bytes; at a fault a part of them, from the first on.
+/// Writes bytes; at a fault, only some of the first ones may have been written.
 pub fn put_piece<W: Write>(writer: &mut W, piece: &[u8]) -> Result<(), PageFault>
     ensures written { OnOk result (Appends (W.contents writer.old) (W.contents writer.new) piece.now) }
     ensures part { OnErr result (AppendsFront (W.contents writer.old) (W.contents writer.new)
@@ -72,7 +72,7 @@ pub fn put_piece<W: Write>(writer: &mut W, piece: &[u8]) -> Result<(), PageFault
     }
 }
 
-/// Writes a text, and begins the next one.
+/// Writes a text, and empties it for the next one.
 fn put_text<W: Write>(writer: &mut W, text: &mut Vec<u8>) -> Result<(), PageFault>
     ensures written { OnOk result (Appends (W.contents writer.old) (W.contents writer.new)
         text.old.items) }
@@ -95,9 +95,8 @@ fn push_ends(text: &mut Vec<u8>, count: usize) -> Result<(), PageFault>
     }
 }
 
-/// Writes the rows of all items that are still to come, one after the other, in pieces of 65,536
-/// bytes and a row; files are links where the URL of a bag is known. At a fault a part of them has
-/// gone out, from the first on.
+/// Writes the rows of all items that are left, one after the other, in pieces of 65,536 bytes and a row; files are links if the
+/// URL of a bag is known. At a fault, only the first part of them was written.
 pub(crate) fn write_rows<W: Write>(
     alloc: Global,
     items: &mut Inventory,

@@ -1,10 +1,10 @@
-//! The script of a page, which does without it but for these things. It has no `<`, so that each reader of
-//! markup finds its end.
+//! The script of a page, which works without it except for these things. It has no `<`, so that each reader of markup finds its
+//! end.
 ghost use Rattle.std.specs.Prelude.{[]};
 ghost use Rattle.hfs_page.specs.Markup.{Leads};
 
-/// The script: it searches names, types and creators, sorts the items of each folder, marks the
-/// blocks of a file that is chosen, and goes from square to square by the arrow keys.
+/// The script: it searches names, types and creators, sorts the items of each folder, marks the blocks of a file that is chosen,
+/// and moves from square to square with the arrow keys.
 pub(crate) fn script() -> &'static [u8]
     ensures { Leads [] [] result.now }
 {

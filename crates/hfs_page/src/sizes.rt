@@ -1,4 +1,4 @@
-//! Numbers of bytes in the unit that suits.
+//! Numbers of bytes in a suitable unit.
 ghost use Rattle.std.specs.Prelude.{◌++◌, ◌<◌, ◌^◌, OnOk};
 ghost use Rattle.hfs_page.specs.Pieces.{Gains};
 ghost use Rattle.hfs_page.specs.Sizes.{size_text, tenths_text, told_size};
@@ -11,7 +11,7 @@ const KILOBYTE: u64 = 1_024;
 
 const MEGABYTE: u64 = 1_048_576;
 
-/// Appends a number of tenths, without a point where they are whole.
+/// Appends a number of tenths, without a point if they are whole.
 #[tactic(auto, unfolding(crate::specs::Sizes::tenths_text))]
 fn push_tenths(alloc: Global, page: &mut Vec<u8>, tenths: u64) -> Result<(), AllocError>
     ensures { OnOk result (Gains page.old page.new (tenths_text tenths)) }
@@ -31,8 +31,7 @@ fn push_unit(alloc: Global, page: &mut Vec<u8>, tenths: u64, unit: &[u8]) -> Res
     push_bytes(page, unit)
 }
 
-/// Appends a number of bytes in the unit that suits: B, KB of 1,024 bytes, or MB of 1,024 KB, both
-/// to the nearest tenth.
+/// Appends a number of bytes in a suitable unit: B, KB of 1,024 bytes, or MB of 1,024 KB, both to the nearest tenth.
 #[tactic(auto, unfolding(crate::specs::Sizes::size_text))]
 pub(crate) fn push_size(alloc: Global, page: &mut Vec<u8>, bytes: u64) -> Result<(), AllocError>
     requires { bytes < 2 ^ 60 }
@@ -48,7 +47,7 @@ pub(crate) fn push_size(alloc: Global, page: &mut Vec<u8>, bytes: u64) -> Result
     }
 }
 
-/// Appends a number of bytes after what says what it is.
+/// Appends a number of bytes, preceded by what it is.
 #[tactic(auto, unfolding(crate::specs::Sizes::told_size))]
 pub(crate) fn push_told_size(
     alloc: Global,

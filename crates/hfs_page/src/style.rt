@@ -2,8 +2,8 @@
 ghost use Rattle.std.specs.Prelude.{[]};
 ghost use Rattle.hfs_page.specs.Markup.{Leads};
 
-/// The style in the head, in light and in dark. A wide page has the items in columns, beside the
-/// picture; a narrow one has them before it. Uses of blocks differ in contrast and in pattern.
+/// The style in the head, for light and dark. A wide page has the items in columns, next to the picture; a narrow one has them
+/// before it. Uses of blocks differ in contrast and in pattern.
 pub fn page_style() -> &'static [u8]
     ensures { Leads [] [] result.now }
 {

@@ -43,7 +43,7 @@ fn push_day_and_time(page: &mut Vec<u8>, moment: &[u8]) -> Result<(), AllocError
     push_escaped(page, time_of(moment))
 }
 
-/// Appends a date as YYYY-MM-DD hh:mm:ss; nothing where there is none.
+/// Appends a date as YYYY-MM-DD hh:mm:ss; nothing if there is none.
 #[tactic(auto, unfolding(crate::specs::Texts::date_text))]
 pub fn push_date(alloc: Global, page: &mut Vec<u8>, date: u32) -> Result<(), AllocError>
     ensures { OnOk result (Gains page.old page.new (date_text date)) }
@@ -74,7 +74,7 @@ pub(crate) fn push_count(alloc: Global, page: &mut Vec<u8>, count: usize) -> Res
     push_bytes(page, text.as_bytes())
 }
 
-/// Appends a text behind what says what it is.
+/// Appends a text, preceded by what it is.
 #[tactic(auto, unfolding(crate::specs::Texts::told_text))]
 pub(crate) fn push_told_text(
     alloc: Global,
@@ -88,7 +88,7 @@ pub(crate) fn push_told_text(
     push_shown(alloc, page, bytes)
 }
 
-/// Appends a date behind what says what it is.
+/// Appends a date, preceded by what it is.
 #[tactic(auto, unfolding(crate::specs::Texts::told_date))]
 pub(crate) fn push_told_date(
     alloc: Global,
@@ -102,7 +102,7 @@ pub(crate) fn push_told_date(
     push_date(alloc, page, date)
 }
 
-/// Appends a number behind what says what it is.
+/// Appends a number, preceded by what it is.
 #[tactic(auto, unfolding(crate::specs::Texts::told_number))]
 pub fn push_told_number(
     alloc: Global,
@@ -116,7 +116,7 @@ pub fn push_told_number(
     push_number(alloc, page, number)
 }
 
-/// Appends a count or a place behind what says what it is.
+/// Appends a count or a place, preceded by what it is.
 #[tactic(auto, unfolding(crate::specs::Texts::told_number))]
 pub fn push_told_count(
     alloc: Global,

@@ -9,7 +9,7 @@ use hfs_blocks::Blocks;
 use hfs_space::Bitmap;
 use std::alloc::{AllocError, Global};
 
-/// What a block is that nobody has.
+/// What a block without an owner is.
 fn unowned(is_marked: bool) -> BlockUse
     ensures { result ≡ unowned is_marked }
 {
@@ -47,7 +47,7 @@ fn lay(uses: &mut [BlockUse], holding: &Holding)
     }
 }
 
-/// Sets the blocks of all extents, so that of two that have one block the first stays.
+/// Sets the blocks of all extents; if two extents have the same block, the first counts.
 pub fn lay_all(uses: &mut [BlockUse], holdings: &[Holding])
     ensures len { length uses.new ≡ length uses.old }
     ensures used { AreUsed holdings.now uses.old uses.new }
@@ -59,8 +59,8 @@ pub fn lay_all(uses: &mut [BlockUse], holdings: &[Holding])
     }
 }
 
-/// What each allocation block is used for, by all extents of the volume and by its bitmap. The work
-/// is that of the blocks and of the extents. The only error is want of memory.
+/// What each allocation block is used for, by all extents of the volume and by its bitmap. The work is that of the blocks and of
+/// the extents. Fails only when out of memory.
 #[tactic(auto, unfolding(crate::specs::Uses::block_uses))]
 pub fn block_uses<B: Blocks>(
     alloc: Global,

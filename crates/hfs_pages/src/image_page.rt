@@ -9,9 +9,9 @@ use hfs_source::PlacedBlocks;
 use std::alloc::Global;
 use std::io::Write;
 
-/// Writes the page of each image that has the bytes which were read of one that was opened: what the
-/// volume is, its items, and a picture of its blocks. No block is read for it. Faults: memory was
-/// refused, or the writer failed; then a part of the page may have gone out, from its beginning on.
+/// Writes the page of every image consistent with the bytes read from the opened one: a description of the volume, its items, and
+/// a picture of its blocks. No block is read for it. Faults: memory was refused, or the writer failed; then only the beginning of
+/// the page may have been written.
 pub fn write_image_page<S: PlacedBlocks + Drop, W: Write>(
     alloc: Global,
     image: &SeenImage<S>,

@@ -22,7 +22,7 @@ fn refusal(alloc: Global, why: MountFault) -> Result<String, AllocError>
     Ok(text)
 }
 
-/// What that means.
+/// What that reason means.
 fn meaning(alloc: Global, why: MountFault) -> Result<String, AllocError>
     ensures { IfOk result (λ text. string_bytes text ≡ meaning_text why) }
 {
@@ -31,7 +31,7 @@ fn meaning(alloc: Global, why: MountFault) -> Result<String, AllocError>
     Ok(text)
 }
 
-/// The page of an image that is refused for this.
+/// The page of an image that is refused for this reason.
 fn refusal_page(
     alloc: Global,
     why: MountFault,
@@ -46,9 +46,8 @@ fn refusal_page(
     Ok(page)
 }
 
-/// Writes the page of an image that is refused: the fault and what it means, and nothing of the
-/// volume. Faults: memory was refused, and nothing was written, or the writer failed; then a part of
-/// the page may have gone out, from its beginning on.
+/// Writes the page of an image that is refused: the fault and what it means, and nothing about the volume. Faults: memory was
+/// refused, and nothing was written, or the writer failed; then only the beginning of the page may have been written.
 pub fn write_refused_page<W: Write>(
     alloc: Global,
     why: MountFault,

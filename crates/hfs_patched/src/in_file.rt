@@ -1,4 +1,4 @@
-//! Writing a file as it is read, with changed blocks in place of those of an image that lies in it.
+//! Writing a file while it is read, with changed blocks in place of those of an image in it.
 ghost use Rattle.std.specs.Prelude.{◌≡◌, ◌≢◌, ◌+◌, ◌/◌, ◌≤◌, ◌<◌, ◌^◌, Err, IfSome, OnErr, OnOk, length};
 ghost use Rattle.std.specs.Io.KnownBytes.{Appends};
 ghost use Rattle.hfs_texts.specs.Writing.{AppendsFront};
@@ -21,12 +21,12 @@ use std::io::Write;
 pub struct ImagePlace {
     /// Its bytes.
     pub range: ByteRange,
-    /// Where the sum of these bytes stands: the first of the four bytes before the image that it has. `None` where the file has
-    /// no such sum.
+    /// Where the sum of these bytes is: the first of its four bytes, which are before the image. `None` if the file has no such
+    /// sum.
     pub sum_at: Option<u64>,
 }
 
-/// Where the sum of a range's bytes stands: of a disk copy in the header before its data.
+/// Where the sum of a range's bytes is: for a disk copy, in the header before its data.
 pub fn sum_place(found: &FoundRange) -> Option<u64>
     ensures { result ≡ sum_place found.now }
 {
@@ -37,7 +37,7 @@ pub fn sum_place(found: &FoundRange) -> Option<u64>
     }
 }
 
-/// Where a range ends, if it lies within so many bytes.
+/// Where a range ends, if it lies within `all` bytes.
 fn end_within(range: ByteRange, all: u64) -> Option<u64>
     ensures end { IfSome result (λ end. end ≡ range.start + range.len) }
     ensures within { IfSome result (λ end. end ≤ all) }
@@ -46,7 +46,7 @@ fn end_within(range: ByteRange, all: u64) -> Option<u64>
     if end <= all { Some(end) } else { None }
 }
 
-/// Writes the bytes of a file before a range, with the new sum of that range in place of their four from `sum_at` on.
+/// Writes the bytes of a file before a range, with the new sum of that range in place of the four bytes from `sum_at` on.
 fn write_sum_head<S: PlacedBytes, W: Write>(
     source: &mut S,
     range: ByteRange,
@@ -77,7 +77,7 @@ fn write_sum_head<S: PlacedBytes, W: Write>(
     write_span(source, behind, range.start - behind, buffer, writer)
 }
 
-/// Writes the bytes of a file before an image that lies in it, with the image's new sum where it stands among them.
+/// Writes the bytes of a file before an image in it, with the image's new sum if it is among them.
 fn write_head<S: PlacedBytes, W: Write>(
     source: &mut S,
     place: &ImagePlace,
@@ -109,11 +109,10 @@ fn write_head<S: PlacedBytes, W: Write>(
     }
 }
 
-/// Writes a file with the changed blocks in place of those of an image that lies in it, and with the image's new sum, for which
-/// the image is read once more; every other byte is the file's own. At most 1,048,576 bytes are held at a time. What was written
-/// is said of each file that has the bytes which were read. Errors: memory was refused, and nothing was written; a read failed,
-/// the image or its sum doesn't lie in the file, or the writer failed, where a part may have gone out, from the first byte on,
-/// and nothing else.
+/// Writes a file with the changed blocks in place of those of an image in it, and with the image's new sum, for which the image
+/// is read once more; every other byte is the file's own. At most 1,048,576 bytes are held at a time. What was written holds for
+/// every file consistent with the bytes read. Errors: memory was refused, and nothing was written; a read failed, the image or
+/// its sum doesn't lie in the file, or the writer failed: then only the beginning may have been written.
 pub fn write_file_with<S: PlacedBytes, W: Write>(
     alloc: Global,
     source: &mut S,

@@ -1,11 +1,11 @@
-//! Changed blocks that are laid over a piece of an image.
+//! Laying changed blocks over a piece of an image.
 ghost use Rattle.std.specs.Prelude.{◌≡◌, ◌+◌, ◌/◌, ◌≤◌, length, unwrap_or};
 ghost use Rattle.hfs_blocks.specs.Layers.{changes};
 ghost use Rattle.hfs_patched.specs.Patched.{patched_from};
 
 use hfs_changed_blocks::ChangedBlocks;
 
-/// Lays changed block `n`, where there is one, over the bytes of a block.
+/// Lays changed block `n`, if there is one, over the bytes of a block.
 fn lay_block(changed: &ChangedBlocks, n: u32, block: &mut [u8])
     requires { length block.old ≡ 512 }
     ensures laid { block.new ≡ unwrap_or (changes changed.now n) block.old }

@@ -1,6 +1,6 @@
 //! An image in a file with changed blocks laid over it, written in one pass: it is read piece by piece, and is never whole in
-//! memory. Or a whole file in which such an image lies, with the sum of the changed image where the file has one: then the image
-//! is read twice.
+//! memory. Or a whole file with such an image in it, and with the sum of the changed image if the file has one: then the image is
+//! read twice.
 #![tactic(auto)]
 
 mod in_file;

@@ -15,8 +15,7 @@ use hfs_source::PlacedBytes;
 use hfs_texts::put;
 use std::io::Write;
 
-/// Reads the bytes of a range from its block `first` on, as many as there is room for in `piece`, and lays the changed blocks
-/// over them.
+/// Reads the bytes of a range from its block `first` on, as many as `piece` has room for, and lays the changed blocks over them.
 fn read_piece<S: PlacedBytes>(
     source: &mut S,
     range: ByteRange,
@@ -41,8 +40,8 @@ fn read_piece<S: PlacedBytes>(
     Ok(())
 }
 
-/// Writes the bytes of a range from its block `first` on, as many as there is room for in `piece`, with the changed blocks in
-/// place of their own.
+/// Writes the bytes of a range from its block `first` on, as many as `piece` has room for, with the changed blocks in place of
+/// their own.
 fn write_piece<S: PlacedBytes, W: Write>(
     source: &mut S,
     range: ByteRange,
@@ -106,8 +105,8 @@ pub(crate) fn write_range<S: PlacedBytes, W: Write>(
     Ok(())
 }
 
-/// The sum that goes on over the bytes of a range from its block `first` on, as many as there is room for in `piece`, with the
-/// changed blocks in place of their own.
+/// The sum continued over the bytes of a range from its block `first` on, as many as `piece` has room for, with the changed
+/// blocks in place of their own.
 fn sum_piece<S: PlacedBytes>(
     source: &mut S,
     range: ByteRange,
@@ -129,8 +128,8 @@ fn sum_piece<S: PlacedBytes>(
     Ok(sum_from(sum, piece))
 }
 
-/// The sum of the bytes of a range with the changed blocks in place of its own. Error: a read failed, or the file ends before the
-/// range.
+/// The sum of the bytes of a range, with the changed blocks in place of its own. Error: a read failed, or the file ends before
+/// the range does.
 pub(crate) fn range_sum<S: PlacedBytes>(
     source: &mut S,
     range: ByteRange,

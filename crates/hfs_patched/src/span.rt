@@ -8,7 +8,7 @@ use hfs_source::PlacedBytes;
 use hfs_texts::put;
 use std::io::Write;
 
-/// Writes the bytes of a file from `place` on, as many as there is room for in `piece`.
+/// Writes the bytes of a file from `place` on, as many as `piece` has room for.
 fn write_at<S: PlacedBytes, W: Write>(
     source: &mut S,
     place: u64,

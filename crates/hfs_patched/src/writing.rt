@@ -1,4 +1,4 @@
-//! Writing an image as it is read, with changed blocks in place of its own.
+//! Writing an image while it is read, with changed blocks in place of its own.
 ghost use Rattle.std.specs.Prelude.{◌≡◌, ◌≢◌, ◌+◌, ◌/◌, ◌≤◌, Err, IfOk, OnErr, OnOk, length};
 ghost use Rattle.std.specs.Io.KnownBytes.{Appends};
 ghost use Rattle.hfs_texts.specs.Writing.{AppendsFront};
@@ -58,7 +58,7 @@ fn write_piece<S: BlockSource, W: Write>(
     Ok(())
 }
 
-/// Writes the `len` bytes of an image piece by piece, each of as many bytes as there is room for at once.
+/// Writes the `len` bytes of an image piece by piece, with as many bytes at once as there is room for.
 fn write_pieces<S: BlockSource, W: Write>(
     source: &mut S,
     len: u64,
@@ -87,17 +87,17 @@ fn write_pieces<S: BlockSource, W: Write>(
     Ok(())
 }
 
-/// Room for so many bytes.
+/// Room for `count` bytes.
 pub(crate) fn buffer_of(alloc: Global, count: usize) -> Result<Vec<u8>, AllocError>
     ensures { IfOk result (λ buffer. length buffer.items ≡ count) }
 {
     vec![in alloc; 0; count]
 }
 
-/// Writes the `len` bytes of an image with the changed blocks in place of its own, at most 1,048,576 at a time, as they are read. What was written is
-/// said of each image that has the bytes which were read. Errors:
-/// memory was refused, and nothing was written; a read failed, the image ends before that many bytes, or the writer failed, where a part
-/// may have gone out, from the first byte on, and nothing else.
+/// Writes the `len` bytes of an image with the changed blocks in place of its own, at most 1,048,576 at a time, while they are
+/// read. What was written holds for every image consistent with the bytes read. Errors: memory was refused, and nothing was
+/// written; a read failed, the image ends before that many bytes, or the writer failed: then only the beginning may have been
+/// written.
 pub fn write_patched<S: BlockSource, W: Write>(
     alloc: Global,
     source: &mut S,

@@ -1,4 +1,4 @@
-//! The names that the text of a Mac path tells, a byte at a time.
+//! Reading the names in the text of a Mac path, a byte at a time.
 ghost use Rattle.std.specs.Prelude.{◌≡◌, ◌<◌, [], ◌∷◌, Some, IfOk, IfSome, OnOk};
 ghost use Rattle.std.specs.List.{fold};
 ghost use Rattle.std.specs.Option.{option_map};
@@ -10,13 +10,13 @@ use std::alloc::{AllocError, Global};
 /// How the next byte of a path's text is taken.
 #[derive(Clone, Copy)]
 pub enum Stage {
-    /// As a character of a name, or the colon behind one.
+    /// As a character of a name, or the colon after one.
     Character,
-    /// As the first digit behind a backslash.
+    /// As the first digit after a backslash.
     FirstDigit,
-    /// As the second digit, behind this first one.
+    /// As the second digit, after this first one.
     SecondDigit(u8),
-    /// Not at all: what came before begins no path.
+    /// Not at all: what came before can't begin a path.
     Wrong,
 }
 
@@ -25,7 +25,7 @@ pub enum Stage {
 struct Reading {
     /// The names with their colons.
     names: Vec<Name>,
-    /// The bytes of the name behind them.
+    /// The bytes of the name after them.
     name: Vec<u8>,
     stage: Stage,
 }
@@ -57,7 +57,7 @@ fn byte_of(first: u8, second: u8) -> Option<u8>
     Some(16 * high + low)
 }
 
-/// Ends a name: one of more than 31 bytes begins no path.
+/// Ends a name. With a name of more than 31 bytes it can't become a path.
 #[tactic(auto, unfolding(crate::specs::Paths::closed))]
 fn close(reading: &mut Reading) -> Result<(), AllocError>
     ensures { OnOk result (read_of reading.new ≡ closed (read_of reading.old)) }
@@ -80,7 +80,7 @@ fn push_byte(reading: &mut Reading, byte: u8) -> Result<(), AllocError>
     Ok(())
 }
 
-/// Takes a byte as a character of a name, or as what stands beside one.
+/// Takes a byte as a character of a name, or as a colon or backslash.
 #[tactic(auto, unfolding(crate::specs::Paths::with_character))]
 fn read_character(reading: &mut Reading, byte: u8) -> Result<(), AllocError>
     ensures { OnOk result (read_of reading.new ≡ with_character byte (read_of reading.old)) }
@@ -95,7 +95,7 @@ fn read_character(reading: &mut Reading, byte: u8) -> Result<(), AllocError>
     push_byte(reading, byte)
 }
 
-/// Takes a byte as the second digit behind a backslash.
+/// Takes a byte as the second digit after a backslash.
 #[tactic(auto, unfolding(crate::specs::Paths::with_second_digit))]
 fn read_second_digit(reading: &mut Reading, first: u8, byte: u8) -> Result<(), AllocError>
     ensures { OnOk result (read_of reading.new ≡ with_second_digit first byte (read_of reading.old)) }
@@ -135,7 +135,7 @@ fn read_bytes(reading: &mut Reading, text: &[u8]) -> Result<(), AllocError>
     Ok(())
 }
 
-/// The names, where what was read ends as a path does.
+/// The names, if what was read ends as a path does.
 #[tactic(auto, unfolding(crate::specs::Paths::names_read))]
 fn names_read(reading: Reading) -> Result<Option<Vec<Name>>, AllocError>
     ensures { IfOk result (λ found. option_map names_of found ≡ names_read (read_of reading)) }
@@ -148,7 +148,7 @@ fn names_read(reading: Reading) -> Result<Option<Vec<Name>>, AllocError>
     }
 }
 
-/// The one name of the path `:`, which is empty.
+/// The single name of the path `:`, which is empty.
 fn no_names(alloc: Global) -> Result<Option<Vec<Name>>, AllocError>
     ensures { IfOk result (λ found. option_map names_of found ≡ Some ([] ∷ [])) }
 {
@@ -160,11 +160,10 @@ fn no_names(alloc: Global) -> Result<Option<Vec<Name>>, AllocError>
     Ok(Some(names))
 }
 
-/// The names that the text of a Mac path tells, from the volume's down: `:` stands between them, a
-/// backslash and two hexadecimal digits for the byte of this value, and any other byte for itself.
-/// The first name is empty where a path begins with `:`, and the only one of the path `:`. None
-/// where there is no text, a backslash has no digits, or a name more than 31 bytes. The only error is
-/// want of memory.
+/// The names in the text of a Mac path, starting with the volume's. `:` separates them, a backslash and two hexadecimal digits
+/// stand for the byte with this value, and any other byte stands for itself. The first name is empty if a path begins with `:`,
+/// and it is the only one of the path `:`. None if there is no text, a backslash has no digits, or a name has more than 31 bytes.
+/// Fails only when out of memory.
 #[tactic(auto, unfolding(crate::specs::Paths::path_names))]
 pub fn path_names(alloc: Global, text: &[u8]) -> Result<Option<Vec<Name>>, AllocError>
     ensures { IfOk result (λ found. option_map names_of found ≡ path_names text.now) }

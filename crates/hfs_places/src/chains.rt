@@ -6,7 +6,7 @@ ghost use Rattle.hfs_places.specs.Chains as spec;
 use crate::things::Things;
 use std::alloc::{AllocError, Global};
 
-/// For each thing the place of its parent's folder.
+/// For each thing, the place of its parent's folder.
 #[tactic(auto, unfolding(crate::specs::Chains::ups_of))]
 pub(crate) fn ups_of(alloc: Global, things: &Things) -> Result<Vec<Option<usize>>, AllocError>
     ensures ups { IfOk result (λ ups. ups.items ≡ spec.ups_of things.now) }
@@ -20,7 +20,7 @@ pub(crate) fn ups_of(alloc: Global, things: &Things) -> Result<Vec<Option<usize>
     Ok(ups)
 }
 
-/// The place that is noted for a place, None behind the last.
+/// The place that is noted for a place; None after the last.
 fn place_at(places: &[Option<usize>], i: usize) -> Option<usize>
     ensures { result ≡ spec.place_at places.now i }
 {
@@ -37,7 +37,7 @@ fn twice(jumps: &[Option<usize>], i: usize) -> Option<usize>
     }
 }
 
-/// For each place where twice as many steps lead as these.
+/// For each place, where twice as many steps lead as these.
 pub fn doubled(alloc: Global, jumps: &[Option<usize>]) -> Result<Vec<Option<usize>>, AllocError>
     ensures { IfOk result (λ made. made.items ≡ map (spec.twice jumps.now)
         (range_with_len 0 (length jumps.now))) }
@@ -49,7 +49,7 @@ pub fn doubled(alloc: Global, jumps: &[Option<usize>]) -> Result<Vec<Option<usiz
     Ok(made)
 }
 
-/// For each place where as many steps lead as there are numbers of folders.
+/// For each place, where as many steps lead as there are numbers of folders.
 fn far_jumps(alloc: Global, ups: &[Option<usize>]) -> Result<Vec<Option<usize>>, AllocError>
     ensures far { IfOk result (λ jumps. spec.LeadBy (2 ^ 32) ups.now jumps.items) }
     ensures all { IfOk result (λ jumps. length jumps.items ≡ length ups.now) }
@@ -63,7 +63,7 @@ fn far_jumps(alloc: Global, ups: &[Option<usize>]) -> Result<Vec<Option<usize>>,
     Ok(jumps)
 }
 
-/// For each place whether its chain has no end. Each place is looked at once for each bit of a folder's number.
+/// For each place, whether its chain has no end. Each place is looked at once for each bit of a folder's number.
 pub(crate) fn endless_of(alloc: Global, ups: &[Option<usize>]) -> Result<Vec<bool>, AllocError>
     ensures marks { IfOk result (λ marks. marks.items ≡ spec.endless_of ups.now) }
     ensures all { IfOk result (λ marks. length marks.items ≡ length ups.now) }

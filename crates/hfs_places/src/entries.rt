@@ -1,4 +1,4 @@
-//! Entries: how a thing is called in its folder.
+//! Entries: the name of a thing in its folder.
 ghost use Rattle.std.specs.Prelude.{◌≡◌, ◌+◌, ◌<◌, ◌++◌, map, take, length, if◌then◌else◌, IfOk, OnOk, string_bytes};
 ghost use Rattle.std.specs.Char as char;
 ghost use Rattle.hfs_names.specs.HostNames.{host_name};
@@ -32,7 +32,7 @@ fn entry_row(alloc: Global, thing: &Thing) -> Result<Vec<u8>, AllocError>
     lowered(alloc, text.as_bytes())
 }
 
-/// Appends what tells a thing at this place from one that is called the same.
+/// Appends what distinguishes a thing at this place from one with the same name.
 #[tactic(auto, unfolding(crate::specs::Entries::suffix))]
 fn suffix(alloc: Global, place: usize, thing: &Thing) -> Result<String, AllocError>
     ensures { IfOk result (λ text. string_bytes text ≡ spec.suffix place thing.now) }
@@ -45,7 +45,7 @@ fn suffix(alloc: Global, place: usize, thing: &Thing) -> Result<String, AllocErr
     }
 }
 
-/// The entry of a thing at this place, whose row some thing before has or not.
+/// The entry of a thing at this place; `again` says whether an earlier thing has its row.
 fn entry_text(alloc: Global, place: usize, thing: &Thing, again: bool) -> Result<String, AllocError>
     ensures { IfOk result (λ text. string_bytes text ≡ if again then host_name thing.now.name
         ++ spec.suffix place thing.now else host_name thing.now.name) }
@@ -58,7 +58,7 @@ fn entry_text(alloc: Global, place: usize, thing: &Thing, again: bool) -> Result
     Ok(text)
 }
 
-/// The entry of the thing at a place, where the rows are those of the things before it; they are those up to it then.
+/// The entry of the thing at a place. The rows are those of the things before it, to which its own is added.
 fn next_entry(
     alloc: Global,
     things: &[Thing],
@@ -79,7 +79,7 @@ fn next_entry(
     Ok(text)
 }
 
-/// The entries of things, in order. The only error is want of memory.
+/// The entries of things, in order. Fails only when out of memory.
 #[tactic(auto, unfolding(crate::specs::Entries::entries_of))]
 pub(crate) fn entries_of(alloc: Global, things: &[Thing]) -> Result<Vec<String>, AllocError>
     ensures entries { IfOk result (λ entries. map string_bytes entries.items ≡ spec.entries_of

@@ -6,7 +6,7 @@ use crate::paths::Frame;
 use hfs_fields::Name;
 use std::alloc::{AllocError, Global};
 
-/// How many steps a chain has at most that has an end.
+/// The most steps of a chain that has an end.
 const STEPS: u64 = 4_294_967_296;
 
 /// Whether a path below the payload leads to what is old or lost.
@@ -18,7 +18,7 @@ pub(crate) fn lies_apart(path: &str) -> bool
 }
 
 impl Frame<'_> {
-    /// The name of the thing at a place, and behind it those of the folders above it.
+    /// The name of the thing at a place, and then those of the folders above it.
     pub(crate) fn names_up(
         &self,
         alloc: Global,

@@ -1,4 +1,4 @@
-//! The folders by their numbers.
+//! The folders, by their numbers.
 ghost use Rattle.std.specs.Prelude.{◌≡◌, [], IfOk, OnOk};
 ghost use Rattle.hfs_catalog_checks.specs.Indexes.{number_of, SetsNumber, NotesFirst};
 
@@ -6,7 +6,7 @@ use std::alloc::{AllocError, Global};
 use std::collections::BTreeMap;
 use std::marker::Model;
 
-/// Places, each with a folder's number. They are kept in the order of the numbers and not by hashes, since an image chooses its
+/// Places, each with a folder's number. They are kept in the order of the numbers and without hashing, since an image chooses its
 /// numbers.
 #[derive(Drop)]
 pub struct FolderPlaces {
@@ -22,7 +22,7 @@ impl Model for FolderPlaces {
 }
 
 impl FolderPlaces {
-    /// No place for any number. Takes no memory.
+    /// No places. Takes no memory.
     pub(crate) fn new(alloc: Global) -> FolderPlaces
         ensures { result ≡ [] }
     {
@@ -38,7 +38,7 @@ impl FolderPlaces {
         self.places.get(&number).copied()
     }
 
-    /// Gives a number this place, in place of the one that it has, which is the answer.
+    /// Gives a number this place, and returns the one that it had, if any.
     fn replace(&mut self, number: u32, place: usize) -> Result<Option<usize>, AllocError>
         ensures put { OnOk result (SetsNumber number place self.old self.new) }
         ensures was { IfOk result (λ was. was ≡ number_of self.old number) }
@@ -47,7 +47,7 @@ impl FolderPlaces {
         Ok(was)
     }
 
-    /// Gives a number this place, in place of the one that it has.
+    /// Gives a number this place, in place of the one that it may have.
     fn put(&mut self, number: u32, place: usize) -> Result<(), AllocError>
         ensures { OnOk result (SetsNumber number place self.old self.new) }
     {

@@ -1,4 +1,4 @@
-//! Paths of things, each folder's made behind that of the folder above it.
+//! Paths of things; each folder's path is made after that of the folder above it.
 ghost use Rattle.std.specs.Prelude.{◌≡◌, ◌+◌, ◌-◌, ◌*◌, ◌<◌, ◌≤◌, ℕ, nat_lt, true, false, Some, None, map, length, set, slice_index_or, IfOk, IfSome, OnOk, string_bytes};
 ghost use Rattle.hfs_places.specs.Chains.{endless_of, place_at, ups_of, is_endless};
 ghost use Rattle.hfs_catalog_checks.specs.Indexes.{is_place};
@@ -10,10 +10,10 @@ ghost use Rattle.hfs_places.specs.Paths as spec;
 use crate::things::{Thing, Things};
 use std::alloc::{AllocError, Global};
 
-/// How many bytes the path of a folder may have that lies in its parent's.
+/// How many bytes the path of a folder in its parent's may have.
 const LONGEST: usize = 800;
 
-/// How many steps a chain has at most that has an end.
+/// The most steps of a chain that has an end.
 const STEPS: u64 = 4_294_967_296;
 
 /// What paths are made of.
@@ -22,7 +22,7 @@ pub(crate) struct Frame<'a> {
     pub(crate) things: &'a Things,
     /// The entry of each thing.
     pub(crate) entries: &'a [String],
-    /// For each thing whether its chain of parents has no end.
+    /// For each thing, whether its chain of parents has no end.
     pub(crate) endless: &'a [bool],
     ghost entries_are: { map string_bytes entries.now ≡ entries_of things.now },
     ghost entries_all: { length entries.now ≡ length things.now },
@@ -46,7 +46,7 @@ fn within(alloc: Global, above: &str, entry: &str) -> Result<String, AllocError>
     format!(in alloc; "{above}/{entry}")
 }
 
-/// Whether the path of an entry of so many bytes, in a folder whose path has so many, is too long.
+/// Whether the path of an entry of this length, in a folder whose path has this length, is too long.
 fn is_long(above: usize, entry: usize) -> bool
     ensures { result ≡ nat_lt 800 (above + 1 + entry) }
 {
@@ -57,7 +57,7 @@ fn is_long(above: usize, entry: usize) -> bool
 }
 
 impl Frame<'_> {
-    /// A thing by its place.
+    /// The thing at a place.
     pub(crate) fn thing(&self, i: usize) -> &Thing
         requires { i < length self.now.things.now }
         ensures { result.now ≡ thing_at self.now.things.now i }
@@ -75,7 +75,7 @@ impl Frame<'_> {
         self.things.folder(self.thing(i).parent)
     }
 
-    /// Whether the folder of a number is at this place.
+    /// Whether the folder with a number is at this place.
     fn is_place_of(&self, number: u32, i: usize) -> bool
         ensures { result ≡ is_place (folder_of self.now.things.now number) i }
     {
@@ -85,7 +85,7 @@ impl Frame<'_> {
         }
     }
 
-    /// Whether a thing is the folder of its number.
+    /// Whether a thing is the folder with its number.
     fn is_folder(&self, i: usize) -> bool
         requires { i < length self.now.things.now }
         ensures { result ≡ spec.is_folder_at self.now.things.now i }
@@ -124,7 +124,7 @@ impl Frame<'_> {
         Ok(text)
     }
 
-    /// Whether a thing is the folder of its number and can't lie in a folder whose path has so many bytes.
+    /// Whether a thing is the folder with its number and can't be in a folder whose path has this length.
     fn is_cut(&self, i: usize, above: usize) -> bool
         requires { i < length self.now.things.now }
         ensures { result ≡ spec.is_cut self.now.things.now i above }
@@ -135,7 +135,7 @@ impl Frame<'_> {
         self.is_endless(i) || is_long(above, self.entry(i).len())
     }
 
-    /// The path of a thing above which there is no folder.
+    /// The path of a thing with no folder above it.
     fn top_path(&self, alloc: Global, i: usize) -> Result<String, AllocError>
         requires within { i < length self.now.things.now }
         requires top { place_at (ups_of self.now.things.now) i ≡ None }
@@ -150,7 +150,7 @@ impl Frame<'_> {
         Ok(text)
     }
 
-    /// The path of a thing above which there is a folder with this path.
+    /// The path of a thing, given the path of the folder above it.
     fn inner_path(
         &self,
         alloc: Global,
@@ -172,7 +172,7 @@ impl Frame<'_> {
         Ok(text)
     }
 
-    /// The path of a thing, where that of the folder above it is known.
+    /// The path of a thing, if that of the folder above it is known.
     pub(crate) fn path(
         &self,
         alloc: Global,
@@ -191,7 +191,7 @@ impl Frame<'_> {
         self.inner_path(alloc, i, p, known_path(paths, p))
     }
 
-    /// Makes the path of a thing, where that of the folder above it is known.
+    /// Makes the path of a thing, if that of the folder above it is known.
     fn place(&self, alloc: Global, paths: &mut [Option<String>], i: usize) -> Result<(), AllocError>
         requires within { i < length self.now.things.now }
         requires all { length paths.old ≡ length self.now.things.now }
@@ -207,7 +207,7 @@ impl Frame<'_> {
         Ok(())
     }
 
-    /// Puts down the path of a folder whose chain of parents has no end.
+    /// Sets the path of a folder whose chain of parents has no end.
     fn place_lost(
         &self,
         alloc: Global,
@@ -229,7 +229,7 @@ impl Frame<'_> {
         Ok(())
     }
 
-    /// The row of places from a folder up, as far as their paths are not known.
+    /// The places from a folder upwards, as long as their paths are not known.
     fn unknown_above(
         &self,
         alloc: Global,
@@ -258,7 +258,7 @@ impl Frame<'_> {
         unreachable!()
     }
 
-    /// Makes the paths of a row of folders, the last one's first.
+    /// Makes the paths of these folders, starting with the last one's.
     fn place_row(
         &self,
         alloc: Global,
@@ -280,7 +280,8 @@ impl Frame<'_> {
         Ok(())
     }
 
-    /// Makes the path of a thing that is the folder of its number, and before it those of the folders above it that are not known.
+    /// Makes the path of a thing that is the folder with its number, and before it those of the folders above it that are not
+    /// known.
     fn place_folder(
         &self,
         alloc: Global,
@@ -303,7 +304,7 @@ impl Frame<'_> {
         self.place_row(alloc, paths, row, i)
     }
 
-    /// Makes the path of a thing, where it is the folder of its number.
+    /// Makes the path of a thing, if it is the folder with its number.
     fn place_next(
         &self,
         alloc: Global,
@@ -365,7 +366,7 @@ fn known_path(paths: &[Option<String>], i: usize) -> &str
     }
 }
 
-/// Puts down the path of a thing.
+/// Sets the path of a thing.
 fn put_path(paths: &mut [Option<String>], i: usize, text: String)
     requires { i < length paths.old }
     ensures { paths.new ≡ set paths.old i (Some text) }
@@ -373,7 +374,7 @@ fn put_path(paths: &mut [Option<String>], i: usize, text: String)
     paths[i] = Some(text);
 }
 
-/// No path for so many things.
+/// No paths, for `count` things.
 fn no_paths(alloc: Global, count: usize) -> Result<Vec<Option<String>>, AllocError>
     ensures all { IfOk result (λ paths. length paths.items ≡ count) }
     ensures none { IfOk result (λ paths. (i : ℕ) → slice_index_or paths.items i None ≡ None) }

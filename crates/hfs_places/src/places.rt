@@ -38,7 +38,7 @@ impl Model for Places {
         s.root };
 }
 
-/// The place of the root among things, None where it is lost.
+/// The place of the root among things; None if it is lost.
 fn root_of(things: &[Thing]) -> Option<usize>
     ensures { result ≡ spec.root_of things.now }
 {
@@ -71,7 +71,7 @@ fn folder_paths(
 }
 
 impl Places {
-    /// The places of items, and of the folders that threads name where no item is the folder of a number. The only error is want
+    /// The places of items, and of the folders that threads name if no item is the folder with their number. Fails only when out
     /// of memory.
     pub fn of(alloc: Global, items: &[Thing], namings: &[Thing]) -> Result<Places, AllocError>
         ensures { IfOk result (λ places. places ≡ things_of items.now namings.now) }
@@ -91,14 +91,14 @@ impl Places {
         })
     }
 
-    /// The items and the named folders, in their order.
+    /// The items and the named folders, in order.
     pub fn things(&self) -> &[Thing]
         ensures { result.now ≡ self.now }
     {
         self.things.all()
     }
 
-    /// The path of a thing, without what an item lies below where its record is old.
+    /// The path of a thing, without what an item is below if its record is old.
     fn path(&self, alloc: Global, i: usize) -> Result<String, AllocError>
         requires { i < length self.now }
         ensures { IfOk result (λ text. string_bytes text ≡ spec.path self.now i) }
@@ -111,7 +111,7 @@ impl Places {
         frame.path(alloc, &self.paths, i)
     }
 
-    /// The path of an item below the payload. The only error is want of memory.
+    /// The path of an item below the payload. Fails only when out of memory.
     #[tactic(auto, unfolding(crate::specs::Paths::payload_path))]
     pub fn payload_path(&self, alloc: Global, i: usize) -> Result<String, AllocError>
         requires { i < length self.now }
@@ -129,7 +129,7 @@ impl Places {
         }
     }
 
-    /// Where the names that lead to an item begin: at itself, and of the root nowhere.
+    /// Where the names that lead to an item begin: at itself, or nowhere for the root.
     fn below_root(&self, i: usize) -> Option<usize>
         requires { i < length self.now }
         ensures place { result ≡ below_root self.now i }
@@ -138,7 +138,7 @@ impl Places {
         if self.root == Some(i) { None } else { Some(i) }
     }
 
-    /// The names from an item's own up to that of the folder in the payload; none of the root.
+    /// The names from an item's own up to that of the folder in the payload; none for the root.
     fn names_up(&self, alloc: Global, i: usize) -> Result<Vec<Name>, AllocError>
         requires { i < length self.now }
         ensures { IfOk result (λ names. names.items
@@ -152,7 +152,7 @@ impl Places {
         frame.names_up(alloc, self.below_root(i))
     }
 
-    /// The name of the root: its item's, or where that is lost this one of the volume.
+    /// The name of the root: its item's, or, if that is lost, this one of the volume.
     #[tactic(auto, using(crate::proofs::NameLemmas::root_within))]
     fn root_name(&self, volume: Name) -> Name
         ensures { result ≡ root_name self.now volume }
@@ -168,8 +168,8 @@ impl Places {
         }
     }
 
-    /// The names that lead to an item, from the root's down, of a volume of this name; none where its path below the payload, which is
-    /// this, leads to what is old or lost. The only error is want of memory.
+    /// The names that lead to an item, from the root's down, on a volume with this name; None if its path below the payload,
+    /// which is given, leads to what is old or lost. Fails only when out of memory.
     #[tactic(auto, using(crate::proofs::NameLemmas::turned))]
     pub fn names(
         &self,

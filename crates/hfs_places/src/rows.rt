@@ -1,4 +1,4 @@
-//! Sets of rows of bytes, kept in their order and not by hashes, since an image chooses what is in them.
+//! Sets of rows of bytes, kept in order and without hashing, since an image chooses what is in them.
 ghost use Rattle.std.specs.Prelude.{◌≡◌, [], OnOk};
 ghost use Rattle.hfs_places.specs.Rows.{has_row, AddsRow};
 
@@ -38,7 +38,7 @@ impl Rows {
         self.rows.contains(row)
     }
 
-    /// Puts a row into the set. `Err` only where memory is wanting.
+    /// Adds a row to the set. `Err` only when out of memory.
     pub(crate) fn add(&mut self, row: Vec<u8>) -> Result<(), AllocError>
         ensures { OnOk result (AddsRow row self.old self.new) }
     {

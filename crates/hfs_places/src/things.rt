@@ -8,13 +8,13 @@ use hfs_fields::Name;
 use std::alloc::{AllocError, Global};
 use std::marker::Model;
 
-/// An item, or a folder that only a thread names, as far as its place goes.
+/// What matters for the place of an item, or of a folder that only a thread names.
 #[derive(Clone, Copy)]
 pub struct Thing {
-    /// The number of the folder in which it lies.
+    /// The number of the folder that it is in.
     pub parent: u32,
     pub name: Name,
-    /// Its own number, where it is a folder.
+    /// Its own number, if it is a folder.
     pub folder: Option<u32>,
     /// Whether its record is old.
     pub old: bool,
@@ -22,7 +22,7 @@ pub struct Thing {
     pub named: bool,
 }
 
-/// Things, and the place of the folder of each number among them. Contracts see the things.
+/// Things, and for each folder's number its place among them. Contracts see the things.
 #[derive(Drop)]
 pub(crate) struct Things {
     things: Vec<Thing>,
@@ -41,7 +41,7 @@ impl Model for Things {
     ghost invariant = { λ s. KnowsFolders s.folders s.things.items };
 }
 
-/// Notes the place of a thing that is a folder, where its number had none.
+/// Notes the place of a thing that is a folder, if its number had none.
 fn note_folder(folders: &mut FolderPlaces, thing: &Thing, place: usize) -> Result<(), AllocError>
     ensures { OnOk result (NotesFolder thing.now place folders.old folders.new) }
 {
@@ -51,7 +51,7 @@ fn note_folder(folders: &mut FolderPlaces, thing: &Thing, place: usize) -> Resul
     }
 }
 
-/// Puts one more thing behind the others.
+/// Adds a thing after the others.
 fn push_thing(
     things: &mut Vec<Thing>,
     folders: &mut FolderPlaces,
@@ -67,7 +67,7 @@ fn push_thing(
     Ok(())
 }
 
-/// Puts a named folder behind the others, where there is no folder of its number.
+/// Adds a named folder after the others, if there is no folder with its number.
 fn push_named(
     things: &mut Vec<Thing>,
     folders: &mut FolderPlaces,
@@ -86,7 +86,7 @@ fn push_named(
     push_thing(things, folders, thing)
 }
 
-/// Puts items behind the others.
+/// Adds items after the others.
 fn push_items(
     things: &mut Vec<Thing>,
     folders: &mut FolderPlaces,
@@ -102,7 +102,7 @@ fn push_items(
     Ok(())
 }
 
-/// Puts named folders behind the others, where there is no folder of their numbers.
+/// Adds named folders after the others, if there are no folders with their numbers.
 fn push_namings(
     things: &mut Vec<Thing>,
     folders: &mut FolderPlaces,
@@ -120,7 +120,7 @@ fn push_namings(
 }
 
 impl Things {
-    /// The items, and behind them the folders that only a thread names.
+    /// The items, and then the folders that only a thread names.
     pub(crate) fn of(
         alloc: Global,
         items: &[Thing],
@@ -149,7 +149,7 @@ impl Things {
         self.things.len()
     }
 
-    /// The place of the folder of a number, None where there is none or it is the payload itself.
+    /// The place of the folder with a number; None if there is none or it is the payload itself.
     pub(crate) fn folder(&self, number: u32) -> Option<usize>
         ensures { result ≡ spec.folder_of self.now number }
     {

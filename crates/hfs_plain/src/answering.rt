@@ -25,7 +25,7 @@ fn push_answers(alloc: Global, replies: &[Reply], text: &mut String) -> Result<(
     Ok(())
 }
 
-/// Makes calls in order. The lines of their answers, and behind them those of the volume after them.
+/// Makes calls in order. Returns the lines of their answers, and then those of the volume after them.
 fn text_of_run(alloc: Global, plain: &mut PlainVolume, calls: &[Call]) -> Result<String, AllocError>
     ensures { IfOk result (λ text. string_bytes text ≡ all_text (run plain.old calls.now)) }
 {
@@ -36,8 +36,8 @@ fn text_of_run(alloc: Global, plain: &mut PlainVolume, calls: &[Call]) -> Result
     Ok(text)
 }
 
-/// Makes calls in order on the volume of an image. The lines of their answers, and behind them
-/// those of the volume after them. Faults: the image is refused, or memory.
+/// Makes calls in order on the volume of an image. Returns the lines of their answers, and then those of the volume after them.
+/// Faults: the image is refused, or memory is.
 pub fn image_text(alloc: Global, image: Vec<u8>, calls: &[Call]) -> Result<String, Fault<'static>>
     ensures { IfOk result (λ text.
         string_bytes text ≡ all_text (run (volume_of image.items) calls.now)) }

@@ -19,7 +19,7 @@ fn script_of(alloc: Global, bytes: &[u8], now: u32) -> Result<Script, Fault<'sta
     }
 }
 
-/// The calls of worker 1, where the bytes are a script without other callers.
+/// The calls of worker 1, if the bytes are a script without other callers.
 pub fn calls_of_one(alloc: Global, bytes: &[u8], now: u32) -> Result<Vec<Call>, Fault<'static>>
     ensures { IfOk result (λ calls. AreCallsOf now bytes.now calls.items) }
 {

@@ -9,17 +9,17 @@ use std::io;
 /// Why there are no answers. It is printed as `hfs_tool` prints it.
 #[derive(Clone, Copy)]
 pub enum Fault<'a> {
-    /// The words, or the script's callers, are none that this program takes.
+    /// The command line, or the script's callers, are none that this program takes.
     Words(&'static str),
     /// A file was not read.
     CannotRead(&'a str),
     /// A script has too many bytes.
     ScriptTooLarge,
-    /// The line of a script that is the first that doesn't read, counted from 1.
+    /// The first line of a script that can't be read, counted from 1.
     ScriptLine(u64),
     /// The image is refused.
     Refused(MountFault),
-    /// Standard output failed, so that nothing more is printed.
+    /// Standard output failed, so nothing more is printed.
     OutputFailed,
     /// Memory was refused.
     NoMemory,
@@ -71,7 +71,7 @@ impl From<AllocError> for Fault<'_> {
 }
 
 impl<'a> Fault<'a> {
-    /// What it means that the file of an image was not loaded.
+    /// The fault for an image's file that was not loaded.
     pub fn of_image(fault: LoadFault, path: &'a str) -> Fault<'a> {
         match fault {
             LoadFault::ReadFailed => Fault::CannotRead(path),
@@ -80,7 +80,7 @@ impl<'a> Fault<'a> {
         }
     }
 
-    /// What it means that the file of a script was not loaded.
+    /// The fault for a script's file that was not loaded.
     pub fn of_script_file(fault: LoadFault, path: &'a str) -> Fault<'a> {
         match fault {
             LoadFault::ReadFailed => Fault::CannotRead(path),
@@ -89,7 +89,7 @@ impl<'a> Fault<'a> {
         }
     }
 
-    /// What it means that a script doesn't read.
+    /// The fault for a script that can't be read.
     pub fn of_script(fault: ScriptFault) -> Fault<'a> {
         match fault {
             ScriptFault::TooLarge => Fault::ScriptTooLarge,

@@ -1,4 +1,4 @@
-//! The items of a table as the model has them, with the bytes of their forks.
+//! The items of a table in the form of the model, with the bytes of their forks.
 
 ghost use Rattle.std.specs.Prelude.{◌≡◌, IfOk};
 ghost use Rattle.hfs_item_table.specs.Tables as tables;
@@ -38,7 +38,7 @@ fn file_of(alloc: Global, table: &Table, file: &RowFile) -> Result<File, AllocEr
     })
 }
 
-/// Whether it is a folder or a file, and what only such an item has.
+/// Whether an item is a folder or a file, and what only that kind has.
 fn kind_of(alloc: Global, table: &Table, kind: &RowKind) -> Result<Kind, AllocError>
     requires table { IsTable table.now }
     requires kind { (id : _) × IsKindIn table.now id kind.now }
@@ -68,7 +68,7 @@ fn item_of(alloc: Global, table: &Table, row: &Row) -> Result<Item, AllocError>
     })
 }
 
-/// The items of a table in the order of their IDs. The only error is want of memory.
+/// The items of a table in the order of their IDs. Fails only when out of memory.
 pub fn items_of(alloc: Global, table: &Table) -> Result<Vec<(u32, Item)>, AllocError>
     requires { IsTable table.now }
     ensures { IfOk result (λ items. items.items ≡ row_entries table.now) }

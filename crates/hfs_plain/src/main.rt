@@ -1,6 +1,6 @@
-//! The plain program as a program: `hfs_plain IMAGE SCRIPT [--now N]` makes the calls of a script by
-//! the definitions alone, on the volume that an image holds, and prints the answers as
-//! `hfs_tool run` does. Behind them it prints all that the volume has then.
+//! The plain program as a program: `hfs_plain IMAGE SCRIPT [--now N]` makes the calls of a script by the definitions alone, on
+//! the volume in an image, and prints the answers as `hfs_tool run` does. After them it prints everything that the volume then
+//! has.
 #![tactic(auto)]
 
 mod answering;
@@ -25,7 +25,7 @@ fn main(rt: HostRuntime) -> ExitCode {
     ExitCode::from(answer(&rt))
 }
 
-/// Reads the words and does what they ask for. Answers the exit status.
+/// Reads the command line and does what it asks for. Returns the exit status.
 fn answer(rt: &HostRuntime) -> u8 {
     let Ok(arguments) = env::args(rt) else {
         return refused(rt, &Fault::Words("the words are not text"));
@@ -39,7 +39,7 @@ fn answer(rt: &HostRuntime) -> u8 {
     }
 }
 
-/// Prints the answers and the volume, or why there are none. Answers the exit status.
+/// Prints the answers and the volume, or why there are none. Returns the exit status.
 fn obey(rt: &HostRuntime, words: &Words<'_>) -> u8 {
     match print_answers(rt, words) {
         Ok(()) => 0,
@@ -47,7 +47,7 @@ fn obey(rt: &HostRuntime, words: &Words<'_>) -> u8 {
     }
 }
 
-/// Prints a fault, and answers its exit status, or that of a failed device where that fails.
+/// Prints a fault, and returns its exit status, or that of a failed device if that fails.
 fn refused(rt: &HostRuntime, fault: &Fault<'_>) -> u8 {
     match fault.print(rt) {
         Ok(()) => fault.status(),
@@ -55,9 +55,8 @@ fn refused(rt: &HostRuntime, fault: &Fault<'_>) -> u8 {
     }
 }
 
-/// Prints the answers to a script, and the volume behind them. Faults in their order: the image is
-/// not read, the script is not, a line of it doesn't read, it has other callers, the image is
-/// refused.
+/// Prints the answers to a script, and the volume after them. Faults, in this order: the image is not read, the script is not, a
+/// line of it can't be read, it has other callers, the image is refused.
 fn print_answers<'a>(rt: &HostRuntime, words: &Words<'a>) -> Result<(), Fault<'a>> {
     let image = load_image(rt, words.image)?;
     let script = load_script(rt, words.script)?;

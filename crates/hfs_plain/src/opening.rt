@@ -27,7 +27,7 @@ fn plain_table(alloc: Global, table: &Table) -> Result<PlainVolume, AllocError>
     Ok(plain)
 }
 
-/// The plain volume of what a mounted volume is now. The only error is want of memory.
+/// The plain volume of a mounted volume as it is now. Fails only when out of memory.
 fn plain_volume(alloc: Global, volume: &Volume) -> Result<PlainVolume, AllocError>
     ensures { IfOk result (λ plain. plain ≡ volume_of volume.now.current) }
 {

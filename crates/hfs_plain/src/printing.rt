@@ -121,7 +121,7 @@ fn push_items(alloc: Global, items: &[(u32, Item)], text: &mut String) -> Result
     Ok(())
 }
 
-/// Appends the word of a lock, where it is set.
+/// Appends the word of a lock, if it is set.
 #[tactic(auto, unfolding(crate::specs::Lines::lock_text))]
 fn push_lock(word: &str, is_set: bool, text: &mut String) -> Result<(), AllocError>
     ensures { OnOk result (Gains text.old text.new (lock_text word.now is_set)) }
@@ -133,7 +133,7 @@ fn push_lock(word: &str, is_set: bool, text: &mut String) -> Result<(), AllocErr
     }
 }
 
-/// Appends the line of a volume's own.
+/// Appends the volume's own line.
 #[tactic(auto, unfolding(crate::specs::Lines::own_line, crate::specs::Lines::field))]
 fn push_own(plain: &PlainVolume, text: &mut String) -> Result<(), AllocError>
     ensures { OnOk result (Gains text.old text.new (own_line plain.now)) }

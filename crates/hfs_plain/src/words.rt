@@ -1,17 +1,17 @@
 //! The program's words.
 
-/// What the words ask for.
+/// What the command line asks for.
 #[derive(Clone, Copy)]
 pub struct Words<'a> {
     /// The path of the image.
     pub image: &'a str,
     /// The path of the script.
     pub script: &'a str,
-    /// The moment of every change, in seconds since midnight of 1 January 1904.
+    /// The moment of every change, in seconds since midnight, 1 January 1904.
     pub now: u32,
 }
 
-/// What the words ask for, the first of which is the program's name. None where they aren't right.
+/// What the command line, whose first word is the program's name, asks for. None if it isn't right.
 pub fn words_of(words: &[String]) -> Option<Words<'_>> {
     match words {
         [_program, image, script] => Some(Words {
@@ -24,7 +24,7 @@ pub fn words_of(words: &[String]) -> Option<Words<'_>> {
     }
 }
 
-/// What the words ask for where they have a moment.
+/// What the command line asks for if it has a moment.
 fn timed<'a>(image: &'a str, script: &'a str, option: &str, now: &str) -> Option<Words<'a>> {
     if option != "--now" {
         return None;

@@ -22,13 +22,13 @@ use std::alloc::Global;
 use std::marker::Model;
 use std::sync::Wait;
 
-/// Two copies of a volume's rows, of which viewers read one, and the changes that wait. Contracts see the history's name, the
-/// list with all changes that were added, and the list that is published, which begins it.
+/// Two copies of a volume's rows, one of which viewers read, and the changes that wait. Contracts see the history's name, the
+/// list with all changes that were added, and the published list, which is a beginning of it.
 pub struct Copies {
     writer: PairWriter,
     front: Front,
     history: History,
-    // A change of the list for which the writer had no memory.
+    // A change in the list for which the writer had no memory.
     owed: Option<Change>,
 }
 
@@ -64,8 +64,7 @@ impl Copies {
         self.front.changes() == self.writer.published().front.changes()
     }
 
-    /// Adds a change after all that were added, where it waits to be published. It answers whether it did: not where memory is
-    /// wanting.
+    /// Adds a change after all others; it waits to be published. Returns whether it did: not when out of memory.
     pub fn add(&mut self, call: Call) -> bool
         ensures { IsAllOrNothing result (with_call self.old call) self.old self.new }
     {
@@ -85,8 +84,8 @@ impl Copies {
         true
     }
 
-    /// Shows viewers all that waits, in one step, and answers whether nothing waits any more. Where memory is wanting, nothing
-    /// of it is shown, and all of it waits on.
+    /// Shows viewers everything that waits, in one step, and returns whether nothing waits any more. When out of memory, nothing
+    /// is shown, and everything goes on waiting.
     pub fn publish<R: Wait>(&mut self, rt: &R) -> bool
         ensures published { IsAllOrNothing result (with_all_shown self.old) self.old self.new }
         ensures idle { self.old.all ≡ self.old.shown → result ≡ true }
@@ -105,7 +104,7 @@ impl Copies {
         )
     }
 
-    /// Gives up the copies, for which it waits for the readers. From then on viewers are `Gone`.
+    /// Gives up the copies, and waits for their readers to do so. From then on viewers are `Gone`.
     pub fn end<R: Wait>(self, rt: &R) {
         let Copies {
             writer,
@@ -116,8 +115,8 @@ impl Copies {
         drop(writer.take(rt));
     }
 
-    /// Copies of the volume's rows, and so many viewers, each of which has seen the opening alone. `NoPlace` where a reader got no
-    /// place.
+    /// Copies of the volume's rows, and `viewers` viewers, each of which has seen only the opening. `NoPlace` if there was no
+    /// room for a reader.
     pub fn start<R: Wait>(
         rt: &R,
         alloc: Global,
@@ -162,7 +161,7 @@ impl Drop for Copies {
     }
 }
 
-// Appends the change. It comes back where there is no memory.
+// Appends the change. It is handed back when out of memory.
 fn hand_over(writer: &mut PairWriter, change: Change) -> Option<Change>
     ensures desk { writer.new.desk ≡ writer.old.desk }
     ensures pending { waiting_in writer.new result ≡ pending_in writer.old ++ change ∷ [] }
@@ -173,7 +172,7 @@ fn hand_over(writer: &mut PairWriter, change: Change) -> Option<Change>
     }
 }
 
-// Appends the change that is owed, if there is one, and answers whether none is owed any more.
+// Appends the change that is owed, if any, and returns whether none is owed any more.
 fn settle(writer: &mut PairWriter, owed: &mut Option<Change>) -> bool
     ensures desk { writer.new.desk ≡ writer.old.desk }
     ensures pending { waiting_in writer.new owed.new ≡ waiting_in writer.old owed.old }
@@ -186,7 +185,7 @@ fn settle(writer: &mut PairWriter, owed: &mut Option<Change>) -> bool
     owed.is_none()
 }
 
-// The writer of two copies of the volume's rows, which are published.
+// The writer of two copies of the volume's rows, already published.
 fn open_writer<R: Wait>(
     rt: &R,
     alloc: Global,
@@ -225,7 +224,7 @@ fn copy_of(alloc: Global, volume: &Volume, front: &Front) -> Result<Published, P
     })
 }
 
-// The same copy once more.
+// A second copy like this one.
 fn copied(copy: &Published) -> Result<Published, PairFault>
     ensures { IfOk result (λ x. x ≡ copy.now) }
 {
@@ -238,7 +237,7 @@ fn copied(copy: &Published) -> Result<Published, PairFault>
     })
 }
 
-// Makes the viewers. The writer tells each the name of the history.
+// Makes the viewers, each of which gets the name of the history from the writer.
 fn seat_all(
     alloc: Global,
     mut writer: PairWriter,
@@ -258,7 +257,7 @@ fn seat_all(
     (writer, Ok(viewers))
 }
 
-// One viewer more.
+// One more viewer.
 fn seat_one(
     writer: &mut PairWriter,
     front: &Front,
@@ -291,7 +290,7 @@ fn seat(writer: &mut PairWriter, front: &Front) -> Result<Viewer, PairFault>
     Ok(Viewer::new(Seat::new(reader, front.again())))
 }
 
-// Shows readers all that is pending, where nothing is owed.
+// Shows readers everything that is pending, if nothing is owed.
 fn show_all<R: Wait>(
     writer: PairWriter,
     front: &Front,

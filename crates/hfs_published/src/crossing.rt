@@ -1,4 +1,4 @@
-//! What may cross threads.
+//! What may go to other threads.
 use crate::pair::Pair;
 use crate::published::Published;
 use crate::told::Told;
@@ -8,8 +8,8 @@ fn crosses<T: Send>() {}
 
 fn shares<T: Sync>() {}
 
-/// A pair, viewers and told lists go to other threads; a copy is read by several at once. It does nothing: that it passes the
-/// compiler is what it says.
+/// Pairs, viewers and `Told` lists may go to other threads, and several threads may read a copy at once. Does nothing: that it
+/// compiles is what it says.
 pub fn may_cross() {
     crosses::<Published>();
     shares::<Published>();

@@ -11,17 +11,17 @@ use hfs_volume::Volume;
 use logbook::{Offer, Seen, Start, Word};
 use std::marker::Model;
 
-// So many changes nobody makes; the bound keeps the numbers from running over.
+// Nobody makes this many changes; the bound keeps the numbers from overflowing.
 const MOST: u64 = 1 << 62;
 
-/// The word of a history: the number of its changes.
+/// The word of a history: how many changes it has.
 #[derive(Drop)]
 pub struct History {
     pub head: Word<Item, u64, Law>,
     ghost head_is: { (head.tracked ≡ true) × (head.key ≡ 0) },
 }
 
-/// A list that a history had. Contracts see the history's name and the list.
+/// A list that a history once had. Contracts see the history's name and the list.
 #[derive(Drop)]
 pub struct Front {
     changes: u64,
@@ -45,7 +45,7 @@ impl Model for Front {
 }
 
 impl Front {
-    /// A history that has the opening alone.
+    /// A history that has only the opening.
     pub fn open(volume: &Volume) -> (Front, History)
         ensures list { result.0.list ≡ opened (volume_of volume.now.current) }
         ensures book { result.1.head.book ≡ result.0.book }
@@ -90,7 +90,7 @@ impl Front {
         }
     }
 
-    /// Whether this begins the other, of the same history.
+    /// Whether this is a beginning of the other, of the same history.
     pub fn begins(&self, other: &Front) -> bool
         requires { other.now.book ≡ self.now.book }
         ensures { IsWhetherPrefix result self.now.list other.now.list }
@@ -103,7 +103,7 @@ impl Front {
         true
     }
 
-    /// Adds a change, and says whether it did. It does where no one else adds.
+    /// Adds a change, and returns whether it did. It does if nobody else adds.
     pub fn add(&mut self, history: &History, call: &Call) -> bool
         requires { history.now.head.book ≡ self.old.book }
         ensures { IsAllOrNothing result (with_change self.old call.now) self.old self.new }

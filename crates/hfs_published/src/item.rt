@@ -4,8 +4,8 @@ use hfs_view::Rows;
 use hfs_volume::Volume;
 use logbook::{Gain, Opening, Plain, Play, Rule};
 
-/// A member of a published list: the volume that opens it, or a change. Contracts alone speak of lists of them; the code
-/// keeps none.
+/// A member of a published list: the volume that opens it, or a change. Only contracts speak of lists of them; the code keeps
+/// none.
 pub enum Item {
     Opening(Rows),
     Change(Call),
@@ -59,7 +59,7 @@ impl Plain<Call, Item, u64> for Add {
     ghost state = { λ call. None };
 }
 
-/// A history begins with its opening alone.
+/// A history begins with only its opening.
 pub struct Opens;
 
 impl Opening<Volume, Item> for Opens {

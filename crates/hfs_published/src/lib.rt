@@ -1,6 +1,6 @@
-//! What viewers read beside the writer: two copies of a volume's rows, each beside the list of changes that it stands for. A
-//! change goes to one copy while readers have the other, and all that waits is shown in one step. No reader waits. Where nobody
-//! reads, the list alone is kept.
+//! What viewers read while the writer works: two copies of a volume's rows, each with the list of changes that it stands for.
+//! A change goes into one copy while readers have the other, and everything that waits is shown in one step. No reader waits. If
+//! nobody reads, only the list is kept.
 #![tactic(auto)]
 
 mod absorbs;

@@ -23,9 +23,9 @@ mod entries;
 /// Why a pair was not made.
 #[derive(Clone, Copy, Debug)]
 pub enum PairFault {
-    /// Memory is wanting.
+    /// Out of memory.
     Memory,
-    /// There was no place for a reader.
+    /// There was no room for another reader.
     NoPlace,
 }
 
@@ -36,8 +36,8 @@ pub enum Kind {
     Unread(Unread),
 }
 
-/// A published list, with two copies of a volume's rows where viewers read, and the changes that wait. Contracts see the history's
-/// name, the list with all changes that were added, and the list that is published, which begins it.
+/// A published list, two copies of a volume's rows if viewers read it, and the changes that wait. Contracts see the history's
+/// name, the list with all changes that were added, and the published list, which is a beginning of it.
 #[derive(Drop)]
 pub struct Pair {
     kind: Kind,
@@ -68,14 +68,14 @@ impl Pair {
         }
     }
 
-    /// What is published, as a told list: it covers `shown` of a journal's `made` entries. Takes no memory.
+    /// The published list as a `Told`: it covers `shown` of a journal's `made` entries. Takes no memory.
     pub fn told(&self, shown: u64, made: u64) -> Told
         ensures { result ≡ told (known self.now.book self.now.shown) shown made }
     {
         Told::new(self.published().again(), shown, made)
     }
 
-    /// Whether all that was added is published. Takes no memory.
+    /// Whether everything that was added is published. Takes no memory.
     pub fn is_shown(&self) -> bool
         ensures { MatchBool result (self.now.all ≡ self.now.shown) (self.now.all ≢ self.now.shown) }
     {
@@ -85,8 +85,7 @@ impl Pair {
         }
     }
 
-    /// Adds a change after all that were added, where it waits to be published. It answers whether it did: not where memory is
-    /// wanting.
+    /// Adds a change after all others; it waits to be published. Returns whether it did: not when out of memory.
     pub fn add(&mut self, call: &Call) -> bool
         ensures { IsAllOrNothing result (with_call self.old call.now) self.old self.new }
     {
@@ -99,8 +98,8 @@ impl Pair {
         }
     }
 
-    /// Shows viewers all that waits, in one step, and answers whether nothing waits any more. Where memory is wanting, nothing
-    /// of it is shown, and all of it waits on. Of a pair that nobody reads all is then published.
+    /// Shows viewers everything that waits, in one step, and returns whether nothing waits any more. When out of memory, nothing
+    /// is shown, and everything goes on waiting. If nobody reads the pair, everything is then published.
     pub fn publish<R: Wait>(&mut self, rt: &R) -> bool
         ensures published { IsAllOrNothing result (with_all_shown self.old) self.old self.new }
         ensures idle { self.old.all ≡ self.old.shown → result ≡ true }
@@ -114,7 +113,7 @@ impl Pair {
         }
     }
 
-    /// The viewer learns all that is published. It waits where the viewer knows of more, which no viewer of this pair does.
+    /// The viewer learns everything that is published. Waits if the viewer knows of more, which no viewer of this pair does.
     pub fn teach<R: Wait>(&self, rt: &R, viewer: &mut Viewer)
         requires { viewer.old.book ≡ self.now.book }
         ensures list { viewer.new.list ≡ self.now.shown }
@@ -129,7 +128,7 @@ impl Pair {
         viewer.learn(&Told::new(front, 0, 0));
     }
 
-    /// Gives up the copies, for which it waits for the readers. From then on viewers are `Gone`.
+    /// Gives up the copies, and waits for their readers to do so. From then on viewers are `Gone`.
     pub fn end<R: Wait>(self, rt: &R) {
         let Pair { kind } = self;
         match kind {
@@ -138,8 +137,8 @@ impl Pair {
         }
     }
 
-    /// A pair over the volume, and so many viewers, each of which has seen the opening alone. `NoPlace` where a reader got no
-    /// place.
+    /// A pair over the volume, and `viewers` viewers, each of which has seen only the opening. `NoPlace` if there was no room for
+    /// a reader.
     pub fn start<R: Wait>(
         rt: &R,
         alloc: Global,
@@ -155,8 +154,8 @@ impl Pair {
         Ok((Pair { kind }, viewers))
     }
 
-    /// A pair over the volume that nobody reads: no rows are made. Its one viewer has seen the opening alone; it learns told lists,
-    /// and any read of it is `Gone`. Takes no memory.
+    /// A pair over the volume that nobody reads, so that no rows are made. Its one viewer has seen only the opening; it learns
+    /// published lists, and any read through it is `Gone`. Takes no memory.
     pub fn start_unread(volume: &Volume) -> (Pair, Viewer)
         ensures pair { IsOpened (volume_of volume.now.current) result.0 }
         ensures viewer { result.1 ≡ known result.0.book (opened (volume_of volume.now.current)) }

@@ -1,4 +1,5 @@
-//! The rule of the pair of copies: what readers take is the rows of the published list, and each list that was seen begins it.
+//! The rule of the pair of copies: what readers get is the rows of the published list, and each list that was seen is a
+//! beginning of it.
 use crate::front::Front;
 use crate::published::{Change, Published};
 use atomic_table::{Join, Split};
@@ -6,7 +7,7 @@ use crossbeam_utils::rule::{Outcome, Protocol};
 use left_right::reader::Reader;
 use left_right::writer::Writer;
 
-/// What a seat has seen of the published list, if anything. No value of it is made.
+/// What a seat has seen of the published list, if anything. No value of this type is made.
 pub type View = Option<Front>;
 
 /// The rule itself.
@@ -21,7 +22,7 @@ impl Protocol<Published, View> for Shows {
     ghost first = { None };
 }
 
-/// Entering, and publishing: the seat has then seen the published list.
+/// Entering, and publishing: after it, the seat has seen the published list.
 pub struct Sees;
 
 impl Outcome<Published, View> for Sees {
@@ -30,7 +31,7 @@ impl Outcome<Published, View> for Sees {
     ghost then = { Shown };
 }
 
-/// What the writer tells a reader.
+/// What the writer hands to a reader.
 pub struct Tells;
 
 impl Split<View> for Tells {

@@ -12,7 +12,7 @@ use hfs_model::{Call, Reply};
 use std::alloc::{AllocError, Global};
 use std::marker::Model;
 
-/// A reader, which waits for nobody. Contracts see the list that it took last.
+/// A reader, which waits for nobody. Contracts see the last list that it took.
 #[derive(Drop)]
 pub struct Seat {
     reader: PairReader,
@@ -37,7 +37,7 @@ impl Model for Seat {
 }
 
 impl Seat {
-    /// The seat of a reader that was told of this list.
+    /// The seat of a reader that was handed this list.
     pub fn new(reader: PairReader, met: Front) -> Seat
         requires { Sits met (seat_view reader.place) }
         ensures { result ≡ met }
@@ -45,15 +45,15 @@ impl Seat {
         Seat { reader, met }
     }
 
-    /// The list that it took last.
+    /// The last list that it took.
     pub fn met(&self) -> &Front
         ensures { result.now ≡ self.now }
     {
         &self.met
     }
 
-    /// Answers a call that reads, on the volume of the list that is taken now, which begins with the one that is given. `Memory`
-    /// where memory is wanting; `Gone` where there is no copy to read.
+    /// Answers a call that reads, on the volume of the list that is current now, of which the given list is a beginning. `Memory`
+    /// when out of memory; `Gone` if there is no copy to read.
     pub fn read(&mut self, front: &Front, alloc: Global, call: &Call) -> Result<Reply, ViewFault>
         requires book { self.old.book ≡ front.now.book }
         requires reading { IsTrue (is_reading call.now) }
@@ -78,8 +78,8 @@ impl Seat {
     }
 }
 
-// One read, with the list that was taken. The copy is refused only where it has less than what was seen or told of, so never
-// where nothing was told since the last read.
+// One read, with the list that was taken. The copy is refused only if it has less than what was seen or learned, so never if
+// nothing was learned since the last read.
 fn read(
     reader: PairReader,
     met: &Front,

@@ -1,4 +1,4 @@
-//! What a caller is told of what is published.
+//! The published list as a caller gets it.
 ghost use Rattle.std.specs.Prelude.{◌≡◌};
 ghost use Rattle.hfs_published.specs.Tolds.{ToldState, told};
 
@@ -42,7 +42,7 @@ impl Told {
         self.shown
     }
 
-    /// How many entries the journal had when this was made. Takes no memory.
+    /// How many entries the journal had when this value was made. Takes no memory.
     pub fn made(&self) -> u64
         ensures { result ≡ self.now.made }
     {

@@ -1,4 +1,4 @@
-//! The writer's side where nobody reads: the list alone.
+//! The writer's side if nobody reads: only the list.
 ghost use Rattle.std.specs.Prelude.{◌≡◌, ◌≢◌, MatchBool};
 ghost use Rattle.hfs_published.specs.Answers.{IsAllOrNothing};
 ghost use Rattle.hfs_published.specs.Histories.{known};
@@ -33,7 +33,7 @@ impl Model for Unread {
 }
 
 impl Unread {
-    /// The history of which this list alone was added, and is published.
+    /// The list of `front`, at the head of this history: nothing else was added, and all of it is published.
     pub fn new(front: Front, history: History) -> Unread
         requires { history.head.book ≡ front.book }
         ensures { result ≡ pair front.book front.list front.list }
@@ -52,21 +52,21 @@ impl Unread {
         &self.shown
     }
 
-    /// Whether all that was added is published.
+    /// Whether everything that was added is published.
     pub fn is_shown(&self) -> bool
         ensures { MatchBool result (self.now.all ≡ self.now.shown) (self.now.all ≢ self.now.shown) }
     {
         self.front.changes() == self.shown.changes()
     }
 
-    /// Adds a change after all that were added, and answers whether it did.
+    /// Adds a change after all others, and returns whether it did.
     pub fn add(&mut self, call: &Call) -> bool
         ensures { IsAllOrNothing result (with_call self.old call.now) self.old self.new }
     {
         self.front.add(&self.history, call)
     }
 
-    /// Publishes all that was added.
+    /// Publishes everything that was added.
     pub fn publish(&mut self)
         ensures { self.new ≡ with_all_shown self.old }
     {

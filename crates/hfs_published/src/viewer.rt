@@ -1,4 +1,4 @@
-//! A viewer: its seat, and the longest list that it saw or was told of.
+//! A viewer: its seat, and the longest list that it has seen or learned.
 ghost use Rattle.std.specs.Prelude.{◌≡◌, ◌⊎◌, ◌+◌, length, OnErr, IsTrue};
 ghost use mathlib.Core.List.{IsPrefix};
 ghost use Rattle.hfs_published.specs.Lists.{GivesReply};
@@ -15,17 +15,17 @@ use std::marker::Model;
 /// Why a viewer gives no reply.
 #[derive(Clone, Copy, Debug)]
 pub enum ViewFault {
-    /// Memory is wanting. Only what makes a list or bytes can meet that.
+    /// Out of memory, which only happens to replies with a list or bytes.
     Memory,
-    /// There is no copy to read, as after the pair was ended.
+    /// There is no copy to read, such as after the pair was ended.
     Gone,
 }
 
-/// A reader of what is published, which waits for nobody. Contracts see the history's name and its seen list: the longest
-/// that it read or was told of.
+/// A reader of what is published, which waits for nobody. Contracts see the history's name and its seen list: the longest that it
+/// read or learned.
 #[derive(Drop)]
 pub struct Viewer {
-    // None where no rows are made: then it only learns.
+    // None if no rows are made: then it only learns.
     seat: Option<Seat>,
     front: Front,
 }
@@ -65,8 +65,8 @@ impl Viewer {
         Viewer { seat: None, front }
     }
 
-    /// Answers a call that reads, on the volume of the list that is published now, which begins with all that this viewer saw
-    /// or was told of. `Memory` where memory is wanting; `Gone` where there is no copy to read, as after the pair was ended.
+    /// Answers a call that reads, on the volume of the list that is published now, of which everything that this viewer saw or
+    /// learned is a beginning. `Memory` when out of memory; `Gone` if there is no copy to read, such as after the pair was ended.
     pub fn read(&mut self, alloc: Global, call: &Call) -> Result<Reply, ViewFault>
         requires { IsTrue (is_reading call.now) }
         ensures ok { GivesReply call.now self.old self.new result }
@@ -80,7 +80,7 @@ impl Viewer {
         Ok(reply)
     }
 
-    /// What is told of the folder of that ID, with the codes of `Volume::get_dir_info`.
+    /// Answers with the folder that has this ID, with the codes of `Volume::get_dir_info`.
     pub fn dir_info(&mut self, alloc: Global, dir: u32) -> Result<Reply, ViewFault>
         ensures ok { GivesReply (GetDirInfo dir) self.old self.new result }
         ensures err { OnErr result (self.new ≡ self.old) }
@@ -88,7 +88,7 @@ impl Viewer {
         self.read(alloc, &Call::GetDirInfo { dir })
     }
 
-    /// What is told of the folder's item of that name, with the codes of `Volume::get_cat_info`.
+    /// Answers with the folder's item of that name, with the codes of `Volume::get_cat_info`.
     pub fn info(&mut self, alloc: Global, dir: u32, name: SharedBytes) -> Result<Reply, ViewFault>
         ensures ok { GivesReply (GetCatInfo dir name) self.old self.new result }
         ensures err { OnErr result (self.new ≡ self.old) }
@@ -96,8 +96,7 @@ impl Viewer {
         self.read(alloc, &Call::GetCatInfo { dir, name })
     }
 
-    /// What is told of the folder's child at that place in name order, counted from 1, with the codes of
-    /// `Volume::get_indexed`.
+    /// Answers with the folder's child at that place in name order, counted from 1, with the codes of `Volume::get_indexed`.
     pub fn indexed(&mut self, alloc: Global, dir: u32, index: u32) -> Result<Reply, ViewFault>
         ensures ok { GivesReply (GetIndexed dir index) self.old self.new result }
         ensures err { OnErr result (self.new ≡ self.old) }
@@ -105,7 +104,7 @@ impl Viewer {
         self.read(alloc, &Call::GetIndexed { dir, index })
     }
 
-    /// What is told of all the folder's children, in name order, with the codes of `Volume::list`.
+    /// Answers with all the folder's children, in name order, with the codes of `Volume::list`.
     pub fn list(&mut self, alloc: Global, dir: u32) -> Result<Reply, ViewFault>
         ensures ok { GivesReply (List dir) self.old self.new result }
         ensures err { OnErr result (self.new ≡ self.old) }
@@ -113,7 +112,7 @@ impl Viewer {
         self.read(alloc, &Call::List { dir })
     }
 
-    /// At most 65,536 bytes of a file's fork from an offset on, with the codes of `Volume::read_fork`.
+    /// At most 65,536 bytes of a file's fork, starting at an offset, with the codes of `Volume::read_fork`.
     pub fn read_fork(
         &mut self,
         alloc: Global,
@@ -136,7 +135,7 @@ impl Viewer {
         self.read(alloc, &call)
     }
 
-    /// Takes in a told list of the same pair: from now on this viewer shows no less. Takes no memory.
+    /// Takes in a published list of the same pair: from now on this viewer shows no less. Takes no memory.
     pub fn learn(&mut self, told: &Told)
         requires { told.now.book ≡ self.old.book }
         ensures longer { (self.new.list ≡ self.old.list) ⊎ (self.new.list ≡ told.now.list) }

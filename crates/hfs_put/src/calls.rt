@@ -1,4 +1,4 @@
-//! Calls on a mounted volume, each of which has to be accepted.
+//! Calls on a mounted volume, each of which must be accepted.
 ghost use Rattle.std.specs.Prelude.{◌≡◌, [], Ok, OnOk, IfErr};
 ghost use Rattle.std.specs.List.{cons_option};
 ghost use Rattle.hfs_check.specs.VolumeOf.{volume_of};
@@ -41,7 +41,7 @@ fn make_any(alloc: Global, volume: &mut Volume, call: Option<Call>) -> Result<()
     }
 }
 
-/// Makes the calls by which an item stands in a folder.
+/// Makes the calls that make an item in a folder.
 pub(crate) fn make_item(
     alloc: Global,
     volume: &mut Volume,
@@ -62,7 +62,7 @@ pub(crate) fn make_item(
     Ok(())
 }
 
-/// Makes the calls that come behind the bytes of a file, or behind all that lies in a folder.
+/// Makes the calls that come after the bytes of a file, or after everything in a folder.
 pub(crate) fn end_item(
     alloc: Global,
     volume: &mut Volume,

@@ -1,4 +1,4 @@
-//! What becomes of one item that is to come, by what stands on the disk in its place.
+//! What happens to one item that is to be put, given what is already there on the disk.
 ghost use Rattle.std.specs.Prelude.{◌≡◌, None, true};
 ghost use Rattle.hfs_put_plan.specs.Why.{why_not};
 ghost use Rattle.hfs_check.specs.VolumeOf.{volume_of};
@@ -13,29 +13,29 @@ use hfs_put_plan::{
 use hfs_sources::{ItemPlan, Look, SourceItem};
 use hfs_volume::Volume;
 
-/// The folder into which an item is to come.
+/// The folder into which an item is to be put.
 #[derive(Clone, Copy)]
 pub enum Destination {
-    /// A folder that stands on the disk, by its ID.
+    /// A folder that is on the disk, by its ID.
     OnDisk(u32),
-    /// A folder that comes, too: nothing stands in it.
+    /// A folder that is also being put: nothing is in it yet.
     Made,
-    /// None: it is below what can't be put.
+    /// None: the item is below something that can't be put.
     Refused,
 }
 
-/// What becomes of an item that is to come.
+/// What happens to an item that is to be put.
 #[derive(Clone, Copy)]
 pub enum Decision {
-    /// It is put, and this is the folder into which comes what lies in it.
+    /// It is put; what is in it goes into the folder `inside`.
     Put { item: PutItem, inside: Destination },
     /// It can't be put.
     Refused(Why),
-    /// It is below what can't be put, and nothing is told of it.
+    /// It is below something that can't be put, and nothing is reported about it.
     Untold,
 }
 
-/// What a value tells of one item.
+/// What a value says about one item.
 fn info_in(value: &Value) -> Option<Info>
     ensures { result ≡ info_in value.now }
 {
@@ -52,7 +52,7 @@ fn info_in(value: &Value) -> Option<Info>
     }
 }
 
-/// What is told of a folder's item of that name, where there is a name, and such an item.
+/// What a reply says about a folder's item of that name, if there is a name, and such an item.
 fn info_named(volume: &Volume, dir: u32, name: Option<Name>) -> Option<Info>
     ensures { result ≡ info_named (volume_of volume.now.current) dir name }
 {
@@ -61,7 +61,7 @@ fn info_named(volume: &Volume, dir: u32, name: Option<Name>) -> Option<Info>
     info_in(&reply.value)
 }
 
-/// What stands there, as far as it matters to what comes in its place.
+/// What is already there, as far as it matters for what is put in its place.
 fn standing_of(there: &Option<Info>) -> Option<Standing>
     ensures { result ≡ standing_of there.now }
 {
@@ -74,7 +74,7 @@ fn standing_of(there: &Option<Info>) -> Option<Standing>
     }
 }
 
-/// A folder, or else a file: also where nothing of its own is there.
+/// A folder, or else a file, even without an entry of its own.
 fn item_kind(own: Option<Look>) -> ItemKind
     ensures { result ≡ item_kind own }
 {
@@ -87,7 +87,7 @@ fn item_kind(own: Option<Look>) -> ItemKind
     }
 }
 
-/// Whether an item can't come in its place.
+/// Whether an item can't be put in its place.
 fn is_taken(placing: Placing) -> bool
     ensures { result ≡ is_taken placing }
 {
@@ -99,7 +99,7 @@ fn is_taken(placing: Placing) -> bool
     }
 }
 
-/// Whether both forks are as large as forks are.
+/// Whether neither fork is larger than a fork may be.
 fn fork_spans_fit(plan: &ItemPlan) -> bool
     ensures { result ≡ fork_spans_fit plan.now }
 {
@@ -120,7 +120,7 @@ fn findings_with(plan: &ItemPlan, placing: Placing) -> Findings
     }
 }
 
-/// Why an item can't be put that gets its place so.
+/// Why an item that is placed in this way can't be put.
 fn why_refused(plan: &ItemPlan, placing: Placing) -> Option<Why>
     ensures { result ≡ why_not (findings_with placing plan.now) }
 {
@@ -144,7 +144,7 @@ fn put_item(source: &SourceItem, name: Name, placing: Placing) -> PutItem
     }
 }
 
-/// The folder into which comes what lies in the folder that stands there.
+/// The folder for what is in the folder that is already there.
 fn inside_kept(there: &Option<Info>) -> Destination
     ensures { result ≡ inside_kept there.now }
 {
@@ -154,7 +154,7 @@ fn inside_kept(there: &Option<Info>) -> Destination
     }
 }
 
-/// The folder into which comes what lies in an item that gets its place so.
+/// The folder for what is in an item that is placed in this way.
 fn inside_of(placing: Placing, there: &Option<Info>) -> Destination
     ensures { result ≡ inside_of placing there.now }
 {
@@ -164,7 +164,7 @@ fn inside_of(placing: Placing, there: &Option<Info>) -> Destination
     }
 }
 
-/// What becomes of an item by what is against it.
+/// What happens to an item, given what speaks against it.
 fn decision_by(
     source: &SourceItem,
     why: Option<Why>,
@@ -187,7 +187,7 @@ fn decision_by(
     }
 }
 
-/// What becomes of an item that gets its place so.
+/// What happens to an item that is placed in this way.
 #[tactic(auto, using(crate::proofs::FittingForks::why_fits))]
 fn placed_by(source: &SourceItem, placing: Placing, inside: Destination) -> Decision
     ensures { result ≡ placed_by placing inside source.now }
@@ -197,7 +197,7 @@ fn placed_by(source: &SourceItem, placing: Placing, inside: Destination) -> Deci
     decision_by(source, why, placing, inside)
 }
 
-/// How an item gets its place where this stands there.
+/// How an item is placed if this is already there.
 fn placing_over(source: &SourceItem, replace: bool, there: &Option<Info>) -> Placing
     ensures { result ≡ placing_over replace there.now source.now }
 {
@@ -205,7 +205,7 @@ fn placing_over(source: &SourceItem, replace: bool, there: &Option<Info>) -> Pla
     how_placed(standing_of(there), item_kind(plan.own), replace)
 }
 
-/// What becomes of an item where this stands in its place.
+/// What happens to an item if this is already there.
 fn judged(source: &SourceItem, replace: bool, there: &Option<Info>) -> Decision
     ensures { result ≡ judged replace there.now source.now }
 {
@@ -214,7 +214,7 @@ fn judged(source: &SourceItem, replace: bool, there: &Option<Info>) -> Decision
     placed_by(source, placing, inside)
 }
 
-/// What becomes of an item that is to come into that folder.
+/// What happens to an item that is to be put into that folder.
 pub(crate) fn decide(
     volume: &Volume,
     replace: bool,

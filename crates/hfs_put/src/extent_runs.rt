@@ -1,4 +1,4 @@
-//! The runs of an image in which the extents of a fork lie.
+//! The runs of an image that hold the extents of a fork.
 ghost use Rattle.std.specs.Prelude.{◌≡◌, ◌<◌, ◌^◌, ◌++◌, [], OnOk};
 ghost use Rattle.std.specs.List.{cons_option};
 ghost use Rattle.hfs_space.specs.Extents.{block_total};
@@ -9,7 +9,7 @@ use hfs_model::Fork;
 use hfs_sources::ForkRun;
 use std::alloc::AllocError;
 
-/// The run of an extent's blocks, before which the fork has so many allocation blocks; none of an extent without blocks.
+/// The run of an extent's blocks, before which the fork has `before` allocation blocks; None for an extent without blocks.
 fn run_at(mdb: &Mdb, item: usize, fork: Fork, before: u32, extent: Extent) -> Option<ForkRun>
     ensures { result ≡ run_at mdb.now item fork before extent }
 {

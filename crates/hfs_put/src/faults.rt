@@ -21,7 +21,7 @@ pub enum CallFault {
 pub enum LayFault {
     /// Memory was refused.
     NoMemory,
-    /// The folder at this place of the list was to be kept, and isn't there.
+    /// The folder at this place of the list was to be kept, and doesn't exist.
     Absent { place: usize },
     /// A call of the item at this place of the list was refused, with this reply.
     Refused { place: usize, reply: Reply },

@@ -9,7 +9,7 @@ use hfs_put_calls::PutItem;
 use std::alloc::{AllocError, Global};
 use std::collections::BTreeMap;
 
-/// The ID of the item at a place, where it is a file.
+/// The ID of the item at a place, if it is a file.
 fn file_id(item: &PutItem, ids: &[u32], place: usize) -> Option<u32>
     ensures { result ≡ file_id (Some item.now) (slice_get ids.now place) }
 {

@@ -1,4 +1,4 @@
-//! Folders of a list that are open: what comes may lie in them.
+//! Folders of a list that are open, so that items may be put into them.
 ghost use Rattle.std.specs.Prelude.{◌≡◌, ℕ, Ok, OnOk, IfErr};
 ghost use Rattle.hfs_check.specs.VolumeOf.{volume_of};
 ghost use Rattle.hfs_put_calls.specs.Put.{folder_id, is_at, left};
@@ -17,7 +17,7 @@ pub struct OpenFolder {
     /// Its place in the list.
     pub place: usize,
     pub id: u32,
-    /// The folder in which it lies.
+    /// The folder that it is in.
     pub dir: u32,
     pub item: PutItem,
 }
@@ -42,7 +42,7 @@ pub(crate) fn folder_id(target: u32, folders: &[OpenFolder]) -> u32
     }
 }
 
-/// Leaves a folder: makes the calls that come behind all that lies in it.
+/// Leaves a folder: makes the calls that come after everything in it.
 #[tactic(auto, using(crate::proofs::Absences::none_is_absent))]
 fn leave_one(
     alloc: Global,
@@ -63,7 +63,7 @@ fn leave_one(
     }
 }
 
-/// Leaves the open folders, the innermost first, up to the one in which the next item lies.
+/// Leaves the open folders, innermost first, up to the one that the next item is in.
 #[tactic(auto, using(crate::proofs::FolderRows::left_there, crate::proofs::FolderRows::left_none))]
 pub(crate) fn leave(
     alloc: Global,

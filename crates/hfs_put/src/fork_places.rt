@@ -65,7 +65,7 @@ fn push_record(
     push_fork(alloc, runs, volume, place, Fork::ResFork, &file)
 }
 
-/// Where the forks lie of the files of the list that are among the records of a volume, in the order of the records.
+/// Where the forks lie of those files of the list that are among the records of a volume, in the order of the records.
 fn runs_among(
     alloc: Global,
     volume: &Volume,
@@ -91,9 +91,9 @@ fn sort_runs(runs: &mut Vec<ForkRun>)
     runs.sort_unstable_by_key(|run| run.place);
 }
 
-/// Where both forks of each file of a list lie in the image of a volume, by the IDs that laying the list answered: a run for each
-/// extent that has blocks, in the order of their places. A run has all bytes of its blocks, also those behind the fork's end. The catalog is
-/// read once. The only error is want of memory.
+/// Where both forks of each file of a list lie in the image of a volume, given the IDs that laying the list returned: a run for
+/// each extent that has blocks, in the order of their places. A run has all bytes of its blocks, even those past the fork's end.
+/// The catalog is read once. Fails only when out of memory.
 pub fn fork_runs(
     alloc: Global,
     volume: &Volume,

@@ -1,4 +1,4 @@
-//! A list of items is laid on a mounted volume.
+//! Laying a list of items on a mounted volume.
 ghost use Rattle.std.specs.Prelude.{◌≡◌, ℕ, Ok, OnOk, IfOk, IfErr, IfNone, IfSome};
 ghost use Rattle.hfs_check.specs.VolumeOf.{volume_of};
 ghost use Rattle.hfs_put_calls.specs.Accepted.{all_accepted};
@@ -16,7 +16,7 @@ use hfs_put_calls::PutItem;
 use hfs_volume::Volume;
 use std::alloc::Global;
 
-/// The ID that a value tells of one item.
+/// The ID in a value about one item.
 fn id_in(value: &Value) -> Option<u32>
     ensures { result ≡ id_in value.now }
 {
@@ -43,7 +43,7 @@ fn id_named(volume: &Volume, dir: u32, name: &[u8]) -> Option<u32>
     id_in(&reply.value)
 }
 
-/// Makes the calls that come behind a file's bytes; of a folder there are none yet.
+/// Makes the calls that come after a file's bytes; for a folder there are none yet.
 fn end_file(
     alloc: Global,
     volume: &mut Volume,
@@ -63,7 +63,7 @@ fn end_file(
     }
 }
 
-/// Makes an item, a file with all but its bytes: its ID, or none where it is a folder to be kept that isn't there.
+/// Makes an item, a file without its bytes, and returns its ID; None for a folder to be kept that doesn't exist.
 #[tactic(auto, using(crate::proofs::Absences::lacks_name, crate::proofs::PlacedItems::stands, crate::proofs::PlacedItems::make_fault, crate::proofs::PlacedItems::end_fault))]
 fn stand(
     alloc: Global,
@@ -88,7 +88,7 @@ fn stand(
     Ok(Some(id))
 }
 
-/// Opens a folder: what comes may lie in it. Of a file nothing is opened.
+/// Opens a folder, so that items may be put into it. For a file nothing is opened.
 fn open(folders: &mut Vec<OpenFolder>, folder: OpenFolder) -> Result<(), LayFault>
     ensures ok { OnOk result ((now : ℕ) → opens now folders.new.items
         ≡ opened folder.item.kind (open_of now folder) (opens now folders.old.items)) }
@@ -103,7 +103,7 @@ fn open(folders: &mut Vec<OpenFolder>, folder: OpenFolder) -> Result<(), LayFaul
     }
 }
 
-/// Puts the item at a place of the list into the innermost open folder, or into the target: its ID.
+/// Puts the item at a place of the list into the innermost open folder, or into the target, and returns its ID.
 #[tactic(auto, using(crate::proofs::Absences::lacks_there, crate::proofs::Absences::call_tells_none, crate::proofs::Absences::memory_is_absent, crate::proofs::PlacedItems::is_placed, crate::proofs::PlacedItems::placed_fault))]
 fn place_item(
     alloc: Global,
@@ -143,7 +143,7 @@ fn place_item(
     }
 }
 
-/// Puts the item at a place of the list, once the folders are left in which it doesn't lie: its ID.
+/// Leaves the folders that the item at a place of the list isn't in, then puts it, and returns its ID.
 #[tactic(auto, using(crate::proofs::Absences::lacks_one, crate::proofs::Absences::other_is_absent, crate::proofs::PlacedItems::left_fault_first, crate::proofs::PlacedItems::one_is))]
 fn lay_one(
     alloc: Global,
@@ -168,9 +168,9 @@ fn lay_one(
     place_item(alloc, volume, folders, target, now, place, item)
 }
 
-/// Puts a list of items into a folder of a volume by all calls but those that write forks, at a moment: the IDs of the items, in
-/// the order of the list. Faults: the first call that is refused, with the place of its item, where those before it have been
-/// made; `Absent` where an item is to be kept that isn't there; want of memory.
+/// Puts a list of items into a folder of a volume with all calls except those that write forks, at a moment, and returns the IDs
+/// of the items, in the order of the list. Faults: the first call that is refused, with the place of its item; the calls before
+/// it have been made. `Absent` if an item is to be kept that doesn't exist; out of memory.
 #[tactic(auto, using(crate::proofs::LaidLists::laid_all, crate::proofs::LaidLists::fault_all))]
 pub fn lay_items(
     alloc: Global,

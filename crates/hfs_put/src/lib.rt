@@ -1,4 +1,4 @@
-//! Files of a host are laid on a mounted volume, by all calls that put them but those that write forks.
+//! Files of a host are laid on a mounted volume, with all calls that put them except those that write forks.
 #![tactic(auto)]
 
 mod calls;

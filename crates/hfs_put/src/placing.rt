@@ -1,4 +1,4 @@
-//! How the items of a list that is to come get their places on a mounted volume.
+//! How the items of a list are placed on a mounted volume.
 ghost use Rattle.std.specs.Prelude.{◌≡◌, ◌++◌, [], IfOk, OnOk};
 ghost use Rattle.std.specs.List.{cons_option};
 ghost use Rattle.hfs_check.specs.VolumeOf.{volume_of};
@@ -18,21 +18,21 @@ use std::alloc::{AllocError, Global};
 /// An item that can't be put.
 #[derive(Clone, Copy)]
 pub struct RefusedItem {
-    /// Its place in the list of what is to come.
+    /// Its place in the list.
     pub place: usize,
     pub why: Why,
 }
 
-/// What becomes of a list that is to come.
+/// What happens to a list that is to be put.
 #[derive(Drop)]
 pub enum PlacedSources {
-    /// All can be put: each item has the place in this list that it has in the list of what comes.
+    /// All can be put: each item has the same place in this list as in that of the sources.
     All(Vec<PutItem>),
-    /// These can't be put, in the order of the list. What lies below one of them isn't told.
+    /// These can't be put, in the order of the list. What is below one of them isn't reported.
     Refused(Vec<RefusedItem>),
 }
 
-/// The code that the locks of a volume's master directory block give.
+/// The code for the locks in a volume's master directory block.
 fn directory_lock_code(mdb: &Mdb) -> Option<i16>
     ensures { result ≡ directory_lock_code mdb.now }
 {
@@ -46,15 +46,15 @@ fn directory_lock_code(mdb: &Mdb) -> Option<i16>
     None
 }
 
-/// The code by which a locked volume refuses each call that changes it: -44 where it is locked by hardware, else -46. None of a
-/// volume that isn't locked.
+/// The code with which a locked volume refuses each call that changes it: -44 if it is locked by hardware, otherwise -46. None
+/// for a volume that isn't locked.
 pub fn lock_code(volume: &Volume) -> Option<i16>
     ensures { result ≡ lock_code (volume_of volume.now.current) }
 {
     directory_lock_code(&volume.directory())
 }
 
-/// The folder into which an item comes: the target, or what comes of its parent.
+/// The folder into which an item is put: the target, or what its parent becomes.
 fn destination(target: u32, insides: &[Destination], parent: Option<usize>) -> Destination
     ensures { result ≡ destination target insides.now parent }
 {
@@ -67,7 +67,7 @@ fn destination(target: u32, insides: &[Destination], parent: Option<usize>) -> D
     }
 }
 
-/// The folder into which comes what lies in an item.
+/// The folder for what is in an item.
 fn inside(decision: &Decision) -> Destination
     ensures { result ≡ inside decision.now }
 {
@@ -78,7 +78,7 @@ fn inside(decision: &Decision) -> Destination
     }
 }
 
-/// Notes what becomes of the item at a place of the list.
+/// Notes what happens to the item at a place of the list.
 fn note(
     items: &mut Vec<PutItem>,
     refused: &mut Vec<RefusedItem>,
@@ -103,9 +103,9 @@ fn note(
     }
 }
 
-/// Finds the place of each item of a list that is to come into the folder `target`, in the order of the walk: the item itself, where
-/// it can be put, with its kind, name, facts, lengths, and how it gets its place; else why it can't. Where a file stands in the place of
-/// a file it is replaced if `replace` says so. Each item is looked up once. The only error is want of memory.
+/// Finds how each item of a list is placed that is to be put into the folder `target`, in the order of the walk: the item itself,
+/// if it can be put, with its kind, name, facts, lengths, and how it is placed; otherwise why it can't. A file that is in the
+/// place of another file is replaced if `replace` says so. Each item is looked up once. Fails only when out of memory.
 #[tactic(auto, using(crate::proofs::PlacedLists::so_far_next, crate::proofs::PlacedLists::so_far_put, crate::proofs::PlacedLists::so_far_told, crate::proofs::PlacedLists::placed_all))]
 pub fn place_sources(
     alloc: Global,

@@ -8,10 +8,10 @@ use hfs_model::{Call, Fork, ItemKind, SharedBytes};
 use hfs_put_plan::Placing;
 use std::alloc::{AllocError, Global};
 
-/// By how many calls an item is made, at most.
+/// The most calls that make an item.
 pub const MAKING_CALLS: usize = 5;
 
-/// How many calls come behind its bytes, or behind what lies in it, at most.
+/// The most calls that come after a file's bytes, or after what is in a folder.
 pub const ENDING_CALLS: usize = 2;
 
 /// A copy of a name, as calls take it.
@@ -142,8 +142,8 @@ fn file_making_call(
     }
 }
 
-/// The call at a place, counted from 0, among those that make an item in a folder: none where this item wants no call there.
-/// The only error is want of memory.
+/// The call at a place, counted from 0, among those that make an item in a folder; None if this item needs no call there. Fails
+/// only when out of memory.
 pub fn making_call(
     alloc: Global,
     dir: u32,
@@ -187,7 +187,7 @@ fn lock_call(alloc: Global, dir: u32, item: &PutItem, now: u32) -> Result<Option
     }
 }
 
-/// The call at a place among those that come behind all that lies in a folder.
+/// The call at a place among those that come after everything in a folder.
 fn folder_ending_call(
     alloc: Global,
     dir: u32,
@@ -210,7 +210,7 @@ fn folder_ending_call(
     }
 }
 
-/// The call at a place among those that come behind the bytes of a file.
+/// The call at a place among those that come after the bytes of a file.
 fn file_ending_call(
     alloc: Global,
     dir: u32,
@@ -227,8 +227,8 @@ fn file_ending_call(
     }
 }
 
-/// The call at a place, counted from 0, among those that come behind the bytes of a file, or behind all that lies in a folder:
-/// none where this item wants no call there. The only error is want of memory.
+/// The call at a place, counted from 0, among those that come after the bytes of a file, or after everything in a folder; None if
+/// this item needs no call there. Fails only when out of memory.
 pub fn ending_call(
     alloc: Global,
     dir: u32,

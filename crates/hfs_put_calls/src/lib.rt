@@ -1,4 +1,4 @@
-//! The calls of the File Manager by which files of a host are put on a disk.
+//! The calls of the File Manager that put files of a host on a disk.
 #![tactic(auto)]
 
 mod calls;

@@ -1,22 +1,22 @@
-//! What holds of a file in which a list was put on the volume of an image, each as the contract of a function that does nothing.
+//! What holds for a file in which a list was put on the volume of an image, each law as the contract of a function that does
+//! nothing.
 ghost use Rattle.hfs_put_files.specs.Arrivals.{LaidForksAreArrivals, WholeForksCome};
 ghost use Rattle.hfs_put_files.specs.PutFiles.{PutFilesHoldPut};
 
-/// A fork of which a tree has as many bytes as were planned comes as it is there.
+/// A fork of which a tree has as many bytes as were planned is put as it is there.
 pub fn whole_forks_come()
     ensures { WholeForksCome }
 {}
 
-/// Where forks of a tree are laid in runs of an image, and where the bytes that come of this tree for the list are laid there, the
-/// same comes of it.
+/// Laying the forks of a tree in runs of an image gives the same as laying there the bytes that this tree gives for the list.
 pub fn laid_forks_are_arrivals()
     ensures { LaidForksAreArrivals }
 {}
 
-/// The whole way of a list that is put on the volume of an image in a file, of which a copy with the image's working blocks was
-/// read: the forks of a tree are laid in the file, and then the changed blocks in the image's, with the sum of a disk copy. In the
-/// image's place stands then what the File Manager makes of the image's volume by the whole list of calls with the bytes that come
-/// of this tree, and every other byte is the file's own but for that sum.
+/// All steps of putting a list on the volume of an image in a file, of which a copy with the image's working blocks was read: the
+/// forks of a tree are laid in the file, and then the changed blocks in the image's place, with the sum of a disk copy. The
+/// image's place then has what the File Manager makes of the image's volume by the whole list of calls with the bytes that this
+/// tree gives, and every other byte is the file's own except for that sum.
 pub fn put_files_hold_put()
     ensures { PutFilesHoldPut }
 {}

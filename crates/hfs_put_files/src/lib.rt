@@ -1,4 +1,4 @@
-//! What a file holds in which a list of files and folders of a host was put on the volume of an image.
+//! What a file holds after a list of a host's files and folders was put on the volume of an image in it.
 #![tactic(auto)]
 
 mod laws;

@@ -1,4 +1,4 @@
-//! The blocks of a patch that lie beside the runs of forks.
+//! The blocks of a patch that lie outside the runs of forks.
 ghost use Rattle.std.specs.Prelude.{◌≡◌, ◌<◌, IfOk, OnOk};
 ghost use Rattle.hfs_blocks.specs.Layers.{changes, AreWithin};
 ghost use Rattle.hfs_put.specs.ForkRuns.{AreRunsApart};
@@ -8,7 +8,7 @@ use hfs_changed_blocks::ChangedBlocks;
 use hfs_sources::ForkRun;
 use std::alloc::{AllocError, Global};
 
-/// How many of the runs begin at this byte or before it. A binary search.
+/// How many of the runs begin at or before this byte. A binary search.
 fn begun(runs: &[ForkRun], byte: u64) -> usize
     requires { AreRunsApart runs.now }
     ensures { HaveBegun runs.now byte result }
@@ -30,7 +30,7 @@ fn is_in_runs(runs: &[ForkRun], n: u32) -> bool
     byte - run.place < run.len
 }
 
-/// Puts in block `n` of a patch, where it has one, unless the block begins in one of the runs.
+/// Keeps block `n` of a patch, if it has one, unless the block begins in one of the runs.
 fn keep_block(
     kept: &mut ChangedBlocks,
     patch: &ChangedBlocks,
@@ -50,7 +50,8 @@ fn keep_block(
     }
 }
 
-/// The blocks of a patch of a volume of `count` blocks, but for those that begin in one of the runs. The only error is want of memory.
+/// The blocks of a patch of a volume of `count` blocks, except those that begin in one of the runs. Fails only when out of
+/// memory.
 pub(crate) fn beside_runs(
     alloc: Global,
     patch: &ChangedBlocks,

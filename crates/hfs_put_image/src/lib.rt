@@ -1,4 +1,4 @@
-//! A list of items is put on a mounted copy of an image: what goes out, and where the bytes of its forks go.
+//! Putting a list of items on a mounted copy of an image: what is written, and where the bytes of its forks go.
 #![tactic(auto)]
 
 mod beside;

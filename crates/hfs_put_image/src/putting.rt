@@ -1,4 +1,4 @@
-//! A list of items is put on a mounted copy of an image.
+//! Putting a list of items on a mounted copy of an image.
 ghost use Rattle.std.specs.Prelude.{◌≡◌, IfOk, IfErr};
 ghost use Rattle.hfs_blocks.specs.Blocks.{block_at, block_count};
 ghost use Rattle.hfs_blocks.specs.Layers.{changes, AreWithin};
@@ -18,19 +18,19 @@ use hfs_sources::ForkRun;
 use hfs_volume::Volume;
 use std::alloc::{AllocError, Global};
 
-/// What goes out of a list that was put on a copy of an image.
+/// What is written after a list was put on a copy of an image.
 #[derive(Drop)]
 pub struct PutBlocks {
-    /// The blocks that are to be laid over the image, none of which is in a run.
+    /// The blocks to be laid over the image, none of which is in a run.
     pub patch: ChangedBlocks,
-    /// Where the bytes of the list's forks are to stand then, in the order of their places.
+    /// Where the bytes of the list's forks go, in the order of their places.
     pub runs: Vec<ForkRun>,
     /// The IDs of the items, in the order of the list.
     pub ids: Vec<u32>,
 }
 
-/// The blocks that go out of a volume: each that is other than it was when the volume was mounted, but for those that begin in one of
-/// the runs. The only error is want of memory.
+/// The blocks of a volume that are written: each that differs from what it was when the volume was mounted, except those that
+/// begin in one of the runs. Fails only when out of memory.
 fn going_out(alloc: Global, volume: &Volume, runs: &[ForkRun]) -> Result<ChangedBlocks, AllocError>
     requires { AreRunsApart runs.now }
     ensures { IfOk result (AreGoingOut volume.now runs.now) }
@@ -40,10 +40,11 @@ fn going_out(alloc: Global, volume: &Volume, runs: &[ForkRun]) -> Result<Changed
     beside_runs(alloc, &changed, runs, base.blocks().count())
 }
 
-/// Puts a list of items into folder `target` of a volume that was mounted over a copy of an image, at the moment `now`, by all calls but those that
-/// write forks. The image with the bytes of the list's forks laid in the runs, and with the patch over it, holds what the File Manager makes of its
-/// volume by the whole list, but for the bytes of forks of other files. No block of the patch begins in a run: one that a fork has got may be other than
-/// it was in the copy, as the last block but one of the image, which is read. Faults: those of `lay_items`.
+/// Puts a list of items into folder `target` of a volume that was mounted over a copy of an image, at the moment `now`, with all
+/// calls except those that write forks. The image with the bytes of the list's forks laid in the runs, and with the patch over
+/// it, holds what the File Manager makes of its volume by the whole list, except for the bytes of forks of other files. No block
+/// of the patch begins in a run: a block that a fork has got may differ from what it was in the copy, such as the last block but
+/// one of the image, which is read. Faults: those of `lay_items`.
 pub fn put_items(
     alloc: Global,
     volume: &mut Volume,

@@ -1,4 +1,4 @@
-//! What comes of a list of items that is put on an image, of which the working blocks alone were read.
+//! What putting a list of items makes of an image of which only the working blocks were read.
 #![tactic(auto)]
 
 mod laws;

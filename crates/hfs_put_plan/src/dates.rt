@@ -1,14 +1,14 @@
-//! Times of a host's files as dates of a Macintosh: the nearest that there is.
+//! Times of a host's files as the nearest Macintosh dates.
 ghost use Rattle.std.specs.Prelude.{◌≡◌};
 ghost use Rattle.hfs_put_plan.specs.Dates.{date_before_1970, date_since_1970};
 
-/// The beginning of 1970, in seconds since midnight of 1 January 1904.
+/// The beginning of 1970, in seconds since midnight, 1 January 1904.
 const YEAR_1970: u64 = 2_082_844_800;
 
 /// The last date of a Macintosh.
 const LAST: u64 = 4_294_967_295;
 
-/// The date so many seconds behind the beginning of 1970.
+/// The date `seconds` seconds after the beginning of 1970.
 #[tactic(auto, unfolding(crate::specs::Dates::date_since_1970))]
 pub fn date_since_1970(seconds: u64) -> u32
     ensures { result ≡ date_since_1970 seconds }
@@ -20,7 +20,8 @@ pub fn date_since_1970(seconds: u64) -> u32
     }
 }
 
-/// The date so many whole seconds before the beginning of 1970, and maybe a part of one more: the second in which it lies.
+/// The date `seconds` whole seconds before the beginning of 1970, and maybe a part of one more: the second in which that time
+/// lies.
 #[tactic(auto, unfolding(crate::specs::Dates::date_before_1970))]
 pub fn date_before_1970(seconds: u64, has_part: bool) -> u32
     ensures { result ≡ date_before_1970 seconds has_part }

@@ -9,10 +9,10 @@ use std::cmp::Ordering;
 /// What an entry of a host's folder is.
 #[derive(Clone, Copy)]
 pub enum EntryKind {
-    /// A file of so many bytes.
+    /// A file of this many bytes.
     File(u64),
     Folder,
-    /// Neither, as a link or a device.
+    /// Neither, such as a link or a device.
     Other,
 }
 
@@ -21,44 +21,45 @@ pub enum EntryKind {
 pub struct Entry<'a> {
     pub name: &'a [u8],
     pub kind: EntryKind,
-    /// When it was last changed, in seconds since midnight of 1 January 1904.
+    /// When it was last changed, in seconds since midnight, 1 January 1904.
     pub modified: u32,
 }
 
-/// An item of a folder, by the places of the entries that make it.
+/// An item of a folder, by the places of its entries.
 #[derive(Clone, Copy)]
 pub struct FolderItem {
-    /// The entry that has its name.
+    /// The entry with its name.
     pub own: Option<usize>,
-    /// The entry that belongs to it, which is called by `._` and its name.
+    /// The entry that belongs to it, which is named `._` and then its name.
     pub double: Option<usize>,
 }
 
-/// What the system of a host keeps of a folder's looks.
+/// The file in which a host's system keeps how a folder looks.
 const LOOKS: [u8; 9] = *b".DS_Store";
 
-/// Whether an entry belongs to the item whose name stands behind `._`.
+/// Whether an entry belongs to the item whose name follows its `._`.
 fn is_double(name: &[u8]) -> bool
     ensures { result ≡ is_double name.now }
 {
     name.len() >= 2 && name[0] == b'.' && name[1] == b'_'
 }
 
-/// The name of the item to which an entry belongs.
+/// The name of the item that an entry belongs to.
 fn item_of(name: &[u8]) -> &[u8]
     ensures { result.now ≡ item_of name.now }
 {
     if is_double(name) { &name[2..] } else { name }
 }
 
-/// Whether an entry is no part of what comes.
+/// Whether an entry is left out.
 fn stays_behind(name: &[u8]) -> bool
     ensures { result ≡ stays_behind name.now }
 {
     item_of(name) == LOOKS.as_slice()
 }
 
-/// The order in which a folder's entries are taken: by the bytes of the names of their items, and of one item its own entry first.
+/// The order in which a folder's entries are taken: by the bytes of the names of their items, and for one item its own entry
+/// first.
 pub fn entry_order(a: &[u8], b: &[u8]) -> Ordering
     ensures { result ≡ entry_cmp a.now b.now }
 {
@@ -74,7 +75,7 @@ fn is_pair(first: &[u8], second: &[u8]) -> bool
     !is_double(first) && is_double(second) && item_of(second) == first
 }
 
-/// The item of an entry by itself.
+/// The item of a single entry.
 fn alone(place: usize, name: &[u8]) -> Option<FolderItem>
     ensures { result ≡ alone place name.now }
 {
@@ -93,7 +94,7 @@ fn alone(place: usize, name: &[u8]) -> Option<FolderItem>
     }
 }
 
-/// The item of an entry and the one behind it, which belongs to it.
+/// The item of an entry and the next one, which belongs to it.
 fn both(place: usize, name: &[u8]) -> Option<FolderItem>
     requires { place + 1 < 18446744073709551616 }
     ensures { result ≡ both place name.now }
@@ -108,7 +109,8 @@ fn both(place: usize, name: &[u8]) -> Option<FolderItem>
     }
 }
 
-/// What the first of some entries makes, the second with it where that belongs to it; and how many of them were taken.
+/// The item that the first of some entries makes, together with the second if that belongs to it; and how many of them were
+/// taken.
 fn first_item(place: usize, entries: &[Entry<'_>]) -> (Option<FolderItem>, usize)
     requires some { 0 < length entries.now }
     requires room { place + length entries.now < 18446744073709551616 }
@@ -130,7 +132,8 @@ fn first_item(place: usize, entries: &[Entry<'_>]) -> (Option<FolderItem>, usize
     }
 }
 
-/// The items of a folder, by its entries in the order of [`entry_order`]: an item's own entry and the one that belongs to it make one.
+/// The items of a folder, from its entries in the order of [`entry_order`]: an item's own entry and the one that belongs to it
+/// make one item.
 pub fn folder_items(alloc: Global, entries: &[Entry<'_>]) -> Result<Vec<FolderItem>, AllocError>
     ensures { IfOk result (λ items. items.items ≡ items_from 0 entries.now) }
 {

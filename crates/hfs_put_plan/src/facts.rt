@@ -1,11 +1,11 @@
-//! What is kept of an item beside its forks.
+//! What is kept of an item besides its forks.
 ghost use Rattle.std.specs.Prelude.{◌≡◌};
 ghost use Rattle.hfs_put_plan.specs.Facts.{double_dates, double_facts, double_finder, file_time, macbinary_facts, macbinary_finder, told_dates, told_lock};
 
 use hfs_fields::FieldRow;
 use hfs_incoming::{AppleDoubleFile, FileDates, MacBinaryFile};
 
-/// Lock and dates of an item, as the bag tells them in which it lies.
+/// Lock and dates of an item, as its bag gives them.
 #[derive(Clone, Copy)]
 pub struct ToldFacts {
     /// Whether it is locked.
@@ -14,12 +14,12 @@ pub struct ToldFacts {
     pub dates: FileDates,
 }
 
-/// What is kept of an item beside its forks.
+/// What is kept of an item besides its forks.
 #[derive(Clone, Copy)]
 pub struct ItemFacts {
     /// What the Finder keeps.
     pub finder: [u8; 32],
-    /// Whether it is locked, where it is a file.
+    /// Whether it is locked, if it is a file.
     pub locked: bool,
     /// Its dates.
     pub dates: FileDates,
@@ -36,7 +36,7 @@ fn file_time(modified: u32) -> FileDates
     }
 }
 
-/// The dates that a bag tells, or else these.
+/// The dates that a bag gives, or else these.
 fn told_dates(told: Option<ToldFacts>, dates: FileDates) -> FileDates
     ensures { result ≡ told_dates told dates }
 {
@@ -46,7 +46,7 @@ fn told_dates(told: Option<ToldFacts>, dates: FileDates) -> FileDates
     }
 }
 
-/// The lock that a bag tells, or else this.
+/// The lock that a bag gives, or else this one.
 fn told_lock(told: Option<ToldFacts>, locked: bool) -> bool
     ensures { result ≡ told_lock told locked }
 {
@@ -56,7 +56,7 @@ fn told_lock(told: Option<ToldFacts>, locked: bool) -> bool
     }
 }
 
-/// What the Finder keeps by an AppleDouble file; zeros where there is none.
+/// What the Finder keeps, from an AppleDouble file; zeros if there is none.
 fn double_finder(double: Option<AppleDoubleFile>) -> [u8; 32]
     ensures { result ≡ double_finder double }
 {
@@ -66,7 +66,7 @@ fn double_finder(double: Option<AppleDoubleFile>) -> [u8; 32]
     }
 }
 
-/// The dates that an AppleDouble file tells, or else those of the item's own file or folder.
+/// The dates that an AppleDouble file gives, or else those of the item's own file or folder.
 fn double_dates(double: Option<AppleDoubleFile>, modified: u32) -> FileDates
     ensures { result ≡ double_dates double modified }
 {
@@ -79,7 +79,7 @@ fn double_dates(double: Option<AppleDoubleFile>, modified: u32) -> FileDates
     }
 }
 
-/// What is kept of an item by its AppleDouble file, with lock and dates as a bag tells them where it lies in one.
+/// What is kept of an item, from its AppleDouble file, with lock and dates from its bag if it lies in one.
 pub fn double_facts(
     told: Option<ToldFacts>,
     double: Option<AppleDoubleFile>,
@@ -94,7 +94,7 @@ pub fn double_facts(
     }
 }
 
-/// What the Finder keeps by a MacBinary file, which has the first half of it.
+/// What the Finder keeps, from a MacBinary file, which has the first half of it.
 fn macbinary_finder(info: &[u8; 16]) -> [u8; 32]
     ensures { result ≡ macbinary_finder info.now }
 {
@@ -106,7 +106,7 @@ fn macbinary_finder(info: &[u8; 16]) -> [u8; 32]
     finder
 }
 
-/// What is kept of a file by its MacBinary header, with lock and dates as a bag tells them where it lies in one.
+/// What is kept of a file, from its MacBinary header, with lock and dates from its bag if it lies in one.
 pub fn macbinary_facts(told: Option<ToldFacts>, file: MacBinaryFile) -> ItemFacts
     ensures { result ≡ macbinary_facts told file }
 {

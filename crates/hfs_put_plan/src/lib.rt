@@ -1,5 +1,5 @@
-//! What is to be put on a disk out of folders of a host: which entries of a folder make an item, how the item is called, what is kept
-//! of it, why one can't be put, how it gets its place, and by which calls.
+//! What is to be put on a disk from folders of a host: which entries of a folder make an item, the item's name, what is kept of
+//! it, why it can't be put, how it is placed, and by which calls.
 #![tactic(auto)]
 
 mod dates;

@@ -7,8 +7,8 @@ ghost use Rattle.hfs_put_plan.specs.Names.{put_name};
 use hfs_fields::Name;
 use hfs_incoming::{GivenName, host_item_name};
 
-/// The name that an item gets of one that was given: it, where it is an item name; where names may be changed, the one in its place;
-/// else none.
+/// The name that an item gets from one that was given: that one, if it is an item name; if names may be changed, the one in its
+/// place; otherwise none.
 pub fn put_name(given: GivenName, rename: bool) -> Option<Name>
     ensures { result ≡ put_name given rename }
 {
@@ -18,7 +18,7 @@ pub fn put_name(given: GivenName, rename: bool) -> Option<Name>
     }
 }
 
-/// The name that an item gets by its name in a host's folder.
+/// The name that an item gets from its name in a host's folder.
 pub fn read_put_name(text: &str, rename: bool) -> Option<Name>
     ensures { result ≡ put_name (given_name (host_letters (chars text.now))) rename }
 {

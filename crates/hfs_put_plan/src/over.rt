@@ -1,10 +1,10 @@
-//! What becomes of an item where another may stand in its place.
+//! What happens to an item if another may be in its place.
 ghost use Rattle.std.specs.Prelude.{◌≡◌};
 ghost use Rattle.hfs_put_plan.specs.Placing.{how_placed, over_standing};
 
 use hfs_model::ItemKind;
 
-/// An item that stands on the disk where one is to come.
+/// An item that is already on the disk where another is to be put.
 #[derive(Clone, Copy)]
 pub struct Standing {
     pub kind: ItemKind,
@@ -12,20 +12,20 @@ pub struct Standing {
     pub locked: bool,
 }
 
-/// How an item that comes gets its place.
+/// How an item is placed.
 #[derive(Clone, Copy)]
 pub enum Placing {
-    /// Nothing stands there: it is made.
+    /// Nothing is there: it is made.
     New,
-    /// It is a folder that stands there: it stays as it is, and takes what comes into it.
+    /// It is a folder that is already there: it stays as it is, and what it holds is put into it.
     Kept,
-    /// The file that stands there is deleted directly before it is made, and unlocked before that where it is locked.
+    /// The file that is already there is deleted directly before it is made, after being unlocked if it is locked.
     Replaced { locked: bool },
-    /// It can't come there.
+    /// It can't be put there.
     Taken,
 }
 
-/// How an item gets its place where another of the same name stands.
+/// How an item is placed if another of the same name is there.
 fn over_standing(there: Standing, comes: ItemKind, replace: bool) -> Placing
     ensures { result ≡ over_standing there comes replace }
 {
@@ -49,7 +49,7 @@ fn over_standing(there: Standing, comes: ItemKind, replace: bool) -> Placing
     }
 }
 
-/// How an item that comes gets its place, by what stands there, and by whether files are to be replaced.
+/// How an item is placed, given what is there, and whether files are to be replaced.
 pub fn how_placed(there: Option<Standing>, comes: ItemKind, replace: bool) -> Placing
     ensures { result ≡ how_placed there comes replace }
 {

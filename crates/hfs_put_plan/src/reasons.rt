@@ -2,7 +2,7 @@
 ghost use Rattle.std.specs.Prelude.{◌≡◌};
 ghost use Rattle.hfs_put_plan.specs.Why.{is_too_large, why_not};
 
-/// The most bytes that a fork has.
+/// The most bytes that a fork may have.
 const MOST_BYTES: u64 = 2_147_483_647;
 
 /// Why an item can't be put.
@@ -10,13 +10,13 @@ const MOST_BYTES: u64 = 2_147_483_647;
 pub enum Why {
     /// It is neither a file nor a folder.
     NotAFile,
-    /// One of its forks has more bytes than a fork has.
+    /// One of its forks has more bytes than a fork may have.
     TooLarge,
-    /// What belongs to it by its name is no AppleDouble file.
+    /// The file that belongs to it by its name is no AppleDouble file.
     NotAppleDouble,
     /// It has no item name.
     NoName,
-    /// One before it in the same folder has the same name.
+    /// An earlier item in the same folder has the same name.
     TwoOfOneName,
     /// The first call that puts it is refused.
     Refused,
@@ -27,26 +27,26 @@ pub enum Why {
 pub struct Findings {
     /// It is a file or a folder.
     pub is_item: bool,
-    /// Both forks are as large as forks are.
+    /// Neither fork is larger than a fork may be.
     pub fits: bool,
-    /// What belongs to it by its name is AppleDouble, or nothing does.
+    /// The file that belongs to it by its name is AppleDouble, or there is none.
     pub is_double: bool,
     /// It has an item name.
     pub is_named: bool,
-    /// None before it in the same folder has the same name.
+    /// No earlier item in the same folder has the same name.
     pub is_first: bool,
     /// The first call that puts it is accepted.
     pub is_accepted: bool,
 }
 
-/// Whether a fork of so many bytes is larger than forks are.
+/// Whether a fork of `len` bytes is larger than a fork may be.
 pub fn is_too_large(len: u64) -> bool
     ensures { result ≡ is_too_large len }
 {
     len > MOST_BYTES
 }
 
-/// Why an item can't be put, by what was found of it: the first of the reasons that holds.
+/// Why an item can't be put, from what was found of it: the first of the reasons that holds.
 pub fn why_not(found: &Findings) -> Option<Why>
     ensures { result ≡ why_not found.now }
 {

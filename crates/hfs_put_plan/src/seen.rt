@@ -1,4 +1,4 @@
-//! The names of a folder that were seen, in name order and not by hashes, since a host chooses what is in them.
+//! The names of a folder that were seen, in name order and without hashing, since the host's folder is chosen by others.
 ghost use Rattle.std.specs.Prelude.{◌≡◌, [], IfOk, OnOk};
 ghost use Rattle.hfs_fields.specs.Order.{fold_letter, folded};
 ghost use Rattle.hfs_put_plan.specs.Seen.{AddsRow, has_row};
@@ -34,7 +34,7 @@ fn fold_letter(byte: u8) -> u8
     }
 }
 
-/// Bytes with capitals alone.
+/// Bytes with all letters folded to capitals.
 fn folded_bytes(alloc: Global, bytes: &[u8]) -> Result<Vec<u8>, AllocError>
     ensures { IfOk result (λ row. row.items ≡ folded bytes.now) }
 {
@@ -45,7 +45,7 @@ fn folded_bytes(alloc: Global, bytes: &[u8]) -> Result<Vec<u8>, AllocError>
     Ok(row)
 }
 
-/// A name with capitals alone.
+/// A name with all letters folded to capitals.
 pub(crate) fn folded(alloc: Global, name: &Name) -> Result<Vec<u8>, AllocError>
     ensures { IfOk result (λ row. row.items ≡ folded name.now) }
 {
@@ -53,7 +53,7 @@ pub(crate) fn folded(alloc: Global, name: &Name) -> Result<Vec<u8>, AllocError>
 }
 
 impl Seen {
-    /// No name. Takes no memory.
+    /// No names. Takes no memory.
     pub(crate) fn new(alloc: Global) -> Seen
         ensures { result ≡ [] }
     {
@@ -62,14 +62,14 @@ impl Seen {
         }
     }
 
-    /// Whether a row was seen.
+    /// Whether these bytes were seen.
     pub(crate) fn has(&self, row: &Vec<u8>) -> bool
         ensures { result ≡ has_row self.now row.now }
     {
         self.rows.contains(row)
     }
 
-    /// Notes a row. `Err` only where memory is wanting.
+    /// Notes these bytes. `Err` only when out of memory.
     pub(crate) fn add(&mut self, row: Vec<u8>) -> Result<(), AllocError>
         ensures { OnOk result (AddsRow row self.old self.new) }
     {

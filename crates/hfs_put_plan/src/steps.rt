@@ -1,15 +1,15 @@
-//! The calls that put a file on a disk, in their order, and the pieces in which its forks are written.
+//! The calls that put a file on a disk, in order, and the pieces in which its forks are written.
 ghost use Rattle.std.specs.Prelude.{◌≡◌};
 ghost use Rattle.hfs_put_plan.specs.Steps.{end_step, file_steps, fork_piece, lock_step};
 
 use hfs_model::Fork;
 
-/// A call that puts a file, but for those that write its forks.
+/// A call that puts a file, except for those that write its forks.
 #[derive(Clone, Copy)]
 pub enum FileStep {
     /// Create.
     Make,
-    /// SetEof of a fork, to so many bytes.
+    /// SetEof of a fork, to this many bytes.
     SetEnd(Fork, u32),
     /// SetCatInfo.
     SetFacts,
@@ -29,7 +29,7 @@ pub struct ForkPiece {
 /// The most bytes that one call writes.
 const PIECE: u64 = 65_536;
 
-/// The end of a fork is set where it has bytes.
+/// The end of a fork is set if it has bytes.
 fn end_step(fork: Fork, len: u32) -> Option<FileStep>
     ensures { result ≡ end_step fork len }
 {
@@ -40,14 +40,14 @@ fn end_step(fork: Fork, len: u32) -> Option<FileStep>
     }
 }
 
-/// A file is locked behind all else.
+/// A file is locked last of all.
 fn lock_step(locked: bool) -> Option<FileStep>
     ensures { result ≡ lock_step locked }
 {
     if locked { Some(FileStep::Lock) } else { None }
 }
 
-/// The calls that put a file with so many bytes in its forks, in their order. Behind the ends of both forks their bytes are written.
+/// The calls that put a file with forks of these lengths, in order. After the ends of both forks, their bytes are written.
 pub fn file_steps(data_len: u32, resource_len: u32, locked: bool) -> [Option<FileStep>; 5]
     ensures { result ≡ file_steps data_len resource_len locked }
 {
@@ -60,7 +60,7 @@ pub fn file_steps(data_len: u32, resource_len: u32, locked: bool) -> [Option<Fil
     ]
 }
 
-/// The piece of a fork of so many bytes that the call writes which comes behind so many others; none where all are written.
+/// The piece of a fork of `len` bytes that is written by the call after the first `before` bytes; None if all are written.
 #[tactic(auto, unfolding(crate::specs::Steps::fork_piece))]
 pub fn fork_piece(len: u32, before: u32) -> Option<ForkPiece>
     ensures { result ≡ fork_piece len before }

@@ -1,4 +1,4 @@
-//! Items of one folder that are called the same.
+//! Items of one folder with the same name.
 ghost use Rattle.std.specs.Prelude.{◌≡◌, ◌+◌, ◌<◌, IfOk, OnOk, length, take};
 ghost use Rattle.hfs_put_plan.specs.Seen.{KnowsNames};
 ghost use Rattle.hfs_put_plan.specs.Twins.{is_twin, later_twins, name_at};
@@ -7,7 +7,7 @@ use crate::seen::{Seen, folded};
 use hfs_fields::Name;
 use std::alloc::{AllocError, Global};
 
-/// Whether the name at a place is that of one before it; it has been seen then.
+/// Whether the name at a place is that of an earlier one; it counts as seen then.
 fn see_next(
     alloc: Global,
     names: &[Name],
@@ -27,8 +27,8 @@ fn see_next(
     Ok(twin)
 }
 
-/// Of the names of one folder's items, in their order, whether each is that of one before it, without regard to the case of the
-/// letters from `a` to `z`. The only error is want of memory.
+/// For each of the names of one folder's items, in order, whether an earlier one is the same, ignoring the case of the letters
+/// from `a` to `z`. Fails only when out of memory.
 #[tactic(auto, unfolding(crate::specs::Twins::later_twins))]
 pub fn later_twins(alloc: Global, names: &[Name]) -> Result<Vec<bool>, AllocError>
     ensures { IfOk result (λ twins. twins.items ≡ later_twins names.now) }

@@ -1,5 +1,5 @@
-//! Where the forks lie of files of the new volume with 64 blocks, of which allocation block 0 is block 4: its first free allocation block is
-//! 42, and its first new item gets the ID 16.
+//! Where the forks of files lie on the new volume with 64 blocks, of which allocation block 0 is block 4: its first free
+//! allocation block is 42, and its first new item gets the ID 16.
 use crate::items::item;
 use hfs_fixtures::{FixtureFault, new_image};
 use hfs_model::{Fork, ItemKind};

@@ -6,7 +6,7 @@ use hfs_model::ItemKind;
 use hfs_put_calls::PutItem;
 use hfs_put_plan::{ItemFacts, Placing};
 
-/// A new item of that name, with so many bytes in its forks.
+/// A new item of that name, with this many bytes in its forks.
 pub(crate) fn item(
     parent: Option<usize>,
     kind: ItemKind,

@@ -1,4 +1,4 @@
-//! Tests of how a list of items of a host gets its places on a mounted volume, and where their forks lie then. Expected values are
+//! Tests of how a list of a host's items is placed on a mounted volume, and where their forks then lie. Expected values are
 //! written by hand.
 #![tactic(auto)]
 

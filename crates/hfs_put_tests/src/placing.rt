@@ -28,7 +28,7 @@ fn node<'a>(folder: &'a str, name: &'a str, path: &'a str, kind: EntryKind) -> H
     }
 }
 
-/// What comes of the sources.
+/// The items of the sources.
 fn sources(alloc: Global, from: &[&str]) -> Result<Vec<SourceItem>, FixtureFault> {
     let nodes = [
         node("", "d", "d", EntryKind::Folder),
@@ -64,7 +64,7 @@ fn volume(alloc: Global) -> Result<Volume, FixtureFault> {
     }
 }
 
-/// What becomes of the sources.
+/// What happens to the sources.
 fn placed(alloc: Global, from: &[&str], replace: bool) -> Result<PlacedSources, FixtureFault> {
     let volume = volume(alloc)?;
     let items = sources(alloc, from)?;
@@ -100,7 +100,7 @@ fn are_items(placed: &PlacedSources, wanted: &[(Option<usize>, u8, u32)]) -> boo
     }
 }
 
-/// Whether these alone are refused, since other items are in their places.
+/// Whether only these are refused, since other items are in their places.
 fn are_refused(placed: &PlacedSources, wanted: &[usize]) -> bool {
     match placed {
         PlacedSources::All(_) => false,

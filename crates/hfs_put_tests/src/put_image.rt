@@ -1,5 +1,5 @@
-//! What goes out of lists that were put on the new volume with 64 blocks, of which allocation block 0 is block 4 and allocation block 42 the first
-//! that is free.
+//! What is written after lists were put on the new volume with 64 blocks, of which allocation block 0 is block 4 and allocation
+//! block 42 the first that is free.
 use crate::items::item;
 use hfs_fixtures::{FixtureFault, lay, new_image};
 use hfs_model::ItemKind;
@@ -9,7 +9,7 @@ use hfs_volume::mount;
 use std::alloc::Global;
 use std::test::Fail;
 
-/// What goes out of a list that is put on an image.
+/// What is written after a list is put on an image.
 fn put(alloc: Global, image: Vec<u8>, items: &[PutItem]) -> Result<PutBlocks, FixtureFault> {
     let Ok(mut volume) = mount(alloc, image) else {
         return Err(FixtureFault::Unsound);
@@ -31,8 +31,8 @@ fn blocks_and_runs_go_out(rt: HostRuntime) -> Result<(), Fail> {
     Ok(())
 }
 
-/// The volume with 60 allocation blocks, so that the last two blocks of the image are among them. The last but one has the copy of the master directory
-/// block, and no file has it.
+/// The volume with 60 allocation blocks, so that the last two blocks of the image are among them. The last but one has the copy
+/// of the master directory block, and no file owns it.
 fn image_to_the_end(alloc: Global) -> Result<Vec<u8>, FixtureFault> {
     let mut image = new_image(alloc, 40)?;
     lay(&mut image, 2, 18, &[0, 60])?;
@@ -40,7 +40,8 @@ fn image_to_the_end(alloc: Global) -> Result<Vec<u8>, FixtureFault> {
     Ok(image)
 }
 
-/// A file that gets each free block gets the last but one, too. Its old bytes aren't zeros, but it doesn't go out: the file's bytes are to stand there.
+/// A file that gets every free block also gets the last but one. Its old bytes aren't zeros, but it isn't written: the file's
+/// bytes go there.
 #[test]
 fn the_last_block_but_one_is_the_files(rt: HostRuntime) -> Result<(), Fail> {
     let items = [item(None, ItemKind::File, b"a", (9_216, 0))?];

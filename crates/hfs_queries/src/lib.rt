@@ -1,4 +1,5 @@
-//! What calls find in a volume's catalog: the items of an ID, of a name, of a folder, and the replies of the calls that read it.
+//! What calls find in a volume's catalog: the item with an ID or a name, the items of a folder, and the replies of the calls that
+//! read it.
 #![tactic(auto)]
 
 mod reading;

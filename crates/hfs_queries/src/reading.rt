@@ -1,4 +1,4 @@
-//! The calls that read the catalog alone. In each the first code that holds is the reply's.
+//! The calls that only read the catalog. In each, the first code that applies is the reply's.
 
 ghost use Rattle.std.specs.Prelude.{◌≡◌, IfOk};
 ghost use Rattle.std.specs.Option.{option_map};
@@ -20,7 +20,7 @@ use hfs_model::{
 };
 use std::alloc::{AllocError, Global};
 
-/// The folder of that ID, found by its thread, which each folder has: two look-ups.
+/// The folder with that ID, found by its thread, which each folder has: two look-ups.
 pub fn folder<N: Nodes>(nodes: &N, dir: u32) -> Option<CatalogItem>
     requires { IsCatalog (N.nodes nodes.now) }
     ensures { result ≡ option_map catalog_item (folder_with (catalog_of (N.nodes nodes.now)) dir) }
@@ -35,11 +35,12 @@ pub fn folder<N: Nodes>(nodes: &N, dir: u32) -> Option<CatalogItem>
     }
 }
 
-/// The ID under which the root stands, which is no folder's.
+/// The root's parent ID, which is no folder's.
 const ABOVE_ROOT: u32 = 1;
 
-/// The folder's item of that name, or the code that says why there is none: -120 where there is no such folder, -43 where it has no
-/// such item. Where there is an item it is found by one look-up, for what holds an item is a folder, but for 1, which holds the root.
+/// The folder's item of that name, or the code that says why there is none: -120 if there is no such folder, -43 if it has no
+/// such item. An item that exists is found with one look-up, since its parent is a folder, except for 1, which is the root's
+/// parent.
 pub fn folder_child<N: Nodes>(nodes: &N, dir: u32, name: &Name) -> Result<CatalogItem, i16>
     requires { IsCatalog (N.nodes nodes.now) }
     ensures { result ≡ folder_child (catalog_of (N.nodes nodes.now)) dir name.now }
@@ -60,7 +61,7 @@ pub fn folder_child<N: Nodes>(nodes: &N, dir: u32, name: &Name) -> Result<Catalo
     }
 }
 
-/// What is told of the folder of that ID.
+/// Answers with the folder that has this ID.
 pub fn get_dir_info<N: Nodes>(nodes: &N, dir: u32) -> Reply
     requires { IsCatalog (N.nodes nodes.now) }
     ensures { result ≡ dir_info (catalog_of (N.nodes nodes.now)) dir }
@@ -71,7 +72,7 @@ pub fn get_dir_info<N: Nodes>(nodes: &N, dir: u32) -> Reply
     }
 }
 
-/// What is told of the folder's item of that name.
+/// Answers with the folder's item of that name.
 pub fn get_cat_info<N: Nodes>(nodes: &N, dir: u32, name: &[u8]) -> Reply
     requires { IsCatalog (N.nodes nodes.now) }
     ensures { result ≡ cat_info (catalog_of (N.nodes nodes.now)) dir name.now }
@@ -85,7 +86,7 @@ pub fn get_cat_info<N: Nodes>(nodes: &N, dir: u32, name: &[u8]) -> Reply
     }
 }
 
-/// What is told of the folder's children, in name order.
+/// What a reply says about the folder's children, in name order.
 fn infos<N: Nodes>(
     alloc: Global,
     nodes: &N,
@@ -103,7 +104,7 @@ fn infos<N: Nodes>(
     Ok(infos)
 }
 
-/// What is told of the folder's child at that place in name order, counted from 1.
+/// Answers with the folder's child at that place in name order, counted from 1.
 pub fn get_indexed<N: Nodes>(nodes: &N, dir: u32, index: u32) -> Reply
     requires { IsCatalog (N.nodes nodes.now) }
     ensures { result ≡ indexed (catalog_of (N.nodes nodes.now)) dir index }
@@ -120,7 +121,7 @@ pub fn get_indexed<N: Nodes>(nodes: &N, dir: u32, index: u32) -> Reply
     }
 }
 
-/// What is told of all the folder's children, in name order.
+/// Answers with all the folder's children, in name order.
 pub fn list<N: Nodes>(
     alloc: Global,
     nodes: &N,
@@ -147,8 +148,8 @@ fn place_of(key: CatKey) -> Reply
     })
 }
 
-/// The folder and the name of the file of that ID, which is found by its thread. Each folder has a thread, so for an ID
-/// without one not all records are read.
+/// Answers with the folder and the name of the file with that ID, which is found by its thread. Each folder has a thread, so not
+/// all records are read for an ID without one.
 pub fn resolve_file_id<N: Nodes>(nodes: &N, id: u32) -> Reply
     requires { IsCatalog (N.nodes nodes.now) }
     ensures { result ≡ resolved (catalog_of (N.nodes nodes.now)) id }
@@ -166,7 +167,7 @@ pub fn resolve_file_id<N: Nodes>(nodes: &N, id: u32) -> Reply
     }
 }
 
-/// The record of the folder's file of that name, or the reply that refuses it: -43 where the item is a folder.
+/// The record of the folder's file of that name, or the reply that refuses it: -43 if the item is a folder.
 pub fn file_named<N: Nodes>(nodes: &N, dir: u32, name: &[u8]) -> Result<FileRecord, Reply>
     requires { IsCatalog (N.nodes nodes.now) }
     ensures { result ≡ file_named (catalog_of (N.nodes nodes.now)) dir name.now }

@@ -1,4 +1,4 @@
-//! Replies, and what is told of an item of the catalog.
+//! Replies, and what they say about an item of the catalog.
 
 ghost use Rattle.std.specs.Prelude.{◌≡◌, ◌++◌, Some};
 ghost use Rattle.hfs_model.specs.Replies.{refusal, success};
@@ -28,7 +28,7 @@ pub fn success(value: Value) -> Reply
     Reply { code: 0, value }
 }
 
-/// The 32 Finder bytes of an item, which stand in two places of its record.
+/// The 32 Finder bytes of an item, which are in two places of its record.
 fn finder_bytes(info: &[u8; 16], extended: &[u8; 16]) -> [u8; 32]
     ensures { result ≡ info.now ++ extended.now }
 {
@@ -38,7 +38,7 @@ fn finder_bytes(info: &[u8; 16], extended: &[u8; 16]) -> [u8; 32]
     all
 }
 
-/// What is told of a folder.
+/// What a reply says about a folder.
 #[tactic(auto, unfolding(crate::specs::Told::folder_info))]
 fn folder_info(key: CatKey, folder: &DirRecord) -> Info
     ensures { result ≡ folder_info key folder.now }
@@ -60,7 +60,7 @@ fn folder_info(key: CatKey, folder: &DirRecord) -> Info
     }
 }
 
-/// What is told of a file, which may have a thread.
+/// What a reply says about a file, which may have a thread.
 #[tactic(auto, unfolding(crate::specs::Told::file_info))]
 fn file_info(has_thread: bool, key: CatKey, file: &FileRecord) -> Info
     ensures { result ≡ file_info has_thread key file.now }
@@ -82,16 +82,16 @@ fn file_info(has_thread: bool, key: CatKey, file: &FileRecord) -> Info
     }
 }
 
-/// How much is told of an item.
+/// How much a reply says about an item.
 #[derive(Clone, Copy)]
 pub enum Detail {
-    /// All; for a file its thread is looked up.
+    /// Everything; for a file, its thread is looked up.
     Full,
-    /// What its own record tells: `has_id` is false, also of a file that has a thread.
+    /// What its own record says: `has_id` is false, even for a file with a thread.
     Brief,
 }
 
-/// What is told of an item of the catalog. A folder's valence and the lengths of a file's forks are those of its record.
+/// What a reply says about an item of the catalog. A folder's valence and the lengths of a file's forks are those of its record.
 pub fn item_info<N: Nodes>(nodes: &N, item: &CatalogItem, detail: Detail) -> Info
     requires { IsCatalog (N.nodes nodes.now) }
     ensures { result ≡ in_detail detail (item_info (catalog_of (N.nodes nodes.now)) item.now) }

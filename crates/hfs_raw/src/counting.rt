@@ -1,4 +1,4 @@
-//! Whether a file is of raw sectors, and how many of these have no user data.
+//! Whether a file consists of raw sectors, and how many of these have no user data.
 ghost use Rattle.std.specs.Prelude.{◌≡◌, ◌+◌, ◌*◌, ◌≤◌, ◌<◌, ◌^◌, IfOk, OnErr, length};
 ghost use Rattle.std.specs.Option.{is_some};
 ghost use Rattle.hfs_fields.specs.Mdb.{bytes_at};
@@ -22,7 +22,7 @@ fn start_at<S: PlacedBytes>(bytes: &mut S, place: u64) -> io::Result<Option<usiz
     Ok(data_start(&head))
 }
 
-/// Whether so many bytes are whole sectors, at least one.
+/// Whether this many bytes are whole sectors, at least one.
 #[tactic(auto, unfolding(crate::specs::Sectors::are_whole_sectors))]
 pub fn are_whole_sectors(len: u64) -> bool
     ensures { result ≡ are_whole_sectors len }
@@ -30,8 +30,8 @@ pub fn are_whole_sectors(len: u64) -> bool
     len >= SECTOR && len % SECTOR == 0
 }
 
-/// Whether a file is of raw sectors: its length is a multiple of 2,352, and its first sector has user data. Where the length is another
-/// nothing is read.
+/// Whether a file consists of raw sectors: its length is a multiple of 2,352, and its first sector has user data. With another
+/// length, nothing is read.
 #[tactic(auto, unfolding(crate::specs::Sectors::is_raw))]
 pub fn is_raw<S: PlacedBytes>(bytes: &mut S) -> io::Result<bool>
     ensures is { IfOk result (λ is. OfEach (S.Holds bytes.new) (λ file. is ≡ is_raw file)) }
@@ -46,7 +46,7 @@ pub fn is_raw<S: PlacedBytes>(bytes: &mut S) -> io::Result<bool>
     Ok(start.is_some())
 }
 
-/// 1 where the sector `n` has no user data, else 0.
+/// 1 if sector `n` has no user data, else 0.
 fn count_at<S: PlacedBytes>(bytes: &mut S, n: u64) -> io::Result<u64>
     requires { n * 2352 < 2 ^ 64 }
     ensures count { IfOk result (λ count. OfEach (S.Holds bytes.new)
@@ -61,7 +61,7 @@ fn count_at<S: PlacedBytes>(bytes: &mut S, n: u64) -> io::Result<u64>
     }
 }
 
-/// How many sectors have no user data: 24 bytes of each are read. Error: a read failed.
+/// How many sectors have no user data; 24 bytes of each are read. Error: a read failed.
 pub fn count_others<S: PlacedBytes>(bytes: &mut S) -> io::Result<u64>
     ensures count { IfOk result (λ count. OfEach (S.Holds bytes.new) (λ file. count ≡ other_count file)) }
     ensures held { OfEach (S.Holds bytes.new) (S.Holds bytes.old) }

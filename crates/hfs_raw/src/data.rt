@@ -10,8 +10,8 @@ use hfs_source::PlacedBytes;
 use std::io;
 use std::io::ErrorKind;
 
-/// The user data of raw sectors: 2,048 bytes of each, one behind the other, and zeros for a sector that has none. What is read of it is
-/// said of each file that has the bytes which were read.
+/// The user data of raw sectors: 2,048 bytes of each, one after the other, and zeros for a sector that has none. What is read
+/// from it holds for every file consistent with the bytes read.
 #[derive(Drop)]
 pub struct UserData<S> {
     /// The bytes of the sectors.
@@ -22,7 +22,7 @@ pub struct UserData<S> {
 }
 
 impl<S: PlacedBytes> UserData<S> {
-    /// The user data of all sectors of these bytes. A sector that isn't whole is none.
+    /// The user data of all sectors of these bytes. A sector that isn't whole doesn't count.
     pub fn new(bytes: S) -> UserData<S>
         ensures bytes { result.bytes ≡ bytes }
         ensures sectors { OfEach (S.Holds bytes) (λ file. result.sectors ≡ sector_count file) }

@@ -20,7 +20,7 @@ fn sector_at<S: PlacedBytes>(bytes: &mut S, n: u64) -> io::Result<[u8; 2352]>
     Ok(sector)
 }
 
-/// Reads user data from byte `place` of it on, as much as there is room for: one read of each sector in which some of it is.
+/// Reads user data from byte `place` on, as much as there is room for, with one read of each sector that has some of it.
 pub fn read_data<S: PlacedBytes>(bytes: &mut S, place: u64, into: &mut [u8]) -> io::Result<()>
     requires { (place + length into.old) * 2352 < 2 ^ 64 * 2048 }
     ensures read { OnOk result ((sectors : ℕ) → place + length into.old ≤ sectors * 2048

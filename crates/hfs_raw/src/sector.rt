@@ -1,4 +1,4 @@
-//! One raw sector. Sources: ECMA-130 (pattern, address, mode 1), CD-ROM XA (mode 2, whose subheader tells the form).
+//! One raw sector. Sources: ECMA-130 (pattern, address, mode 1), CD-ROM XA (mode 2, whose subheader gives the form).
 ghost use Rattle.std.specs.Prelude.{◌≡◌, ◌+◌, ◌≤◌, IfSome, length};
 ghost use Rattle.hfs_fields.specs.Mdb.{bytes_at};
 ghost use Rattle.hfs_raw.specs.Sectors.{data_start, has_pattern, is_mode_2_form_1, sector_data, start_by_mode};
@@ -11,7 +11,7 @@ pub(crate) const SECTOR: u64 = 2_352;
 /// How many bytes of user data a sector has.
 pub(crate) const DATA: u64 = 2_048;
 
-/// How many bytes tell where a sector's user data begins.
+/// The first bytes of a sector, which say where its user data begins.
 pub(crate) const HEAD: usize = 24;
 
 #[tactic(auto, unfolding(crate::specs::Sectors::has_pattern))]
@@ -45,7 +45,8 @@ fn start_by_mode(head: &[u8; 24]) -> Option<usize>
     None
 }
 
-/// Where the user data begins in a sector with these first bytes. None of a sector of another mode, and of one without the pattern.
+/// Where the user data begins in a sector with these first bytes. None for a sector of another mode, and for one without the
+/// pattern.
 #[tactic(auto, unfolding(crate::specs::Sectors::data_start))]
 pub fn data_start(head: &[u8; 24]) -> Option<usize>
     ensures start { result ≡ data_start head.now }
@@ -67,7 +68,7 @@ fn start_in(sector: &[u8; 2352]) -> Option<usize>
     data_start(&head)
 }
 
-/// Lays a part of a sector's user data, from byte `from` of it on.
+/// Copies a part of a sector's user data, from byte `from` on.
 pub fn put_data(sector: &[u8; 2352], from: usize, part: &mut [u8])
     requires { from + length part.old ≤ 2048 }
     ensures { part.new ≡ bytes_at from (length part.old) (sector_data sector.now) }

@@ -7,21 +7,21 @@ use hfs_texts::Show;
 use std::alloc::AllocError;
 use std::fmt;
 
-/// What a refusal means for who has the disk in hand. Its `Display` is one line for a terminal.
+/// What a refusal means for someone with the disk in hand. Its `Display` is one line for a terminal.
 #[derive(Clone, Copy, Debug, PartialEq, Eq)]
 pub enum Hint {
-    /// The volume may begin further on in the file, or the block that says what it is may be lost.
+    /// The volume may begin further on in the file, or the block that describes it may be lost.
     NotHere,
     /// Only counts are wrong, which can be mended.
     WrongCounts,
-    /// A name is not taken, and nothing else need be wrong.
+    /// A name is not accepted; nothing else need be wrong.
     NameNotTaken,
     /// The disk is damaged.
     Damaged,
 }
 
 impl Hint {
-    /// The hint for a refusal; none where the refusal's own text says all.
+    /// The hint for a refusal; None if the refusal's own text says everything.
     #[tactic(auto, unfolding(crate::specs::Hints::hint_of))]
     pub fn of(why: MountFault) -> Option<Hint>
         ensures { result ≡ hint_of why }

@@ -1,4 +1,4 @@
-//! What a refusal means, for whoever has nothing but a page to read.
+//! What a refusal means, for someone who only has a page to read.
 ghost use Rattle.std.specs.Prelude.{OnOk};
 ghost use Rattle.hfs_texts.specs.Texts.{Gains};
 ghost use Rattle.hfs_refusals.specs.Hints.{meaning_text};
@@ -8,8 +8,8 @@ use hfs_check::MountFault;
 use hfs_texts::Show;
 use std::alloc::AllocError;
 
-/// Appends what a refusal means: the hint for it, or where there is none the lengths that a volume may have. At an error a part of it
-/// may have come.
+/// Appends what a refusal means: its hint, or, if there is none, the lengths that a volume may have. At an error, a part of it
+/// may have been appended.
 pub fn push_meaning(text: &mut String, why: MountFault) -> Result<(), AllocError>
     ensures { OnOk result (Gains text.old text.new (meaning_text why)) }
 {

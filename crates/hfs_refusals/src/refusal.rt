@@ -7,7 +7,7 @@ use hfs_texts::Show;
 use std::alloc::AllocError;
 use std::fmt;
 
-/// Why an image is refused, by its text.
+/// Why an image is refused, as text.
 #[derive(Clone, Copy)]
 pub struct Refusal(pub MountFault);
 

@@ -1,4 +1,4 @@
-//! A fork that is opened and read piece by piece, where memory is refused once.
+//! A fork that is opened and read piece by piece, while memory is refused once.
 
 use anyhow::Result;
 use hfs_fixtures::{fork_byte, one_file_image};
@@ -7,7 +7,7 @@ use hfs_volume::{OpenFork, Opened, Volume};
 use hfs_volume_fixtures::refused::mounted;
 use std::alloc::{AllocError, Global};
 
-/// The data fork of `f`. None where the call is refused, or where memory is.
+/// The data fork of `f`. None if the call is refused, or if memory is.
 fn opened_once(alloc: Global, volume: &Volume) -> Option<OpenFork<'_>> {
     match volume.open_fork(alloc, 2, b"f", Fork::DataFork) {
         Ok(Opened::Fork(fork)) => Some(fork),
@@ -16,7 +16,7 @@ fn opened_once(alloc: Global, volume: &Volume) -> Option<OpenFork<'_>> {
     }
 }
 
-/// The data fork of `f`, opened. None where the call is refused, or where memory is refused twice.
+/// The data fork of `f`, opened. None if the call is refused, or if memory is refused twice.
 fn opened(alloc: Global, volume: &Volume) -> Option<OpenFork<'_>> {
     if let Some(fork) = opened_once(alloc, volume) {
         return Some(fork);
@@ -29,8 +29,8 @@ fn read(alloc: Global, fork: &mut OpenFork<'_>, count: u32) -> Result<Vec<u8>, A
     fork.read(alloc, count)
 }
 
-/// The next bytes of a fork. Where memory is refused as many must be left as before, and they are read once more; None where they aren't,
-/// or where memory is refused again.
+/// The next bytes of a fork. If memory is refused, as many must be left as before, and they are read once more; None if they
+/// aren't, or if memory is refused again.
 fn next(alloc: Global, fork: &mut OpenFork<'_>, count: u32) -> Option<Vec<u8>> {
     let left = fork.len();
     if let Ok(bytes) = read(alloc, fork, count) {
@@ -54,7 +54,7 @@ fn are_bytes_from(bytes: &[u8], from: usize) -> bool {
     true
 }
 
-/// Whether the next 700 bytes of the fork are so many, from a place on.
+/// Whether the next 700 bytes of the fork are `count` bytes, from a place on.
 fn reads(alloc: Global, fork: &mut OpenFork<'_>, from: usize, count: usize) -> bool {
     match next(alloc, fork, 700) {
         Some(bytes) => bytes.len() == count && are_bytes_from(&bytes, from),
@@ -62,7 +62,7 @@ fn reads(alloc: Global, fork: &mut OpenFork<'_>, from: usize, count: usize) -> b
     }
 }
 
-/// Whether the fork of `f`, which has 2,000 bytes in four extents, is read to its end by 700 bytes at a time.
+/// Whether the fork of `f`, which has 2,000 bytes in four extents, is read to its end with 700 bytes at a time.
 fn reads_all(alloc: Global, fork: &mut OpenFork<'_>) -> bool {
     for (from, count) in [(0, 700), (700, 700), (1_400, 600), (2_000, 0)] {
         if !reads(alloc, fork, from, count) {

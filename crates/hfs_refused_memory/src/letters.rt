@@ -1,4 +1,4 @@
-//! Files in the root that are called `a`, `b` and so on.
+//! Files in the root with the names `a`, `b` and so on.
 use hfs_model::{Call, Info, Reply, SharedBytes, Value};
 use std::alloc::{AllocError, Global};
 

@@ -1,5 +1,5 @@
-//! A list of calls, where memory is refused once. What they make of the bytes is laid by hand: in block 7 the record of the file `f` has its
-//! body from byte 286 on.
+//! A list of calls, while memory is refused once. What they make of the bytes is laid by hand: in block 7 the record of the file
+//! `f` has its body from byte 286 on.
 
 use crate::bytes::{has_edited, small_volume};
 use anyhow::Result;
@@ -22,7 +22,7 @@ fn two_calls(alloc: Global) -> Result<Vec<Call>> {
     Ok(calls)
 }
 
-/// Whether each call of a list has the code 0. None where memory is refused.
+/// Whether each call of a list has the code 0. None if memory is refused.
 fn are_made(alloc: Global, volume: &mut Volume) -> Result<Option<bool>> {
     let calls = two_calls(alloc)?;
     match volume.run(alloc, &calls) {
@@ -52,13 +52,13 @@ const LOCK: Edit<'static> = Edit {
     bytes: &[0x81],
 };
 
-/// What is laid behind SetFInfo.
+/// What is laid after SetFInfo.
 const BETWEEN: [Edit<'static>; 2] = [MOMENT, INFO];
 
-/// What is laid behind both calls.
+/// What is laid after both calls.
 const AFTER: [Edit<'static>; 3] = [MOMENT, INFO, LOCK];
 
-/// Whether a list of both calls is run on a volume as it is said.
+/// Whether a list of both calls runs on a volume as promised.
 fn runs_on(alloc: Global, volume: &mut Volume) -> Result<bool> {
     let are_made = are_made(alloc, volume)?;
     if has_edited(alloc, volume, &AFTER)? {
@@ -68,8 +68,8 @@ fn runs_on(alloc: Global, volume: &mut Volume) -> Result<bool> {
     Ok(are_made.is_none() && is_front)
 }
 
-/// Whether a list of SetFInfo and SetFLock of one file is run as it is said. Where memory is refused, the calls before the one that met it
-/// have been made: the bytes are those before both, between both or behind both, where the row of replies had no room.
+/// Whether a list of SetFInfo and SetFLock of one file runs as promised. If memory is refused, the calls before the one that met
+/// it have been made: the bytes are those before both, between both or, if the row of replies had no room, after both.
 pub fn runs(alloc: Global) -> Result<bool> {
     let mut volume = small_volume(alloc)?;
     runs_on(alloc, &mut volume)

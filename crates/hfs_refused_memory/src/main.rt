@@ -1,11 +1,11 @@
-//! What takes memory and goes on where it is refused, which no run of `hfs_tool` shows, since it ends there: an image that is handed
-//! back, a list of calls and a fork that are gone on with, a publish that lags, and workers whose calls are made by and by. Each line mounts
-//! a volume, twice where memory is refused, and two share it, twice likewise, so that what is handed back then serves as well. What met
-//! the refusal must have left all as it was, and once more it must do what it always does, so that each line reads `as said` whichever
-//! allocation is refused.
+//! What goes on after it is refused memory. No run of `hfs_tool` shows this, since it ends there: an image that is handed back, a
+//! list of calls and a fork that are continued, a publish that lags, and workers whose calls are made in the end. Each line
+//! mounts a volume, twice if memory is refused, and two share it, twice likewise, so that what is handed back serves as well.
+//! Whatever met the refusal must have left everything as it was, and the second time it must do what it always does, so that each
+//! line reads `as said` whichever allocation is refused.
 //!
-//! Each line of the input is tried by itself. It has a title, a semicolon, and a word. Where a publish lagged, since memory was refused,
-//! the title and the call's number are told on standard error.
+//! Each line of the input is tried by itself. It has a title, a semicolon, and a word. If a publish lagged, because memory was
+//! refused, the title and the call's number are printed on standard error.
 //!
 //! `tests/refused_memory.sh` gives it line after line, and refuses each allocation in turn.
 #![tactic(auto)]
@@ -38,7 +38,7 @@ fn main(rt: HostRuntime) -> Result<()> {
     Ok(())
 }
 
-/// What is printed of an outcome.
+/// What is printed for an outcome.
 fn words_of(outcome: Outcome) -> &'static str {
     match outcome {
         Outcome::AsSaid | Outcome::Lagged(_) => "as said",
@@ -46,7 +46,7 @@ fn words_of(outcome: Outcome) -> &'static str {
     }
 }
 
-/// Tries what a line says, and prints its title and whether all was as it is said.
+/// Tries what a line says, and prints its title and whether everything was as promised.
 fn try_line<T: Threads + Wait + Sync>(
     rt: &(impl Print + Eprint),
     threads: &T,

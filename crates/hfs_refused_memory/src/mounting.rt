@@ -1,11 +1,11 @@
-//! A repair, where memory is refused once.
+//! A repair, while memory is refused once.
 
 use anyhow::Result;
 use hfs_volume::{MountFault, Refused, mount_repaired};
 use hfs_volume_fixtures::refused::{Edit, has_bytes, image_with};
 use std::alloc::Global;
 
-/// The image that a refusal for want of memory hands back, if it is this one.
+/// The image that a refusal for lack of memory hands back, if it is this one.
 fn given_back(refused: Refused, given: &[u8]) -> Option<Vec<u8>> {
     let Refused { fault, image } = refused;
     if fault == MountFault::Memory && image.as_slice() == given {
@@ -15,7 +15,7 @@ fn given_back(refused: Refused, given: &[u8]) -> Option<Vec<u8>> {
     }
 }
 
-/// Each of the numbers that are counted, laid wrong: those of the master directory block, of both header records, of the root and of `d`.
+/// Each of the counts, laid wrong: those of the master directory block, of both header records, of the root and of `d`.
 const WRONG: [Edit<'static>; 11] = [
     Edit {
         block: 2,
@@ -82,7 +82,7 @@ fn repairs_once(alloc: Global, image: Vec<u8>, sound: &[u8]) -> Result<bool, Ref
     }
 }
 
-/// The same of an image that was handed back, if it was.
+/// The same for an image that was handed back, if it was.
 fn repairs_again(alloc: Global, image: Option<Vec<u8>>, sound: &[u8]) -> bool {
     match image {
         Some(image) => repairs_once(alloc, image, sound).unwrap_or(false),

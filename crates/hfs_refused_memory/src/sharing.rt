@@ -14,7 +14,7 @@ fn new_volume(alloc: Global) -> Result<Volume> {
     mounted(alloc, new_image(alloc, 24)?)
 }
 
-/// A volume that is to be shared by so many workers and one viewer.
+/// A volume that is about to be shared by this many workers and one viewer.
 fn started_once(
     rt: &impl Wait,
     alloc: Global,
@@ -30,7 +30,7 @@ fn started_once(
     }
 }
 
-/// The same. Where memory or a place is refused it is tried once more.
+/// The same. If memory or a place is refused, it is tried once more.
 fn started(
     rt: &impl Wait,
     alloc: Global,
@@ -46,7 +46,7 @@ fn started(
     }
 }
 
-/// The same, with the viewer alone.
+/// The same, with only the viewer.
 fn begun(
     rt: &impl Wait,
     alloc: Global,
@@ -65,7 +65,7 @@ fn begun(
     }
 }
 
-/// The same of a new volume.
+/// The same for a new volume.
 pub fn begun_on_new(
     rt: &impl Wait,
     alloc: Global,
@@ -77,7 +77,7 @@ pub fn begun_on_new(
     begun(rt, alloc, new_volume(alloc)?, workers)
 }
 
-/// What closing gives. None where the passes are refused.
+/// What closing returns. None if the passes are refused.
 pub fn closed<K: Session>(
     rt: &impl Wait,
     shared: Shared<K>,

@@ -1,4 +1,4 @@
-//! What is published where memory is refused once, and what a viewer then shows.
+//! What is published while memory is refused once, and what a viewer then shows.
 ghost use Rattle.std.specs.Prelude.{◌≡◌, IfOk, OnOk};
 
 use crate::letters::{create, letters_in};
@@ -11,11 +11,11 @@ use std::alloc::Global;
 use std::marker::Brand;
 use std::sync::Wait;
 
-/// The names of the files that are made. With the root these are 17 rows, and a map has room for 15 before it wants memory for another
-/// node: it does in each of the two copies, when the 15th file is published, and when the 16th is.
+/// The names of the files that are made. With the root these are 17 rows, and a map has room for 15 before it needs memory for
+/// another node: it does in each of the two copies, when the 15th file is published, and when the 16th is.
 const NAMES: &[u8] = b"abcdefghijklmnop";
 
-/// The reply to one call, and what is told of it.
+/// The reply to one call, and the list that is published then.
 fn answered_once<K: Session>(
     rt: &impl Wait,
     alloc: Global,
@@ -31,8 +31,8 @@ fn answered_once<K: Session>(
     }
 }
 
-/// The reply to the call that makes a file in the root, and what is told of it. Where memory is refused to the call it is made once
-/// more.
+/// The reply to the call that makes a file in the root, and the list that is published then. If memory is refused to the call, it
+/// is made once more.
 fn answered<K: Session>(
     rt: &impl Wait,
     alloc: Global,
@@ -51,7 +51,7 @@ fn answered<K: Session>(
     }
 }
 
-/// Whether a reply gives the ID of the file that is made so many calls behind a new volume's beginning.
+/// Whether a reply gives the ID of the `number`-th file that is made on a new volume.
 fn is_made(reply: &Reply, number: u64) -> bool {
     match &reply.value {
         Value::Id(id) => reply.code == 0 && u64::from(*id) == number.saturating_add(15),
@@ -66,7 +66,7 @@ fn is_made(reply: &Reply, number: u64) -> bool {
     }
 }
 
-/// How many files a reply tells, which are `a`, `b` and so on.
+/// How many files a reply has, with the names `a`, `b` and so on.
 fn count_in(reply: &Reply) -> Option<u64> {
     match letters_in(reply) {
         Some(count) => Some(count as u64),
@@ -74,7 +74,7 @@ fn count_in(reply: &Reply) -> Option<u64> {
     }
 }
 
-/// How many files the viewer lists, which are `a`, `b` and so on. None where memory is refused, or it lists something else.
+/// How many files the viewer lists, with the names `a`, `b` and so on. None if memory is refused, or it lists something else.
 fn listed_once(alloc: Global, viewer: &mut Viewer) -> Option<u64>
     ensures { viewer.new.book ≡ viewer.old.book }
 {
@@ -84,7 +84,7 @@ fn listed_once(alloc: Global, viewer: &mut Viewer) -> Option<u64>
     }
 }
 
-/// The same. Where memory is refused it is asked once more.
+/// The same. If memory is refused, it is asked once more.
 fn listed(alloc: Global, viewer: &mut Viewer) -> Result<u64>
     ensures { OnOk result (viewer.new.book ≡ viewer.old.book) }
 {
@@ -97,8 +97,8 @@ fn listed(alloc: Global, viewer: &mut Viewer) -> Result<u64>
     }
 }
 
-/// An error where a call gives another ID, another call was made than the one of that number, or the viewer lists others than are
-/// told.
+/// An error if a call gives another ID, another call was made than the one with that number, or the viewer lists other files than
+/// were published.
 fn ensure_told(is_made: bool, is_number: bool, is_listed: bool) -> Result<()> {
     ensure!(is_made, "a call is answered otherwise");
     ensure!(is_number, "another call was made");
@@ -106,7 +106,8 @@ fn ensure_told(is_made: bool, is_number: bool, is_listed: bool) -> Result<()> {
     Ok(())
 }
 
-/// Makes a file, the call of that number, and lets the viewer learn what is told: how many calls are shown then, all of which it lists.
+/// Makes a file, the call with that number, and lets the viewer learn the published list; returns how many calls are shown then,
+/// all of which it lists.
 fn shown<K: Session>(
     rt: &impl Wait,
     alloc: Global,
@@ -127,7 +128,8 @@ fn shown<K: Session>(
     Ok(count)
 }
 
-/// What comes out behind the call of this number, after which so many are shown: each call is shown as it is made, or one of them with the next.
+/// The outcome after the call with this number, after which this many are shown: each call is shown as it is made, or one of them
+/// with the next.
 fn outcome_behind(before: Outcome, number: u64, shown: u64) -> Outcome {
     if shown == number {
         return before;
@@ -138,7 +140,7 @@ fn outcome_behind(before: Outcome, number: u64, shown: u64) -> Outcome {
     }
 }
 
-/// Makes each of the files, and answers how they are shown.
+/// Makes each of the files, and returns how they are shown.
 fn show_each<K: Session>(
     rt: &impl Wait,
     alloc: Global,
@@ -184,8 +186,8 @@ fn show_all<K: Session, R: Wait>(
     Ok(outcome)
 }
 
-/// How files that are made on a new volume are shown: each as it is made, or, where memory is refused to what publishes it, with the next
-/// call.
+/// How files that are made on a new volume are shown: each as it is made, or, if memory is refused to what publishes it, with the
+/// next call.
 pub fn shows_as_said(rt: &impl Wait, alloc: Global) -> Result<Outcome> {
     let (parts, passes, mut viewer) = begun_on_new(rt, alloc, 1)?;
     show_all::<Brand, _>(rt, alloc, parts, passes, &mut viewer)

@@ -7,16 +7,16 @@ use std::alloc::Global;
 use std::sync::Wait;
 use std::thread::Threads;
 
-/// Whether all was as it is said.
+/// Whether everything was as promised.
 #[derive(Clone, Copy, Debug, PartialEq, Eq)]
 pub enum Outcome {
     AsSaid,
-    /// It was, and the publish behind the call of this number lagged.
+    /// It was, and the publish after the call of this number lagged.
     Lagged(u64),
     Otherwise,
 }
 
-/// The outcome where nothing can lag.
+/// The outcome if nothing can lag.
 fn plain(is_said: bool) -> Outcome {
     if is_said {
         Outcome::AsSaid
@@ -25,7 +25,7 @@ fn plain(is_said: bool) -> Outcome {
     }
 }
 
-/// How what a word says comes out.
+/// The outcome of what a word says.
 pub fn outcome_of<T: Threads + Wait + Sync>(
     threads: &T,
     alloc: Global,
@@ -40,7 +40,7 @@ pub fn outcome_of<T: Threads + Wait + Sync>(
     Ok(plain(is_as_said(alloc, word)?))
 }
 
-/// The same of the words that need no thread.
+/// The same for the words that need no thread.
 fn is_as_said(alloc: Global, word: &[u8]) -> Result<bool> {
     if word == b"run".as_slice() {
         return lists::runs(alloc);

@@ -1,4 +1,4 @@
-//! Workers in threads, where memory is refused once. Worker 1 makes the files `a` and `b`, and worker 2 the files `c` and `d`.
+//! Workers in threads, while memory is refused once. Worker 1 makes the files `a` and `b`, and worker 2 the files `c` and `d`.
 ghost use Rattle.std.specs.Prelude.{◌≡◌};
 
 use crate::letters::{create, letters_in};
@@ -88,12 +88,12 @@ fn passes_of(alloc: Global, dones: Vec<Done>) -> Result<Vec<Pass>> {
     Ok(passes)
 }
 
-/// Whether so many calls are all that a worker has not made yet.
+/// Whether this many calls are all that a worker has not made yet.
 fn are_left(alloc: Global, pass: &Pass, count: usize) -> Result<bool> {
     Ok(calls_left(alloc, pass)?.len() == count)
 }
 
-/// The passes of jobs that came back, which have all their calls.
+/// The passes of jobs that were handed back, which have all their calls.
 fn passes_back(alloc: Global, jobs: Vec<(Pass, Vec<Call>)>) -> Result<Vec<Pass>> {
     let mut passes = Vec::new(alloc);
     for (pass, calls) in jobs {
@@ -106,7 +106,7 @@ fn passes_back(alloc: Global, jobs: Vec<(Pass, Vec<Call>)>) -> Result<Vec<Pass>>
     Ok(passes)
 }
 
-/// Runs the workers with the calls that they have not made yet. Their passes then.
+/// Runs the workers with the calls that they have not made yet, and returns their passes.
 fn run_once<K: Session + Send + Sync, R: Threads + Wait + Sync>(
     shared: &Shared<K>,
     threads: &R,
@@ -132,13 +132,13 @@ fn run_thrice<K: Session + Send + Sync, R: Threads + Wait + Sync>(
     run_once(shared, threads, alloc, passes)
 }
 
-/// Whether what closing gives has all four calls and files.
+/// Whether what closing returns has all four calls and files.
 fn has_all(alloc: Global, closed: &Closed) -> Result<bool> {
     let reply = closed.volume.list(alloc, 2)?;
     Ok(closed.journal.len() == 4 && letters_in(&reply) == Some(4))
 }
 
-/// Runs the workers three times, which is enough where memory is refused once, and closes the volume.
+/// Runs the workers three times, which is enough if memory is refused once, and closes the volume.
 fn run_all<K: Session + Send + Sync, R: Threads + Wait + Sync>(
     threads: &R,
     alloc: Global,

@@ -1,4 +1,4 @@
-//! The records with which forks go on, and how many blocks they have together.
+//! The records that continue forks, and how many blocks they have together.
 ghost use Rattle.std.specs.Prelude.{◌≡◌, ◌+◌, ◌++◌, ◌^◌, ◌<◌, ◌≤◌, map, length, IfOk, OnOk};
 ghost use Rattle.std.specs.List.{range_with_len};
 ghost use Rattle.std.specs.Option.{option_copied};
@@ -41,14 +41,14 @@ fn own_blocks(record: &OverflowRecord) -> u32
     }
 }
 
-/// The number of a file, a fork and a block of it.
+/// The number of a file, a fork and a block of the fork, as one.
 fn code(file: u32, fork: u8, block: u16) -> u64
     ensures { result ≡ spec.code file fork block }
 {
     (u64::from(file) * 256 + u64::from(fork)) * 65_536 + u64::from(block)
 }
 
-/// Notes a record, where it is the first of its numbers.
+/// Notes a record, if it is the first with its number.
 fn note(places: &mut CodedPlaces, record: &OverflowRecord, i: usize) -> Result<(), AllocError>
     ensures { OnOk result (spec.NotesRecord i record.now places.old places.new) }
 {
@@ -56,7 +56,7 @@ fn note(places: &mut CodedPlaces, record: &OverflowRecord, i: usize) -> Result<(
     places.put_first(code(key.file, key.fork, key.block), i)
 }
 
-/// The places of records by the numbers of their keys.
+/// The places of records, by the numbers of their keys.
 fn places_of(alloc: Global, records: &[OverflowRecord]) -> Result<CodedPlaces, AllocError>
     ensures { IfOk result (λ places. spec.KnowsRecords places records.now) }
 {
@@ -86,7 +86,7 @@ fn record_place(
     }
 }
 
-/// The place of the record that goes on where this one ends.
+/// The place of the record that continues where this one ends.
 fn next_place(
     places: &CodedPlaces,
     records: &[OverflowRecord],
@@ -109,7 +109,7 @@ fn next_place(
     )
 }
 
-/// For each record the place of the next.
+/// For each record, the place of the next.
 #[tactic(auto, unfolding(crate::specs::Chains::nexts_of))]
 fn nexts_of(
     alloc: Global,
@@ -126,7 +126,7 @@ fn nexts_of(
     Ok(nexts)
 }
 
-/// For each record how many blocks it has.
+/// For each record, how many blocks it has.
 #[tactic(auto, unfolding(crate::specs::Chains::owns_of))]
 fn owns_of(alloc: Global, records: &[OverflowRecord]) -> Result<Vec<u64>, AllocError>
     ensures owns { IfOk result (λ owns. owns.items ≡ spec.owns_of records.now) }
@@ -139,14 +139,14 @@ fn owns_of(alloc: Global, records: &[OverflowRecord]) -> Result<Vec<u64>, AllocE
     Ok(owns)
 }
 
-/// The number at a place, 0 behind the last.
+/// The number at a place; 0 after the last.
 fn number_at(numbers: &[u64], i: usize) -> u64
     ensures { result ≡ spec.number_at numbers.now i }
 {
     if i < numbers.len() { numbers[i] } else { 0 }
 }
 
-/// So many, but no more than are wanted.
+/// `count`, but no more than are wanted.
 fn at_most(wanted: u32, count: u64) -> u32
     ensures { result ≡ spec.at_most wanted count }
 {
@@ -157,7 +157,7 @@ fn at_most(wanted: u32, count: u64) -> u32
     }
 }
 
-/// The number at a place and that at the place to which it leads together.
+/// The number at a place plus that at the place where it leads.
 fn summed(sums: &[u64], jumps: &[Option<usize>], i: usize) -> u64
     requires { spec.AreBelow (2 ^ 62) sums.now }
     ensures { result ≡ spec.summed sums.now jumps.now i }
@@ -172,7 +172,7 @@ fn summed(sums: &[u64], jumps: &[Option<usize>], i: usize) -> u64
     }
 }
 
-/// For each place its number and that at the place to which it leads together.
+/// For each place, its number plus that at the place where it leads.
 fn all_summed(alloc: Global, sums: &[u64], jumps: &[Option<usize>]) -> Result<Vec<u64>, AllocError>
     requires { spec.AreBelow (2 ^ 62) sums.now }
     ensures { IfOk result (λ made. made.items ≡ map (spec.summed sums.now jumps.now)
@@ -185,7 +185,8 @@ fn all_summed(alloc: Global, sums: &[u64], jumps: &[Option<usize>]) -> Result<Ve
     Ok(made)
 }
 
-/// For each record how many blocks a fork goes on with from it on. Each record is looked at once for each bit of a block's number.
+/// For each record, with how many blocks a fork continues from it on. Each record is looked at once for each bit of a block's
+/// number.
 fn far_sums(
     alloc: Global,
     owns: Vec<u64>,
@@ -207,7 +208,7 @@ fn far_sums(
     Ok(sums)
 }
 
-/// The records of the extents tree, by which forks go on. Contracts see the records.
+/// The records of the extents tree, which continue forks. Contracts see the records.
 #[derive(Drop)]
 pub struct Chains<'a> {
     records: &'a [OverflowRecord],
@@ -227,7 +228,7 @@ impl<'a> Model for Chains<'a> {
 }
 
 impl<'a> Chains<'a> {
-    /// The chains of records. The only error is want of memory.
+    /// The chains of records. Fails only when out of memory.
     pub fn of(alloc: Global, records: &'a [OverflowRecord]) -> Result<Chains<'a>, AllocError>
         ensures { IfOk result (λ chains. chains ≡ records.now) }
     {
@@ -252,7 +253,7 @@ impl<'a> Chains<'a> {
         }
     }
 
-    /// How many blocks a fork has, as many as it wants at most, where its record has these first extents. No chain is walked.
+    /// How many blocks a fork whose record has these first extents has, but at most as many as it wants. No chain is walked.
     pub fn block_count(&self, file: u32, fork: u8, wanted: u32, first: &[Extent; 3]) -> u32
         ensures { result ≡ spec.at_most wanted (space.block_total
             (fork_extents self.now file fork wanted first.now)) }
@@ -279,8 +280,8 @@ fn push_extents(record: &OverflowRecord, extents: &mut Vec<Extent>) -> Result<()
     Ok(())
 }
 
-/// The extents of a fork, where its record has these first ones and it wants so many blocks. It reads no more records than the
-/// fork has blocks of those that it wants. The only error is want of memory.
+/// The extents of a fork whose record has these first ones and that wants this many blocks. Reads no more records than the fork
+/// has blocks among those that it wants. Fails only when out of memory.
 #[tactic(auto, unfolding(hfs_rescue::specs::OverflowRecords::fork_extents))]
 pub(crate) fn extents_of(
     alloc: Global,

@@ -6,8 +6,8 @@ use std::alloc::{AllocError, Global};
 use std::collections::BTreeMap;
 use std::marker::Model;
 
-/// Places of records, each with a number. They are kept in the order of the numbers and not by hashes, since an image chooses its
-/// numbers.
+/// Places of records, each with a number. They are kept in the order of the numbers and without hashing, since an image chooses
+/// its numbers.
 #[derive(Drop)]
 pub struct CodedPlaces {
     places: BTreeMap<u64, usize>,
@@ -22,7 +22,7 @@ impl Model for CodedPlaces {
 }
 
 impl CodedPlaces {
-    /// No place for any number. Takes no memory.
+    /// No places. Takes no memory.
     pub(crate) fn new(alloc: Global) -> CodedPlaces
         ensures { result ≡ [] }
     {
@@ -38,7 +38,7 @@ impl CodedPlaces {
         self.places.get(&number).copied()
     }
 
-    /// Gives a number this place, in place of the one that it has, which is the answer.
+    /// Gives a number this place, and returns the one that it had, if any.
     fn replace(&mut self, number: u64, place: usize) -> Result<Option<usize>, AllocError>
         ensures put { OnOk result (SetsNumber number place self.old self.new) }
         ensures was { IfOk result (λ was. was ≡ number_of self.old number) }
@@ -47,7 +47,7 @@ impl CodedPlaces {
         Ok(was)
     }
 
-    /// Gives a number this place, in place of the one that it has.
+    /// Gives a number this place, in place of the one that it may have.
     fn put(&mut self, number: u64, place: usize) -> Result<(), AllocError>
         ensures { OnOk result (SetsNumber number place self.old self.new) }
     {

@@ -17,22 +17,22 @@ use std::alloc::{AllocError, Global};
 /// A fork of an item, as far as it is taken.
 #[derive(Drop)]
 pub struct FoundFork {
-    /// How many bytes are taken of it: none where it is left.
+    /// How many bytes are taken of it; 0 if it is left out.
     pub length: u32,
-    /// The allocation blocks that hold these, in order, None in the place of each that is missing: it gives zeros.
+    /// The allocation blocks that hold these, in order, with None in place of each that is missing, which gives zeros.
     pub places: Vec<Option<u16>>,
-    /// What is said of it.
+    /// The verdict on it.
     pub verdict: Verdict,
 }
 
-/// How long a fork is that wants more bytes; None where it has as many as it wants.
+/// How long a fork is that wants more bytes; None if it has as many as it wants.
 fn cut_of(wanted: u32, length: u32) -> Option<u32>
     ensures { result ≡ if nat_lt length wanted then Some length else None }
 {
     if length < wanted { Some(length) } else { None }
 }
 
-/// A fork that is taken, of a volume of `total` logical blocks, by the numbers of the owners of each allocation block.
+/// A fork that is taken, on a volume of `total` logical blocks, given how many owners each allocation block has.
 fn taken_fork(
     alloc: Global,
     total: u32,
@@ -65,7 +65,7 @@ fn taken_fork(
     })
 }
 
-/// What is found of a fork, of a volume of `total` logical blocks, by the numbers of the owners of each allocation block.
+/// What is found of a fork, on a volume of `total` logical blocks, given how many owners each allocation block has.
 pub(crate) fn find_fork(
     alloc: Global,
     total: u32,

@@ -17,7 +17,7 @@ use std::alloc::{AllocError, Global};
 pub struct Fork {
     /// The number of its file.
     pub file: u32,
-    /// The fork, as keys name it: 0 of data, 255 of resources.
+    /// The fork's number in keys: 0 for data, 255 for resources.
     pub kind: u8,
     /// How many bytes it should have.
     pub len: u32,
@@ -25,7 +25,7 @@ pub struct Fork {
     pub first: [Extent; 3],
 }
 
-/// How many allocation blocks hold so many bytes.
+/// How many allocation blocks hold `len` bytes.
 pub(crate) fn blocks_for(mdb: &Mdb, len: u32) -> u32
     requires { 512 ≤ mdb.now.allocation_block_size }
     ensures count { result ≡ spec.blocks_for mdb.now len }
@@ -46,7 +46,7 @@ fn lesser(held: u64, len: u32) -> u32
 }
 
 impl Fork {
-    /// The two forks of a file's record, data before resources; None of any other record.
+    /// The two forks in a file's record, data before resources; None for any other record.
     #[tactic(auto, unfolding(hfs_fields::specs::Records::begins_file))]
     pub fn both(body: &[u8]) -> Option<(Fork, Fork)>
         ensures { result ≡ spec.both_forks body.now }
@@ -63,7 +63,7 @@ impl Fork {
         ))
     }
 
-    /// How many blocks the fork has, as many as its length wants at most. No chain is walked.
+    /// How many blocks the fork has, but at most as many as its length wants. No chain is walked.
     pub fn block_count(&self, chains: &Chains<'_>, mdb: &Mdb) -> u32
         requires { 512 ≤ mdb.now.allocation_block_size }
         ensures { result ≡ length (spec.fork_blocks chains.now mdb.now self.now) }
@@ -83,7 +83,7 @@ impl Fork {
         lesser(held, self.len)
     }
 
-    /// The blocks of the fork in order, None in the place of each that is missing. The only error is want of memory.
+    /// The blocks of the fork, in order, with None in place of each that is missing. Fails only when out of memory.
     #[tactic(auto, unfolding(crate::specs::Forks::fork_places, crate::specs::Forks::fork_blocks))]
     pub fn places(
         &self,
@@ -115,7 +115,7 @@ fn fork_of(file: u32, kind: u8, record: &ForkRecord) -> Fork
     }
 }
 
-/// Block `b`, where it is there.
+/// Block `b`, if it exists.
 #[tactic(auto, unfolding(hfs_rescue::specs::Allocation::is_there))]
 fn there(total: u32, mdb: &Mdb, b: u32) -> Option<u16>
     ensures { result ≡ spec.there total mdb.now b }
@@ -131,7 +131,7 @@ fn there(total: u32, mdb: &Mdb, b: u32) -> Option<u16>
     }
 }
 
-/// Puts the blocks of an extent behind others, until so many are there.
+/// Adds the blocks of an extent after others, until there are `wanted`.
 fn push_extent(
     places: &mut Vec<Option<u16>>,
     extent: Extent,
@@ -151,7 +151,7 @@ fn push_extent(
     Ok(())
 }
 
-/// The blocks of extents, as many as are wanted, None in the place of each that is missing.
+/// The blocks of extents, as many as are wanted, with None in place of each that is missing.
 fn places_in(
     alloc: Global,
     total: u32,
@@ -170,14 +170,14 @@ fn places_in(
     Ok(places)
 }
 
-/// Of bytes that a block holds, those that are missing where it is.
+/// Of the bytes that a block holds, those that are missing because it is.
 fn missing_of(place: Option<u16>, held: u32) -> u32
     ensures { result ≡ if is_some place then 0 else held }
 {
     if place.is_some() { 0 } else { held }
 }
 
-/// Of so many bytes in these blocks, how many a block is missing for.
+/// Of `length` bytes in these blocks, how many are missing because a block is.
 pub(crate) fn missing_in(mdb: &Mdb, places: &[Option<u16>], length: u32) -> u32
     ensures { result ≡ spec.missing_in mdb.now.allocation_block_size length places.now }
 {

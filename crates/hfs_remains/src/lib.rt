@@ -1,4 +1,4 @@
-//! What remains of files: records as things that have a place, forks, their blocks and bytes, and what is said of them.
+//! What remains of files: records as things that have a place, forks, their blocks and bytes, and the verdicts on them.
 #![tactic(auto)]
 
 mod chains;

@@ -10,7 +10,7 @@ use hfs_places::Thing;
 use hfs_rescue::FoundRecord;
 use std::alloc::{AllocError, Global};
 
-/// The number of a folder's record, None of any other.
+/// The number in a folder's record; None for any other.
 fn folder_number(body: &[u8]) -> Option<u32>
     ensures { result ≡ spec.folder_number body.now }
 {
@@ -41,7 +41,7 @@ fn is_folder_thread(body: &[u8]) -> bool
     body.len() == ThreadRecord::LENGTH && body[0] == 3
 }
 
-/// The record of a folder's thread, where its name is short enough.
+/// The record of a folder's thread, if its name is short enough.
 fn read_thread(body: &[u8]) -> Option<ThreadRecord>
     requires { is_dir_thread body.now ≡ true }
     ensures { result ≡ if has_short_name body.now then Some (thread_record_of body.now) else None }
@@ -52,7 +52,7 @@ fn read_thread(body: &[u8]) -> Option<ThreadRecord>
     }
 }
 
-/// The folder that a record names, where it is a folder's thread with an empty name in its key and a name in its body.
+/// The folder that a record names, if it is a folder's thread with an empty name in its key and a name in its body.
 fn naming(found: &FoundRecord) -> Option<Thing>
     ensures { result ≡ spec.naming found.now }
 {
@@ -78,7 +78,7 @@ fn naming(found: &FoundRecord) -> Option<Thing>
     })
 }
 
-/// Puts the folder that a record names behind others, where it names one.
+/// Adds the folder that a record names after others, if it names one.
 fn push_naming(found: &FoundRecord, things: &mut Vec<Thing>) -> Result<(), AllocError>
     ensures { OnOk result (things.new.items ≡ things.old.items ++ option_to_list (spec.naming
         found.now)) }
@@ -92,7 +92,7 @@ fn push_naming(found: &FoundRecord, things: &mut Vec<Thing>) -> Result<(), Alloc
     }
 }
 
-/// The folders that records name, in the order of the records. The only error is want of memory.
+/// The folders that records name, in the order of the records. Fails only when out of memory.
 pub fn namings(alloc: Global, records: &[FoundRecord]) -> Result<Vec<Thing>, AllocError>
     ensures { IfOk result (λ things. things.items ≡ spec.namings_of records.now) }
 {
@@ -103,7 +103,7 @@ pub fn namings(alloc: Global, records: &[FoundRecord]) -> Result<Vec<Thing>, All
     Ok(things)
 }
 
-/// Items as things, in order. The only error is want of memory.
+/// Items as things, in order. Fails only when out of memory.
 pub fn things_of(alloc: Global, items: &[FoundRecord]) -> Result<Vec<Thing>, AllocError>
     ensures { IfOk result (λ things. things.items ≡ map spec.thing_of items.now) }
 {

@@ -1,4 +1,4 @@
-//! The forks of the items of a damaged volume, what is taken of them, and what is said of each.
+//! The forks of the items of a damaged volume, what is taken of them, and the verdict on each.
 ghost use Rattle.std.specs.Prelude.{◌≡◌, ◌*◌, ◌≤◌, ◌<◌, ◌&&◌, not, length, IfOk, OnOk};
 ghost use Rattle.hfs_rescue.specs.TreeFiles.{AreThere};
 ghost use Rattle.hfs_remains.specs.Owners.{AddsOwners, CountOwners};
@@ -17,14 +17,14 @@ use hfs_verdicts::Verdict;
 use std::alloc::{AllocError, Global};
 use std::marker::Model;
 
-/// How many bytes are taken at most where nothing else is asked for: four times those of the image.
+/// How many bytes are taken at most by default: four times as many as the image has.
 pub fn usual_limit(image_len: u32) -> u64
     ensures { result ≡ 4 * image_len }
 {
     4 * u64::from(image_len)
 }
 
-/// Adds the owners of a fork's blocks, where it is taken.
+/// Adds the owners of a fork's blocks, if it is taken.
 fn own_share(
     alloc: Global,
     total: u32,
@@ -45,14 +45,14 @@ fn own_share(
     Ok(())
 }
 
-/// Whether an item is passed over where those alone are asked for that aren't old.
+/// Whether an item is skipped when only those that aren't old are asked for.
 fn is_passed(young: bool, old: bool) -> bool
     ensures { result ≡ (young && old) }
 {
     young && old
 }
 
-/// Adds the owners of the blocks of an item's forks that are taken; of an old item only where all are asked for.
+/// Adds the owners of the blocks of an item's forks that are taken; for an old item only if all are asked for.
 fn own_item(
     alloc: Global,
     total: u32,
@@ -78,7 +78,7 @@ fn own_item(
     Ok(())
 }
 
-/// Adds the owners of the blocks of items' forks that are taken, of old items only where all are asked for.
+/// Adds the owners of the blocks of items' forks that are taken; for old items only if all are asked for.
 fn own_items(
     alloc: Global,
     total: u32,
@@ -110,7 +110,7 @@ fn own_tree(total: u32, mdb: &Mdb, owners: &mut [u8], file: &[Option<u16>], size
     add_owners(owners, &file[..count]);
 }
 
-/// Adds the owners of each block: the trees' files, and the forks of the items that are taken, or of those alone that aren't old.
+/// Adds the owners of each block: the trees' files, and the forks of the items that are taken, or only of those that aren't old.
 fn own_all(
     alloc: Global,
     trees: &Trees<'_>,
@@ -143,7 +143,7 @@ fn own_all(
     Ok(())
 }
 
-/// How many own each block: the trees' files, and the forks of the items that are taken, or of those alone that aren't old.
+/// How many owners each block has: the trees' files, and the forks of the items that are taken, or only of those that aren't old.
 fn owners_of(
     alloc: Global,
     trees: &Trees<'_>,
@@ -178,9 +178,9 @@ pub struct Salvage<'a> {
     trees: Trees<'a>,
     chains: Chains<'a>,
     shares: Vec<Option<FileShares>>,
-    /// How many own each block, by the items that aren't old.
+    /// How many owners each block has, counting the items that aren't old.
     young: Vec<u8>,
-    /// The same by all items.
+    /// The same, counting all items.
     all: Vec<u8>,
 }
 
@@ -195,7 +195,7 @@ impl<'a> Model for Salvage<'a> {
 }
 
 impl<'a> Salvage<'a> {
-    /// The forks of items, of which so many bytes are taken at most. The only error is want of memory.
+    /// The forks of items; at most `limit` bytes are taken of all of them. Fails only when out of memory.
     pub fn of(
         alloc: Global,
         trees: Trees<'a>,
@@ -226,7 +226,7 @@ impl<'a> Salvage<'a> {
         self.shares.len()
     }
 
-    /// The numbers of the owners of each block that count for an item that is old, or isn't.
+    /// How many owners of each block count for an item that is old, or isn't.
     fn owners_for(&self, old: bool) -> &[u8]
         ensures owners { CountOwners (spec.all_used self.now.trees (not old) self.now.shares)
             result.now }
@@ -251,8 +251,8 @@ impl<'a> Salvage<'a> {
         Ok(found)
     }
 
-    /// A fork of item `i`, counted from 0: how many of its bytes are taken, the blocks that hold them, and what is said of it. None
-    /// where the item is a folder. The only error is want of memory.
+    /// A fork of item `i`, counted from 0: how many of its bytes are taken, the blocks that hold them, and the verdict on it.
+    /// None if the item is a folder. Fails only when out of memory.
     pub fn fork(
         &self,
         alloc: Global,
@@ -269,8 +269,7 @@ impl<'a> Salvage<'a> {
         Ok(Some(found))
     }
 
-    /// What is said of the two forks of item `i`, data before resources; None where it is a folder. The only error is want of
-    /// memory.
+    /// The verdicts on the two forks of item `i`, data before resources; None if it is a folder. Fails only when out of memory.
     pub fn verdicts(
         &self,
         alloc: Global,

@@ -25,7 +25,7 @@ pub struct FileShares {
     pub resource: Share,
 }
 
-/// Takes so many bytes, where there is room for all of them, and answers whether there was.
+/// Takes this many bytes, if there is room for all of them, and returns whether there was.
 fn take_bytes(room: &mut u64, bytes: u32) -> bool
     ensures taken { result ≡ nat_le bytes room.old }
     ensures room { room.new ≡ if nat_le bytes room.old then room.old - bytes else room.old }
@@ -37,7 +37,7 @@ fn take_bytes(room: &mut u64, bytes: u32) -> bool
     taken
 }
 
-/// Takes a fork, where there is room for all of it.
+/// Takes a fork, if there is room for all of it.
 fn take_fork(chains: &Chains<'_>, mdb: &Mdb, room: &mut u64, fork: Fork) -> Share
     requires { 512 ≤ mdb.now.allocation_block_size }
     ensures share { result ≡ spec.share_of chains.now mdb.now room.old fork }
@@ -48,7 +48,7 @@ fn take_fork(chains: &Chains<'_>, mdb: &Mdb, room: &mut u64, fork: Fork) -> Shar
     Share { fork, taken }
 }
 
-/// Takes the forks of an item, data before resources, where there is room for all of each; None of a folder.
+/// Takes those forks of an item, data before resources, for all of which there is room; None for a folder.
 fn take_item(
     chains: &Chains<'_>,
     mdb: &Mdb,
@@ -71,8 +71,8 @@ fn take_item(
     })
 }
 
-/// What is taken of each item's forks, in the order of the items, of so many bytes in all: a fork for which they are not enough is
-/// left, and those behind it are looked at. The only error is want of memory.
+/// What is taken of each item's forks, in the order of the items, when `limit` bytes may be taken in all: a fork that would
+/// exceed it is left out, and those after it are still looked at. Fails only when out of memory.
 pub(crate) fn shares_of(
     alloc: Global,
     chains: &Chains<'_>,

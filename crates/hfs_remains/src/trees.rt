@@ -5,7 +5,7 @@ ghost use Rattle.hfs_rescue.specs.TreeFiles.{AreThere};
 use hfs_fields::Mdb;
 use hfs_rescue::OverflowRecord;
 
-/// What is found of a volume's trees, as far as forks want it.
+/// What is found of a volume's trees, as far as forks need it.
 #[derive(Clone, Copy)]
 pub struct Trees<'a> {
     /// How many logical blocks the image has.
@@ -14,9 +14,9 @@ pub struct Trees<'a> {
     pub mdb: &'a Mdb,
     /// The records of the extents tree.
     pub overflow: &'a [OverflowRecord],
-    /// The allocation blocks of the extents file in order, None in the place of each that is missing.
+    /// The allocation blocks of the extents file, in order, with None in place of each that is missing.
     pub extents_file: &'a [Option<u16>],
-    /// Those of the catalog file.
+    /// Those of the catalog file, likewise.
     pub catalog_file: &'a [Option<u16>],
     ghost size: { 512 ≤ mdb.now.allocation_block_size },
     ghost extents_there: { AreThere total mdb.now extents_file.now },

@@ -24,7 +24,7 @@ fn title(alloc: Global, found: &Found<'_>) -> Result<Vec<u8>, AllocError>
     Ok(text)
 }
 
-/// What the page wears.
+/// The style of the page.
 fn style_text(alloc: Global, texts: &RemainsTexts<'_>) -> Result<Vec<u8>, AllocError>
     ensures { IfOk result (λ text. text.items ≡ spec.style_text texts.now) }
 {
@@ -49,7 +49,7 @@ fn push_named_head(
     push_head(page, &style, &title)
 }
 
-/// Appends all that stands before the items.
+/// Appends everything before the items.
 fn push_front(
     alloc: Global,
     page: &mut Vec<u8>,
@@ -70,7 +70,7 @@ fn push_front(
     push_bytes(page, b"<ul id=\"items\">\n")
 }
 
-/// All that stands before the items.
+/// Everything before the items.
 pub(crate) fn front(
     alloc: Global,
     texts: &RemainsTexts<'_>,
@@ -97,7 +97,7 @@ fn push_end(page: &mut Vec<u8>, texts: &RemainsTexts<'_>) -> Result<(), AllocErr
     push_bytes(page, b"</main>\n</body>\n</html>\n")
 }
 
-/// Appends all that stands after the items.
+/// Appends everything after the items.
 fn push_back(
     alloc: Global,
     page: &mut Vec<u8>,
@@ -116,7 +116,7 @@ fn push_back(
     push_end(page, texts)
 }
 
-/// All that stands after the items.
+/// Everything after the items.
 pub(crate) fn back(
     alloc: Global,
     texts: &RemainsTexts<'_>,

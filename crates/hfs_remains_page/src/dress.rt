@@ -1,4 +1,4 @@
-//! What a page of remains wears: what pages of sound disks wear, and some lines of its own.
+//! What all pages of remains have in common: what pages of sound disks have, and some lines of their own.
 ghost use Rattle.std.specs.Prelude.{◌≡◌, [], ◌∷◌, codes};
 ghost use Rattle.hfs_page.specs.Markup.{Leads};
 ghost use Rattle.hfs_remains_page.specs.Dress.{IsRemainsDress};
@@ -6,8 +6,8 @@ ghost use Rattle.hfs_remains_page.specs.Dress.{IsRemainsDress};
 use crate::remains_texts::RemainsTexts;
 use hfs_page::{PageImage, standard_texts};
 
-/// The style behind that of all pages of disks. A wide page has what is said of forks in a column beside the others, a narrow one in a line
-/// below them.
+/// The style after that of all pages of disks. A wide page has the verdicts on forks in a column next to the others, a narrow one
+/// in a line below them.
 fn style() -> &'static [u8]
     ensures { Leads [] [] result.now }
 {
@@ -25,7 +25,8 @@ main{grid-template-columns:minmax(0,1fr) minmax(22rem,30%)}
 "
 }
 
-/// The heading of the items, the field of the search, which the script shows, the heads of the items' columns, and what is said of forks.
+/// The heading of the items, the search field, which the script shows, the heads of the items' columns, and what verdicts on
+/// forks mean.
 fn columns() -> &'static [u8]
     ensures { Leads [] (codes "section" ∷ []) result.now }
 {
@@ -63,7 +64,7 @@ shows the first of these uses that one of its blocks has, as far as they were fo
 "
 }
 
-/// The texts of all pages of remains that this version of the program prints, for the page of this image.
+/// The texts that this version of the program prints on all pages of remains, for the page of this image.
 pub fn found_texts<'a>(version: &'a [u8], image: PageImage<'a>) -> RemainsTexts<'a>
     ensures version { result.page.version.now ≡ version.now }
     ensures image { result.page.image ≡ image.entry }

@@ -1,4 +1,4 @@
-//! What a page says of what was found before the items.
+//! What a page says about what was found, before the items.
 ghost use Rattle.std.specs.Prelude.{OnOk};
 ghost use Rattle.hfs_page.specs.Facts.{count_row};
 ghost use Rattle.hfs_page.specs.Pieces.{Gains};
@@ -29,7 +29,7 @@ pub(crate) fn push_fault(
     push_bytes(page, b"</p>\n")
 }
 
-/// Appends so many files, of which so many are whole and so many damaged, and so many folders.
+/// Appends how many files there are, how many of them are whole and how many damaged, and how many folders.
 fn push_counts(
     alloc: Global,
     page: &mut Vec<u8>,

@@ -1,4 +1,4 @@
-//! What holds of the definitions, each as the contract of a function that does nothing.
+//! What holds for the definitions, each law as the contract of a function that does nothing.
 ghost use Rattle.hfs_remains_page.specs.Nested.{RemainsPagesNest};
 ghost use Rattle.hfs_remains_page.specs.Once.{ThingsStandOnce};
 
@@ -7,7 +7,7 @@ pub fn remains_pages_nest()
     ensures { RemainsPagesNest }
 {}
 
-/// Each thing that was found stands once in the tree of a page, whatever folders the things name as theirs, also where these lie in one
+/// Each thing that was found is in the tree of a page once, whatever folders the things name as theirs, even if these are in one
 /// another.
 pub fn things_stand_once()
     ensures { ThingsStandOnce }

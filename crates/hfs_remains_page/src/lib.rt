@@ -1,5 +1,5 @@
-//! A page for what remains of a disk that is refused: its fault in words, what was found as a tree with what is said of each fork, and a
-//! picture of the blocks that this has.
+//! A page for what remains of a disk that is refused: its fault in words, what was found as a tree with the verdict on each fork,
+//! and a picture of the blocks in use.
 #![tactic(auto)]
 
 mod document;

@@ -1,4 +1,4 @@
-//! What stands below each node of a tree.
+//! What is below each node of a tree.
 ghost use Rattle.std.specs.Prelude.{◌≡◌, ◌+◌, ℕ, IfOk, OnOk, length};
 ghost use Rattle.hfs_places.specs.Paths as paths;
 ghost use Rattle.hfs_remains_page.specs.Trees as spec;
@@ -10,7 +10,7 @@ use hfs_places::Thing;
 use hfs_rescue_items::Found;
 use std::alloc::{AllocError, Global};
 
-/// As many lists as are wanted, with nothing in them.
+/// `count` empty lists.
 #[tactic(auto, using(crate::proofs::TreeLemmas::empty_none, crate::proofs::TreeLemmas::empty_more, crate::proofs::TreeLemmas::empty_below))]
 fn empty_lists(alloc: Global, count: usize) -> Result<Vec<Vec<usize>>, AllocError>
     ensures long { IfOk result (λ lists. length lists.items ≡ count) }
@@ -23,7 +23,7 @@ fn empty_lists(alloc: Global, count: usize) -> Result<Vec<Vec<usize>>, AllocErro
     Ok(lists)
 }
 
-/// Notes that a thing stands right below a node.
+/// Notes that a thing is directly below a node.
 #[tactic(auto, using(crate::proofs::ListLemmas::gained, crate::proofs::TreeLemmas::none_gained))]
 fn note(lists: &mut Vec<Vec<usize>>, thing: usize, node: usize) -> Result<(), AllocError>
     ensures { OnOk result (GainsBelow lists.old.items lists.new.items thing node) }
@@ -35,7 +35,7 @@ fn note(lists: &mut Vec<Vec<usize>>, thing: usize, node: usize) -> Result<(), Al
     Ok(())
 }
 
-/// What stands right below each node of the tree, in the order of the things.
+/// What is directly below each node of the tree, in the order of the things.
 #[tactic(auto, using(crate::proofs::TreeLemmas::lists_more))]
 pub(crate) fn lists_of(
     alloc: Global,

@@ -1,4 +1,4 @@
-//! The places of folders by their numbers.
+//! The places of folders, by their numbers.
 ghost use Rattle.std.specs.Prelude.{◌≡◌, [], IfOk, OnOk, take};
 ghost use Rattle.hfs_catalog_checks.specs.Indexes.{number_of, SetsNumber, NotesFirst};
 ghost use Rattle.hfs_places.specs.Folders.{KnowsFolders, NotesFolder};
@@ -9,8 +9,8 @@ use std::alloc::{AllocError, Global};
 use std::collections::BTreeMap;
 use std::marker::Model;
 
-/// The place of the first folder of each number. They are kept in the order of the numbers and not by hashes, since an image chooses
-/// its numbers.
+/// The place of the first folder with each number. They are kept in the order of the numbers and without hashing, since an image
+/// chooses its numbers.
 #[derive(Drop)]
 pub(crate) struct FolderNumbers {
     places: BTreeMap<u32, usize>,
@@ -25,7 +25,7 @@ impl Model for FolderNumbers {
 }
 
 impl FolderNumbers {
-    /// No place for any number. Takes no memory.
+    /// No places. Takes no memory.
     fn new(alloc: Global) -> FolderNumbers
         ensures { result ≡ [] }
     {
@@ -41,7 +41,7 @@ impl FolderNumbers {
         self.places.get(&number).copied()
     }
 
-    /// Gives a number this place, in place of the one that it has, which is the answer.
+    /// Gives a number this place, and returns the one that it had, if any.
     fn replace(&mut self, number: u32, place: usize) -> Result<Option<usize>, AllocError>
         ensures put { OnOk result (SetsNumber number place self.old self.new) }
         ensures was { IfOk result (λ was. was ≡ number_of self.old number) }
@@ -50,7 +50,7 @@ impl FolderNumbers {
         Ok(was)
     }
 
-    /// Gives a number this place, in place of the one that it has.
+    /// Gives a number this place, in place of the one that it may have.
     fn put(&mut self, number: u32, place: usize) -> Result<(), AllocError>
         ensures { OnOk result (SetsNumber number place self.old self.new) }
     {
@@ -69,7 +69,7 @@ impl FolderNumbers {
     }
 }
 
-/// Notes the place of a thing that is a folder, where its number had none.
+/// Notes the place of a thing that is a folder, if its number had none.
 fn note_folder(folders: &mut FolderNumbers, thing: &Thing, place: usize) -> Result<(), AllocError>
     ensures { OnOk result (NotesFolder thing.now place folders.old folders.new) }
 {
@@ -79,7 +79,7 @@ fn note_folder(folders: &mut FolderNumbers, thing: &Thing, place: usize) -> Resu
     }
 }
 
-/// The folders among things by their numbers.
+/// The folders among things, by their numbers.
 #[tactic(auto, using(crate::proofs::TreeLemmas::folders_none, crate::proofs::TreeLemmas::folders_more, crate::proofs::TreeLemmas::folders_all))]
 pub(crate) fn folders_of(alloc: Global, things: &[Thing]) -> Result<FolderNumbers, AllocError>
     ensures { IfOk result (λ folders. KnowsFolders folders things.now) }
@@ -91,7 +91,7 @@ pub(crate) fn folders_of(alloc: Global, things: &[Thing]) -> Result<FolderNumber
     Ok(folders)
 }
 
-/// The place of the folder of a number among things, None where there is none or it is the payload itself.
+/// The place among things of the folder with a number; None if there is none or it is the payload itself.
 pub(crate) fn folder_of(things: &[Thing], folders: &FolderNumbers, number: u32) -> Option<usize>
     requires { KnowsFolders folders.now things.now }
     ensures { result ≡ all_things.folder_of things.now number }

@@ -1,4 +1,4 @@
-//! The picture of what was found: which blocks the trees and the forks have that were found.
+//! The picture of what was found: the blocks of the trees and forks.
 ghost use Rattle.std.specs.Prelude.{◌≡◌, ◌++◌, false, IfOk, OnOk, length, map};
 ghost use Rattle.std.specs.Int.{div_ceil};
 ghost use Rattle.std.specs.List.{flat_map, range_with_len, slice_get};
@@ -19,10 +19,10 @@ use hfs_rescue_items::Found;
 use hfs_space::ForkKind;
 use std::alloc::{AllocError, Global};
 
-/// How many cells stand in a row.
+/// How many cells a row has.
 const COLUMNS: usize = 64;
 
-/// The allocation blocks of both trees' files, None in the place of each that is missing.
+/// The allocation blocks of both trees' files, with None in place of each that is missing.
 #[derive(Clone, Copy)]
 pub(crate) struct TreeFiles<'a> {
     pub(crate) extents: &'a [Option<u16>],
@@ -43,7 +43,7 @@ fn push_tree(
     push_held(holdings, part, &pieces)
 }
 
-/// The pieces of a fork of item `i`, as far as it is taken; none of a folder's.
+/// The pieces of a fork of item `i`, as far as it is taken; none for a folder.
 #[tactic(auto, using(crate::proofs::HeldLemmas::none_pieces, crate::proofs::HeldLemmas::fork_pieces))]
 fn fork_pieces(
     alloc: Global,
@@ -62,7 +62,7 @@ fn fork_pieces(
     Ok(pieces)
 }
 
-/// Adds the blocks of a fork of item `i`, as far as it is taken; none of a folder.
+/// Adds the blocks of a fork of item `i`, as far as it is taken; none for a folder.
 fn push_fork(
     alloc: Global,
     holdings: &mut Vec<Holding>,
@@ -113,7 +113,7 @@ fn push_items(
     Ok(())
 }
 
-/// All blocks that the trees and the forks have that were found, with what they are used for.
+/// All blocks of the trees and forks that were found, with what they are used for.
 #[tactic(auto, unfolding(crate::specs::Pictures::all_held_of))]
 pub(crate) fn holdings_of(
     alloc: Global,
@@ -131,7 +131,7 @@ pub(crate) fn holdings_of(
     Ok(holdings)
 }
 
-/// What blocks are that nothing has.
+/// What blocks are that nothing owns.
 fn no_uses(alloc: Global, count: u16) -> Result<Vec<BlockUse>, AllocError>
     ensures { IfOk result (λ uses. uses.items
         ≡ map (λ block. unowned false) (range_with_len 0 count)) }
@@ -146,7 +146,7 @@ fn no_uses(alloc: Global, count: u16) -> Result<Vec<BlockUse>, AllocError>
     Ok(uses)
 }
 
-/// What so many blocks are used for, by these extents alone.
+/// What `count` blocks are used for, by these extents alone.
 fn uses_by(alloc: Global, count: u16, holdings: &[Holding]) -> Result<Vec<BlockUse>, AllocError>
     ensures { IfOk result (λ uses. uses.items ≡ block_uses holdings.now (λ block. false) count) }
 {
@@ -169,7 +169,7 @@ pub(crate) fn cells_of(
     picture_cells(alloc, &uses)
 }
 
-/// Appends the name of the item of this number.
+/// Appends the name of the item with this number.
 fn push_item_name(
     alloc: Global,
     page: &mut Vec<u8>,
@@ -184,7 +184,7 @@ fn push_item_name(
     }
 }
 
-/// Appends whose fork has the blocks, if one has.
+/// Appends whose fork owns the blocks, if one does.
 fn push_owner(
     alloc: Global,
     page: &mut Vec<u8>,
@@ -200,7 +200,7 @@ fn push_owner(
     push_item_name(alloc, page, items, fork.number)
 }
 
-/// Appends what a part is called. Of blocks that nothing has that was found it isn't known whether they are free.
+/// Appends the name of a part. Whether blocks that belong to nothing that was found are free isn't known.
 fn push_found_part(page: &mut Vec<u8>, part: Part) -> Result<(), AllocError>
     ensures { OnOk result (Gains page.old page.new (spec.found_part part)) }
 {
@@ -228,7 +228,7 @@ fn push_use(
     push_owner(alloc, page, items, used.fork)
 }
 
-/// Appends the cell that stands at this place.
+/// Appends the cell at this place.
 #[tactic(auto, unfolding(crate::specs::Pictures::cell_text))]
 fn push_cell(
     alloc: Global,
@@ -245,7 +245,7 @@ fn push_cell(
     push_bytes(page, b"</title></rect>\n")
 }
 
-/// Appends all cells, each in its place.
+/// Appends all cells, each at its place.
 fn push_cells(
     alloc: Global,
     page: &mut Vec<u8>,
@@ -260,7 +260,7 @@ fn push_cells(
     Ok(())
 }
 
-/// Appends how many rows so many cells take.
+/// Appends how many rows this many cells take.
 fn push_rows(
     alloc: Global,
     page: &mut Vec<u8>,

@@ -1,11 +1,11 @@
-//! Blocks that follow one another.
+//! Consecutive blocks.
 ghost use Rattle.std.specs.Prelude.{◌≡◌, IfOk, OnOk, reverse};
 ghost use Rattle.hfs_remains_page.specs.Pictures as spec;
 
 use hfs_fields::Extent;
 use std::alloc::{AllocError, Global};
 
-/// The piece that begins with a block and goes on with another piece; None where it does not go on there.
+/// The piece that begins with a block and continues with another piece; None if it doesn't continue there.
 fn joined(b: u16, next: Extent) -> Option<Extent>
     ensures { result ≡ spec.joined b next }
 {
@@ -18,7 +18,7 @@ fn joined(b: u16, next: Extent) -> Option<Extent>
     })
 }
 
-/// Puts a block before pieces, of which the first is the last of the vector.
+/// Puts a block before pieces, the first of which is the last in the vector.
 #[tactic(auto, using(crate::proofs::PieceLemmas::put_first, crate::proofs::PieceLemmas::put_joined, crate::proofs::PieceLemmas::put_apart))]
 fn push_block(pieces: &mut Vec<Extent>, b: u16) -> Result<(), AllocError>
     ensures { OnOk result (reverse pieces.new.items ≡ spec.with_block b (reverse pieces.old.items)) }
@@ -37,7 +37,7 @@ fn push_block(pieces: &mut Vec<Extent>, b: u16) -> Result<(), AllocError>
     Ok(())
 }
 
-/// Puts a block before pieces, if it is there.
+/// Puts a block before pieces, if it exists.
 fn push_place(pieces: &mut Vec<Extent>, place: Option<u16>) -> Result<(), AllocError>
     ensures { OnOk result (reverse pieces.new.items
         ≡ spec.with_place place (reverse pieces.old.items)) }
@@ -48,7 +48,7 @@ fn push_place(pieces: &mut Vec<Extent>, place: Option<u16>) -> Result<(), AllocE
     }
 }
 
-/// The pieces of these blocks, the last of them first.
+/// The pieces of these blocks, last one first.
 #[tactic(auto, using(crate::proofs::PieceLemmas::pieces_more, crate::proofs::PieceLemmas::pieces_none))]
 fn turned_pieces(alloc: Global, places: &[Option<u16>]) -> Result<Vec<Extent>, AllocError>
     ensures { IfOk result (λ pieces. reverse pieces.items ≡ spec.pieces places.now) }
@@ -62,7 +62,7 @@ fn turned_pieces(alloc: Global, places: &[Option<u16>]) -> Result<Vec<Extent>, A
     Ok(pieces)
 }
 
-/// The pieces of these blocks, each of blocks that follow one another; those that are missing are in none.
+/// The pieces of these blocks, each of consecutive blocks; those that are missing are in none.
 pub(crate) fn pieces_of(alloc: Global, places: &[Option<u16>]) -> Result<Vec<Extent>, AllocError>
     ensures { IfOk result (λ pieces. pieces.items ≡ spec.pieces places.now) }
 {

@@ -17,10 +17,10 @@ use hfs_rescue_items::{Found, field_name, told_of};
 use hfs_verdicts::Verdict;
 use std::alloc::{AllocError, Global};
 
-/// How many folders stand open in one another; what lies deeper stands flat in the last of them.
+/// How many folders are nested at most; what is deeper is listed flat in the last of them.
 const MOST_OPEN: usize = 100;
 
-/// How many items what stands in no folder has at most where it is open from the first.
+/// How many items something that is in no folder may have if it is open from the start.
 const MOST_SHOWN: usize = 1_000;
 
 /// Appends a date.
@@ -32,7 +32,7 @@ fn push_dated(alloc: Global, page: &mut Vec<u8>, date: u32) -> Result<(), AllocE
     push_bytes(page, b"\n(modified)</span>")
 }
 
-/// Appends when an item was modified; an empty cell where it has no date.
+/// Appends when an item was modified; an empty cell if it has no date.
 #[tactic(auto, unfolding(crate::specs::Rows::when_text))]
 fn push_when(alloc: Global, page: &mut Vec<u8>, date: u32) -> Result<(), AllocError>
     ensures { OnOk result (Gains page.old page.new (spec.when_text date)) }
@@ -62,7 +62,7 @@ fn start_of(alloc: Global, i: usize) -> Result<Vec<u8>, AllocError>
     Ok(text)
 }
 
-/// Where a fork lies in a bag whose item has this path below the payload.
+/// Where a fork lies in a bag, if its item has this path below the payload.
 fn bag_path(alloc: Global, path: &[u8]) -> Result<Vec<u8>, AllocError>
     ensures { IfOk result (λ text. text.items ≡ codes "data/" ++ path.now) }
 {
@@ -72,7 +72,7 @@ fn bag_path(alloc: Global, path: &[u8]) -> Result<Vec<u8>, AllocError>
     Ok(text)
 }
 
-/// Appends a file's name, as a link to its data fork where the URL of a bag is known that has it.
+/// Appends a file's name, as a link to its data fork if the URL of a bag that has it is known.
 #[tactic(auto, unfolding(crate::specs::Rows::file_name))]
 fn push_file_name(
     alloc: Global,
@@ -91,7 +91,7 @@ fn push_file_name(
     push_bytes(page, b"</b>")
 }
 
-/// Appends what is told of a file, and what is said of its forks.
+/// Appends what is known of a file, and the verdicts on its forks.
 #[tactic(auto, unfolding(crate::specs::Rows::file_told))]
 fn push_file(
     alloc: Global,
@@ -111,7 +111,7 @@ fn push_file(
     push_forks(alloc, page, forks)
 }
 
-/// Appends the row of item `i`, which is a file that tells this.
+/// Appends the row of item `i`, which is a file with these facts.
 #[tactic(auto, unfolding(crate::specs::Rows::file_row))]
 fn push_file_row(
     alloc: Global,
@@ -130,7 +130,7 @@ fn push_file_row(
     push_bytes(page, b"</li>\n")
 }
 
-/// Appends what comes after a number of items.
+/// Appends the word after a number of items.
 fn push_items_word(page: &mut Vec<u8>, count: usize) -> Result<(), AllocError>
     ensures { OnOk result (Gains page.old page.new (items_word count)) }
 {
@@ -158,7 +158,7 @@ fn push_folder_name(
     push_items_word(page, inside)
 }
 
-/// Appends what is told of a folder, and a note on it.
+/// Appends what is known of a folder, and a note on it.
 #[tactic(auto, unfolding(crate::specs::Rows::folder_told))]
 fn push_folder(
     alloc: Global,
@@ -177,8 +177,8 @@ fn push_folder(
     push_bytes(page, note)
 }
 
-/// Appends the beginning of a folder that opens and closes. What lies in none is open, but where it has so many items that a browser
-/// would take seconds to lay them out.
+/// Appends the beginning of a folder that opens and closes. A folder that is in none is open, unless it has so many items that a
+/// browser would take seconds to lay them out.
 fn push_opening(page: &mut Vec<u8>, depth: usize, inside: usize) -> Result<(), AllocError>
     ensures { OnOk result (Gains page.old page.new (opening depth inside)) }
 {
@@ -189,7 +189,7 @@ fn push_opening(page: &mut Vec<u8>, depth: usize, inside: usize) -> Result<(), A
     }
 }
 
-/// Appends a folder that opens and closes, up to the place where its items stand.
+/// Appends a folder that opens and closes, up to the place of its items.
 #[tactic(auto, unfolding(crate::specs::Rows::nested_row))]
 fn push_nested(
     alloc: Global,
@@ -210,7 +210,7 @@ fn push_nested(
     push_bytes(page, b"</summary><ul>\n")
 }
 
-/// Appends a folder that stands flat, since too many stand open above it.
+/// Appends a folder that is listed flat, since too many are open above it.
 #[tactic(auto, unfolding(crate::specs::Rows::flat_row))]
 fn push_flat(
     alloc: Global,
@@ -229,7 +229,7 @@ fn push_flat(
     push_bytes(page, b"</li>\n")
 }
 
-/// Appends the row of a folder that lies in so many, behind the beginning of its element.
+/// Appends the row of a folder that is in this many, after the beginning of its element.
 fn push_folder_row(
     alloc: Global,
     page: &mut Vec<u8>,
@@ -276,7 +276,7 @@ fn push_item_folder(
     )
 }
 
-/// Appends the row of an item that tells this.
+/// Appends the row of an item with these facts.
 fn push_info_row(
     alloc: Global,
     page: &mut Vec<u8>,
@@ -295,7 +295,7 @@ fn push_info_row(
     }
 }
 
-/// What an item tells of itself; None where there is no such item.
+/// What an item says about itself; None if there is no such item.
 fn told_at(found: &Found<'_>, i: usize) -> Option<Info>
     ensures { result ≡ told_at found.now.items.now i }
 {
@@ -323,7 +323,7 @@ fn push_item_row(
     }
 }
 
-/// Appends the row of what is no item, with a note on it.
+/// Appends the row of something that is no item, with a note on it.
 fn push_noted_row(
     alloc: Global,
     page: &mut Vec<u8>,
@@ -370,7 +370,7 @@ fn push_apart_row(
     }
 }
 
-/// Appends the row of what the page adds.
+/// Appends the row of something that the page adds.
 fn push_page_row(
     alloc: Global,
     page: &mut Vec<u8>,
@@ -395,7 +395,7 @@ fn push_page_row(
     }
 }
 
-/// Appends the row of what is no item: of a folder that only a thread names, or of what the page adds.
+/// Appends the row of something that is no item: of a folder that only a thread names, or of what the page adds.
 fn push_added_row(
     alloc: Global,
     page: &mut Vec<u8>,
@@ -421,7 +421,7 @@ fn push_added_row(
     )
 }
 
-/// Appends the row of a node that lies in so many open folders.
+/// Appends the row of a node that is in this many open folders.
 #[tactic(auto, unfolding(crate::specs::Rows::node_row))]
 fn push_node(
     alloc: Global,
@@ -440,7 +440,7 @@ fn push_node(
     push_added_row(alloc, page, found.places.things(), depth, volume, step)
 }
 
-/// Whether something may lie in what a node is.
+/// Whether something may be in what a node is.
 #[tactic(auto, unfolding(crate::specs::Rows::node_kind))]
 fn node_kind(found: &Found<'_>, step: Step) -> ItemKind
     ensures { result ≡ spec.node_kind found.now step }
@@ -454,14 +454,14 @@ fn node_kind(found: &Found<'_>, step: Step) -> ItemKind
     }
 }
 
-/// In how many of the folders that stand open a node lies.
+/// How many of the open folders a node is in.
 fn depth_at(opened: usize, step: Step) -> usize
     ensures { result ≡ spec.depth_at opened step }
 {
     opened.min(step.depth)
 }
 
-/// How many folders stand open behind a node of this kind that lies in so many of those that do.
+/// How many folders are open after a node of this kind that is in this many open ones.
 fn opened_by(kind: ItemKind, depth: usize) -> usize
     ensures { result ≡ open_by kind depth }
 {
@@ -471,14 +471,14 @@ fn opened_by(kind: ItemKind, depth: usize) -> usize
     }
 }
 
-/// How many folders stand open behind a node where so many do before it.
+/// How many folders are open after a node, given how many are before it.
 pub(crate) fn open_behind(found: &Found<'_>, opened: usize, step: Step) -> usize
     ensures { result ≡ spec.open_behind found.now opened step }
 {
     opened_by(node_kind(found, step), depth_at(opened, step))
 }
 
-/// Appends the row of a node where so many folders stand open: the ends of those in which it doesn't lie, and itself.
+/// Appends the row of a node when this many folders are open: the ends of those that it isn't in, and then itself.
 #[tactic(auto, unfolding(crate::specs::Rows::row_text))]
 pub(crate) fn push_row(
     alloc: Global,

@@ -1,12 +1,12 @@
 //! Steps of the way through a tree.
 
-/// A node of the tree of a page, as the way through it comes there.
+/// A node of the tree of a page, as the way through it comes to it.
 #[derive(Clone, Copy)]
 pub struct Step {
-    /// Its number: a thing by its place, or what stands behind the things.
+    /// Its number: the place of a thing, or a number after all things.
     pub node: usize,
-    /// How many nodes stand above it.
+    /// How many nodes are above it.
     pub depth: usize,
-    /// How many stand right below it.
+    /// How many are directly below it.
     pub inside: usize,
 }

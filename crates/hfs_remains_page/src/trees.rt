@@ -1,4 +1,4 @@
-//! Where each thing stands in the tree of a page.
+//! Where each thing is in the tree of a page.
 ghost use Rattle.std.specs.Prelude.{◌≡◌, IfOk};
 ghost use Rattle.hfs_page.specs.Bases as bases;
 ghost use Rattle.hfs_places.specs.Folders.{KnowsFolders, thing_at};
@@ -10,7 +10,7 @@ use hfs_places::Thing;
 use hfs_rescue_items::Found;
 use std::alloc::{AllocError, Global};
 
-/// How many nodes a tree has beside the things: the volume, what is lost, and what is old.
+/// How many nodes a tree has besides the things: the volume, what is lost, and what is old.
 pub(crate) const ADDED: usize = 3;
 
 /// Whether a thing's record is old.
@@ -24,7 +24,7 @@ pub(crate) fn is_old(things: &[Thing], i: usize) -> bool
     }
 }
 
-/// The number of the folder in which a thing lies.
+/// The number of the folder that a thing is in.
 fn parent_of(things: &[Thing], i: usize) -> u32
     ensures { result ≡ (thing_at things.now i).parent }
 {
@@ -44,7 +44,7 @@ pub(crate) fn root_of(things: &[Thing]) -> Option<usize>
         .position(|thing| thing.folder == Some(2) && thing.parent == 1)
 }
 
-/// The node of the volume, which stands in the place of a root that is lost.
+/// The node of the volume, which takes the place of a root that is lost.
 fn volume_node(things: &[Thing]) -> usize
     ensures { result ≡ spec.volume_node things.now }
 {
@@ -62,7 +62,7 @@ pub(crate) fn top_node(things: &[Thing], root: Option<usize>) -> usize
     }
 }
 
-/// A path without what old ones lie below.
+/// A path without what old things are below.
 fn own_path(is_old: bool, path: &[u8]) -> &[u8]
     ensures { result.now ≡ spec.own_path is_old path.now }
 {
@@ -80,7 +80,7 @@ fn begins_with(path: &[u8], start: &[u8]) -> bool
     &path[..start.len().min(path.len())] == start
 }
 
-/// Whether, by the paths of both, a thing lies in the folder at another place.
+/// Whether, by the paths of both, a thing is in the folder at another place.
 #[tactic(auto, unfolding(crate::specs::Trees::lies_in))]
 fn lies_in(
     alloc: Global,
@@ -100,7 +100,7 @@ fn lies_in(
     Ok(begins_with(own, front))
 }
 
-/// What a thing stands below that lies in no folder.
+/// What a thing that is in no folder is below.
 fn apart(things: &[Thing], i: usize) -> usize
     ensures { result ≡ spec.apart things.now i }
 {
@@ -111,7 +111,7 @@ fn apart(things: &[Thing], i: usize) -> usize
     }
 }
 
-/// What a thing stands below that lies in the folder at another place, if by its path it does.
+/// What a thing is below that is in the folder at another place, if it is by its path.
 fn up_in(things: &[Thing], i: usize, q: usize, lies: bool) -> usize
     requires { lies ≡ spec.lies_in things.now i q }
     ensures { result ≡ spec.up_in things.now i q }
@@ -126,7 +126,7 @@ fn up_in(things: &[Thing], i: usize, q: usize, lies: bool) -> usize
     }
 }
 
-/// What a thing stands below whose parent's number no folder has but the payload.
+/// What a thing is below if only the payload has its parent's number.
 fn up_top(things: &[Thing], root: Option<usize>, i: usize) -> usize
     requires { root ≡ paths.root_of things.now }
     ensures { result ≡ spec.up_top things.now i }
@@ -138,7 +138,7 @@ fn up_top(things: &[Thing], root: Option<usize>, i: usize) -> usize
     }
 }
 
-/// What a thing stands below that is not the root.
+/// What a thing that is not the root is below.
 fn up_by(
     alloc: Global,
     found: &Found<'_>,
@@ -160,7 +160,7 @@ fn up_by(
     }
 }
 
-/// What a thing stands below.
+/// What a thing is below.
 #[tactic(auto, unfolding(crate::specs::Trees::up))]
 pub(crate) fn up(
     alloc: Global,

@@ -1,4 +1,4 @@
-//! What is said of forks.
+//! The verdicts on forks.
 ghost use Rattle.std.specs.Prelude.{◌≡◌, IfOk, OnOk, string_bytes};
 ghost use Rattle.hfs_page.specs.Escapes.{escaped};
 ghost use Rattle.hfs_page.specs.Pieces.{Gains};
@@ -11,7 +11,7 @@ use hfs_rescue_items::Found;
 use hfs_verdicts::{Verdict, push_verdict};
 use std::alloc::{AllocError, Global};
 
-/// What is said of both forks of an item; None of a folder, and where there is no such item.
+/// The verdicts on both forks of an item; None for a folder, and if there is no such item.
 pub(crate) fn verdicts_of(
     alloc: Global,
     found: &Found<'_>,
@@ -25,7 +25,7 @@ pub(crate) fn verdicts_of(
     found.salvage.verdicts(alloc, i)
 }
 
-/// Appends what is said of a fork, escaped.
+/// Appends the verdict on a fork, escaped.
 fn push_said(alloc: Global, page: &mut Vec<u8>, verdict: &Verdict) -> Result<(), AllocError>
     ensures { OnOk result (Gains page.old page.new (escaped (verdict_text verdict.now))) }
 {
@@ -34,7 +34,7 @@ fn push_said(alloc: Global, page: &mut Vec<u8>, verdict: &Verdict) -> Result<(),
     push_escaped(page, text.as_bytes())
 }
 
-/// Appends what is said of both forks, of which one at least isn't whole.
+/// Appends the verdicts on both forks, at least one of which isn't whole.
 #[tactic(auto, unfolding(crate::specs::Verdicts::damaged_text))]
 fn push_damaged(
     alloc: Global,
@@ -50,7 +50,7 @@ fn push_damaged(
     push_bytes(page, b"</em>")
 }
 
-/// Appends what is said of both forks of a file; nothing of what has none.
+/// Appends the verdicts on both forks of a file; nothing for what has none.
 pub(crate) fn push_forks(
     alloc: Global,
     page: &mut Vec<u8>,
@@ -68,7 +68,7 @@ pub(crate) fn push_forks(
     }
 }
 
-/// The URL of a bag, where the data fork that this is said of has a file in it.
+/// The URL of a bag, if the data fork with this verdict has a file in it.
 pub(crate) fn base_of<'a>(
     base: Option<&'a [u8]>,
     forks: &Option<(Verdict, Verdict)>,

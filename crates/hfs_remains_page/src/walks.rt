@@ -10,10 +10,10 @@ use hfs_places::Thing;
 use hfs_rescue_items::Found;
 use std::alloc::{AllocError, Global};
 
-/// How many folders are told apart in which something lies: of more it makes no difference.
+/// How many open folders are counted; more of them make no difference.
 const MOST_OPEN: usize = 100;
 
-/// How many stand right below a node.
+/// How many are directly below a node.
 #[tactic(auto, unfolding(crate::specs::Trees::inside))]
 fn count_inside(things: &[Thing], lists: &[Vec<usize>], node: usize) -> usize
     requires long { length lists.now ≡ length things.now + 3 }
@@ -27,7 +27,7 @@ fn count_inside(things: &[Thing], lists: &[Vec<usize>], node: usize) -> usize
     }
 }
 
-/// The step to a node with so many above it.
+/// The step to a node with this many above it.
 fn step_of(things: &[Thing], lists: &[Vec<usize>], depth: usize, node: usize) -> Step
     requires long { length lists.now ≡ length things.now + 3 }
     requires below { AreBelow (spec.up things.now) (length things.now) lists.now }
@@ -40,14 +40,14 @@ fn step_of(things: &[Thing], lists: &[Vec<usize>], depth: usize, node: usize) ->
     }
 }
 
-/// How many stand above what stands below so many more.
+/// How many are above what is one level deeper.
 fn deeper(depth: usize) -> usize
     ensures { result ≡ deeper depth }
 {
     if depth < MOST_OPEN { depth + 1 } else { depth }
 }
 
-/// Puts the steps to some nodes on the others, the first of them above all.
+/// Pushes the steps to some nodes on the others, the first on top.
 #[tactic(auto, using(crate::proofs::TreeLemmas::steps_more, crate::proofs::TreeLemmas::steps_all, crate::proofs::TreeLemmas::steps_none))]
 fn push_steps(
     things: &[Thing],
@@ -69,7 +69,7 @@ fn push_steps(
     Ok(())
 }
 
-/// Puts the steps to what stands right below a node on the others, the first of them above all.
+/// Pushes the steps to what is directly below a node on the others, the first on top.
 #[tactic(auto, unfolding(crate::specs::Trees::inside))]
 fn push_inside(
     things: &[Thing],
@@ -89,7 +89,7 @@ fn push_inside(
     push_steps(things, lists, stack, depth, &lists[node])
 }
 
-/// Appends the way through all that stands below a node, which has none above it, and that itself.
+/// Appends the way through a node that has none above it, and everything below it.
 #[tactic(auto, using(crate::proofs::TreeLemmas::walk_none, crate::proofs::TreeLemmas::walk_zero, crate::proofs::TreeLemmas::walk_more, crate::proofs::TreeLemmas::walk_begins))]
 fn push_walk(
     alloc: Global,
@@ -116,7 +116,7 @@ fn push_walk(
     Ok(())
 }
 
-/// The same where something stands below the node, else nothing.
+/// The same if something is below the node, otherwise nothing.
 fn push_walk_if(
     alloc: Global,
     things: &[Thing],
@@ -134,7 +134,7 @@ fn push_walk_if(
     push_walk(alloc, things, lists, order, node)
 }
 
-/// The order of the tree: the root with what lies in it, what is lost, and what is old. The only error is want of memory.
+/// The order of the tree: the root with everything in it, what is lost, and what is old. Fails only when out of memory.
 #[tactic(auto, unfolding(crate::specs::Trees::tree_order))]
 pub(crate) fn tree_order(alloc: Global, found: &Found<'_>) -> Result<Vec<Step>, AllocError>
     ensures { IfOk result (λ order. order.items ≡ spec.tree_order found.now.places.now) }

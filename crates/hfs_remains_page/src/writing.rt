@@ -16,7 +16,7 @@ use std::io::Write;
 /// How many bytes of text are gathered before they are written.
 const PIECE: usize = 65_536;
 
-/// Writes a text, and begins the next one.
+/// Writes a text, and empties it for the next one.
 fn put_text<W: Write>(writer: &mut W, text: &mut Vec<u8>) -> Result<(), PageFault>
     ensures written { OnOk result (Appends (W.contents writer.old) (W.contents writer.new) text.old.items) }
     ensures empty { OnOk result (text.new.items ≡ []) }
@@ -28,7 +28,7 @@ fn put_text<W: Write>(writer: &mut W, text: &mut Vec<u8>) -> Result<(), PageFaul
     Ok(())
 }
 
-/// Gathers the row of a node behind a text, and writes that where it has become long.
+/// Appends the row of a node to a text, and writes the text if it has become long.
 #[tactic(auto, using(crate::proofs::GatherLemmas::row_kept, crate::proofs::GatherLemmas::row_out, crate::proofs::GatherLemmas::nothing_out))]
 fn gather_row<W: Write>(
     alloc: Global,
@@ -53,7 +53,7 @@ fn gather_row<W: Write>(
     put_text(writer, text)
 }
 
-/// Gathers the ends of the folders that stand open, and writes the text.
+/// Appends the ends of the open folders to a text, and writes it.
 #[tactic(auto, using(crate::proofs::GatherLemmas::nothing_out))]
 fn put_ends<W: Write>(writer: &mut W, text: &mut Vec<u8>, opened: usize) -> Result<(), PageFault>
     ensures written { OnOk result (Appends (W.contents writer.old) (W.contents writer.new)
@@ -67,8 +67,8 @@ fn put_ends<W: Write>(writer: &mut W, text: &mut Vec<u8>, opened: usize) -> Resu
     put_piece(writer, text)
 }
 
-/// Writes the rows of these nodes, one after the other, in pieces of 65,536 bytes and a row; files are links where the URL of a bag is
-/// known. At a fault a part of them has gone out, from the first on.
+/// Writes the rows of these nodes, one after the other, in pieces of 65,536 bytes and a row; files are links if the URL of a bag
+/// is known. At a fault, only the first part of them was written.
 pub(crate) fn write_rows<W: Write>(
     alloc: Global,
     writer: &mut W,

@@ -1,6 +1,6 @@
-//! One byte of an image that is written.
+//! One byte that is written into an image.
 
-/// A byte, and the place in an image where it is to stand.
+/// A byte, and the place in an image where it goes.
 #[derive(Clone, Copy, Debug, PartialEq, Eq)]
 pub struct BytePut {
     /// The place, counted from 0.

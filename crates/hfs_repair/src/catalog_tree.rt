@@ -1,4 +1,4 @@
-//! The catalog tree of a volume, but for its two counts.
+//! The catalog tree of a volume, apart from its two counts.
 
 ghost use Rattle.std.specs.Prelude.{◌≡◌, true, None, Option, IfOk};
 ghost use Rattle.hfs_btree.specs.Sound.{HasStructure};
@@ -21,7 +21,7 @@ use hfs_fields::{CatKey, Extent, Mdb};
 use hfs_space::{ForkKind, fork_extents};
 use std::alloc::{AllocError, Global};
 
-/// The extents of the catalog file, with those that go on in the extents tree.
+/// The extents of the catalog file, including those in the extents tree.
 fn catalog_extents<N: Nodes>(
     alloc: Global,
     mdb: &Mdb,
@@ -40,8 +40,8 @@ fn catalog_extents<N: Nodes>(
     fork_extents(alloc, &headed, 4, ForkKind::Data, &mdb.catalog_file)
 }
 
-/// The extents of the catalog file, with those that go on in the extents tree, where that tree is right but for its two counts.
-/// None exactly where it isn't. The only error is want of memory.
+/// The extents of the catalog file, including those in the extents tree, if that tree is right apart from its two counts. None
+/// exactly when it isn't. Fails only when out of memory.
 pub fn mendable_catalog_file<B: Blocks>(
     alloc: Global,
     blocks: &B,
@@ -61,8 +61,8 @@ pub fn mendable_catalog_file<B: Blocks>(
     Ok(Some(file))
 }
 
-/// The catalog tree, where its file lies in the volume, and it has its shape but for its two counts. None exactly where it
-/// hasn't. The only error is want of memory.
+/// The catalog tree, if its file lies in the volume and it has its shape apart from its two counts. None exactly when it hasn't.
+/// Fails only when out of memory.
 pub(crate) fn catalog_tree<B: Blocks>(
     alloc: Global,
     blocks: &B,
@@ -83,7 +83,7 @@ pub(crate) fn catalog_tree<B: Blocks>(
     tree_file::<CatKey, B>(alloc, blocks, mdb, &file, mdb.catalog_file_size)
 }
 
-/// The records of a catalog that has its shape but for its two counts. The only error is want of memory.
+/// The records of a catalog that has its shape apart from its two counts. Fails only when out of memory.
 pub(crate) fn catalog_records<N: Nodes>(
     alloc: Global,
     nodes: &N,
@@ -99,8 +99,8 @@ pub(crate) fn catalog_records<N: Nodes>(
     read_records(alloc, &headed)
 }
 
-/// Whether the records of a catalog that has its shape but for its two counts are right: records, IDs, names, and order,
-/// parents and threads, on a volume whose next ID is `next`. The only error is want of memory.
+/// Whether the records of a catalog that has its shape apart from its two counts are right: records, IDs, names, and order,
+/// parents and threads, on a volume whose next ID is `next`. Fails only when out of memory.
 pub(crate) fn are_records_right<N: Nodes>(
     alloc: Global,
     next: u32,

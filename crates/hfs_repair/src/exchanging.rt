@@ -1,4 +1,4 @@
-//! The bytes of numbers, exchanged with those of an image.
+//! Swapping the bytes of numbers with those of an image.
 
 ghost use Rattle.std.specs.Prelude.{◌≡◌, ◌≤◌, ◌<◌, ◌^◌, ◌++◌, length, slice_set, OnOk, IfOk};
 ghost use Rattle.hfs_repair.specs.Puts.{puts_from, put_all, put_back, number_puts, puts_of};
@@ -10,7 +10,7 @@ use byteorder::{BigEndian, ByteOrder};
 use std::alloc::{AllocError, Global};
 use std::mem;
 
-/// Adds bytes that are to stand one behind the other from a place on.
+/// Adds bytes that go one after the other from a place on.
 fn push_bytes(puts: &mut Vec<BytePut>, at: usize, bytes: &[u8]) -> Result<(), AllocError>
     requires low { at < 2 ^ 48 }
     requires few { length bytes.now ≤ 4 }
@@ -43,7 +43,7 @@ fn push_number(puts: &mut Vec<BytePut>, number: &WrongNumber) -> Result<(), Allo
     }
 }
 
-/// The bytes of numbers as they are counted, each with its place. The only error is want of memory.
+/// The bytes of numbers as they are counted, each with its place. Fails only when out of memory.
 #[tactic(auto, unfolding(crate::specs::Puts::puts_of))]
 pub(crate) fn byte_puts(alloc: Global, numbers: &[WrongNumber]) -> Result<Vec<BytePut>, AllocError>
     ensures { IfOk result (λ puts. puts.items ≡ puts_of numbers.now) }
@@ -55,7 +55,7 @@ pub(crate) fn byte_puts(alloc: Global, numbers: &[WrongNumber]) -> Result<Vec<By
     Ok(puts)
 }
 
-/// Exchanges one byte of an image; one that is to stand behind the image's end stays.
+/// Swaps one byte with an image's; a byte that goes past the image's end stays.
 fn exchange_byte(image: &mut [u8], put: &mut BytePut)
     ensures image { image.new ≡ slice_set image.old put.old.at put.old.byte }
     ensures put { put.new.at ≡ put.old.at }
@@ -66,7 +66,7 @@ fn exchange_byte(image: &mut [u8], put: &mut BytePut)
     }
 }
 
-/// Writes bytes into an image, one after the other, and keeps in their place what stood there. Takes no memory.
+/// Writes bytes into an image, one after the other, and keeps the image's old bytes in their place. Takes no memory.
 pub fn exchange(image: &mut [u8], puts: &mut [BytePut])
     ensures written { image.new ≡ put_all puts.old image.old }
     ensures kept { put_back puts.new image.new ≡ image.old }
@@ -76,7 +76,7 @@ pub fn exchange(image: &mut [u8], puts: &mut [BytePut])
     }
 }
 
-/// Writes bytes into an image, the last of them first. Behind `exchange` this is the image as it was. Takes no memory.
+/// Writes bytes into an image, last one first. After `exchange`, this restores the image. Takes no memory.
 pub fn exchange_back(image: &mut [u8], puts: &[BytePut])
     ensures { image.new ≡ put_back puts.now image.old }
 {

@@ -1,4 +1,4 @@
-//! The extents tree of a volume, but for its two counts.
+//! The extents tree of a volume, apart from its two counts.
 
 ghost use Rattle.std.specs.Prelude.{◌≡◌, true, false, Option, IfOk};
 ghost use Rattle.hfs_space.specs.TreeKeys.{ext_keys};
@@ -17,7 +17,7 @@ use hfs_check::{MountFault, check_extents_tree};
 use hfs_fields::{ExtKey, Mdb};
 use std::alloc::{AllocError, Global};
 
-/// Whether a check's answer is that nothing is wrong. The only error is want of memory.
+/// Whether a check found nothing wrong. Fails only when out of memory.
 pub(crate) fn is_right(answer: Result<(), MountFault>) -> Result<bool, AllocError>
     ensures { (found : Option fault.MountFault) → Answers found answer
         → IfOk result (IsRight found) }
@@ -46,8 +46,8 @@ fn are_in_order<N: Nodes>(
     is_right(check_extents_tree(alloc, &headed, size))
 }
 
-/// The extents tree, where its file lies in the volume, and it is right but for its two counts. None exactly where it isn't.
-/// The only error is want of memory.
+/// The extents tree, if its file lies in the volume and it is right apart from its two counts. None exactly when it isn't. Fails
+/// only when out of memory.
 pub(crate) fn extents_tree<B: Blocks>(
     alloc: Global,
     blocks: &B,

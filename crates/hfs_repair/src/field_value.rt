@@ -1,4 +1,4 @@
-//! What a field of two or four bytes can tell.
+//! The values of fields of two or four bytes.
 
 /// A number in a field of the volume, the highest byte first.
 #[derive(Clone, Copy, Debug, PartialEq, Eq)]

@@ -1,4 +1,4 @@
-//! What a repair tells of the numbers that it mends.
+//! What a repair reports about the numbers that it mends.
 
 ghost use Rattle.std.specs.Prelude.{◌≡◌, ◌<◌, ◌^◌, IfOk};
 ghost use Rattle.hfs_repair.specs.Fields.{value_of};
@@ -10,7 +10,7 @@ use crate::fixed::{Fix, FixPlace};
 use crate::wrong_number::WrongNumber;
 use std::alloc::{AllocError, Global};
 
-/// Which number comes before which.
+/// The order of the numbers.
 #[tactic(auto, unfolding(crate::specs::Fixes::rank))]
 fn rank(place: FixPlace) -> u64
     ensures { result ≡ spec.rank place }
@@ -39,7 +39,7 @@ fn widened(value: FieldValue) -> u32
     }
 }
 
-/// What is told of a number.
+/// What a repair reports about a number.
 fn fix_of(number: &WrongNumber) -> Fix
     ensures { result ≡ spec.fix_of number.now }
 {
@@ -50,7 +50,7 @@ fn fix_of(number: &WrongNumber) -> Fix
     }
 }
 
-/// What is told of these numbers: each once, in the order of `FixPlace`. The only error is want of memory.
+/// What a repair reports about these numbers: each once, in the order of `FixPlace`. Fails only when out of memory.
 pub(crate) fn fixes(alloc: Global, numbers: &[WrongNumber]) -> Result<Vec<Fix>, AllocError>
     ensures { IfOk result (λ fixes. AreFixes numbers.now fixes.items) }
 {

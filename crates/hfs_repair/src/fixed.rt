@@ -1,7 +1,7 @@
-//! What a repair tells of a number.
+//! What a repair reports about a number.
 
-/// A counted number of a volume, by the place where the volume has it. The variants stand in the order in which a repair tells
-/// them, and valences among themselves in the order of their IDs.
+/// A count of a volume, by the place where the volume has it. The variants are in the order in which a repair reports them, and
+/// valences among themselves in the order of their IDs.
 #[derive(Clone, Copy, Debug, PartialEq, Eq)]
 pub enum FixPlace {
     /// drNmFls: the files in the root.
@@ -12,7 +12,7 @@ pub enum FixPlace {
     RootFolders,
     /// drFilCnt: all files.
     Files,
-    /// drDirCnt: all folders but the root.
+    /// drDirCnt: all folders except the root.
     Folders,
     /// bthNRecs of the extents tree: the records of its leaves.
     ExtentsRecords,
@@ -31,7 +31,7 @@ pub enum FixPlace {
 pub struct Fix {
     /// Which number.
     pub place: FixPlace,
-    /// What the volume told.
+    /// What the volume had.
     pub was: u32,
     /// What is counted.
     pub now: u32,

@@ -5,12 +5,12 @@ ghost use Rattle.hfs_repair.specs.Recounted.{with_head};
 
 use hfs_btree::Nodes;
 
-/// The nodes of a tree's file, with other bytes in the place of node 0.
+/// The nodes of a tree's file, with other bytes in place of node 0.
 #[derive(Drop)]
 pub(crate) struct HeadedNodes<'a, N: Nodes> {
     /// The nodes of the file.
     pub(crate) nodes: &'a N,
-    /// The bytes in the place of node 0.
+    /// The bytes in place of node 0.
     pub(crate) head: [u8; 512],
     ghost some: { 0 < length (N.nodes nodes.now) },
 }

@@ -1,4 +1,4 @@
-//! The counted numbers of a tree's header record.
+//! The counts in a tree's header record.
 
 ghost use Rattle.std.specs.Prelude.{OnOk};
 ghost use Rattle.hfs_blocks.specs.Blocks.{AreRunsWithin};
@@ -13,7 +13,7 @@ use hfs_btree::{Key, Nodes, RunNodes};
 use hfs_fields::u16_at;
 use std::alloc::AllocError;
 
-/// Adds those of the two numbers of a tree's header record that are wrong, which a repair tells under these places.
+/// Adds those of the two counts in a tree's header record that are wrong; a repair reports them with these places.
 pub(crate) fn push_header_numbers<K: Key, B: Blocks>(
     wrong: &mut Vec<WrongNumber>,
     records: FixPlace,

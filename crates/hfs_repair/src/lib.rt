@@ -1,5 +1,4 @@
-//! The numbers of a volume that are counted: those that are wrong in an image which is right but for them, and the image with
-//! them as they are counted.
+//! The counts of a volume: those that are wrong in an image in which nothing else is, and the image with the right ones.
 #![tactic(auto)]
 
 mod byte_put;

@@ -1,4 +1,4 @@
-//! The counted numbers of the master directory block.
+//! The counts in the master directory block.
 
 ghost use Rattle.std.specs.Prelude.{◌+◌, ◌≤◌, OnOk};
 ghost use Rattle.hfs_space.specs.Bitmap.{bitmap_len};
@@ -13,7 +13,7 @@ use hfs_fields::Mdb;
 use hfs_space::Bitmap;
 use std::alloc::AllocError;
 
-/// Adds those numbers of the master directory block that are wrong, on a volume with these catalog records. The block is block 2
+/// Adds those counts of the master directory block that are wrong, on a volume with these catalog records. The block is block 2
 /// of the image, which begins at byte 1024.
 #[tactic(auto, unfolding(hfs_catalog::specs::Sound::counts_of))]
 pub(crate) fn push_mdb_numbers<B: Blocks>(

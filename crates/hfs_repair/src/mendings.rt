@@ -1,4 +1,4 @@
-//! What a repair of an image writes, and what it tells.
+//! What a repair of an image writes and reports.
 
 ghost use Rattle.std.specs.Prelude.{◌≡◌, ◌≤◌, IfOk};
 ghost use Rattle.hfs_repair.specs.Fixes.{AreFixes};
@@ -14,19 +14,19 @@ use crate::wrong::{wrong_in_blocks, wrong_numbers};
 use hfs_blocks::Blocks;
 use std::alloc::{AllocError, Global};
 
-/// What a repair of an image writes, and what it tells.
+/// What a repair of an image writes and reports.
 #[derive(Drop)]
 pub struct Mending {
-    /// The bytes that it writes. `exchange` makes the repaired image of the image by them.
+    /// The bytes that it writes. With them, `exchange` turns the image into the repaired image.
     pub puts: Vec<BytePut>,
     /// The numbers that are wrong, each once, in the order of `FixPlace`.
     pub fixes: Vec<Fix>,
 }
 
 impl Mending {
-    /// What a repair of an image writes and tells: the counted numbers that are wrong, where all before them is right; nothing where
-    /// something before them is wrong. A number that is too large for its field stays. The image is left as it is, and read a fixed
-    /// number of times. The only error is want of memory.
+    /// What a repair of an image writes and reports: the counts that are wrong, if everything checked before them is right;
+    /// otherwise nothing. A count that is too large for its field stays. The image isn't changed, and is read a fixed number of
+    /// times. Fails only when out of memory.
     ///
     /// Source: Inside Macintosh: Files, chapter 2, 'Data Organization on Volumes'; docs/CHECKS.md has the ten numbers.
     pub fn of(alloc: Global, image: &[u8]) -> Result<Mending, AllocError>
@@ -39,7 +39,7 @@ impl Mending {
         Ok(Mending { puts, fixes })
     }
 
-    /// As [`Mending::of`], of the blocks of an image whose length is right.
+    /// As [`Mending::of`], for the blocks of an image whose length is right.
     pub fn of_blocks<B: Blocks>(alloc: Global, blocks: &B) -> Result<Mending, AllocError>
         requires { 3 ≤ B.total blocks.now }
         ensures written { IfOk result (λ mending. mending.puts.items

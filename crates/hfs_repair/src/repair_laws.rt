@@ -1,8 +1,8 @@
-//! What holds of repaired images, each as the contract of a function that does nothing.
+//! What holds for repaired images, each law as the contract of a function that does nothing.
 ghost use Rattle.hfs_repair.specs.RepairLaws.{RepairKeepsOthers, RepairKeepsSoundImages};
 
-/// A repair leaves the image's length, and each byte that is in none of the numbers that are counted: drNmFls, drFreeBks,
-/// drNmRtDirs, drFilCnt, drDirCnt, both trees' bthNRecs and bthFree, and the folders' valences.
+/// A repair keeps the image's length, and each byte that is in none of the counts: drNmFls, drFreeBks, drNmRtDirs, drFilCnt,
+/// drDirCnt, both trees' bthNRecs and bthFree, and the folders' valences.
 pub fn repair_keeps_others()
     ensures { RepairKeepsOthers }
 {}

@@ -1,4 +1,4 @@
-//! The two numbers of a tree's header record, as they are counted.
+//! The two counts of a tree's header record, as they are counted.
 
 ghost use Rattle.std.specs.Prelude.{◌≡◌, ◌*◌, ◌≤◌, ◌<◌, IfOk, length};
 ghost use Rattle.hfs_btree.specs.Header.{header_of, header_in, free_nodes, tree_content};
@@ -11,20 +11,20 @@ use hfs_btree_edits::load;
 use hfs_node::{BLANK_NODE, encode};
 use std::alloc::{AllocError, Global};
 
-/// The two numbers that a tree's header record counts, and its header node with them in it.
+/// The two counts of a tree's header record, and its header node with them in it.
 #[derive(Drop)]
 pub(crate) struct RightCounts {
-    /// The header record, which may tell the two numbers wrong.
+    /// The header record, in which the two counts may be wrong.
     pub(crate) header: Header,
     /// How many records the leaves have.
     pub(crate) records: u32,
     /// How many of the tree's nodes have a clear bit in the node map.
     pub(crate) free_nodes: u32,
-    /// The bytes of a header node that tells the two numbers right, and is otherwise the tree's.
+    /// The bytes of a header node in which the two counts are right, and everything else is the tree's.
     pub(crate) head: [u8; 512],
 }
 
-/// A header record with these fields, and behind them the bytes of the old one.
+/// A header record with these fields, followed by the bytes of the old one.
 fn header_entry(alloc: Global, header: &Header, old: &[u8]) -> Result<Vec<u8>, AllocError>
     requires { 30 ≤ length old.now }
     ensures fields { IfOk result (λ made. header_of made.items ≡ header.now) }
@@ -35,7 +35,7 @@ fn header_entry(alloc: Global, header: &Header, old: &[u8]) -> Result<Vec<u8>, A
     Ok(entry)
 }
 
-/// The bytes of a tree's header node with these two numbers in its header record.
+/// The bytes of a tree's header node with these two counts in its header record.
 fn head_with<K: Key, N: Nodes>(
     alloc: Global,
     nodes: &N,
@@ -62,8 +62,8 @@ fn head_with<K: Key, N: Nodes>(
     Ok(bytes)
 }
 
-/// The two numbers of a tree in a file of `size` bytes that has its shape but for what its header record tells of them. None
-/// exactly where it hasn't. The only error is want of memory.
+/// The two counts of a tree in a file of `size` bytes that has its shape apart from what its header record says about them. None
+/// exactly when it hasn't. Fails only when out of memory.
 pub(crate) fn right_counts<K: Key, N: Nodes>(
     alloc: Global,
     nodes: &N,

@@ -1,4 +1,4 @@
-//! The file of a tree, and the tree but for its two counts.
+//! The file of a tree, and the tree apart from its two counts.
 
 ghost use Rattle.std.specs.Prelude.{IfOk};
 ghost use Rattle.hfs_check.specs.Sound.{IsMdbSound};
@@ -14,14 +14,14 @@ use std::alloc::{AllocError, Global};
 /// Where a tree lies, and its two counts.
 #[derive(Drop)]
 pub(crate) struct TreeFile {
-    /// The runs of its nodes, in their order.
+    /// The runs of its nodes, in order.
     pub(crate) runs: Vec<Run>,
-    /// The two numbers that its header record counts.
+    /// The two counts of its header record.
     pub(crate) counts: RightCounts,
 }
 
-/// The tree in a file of `size` bytes in these extents, where the file lies in the volume and the tree has its shape but for
-/// what its header record counts. None exactly where one of both doesn't hold. The only error is want of memory.
+/// The tree in a file of `size` bytes in these extents, if the file lies in the volume and the tree has its shape apart from the
+/// counts of its header record. None exactly when it doesn't, or hasn't. Fails only when out of memory.
 #[tactic(auto, using(crate::proofs::Openings::extents_within))]
 pub(crate) fn tree_file<K: Key, B: Blocks>(
     alloc: Global,

@@ -22,7 +22,7 @@ use hfs_fields::{CatKey, DirRecord, u16_at};
 use hfs_node::view;
 use std::alloc::AllocError;
 
-/// Adds the valence of a record of the catalog that begins at this place of the image, if it is a folder's and wrong.
+/// Adds the valence in a record of the catalog that begins at this place of the image, if it is a folder's and wrong.
 #[tactic(auto, unfolding(hfs_fields::specs::Records::begins_dir))]
 fn push_valence(
     wrong: &mut Vec<WrongNumber>,
@@ -70,7 +70,7 @@ fn push_leaf(
     Ok(())
 }
 
-/// Adds those valences of a catalog that are wrong, where `children` counts the children of each folder. Each leaf is read once.
+/// Adds those valences of a catalog that are wrong; `children` counts the children of each folder. Reads each leaf once.
 pub(crate) fn push_valences<B: Blocks>(
     wrong: &mut Vec<WrongNumber>,
     children: &Numbers,

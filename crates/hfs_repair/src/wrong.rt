@@ -1,4 +1,4 @@
-//! The counted numbers that are wrong in a volume which is right but for them.
+//! The counts that are wrong in a volume in which nothing else is.
 
 ghost use Rattle.std.specs.Prelude.{◌≡◌, ◌≤◌, IfOk, OnOk};
 ghost use Rattle.hfs_check.specs.Sound.{IsMdbSound};
@@ -24,7 +24,7 @@ use hfs_check::{mdb_fault, read_mdb};
 use hfs_fields::{CatKey, ExtKey, Mdb};
 use std::alloc::{AllocError, Global};
 
-/// Adds all counted numbers of a volume that are wrong, where these are the catalog's records.
+/// Adds all counts of a volume that are wrong, given the catalog's records.
 fn push_numbers<B: Blocks>(
     alloc: Global,
     wrong: &mut Vec<WrongNumber>,
@@ -62,7 +62,7 @@ fn push_numbers<B: Blocks>(
     push_valences(wrong, &children, blocks, catalog)
 }
 
-/// The wrong numbers of a volume whose trees are right but for their counts; none where the catalog's records aren't right.
+/// The wrong counts of a volume whose trees are right apart from theirs; none if the catalog's records aren't right.
 fn numbers_behind_trees<B: Blocks>(
     alloc: Global,
     blocks: &B,
@@ -90,7 +90,7 @@ fn numbers_behind_trees<B: Blocks>(
     Ok(wrong)
 }
 
-/// The wrong numbers of the blocks of a volume; none where anything before them is wrong.
+/// The wrong counts of the blocks of a volume; none if anything checked before them is wrong.
 #[tactic(auto, using(hfs_check::proofs::LawsProved::mdb_is_sound))]
 pub(crate) fn wrong_in_blocks<B: Blocks>(
     alloc: Global,
@@ -113,8 +113,8 @@ pub(crate) fn wrong_in_blocks<B: Blocks>(
     numbers_behind_trees(alloc, blocks, &mdb, &extents, &catalog)
 }
 
-/// The counted numbers that are wrong in an image which is right before them, in the order in which they are written; none where
-/// anything before them is wrong. One that is too large for its field is none of them. The only error is want of memory.
+/// The counts that are wrong in an image, in the order in which they are written; none if anything checked before them is wrong.
+/// A count that is too large for its field is left out. Fails only when out of memory.
 pub(crate) fn wrong_numbers(alloc: Global, image: &[u8]) -> Result<Vec<WrongNumber>, AllocError>
     ensures { IfOk result (λ wrong. wrong.items ≡ wrong_in image.now) }
 {

@@ -1,4 +1,4 @@
-//! A counted number that is wrong.
+//! A count that is wrong.
 
 ghost use Rattle.std.specs.Prelude.{◌≡◌, ◌<◌, ◌^◌, ◌∷◌, [], OnOk};
 ghost use Rattle.hfs_repair.specs.Placed.{is_wrong, two_bytes, four_bytes, AddsWrong};
@@ -9,13 +9,13 @@ use crate::fixed::FixPlace;
 use std::alloc::AllocError;
 use std::marker::Model;
 
-/// A counted number that the volume tells wrong, and whose field can tell what is counted. Contracts see which number it is, and
-/// what is known of it.
+/// A count that is wrong in the volume, and whose field can hold the right number. Contracts see which count it is, and what is
+/// known of it.
 #[derive(Debug, Drop)]
 pub struct WrongNumber {
     /// Which number.
     place: FixPlace,
-    /// What the volume tells.
+    /// What the volume has.
     was: u32,
     /// What is counted.
     counted: FieldValue,
@@ -32,7 +32,7 @@ impl Model for WrongNumber {
     ghost view = { λ n. placed_number n.place n.was n.counted n.at };
 }
 
-/// Adds a number of two bytes, if it is wrong and its field can tell what is counted.
+/// Adds a count of two bytes, if it is wrong and its field can hold the right number.
 #[tactic(auto, unfolding(crate::specs::Placed::is_wrong, crate::specs::Placed::two_bytes))]
 pub(crate) fn push_short(
     wrong: &mut Vec<WrongNumber>,
@@ -59,7 +59,7 @@ pub(crate) fn push_short(
     Ok(())
 }
 
-/// Adds a number of four bytes, if it is wrong and its field can tell what is counted.
+/// Adds a count of four bytes, if it is wrong and its field can hold the right number.
 #[tactic(auto, unfolding(crate::specs::Placed::is_wrong, crate::specs::Placed::four_bytes))]
 pub(crate) fn push_long(
     wrong: &mut Vec<WrongNumber>,
@@ -94,7 +94,7 @@ impl WrongNumber {
         self.place
     }
 
-    /// What the volume tells.
+    /// What the volume has.
     pub(crate) fn was(&self) -> u32
         ensures { result ≡ self.now.1.was }
     {

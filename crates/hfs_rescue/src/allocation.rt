@@ -1,11 +1,11 @@
-//! The allocation blocks of a directory that are there.
+//! The allocation blocks of a directory that exist.
 ghost use Rattle.std.specs.Prelude.{◌≡◌, ◌+◌, ◌<◌, ◌≤◌, ◌^◌, true};
 ghost use Rattle.hfs_space.specs.Forks.{blocks_each};
 ghost use Rattle.hfs_rescue.specs.Allocation as spec;
 
 use hfs_fields::Mdb;
 
-/// Whether allocation block `b` is one of the directory's, and lies whole among `total` logical blocks.
+/// Whether allocation block `b` is one of the directory's, and lies wholly within `total` logical blocks.
 #[tactic(auto, unfolding(crate::specs::Allocation::is_there))]
 pub fn is_there(total: u32, mdb: &Mdb, b: u16) -> bool
     ensures { result ≡ spec.is_there total mdb.now b }
@@ -15,7 +15,7 @@ pub fn is_there(total: u32, mdb: &Mdb, b: u16) -> bool
     b < mdb.allocation_blocks && end <= u64::from(total)
 }
 
-/// The logical block in which an allocation block begins that is there among `total` logical blocks.
+/// The logical block in which an allocation block begins that exists within `total` logical blocks.
 #[tactic(auto, unfolding(crate::specs::Allocation::is_there))]
 pub fn start_of(total: u32, mdb: &Mdb, b: u16) -> u32
     requires { spec.is_there total mdb.now b ≡ true }

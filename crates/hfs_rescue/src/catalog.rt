@@ -14,7 +14,8 @@ use hfs_model::OwnedBytes;
 use hfs_space::is_tree_file;
 use std::alloc::{AllocError, Global};
 
-/// A record of the catalog, and whether it is old: of a node that is not in use, or of a block that is no node of the catalog.
+/// A record of the catalog, and whether it is old: from a node that is not in use, or from a block that is no node of the
+/// catalog.
 #[derive(Drop)]
 pub struct FoundRecord {
     /// Whether its leaf is old.
@@ -40,7 +41,7 @@ pub(crate) fn is_catalog_record(bytes: &[u8]) -> bool
     }
 }
 
-/// Adds a leaf's record, where it has the form of a catalog record.
+/// Adds a leaf's record, if it has the form of a catalog record.
 fn push_found(
     alloc: Global,
     leaf: &LeafRecord,
@@ -77,7 +78,7 @@ fn push_of_leaves(
     Ok(())
 }
 
-/// Adds a record of a tree, where its body has the form of one.
+/// Adds a record of a tree, if its body has the form of one.
 fn push_entry(entry: CatalogRecord, records: &mut Vec<FoundRecord>) -> Result<(), AllocError>
     ensures { OnOk result (records.new.items ≡ records.old.items ++ spec.found_in_tree entry) }
 {
@@ -101,7 +102,7 @@ fn records_of_tree(
     Ok(records)
 }
 
-/// Whether the catalog tree passes its check, whose file has these extents and these nodes. The only error is want of memory.
+/// Whether the catalog tree, whose file has these extents and these nodes, passes its check. Fails only when out of memory.
 #[tactic(auto, unfolding(crate::specs::CatalogRecords::is_catalog_tree_right))]
 pub fn is_catalog_tree_right<B: Blocks>(
     alloc: Global,
@@ -127,7 +128,7 @@ pub fn is_catalog_tree_right<B: Blocks>(
     }
 }
 
-/// How many nodes of a file are there.
+/// How many nodes of a file exist.
 fn nodes_there<B: Blocks>(nodes: &FileNodes<'_, B>) -> u64
     ensures { result ≡ spec.nodes_there nodes.now.mdb.now nodes.now.file.now }
 {
@@ -135,7 +136,7 @@ fn nodes_there<B: Blocks>(nodes: &FileNodes<'_, B>) -> u64
     there * u64::from(nodes.mdb.allocation_block_size / 512)
 }
 
-/// Whether the nodes of the catalog that are there have fewer bytes than its file should have, or no record.
+/// Whether the nodes of the catalog that exist have fewer bytes than its file should have, or no records.
 #[tactic(auto, unfolding(crate::specs::CatalogRecords::is_lacking))]
 fn is_lacking<B: Blocks>(nodes: &FileNodes<'_, B>, own: &[FoundRecord]) -> bool
     ensures { result ≡ spec.is_lacking nodes.now.mdb.now nodes.now.file.now own.now }
@@ -176,8 +177,8 @@ fn scattered_records<B: Blocks>(
     Ok(records)
 }
 
-/// Whether a catalog has its shape, whose file has these extents and these nodes, and in each record a folder's or a file's under a
-/// name, or a thread's under an empty one. The only error is want of memory.
+/// Whether a catalog, whose file has these extents and these nodes, has its shape, and each of its records is a folder's or a
+/// file's with a name, or a thread's without one. Fails only when out of memory.
 #[tactic(auto, unfolding(crate::specs::CatalogRecords::is_catalog_right))]
 pub fn is_catalog_right<B: Blocks>(
     alloc: Global,
@@ -196,11 +197,10 @@ pub fn is_catalog_right<B: Blocks>(
     }
 }
 
-/// The records of a catalog whose file has these extents and these nodes: where it passes its check those of its last level, in
-/// order; else those of all its leaves, first of the leaves that are in use, then of the others, each in the order of their
-/// numbers; and where nodes are lacking or none of these is a catalog record also those of other blocks of the image that are
-/// leaves with nothing but catalog records. What has not the form of a catalog record is passed over. The only error is want of
-/// memory.
+/// The records of a catalog whose file has these extents and these nodes. If it passes its check, those of its last level, in
+/// order. Otherwise those of all its leaves, first of the leaves that are in use, then of the others, each in the order of their
+/// numbers; and if nodes are missing or none of these is a catalog record, also those of other blocks of the image that are
+/// leaves with only catalog records. Records without the form of a catalog record are skipped. Fails only when out of memory.
 #[tactic(auto, unfolding(crate::specs::CatalogRecords::catalog_records))]
 pub fn catalog_records<B: Blocks>(
     alloc: Global,
@@ -220,8 +220,8 @@ pub fn catalog_records<B: Blocks>(
     }
 }
 
-/// Whether `catalog_records` looks at other blocks than the file's, whose extents and nodes these are: where the catalog does not pass
-/// its check, and its nodes that are there are lacking or have no record. The only error is want of memory.
+/// Whether `catalog_records` looks at blocks other than those of the file, given its extents and nodes: if the catalog does not
+/// pass its check, and nodes are missing or those that exist have no records. Fails only when out of memory.
 #[tactic(auto, unfolding(crate::specs::CatalogRecords::looks_elsewhere))]
 pub fn looks_elsewhere<B: Blocks>(
     alloc: Global,

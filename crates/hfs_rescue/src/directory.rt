@@ -14,11 +14,11 @@ use hfs_node::{NodeKind, view};
 /// Which trees must begin where a directory says.
 #[derive(Debug, Clone, Copy, PartialEq, Eq)]
 pub enum Beginning {
-    /// The extents tree and the catalog.
+    /// Both the extents tree and the catalog.
     Both,
-    /// The catalog.
+    /// Only the catalog.
     Catalog,
-    /// None of them.
+    /// Neither.
     Neither,
 }
 
@@ -39,7 +39,7 @@ fn is_block_size(mdb: &Mdb) -> bool
     512 <= mdb.allocation_block_size && mdb.allocation_block_size % 512 == 0
 }
 
-/// Whether the fields tell what an allocation block is, and that there is one.
+/// Whether the fields give a valid allocation block size, and at least one block.
 fn will_do(mdb: &Mdb) -> bool
     ensures size { result ≡ true → 512 ≤ mdb.now.allocation_block_size }
     ensures is { result ≡ spec.will_do mdb.now }
@@ -47,7 +47,7 @@ fn will_do(mdb: &Mdb) -> bool
     mdb.signature == 0x4244 && mdb.allocation_blocks >= 1 && is_block_size(mdb)
 }
 
-/// Whether 512 bytes decode as a header node.
+/// Whether 512 bytes can be decoded as a header node.
 fn is_header(bytes: &[u8; 512]) -> bool
     ensures { result ≡ spec.is_header (node_of bytes.now) }
 {
@@ -64,8 +64,8 @@ fn first_extent(extents: &[Extent]) -> Option<Extent>
     extents.iter().copied().find(|e| e.count > 0)
 }
 
-/// The block that tells whether a tree begins whose file has these extents, in an image of `total` logical blocks; None where it isn't
-/// there, or the fields don't tell what an allocation block is.
+/// The block that says whether the tree whose file has these extents begins, in an image of `total` logical blocks; None if it
+/// doesn't exist, or the fields give no valid allocation block size.
 pub fn beginning_of(total: u32, mdb: &Mdb, extents: &[Extent]) -> Option<u32>
     ensures block { result ≡ spec.beginning_of total mdb.now extents.now }
     ensures within { IfSome result (λ n. n < total) }
@@ -82,7 +82,7 @@ pub fn beginning_of(total: u32, mdb: &Mdb, extents: &[Extent]) -> Option<u32>
     Some(start_of(total, mdb, extent.first))
 }
 
-/// Whether a tree begins whose file has these extents.
+/// Whether the tree whose file has these extents begins.
 pub fn tree_begins<B: Blocks>(blocks: &B, mdb: &Mdb, extents: &[Extent]) -> bool
     requires { 512 ≤ mdb.now.allocation_block_size }
     ensures { result ≡ spec.tree_begins
@@ -116,7 +116,7 @@ fn has_beginning<B: Blocks>(blocks: &B, mdb: &Mdb, beginning: Beginning) -> bool
     }
 }
 
-/// Whether block `n` will do for a directory whose trees begin as asked.
+/// Whether block `n` can serve as a directory whose trees begin as asked.
 #[tactic(auto, unfolding(crate::specs::Directory::serves))]
 fn serves<B: Blocks>(blocks: &B, beginning: Beginning, n: u32) -> bool
     requires { n < B.total blocks.now }
@@ -128,7 +128,7 @@ fn serves<B: Blocks>(blocks: &B, beginning: Beginning, n: u32) -> bool
     will_do(&mdb) && has_beginning(blocks, &mdb, beginning)
 }
 
-/// The first of the two blocks in which a directory belongs that serves.
+/// The first of a directory's two places with a block that serves.
 fn in_usual_places<B: Blocks>(blocks: &B, beginning: Beginning) -> Option<u32>
     requires { 3 ≤ B.total blocks.now }
     ensures first { result ≡ find (spec.serves (B.total blocks.now) (B.blocks blocks.now) beginning)
@@ -145,7 +145,7 @@ fn in_usual_places<B: Blocks>(blocks: &B, beginning: Beginning) -> Option<u32>
     None
 }
 
-/// The first of the two blocks in which a directory belongs that will do, and where both trees begin.
+/// The first of a directory's two places with a block that can serve, and whose two trees begin.
 pub fn usual_directory<B: Blocks>(blocks: &B) -> Option<u32>
     requires { 3 ≤ B.total blocks.now }
     ensures first { result ≡ spec.usual_directory (B.total blocks.now) (B.blocks blocks.now) }
@@ -170,7 +170,7 @@ fn last_serving<B: Blocks>(blocks: &B, beginning: Beginning) -> Option<u32>
     None
 }
 
-/// The first block that serves: of those in which a directory belongs, or else of all from the last to the first.
+/// The first block that serves: of a directory's two places, or else of all blocks from the last to the first.
 fn in_all_places<B: Blocks>(blocks: &B, beginning: Beginning) -> Option<u32>
     requires { 3 ≤ B.total blocks.now }
     ensures first { result ≡ find (spec.serves (B.total blocks.now) (B.blocks blocks.now) beginning)
@@ -183,12 +183,12 @@ fn in_all_places<B: Blocks>(blocks: &B, beginning: Beginning) -> Option<u32>
     }
 }
 
-/// The number of the block that is taken for the directory of a volume of these blocks; None where none will do.
+/// The number of the block that is taken for the directory of a volume with these blocks; None if none can serve.
 ///
-/// Of block 2 and the last block but one it is the first that will do and both of whose trees begin; where neither is such, of
-/// these and then of all others, from the last to the first, the first whose catalog begins; or else the first that will do. A
-/// block will do where it has the signature $4244, at least one allocation block, and a size of those that is one or more times
-/// 512. It reads each block at most twice, and its trees' first nodes.
+/// Of block 2 and the last block but one, it is the first that can serve and both of whose trees begin. If neither is such a
+/// block, it is the first whose catalog begins, of these two and then of all others, from the last to the first; or else the
+/// first that can serve. A block can serve if it has the signature $4244, at least one allocation block, and an allocation block
+/// size that is a positive multiple of 512. Reads each block at most twice, and its trees' first nodes.
 #[tactic(auto, unfolding(crate::specs::Directory::directory_in))]
 pub fn directory_in<B: Blocks>(blocks: &B) -> Option<u32>
     requires { 3 ≤ B.total blocks.now }
@@ -204,8 +204,8 @@ pub fn directory_in<B: Blocks>(blocks: &B) -> Option<u32>
     in_all_places(blocks, Beginning::Neither)
 }
 
-/// The number of the block that is taken for an image's directory, as `directory_in` says; None also where the image has fewer
-/// than 1,536 bytes or more than 2,147,483,648.
+/// The number of the block that is taken for an image's directory, as `directory_in` says; None also if the image has fewer than
+/// 1,536 bytes or more than 2,147,483,648.
 #[tactic(auto, unfolding(crate::specs::Directory::directory_of, hfs_check::specs::Faults::length_fault))]
 pub fn directory_of(image: &[u8]) -> Option<u32>
     ensures first { result ≡ spec.directory_of image.now }

@@ -1,4 +1,4 @@
-//! The extents of a fork that goes on in records of the extents tree.
+//! The extents of a fork that continues in records of the extents tree.
 ghost use Rattle.std.specs.Prelude.{◌≡◌, ℕ, ◌+◌, ◌≤◌, ◌++◌, ◌<◌, ◌^◌, None, length, slice_index_or, IfOk, OnOk};
 ghost use Rattle.std.specs.Option.{option_copied};
 ghost use Rattle.hfs_space.specs.Extents as space;
@@ -9,7 +9,7 @@ use crate::overflow::OverflowRecord;
 use hfs_fields::{Extent, Mdb};
 use std::alloc::{AllocError, Global};
 
-/// Notes the place of a record at the block of the fork from which it goes on, where it is the first of this fork there.
+/// Notes the place of a record at the fork's block from which it continues the fork, if it is the first of this fork there.
 fn note_place(places: &mut [Option<usize>], entry: &OverflowRecord, file: u32, fork: u8, i: usize)
     requires { length places.old ≡ 65536 }
     ensures { spec.NotesPlace file fork i entry.now places.old places.new }
@@ -24,7 +24,7 @@ fn note_place(places: &mut [Option<usize>], entry: &OverflowRecord, file: u32, f
     }
 }
 
-/// No place for each number of two bytes.
+/// No places, for each number of two bytes.
 fn no_places(alloc: Global) -> Result<Vec<Option<usize>>, AllocError>
     ensures none { IfOk result (λ places. (block : ℕ) → slice_index_or places.items block None ≡
         None) }
@@ -37,7 +37,7 @@ fn no_places(alloc: Global) -> Result<Vec<Option<usize>>, AllocError>
     Ok(places)
 }
 
-/// For each block of a fork from which a record goes on the place of the first such record, counted from 0.
+/// For each block of a fork from which a record continues it, the place of the first such record, counted from 0.
 fn fork_places(
     alloc: Global,
     records: &[OverflowRecord],
@@ -54,7 +54,7 @@ fn fork_places(
     Ok(places)
 }
 
-/// The place that is noted at a block, None behind the last.
+/// The place that is noted at a block; None after the last.
 fn place_at(places: &[Option<usize>], block: u32) -> Option<usize>
     ensures { result ≡ slice_index_or places.now block None }
 {
@@ -66,14 +66,14 @@ fn place_at(places: &[Option<usize>], block: u32) -> Option<usize>
     }
 }
 
-/// The records that a fork may go on with, by the blocks of it from which they do.
+/// The records that may continue a fork, by the fork's blocks from which they do.
 #[derive(Drop)]
 struct ForkRecords<'a> {
     /// All records of the extents tree.
     records: &'a [OverflowRecord],
     /// The number of the fork's file.
     file: u32,
-    /// The fork, as keys name it.
+    /// The fork's number in keys.
     fork: u8,
     places: Vec<Option<usize>>,
     ghost tells: { TellsPlaces records.now file fork places.items },
@@ -81,7 +81,7 @@ struct ForkRecords<'a> {
 }
 
 impl<'a> ForkRecords<'a> {
-    /// Those of a fork. Of several from one block the first serves.
+    /// The records of a fork. Of several from the same block, the first counts.
     fn of(
         alloc: Global,
         records: &'a [OverflowRecord],
@@ -153,9 +153,9 @@ fn push_extents(entry: &OverflowRecord, extents: &mut Vec<Extent>) -> Result<(),
     Ok(())
 }
 
-/// The extents of a fork, where its record has these first ones and it wants so many blocks: these, and those of the records that
-/// go on with it, each from the block where the ones before it end, as long as there is one with a block and blocks are wanted.
-/// The only error is want of memory.
+/// The extents of a fork whose record has these first ones and that wants this many blocks: these, and those of the records that
+/// continue it, each from the block where the ones before it end, as long as there is one with a block and blocks are still
+/// wanted. Fails only when out of memory.
 #[tactic(auto, unfolding(crate::specs::OverflowRecords::fork_extents))]
 fn fork_extents(
     alloc: Global,
@@ -192,8 +192,8 @@ fn fork_extents(
     Ok(extents)
 }
 
-/// All extents of the catalog file: the directory's three, and those of the records that go on with it, as long as there is one
-/// with a block. The only error is want of memory.
+/// All extents of the catalog file: the directory's three, and those of the records that continue it, as long as there is one
+/// with a block. Fails only when out of memory.
 #[tactic(auto, unfolding(crate::specs::OverflowRecords::catalog_extents))]
 pub fn catalog_extents(
     alloc: Global,

@@ -33,7 +33,7 @@ fn is_map(node: &NodeView) -> bool
     }
 }
 
-/// Bit `n` of a map, clear behind its end.
+/// Bit `n` of a map; clear past its end.
 fn has_bit(map: &[u8], n: u64) -> bool
     ensures { result ≡ bit_of map.now n }
 {
@@ -45,8 +45,8 @@ fn has_bit(map: &[u8], n: u64) -> bool
     }
 }
 
-/// Reads node `n`. Where it is a map node, its part of the map is added, and the number of the node behind it is the answer.
-/// None where it is no map node.
+/// Reads node `n`. If it is a map node, appends its part of the map, and returns the number of the node after it. None if it is
+/// no map node.
 fn read_map_node<B: Blocks>(
     nodes: &FileNodes<'_, B>,
     n: u32,
@@ -68,7 +68,7 @@ fn read_map_node<B: Blocks>(
     Ok(Some(node.forward()))
 }
 
-/// Adds the parts of the map that the map nodes have from node `first` on, as long as they are map nodes, each once.
+/// Appends the parts of the map in the map nodes from node `first` on, as long as they are map nodes, each once.
 fn read_chain<B: Blocks>(
     alloc: Global,
     nodes: &FileNodes<'_, B>,
@@ -97,7 +97,7 @@ fn read_chain<B: Blocks>(
     Ok(())
 }
 
-/// The map of a tree's nodes; None where it can't be believed, since it doesn't mark node 0 and the last leaf.
+/// The map of a tree's nodes; None if it can't be trusted, because it doesn't mark node 0 and the last leaf.
 #[tactic(auto, unfolding(crate::specs::InUse::map_of, crate::specs::InUse::is_map_believed, crate::specs::InUse::is_in_use))]
 fn read_map<B: Blocks>(
     alloc: Global,
@@ -124,16 +124,16 @@ fn read_map<B: Blocks>(
     }
 }
 
-/// Which nodes of a tree are in use: those that its map marks, or all where the map can't be believed.
+/// Which nodes of a tree are in use: those that its map marks, or all if the map can't be trusted.
 #[derive(Drop)]
 pub struct NodesInUse {
     map: Option<Vec<u8>>,
 }
 
 impl NodesInUse {
-    /// Reads the map of a tree: the third record of node 0, and the first records of the map nodes that hang on it, each once.
-    /// It is believed where node 0 is a header node with three records, the first of at least 18 bytes, and the map marks node 0
-    /// and the node that bthLNode names. The only error is want of memory.
+    /// Reads the map of a tree: the third record of node 0, and the first records of the map nodes that follow it, each once. It
+    /// is trusted if node 0 is a header node with three records, the first of at least 18 bytes, and the map marks node 0 and the
+    /// node that bthLNode names. Fails only when out of memory.
     pub fn of<B: Blocks>(alloc: Global, nodes: &FileNodes<'_, B>) -> Result<NodesInUse, AllocError>
         ensures { IfOk result (λ used. TellsUse (nodes_of (B.blocks nodes.now.blocks.now)
             nodes.now.mdb.now nodes.now.file.now) used.map) }

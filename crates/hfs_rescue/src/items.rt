@@ -10,7 +10,7 @@ use hfs_btree::Key;
 use hfs_catalog::{CatalogRecord, item_id};
 use std::alloc::{AllocError, Global};
 
-/// The ID of a folder's or a file's record that has a name; None of any other record.
+/// The ID of a folder's or a file's record with a name; None for any other record.
 fn named_id(entry: &CatalogRecord) -> Option<u32>
     ensures { result ≡ if is_item entry.now.1 && not (length entry.now.0.name == 0) then Some
         (item_id entry.now.1) else None }
@@ -21,14 +21,14 @@ fn named_id(entry: &CatalogRecord) -> Option<u32>
     item_id(entry.body())
 }
 
-/// Whether an item is written as this row, or where the record is old has its ID.
+/// Whether an item's row is known, or, if its record is old, its ID.
 fn is_known(rows: &Rows, ids: &Numbers, row: &Vec<u8>, old: bool, id: u32) -> bool
     ensures { result ≡ (spec.has_row rows.now row.now || (old && has_number ids.now id)) }
 {
     rows.has(row) || (old && ids.has(id))
 }
 
-/// Puts a record behind the items, where it is one more.
+/// Adds a record after the items, if it is a new one.
 fn push_item(
     alloc: Global,
     found: FoundRecord,
@@ -53,8 +53,8 @@ fn push_item(
     Ok(())
 }
 
-/// The items among the records of a catalog, in order: the folders and files with a name, but for one that has the same parent, name
-/// and body as an item before it, and for an old one whose ID an item before it has. The only error is want of memory.
+/// The items among the records of a catalog, in order: the folders and files with a name, except those with the same parent, name
+/// and body as an earlier item, and old ones with the ID of an earlier item. Fails only when out of memory.
 pub fn items_of(alloc: Global, records: Vec<FoundRecord>) -> Result<Vec<FoundRecord>, AllocError>
     ensures { IfOk result (λ items. items.items ≡ spec.items_of records.items) }
 {

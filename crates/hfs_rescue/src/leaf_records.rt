@@ -50,7 +50,7 @@ fn push_records(
     Ok(())
 }
 
-/// Adds the records of 512 bytes, where they decode as a leaf.
+/// Adds the records of 512 bytes, if they can be decoded as a leaf.
 pub(crate) fn push_leaf(
     alloc: Global,
     bytes: &[u8; 512],
@@ -69,7 +69,7 @@ pub(crate) fn push_leaf(
     push_records(alloc, &node, old, records)
 }
 
-/// Adds the records of node `n`, where it is a leaf that is old as is asked.
+/// Adds the records of node `n`, if it is a leaf and as old as asked.
 fn push_node<B: Blocks>(
     alloc: Global,
     nodes: &FileNodes<'_, B>,
@@ -92,7 +92,7 @@ fn push_node<B: Blocks>(
     push_leaf(alloc, &bytes, old, records)
 }
 
-/// Adds the records of the leaves in the block at a place of the file that are old as is asked.
+/// Adds the records of those leaves in the block at a place of the file that are as old as asked.
 fn push_block<B: Blocks>(
     alloc: Global,
     nodes: &FileNodes<'_, B>,
@@ -120,8 +120,8 @@ fn push_block<B: Blocks>(
     Ok(())
 }
 
-/// Adds the records of all leaves of a tree that are old as is asked, in the order of their numbers. Each node that is there is
-/// read at most once; missing blocks cost a step each.
+/// Adds the records of all leaves of a tree that are as old as asked, in the order of their numbers. Each node that exists is
+/// read at most once; missing blocks cost one step each.
 #[tactic(auto, unfolding(crate::specs::LeafRecords::records_of_age))]
 fn push_of_age<B: Blocks>(
     alloc: Global,
@@ -142,8 +142,8 @@ fn push_of_age<B: Blocks>(
     Ok(())
 }
 
-/// The records of all leaves of a tree: of those in use in the order of their numbers, and then of the others. The only error is
-/// want of memory.
+/// The records of all leaves of a tree: those of the leaves in use, in the order of their numbers, and then those of the others.
+/// Fails only when out of memory.
 #[tactic(auto, unfolding(crate::specs::LeafRecords::all_leaf_records))]
 pub fn all_leaf_records<B: Blocks>(
     alloc: Global,

@@ -1,4 +1,4 @@
-//! What remains of a damaged volume: a directory, the blocks and nodes that are there, and the records in them.
+//! What remains of a damaged volume: a directory, the blocks and nodes that exist, and the records in them.
 #![tactic(auto)]
 
 mod allocation;

@@ -12,21 +12,21 @@ use hfs_btree::Nodes;
 use hfs_fields::Mdb;
 
 /// The nodes of a tree's file, by their numbers from 0 on: the 512-byte pieces of its allocation blocks, one after the other.
-/// Those of missing blocks have their numbers, and decode as no node.
+/// Those of missing blocks have numbers as well, but can't be decoded as nodes.
 #[derive(Drop)]
 pub struct FileNodes<'a, B: Blocks> {
     /// The logical blocks of the image.
     pub blocks: &'a B,
     /// The directory, which says where the allocation blocks lie.
     pub mdb: &'a Mdb,
-    /// The allocation blocks of the file, None in the place of each that is missing.
+    /// The allocation blocks of the file, with None in place of each that is missing.
     pub file: &'a [Option<u16>],
     ghost size: { 512 ≤ mdb.now.allocation_block_size },
     ghost there: { AreThere (B.total blocks.now) mdb.now file.now },
     ghost few: { length file.now < 2 ^ 40 },
 }
 
-/// The block at a place of a file, None where it is missing or behind the file's end.
+/// The block at a place of a file; None if it is missing or past the file's end.
 pub(crate) fn block_at(file: &[Option<u16>], place: usize) -> Option<u16>
     ensures { result ≡ slice_index_or file.now place None }
 {
@@ -37,7 +37,7 @@ pub(crate) fn block_at(file: &[Option<u16>], place: usize) -> Option<u16>
     }
 }
 
-/// How many nodes a file of `size` bytes has, the last of which may be cut.
+/// How many nodes a file of `size` bytes has; the last one may be cut.
 pub(crate) fn node_count(size: u32) -> u32
     ensures { result ≡ node_count size }
 {
@@ -61,7 +61,8 @@ impl<B: Blocks> FileNodes<'_, B> {
         place as u64 * u64::from(self.mdb.allocation_block_size / 512)
     }
 
-    /// Copies node `n` into 512 bytes: zeros, which decode as no node, where its block is missing or the file has no such node.
+    /// Copies node `n` into 512 bytes: zeros, which can't be decoded as a node, if its block is missing or the file has no such
+    /// node.
     #[tactic(auto, unfolding(crate::specs::TreeFiles::node_at))]
     pub fn read(&self, n: u64, into: &mut [u8; 512])
         ensures { into.new ≡ node_at (B.blocks self.now.blocks.now) self.now.mdb.now
@@ -77,7 +78,7 @@ impl<B: Blocks> FileNodes<'_, B> {
         }
     }
 
-    /// Copies 512 bytes that decode as node `n` does.
+    /// Copies 512 bytes that can be decoded if and only if node `n` can, and as the same node.
     pub fn read_node(&self, n: u64, into: &mut [u8; 512])
         ensures { node_of into.new ≡ node_in
             (nodes_of (B.blocks self.now.blocks.now) self.now.mdb.now self.now.file.now) n }
@@ -86,7 +87,7 @@ impl<B: Blocks> FileNodes<'_, B> {
     }
 }
 
-/// The first nodes of a tree's file, so many.
+/// The first `count` nodes of a tree's file.
 #[derive(Drop)]
 pub struct FirstNodes<'a, B: Blocks> {
     /// The nodes of the whole file.

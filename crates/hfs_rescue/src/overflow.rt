@@ -37,21 +37,21 @@ impl Model for OverflowRecord {
 }
 
 impl OverflowRecord {
-    /// The record of this key and this body.
+    /// The record with this key and this body.
     fn new(key: ExtKey, body: OwnedBytes) -> Self
         ensures { result ≡ (key, body) }
     {
         OverflowRecord { key, body }
     }
 
-    /// The record's key: a file's number, a fork, and the block of it from which the record goes on.
+    /// The record's key: a file's number, a fork, and the block of the fork from which the record continues it.
     pub fn key(&self) -> ExtKey
         ensures { result ≡ self.now.0 }
     {
         self.key
     }
 
-    /// The record's three extents; None where its body is too short for them.
+    /// The record's three extents; None if its body is too short for them.
     pub fn extents(&self) -> Option<[Extent; 3]>
         ensures { SomeIff result (12 ≤ length self.now.1) (extents_at 0 self.now.1) }
     {
@@ -90,7 +90,7 @@ fn records_of_tree<N: Nodes>(alloc: Global, nodes: &N) -> Result<Vec<OverflowRec
     Ok(records)
 }
 
-/// Adds a leaf's record, where it has the form of an extents record.
+/// Adds a leaf's record, if it has the form of an extents record.
 fn push_overflow(
     alloc: Global,
     bytes: &[u8],
@@ -120,7 +120,7 @@ fn records_of_leaves(
     Ok(records)
 }
 
-/// Whether a check found no fault. The only error is want of memory.
+/// Whether a check found no fault. Fails only when out of memory.
 fn has_passed(answer: Result<(), MountFault>) -> Result<bool, AllocError>
     ensures { IfOk result (λ right. (fault : Option MountFault) → Answers fault answer → right ≡
         is_none fault) }
@@ -138,7 +138,7 @@ fn has_passed(answer: Result<(), MountFault>) -> Result<bool, AllocError>
     }
 }
 
-/// Whether the extents tree passes its check, of whose file these are the nodes. The only error is want of memory.
+/// Whether the extents tree, whose file has these nodes, passes its check. Fails only when out of memory.
 #[tactic(auto, unfolding(crate::specs::OverflowRecords::is_extents_tree_right))]
 pub fn is_extents_tree_right<B: Blocks>(
     alloc: Global,
@@ -159,9 +159,9 @@ pub fn is_extents_tree_right<B: Blocks>(
     has_passed(check_extents_tree(alloc, &first, size))
 }
 
-/// The records of the extents tree, of whose file these are the nodes: where it passes its check those of its last level, in
-/// order; else all of its leaves that have the form of one, first of the leaves that are in use, then of the others, each in
-/// the order of their numbers. The only error is want of memory.
+/// The records of the extents tree whose file has these nodes. If it passes its check, those of its last level, in order.
+/// Otherwise all of its leaves' that have the form of one, first of the leaves that are in use, then of the others, each in the
+/// order of their numbers. Fails only when out of memory.
 #[tactic(auto, unfolding(crate::specs::OverflowRecords::overflow_records))]
 pub fn overflow_records<B: Blocks>(
     alloc: Global,

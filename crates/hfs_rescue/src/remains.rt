@@ -17,11 +17,11 @@ use std::alloc::{AllocError, Global};
 /// What is found of a volume.
 #[derive(Drop)]
 pub struct Remains {
-    /// The allocation blocks of the extents file in order, None in the place of each that is missing.
+    /// The allocation blocks of the extents file, in order, with None in place of each that is missing.
     pub extents_file: Vec<Option<u16>>,
     /// The records of the extents tree.
     pub overflow: Vec<OverflowRecord>,
-    /// The allocation blocks of the catalog file in order, None in the place of each that is missing.
+    /// The allocation blocks of the catalog file, in order, with None in place of each that is missing.
     pub catalog_file: Vec<Option<u16>>,
     /// The records of the catalog.
     pub found: Vec<FoundRecord>,
@@ -62,8 +62,8 @@ fn found_of<B: Blocks>(
     catalog_records(alloc, &nodes, extents)
 }
 
-/// What is found of a volume by this directory: the blocks of the extents file that are there, the records of its tree, by these
-/// the blocks of the catalog file, and the records of the catalog. The only error is want of memory.
+/// What is found of a volume by this directory: the blocks of the extents file that exist, the records of its tree, by these the
+/// blocks of the catalog file, and the records of the catalog. Fails only when out of memory.
 pub fn find_remains<B: Blocks>(alloc: Global, blocks: &B, mdb: &Mdb) -> Result<Remains, AllocError>
     requires { 512 ≤ mdb.now.allocation_block_size }
     ensures remains { IfOk result (spec.AreRemains (B.total blocks.now) (B.blocks blocks.now)

@@ -1,4 +1,4 @@
-//! Sets of rows of bytes and of numbers, kept in their order and not by hashes, since an image chooses what is in them.
+//! Sets of rows of bytes and of numbers, kept in order and without hashing, since an image chooses what is in them.
 ghost use Rattle.std.specs.Prelude.{◌≡◌, [], OnOk};
 ghost use Rattle.hfs_catalog_checks.specs.Indexes.{has_number, AddsNumber};
 ghost use Rattle.hfs_rescue.specs.Items.{has_row, AddsRow};
@@ -39,7 +39,7 @@ impl Rows {
         self.rows.contains(row)
     }
 
-    /// Puts a row into the set. `Err` only where memory is wanting.
+    /// Adds a row to the set. `Err` only when out of memory.
     pub(crate) fn add(&mut self, row: Vec<u8>) -> Result<(), AllocError>
         ensures { OnOk result (AddsRow row self.old self.new) }
     {
@@ -79,7 +79,7 @@ impl Numbers {
         self.numbers.contains(&number)
     }
 
-    /// Puts a number into the set. `Err` only where memory is wanting.
+    /// Adds a number to the set. `Err` only when out of memory.
     pub(crate) fn add(&mut self, number: u32) -> Result<(), AllocError>
         ensures { OnOk result (AddsNumber number self.old self.new) }
     {

@@ -15,7 +15,7 @@ use hfs_fields::Mdb;
 use hfs_node::view;
 use std::alloc::{AllocError, Global};
 
-/// Sets the mark of a block, where the place of the file has one.
+/// Sets the mark of a block, if the place of the file has one.
 fn mark_place(marks: &mut [bool], place: Option<u16>)
     requires { IfSome place (λ b. b < length marks.old) }
     ensures { (b : ℕ) → mark_of marks.new b ≡ (mark_of marks.old b || spec.is_block b place) }
@@ -25,7 +25,7 @@ fn mark_place(marks: &mut [bool], place: Option<u16>)
     }
 }
 
-/// A mark for each allocation block of the directory, set where it is one of the file's.
+/// A mark for each allocation block of the directory, set if the block is one of the file's.
 fn file_marks<B: Blocks>(alloc: Global, nodes: &FileNodes<'_, B>) -> Result<Vec<bool>, AllocError>
     ensures { IfOk result (λ marks. (b : ℕ) → mark_of marks.items b ≡ spec.has_block
         nodes.now.file.now b) }
@@ -37,7 +37,7 @@ fn file_marks<B: Blocks>(alloc: Global, nodes: &FileNodes<'_, B>) -> Result<Vec<
     Ok(marks)
 }
 
-/// Whether logical block `k` is one of a file's, whose allocation blocks are marked.
+/// Whether logical block `k` is one of the file whose allocation blocks are marked.
 fn is_marked(mdb: &Mdb, marks: &[bool], k: u32) -> bool
     requires { 512 ≤ mdb.now.allocation_block_size }
     ensures { result ≡ (nat_le mdb.now.allocation_start k && mark_of marks.now
@@ -51,7 +51,7 @@ fn is_marked(mdb: &Mdb, marks: &[bool], k: u32) -> bool
     b < marks.len() && marks[b]
 }
 
-/// Whether 512 bytes are no leaf, or one with nothing but catalog records.
+/// Whether 512 bytes are no leaf, or one with only catalog records.
 fn has_only_records(bytes: &[u8; 512]) -> bool
     ensures { result ≡ list_all spec.is_catalog_record (leaf_records (node_of bytes.now)) }
 {
@@ -69,7 +69,7 @@ fn has_only_records(bytes: &[u8; 512]) -> bool
     true
 }
 
-/// Adds the records of logical block `k`, where it is none of the file's and a leaf with nothing but catalog records.
+/// Adds the records of logical block `k`, if it is none of the file's and a leaf with only catalog records.
 fn push_stray<B: Blocks>(
     alloc: Global,
     nodes: &FileNodes<'_, B>,
@@ -93,8 +93,8 @@ fn push_stray<B: Blocks>(
     push_leaf(alloc, &bytes, true, records)
 }
 
-/// The records of leaves in the blocks from block 3 on that are no node of the catalog, where a leaf has nothing but catalog
-/// records. Each block is read once. The only error is want of memory.
+/// The records of leaves with only catalog records, in the blocks from block 3 on that are no node of the catalog. Reads each
+/// block once. Fails only when out of memory.
 #[tactic(auto, unfolding(crate::specs::CatalogRecords::all_stray_records))]
 pub(crate) fn all_stray_records<B: Blocks>(
     alloc: Global,

@@ -1,4 +1,4 @@
-//! The blocks of a tree's file that are there.
+//! The blocks of a tree's file that exist.
 ghost use Rattle.std.specs.Prelude.{◌≡◌, ◌+◌, ◌*◌, ◌≤◌, IfOk, OnOk, length};
 ghost use Rattle.std.specs.List.{range_with_len};
 ghost use Rattle.hfs_rescue.specs.TreeFiles as spec;
@@ -7,7 +7,7 @@ use crate::allocation::is_there;
 use hfs_fields::{Extent, Mdb};
 use std::alloc::{AllocError, Global};
 
-/// A mark for each allocation block of the directory, set where it is there among `total` logical blocks.
+/// A mark for each allocation block of the directory, set if the block exists within `total` logical blocks.
 fn marks_of(alloc: Global, total: u32, mdb: &Mdb) -> Result<Vec<bool>, AllocError>
     ensures marks { IfOk result (λ marks. spec.MarkThere total mdb.now marks.items) }
     ensures few { IfOk result (λ marks. length marks.items ≤ 65535) }
@@ -19,7 +19,7 @@ fn marks_of(alloc: Global, total: u32, mdb: &Mdb) -> Result<Vec<bool>, AllocErro
     Ok(marks)
 }
 
-/// Block `b` where it is marked, and takes its mark away.
+/// Block `b` if it is marked; clears its mark.
 fn take_block(marks: &mut [bool], b: u32) -> Option<u16>
     requires { length marks.old ≤ 65535 }
     ensures { spec.TakesBlock b marks.old marks.new result }
@@ -33,7 +33,7 @@ fn take_block(marks: &mut [bool], b: u32) -> Option<u16>
     }
 }
 
-/// Takes the blocks of an extent, in order, behind those of a file.
+/// Takes the blocks of an extent, in order, after those of a file.
 fn take_extent(
     marks: &mut [bool],
     extent: Extent,
@@ -52,9 +52,9 @@ fn take_extent(
     Ok(())
 }
 
-/// The blocks of a tree's file that has these extents, in order, in an image of `total` logical blocks: None in the place of
-/// each that is missing. A block is missing where it is none of the directory's, where it doesn't lie whole in the image, and
-/// where it came before in this file. The only error is want of memory.
+/// The blocks of the tree file with these extents, in order, in an image of `total` logical blocks, with None in place of each
+/// that is missing. A block is missing if it is none of the directory's, if it doesn't lie wholly in the image, or if it came
+/// earlier in this file. Fails only when out of memory.
 #[tactic(auto, unfolding(crate::specs::TreeFiles::file_blocks))]
 pub fn file_blocks(
     alloc: Global,

@@ -1,4 +1,4 @@
-//! What comes of a plan.
+//! What a plan gives.
 ghost use Rattle.std.specs.Prelude.{◌≡◌, ◌-◌, ℕ, List, [], drop, length, take, IfErr, IfOk, string_bytes};
 ghost use Rattle.hfs_bag.specs.Items.{IsHead};
 ghost use Rattle.hfs_rescue_items.specs.Bytes.{GivesBytes};
@@ -17,7 +17,7 @@ use std::alloc::{AllocError, Global};
 #[derive(Drop)]
 pub(crate) struct Came {
     pub(crate) planned: Planned,
-    /// The path of the folder that holds it, with a slash behind it.
+    /// The path of the folder that holds it, followed by a slash.
     pub(crate) above: String,
     /// Its entry.
     pub(crate) name: String,
@@ -39,7 +39,7 @@ impl Came {
     }
 }
 
-/// A part of a path as a text. Error: it is none, as no part of a path that is planned.
+/// A part of a path as text. Error: it is not text, which no part of a planned path is.
 fn text_of(alloc: Global, path: &[u8], from: usize, to: usize) -> Result<String, SourceFault>
     ensures text { IfOk result (λ text. string_bytes text ≡ take (to - from) (drop from path.now)) }
     ensures fault { IfErr result (IsUntold path.now from to) }
@@ -56,7 +56,7 @@ fn text_of(alloc: Global, path: &[u8], from: usize, to: usize) -> Result<String,
     }
 }
 
-/// Whether nothing but its path is told of what is made.
+/// Whether what is made is only a path.
 fn is_alone(kind: BagKind) -> bool
     ensures { result ≡ is_alone kind }
 {
@@ -66,7 +66,7 @@ fn is_alone(kind: BagKind) -> bool
     }
 }
 
-/// A fork of the item that a part of a plan is of; None where that has no bytes.
+/// A fork of the item of a part of a plan; None if that has no bytes.
 pub(crate) fn part_fork(
     alloc: Global,
     found: &Found<'_>,
@@ -83,7 +83,7 @@ pub(crate) fn part_fork(
     Ok(fork)
 }
 
-/// How many bytes come of a fork of the item that a part of a plan is of, of whatever image.
+/// How many bytes of a fork of a planned part's item there are, whatever the image.
 fn length_of(
     alloc: Global,
     found: &Found<'_>,
@@ -99,7 +99,7 @@ fn length_of(
     }
 }
 
-/// What the item that a part of a plan is of tells of itself; None of a folder alone.
+/// What the item of a part of a plan says about itself; None for a folder alone.
 fn part_told(found: &Found<'_>, planned: Planned) -> Option<Info>
     ensures { result ≡ part_told found.now planned }
 {
@@ -110,7 +110,7 @@ fn part_told(found: &Found<'_>, planned: Planned) -> Option<Info>
     }
 }
 
-/// The Finder bytes of an item that tells this; zeros where nothing is told.
+/// The Finder bytes of an item with these facts; zeros if there are none.
 fn finder_of(told: &Option<Info>) -> [u8; 32]
     ensures { result ≡ finder_told told.now }
 {
@@ -120,7 +120,7 @@ fn finder_of(told: &Option<Info>) -> [u8; 32]
     }
 }
 
-/// When it was modified, in seconds from the beginning of 1970; None where that was before, or nothing is told.
+/// When it was modified, in seconds since the beginning of 1970; None if that was before, or isn't known.
 fn modified_of(told: &Option<Info>) -> Option<u32>
     ensures { result ≡ modified_told told.now }
 {
@@ -130,7 +130,7 @@ fn modified_of(told: &Option<Info>) -> Option<u32>
     }
 }
 
-/// What is told of what comes of a part of a plan.
+/// The head of what a part of a plan gives.
 fn head_of(alloc: Global, found: &Found<'_>, planned: Planned) -> Result<BagHead, AllocError>
     ensures { IfOk result (λ head. IsHead head (planned_item [] found.now planned)) }
 {
@@ -146,7 +146,7 @@ fn head_of(alloc: Global, found: &Found<'_>, planned: Planned) -> Result<BagHead
     })
 }
 
-/// Where it lies, and how it is called there.
+/// Where it lies, and its name there.
 fn placed(alloc: Global, found: &Found<'_>, planned: Planned) -> Result<Came, SourceFault>
     ensures above { IfOk result (λ came. string_bytes came.above ≡ above_of found.now planned) }
     ensures name { IfOk result (λ came. string_bytes came.name ≡ name_of found.now planned) }
@@ -166,7 +166,7 @@ fn placed(alloc: Global, found: &Found<'_>, planned: Planned) -> Result<Came, So
     })
 }
 
-/// What comes of a part of a plan, and what is told of it.
+/// What a part of a plan gives, and its head.
 pub(crate) fn came_of(
     alloc: Global,
     found: &Found<'_>,

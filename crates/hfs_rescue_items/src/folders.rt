@@ -8,7 +8,7 @@ use std::alloc::{AllocError, Global};
 use std::collections::BTreeSet;
 use std::marker::Model;
 
-/// The paths below the payload of the folders that are made. They are kept in their order and not by hashes, since an image chooses
+/// The paths below the payload of the folders that are made. They are kept in order and without hashing, since an image chooses
 /// them. Contracts see their list.
 #[derive(Drop)]
 pub(crate) struct Folders {
@@ -24,7 +24,7 @@ impl Model for Folders {
     ghost view = { λ s. s.paths.keys };
 }
 
-/// Whether a folder is made by what is of this kind.
+/// Whether something of this kind makes a folder.
 pub(crate) fn makes_folder(kind: BagKind) -> bool
     ensures { result ≡ makes_folder kind }
 {
@@ -35,7 +35,7 @@ pub(crate) fn makes_folder(kind: BagKind) -> bool
 }
 
 impl Folders {
-    /// No folder. Takes no memory.
+    /// No folders. Takes no memory.
     pub(crate) fn new(alloc: Global) -> Folders
         ensures { result ≡ [] }
     {
@@ -44,14 +44,14 @@ impl Folders {
         }
     }
 
-    /// Whether the folder at a path is made.
+    /// Whether the folder at a path has been made.
     pub(crate) fn has(&self, path: &Vec<u8>) -> bool
         ensures { result ≡ has_row self.now path.now }
     {
         self.paths.contains(path)
     }
 
-    /// Notes that the folder at a path is made.
+    /// Notes that the folder at a path has been made.
     fn add(&mut self, path: Vec<u8>) -> Result<(), AllocError>
         ensures { OnOk result (AddsRow path self.old self.new) }
     {
@@ -59,7 +59,7 @@ impl Folders {
         Ok(())
     }
 
-    /// Notes what is made at a path, where it is a folder.
+    /// Notes what is made at a path, if it is a folder.
     #[tactic(auto, using(crate::proofs::PlanLemmas::notes_none, crate::proofs::PlanLemmas::notes_row))]
     pub(crate) fn note(&mut self, path: Vec<u8>, kind: BagKind) -> Result<(), AllocError>
         ensures { OnOk result (NotesRow kind path self.old self.new) }

@@ -13,7 +13,7 @@ use hfs_remains::FoundFork;
 use hfs_sparse::BlockSource;
 use std::alloc::Global;
 
-/// Where reading a fork stands.
+/// How far a fork has been read.
 #[derive(Drop)]
 pub(crate) struct ForkReading {
     /// All pieces of its bytes.
@@ -32,7 +32,7 @@ pub(crate) fn empty_fork(alloc: Global) -> ForkReading
     }
 }
 
-/// Begins with a fork.
+/// Begins reading a fork.
 pub(crate) fn begin_fork(
     alloc: Global,
     mdb: &Mdb,
@@ -45,7 +45,7 @@ pub(crate) fn begin_fork(
     Ok(ForkReading { pieces, next: 0 })
 }
 
-/// Puts so many zeros in the place of a piece.
+/// Replaces a piece with `len` zeros.
 #[tactic(auto, using(crate::proofs::ReadLemmas::zeros_put))]
 fn fill_zeros(piece: &mut Vec<u8>, len: usize) -> Result<(), SourceFault>
     ensures { OnOk result (piece.new.items ≡ replicate len 0) }
@@ -57,7 +57,7 @@ fn fill_zeros(piece: &mut Vec<u8>, len: usize) -> Result<(), SourceFault>
     }
 }
 
-/// Reads so many bytes of the blocks from number `first` on in the place of a piece.
+/// Replaces a piece with bytes of the blocks from number `first` on.
 fn fill_whole<S: BlockSource>(
     source: &mut S,
     first: u32,
@@ -78,7 +78,7 @@ fn fill_whole<S: BlockSource>(
     }
 }
 
-/// Reads so many bytes from the beginning of a logical block on in the place of a piece. Their blocks are read whole.
+/// Replaces a piece with this many bytes from the beginning of a logical block on. Their blocks are read whole.
 fn fill_blocks<S: BlockSource>(
     source: &mut S,
     first: u32,
@@ -97,7 +97,7 @@ fn fill_blocks<S: BlockSource>(
     Ok(())
 }
 
-/// Reads the bytes of a piece of a fork: zeros where its blocks are missing.
+/// Reads the bytes of a piece of a fork: zeros if its blocks are missing.
 fn fill_piece<S: BlockSource>(
     source: &mut S,
     next: Piece,
@@ -114,7 +114,7 @@ fn fill_piece<S: BlockSource>(
     }
 }
 
-/// Reads the next bytes of a fork, at most 65,536, in the place of a piece, and none where none are left.
+/// Replaces a piece with the next bytes of a fork, at most 65,536, or with none at its end.
 #[tactic(auto, using(crate::proofs::ReadLemmas::reads_none, crate::proofs::ReadLemmas::fewer_none))]
 pub(crate) fn read_fork<S: BlockSource>(
     source: &mut S,

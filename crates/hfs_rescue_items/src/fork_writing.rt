@@ -1,4 +1,4 @@
-//! A fork that is written as it is read.
+//! Writing a fork while it is read.
 ghost use Rattle.std.specs.Prelude.{◌≡◌, ◌<◌, [], false, true, length, Err, IfOk, OnErr, OnOk};
 ghost use Rattle.hfs_remains.specs.ForkBytes.{fork_bytes};
 ghost use Rattle.hfs_texts.specs.Writing.{AppendsFront};
@@ -18,7 +18,7 @@ use std::io::Write;
 /// The most bytes that are read at once.
 const PIECE: usize = 65_536;
 
-/// What a fault of reading means where some bytes were written, or none.
+/// What a fault of reading means if some bytes were written, or none.
 fn copy_fault(fault: SourceFault, is_begun: bool) -> CopyFault
     ensures none { result ≡ CopyFault.ReadFailed → is_begun ≡ false }
     ensures memory { result ≡ CopyFault.Memory → is_begun ≡ false }
@@ -32,7 +32,7 @@ fn copy_fault(fault: SourceFault, is_begun: bool) -> CopyFault
     }
 }
 
-/// Reads the next bytes of a fork and writes them, and answers whether there were any.
+/// Reads the next bytes of a fork and writes them, and returns whether there were any.
 #[tactic(auto, using(crate::proofs::WritingLemmas::none_moved, crate::proofs::WritingLemmas::no_more, crate::proofs::WritingLemmas::piece_moved, crate::proofs::WritingLemmas::piece_fewer, crate::proofs::WritingLemmas::piece_front, crate::proofs::WritingLemmas::nothing_written))]
 fn write_next<S: BlockSource, W: Write>(
     source: &mut S,
@@ -67,9 +67,9 @@ fn write_next<S: BlockSource, W: Write>(
     }
 }
 
-/// Writes the bytes of a fork that was found, at most 65,536 at a time, as they are read: memory doesn't grow with them. Errors: a read
-/// failed or memory was refused, before anything was written; either behind bytes that were written (`BrokenOff`), or the writer
-/// failed: then a part of the fork may have gone out, from its first byte on, and nothing else.
+/// Writes the bytes of a fork that was found, at most 65,536 at a time, while they are read, so memory doesn't grow with them.
+/// Errors: a read failed or memory was refused, before anything was written; either, after some bytes were written (`BrokenOff`),
+/// or the writer failed: then only the beginning of the fork may have been written.
 #[tactic(auto, using(crate::proofs::WritingLemmas::begun, crate::proofs::WritingLemmas::goes_on, crate::proofs::WritingLemmas::ended_front, crate::proofs::WritingLemmas::all_written, crate::proofs::WritingLemmas::nothing_written))]
 pub fn write_fork<S: BlockSource, W: Write>(
     alloc: Global,

@@ -6,13 +6,13 @@ use hfs_places::Places;
 use hfs_remains::Salvage;
 use hfs_rescue::FoundRecord;
 
-/// What was found of an image: by its directory its items, in their order, with the place of each and what remains of their forks.
+/// What was found of an image by its directory: its items, in order, with the place of each and what remains of their forks.
 #[derive(Clone, Copy, Drop)]
 pub struct Found<'a> {
     /// The directory.
     pub mdb: &'a Mdb,
     pub items: &'a [FoundRecord],
-    /// Where the items lie, and behind them the folders that only threads name.
+    /// Where the items lie, and after them the folders that only threads name.
     pub places: &'a Places,
     /// The forks of the items.
     pub salvage: &'a Salvage<'a>,

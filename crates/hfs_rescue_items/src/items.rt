@@ -18,13 +18,13 @@ use hfs_space::ForkKind;
 use hfs_sparse::BlockSource;
 use std::alloc::{AllocError, Global};
 
-/// The items of a damaged volume below its root, one after the other, each folder where it is first wanted, and the bytes of their forks
-/// in pieces.
+/// The items of a damaged volume below its root, one after the other, each folder where it is first needed, and the bytes of
+/// their forks in pieces.
 #[derive(Drop)]
 pub struct RescueItems<'a, S: BlockSource> {
     alloc: Global,
     found: Found<'a>,
-    /// Where the image's blocks are read from.
+    /// What the image's blocks are read from.
     source: S,
     /// What is made of them.
     plan: Vec<Planned>,
@@ -34,7 +34,7 @@ pub struct RescueItems<'a, S: BlockSource> {
     reading: Reading<'a>,
 }
 
-/// A fork of the item that a part of a plan is of, from its first byte on.
+/// A fork of the item of a part of a plan, to be read from its first byte.
 #[tactic(auto, using(crate::proofs::SourceLemmas::fork_begun, crate::proofs::SourceLemmas::none_begun))]
 fn open_fork<'a>(
     alloc: Global,
@@ -68,7 +68,7 @@ fn all_lines<'a>(found: &Found<'a>) -> Lines<'a>
     }
 }
 
-/// A stream of what comes of a part of a plan, from its first byte on.
+/// A stream of what a part of a plan gives, to be read from its first byte.
 #[tactic(auto, using(crate::proofs::SourceLemmas::table_begun, crate::proofs::SourceLemmas::remains_begun))]
 fn open_stream<'a>(
     alloc: Global,
@@ -89,8 +89,8 @@ fn open_stream<'a>(
 }
 
 impl<'a, S: BlockSource + Drop> RescueItems<'a, S> {
-    /// What was found of an image, from its first item on; the bytes of forks are read from this source. The only error is want of memory, and
-    /// the source comes back.
+    /// What was found of an image, from its first item on; the bytes of forks are read from this source. Fails only when out of
+    /// memory, and then the source is handed back.
     pub fn new(alloc: Global, found: Found<'a>, source: S) -> Result<RescueItems<'a, S>, S>
         ensures found { IfOk result (λ made. made.found ≡ found.entry) }
         ensures source { IfOk result (λ made. made.source ≡ source) }

@@ -1,17 +1,17 @@
-//! What holds of the definitions, each as the contract of a function that does nothing.
+//! What holds for the definitions, each law as the contract of a function that does nothing.
 ghost use Rattle.hfs_rescue_items.specs.Laws.{FoldersComeFirst, OnlyThingsAreMade, PayloadsHaveTheirSums, PlansCountItems};
 
-/// A folder is made before what lies in it.
+/// A folder is made before what is in it.
 pub fn folders_come_first()
     ensures { FoldersComeFirst }
 {}
 
-/// Nothing is made but the things, each at its own path and of its kind, and the folders that these lie in.
+/// Only the things are made, each at its own path and of its kind, and the folders that they are in.
 pub fn only_things_are_made()
     ensures { OnlyThingsAreMade }
 {}
 
-/// What is counted of the plan is what is counted of the items: each item but the root comes once.
+/// What is counted of the plan is what is counted of the items: each item except the root comes once.
 pub fn plans_count_items()
     ensures { PlansCountItems }
 {}

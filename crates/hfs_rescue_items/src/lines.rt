@@ -10,7 +10,7 @@ use hfs_table::push_own_bag_row;
 use hfs_verdicts::push_row;
 use std::alloc::{AllocError, Global};
 
-/// The line of an item with this number in the table of what remains.
+/// The line of the item with this number in the table of what remains.
 #[tactic(auto, unfolding(crate::specs::Lines::remains_line))]
 fn remains_line(
     alloc: Global,
@@ -30,8 +30,8 @@ fn remains_line(
     Ok(line)
 }
 
-/// Appends the line of an item with this number, counted from 0, in the table of what remains: path below the payload, number, ID,
-/// what is said of both forks, with tabs between. The only error is want of memory.
+/// Appends the line of the item with this number, counted from 0, in the table of what remains: path below the payload, number,
+/// ID, and the verdicts on both forks, separated by tabs. Fails only when out of memory.
 pub fn push_remains_line(
     alloc: Global,
     text: &mut Vec<u8>,
@@ -45,7 +45,7 @@ pub fn push_remains_line(
     text.extend_from_slice(line.as_bytes())
 }
 
-/// Appends the line of an item with this number in the table of all items.
+/// Appends the line of the item with this number in the table of all items.
 #[tactic(auto, unfolding(crate::specs::Lines::item_line))]
 pub(crate) fn push_item_line(
     alloc: Global,

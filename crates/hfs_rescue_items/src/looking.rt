@@ -1,4 +1,4 @@
-//! What is looked up in what was found of an image.
+//! Looking up what was found of an image.
 ghost use Rattle.std.specs.Prelude.{◌≡◌, ℕ, List, IfOk, string_bytes};
 ghost use Rattle.hfs_remains.specs.Verdicts.{FindsFork, verdicts_at};
 ghost use Rattle.hfs_rescue_items.specs.Bytes.{GivesBytes, taken_bytes};
@@ -15,7 +15,7 @@ use hfs_space::ForkKind;
 use hfs_verdicts::Verdict;
 use std::alloc::{AllocError, Global};
 
-/// The characters of a name, in a field where they stand behind their number.
+/// The characters of a name, from a field with their number before them.
 pub fn field_name(field: &[u8]) -> &[u8]
     ensures { result.now ≡ field_name field.now }
 {
@@ -39,8 +39,8 @@ fn volume_name(mdb: &Mdb) -> Name
     name
 }
 
-/// The names that lead to a thing, from the root's down, which lies at this path below the payload; none below `=old` and `=lost`, nor where
-/// there is no such thing. The only error is want of memory.
+/// The names that lead to a thing, from the root's down, given its path below the payload; None below `=old` and `=lost`, and if
+/// there is no such thing. Fails only when out of memory.
 pub fn names_at(
     alloc: Global,
     places: &Places,
@@ -58,8 +58,8 @@ pub fn names_at(
 }
 
 impl Found<'_> {
-    /// The path below the payload of an item, or behind the items of a named folder; no text where there is none. The only error is want of
-    /// memory.
+    /// The path below the payload of an item, or, after the items, of a named folder; not text if there is none. Fails only when
+    /// out of memory.
     pub fn path(&self, alloc: Global, i: usize) -> Result<String, AllocError>
         ensures { IfOk result (λ path. string_bytes path ≡ path_at self.now.places.now i) }
     {
@@ -69,7 +69,7 @@ impl Found<'_> {
         self.places.payload_path(alloc, i)
     }
 
-    /// What an item tells of itself; None where there is no such item.
+    /// What an item says about itself; None if there is no such item.
     #[tactic(auto, using(crate::proofs::ToldLemmas::told_past, crate::proofs::ToldLemmas::told_there))]
     pub(crate) fn told(&self, i: usize) -> Option<Info>
         ensures { result ≡ told_at self.now.items.now i }
@@ -81,7 +81,7 @@ impl Found<'_> {
         told_of(item)
     }
 
-    /// A fork of an item; None of a folder, and where there is no such item. The only error is want of memory.
+    /// A fork of an item; None for a folder, and if there is no such item. Fails only when out of memory.
     #[tactic(auto, using(crate::proofs::ForkLemmas::gives_bytes, crate::proofs::ForkLemmas::past_bytes))]
     pub fn fork(
         &self,
@@ -100,7 +100,7 @@ impl Found<'_> {
         Ok(found)
     }
 
-    /// What is said of both forks of an item; None of a folder, and where there is no such item.
+    /// The verdicts on both forks of an item; None for a folder, and if there is no such item.
     pub(crate) fn verdicts(
         &self,
         alloc: Global,

@@ -1,10 +1,10 @@
 //! Blocks of a fork that are read at once.
 ghost use Rattle.std.specs.Prelude.{◌≤◌};
 
-/// Bytes of a fork that stand side by side in the image, or whose blocks are missing.
+/// Bytes of a fork that are next to each other in the image, or whose blocks are missing.
 #[derive(Clone, Copy)]
 pub(crate) struct Piece {
-    /// The number of the logical block in which they begin; None where their blocks are missing.
+    /// The number of the logical block in which they begin; None if their blocks are missing.
     pub(crate) first: Option<u32>,
     /// How many there are.
     pub(crate) len: u32,

@@ -13,7 +13,7 @@ use std::alloc::{AllocError, Global};
 /// The most bytes that are read at once.
 const MOST_AT_ONCE: u32 = 65_536;
 
-/// The number of the logical block behind so many bytes from a block on; None where they end within one.
+/// The number of the logical block after `len` bytes from a block on; None if they end within one.
 fn block_behind(first: u32, len: u32) -> Option<u32>
     ensures { IfSome result (λ next. 512 * next ≡ 512 * first + len) }
 {
@@ -23,7 +23,7 @@ fn block_behind(first: u32, len: u32) -> Option<u32>
     first.checked_add(len / 512)
 }
 
-/// Whether what begins in this logical block, or is missing, goes on where a piece ends.
+/// Whether what begins in this logical block, or is missing, continues where a piece ends.
 #[tactic(auto, using(crate::proofs::PieceLemmas::missing_goes_on, crate::proofs::PieceLemmas::block_goes_on))]
 fn goes_on(piece: &Piece, first: Option<u32>) -> bool
     ensures { result ≡ true → GoesOn piece.now.first piece.now.len first }
@@ -35,7 +35,8 @@ fn goes_on(piece: &Piece, first: Option<u32>) -> bool
     }
 }
 
-/// A piece and so many bytes that begin in this logical block, or are missing, as one piece; None where they aren't side by side, or are too many.
+/// A piece, and bytes that begin in this logical block or are missing, as one piece; None if they aren't next to each other, or
+/// are too many.
 fn joined(piece: Piece, first: Option<u32>, len: u32) -> Option<Piece>
     ensures { IfSome result (λ both. (image : List ℕ) → piece_bytes image both
         ≡ piece_bytes image piece ++ first_bytes image first len) }
@@ -49,7 +50,8 @@ fn joined(piece: Piece, first: Option<u32>, len: u32) -> Option<Piece>
     })
 }
 
-/// Appends so many bytes that begin in this logical block, or are missing: to the last piece where they go on there, or as a piece of their own.
+/// Appends bytes that begin in this logical block, or are missing: to the last piece if they continue it, or as a piece of their
+/// own.
 #[tactic(auto, using(crate::proofs::PieceLemmas::first_pushed, crate::proofs::PieceLemmas::last_joined, crate::proofs::PieceLemmas::last_kept))]
 fn push_part(pieces: &mut Vec<Piece>, first: Option<u32>, len: u32) -> Result<(), AllocError>
     requires some { 1 ≤ len }
@@ -71,7 +73,7 @@ fn push_part(pieces: &mut Vec<Piece>, first: Option<u32>, len: u32) -> Result<()
     Ok(())
 }
 
-/// The logical block behind 65,536 bytes that begin in this one; None where they are missing. Error: there is no such block.
+/// The logical block after 65,536 bytes that begin in this one; None if they are missing. Error: there is no such block.
 #[tactic(auto, using(crate::proofs::PieceLemmas::missing_goes_on, crate::proofs::PieceLemmas::block_goes_on))]
 fn first_behind(first: Option<u32>, len: u32) -> Result<Option<u32>, SourceFault>
     requires { len ≤ 65536 }
@@ -86,7 +88,7 @@ fn first_behind(first: Option<u32>, len: u32) -> Result<Option<u32>, SourceFault
     }
 }
 
-/// Appends so many bytes that begin in this logical block, or are missing.
+/// Appends bytes that begin in this logical block, or are missing.
 fn push_run(pieces: &mut Vec<Piece>, first: Option<u32>, count: u32) -> Result<(), SourceFault>
     ensures { (image : List ℕ) → OnOk result (pieces_bytes image pieces.new.items
         ≡ pieces_bytes image pieces.old.items ++ first_bytes image first count) }
@@ -105,7 +107,7 @@ fn push_run(pieces: &mut Vec<Piece>, first: Option<u32>, count: u32) -> Result<(
     Ok(())
 }
 
-/// The logical block in which an allocation block begins; None where it is missing. Error: there is no such block.
+/// The logical block in which an allocation block begins; None if it is missing. Error: there is no such block.
 fn first_of(mdb: &Mdb, place: Option<u16>) -> Result<Option<u32>, SourceFault>
     ensures { IfOk result (λ first. first ≡ option_map (start_of mdb.now) place) }
 {
@@ -120,7 +122,7 @@ fn first_of(mdb: &Mdb, place: Option<u16>) -> Result<Option<u32>, SourceFault>
     }
 }
 
-/// Appends the first bytes of the block at a place of a fork, so many.
+/// Appends the first bytes of the block at a place of a fork.
 fn push_place(
     pieces: &mut Vec<Piece>,
     mdb: &Mdb,
@@ -135,7 +137,8 @@ fn push_place(
     push_run(pieces, first, count)
 }
 
-/// So many bytes of a fork in these blocks, in pieces. Errors: memory was refused; a block lies behind all that can be read.
+/// The first bytes of a fork in these blocks, in pieces. Errors: memory was refused; a block lies past everything that can be
+/// read.
 #[tactic(auto, using(hfs_remains::proofs::ForkByteLemmas::fork_whole))]
 pub(crate) fn pieces_of(
     alloc: Global,

@@ -1,4 +1,4 @@
-//! Which folders and files are made of what was found, in their order.
+//! Which folders and files are made of what was found, in order.
 ghost use Rattle.std.specs.Prelude.{◌≡◌, ◌+◌, ◌<◌, ◌^◌, if◌then◌else◌, ◌==◌, None, Some, IfOk, OnOk};
 ghost use Rattle.std.specs.List.{fold};
 ghost use Rattle.hfs_remains.specs.Verdicts.{shares_at};
@@ -17,22 +17,22 @@ use std::alloc::{AllocError, Global};
 /// What is made of a part of a thing's path.
 #[derive(Clone, Copy)]
 pub(crate) struct Planned {
-    /// The number of the item; that of a named folder is behind those of the items.
+    /// The number of the item; those of named folders are after those of the items.
     pub(crate) place: usize,
-    /// The bytes of its path between which the name stands of what is made.
+    /// The bytes of its path between which the name is of what is made.
     pub(crate) from: usize,
     pub(crate) to: usize,
     pub(crate) kind: BagKind,
 }
 
-/// What is planned so far, and the folders that it makes.
+/// What has been planned so far, and the folders that it makes.
 #[derive(Drop)]
 struct Plan {
     parts: Vec<Planned>,
     folders: Folders,
 }
 
-/// The part before the first byte of a thing's path: a folder whose name is to come.
+/// The part before the first byte of a thing's path: a folder whose name is still to come.
 fn first_part(place: usize) -> Planned
     ensures { result ≡ spec.first_part place }
 {
@@ -44,14 +44,14 @@ fn first_part(place: usize) -> Planned
     }
 }
 
-/// Where the name begins that goes on behind a byte: there, where this is a slash.
+/// Where the name begins that continues after a byte: there, if the byte is a slash.
 fn from_behind(byte: u8, from: usize, to: usize) -> usize
     ensures { result ≡ if byte == 47 then to else from }
 {
     if byte == b'/' { to } else { from }
 }
 
-/// A part and one more byte of the path: behind a slash another name begins.
+/// A part and one more byte of the path: after a slash another name begins.
 #[tactic(auto, unfolding(crate::specs::Plan::part_behind))]
 fn part_behind(part: Planned, byte: u8) -> Planned
     requires { part.to < 2 ^ 63 }
@@ -89,7 +89,7 @@ fn path_of(alloc: Global, found: &Found<'_>, part: Planned) -> Result<Vec<u8>, A
     Ok(path)
 }
 
-/// Plans a folder, where it isn't made yet.
+/// Plans a folder, if it hasn't been planned yet.
 #[tactic(auto, using(crate::proofs::PlanLemmas::folder_there, crate::proofs::PlanLemmas::folder_put, crate::proofs::PlanLemmas::knows_more))]
 fn plan_folder(
     alloc: Global,
@@ -112,7 +112,7 @@ fn plan_folder(
     Ok(())
 }
 
-/// Plans the folder that ends before a byte of a path, where this is a slash and the folder isn't made yet.
+/// Plans the folder that ends before a byte of a path, if the byte is a slash and the folder hasn't been planned yet.
 #[tactic(auto, unfolding(crate::specs::Plan::folder_before))]
 fn plan_before(
     alloc: Global,
@@ -134,7 +134,7 @@ fn plan_before(
     Ok(())
 }
 
-/// Plans the folders that a path lies in and that are not made yet, from the top down.
+/// Plans the folders that a path is in and that haven't been planned yet, from the top down.
 #[tactic(auto, using(crate::proofs::PlanLemmas::folders_more))]
 fn plan_folders(
     alloc: Global,
@@ -159,7 +159,7 @@ fn plan_folders(
     Ok(())
 }
 
-/// Whether the folder is made that a part lies in directly. The payload is.
+/// Whether the folder that a part is in directly has been made. The payload has.
 fn is_above_made(
     alloc: Global,
     found: &Found<'_>,
@@ -180,8 +180,8 @@ fn is_above_made(
     Ok(plan.folders.has(&path))
 }
 
-/// Plans the folders that the path of a thing lies in, the last part of which this is, where they are not made yet. Where the last is,
-/// so are all.
+/// Plans the folders that the path of a thing is in, given its last part, if they haven't been planned yet. If the last one has,
+/// so have all.
 #[tactic(auto, using(crate::proofs::AboveLemmas::all_made))]
 fn plan_above(
     alloc: Global,
@@ -207,7 +207,7 @@ fn plan_above(
     Ok(())
 }
 
-/// What is made of a folder, which was made before or not.
+/// What is made of a folder, which has been made before or not.
 fn folder_kind(is_made: bool) -> BagKind
     ensures { result ≡ if is_made then BagKind.DoubleAlone else BagKind.Folder }
 {
@@ -218,7 +218,7 @@ fn folder_kind(is_made: bool) -> BagKind
     }
 }
 
-/// What is made of a file, of whose data fork this is said.
+/// What is made of a file, given the verdict on its data fork.
 fn kind_by(verdict: &Verdict) -> BagKind
     ensures { result ≡ spec.kind_by verdict.now }
 {
@@ -239,7 +239,7 @@ fn file_kind(alloc: Global, found: &Found<'_>, i: usize) -> Result<BagKind, Allo
     }
 }
 
-/// What is made of an item, which is a folder that was made before or not, or a file.
+/// What is made of an item, which is a folder that has been made before or not, or a file.
 fn item_kind(
     alloc: Global,
     found: &Found<'_>,
@@ -257,7 +257,7 @@ fn item_kind(
     Ok(kind)
 }
 
-/// What is made of a named folder, which was made before or not.
+/// What is made of a named folder, which has been made before or not.
 fn named_kind(is_made: bool) -> Option<BagKind>
     ensures { result ≡ if is_made then None else Some BagKind.FolderAlone }
 {
@@ -268,7 +268,7 @@ fn named_kind(is_made: bool) -> Option<BagKind>
     }
 }
 
-/// What is made of a thing at its own path, where a folder was made before or not; None of a named folder that was.
+/// What is made of a thing at its own path, where a folder has been made before or not; None for a named folder that has.
 #[tactic(auto, using(crate::proofs::PlanLemmas::named_own, crate::proofs::PlanLemmas::item_own))]
 fn own_kind(
     alloc: Global,
@@ -310,7 +310,7 @@ fn plan_own(
     Ok(())
 }
 
-/// Plans what is made of a thing; nothing of the root, whose path is empty.
+/// Plans what is made of a thing; nothing for the root, whose path is empty.
 #[tactic(auto, using(crate::proofs::PlanLemmas::root_planned, crate::proofs::PlanLemmas::thing_planned))]
 fn plan_thing(alloc: Global, found: &Found<'_>, plan: &mut Plan, i: usize) -> Result<(), AllocError>
     requires knows { spec.KnowsFolders found.now plan.old.parts.items plan.old.folders }
@@ -331,8 +331,8 @@ fn plan_thing(alloc: Global, found: &Found<'_>, plan: &mut Plan, i: usize) -> Re
     Ok(())
 }
 
-/// What is made of all that was found: of each item in order what it is, each folder where it is first wanted, and the named folders
-/// behind them. The only error is want of memory.
+/// What is made of everything that was found: of each item in order what it is, each folder where it is first needed, and then
+/// the named folders. Fails only when out of memory.
 #[tactic(auto, using(crate::proofs::PlanLemmas::plan_begun, crate::proofs::PlanLemmas::thing_more, crate::proofs::PlanLemmas::plan_ends, crate::proofs::PlanLemmas::knows_none, crate::proofs::PlanLemmas::all_none))]
 pub(crate) fn plan_of(alloc: Global, found: &Found<'_>) -> Result<Vec<Planned>, AllocError>
     ensures { IfOk result (λ plan. plan.items ≡ spec.whole_plan found.now) }

@@ -1,4 +1,4 @@
-//! What of a source is being read.
+//! What is being read from a source.
 ghost use Rattle.std.specs.Prelude.{◌≡◌, ◌++◌, [], IfErr, OnOk};
 ghost use Rattle.hfs_table.specs.Lines.{bag_head};
 ghost use Rattle.hfs_source.specs.Images.{OfEach};
@@ -15,7 +15,7 @@ use hfs_sparse::BlockSource;
 use hfs_table::push_bag_head;
 use std::alloc::Global;
 
-/// From how many bytes of text on a piece is whole.
+/// A piece of text with at least this many bytes is whole.
 const PIECE: usize = 65_536;
 
 /// The stream that is being read.
@@ -30,7 +30,7 @@ pub(crate) enum Reading<'a> {
     Remains(Lines<'a>),
 }
 
-/// Puts lines of the table of all items behind a piece, until it is whole or there are none.
+/// Appends lines of the table of all items to a piece, until it is whole or there are none.
 #[tactic(auto, using(crate::proofs::LineLemmas::line_more, crate::proofs::LineLemmas::lines_none, crate::proofs::LineLemmas::lines_whole))]
 fn push_items(
     alloc: Global,
@@ -57,7 +57,7 @@ fn push_items(
     Ok(())
 }
 
-/// Puts lines of the table of what remains behind a piece, until it is whole or there are none.
+/// Appends lines of the table of what remains to a piece, until it is whole or there are none.
 #[tactic(auto, using(crate::proofs::LineLemmas::line_more, crate::proofs::LineLemmas::lines_none, crate::proofs::LineLemmas::lines_whole))]
 fn push_remains(
     alloc: Global,
@@ -84,7 +84,7 @@ fn push_remains(
     Ok(())
 }
 
-/// Puts the head of the table of all items in the place of a piece, which is empty.
+/// Replaces a piece, which is empty, with the head of the table of all items.
 fn push_table_head(piece: &mut Vec<u8>) -> Result<(), SourceFault>
     ensures head { OnOk result (piece.new.items ≡ piece.old.items ++ bag_head) }
     ensures fault { IfErr result WantsMemory }
@@ -95,7 +95,7 @@ fn push_table_head(piece: &mut Vec<u8>) -> Result<(), SourceFault>
     }
 }
 
-/// Reads the next bytes of a stream in the place of a piece, and none where none are left.
+/// Replaces a piece with the next bytes of a stream, or with none at its end.
 #[tactic(auto, using(crate::proofs::LineLemmas::lines_fewer))]
 pub(crate) fn read_next<'a, S: BlockSource>(
     alloc: Global,

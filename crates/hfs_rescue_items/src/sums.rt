@@ -23,13 +23,13 @@ pub struct FoundSums {
     pub files: u64,
     /// The folders without the root.
     pub folders: u64,
-    /// The bytes of the payload, and 2^64 - 1 where these are more.
+    /// The bytes of the payload, or 2^64 - 1 if there are more.
     pub bytes: u64,
-    /// The files both of whose forks are whole.
+    /// The files whose forks are both whole.
     pub whole: u64,
 }
 
-/// Whether an item is a folder of the root's number in the root's place.
+/// Whether an item is a folder with the root's number in the root's place.
 fn is_root(item: &FoundRecord) -> bool
     ensures { result ≡ is_root (thing_of item.now) }
 {
@@ -37,7 +37,7 @@ fn is_root(item: &FoundRecord) -> bool
     is_folder(body) && item_id(body) == Some(2) && item.entry.key().parent == 1
 }
 
-/// The place of the root among items, the first such; None where it is lost.
+/// The place of the root among items, the first such; None if it is lost.
 fn root_of(items: &[FoundRecord]) -> Option<usize>
     ensures { result ≡ spec.root_of items.now }
 {
@@ -78,7 +78,7 @@ fn folder_sums() -> FoundSums
     }
 }
 
-/// 1 where both forks of a file are whole, else 0.
+/// 1 if both forks of a file are whole, else 0.
 fn whole_number(data: &FoundFork, resource: &FoundFork) -> u64
     ensures { result ≡ if is_whole data.now.verdict && is_whole resource.now.verdict then 1 else 0 }
 {
@@ -105,7 +105,7 @@ fn file_sums(data: &FoundFork, resource: &FoundFork) -> FoundSums
     }
 }
 
-/// What item `i` counts, which is not the root.
+/// What item `i`, which is not the root, counts.
 #[tactic(auto, using(crate::proofs::SumLemmas::folder_counts, crate::proofs::SumLemmas::file_counts))]
 fn item_sums(alloc: Global, found: &Found<'_>, i: usize) -> Result<FoundSums, AllocError>
     ensures { IfOk result (spec.Counts found.now i) }
@@ -119,7 +119,7 @@ fn item_sums(alloc: Global, found: &Found<'_>, i: usize) -> Result<FoundSums, Al
     Ok(file_sums(&data, &resource))
 }
 
-/// What item `i` counts; nothing where it is the root.
+/// What item `i` counts; nothing if it is the root.
 #[tactic(auto, using(crate::proofs::SumLemmas::root_counts, crate::proofs::SumLemmas::other_counts))]
 fn sums_at(
     alloc: Global,
@@ -137,7 +137,7 @@ fn sums_at(
     Ok(sums)
 }
 
-/// Two sums together.
+/// Two sums added.
 fn added(sums: FoundSums, more: FoundSums) -> FoundSums
     requires files { sums.files + more.files < 2 ^ 64 }
     requires folders { sums.folders + more.folders < 2 ^ 64 }
@@ -155,7 +155,7 @@ fn added(sums: FoundSums, more: FoundSums) -> FoundSums
     }
 }
 
-/// How much remains of all items. The only error is want of memory.
+/// How much remains of all items. Fails only when out of memory.
 #[tactic(auto, using(crate::proofs::SumLemmas::none_first, crate::proofs::SumLemmas::one_more, crate::proofs::SumLemmas::sums_are))]
 pub fn sums_of(alloc: Global, found: &Found<'_>) -> Result<FoundSums, AllocError>
     ensures { IfOk result (spec.AreSums found.now) }

@@ -1,4 +1,4 @@
-//! What an item's own record tells of it.
+//! What an item's own record says about it.
 ghost use Rattle.std.specs.Prelude.{◌≡◌, ◌++◌, false};
 ghost use Rattle.hfs_queries.specs.Told.{file_info, folder_info};
 ghost use Rattle.hfs_rescue_items.specs.Found.{info_of, told};
@@ -8,7 +8,7 @@ use hfs_fields::{CatKey, DirRecord, FileRecord};
 use hfs_model::{Info, ItemKind};
 use hfs_rescue::FoundRecord;
 
-/// The 32 Finder bytes of an item, which stand in two places of its record.
+/// The 32 Finder bytes of an item, which are in two places of its record.
 fn finder_bytes(info: &[u8; 16], extended: &[u8; 16]) -> [u8; 32]
     ensures { result ≡ info.now ++ extended.now }
 {
@@ -18,7 +18,7 @@ fn finder_bytes(info: &[u8; 16], extended: &[u8; 16]) -> [u8; 32]
     all
 }
 
-/// What is told of a folder.
+/// What is known of a folder.
 #[tactic(auto, unfolding(hfs_queries::specs::Told::folder_info))]
 fn folder_info(key: CatKey, folder: &DirRecord) -> Info
     ensures { result ≡ folder_info key folder.now }
@@ -40,7 +40,7 @@ fn folder_info(key: CatKey, folder: &DirRecord) -> Info
     }
 }
 
-/// What is told of a file, whose thread is not looked for.
+/// What is known of a file, whose thread is not looked for.
 #[tactic(auto, unfolding(hfs_queries::specs::Told::file_info))]
 fn file_info(key: CatKey, file: &FileRecord) -> Info
     ensures { result ≡ file_info false key file.now }
@@ -62,7 +62,7 @@ fn file_info(key: CatKey, file: &FileRecord) -> Info
     }
 }
 
-/// What is told of an item of a catalog by its own record.
+/// What the own record of a catalog's item says about it.
 fn info_of(item: &CatalogItem) -> Info
     ensures { result ≡ info_of item.now }
 {
@@ -72,7 +72,7 @@ fn info_of(item: &CatalogItem) -> Info
     }
 }
 
-/// What is told of an item by its own record; None of any other record.
+/// What its own record says about an item; None for any other record.
 pub fn told_of(found: &FoundRecord) -> Option<Info>
     ensures { result ≡ told found.now }
 {

@@ -1,4 +1,4 @@
-//! The folder of a number.
+//! The folder with a number.
 ghost use Rattle.std.specs.Prelude.{◌≡◌};
 ghost use Rattle.hfs_places.specs.Folders.{place_of, thing_at};
 ghost use Rattle.hfs_places.specs.Paths as paths;
@@ -6,7 +6,7 @@ ghost use Rattle.hfs_rescue_rows.specs.Folders as spec;
 
 use hfs_places::Thing;
 
-/// The number of thing `k`, where it is a folder.
+/// The number of thing `k`, if it is a folder.
 pub(crate) fn folder_number(things: &[Thing], k: usize) -> Option<u32>
     ensures { result ≡ (thing_at things.now k).folder }
 {
@@ -33,7 +33,7 @@ fn place_of(things: &[Thing], number: u32) -> Option<usize>
     things.iter().position(|thing| thing.folder == Some(number))
 }
 
-/// The place of the folder of a number.
+/// The place of the folder with a number.
 fn home_of(things: &[Thing], number: u32) -> Option<usize>
     ensures { result ≡ spec.home_of things.now number }
 {
@@ -44,8 +44,8 @@ fn home_of(things: &[Thing], number: u32) -> Option<usize>
     }
 }
 
-/// The number whose folder thing `k` is, counted from 0: in it the items lie that have this parent. None of a file, and of a folder whose
-/// number an earlier one has.
+/// The number whose folder thing `k`, counted from 0, is: items with this parent are in it. None for a file, and for a folder
+/// whose number an earlier one has.
 pub fn home_number(things: &[Thing], k: usize) -> Option<u32>
     ensures { result ≡ spec.home_number things.now k }
 {

@@ -11,9 +11,9 @@ use hfs_sparse::{BlockSource, CopyFault};
 use std::alloc::Global;
 use std::io::Write;
 
-/// Writes the bytes that are taken of a fork of item `i`, counted from 0, and answers whether it is whole: zeros stand in the place of
-/// missing blocks, and a fork that is left has no bytes. None of a folder, which has no forks: then nothing is written. Errors: as
-/// [`write_fork`] has them.
+/// Writes the bytes that are taken of a fork of item `i`, counted from 0, and returns whether it is whole. Zeros are in place of
+/// missing blocks, and a fork that is left out has no bytes. None for a folder, which has no forks; then nothing is written.
+/// Errors: as for [`write_fork`].
 #[tactic(auto, using(crate::proofs::ForkLemmas::none_whole, crate::proofs::ForkLemmas::found_whole, crate::proofs::ForkLemmas::none_written, crate::proofs::ForkLemmas::fork_written, crate::proofs::ForkLemmas::fork_front, crate::proofs::ForkLemmas::nothing_front))]
 pub fn write_item_fork<S: BlockSource, W: Write>(
     alloc: Global,

@@ -1,4 +1,4 @@
-//! What remains of a damaged volume, as the reading words show it: rows, paths and forks.
+//! What remains of a damaged volume, as the words that read show it: rows, paths and forks.
 #![tactic(auto)]
 
 mod folders;

@@ -65,7 +65,7 @@ fn end_at(found: &Found<'_>, k: usize) -> PathEnd
     }
 }
 
-/// What a path leads to that is read as the rows print it: the first item that has it. The only error is want of memory.
+/// What a path leads to, read as the rows print it: the first item that has it. Fails only when out of memory.
 #[tactic(auto, unfolding(crate::specs::Paths::path_end))]
 pub fn path_end(alloc: Global, found: &Found<'_>, path: &str) -> Result<PathEnd, AllocError>
     ensures { IfOk result (λ end. end ≡ spec.path_end found.now path.now) }

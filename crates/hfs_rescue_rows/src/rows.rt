@@ -13,9 +13,9 @@ use std::alloc::{AllocError, Global};
 /// Which items' rows are shown.
 #[derive(Clone, Copy)]
 pub enum Selection {
-    /// Those of all, in this format.
+    /// Those of all items, in this format.
     All(Format),
-    /// Those that lie in the folder of this number, with tabs; none where there is no number.
+    /// Those of items in the folder with this number, with tabs; none if there is no number.
     InFolder(Option<u32>),
 }
 
@@ -47,7 +47,7 @@ fn push_found_row(
     push_own_row(alloc, text, format, &names, &info)
 }
 
-/// Whether an item lies in the folder of a number, by the names that lead to it and what it tells.
+/// Whether an item is in the folder with a number, from the names that lead to it and what it says.
 fn lies_in(home: Option<u32>, names: &[Name], info: &Info) -> bool
     ensures { result ≡ spec.lies_in home names.now info.now }
 {
@@ -57,7 +57,7 @@ fn lies_in(home: Option<u32>, names: &[Name], info: &Info) -> bool
     }
 }
 
-/// Appends the row of item `i` where it lies in the folder of a number.
+/// Appends the row of item `i` if it is in the folder with a number.
 #[tactic(auto, unfolding(crate::specs::Rows::child_row))]
 fn push_child_row(
     alloc: Global,
@@ -80,7 +80,7 @@ fn push_child_row(
     push_own_row(alloc, text, Format::Tab, &names, &info)
 }
 
-/// Appends the row of item `i`, where it is selected.
+/// Appends the row of item `i`, if it is selected.
 pub(crate) fn push_selected_row(
     alloc: Global,
     text: &mut Vec<u8>,
@@ -98,7 +98,7 @@ pub(crate) fn push_selected_row(
     }
 }
 
-/// Appends what stands before the first row.
+/// Appends what precedes the first row.
 pub(crate) fn push_selected_head(text: &mut Vec<u8>, selection: Selection) -> Result<(), AllocError>
     ensures { OnOk result (text.new.items ≡ text.old.items ++ spec.selected_head selection) }
 {

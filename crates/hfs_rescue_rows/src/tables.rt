@@ -24,7 +24,7 @@ pub enum TableFault {
     OutputFailed,
 }
 
-/// Writes a text, and begins the next one.
+/// Writes a text, and empties it for the next one.
 fn put_piece<W: Write>(writer: &mut W, text: &mut Vec<u8>) -> Result<(), TableFault>
     ensures written { OnOk result (Appends (W.contents writer.old) (W.contents writer.new) text.old.items) }
     ensures empty { OnOk result (text.new.items ≡ []) }
@@ -38,7 +38,7 @@ fn put_piece<W: Write>(writer: &mut W, text: &mut Vec<u8>) -> Result<(), TableFa
     Ok(())
 }
 
-/// Gathers the row of item `i` behind a text, where it is selected, and writes that where it has become long.
+/// Appends the row of item `i` to a text, if it is selected, and writes the text if it has become long.
 #[tactic(auto, using(crate::proofs::GatherLemmas::row_kept, crate::proofs::GatherLemmas::row_out, crate::proofs::GatherLemmas::nothing_out))]
 fn gather_row<W: Write>(
     alloc: Global,
@@ -74,8 +74,8 @@ fn head(alloc: Global, selection: Selection) -> Result<Vec<u8>, TableFault>
     }
 }
 
-/// Writes the rows of what was found that are selected, in the order of the items, in pieces of 65,536 bytes and a row. Errors: memory was
-/// refused, the writer failed; then a part may have gone out, from the beginning on, and nothing else.
+/// Writes those rows of what was found that are selected, in the order of the items, in pieces of 65,536 bytes and a row. Errors:
+/// memory was refused, the writer failed; then only the beginning may have been written.
 pub fn write_rows<W: Write>(
     alloc: Global,
     writer: &mut W,

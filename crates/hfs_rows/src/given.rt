@@ -1,5 +1,4 @@
-//! What a taker was given, for proofs alone: it takes no memory, and its methods do nothing when they
-//! run.
+//! What a taker was given, for proofs only: it takes no memory, and its methods do nothing at run time.
 ghost use Rattle.std.specs.Prelude.{◌≡◌, List, []};
 ghost use Rattle.std.specs.Borrow.{ftrue};
 ghost use Rattle.hfs_rows.specs.Taken.{TakenRow};
@@ -20,23 +19,23 @@ impl Model for Given {
 /// A row, as one call gives it.
 #[derive(Clone, Copy, Drop)]
 pub struct GivenRow<'a> {
-    /// Whose row it is.
+    /// The table that it belongs to.
     pub table: Table,
-    /// What stands in its columns.
+    /// The values of its columns.
     pub values: &'a [RowValue],
 }
 
 impl Given {
     ghost use Rattle.hfs_rows.specs.GivenRows.{with_given};
 
-    /// Nothing was given.
+    /// The list in which nothing was given.
     pub fn new() -> Given
         ensures { result.rows ≡ [] }
     {
         Given {}
     }
 
-    /// What was given, and then this.
+    /// The list with one more row.
     pub fn then(&self, _row: &GivenRow<'_>) -> Given
         ensures { result.rows ≡ with_given self.now.rows _row.now }
     {

@@ -1,4 +1,4 @@
-//! Takers of rows: where a list of rows goes, one behind the other.
+//! Takers of rows: where rows go, one after the other.
 #![tactic(auto)]
 
 mod fault;

@@ -34,7 +34,7 @@ impl MemoryTaker {
     }
 }
 
-/// A copy of a value. The only error is want of memory.
+/// A copy of a value. Fails only when out of memory.
 fn copied(alloc: Global, value: &RowValue) -> Result<RowValue, AllocError>
     ensures { IfOk result (λ copy. copy ≡ value.now) }
 {
@@ -45,7 +45,7 @@ fn copied(alloc: Global, value: &RowValue) -> Result<RowValue, AllocError>
     }
 }
 
-/// Copies of values. The only error is want of memory.
+/// Copies of values. Fails only when out of memory.
 fn all_copied(alloc: Global, values: &[RowValue]) -> Result<Vec<RowValue>, AllocError>
     ensures { IfOk result (λ copies. copies.items ≡ values.now) }
 {

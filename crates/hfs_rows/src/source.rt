@@ -4,10 +4,10 @@ ghost use Rattle.hfs_rows.specs.Taken.{TakenRow};
 
 use crate::taker::RowTaker;
 
-/// What has rows for a taker. Contracts know a source by the rows that it gives: how the list of a taker that was given
-/// all of them stands to the one before. Giving them may read the source, so they are told by what it was and what it is then.
+/// What has rows for a taker. Contracts see a source as the rows that it gives: how the list of a taker changes when it is given
+/// all of them. Giving them may read the source, so they are stated by the source before and after.
 pub trait RowSource {
-    /// What is told of the rows, once all are given.
+    /// What is known of the rows once all are given.
     type Told: Copy;
 
     /// Why they were not all given.
@@ -17,10 +17,10 @@ pub trait RowSource {
 
     ghost Tells: { Self → Self → Self.Told → Type 0 };
 
-    /// Which fault may be told.
+    /// Which fault may be returned.
     ghost Fails: { Self → Self → Self.Fault → Type 0 };
 
-    /// Gives a taker all rows, in their order.
+    /// Gives a taker all rows, in order.
     fn give<T: RowTaker>(&mut self, taker: &mut T) -> Result<Self::Told, Self::Fault>
         ensures whole { OnOk result (Gives self.old self.new (T.given taker.old) (T.given taker.new)) }
         ensures told { IfOk result (Tells self.old self.new) }

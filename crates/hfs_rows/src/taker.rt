@@ -6,9 +6,9 @@ ghost use Rattle.hfs_rows.specs.Taken.{TakenRow, with_row};
 use crate::fault::TakerFault;
 use crate::value::{RowValue, Table};
 
-/// What takes the rows of a collection, one behind the other: a volume is of the image that came last, an item of the
-/// volume that came last. Contracts know a taker by the list of what it was given; by the name of the reference through which
-/// it writes, where it has one, and by its place, which no row changes.
+/// What takes the rows of a collection, one after the other: a volume belongs to the image that came last, an item to the volume
+/// that came last. Contracts see a taker as the list of what it was given; the name of the reference through which it writes, if
+/// it has one; and its place, which no row changes.
 pub trait RowTaker {
     ghost given: { Self → List TakenRow };
 

@@ -7,13 +7,13 @@ use hfs_model::OwnedBytes;
 pub enum Table {
     /// Files in which volumes lie.
     Image,
-    /// Volumes, each of the image that came last.
+    /// Volumes, each in the image that came last.
     Volume,
-    /// Files and folders, each of the volume that came last.
+    /// Files and folders, each on the volume that came last.
     Item,
 }
 
-/// What stands in a column of a row.
+/// The value of a column of a row.
 #[derive(Drop)]
 pub enum RowValue {
     /// Nothing.

@@ -20,7 +20,7 @@ fn push_viewer(text: &mut String, number: u32) -> Result<(), AllocError>
     number.push_to(text)
 }
 
-/// A caller, by its text: a worker's number, or `v` and a viewer's.
+/// A caller as text: a worker's number, or `v` and a viewer's number.
 #[derive(Drop)]
 pub(crate) struct ShownCaller(pub(crate) Caller);
 
@@ -36,7 +36,7 @@ impl Show for ShownCaller {
     }
 }
 
-// Appends the line of a call without a reply, which has the code `none`.
+// Appends the line of a call without a reply, whose code is `none`.
 #[tactic(auto, unfolding(crate::specs::Answers::answer_text))]
 fn push_unanswered(text: &mut String, asked: Asked) -> Result<(), AllocError>
     ensures { OnOk result (Gains text.old text.new (answer_text asked None)) }
@@ -63,7 +63,7 @@ pub(crate) fn push_answer_text(
     }
 }
 
-/// The lines of all answers, in the script's order, and whether each call was answered.
+/// The lines of all answers, in the script's order, and whether every call was answered.
 #[tactic(auto, unfolding(crate::specs::Answers::answers_text, crate::specs::Answers::is_whole))]
 pub fn answers_text(
     alloc: Global,

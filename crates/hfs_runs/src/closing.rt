@@ -1,4 +1,4 @@
-//! The end of a run: its volume, out of what was shared.
+//! The end of a run: its volume, taken back from what was shared.
 ghost use Rattle.std.specs.Prelude.{◌≡◌, ◌<◌, IfOk, IfErr, get_or, length, map};
 ghost use Rattle.hfs_scripts.specs.declared.lines.Caller.{Caller};
 ghost use Rattle.hfs_runs.specs.Answers.{kept_replies, replies_of};
@@ -59,7 +59,7 @@ fn part_viewings(
     Ok((viewers, replies))
 }
 
-// Closes the shared volume by a viewer, which learns all that the workers were told; with it what they were answered.
+// Closes the shared volume with a viewer, which learns all lists that workers were given; returns it with what was answered.
 fn close_by<K: Session, R: Wait>(
     rt: &R,
     alloc: Global,
@@ -81,8 +81,8 @@ fn close_by<K: Session, R: Wait>(
     }
 }
 
-/// Closes the shared volume by the first viewer, which learns all that the workers were told; with it what all were answered. The only
-/// error is want of memory.
+/// Closes the shared volume with the first viewer, which learns all lists that workers were given; returns it with what all
+/// callers were answered. Fails only when out of memory.
 pub fn close<K: Session, R: Wait>(
     rt: &R,
     alloc: Global,

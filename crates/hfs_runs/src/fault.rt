@@ -10,11 +10,11 @@ use std::alloc::{AllocError, AllocFailed};
 pub enum ScriptFault {
     /// The script has more than 16,777,216 bytes.
     TooLarge,
-    /// The line of that number is the first that doesn't read, counted from 1.
+    /// The line with this number, counted from 1, is the first that can't be read.
     Line(u64),
-    /// The image is refused, and not for want of memory.
+    /// The image is refused, and not for lack of memory.
     Refused(MountFault),
-    /// There was no place for a viewer.
+    /// There was no room for another viewer.
     NoPlace,
     /// Memory was refused.
     Memory,

@@ -9,7 +9,7 @@ use hfs_scripts::{Caller, Script};
 use hfs_shared::{Pass, Viewer};
 use std::alloc::{AllocError, Global};
 
-/// Each worker's pass with its calls, and the script of the other lines. The passes are of workers 1, 2 and so on.
+/// Each worker's pass with its calls, and a script of the lines that are left. The passes are those of workers 1, 2 and so on.
 #[tactic(auto, using(crate::proofs::Parts::workers_kept, crate::proofs::Parts::viewers_stay))]
 pub fn jobs_of(
     alloc: Global,

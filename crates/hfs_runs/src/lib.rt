@@ -1,5 +1,5 @@
-//! Runs of scripts: an image is mounted and shared, the workers make their calls side by side, viewers read beside them, and each
-//! line of the script is answered.
+//! Runs of scripts: an image is mounted and shared, workers make their calls and viewers read at the same time, and each line
+//! of the script is answered.
 #![tactic(auto)]
 
 mod answers;

@@ -30,7 +30,7 @@ pub fn number_lines(alloc: Global, lines: &[ScriptLine]) -> Result<Vec<Asked>, A
     Ok(numbered)
 }
 
-// Counts one call more of a caller, and answers how many there are.
+// Counts one more call of a caller, and returns how many there are.
 #[tactic(auto, using(crate::proofs::Counting::worker_counted, crate::proofs::Counting::viewer_counted))]
 fn count_call(workers: &mut [u64; 9], viewers: &mut [u64; 9], caller: Caller) -> u64
     requires small { IsSmall caller }
@@ -44,7 +44,7 @@ fn count_call(workers: &mut [u64; 9], viewers: &mut [u64; 9], caller: Caller) ->
     }
 }
 
-// Adds one to the count at that place, and answers it.
+// Adds one to the count at that place, and returns it.
 fn one_more(counts: &mut [u64; 9], place: u32) -> u64
     requires place { place ≤ 8 }
     requires room { slice_index counts.old place < 2 ^ 63 }

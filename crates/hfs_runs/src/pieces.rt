@@ -1,4 +1,4 @@
-//! The answers to a script in pieces, in which long bytes have no digits yet.
+//! The answers to a script in pieces, in which the digits of long bytes are left out for now.
 ghost use Rattle.std.specs.Prelude.{◌≡◌, ◌++◌, codes, Some, IfOk, OnOk, IfSome, string_bytes};
 ghost use Rattle.hfs_scripts.specs.Texts.{caller_text};
 ghost use Rattle.hfs_texts.specs.Lines.{hex_text};
@@ -12,17 +12,17 @@ use hfs_model::{Reply, Value};
 use hfs_texts::Show;
 use std::alloc::{AllocError, Global};
 
-/// From how many bytes on a reply's have no digits yet.
+/// Replies with at least this many bytes have no digits yet.
 const LONG: usize = 1_024;
 
-/// A text, and the call whose reply has the bytes of which the digits follow.
+/// A text, and the call whose reply has the bytes for the digits that follow it.
 #[derive(Drop)]
 pub struct Piece {
     pub text: String,
     pub asked: Asked,
 }
 
-/// The answers to a script, as pieces and what stands behind them.
+/// The answers to a script: pieces, and the text after them.
 #[derive(Drop)]
 pub struct Answers {
     pub pieces: Vec<Piece>,
@@ -31,7 +31,7 @@ pub struct Answers {
     pub replies: Replies,
 }
 
-/// What stands before the digits in the lines of a reply with bytes.
+/// What precedes the digits in the lines of a reply with bytes.
 #[tactic(auto, unfolding(crate::specs::Pieces::digits_head))]
 fn digits_head(alloc: Global, asked: Asked, reply: &Reply) -> Result<String, AllocError>
     ensures { IfOk result (λ text. string_bytes text
@@ -47,7 +47,7 @@ fn digits_head(alloc: Global, asked: Asked, reply: &Reply) -> Result<String, All
     Ok(text)
 }
 
-/// What stands before the digits in the lines of a reply with so many bytes that they have none yet.
+/// What precedes the digits in the lines of a reply, if it has so many bytes that they have none yet.
 fn long_head(alloc: Global, asked: Asked, reply: &Reply) -> Result<Option<String>, AllocError>
     ensures { IfOk result (λ head. IfSome head (λ text. answer_text asked (Some reply.now)
         ≡ string_bytes text ++ hex_text (value_bytes reply.now.value) ++ codes "\n")) }
@@ -66,7 +66,7 @@ fn long_head(alloc: Global, asked: Asked, reply: &Reply) -> Result<Option<String
     }
 }
 
-/// Ends a piece behind a text and the head of a reply's lines, and answers the text that follows the digits.
+/// Ends a piece with a text and the head of a reply's lines, and returns the text that follows the digits.
 fn end_piece(
     alloc: Global,
     pieces: &mut Vec<Piece>,
@@ -84,7 +84,7 @@ fn end_piece(
     String::from_str(alloc, "\n")
 }
 
-/// The text with the lines of the answer to a call behind it, of which all but the last may have become a piece.
+/// The text with the lines of the answer to one more call; all of it but the end may have become a piece.
 fn push_answer(
     alloc: Global,
     pieces: &mut Vec<Piece>,
@@ -107,7 +107,8 @@ fn push_answer(
     Ok(text)
 }
 
-/// The answers to the calls of these lines, in the script's order, and whether each was answered. The only error is want of memory.
+/// The answers to the calls of these lines, in the script's order, and whether every call was answered. Fails only when out of
+/// memory.
 #[tactic(auto, unfolding(crate::specs::Answers::answers_text, crate::specs::Answers::is_whole))]
 pub fn answers_in_pieces(
     alloc: Global,

@@ -39,7 +39,7 @@ fn viewer_reply(replies: &Replies, viewer: u32, at: usize) -> Option<&Reply>
     got.get(at)
 }
 
-/// The bytes of a fork that a value has.
+/// The bytes of a fork in a value.
 fn value_bytes(value: &Value) -> &[u8]
     ensures { result.now ≡ value_bytes value.now }
 {
@@ -63,7 +63,7 @@ impl Replies {
         }
     }
 
-    /// The bytes of a fork that the reply to a call has, and none where it has none.
+    /// The bytes of a fork in the reply to a call; none if it has none.
     pub fn bytes_to(&self, asked: Asked) -> &[u8]
         ensures { result.now ≡ bytes_in (reply_to (kept_replies self.now) asked) }
     {

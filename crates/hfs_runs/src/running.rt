@@ -28,33 +28,33 @@ use std::sync::Wait;
 use std::thread;
 use std::thread::Threads;
 
-/// What a run of a script made.
+/// What running a script made.
 #[derive(Drop)]
 pub struct Ran {
-    /// The volume after it.
+    /// The volume after the script.
     pub volume: Volume,
     /// The lines of the answers.
     pub text: String,
-    /// Whether each line was answered.
+    /// Whether every line was answered.
     pub whole: bool,
-    /// Whether viewers were shown each change at once, and none later for want of memory.
+    /// Whether viewers were shown each change at once, and none later for lack of memory.
     pub shown: bool,
 }
 
-/// What a run of a script made, with answers in pieces.
+/// What running a script made, with the answers in pieces.
 #[derive(Drop)]
 pub struct RanInPieces {
-    /// The volume after it.
+    /// The volume after the script.
     pub volume: Volume,
     /// The answers.
     pub answers: Answers,
-    /// Whether each line was answered.
+    /// Whether every line was answered.
     pub whole: bool,
-    /// Whether viewers were shown each change at once, and none later for want of memory.
+    /// Whether viewers were shown each change at once, and none later for lack of memory.
     pub shown: bool,
 }
 
-/// What a run of a script made, before its answers have a text.
+/// What running a script made, before its answers have a text.
 #[derive(Drop)]
 pub struct Made {
     pub volume: Volume,
@@ -76,7 +76,7 @@ impl Gate for NoGate {
     fn after(&self, _worker: u32, _stamp: u64) {}
 }
 
-// The workers make their calls, and the viewers theirs beside them.
+// Workers make their calls while viewers make theirs.
 fn run_beside<K: Session + Send + Sync, R: Threads + Wait + Sync, G: Gate + Sync>(
     shared: &Shared<K>,
     rt: &R,
@@ -107,7 +107,7 @@ fn run_beside<K: Session + Send + Sync, R: Threads + Wait + Sync, G: Gate + Sync
     )
 }
 
-// Runs the calls on a volume that is to be shared.
+// Runs the calls on a volume that is about to be shared.
 fn run_shared<K: Session + Send + Sync, R: Threads + Wait + Sync, G: Gate + Sync>(
     rt: &R,
     alloc: Global,
@@ -158,10 +158,10 @@ fn run_lines<R: Threads + Wait + Sync, G: Gate + Sync>(
     run_shared::<Brand, _, _>(rt, alloc, gate, parts, passes, viewers, script)
 }
 
-/// Runs a script on the volume of an image: each worker makes its calls in order in a thread of its own, and viewers read beside
-/// them. The lines of the answers come in the script's order; a line that was not answered, since memory was refused
-/// to its caller, has the code `none`, and then the run is not whole. Faults in order: `TooLarge` and `Line` of the script,
-/// `Refused` of the image, `NoPlace`; and `Memory`.
+/// Runs a script on the volume of an image: each worker makes its calls in order in a thread of its own, while viewers read. The
+/// lines of the answers are in the script's order. A line that was not answered, because its caller was refused memory, has the
+/// code `none`, and then the run is not whole. Faults, in this order: `TooLarge` and `Line` of the script, `Refused` of the
+/// image, `NoPlace`; also `Memory`.
 pub fn run_script<R: Threads + Wait + Sync>(
     rt: &R,
     alloc: Global,
@@ -195,7 +195,8 @@ pub fn run_script_at<R: Threads + Wait + Sync, G: Gate + Sync>(
     run_volume_at(rt, alloc, gate, volume, script)
 }
 
-/// As `run_script_at`, on a volume that is mounted already, with a script that was read. Faults in order: `NoPlace`; and `Memory`.
+/// As `run_script_at`, on a volume that is already mounted, with a script that has been read. Faults, in this order: `NoPlace`;
+/// also `Memory`.
 pub fn run_volume_at<R: Threads + Wait + Sync, G: Gate + Sync>(
     rt: &R,
     alloc: Global,
@@ -222,8 +223,8 @@ pub fn run_volume_at<R: Threads + Wait + Sync, G: Gate + Sync>(
     })
 }
 
-/// As `run_volume_at`, with answers of which long bytes have no digits yet, so that their text need not be in memory at once. Faults in order:
-/// `NoPlace`; and `Memory`.
+/// As `run_volume_at`, with answers in which the digits of long bytes are left out for now, so that their text needn't be in
+/// memory at once. Faults, in this order: `NoPlace`; also `Memory`.
 pub fn run_volume_in_pieces<R: Threads + Wait + Sync, G: Gate + Sync>(
     rt: &R,
     alloc: Global,

@@ -1,4 +1,4 @@
-//! What a run begins with: the volume of its image, shared for the callers of its script.
+//! What a run begins with: the volume of its image, shared among the callers of its script.
 ghost use Rattle.std.specs.Prelude.{◌≡◌, ◌<◌, ◌≤◌, All, IfOk, IfErr, OnOk};
 ghost use Rattle.hfs_check.specs.Sound.{IsSound};
 ghost use Rattle.hfs_scripts.specs.Callers.{workers, viewers};
@@ -49,7 +49,7 @@ fn start_read<R: Wait>(
     }
 }
 
-// The parts of a volume that no viewer reads, with the viewer that closes.
+// The parts of a volume that no viewer reads, with the viewer that will close it.
 fn start_unread(
     alloc: Global,
     volume: Volume,
@@ -82,7 +82,7 @@ fn has_viewer(lines: &[ScriptLine]) -> bool
     lines.iter().any(|line| is_viewer(line.caller))
 }
 
-/// The parts of a volume for the callers of a script, with passes and viewers. Where no line is a viewer's, nothing is kept for
+/// The parts of a volume for the callers of a script, with passes and viewers. If no line is a viewer's, nothing is kept for
 /// viewers to read.
 pub fn start<R: Wait>(
     rt: &R,

@@ -1,4 +1,4 @@
-//! What the workers of a run were told.
+//! Which published lists the workers of a run were given.
 ghost use Rattle.std.specs.Prelude.{◌≡◌};
 ghost use mathlib.Core.List.{IsPrefix};
 ghost use Rattle.hfs_shared.specs.Closings.{IsWhether};
@@ -7,7 +7,7 @@ ghost use Rattle.hfs_runs.specs.Tellings.{AllBegin, AreOf, AreWhole, OfEach};
 use hfs_model::Reply;
 use hfs_shared::{Done, Told, Viewer};
 
-// The viewer learns what one worker was told.
+// The viewer learns the lists that one worker was given.
 fn learn(viewer: &mut Viewer, answers: &[(Reply, Told)])
     requires { AreOf viewer.old.book answers.now }
     ensures told { AllBegin viewer.new.list answers.now }
@@ -19,7 +19,7 @@ fn learn(viewer: &mut Viewer, answers: &[(Reply, Told)])
     }
 }
 
-/// The viewer learns all that the workers were told. Takes no memory.
+/// The viewer learns all lists that the workers were given. Takes no memory.
 pub fn learn_all(viewer: &mut Viewer, dones: &[Done])
     requires { OfEach (AreOf viewer.old.book) dones.now }
     ensures told { OfEach (AllBegin viewer.new.list) dones.now }
@@ -31,7 +31,7 @@ pub fn learn_all(viewer: &mut Viewer, dones: &[Done])
     }
 }
 
-// Whether each told list covers all that was made until then.
+// Whether each list covers all calls that were made until then.
 fn are_whole(answers: &[(Reply, Told)]) -> bool
     ensures { IsWhether result (AreWhole answers.now) }
 {
@@ -43,7 +43,7 @@ fn are_whole(answers: &[(Reply, Told)]) -> bool
     true
 }
 
-/// Whether each list that a worker was told covers all that was made until then.
+/// Whether each list that a worker was given covers all calls that were made until then.
 pub fn are_all_whole(dones: &[Done]) -> bool
     ensures { IsWhether result (OfEach AreWhole dones.now) }
 {

@@ -17,7 +17,7 @@ pub struct Viewing {
     pub replies: Vec<Reply>,
 }
 
-// One reply more. Nothing has changed where there is no memory for it, or no list to read.
+// One more reply. Nothing changes if there is no memory for it, or no list to read.
 fn view_one(
     alloc: Global,
     viewer: &mut Viewer,
@@ -42,7 +42,7 @@ fn view_one(
     }
 }
 
-// The replies to the calls of a viewer, up to the first that is not answered.
+// The replies to a viewer's calls, up to the first that is not answered.
 #[tactic(auto, using(crate::proofs::Reading::reads_more))]
 fn view(alloc: Global, viewer: &mut Viewer, calls: &Vec<Call>) -> Vec<Reply>
     ensures { AreReads calls.now.items viewer.old result.items viewer.new }
@@ -59,8 +59,8 @@ fn view(alloc: Global, viewer: &mut Viewer, calls: &Vec<Call>) -> Vec<Reply>
     replies
 }
 
-/// Answers each viewer's calls in order, each viewer in a thread of its own, or, where no thread can be made for it, in
-/// another's. A viewer stops at the first call that is not answered.
+/// Answers each viewer's calls in order, each viewer in a thread of its own or, if no thread can be made for it, in another's. A
+/// viewer stops at the first call that is not answered.
 pub fn view_all<R: Threads + Sync>(rt: &R, alloc: Global, viewings: Vec<Viewing>) -> Vec<Viewing>
     ensures many { length result.items ≡ length viewings.items }
     ensures each { AreViewed viewings.items result.items }

@@ -1,4 +1,4 @@
-//! What is told of an image of which something remains.
+//! What is printed about an image of which something remains.
 ghost use Rattle.std.specs.Prelude.{◌≡◌, ◌++◌, ℕ, List, Some, IfOk, OnOk, string_bytes};
 ghost use Rattle.hfs_commands.specs.Checks.{IsCheckFault};
 ghost use Rattle.hfs_finds.specs.Finds.{IsFoundIn};
@@ -13,10 +13,10 @@ use hfs_rescue_items::{Found, FoundSums, sums_of};
 use hfs_texts::push_line;
 use std::alloc::{AllocError, Global};
 
-/// What is told of an image of which something remains.
+/// What is printed about an image of which something remains.
 #[derive(Drop)]
 pub struct RescueAnswer {
-    /// The exit status: 0 where all files are whole and the catalog is right, else 3.
+    /// The exit status: 0 if all files are whole and the catalog is right, else 3.
     pub status: u8,
     /// The image's fault, its directory, and how much remains.
     pub lines: String,
@@ -26,7 +26,7 @@ pub struct RescueAnswer {
 #[derive(Drop)]
 pub struct Rescued {
     pub answer: RescueAnswer,
-    /// Whether the sum of the disk copy is right in which it lies, if it does.
+    /// If it lies in a disk copy, whether that one's sum is right.
     pub sum: Option<bool>,
 }
 
@@ -65,7 +65,7 @@ fn push_sums(text: &mut String, sums: &FoundSums) -> Result<(), AllocError>
     push_line(text, "damaged", sums.files.saturating_sub(sums.whole))
 }
 
-/// The lines of an image of which so much remains.
+/// The lines of an image of which this much remains.
 #[tactic(auto, unfolding(crate::specs::Answers::answer_text))]
 fn lines_of(
     alloc: Global,
@@ -83,7 +83,7 @@ fn lines_of(
     Ok(text)
 }
 
-/// The exit status where so much remains, and the catalog is right or not.
+/// The exit status for what remains, given whether the catalog is right.
 fn status_of(sums: &FoundSums, is_right: bool) -> u8
     ensures { result ≡ answer_status is_right sums.now }
 {
@@ -95,7 +95,7 @@ fn status_of(sums: &FoundSums, is_right: bool) -> u8
 }
 
 impl RescueAnswer {
-    /// What is told of an image of which this was found. The only error is want of memory.
+    /// What is printed about an image of which this was found. Fails only when out of memory.
     pub(crate) fn of(
         alloc: Global,
         check: &CheckAnswer,

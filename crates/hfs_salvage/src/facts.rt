@@ -1,4 +1,4 @@
-//! What a bag tells of the image from which it was rescued.
+//! What a bag says about the image from which it was rescued.
 ghost use Rattle.std.specs.Prelude.{◌≡◌, ◌*◌, ◌++◌, ℕ, List, Option, Some, replicate, IfOk, string_bytes};
 ghost use Rattle.std.specs.Option.{option_map};
 ghost use Rattle.hfs_commands.specs.Checks.{HasCheckLines};
@@ -19,22 +19,22 @@ use hfs_sparse::SeenBlocks;
 use hfs_take::{image_digest, image_name, plain_name, report_text};
 use std::alloc::{AllocError, Global};
 
-/// What a bag tells of an image before its items are read.
+/// What a bag says about an image before its items are read.
 #[derive(Drop)]
 pub(crate) struct Told {
     /// The name of its volume.
     pub(crate) identifier: String,
     /// The last part of its path.
     pub(crate) name: String,
-    /// The block of its directory, where that is to be told.
+    /// The block of its directory, if the bag is to name it.
     pub(crate) directory: Option<String>,
-    /// Its digest, where it is to be told.
+    /// Its digest, if the bag is to have it.
     pub(crate) digest: Option<[u8; 32]>,
     /// The lines of its directory, and those of its check.
     pub(crate) report: String,
 }
 
-/// The first 1,536 bytes of a volume whose directory is this block.
+/// The first 1,536 bytes of a volume that has this block as its directory.
 fn head_with(block: &[u8; 512]) -> [u8; 1536]
     ensures { result ≡ replicate 1024 0 ++ block.now }
 {
@@ -81,7 +81,8 @@ fn report_of<S: PlacedBlocks>(
     Ok(text)
 }
 
-/// A block that is taken for the directory, and whether it is a guess; None of block 2, where the directory belongs, unless it is a guess.
+/// A block that is taken for the directory, and whether it is a guess; None for block 2, where the directory belongs, unless it
+/// is a guess.
 fn directory_text(alloc: Global, block: u32, is_unsure: bool) -> Result<Option<String>, AllocError>
     ensures { IfOk result (λ text. option_map string_bytes text ≡ directory_text block is_unsure) }
 {
@@ -96,7 +97,7 @@ fn directory_text(alloc: Global, block: u32, is_unsure: bool) -> Result<Option<S
     Ok(Some(text))
 }
 
-/// What is told of the block of an image that was taken for its directory.
+/// What the bag says about the block of an image that was taken for its directory.
 #[tactic(auto, using(crate::proofs::FactLemmas::directory_known))]
 fn directory_of(alloc: Global, finds: &Finds) -> Result<Option<String>, SourceFault>
     ensures { (known : Option (List ℕ)) (len : ℕ)
@@ -109,7 +110,7 @@ fn directory_of(alloc: Global, finds: &Finds) -> Result<Option<String>, SourceFa
     }
 }
 
-/// The digest of an image, where it is to be told.
+/// The digest of an image, if the bag is to have it.
 fn digest_of<S: PlacedBlocks>(
     alloc: Global,
     source: &mut SeenBlocks<S>,
@@ -127,7 +128,7 @@ fn digest_of<S: PlacedBlocks>(
     Ok(Some(digest))
 }
 
-/// What a bag tells of an image before its items are read.
+/// What a bag says about an image before its items are read.
 pub(crate) fn told_of<S: PlacedBlocks>(
     alloc: Global,
     source: &mut SeenBlocks<S>,

@@ -26,7 +26,7 @@ use hfs_sparse::SeenBlocks;
 use hfs_take::Watch;
 use std::alloc::Global;
 
-/// A text, where there is one.
+/// A text, if there is one.
 fn text_in(text: &Option<String>) -> Option<&str>
     ensures { text_in result ≡ option_map string_bytes text.now }
 {
@@ -36,14 +36,14 @@ fn text_in(text: &Option<String>) -> Option<&str>
     }
 }
 
-/// What became of giving a shelf a bag, and what the image was read from.
+/// The result of giving a shelf a bag, and what the image was read from.
 #[derive(Drop)]
 struct GivenFound<S: PlacedBlocks> {
     came: Result<BagSums, BagFault>,
     source: SeenBlocks<S>,
 }
 
-/// Gives a shelf the bag of what was found of an image of `len` bytes, of which this is told.
+/// Gives a shelf the bag of what was found of an image of `len` bytes, with what it says about the image.
 fn give_found<S: PlacedBlocks + Drop, T: Shelf, W: Watch>(
     alloc: Global,
     shelf: &mut T,
@@ -95,17 +95,17 @@ fn give_found<S: PlacedBlocks + Drop, T: Shelf, W: Watch>(
     }
 }
 
-/// What became of giving a shelf the bag of what remains of an image, and what that was read from.
+/// The result of giving a shelf the bag of what remains of an image, and what that was read from.
 #[derive(Drop)]
 pub struct GivenRemains<S: PlacedBlocks> {
-    /// What is told of the image, or why its bag was not given.
+    /// What is printed about the image, or why its bag was not given.
     pub answer: Result<RescueAnswer, BagFault>,
     pub source: SeenBlocks<S>,
 }
 
-/// Gives a shelf the bag of what remains of an image, as these words ask for it, and answers what is told of the image. At a fault what was given
-/// is a beginning of the bag. All this of each image that has the bytes which were read. Faults: reading the image, the shelf's, memory was
-/// refused; `TooLarge`.
+/// Gives a shelf the bag of what remains of an image, as these words ask for it, and returns what is printed about the image. At
+/// a fault, what was given is a beginning of the bag. All this holds for every image consistent with the bytes read. Faults:
+/// reading the image, those of the shelf, memory was refused; `TooLarge`.
 pub fn give_remains<S: PlacedBlocks + Drop, T: Shelf, W: Watch>(
     alloc: Global,
     shelf: &mut T,
@@ -166,7 +166,7 @@ fn not_given<S: PlacedBlocks>(fault: SourceFault, source: SeenBlocks<S>) -> Give
     }
 }
 
-/// What is told of an image, where its bag was given.
+/// What is printed about an image, if its bag was given.
 fn answered(came: Result<BagSums, BagFault>, answer: RescueAnswer) -> Result<RescueAnswer, BagFault>
     ensures { result ≡ told_after came answer }
 {

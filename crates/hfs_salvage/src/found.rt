@@ -1,4 +1,4 @@
-//! What was found of an image, with what is taken of the forks of its items.
+//! What was found of an image, with what is taken of its items' forks.
 ghost use Rattle.std.specs.Prelude.{◌≡◌, ℕ, List, Some};
 ghost use Rattle.hfs_finds.specs.Finds.{IsFoundIn};
 ghost use Rattle.hfs_finds.specs.Images.{IsSalvageOf};
@@ -8,7 +8,7 @@ use hfs_finds::Finds;
 use hfs_remains::Salvage;
 use hfs_rescue_items::Found;
 
-/// What was found of an image, where this is taken of the forks of its items.
+/// What was found of an image, with what is taken of its items' forks.
 pub(crate) fn found_in<'a>(finds: &'a Finds, salvage: &'a Salvage<'a>) -> Found<'a>
     requires { salvage.now.trees.mdb.now ≡ finds.now.mdb }
     ensures mdb { result.mdb.now ≡ finds.now.mdb }

@@ -19,7 +19,7 @@ use std::alloc::Global;
 /// Why nothing is found of an image.
 #[derive(Drop)]
 pub enum HoldFault {
-    /// No directory is found in it; this is the fault that its check tells.
+    /// No directory is found in it; this is the fault of its check.
     NoDirectory(Option<MountFault>),
     /// A read failed.
     ReadFailed,
@@ -27,14 +27,14 @@ pub enum HoldFault {
     NoMemory,
 }
 
-/// An image in which a directory is found: where its blocks are read from, what its check tells, and what is found of it by its directory; all
-/// this of each image that has the bytes which were read.
+/// An image in which a directory is found: what its blocks are read from, what its check says, and what is found of it by its
+/// directory. All this holds for every image consistent with the bytes read.
 #[derive(Drop)]
 pub struct RescuedImage<S: PlacedBlocks> {
     pub(crate) source: SeenBlocks<S>,
     /// How many bytes it has.
     pub(crate) len: u64,
-    /// Where the volume lies in its file, where it was looked for there: the line that a bag has of it.
+    /// Where the volume lies in its file, if it was looked for there: its line in the bag.
     pub(crate) line: Option<String>,
     pub(crate) check: CheckAnswer,
     pub(crate) finds: Finds,
@@ -53,8 +53,8 @@ pub struct Unfound<S: PlacedBlocks> {
 }
 
 impl<S: PlacedBlocks + Drop> RescuedImage<S> {
-    /// Checks an image, and finds what there is of it, in the blocks that are needed for that. Faults, with the source back, of which they are said: no
-    /// directory is found in it, a read failed, memory was refused.
+    /// Checks an image, and finds what there is of it, in the blocks that are needed for that. Faults, with the source handed
+    /// back, of which they hold: no directory is found in it, a read failed, memory was refused.
     pub fn open(
         alloc: Global,
         source: SeenBlocks<S>,

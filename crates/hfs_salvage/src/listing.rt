@@ -27,7 +27,7 @@ use std::rt::Files;
 /// How many bytes of text are gathered before they are written.
 const PIECE: usize = 65_536;
 
-/// Writes a text, and begins the next one.
+/// Writes a text, and empties it for the next one.
 fn put_piece<W: Write>(writer: &mut W, text: &mut Vec<u8>) -> Result<(), Fault<'static>>
     ensures written { OnOk result (Appends (W.contents writer.old) (W.contents writer.new) text.old.items) }
     ensures empty { OnOk result (text.new.items ≡ []) }
@@ -42,7 +42,7 @@ fn put_piece<W: Write>(writer: &mut W, text: &mut Vec<u8>) -> Result<(), Fault<'
     Ok(())
 }
 
-/// Gathers the line of an item with this number behind a text, and writes that where it has become long.
+/// Appends the line of the item with this number to a text, and writes the text if it has become long.
 fn gather_line<W: Write>(
     alloc: Global,
     writer: &mut W,
@@ -85,10 +85,9 @@ fn write_lines<W: Write>(
     put_piece(writer, &mut text)
 }
 
-/// Writes the list of what was found of an image.
-///
-/// A line for each item that remains, in their order; and answers what is told of the image. All this of each image that has the bytes which were
-/// read. Faults: memory was refused; `OutputFailed`, and then a part of the lines may have gone out, from the first on.
+/// Writes the list of what was found of an image, a line for each item that remains, in order, and returns what is printed about
+/// the image. All this holds for every image consistent with the bytes read. Faults: memory was refused; `OutputFailed`, and then
+/// only the first lines may have been written.
 pub fn write_remains<S: PlacedBlocks, W: Write>(
     alloc: Global,
     writer: &mut W,
@@ -115,9 +114,9 @@ pub fn write_remains<S: PlacedBlocks, W: Write>(
     Ok(answer)
 }
 
-/// Writes a line for each item that remains of an image, and answers what is told of it behind these. Faults, the first that holds: the image can't
-/// be read; `NoVolume`, `SeveralVolumes`; the image's own, where there is no directory in it; memory was refused, `OutputFailed`: a part of the lines may
-/// have gone out then.
+/// Writes a line for each item that remains of an image, and returns what is printed about the image after them. Faults, the
+/// first that holds: the image can't be read; `NoVolume`, `SeveralVolumes`; the image's own, if it has no directory; memory was
+/// refused, `OutputFailed`: then some of the lines may have been written.
 pub fn list_rescue<'a, R: Files + AllocGlobal, W: Write>(
     rt: &R,
     writer: &mut W,

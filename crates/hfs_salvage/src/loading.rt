@@ -1,4 +1,4 @@
-//! An image that is asked for, opened once.
+//! The image that is asked for, opened once.
 ghost use Rattle.std.specs.Prelude.{◌≡◌, IfErr, IfOk, string_bytes};
 ghost use Rattle.std.specs.Option.{option_map};
 ghost use Rattle.hfs_source.specs.Images.{OfEach};
@@ -20,14 +20,14 @@ use std::rt::Files;
 /// The blocks of a part of a file.
 pub type Part<F> = BlocksOf<RangeBytes<OpenedFile<F>>>;
 
-/// What is asked for, and whether the sum of a disk copy is right in which it lies.
+/// What is asked for and, if it lies in a disk copy, whether that one's sum is right.
 #[derive(Drop)]
 pub(crate) struct LoadedImage<S: PlacedBlocks> {
     pub(crate) image: RescuedImage<S>,
     pub(crate) sum: Option<bool>,
 }
 
-/// What it means for an image's file that nothing is found of it.
+/// The fault for an image of which nothing is found, given its file.
 fn fault_of<'a>(fault: HoldFault, words: &RescueWords<'a>) -> Fault<'a>
     ensures unread { IsUnread words.now result }
     ensures told { result ≡ told_fault words.now.image fault }
@@ -47,8 +47,8 @@ struct Unloaded<'a, S: PlacedBlocks> {
     source: SeenBlocks<S>,
 }
 
-/// What is found of the blocks that are asked for. A fault is that of each image that has the bytes which were read: where there is no directory in it, it
-/// is what its check tells.
+/// What is found in the blocks that are asked for. A fault holds for every image consistent with the bytes read: if there is no
+/// directory, it is the fault of the check.
 fn load_part<'a, S: PlacedBlocks + Drop>(
     alloc: Global,
     blocks: SeenBlocks<S>,
@@ -71,19 +71,19 @@ fn load_part<'a, S: PlacedBlocks + Drop>(
     }
 }
 
-/// What is asked for of an image, to be read, and what is told of where it lies.
+/// What is asked for of an image, to be read, and where it lies.
 #[derive(Drop)]
 struct FoundRange<F: Read + Seek> {
     source: PartBlocks<F>,
     /// Where it lies in its file.
     range: ByteRange,
-    /// The range's line, where it lies inside.
+    /// The range's line, if it lies inside the file.
     line: Option<String>,
     /// Whether the sum of a disk copy is right.
     sum: Option<bool>,
 }
 
-/// The blocks of what is asked for of an image: of exactly the range that the line tells. Faults: as [`find_part`] has them.
+/// The blocks of what is asked for of an image: those of exactly the range in its line. Faults: as for [`find_part`].
 fn find_range<'a, R: Files + AllocGlobal>(
     rt: &R,
     words: &RescueWords<'a>,
@@ -103,8 +103,8 @@ fn find_range<'a, R: Files + AllocGlobal>(
     })
 }
 
-/// The image that is asked for, or the range in it, also one without a volume, and what is found of it. Faults, the first that holds: it can't be read;
-/// `NoVolume`, `SeveralVolumes`; the image's own, where there is no directory in it; memory was refused.
+/// The image that is asked for, or the range in it, even one without a volume, and what is found of it. Faults, the first that
+/// holds: it can't be read; `NoVolume`, `SeveralVolumes`; the image's own, if it has no directory; memory was refused.
 pub(crate) fn load_image<'a, R: Files + AllocGlobal>(
     rt: &R,
     words: &RescueWords<'a>,

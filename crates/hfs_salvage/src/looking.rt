@@ -11,7 +11,7 @@ use hfs_source::PlacedBlocks;
 use hfs_sparse::SparseFault;
 use std::alloc::Global;
 
-/// What it means that blocks weren't read.
+/// The fault for blocks that weren't read.
 pub(crate) fn fault_of(fault: SparseFault) -> HoldFault
     ensures { (image : List ℕ) → IsUnheld result image }
 {
@@ -21,7 +21,8 @@ pub(crate) fn fault_of(fault: SparseFault) -> HoldFault
     }
 }
 
-/// An image that was looked at, with what its check tells. Faults, with the source back: there is no directory in it, memory was refused.
+/// An image that was looked at, with what its check says. Faults, with the source handed back: it has no directory, memory was
+/// refused.
 pub(crate) fn rescued_image<S: PlacedBlocks + Drop>(
     alloc: Global,
     image: LookedImage<S>,

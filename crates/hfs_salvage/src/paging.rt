@@ -34,7 +34,7 @@ fn refusal(alloc: Global, why: MountFault) -> Result<String, AllocError>
     Ok(text)
 }
 
-/// What that means.
+/// What that reason means.
 fn meaning(alloc: Global, why: MountFault) -> Result<String, AllocError>
     ensures { IfOk result (λ text. string_bytes text ≡ meaning_text why) }
 {
@@ -77,7 +77,7 @@ fn put_page<W: Write>(
     )
 }
 
-/// What a fault of writing a page means.
+/// The fault for a page that wasn't written.
 fn fault_of_page(fault: PageFault) -> Fault<'static>
     ensures { IsUnprinted result }
 {
@@ -87,7 +87,7 @@ fn fault_of_page(fault: PageFault) -> Fault<'static>
     }
 }
 
-/// Writes the page of what was found of an image, with this fault, and answers the exit status of `rescue`.
+/// Writes the page of what was found of an image, with this fault, and returns the exit status of `rescue`.
 fn write_page<S: PlacedBlocks, W: Write>(
     alloc: Global,
     writer: &mut W,
@@ -117,9 +117,9 @@ fn write_page<S: PlacedBlocks, W: Write>(
     }
 }
 
-/// Writes the page of what was found of an image, with this fault in words, and answers the exit status of `rescue`. All this of each
-/// image that has the bytes which were read. Faults: memory was refused; `OutputFailed`, and then a part of the page may have gone
-/// out, from its beginning on.
+/// Writes the page of what was found of an image, with this fault in words, and returns the exit status of `rescue`. All this
+/// holds for every image consistent with the bytes read. Faults: memory was refused; `OutputFailed`, and then only the beginning
+/// of the page may have been written.
 pub fn write_found_page<S: PlacedBlocks, W: Write>(
     alloc: Global,
     writer: &mut W,

@@ -1,4 +1,4 @@
-//! What remains of a refused image, read where it was looked at.
+//! What remains of a refused image, read from where it was looked at.
 ghost use Rattle.std.specs.Prelude.{◌≡◌, Err, Some, IfErr, IfOk, IfSome, OnErr, OnOk, string_bytes};
 ghost use Rattle.std.specs.Io.KnownBytes.{Appends};
 ghost use Rattle.std.specs.Option.{option_map};
@@ -35,7 +35,7 @@ pub struct Remains<S: PlacedBlocks> {
     image: RescuedImage<S>,
 }
 
-/// What the check of an image tells that is refused for this fault.
+/// What is printed for the check of an image that is refused for this fault.
 fn refused_check(alloc: Global, why: MountFault) -> Result<CheckAnswer, AllocError>
     ensures fault { IfOk result (λ check. check.fault ≡ Some why) }
     ensures lines { IfOk result (λ check. string_bytes check.lines ≡ refused_line why) }
@@ -48,7 +48,7 @@ fn refused_check(alloc: Global, why: MountFault) -> Result<CheckAnswer, AllocErr
     })
 }
 
-/// What remains of an image that was looked at and is refused; None where nothing is found of it. The only error is want of memory.
+/// What remains of an image that was looked at and is refused; None if nothing is found of it. Fails only when out of memory.
 pub fn remains_of<S: PlacedBlocks + Drop>(
     alloc: Global,
     image: RefusedImage<S>,
@@ -81,7 +81,7 @@ pub fn remains_of<S: PlacedBlocks + Drop>(
 }
 
 impl<S: PlacedBlocks + Drop> Remains<S> {
-    /// The fault that the image's check tells; None of a sound one.
+    /// The fault of the image's check; None for a sound image.
     pub fn fault(&self) -> Option<MountFault>
         ensures { EachKnown (S.Holds self.now.image.source.blocks)
             (λ known. OfKnown known self.now.image.len (IsCheckFault result)) }

@@ -23,7 +23,7 @@ use hfs_take::{TakeFault, Watch};
 use std::alloc::Global;
 use std::rt::Files;
 
-/// A bag that has its place: what is told of its image, the system on which it lies, and what the image was read from.
+/// A bag that is in its place: what is printed about its image, the system that the bag is on, and what the image was read from.
 #[derive(Drop)]
 pub struct PlacedBag<Y, S: PlacedBlocks> {
     pub answer: RescueAnswer,
@@ -31,14 +31,14 @@ pub struct PlacedBag<Y, S: PlacedBlocks> {
     pub source: SeenBlocks<S>,
 }
 
-/// Why a bag has no place, and the system back.
+/// Why a bag is not in its place, with the system handed back.
 #[derive(Drop)]
 pub struct UnplacedBag<'a, Y> {
     pub fault: TakeFault<'a>,
     pub system: Y,
 }
 
-/// Gives a whole bag its place. At a fault it is taken away.
+/// Gives a whole bag its place. At a fault, it is removed.
 fn place_bag<'a, Y: FileSystem + Drop, S: PlacedBlocks + Drop>(
     shelf: FileShelf<Y>,
     answer: RescueAnswer,
@@ -66,7 +66,7 @@ fn place_bag<'a, Y: FileSystem + Drop, S: PlacedBlocks + Drop>(
     }
 }
 
-/// Takes away what was written of a bag. The fault stays, but where memory is refused for that.
+/// Removes what was written of a bag. The fault stays the same, unless memory is refused for that.
 fn take_away<'a, Y: FileSystem + Drop>(
     shelf: FileShelf<Y>,
     fault: TakeFault<'a>,
@@ -84,7 +84,8 @@ fn take_away<'a, Y: FileSystem + Drop>(
     }
 }
 
-/// Writes the bag of an image: to a folder beside its place, which gets its place when it is whole, and is taken away at a fault.
+/// Writes the bag of an image to a folder next to its place; the folder gets its place once it is whole, and is removed at a
+/// fault.
 fn write_bag<'a, Y: FileSystem + Drop, S: PlacedBlocks + Drop, W: Watch>(
     alloc: Global,
     system: Y,
@@ -121,11 +122,12 @@ fn write_bag<'a, Y: FileSystem + Drop, S: PlacedBlocks + Drop, W: Watch>(
     }
 }
 
-/// Rescues what remains of an image that was opened, over any system, where nothing has the folder's name.
+/// Rescues what remains of an opened image, over any system, if nothing has the folder's name, and returns what is printed about
+/// the image.
 ///
-/// By the last step of the system a folder has this place then, in which exactly the bag lies of each image that has the bytes which were read; and what is
-/// told of the image is answered. At a fault nothing has the place that did not have it, and what was written is taken away. Faults: `IsThere`; `CannotWrite` of the
-/// path that isn't written, the image can't be read in the middle, memory was refused.
+/// As the last thing that the system does, exactly the bag of every image consistent with the bytes read gets this place. At a
+/// fault the place is as free as it was, and what was written is removed. Faults: `IsThere`; `CannotWrite` of the path that isn't
+/// written, a later read of the image failed, memory was refused.
 pub fn rescue_opened<'a, Y: FileSystem + Drop, S: PlacedBlocks + Drop, W: Watch>(
     alloc: Global,
     system: Y,
@@ -151,7 +153,7 @@ pub fn rescue_opened<'a, Y: FileSystem + Drop, S: PlacedBlocks + Drop, W: Watch>
     write_bag(alloc, system, image, words, watch)
 }
 
-/// The same with the system's own files, which nothing is told of then.
+/// The same with the system's own files, about whose state nothing is stated then.
 fn rescue_loaded<'a, R: Files + AllocGlobal, S: PlacedBlocks + Drop, W: Watch>(
     rt: &R,
     image: RescuedImage<S>,
@@ -166,10 +168,10 @@ fn rescue_loaded<'a, R: Files + AllocGlobal, S: PlacedBlocks + Drop, W: Watch>(
     }
 }
 
-/// Makes a folder the bag of what remains of an image, and answers what is told of it. Faults, the first that holds: the image can't be read;
-/// `NoVolume`, `SeveralVolumes`; the image's own, where there is no directory in it; `IsThere`; `CannotWrite` of the path that isn't written, the image
-/// can't be read in the middle, memory was refused. At a fault the folder isn't there, and what was written is taken away, as far as the system and memory
-/// allow.
+/// Makes the folder a bag of what remains of an image, and returns what is printed about the image. Faults, the first that holds:
+/// the image can't be read; `NoVolume`, `SeveralVolumes`; the image's own, if it has no directory; `IsThere`; `CannotWrite` of
+/// the path that isn't written, a later read of the image failed, memory was refused. At a fault the folder doesn't exist, and
+/// what was written is removed, as far as the system and memory allow.
 pub fn rescue<'a, R: Files + AllocGlobal, W: Watch>(
     rt: &R,
     words: &BagWords<'a>,

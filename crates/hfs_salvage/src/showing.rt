@@ -1,4 +1,4 @@
-//! What is found of a refused image, as the words show it that read a sound one: rows, and the bytes of a fork.
+//! What is found of a refused image, shown as the words show a sound one: rows, and the bytes of a fork.
 ghost use Rattle.std.specs.Prelude.{◌≡◌, Err, Some, IfErr, IfOk, List, ℕ, OnErr, OnOk};
 ghost use Rattle.std.specs.Io.KnownBytes.{Appends};
 ghost use Rattle.hfs_commands.specs.Checks.{IsCheckFault};
@@ -32,7 +32,7 @@ use hfs_sparse::{BlockSource, SeenBlocks};
 use std::alloc::Global;
 use std::io::Write;
 
-/// What a fault of writing rows means.
+/// The fault for rows that weren't written.
 fn fault_of_rows(fault: TableFault) -> Fault<'static>
     ensures { IsUnprinted result }
 {
@@ -42,7 +42,7 @@ fn fault_of_rows(fault: TableFault) -> Fault<'static>
     }
 }
 
-/// The fault that an image's check tells; None of a sound one.
+/// The fault of an image's check; None for a sound image.
 pub fn image_fault<S: PlacedBlocks>(image: &RescuedImage<S>) -> Option<MountFault>
     ensures { EachKnown (S.Holds image.now.source.blocks)
         (λ known. OfKnown known image.now.len (IsCheckFault result)) }
@@ -50,7 +50,7 @@ pub fn image_fault<S: PlacedBlocks>(image: &RescuedImage<S>) -> Option<MountFaul
     image.check.fault
 }
 
-/// Writes the rows of what was found of an image that are selected, and answers the exit status of `rescue`.
+/// Writes those rows of what was found of an image that are selected, and returns the exit status of `rescue`.
 fn write_selected<S: PlacedBlocks, W: Write>(
     alloc: Global,
     writer: &mut W,
@@ -77,9 +77,9 @@ fn write_selected<S: PlacedBlocks, W: Write>(
     }
 }
 
-/// Writes the table of what was found of an image, a row for each item, in their order, and answers the exit status of `rescue`. All this
-/// of each image that has the bytes which were read. Faults: memory was refused; `OutputFailed`, and then a part of the table may
-/// have gone out, from its beginning on.
+/// Writes the table of what was found of an image, a row for each item, in order, and returns the exit status of `rescue`. All
+/// this holds for every image consistent with the bytes read. Faults: memory was refused; `OutputFailed`, and then only the
+/// beginning of the table may have been written.
 pub fn write_found_items<S: PlacedBlocks, W: Write>(
     alloc: Global,
     writer: &mut W,
@@ -105,7 +105,7 @@ pub fn write_found_items<S: PlacedBlocks, W: Write>(
     write_selected(alloc, writer, image, &found, Selection::All(format))
 }
 
-/// Writes the rows of the folder that an end of a path is, and answers the exit status of `rescue`, or the code where it is none.
+/// Writes the rows of the folder at the end of a path, and returns the exit status of `rescue`, or the code if that is no folder.
 fn write_end_rows<S: PlacedBlocks, W: Write>(
     alloc: Global,
     writer: &mut W,
@@ -134,9 +134,9 @@ fn write_end_rows<S: PlacedBlocks, W: Write>(
     }
 }
 
-/// Writes the rows of what lies in the folder that a path leads to, which is read as the rows print it, and answers the exit status of `rescue`;
-/// or -43 where no item has that path, -120 where it is a file's, and nothing is written. All this of each image that has the
-/// bytes which were read. Faults: as [`write_found_items`] has them.
+/// Writes the rows of what lies in the folder that a path leads to, and returns the exit status of `rescue`; or -43 if no item
+/// has that path and -120 if it is a file's, and writes nothing. Paths are read as the rows print them. All this holds for every
+/// image consistent with the bytes read. Faults: as for [`write_found_items`].
 pub fn write_found_folder<S: PlacedBlocks, W: Write>(
     alloc: Global,
     writer: &mut W,
@@ -165,7 +165,7 @@ pub fn write_found_folder<S: PlacedBlocks, W: Write>(
     write_end_rows(alloc, writer, image, &found, end)
 }
 
-/// The exit status behind a fork that is whole, or isn't.
+/// The exit status for a fork that is whole, or isn't.
 fn whole_status(is_whole: bool) -> u8
     ensures { result ≡ whole_status is_whole }
 {
@@ -176,7 +176,7 @@ fn whole_status(is_whole: bool) -> u8
     }
 }
 
-/// What is told of a fork that is whole, or isn't; or the code where there is none.
+/// The exit status for a fork that is whole, or isn't; or the code if there is none.
 fn told_whole(whole: Option<bool>) -> Result<u8, Reply>
     ensures { result ≡ told_whole whole }
 {
@@ -186,8 +186,8 @@ fn told_whole(whole: Option<bool>) -> Result<u8, Reply>
     }
 }
 
-/// Writes the bytes that are taken of a fork of the item that an end of a path is, and answers whether it is whole, by the exit status, or the
-/// code where there is no fork.
+/// Writes the bytes that are taken of a fork of the item at the end of a path, and returns the exit status, which says whether
+/// the fork is whole, or the code if there is no fork.
 fn write_end_fork<S: BlockSource, W: Write>(
     alloc: Global,
     source: &mut S,
@@ -214,17 +214,17 @@ fn write_end_fork<S: BlockSource, W: Write>(
     }
 }
 
-/// What became of writing a fork, and what it was read from.
+/// The result of writing a fork, and what it was read from.
 #[derive(Drop)]
 pub struct ShownFork<S: PlacedBlocks> {
-    /// The exit status: 0 where the fork is whole, else 3; or -43 where no file has that path; or why it was not written.
+    /// The exit status: 0 if the fork is whole, else 3; or -43 if no file has that path; or why it was not written.
     pub told: Result<Result<u8, Reply>, CopyFault>,
     pub source: SeenBlocks<S>,
 }
 
-/// Writes the bytes that `rescue` takes of a fork of the item that a path leads to, which is read as the rows print it, and answers the exit
-/// status: 0 where the fork is whole, else 3; or -43 where no file has that path, and nothing is written. All this of each image that has
-/// the bytes which were read. Errors: as [`write_fork`](hfs_rescue_items::write_fork) has them.
+/// Writes the bytes that `rescue` takes of a fork of the item that a path leads to, and returns the exit status: 0 if the fork is
+/// whole, else 3; or -43 if no file has that path, and writes nothing. Paths are read as the rows print them. All this holds for
+/// every image consistent with the bytes read. Errors: as for [`write_fork`](hfs_rescue_items::write_fork).
 pub fn write_found_fork<S: PlacedBlocks + Drop, W: Write>(
     alloc: Global,
     writer: &mut W,

@@ -1,21 +1,21 @@
-//! A source of a bag that is watched.
+//! A source of a bag that reports to a watch.
 ghost use Rattle.std.specs.Prelude.{◌≡◌};
 
 use hfs_bag::{BagHead, BagKind, BagSource, SourceFault, Stream};
 use hfs_take::Watch;
 use std::alloc::AllocError;
 
-/// A source of a bag, of whose items each is told to a watch when it comes.
+/// A source of a bag that reports each item to a watch when it comes.
 #[derive(Drop)]
 pub(crate) struct Watched<'w, B: BagSource, W: Watch> {
     items: B,
     watch: &'w W,
-    /// How many items came, and how many there are.
+    /// How many items have come, and how many there are.
     count: u64,
     all: u64,
 }
 
-/// How many bytes the forks have where this is told of an item, and not of a folder alone, which may be one that an item lies in.
+/// How many bytes an item's forks have; None for a folder alone, which may be one that an item lies in.
 fn item_bytes(head: &Option<BagHead>) -> Option<u64> {
     match head {
         Some(head) if head.kind != BagKind::FolderAlone => {
@@ -25,14 +25,14 @@ fn item_bytes(head: &Option<BagHead>) -> Option<u64> {
     }
 }
 
-/// Tells a watch of an item more.
+/// Reports one more item to a watch.
 fn tell<W: Watch>(watch: &W, count: &mut u64, all: u64, bytes: u64) {
     *count = count.saturating_add(1);
     watch.item_came(*count, all, bytes);
 }
 
 impl<'w, B: BagSource, W: Watch> Watched<'w, B, W> {
-    /// A source of so many items.
+    /// A source of `all` items.
     pub(crate) fn new(items: B, watch: &'w W, all: u64) -> Watched<'w, B, W>
         ensures { result.items ≡ items }
     {

@@ -9,21 +9,21 @@ use hfs_remains::usual_limit;
 pub struct RescueWords<'a> {
     /// The path of the image.
     pub image: &'a str,
-    /// The number of the volume in it, where one is asked for.
+    /// The number of the volume in it, if one is asked for.
     pub volume: Option<u64>,
-    /// How many bytes of forks are taken at most; four times those of the image, where nothing is asked for.
+    /// How many bytes of forks are taken at most; by default four times as many as the image has.
     pub limit: Option<u64>,
 }
 
-/// A bag that is filled of it.
+/// The bag that is filled with it.
 #[derive(Clone, Copy)]
 pub struct BagWords<'a> {
     pub words: RescueWords<'a>,
     /// The path of the folder that is made.
     pub folder: &'a str,
-    /// Whether the image's digest is to be told.
+    /// Whether the bag is to have the image's digest.
     pub is_digested: bool,
-    /// The name of the program, and its version.
+    /// The name and version of the program.
     pub program: &'a str,
 }
 

@@ -1,7 +1,7 @@
-//! What holds of scans, each as the contract of a function that does nothing.
+//! What holds for scans, each law as the contract of a function that does nothing.
 ghost use Rattle.hfs_scans.specs.Laws.{ScansAreWhole, ScansAreFirst};
 
-/// A scan finds nothing exactly where each element passes the test.
+/// A scan finds nothing exactly when each element passes the test.
 pub fn scans_are_whole<X>()
     ensures { ScansAreWhole X }
 {}

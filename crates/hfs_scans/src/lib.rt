@@ -1,4 +1,4 @@
-//! What holds of each element of a list, and the first element that fails a test.
+//! What holds for each element of a list, and the first element that fails a test.
 #![tactic(auto)]
 
 mod laws;

@@ -1,4 +1,4 @@
-//! The fields behind a call's word.
+//! The fields after a call's word.
 ghost use Rattle.std.specs.Prelude.{◌≡◌, false, IfOk, IsTrue, [], ◌∷◌, length};
 ghost use Rattle.std.specs.Fmt.{decimal};
 ghost use Rattle.hex.specs.Hex.{encode_lower};
@@ -11,7 +11,7 @@ ghost use Rattle.hfs_scripts.specs.Texts.{arguments, fork_text, fork_fields, rea
 use hfs_model::{Call, Fork, OwnedBytes, SharedBytes};
 use std::alloc::{AllocError, Global};
 
-/// The most fields that stand behind a word.
+/// The most fields that follow a word.
 const MOST_FIELDS: usize = 6;
 
 /// A number without leading zeros.
@@ -42,7 +42,7 @@ fn fork_text(fork: Fork) -> &'static [u8]
     }
 }
 
-/// The fields, with one more behind them.
+/// The fields, with one more after them.
 fn with_field(mut fields: Vec<OwnedBytes>, field: OwnedBytes) -> Result<Vec<OwnedBytes>, AllocError>
     ensures { GainsItems fields (field ∷ []) result }
 {
@@ -71,7 +71,7 @@ fn with_text(
     with_field(fields, OwnedBytes::from_slice(alloc, text)?)
 }
 
-/// The fields, with bytes as hexadecimal digits behind them.
+/// The fields, with bytes as hexadecimal digits after them.
 fn with_bytes(
     alloc: Global,
     fields: Vec<OwnedBytes>,
@@ -205,7 +205,7 @@ fn written_part(
     with_bytes(alloc, fields, bytes.as_slice())
 }
 
-/// Dates and Finder bytes, behind DIR and NAME.
+/// Dates and Finder bytes, after DIR and NAME.
 fn dates_and_info(
     alloc: Global,
     fields: Vec<OwnedBytes>,
@@ -368,7 +368,7 @@ fn changing_fields(alloc: Global, call: &Call) -> Result<Vec<OwnedBytes>, AllocE
     }
 }
 
-/// The fields behind the call's word.
+/// The fields after the call's word.
 pub(crate) fn argument_fields(alloc: Global, call: &Call) -> Result<Vec<OwnedBytes>, AllocError>
     ensures fields { IfOk result (λ fields. fields.items ≡ arguments call.now) }
     ensures reads { IfOk result (λ fields. IsReadable call.now) }

@@ -1,4 +1,4 @@
-//! The call of a line: what its word and the fields behind it ask for.
+//! The call of a line: what its word and the fields after it ask for.
 ghost use Rattle.std.specs.Prelude.{◌≡◌, map, IfOk};
 ghost use Rattle.hfs_scripts.specs.Calls.{number_alone, indexed_of, target_of, part_of, read_of, rename_of, move_of, set_f_info_of, set_info_of, set_eof_of, written_of, write_of, target_call, call_on_target, call_of};
 ghost use Rattle.hfs_scripts.specs.Fields.{texts_of};
@@ -9,7 +9,7 @@ use crate::words::Word;
 use hfs_model::{Call, Fork, SharedBytes};
 use std::alloc::{AllocError, Global};
 
-/// The item that DIR and NAME tell.
+/// The item that DIR and NAME name.
 #[derive(Drop)]
 pub(crate) struct Target {
     dir: u32,
@@ -249,7 +249,7 @@ fn read_written(
     }))
 }
 
-/// The call of a word with DIR and NAME alone behind it; no call of another word.
+/// The call of a word that only takes DIR and NAME; None for another word.
 #[tactic(auto, unfolding(crate::specs::Calls::target_call))]
 fn on_target(word: Word, target: Target, now: u32) -> Option<Call>
     ensures { result ≡ target_call now word target }
@@ -278,7 +278,7 @@ fn on_target(word: Word, target: Target, now: u32) -> Option<Call>
     }
 }
 
-/// The call of a word with DIR and NAME alone behind it; no call of another word.
+/// The call of a word that only takes DIR and NAME; None for another word.
 #[tactic(auto, unfolding(crate::specs::Calls::call_on_target))]
 fn read_on_target(
     alloc: Global,
@@ -294,7 +294,7 @@ fn read_on_target(
     }
 }
 
-/// The call of a word and the fields behind it, if they make one. `Err` only where memory is wanting.
+/// The call of a word and the fields after it, if they make one. `Err` only when out of memory.
 #[tactic(auto, unfolding(crate::specs::Calls::call_of))]
 pub(crate) fn read_call(
     alloc: Global,

@@ -8,7 +8,7 @@ use std::alloc::{AllocError, AllocFailed};
 pub enum ScriptFault {
     /// The script has more than 16,777,216 bytes.
     TooLarge,
-    /// The line of that number is the first that doesn't read, counted from 1.
+    /// The line with this number, counted from 1, is the first that can't be read.
     Line(u64),
     /// Memory was refused.
     Memory,
@@ -37,9 +37,8 @@ impl<T: Drop> From<AllocFailed<T>> for ScriptFault {
 /// Why lines have no text.
 #[derive(Clone, Copy, Debug, PartialEq, Eq)]
 pub enum TextFault {
-    /// The line of that number is the first that has no text, counted from 1: its caller's number is not one from 1 to 8,
-    /// a viewer has a call that viewers don't make, a name has a tab or a line feed in it, or its call is made at another
-    /// moment.
+    /// The line with this number, counted from 1, is the first that has no text: its caller's number is not from 1 to 8, a viewer
+    /// has a call that viewers can't make, a name has a tab or a line feed in it, or its call is made at another moment.
     Unwritable(u64),
     /// The text has more than 16,777,216 bytes, so it is no script.
     TooLarge,

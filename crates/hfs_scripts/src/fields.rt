@@ -7,10 +7,10 @@ use hex::{FromHex, FromHexError};
 use hfs_model::{Fork, SharedBytes};
 use std::alloc::{AllocError, Global};
 
-/// The most hexadecimal digits of bytes that a line writes into a fork.
+/// The most hexadecimal digits that a line has for bytes of a fork.
 const MOST_DIGITS: usize = 131_072;
 
-/// The fields of a line; of more than nine the first nine, since no line that reads has as many. They take no memory.
+/// The fields of a line; only the first nine if there are more, since no line that can be read has that many. Takes no memory.
 #[tactic(auto, unfolding(crate::specs::Fields::fields_of))]
 pub(crate) fn split_fields(alloc: Global, line: &[u8]) -> Result<ArrayVec<&[u8], 9>, AllocError>
     ensures { IfOk result (λ fields. texts_of fields.items ≡ take 9 (fields_of line.now)) }
@@ -34,7 +34,7 @@ pub(crate) fn read_32_bytes(field: &[u8]) -> Option<[u8; 32]>
     <[u8; 32] as FromHex>::from_hex(field).ok()
 }
 
-/// At most 65,536 bytes, each as two hexadecimal digits of either case. `Err` only where memory is wanting.
+/// At most 65,536 bytes, each as two hexadecimal digits of either case. `Err` only when out of memory.
 #[tactic(auto, unfolding(crate::specs::Fields::few_bytes_of))]
 pub(crate) fn read_bytes(alloc: Global, field: &[u8]) -> Result<Option<SharedBytes>, AllocError>
     ensures { IfOk result (λ bytes. bytes ≡ few_bytes_of field.now) }

@@ -1,5 +1,5 @@
-//! Scripts of calls: which bytes are a script, what its lines ask for and of whom, and a script's text. docs/SCRIPTS.md
-//! has the language in plain words.
+//! Scripts of calls: which bytes are a script, which call each line makes and for whom, and a script's text. docs/SCRIPTS.md
+//! describes the language.
 #![tactic(auto)]
 
 mod arguments;

@@ -13,13 +13,13 @@ use std::alloc::{AllocError, Global};
 /// Who makes a call of a script.
 #[derive(Clone, Copy, Debug, PartialEq, Eq)]
 pub enum Caller {
-    /// The worker of that number, from 1 to 8.
+    /// The worker with this number, from 1 to 8.
     Worker(u32),
-    /// The viewer of that number, from 1 to 8.
+    /// The viewer with this number, from 1 to 8.
     Viewer(u32),
 }
 
-/// A line of a script: who makes which call.
+/// A line of a script: a call, and who makes it.
 #[derive(Drop)]
 pub struct ScriptLine {
     pub caller: Caller,
@@ -58,7 +58,7 @@ pub(crate) fn may_ask(caller: Caller, word: Word) -> bool
     }
 }
 
-/// The line, if its caller may ask for its word.
+/// The line, if its caller may use its word.
 fn allowed_line(word: Word, line: ScriptLine) -> Option<ScriptLine>
     ensures { result ≡ if may_ask line.caller word then Some line else None }
 {
@@ -69,7 +69,7 @@ fn allowed_line(word: Word, line: ScriptLine) -> Option<ScriptLine>
     }
 }
 
-/// The line of its fields, if they make one.
+/// The line with these fields, if they make one.
 #[tactic(auto, unfolding(crate::specs::Lines::line_of_fields))]
 fn read_fields(alloc: Global, fields: &[&[u8]], now: u32) -> Result<Option<ScriptLine>, AllocError>
     ensures { IfOk result (λ line. line ≡ line_of_fields now (texts_of fields.now)) }
@@ -89,7 +89,7 @@ fn read_fields(alloc: Global, fields: &[&[u8]], now: u32) -> Result<Option<Scrip
     }
 }
 
-/// The line that bytes without a line feed are, if they are one. `Err` only where memory is wanting.
+/// The line in bytes without a line feed, if they are one. `Err` only when out of memory.
 #[tactic(auto, unfolding(crate::specs::Lines::line_of))]
 pub(crate) fn read_line(
     alloc: Global,

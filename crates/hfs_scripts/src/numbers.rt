@@ -3,10 +3,10 @@ ghost use Rattle.std.specs.Prelude.{◌≡◌};
 ghost use Rattle.std.specs.Option.{option_zip};
 ghost use Rattle.hfs_scripts.specs.Numbers.{number_of};
 
-/// The greatest number that a field may write.
+/// The greatest number that a field may have.
 const GREATEST: u64 = 4_294_967_295;
 
-/// The number that a field writes: one to ten decimal digits, of value at most 4,294,967,295.
+/// The number in a field: one to ten decimal digits, at most 4,294,967,295.
 #[tactic(auto, unfolding(crate::specs::Numbers::number_of))]
 pub(crate) fn read_number(field: &[u8]) -> Option<u32>
     ensures { result ≡ number_of field.now }
@@ -28,7 +28,7 @@ pub(crate) fn read_number(field: &[u8]) -> Option<u32>
     Some(value)
 }
 
-/// The numbers that two fields write, if both write one.
+/// The numbers in two fields, if both are numbers.
 pub(crate) fn read_two_numbers(first: &[u8], second: &[u8]) -> Option<(u32, u32)>
     ensures { result ≡ option_zip (number_of first.now) (number_of second.now) }
 {

@@ -18,7 +18,7 @@ fn line_feed(bytes: &[u8]) -> Option<usize>
     memchr(b'\n', bytes)
 }
 
-/// The first line of bytes, and what stands behind it and its line feed.
+/// The first line of bytes, and what follows its line feed.
 #[tactic(auto, unfolding(crate::specs::Scripts::lines_of))]
 fn first_line(bytes: &[u8]) -> (&[u8], &[u8])
     requires { 0 < length bytes.now }
@@ -31,7 +31,7 @@ fn first_line(bytes: &[u8]) -> (&[u8], &[u8])
     }
 }
 
-/// The lines of bytes. At `Line` none before that line fails to read.
+/// The lines of bytes. At `Line`, all lines before that one can be read.
 fn read_lines(alloc: Global, bytes: &[u8], now: u32) -> Result<Vec<ScriptLine>, ScriptFault>
     ensures { GivesLines (lines_read now bytes.now) result }
 {
@@ -48,8 +48,8 @@ fn read_lines(alloc: Global, bytes: &[u8], now: u32) -> Result<Vec<ScriptLine>, 
     Ok(lines)
 }
 
-/// Reads a script; changes of its lines are made at the moment `now`. `TooLarge` where it has more than 16,777,216 bytes,
-/// `Line` with the first line that doesn't read, counted from 1; `Memory` only where memory is wanting.
+/// Reads a script, whose changes are made at the moment `now`. `TooLarge` if it has more than 16,777,216 bytes; `Line` with the
+/// first line that can't be read, counted from 1; `Memory` only when out of memory.
 #[tactic(auto, unfolding(crate::specs::Scripts::script_of))]
 pub fn read_script(alloc: Global, bytes: &[u8], now: u32) -> Result<Script, ScriptFault>
     ensures { GivesScript (script_of now bytes.now) result }

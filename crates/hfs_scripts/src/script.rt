@@ -22,7 +22,7 @@ impl Model for Script {
     ghost view = { λ a. a.items.items };
 }
 
-/// Whether both are one caller.
+/// Whether both are the same caller.
 fn is_same(one: Caller, other: Caller) -> bool
     ensures { result ≡ is_same one other }
 {
@@ -75,7 +75,7 @@ impl Script {
         items
     }
 
-    /// How many workers it has: as many as the greatest worker's number says, at least one.
+    /// How many workers it has: the greatest number of a worker, but at least one.
     #[tactic(auto, unfolding(crate::specs::Callers::workers))]
     pub fn workers(&self) -> u32
         ensures { result ≡ workers self.now }
@@ -87,7 +87,7 @@ impl Script {
         most
     }
 
-    /// How many viewers it has: as many as the greatest viewer's number says, at least one.
+    /// How many viewers it has: the greatest number of a viewer, but at least one.
     #[tactic(auto, unfolding(crate::specs::Callers::viewers))]
     pub fn viewers(&self) -> u32
         ensures { result ≡ viewers self.now }
@@ -99,7 +99,7 @@ impl Script {
         most
     }
 
-    /// The calls of a caller, in order, and the script of the other callers' lines. `Err` only where memory is wanting.
+    /// The calls of a caller, in order, and the script of the other callers' lines. `Err` only when out of memory.
     pub fn part(self, alloc: Global, caller: Caller) -> Result<(Vec<Call>, Script), AllocError>
         ensures calls { IfOk result (λ parts. parts.0.items ≡ calls_of caller self) }
         ensures others { IfOk result (λ parts. parts.1 ≡ lines_of_others caller self) }

@@ -83,7 +83,7 @@ pub(crate) fn word_text(word: Word) -> &'static [u8]
     }
 }
 
-/// The first of the words that has the text.
+/// The first of the words that has this text.
 fn find_word(words: &[Word], text: &[u8]) -> Option<Word>
     ensures { result ≡ find (λ word. bytes_eq text.now (word_text word)) words.now }
 {

@@ -43,7 +43,7 @@ fn is_field(name: &[u8]) -> bool
     name.iter().all(|byte| *byte != b'\t' && *byte != b'\n')
 }
 
-/// Whether no name of the call has a tab or a line feed, and the bytes that it writes are no more than 65,536.
+/// Whether no name of the call has a tab or a line feed, and it writes no more than 65,536 bytes.
 fn has_fields(call: &Call) -> bool
     ensures { result ≡ has_fields call.now }
 {
@@ -74,7 +74,7 @@ fn has_fields(call: &Call) -> bool
     }
 }
 
-/// Whether a call that changes is made at that moment.
+/// Whether a call that changes the volume is made at that moment.
 fn is_made_at(moment: u32, call: &Call) -> bool
     ensures { result ≡ is_made_at moment call.now }
 {
@@ -110,7 +110,7 @@ fn is_caller(caller: Caller) -> bool
     }
 }
 
-/// Whether a line has a text that is read as this line again, where the reader is given the moment `now`.
+/// Whether a line has a text that is read back as this line, if the reader is given the moment `now`.
 #[tactic(auto, unfolding(crate::specs::Texts::is_writable))]
 pub(crate) fn is_writable(now: u32, line: &ScriptLine) -> bool
     ensures { result ≡ is_writable now line.now }

@@ -96,9 +96,9 @@ fn write_lines(alloc: Global, lines: &[ScriptLine], now: u32) -> Result<Vec<u8>,
     Ok(text)
 }
 
-/// The text of a script with these lines, which is read as these lines again where the reader is given the moment `now`:
-/// numbers without leading zeros, hexadecimal digits in lower case, a line feed behind each line. `Unwritable` with the
-/// first line that has no text, `TooLarge` where all have one; `Memory` only where memory is wanting.
+/// The text of a script with these lines, which is read back as these lines if the reader is given the moment `now`: numbers
+/// without leading zeros, hexadecimal digits in lower case, a line feed after each line. `Unwritable` with the first line that
+/// has no text; `TooLarge` if all have one; `Memory` only when out of memory.
 pub fn script_text(alloc: Global, lines: &[ScriptLine], now: u32) -> Result<Vec<u8>, TextFault>
     ensures text { IfOk result (λ text. text.items ≡ script_text lines.now) }
     ensures reads { IfOk result (λ text. script_of now text.items ≡ Ok lines.now) }

@@ -1,8 +1,8 @@
-//! What closing gives.
+//! What closing returns.
 use hfs_model::Entry;
 use hfs_volume::Volume;
 
-/// The volume of a shared volume that was closed, all its calls in order, and how many of these the published list covers.
+/// The volume of a shared volume that was closed, all its calls in order, and how many of them the published list covers.
 #[derive(Drop)]
 pub struct Closed {
     pub volume: Volume,

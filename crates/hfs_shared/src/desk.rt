@@ -1,4 +1,4 @@
-//! The volume with its journal.
+//! A volume with its journal.
 ghost use Rattle.std.specs.Prelude.{◌≡◌, ◌≤◌, ◌<◌, [], length, IfOk, OnErr, IfErr};
 ghost use Rattle.hfs_shared.specs.Desks.{DeskState, desk_state, pass_state, wanted, want_of, want_in, entry_of, IsHeadline, IsApplied};
 ghost use Rattle.hfs_shared.specs.Faults.{IsCallFault};
@@ -14,15 +14,15 @@ mod closing;
 /// Why a call was not made. Nothing has changed then.
 #[derive(Clone, Copy, Debug)]
 pub enum CallFault {
-    /// The pass's number is not the next one of its worker, or there is no such worker; then `wanted` is 0.
+    /// The pass doesn't have its worker's next number, or there is no such worker; then `wanted` is 0.
     Stamp { wanted: u64, given: u64 },
-    /// Memory is wanting.
+    /// Out of memory.
     Memory,
 }
 
-/// A volume and the journal of its calls. Contracts see the image as it was mounted, the image as it is, the blocks of forks that
-/// were written since, the journal, and how many workers there are. The journal is legal over the mounted volume, and the volume
-/// is the one after it.
+/// A volume and the journal of its calls. Contracts see the image as it was mounted, the image as it is now, the blocks of forks
+/// that were written since, the journal, and how many workers there are. The journal is legal over the mounted volume, and the
+/// volume is the one after it.
 #[derive(Drop)]
 pub struct Desk {
     volume: Volume,
@@ -42,7 +42,7 @@ impl Model for Desk {
 }
 
 impl Desk {
-    /// A desk of a volume with no changed block, for so many workers. The volume comes back where memory is wanting.
+    /// A desk over a volume with no changed blocks, for `workers` workers. When out of memory, the volume is handed back.
     pub fn new(alloc: Global, volume: Volume, workers: u32) -> Result<Desk, Volume>
         requires workers { workers ≤ 8 }
         requires fresh { volume.current ≡ volume.base }
@@ -81,8 +81,8 @@ impl Desk {
         &self.journal
     }
 
-    /// Makes a call of a worker: one entry more in the journal. `Stamp` where the pass's number is not the next one of its
-    /// worker, before anything else is looked at.
+    /// Makes a call of a worker, which adds one entry to the journal. `Stamp` if the pass doesn't have its worker's next number;
+    /// this is checked before anything else.
     pub fn apply(&mut self, alloc: Global, pass: &mut Pass, call: &Call) -> Result<Reply, CallFault>
         ensures ok { IfOk result (λ r. IsApplied self.old pass.old call.now r self.new pass.new) }
         ensures err { OnErr result ((self.new ≡ self.old) × (pass.new ≡ pass.old)) }
@@ -128,7 +128,7 @@ fn entry(worker: u32, stamp: u64, call: Call, reply: &Reply) -> Entry
     }
 }
 
-// What a reply says of want.
+// The room that a reply says was lacking.
 fn want_of(reply: &Reply) -> Option<Want>
     ensures { result ≡ want_of reply.now }
 {
@@ -138,7 +138,7 @@ fn want_of(reply: &Reply) -> Option<Want>
     None
 }
 
-// The want that a value tells.
+// The room that a value says was lacking.
 fn want_in(value: &Value) -> Option<Want>
     ensures { result ≡ want_in value.now }
 {

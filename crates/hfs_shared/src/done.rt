@@ -4,8 +4,8 @@ use crate::pass::Pass;
 use hfs_model::{Call, Reply};
 use hfs_published::Told;
 
-/// A job that was run: its pass as it is now, and the reply to each call that was made, with what was told of it. Without a
-/// fault all its calls were made.
+/// A job that was run: its pass as it is now, and the reply to each call that was made, with the list that was published then.
+/// Without a fault, all its calls were made.
 #[derive(Drop)]
 pub struct Done {
     pub pass: Pass,
@@ -13,7 +13,7 @@ pub struct Done {
     pub fault: Option<CallFault>,
 }
 
-/// Jobs that were not begun, since memory was wanting.
+/// Jobs that were not begun, because memory ran out.
 #[derive(Drop)]
 pub struct RunFault {
     pub jobs: Vec<(Pass, Vec<Call>)>,

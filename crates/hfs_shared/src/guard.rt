@@ -16,9 +16,9 @@ use std::alloc::Global;
 use std::marker::Model;
 use std::sync::{MutexGuard, Wait};
 
-/// It has the lock, until it is dropped, and offers the calls of what lies under it. Contracts see what lies there: the image
-/// as it was mounted, the image as it is, the blocks of forks that were written since, the journal, how many workers there are,
-/// and how many entries the published list covers.
+/// Holds the lock until it is dropped, and offers the calls of what lies under it. Contracts see what lies there: the image as it
+/// was mounted, the image as it is now, the blocks of forks that were written since, the journal, how many workers there are, and
+/// how many entries the published list covers.
 #[derive(Drop)]
 pub struct Guard<'a, K: Session> {
     inner: MutexGuard<'a, Locked<K>>,
@@ -40,8 +40,8 @@ impl<'a, K: Session> Guard<'a, K> {
 }
 
 impl<K: Session> Guard<'_, K> {
-    /// Makes a call of a worker: one entry more in the journal, and the pass's number is one more. `Stamp` where that number is
-    /// not the next one of its worker, before anything else is looked at. At a fault nothing has changed.
+    /// Makes a call of a worker: adds one entry to the journal and one to the pass's number. `Stamp` if that number isn't its
+    /// worker's next one; this is checked before anything else. At a fault nothing has changed.
     pub fn apply(&mut self, alloc: Global, pass: &mut Pass, call: &Call) -> Result<Reply, CallFault>
         ensures ok { IfOk result (λ r.
             IsApplied (desk_of self.old) pass.old call.now r (desk_of self.new) pass.new) }
@@ -53,7 +53,7 @@ impl<K: Session> Guard<'_, K> {
         self.inner.apply(alloc, pass, call)
     }
 
-    /// Shows all that waits, in one step, or nothing of it where memory is wanting; what is then published is told.
+    /// Shows viewers everything that waits, in one step, or nothing when out of memory. Returns the list that is published then.
     pub fn publish<R: Wait>(&mut self, rt: &R) -> Told
         ensures desk { desk_of self.new ≡ desk_of self.old }
         ensures shown { CoversAllOrSame self.old self.new.shown }

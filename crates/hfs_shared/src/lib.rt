@@ -1,5 +1,5 @@
-//! What the workers share: a volume with its journal, in which each call stands with its worker and its number, and the list of
-//! its changes that viewers read.
+//! What the workers share: a volume with its journal, which has each call with its worker and its number, and the list of its
+//! changes that viewers read.
 #![tactic(auto)]
 
 mod closed;

@@ -1,4 +1,4 @@
-//! What lies under the lock: the volume with its journal, and the list that is published of it.
+//! What lies under the lock: the volume with its journal, and the published list of its changes.
 ghost use Rattle.std.specs.Prelude.{◌≡◌, ◌⊎◌, ◌≤◌, [], length, drop, ◌-◌, IfOk, OnErr, IfErr};
 ghost use Rattle.hfs_check.specs.VolumeOf.{volume_of};
 ghost use Rattle.hfs_published.specs.Journals.{published, NoneAccepted};
@@ -18,12 +18,12 @@ use std::sync::Wait;
 
 mod closing;
 
-/// A desk, and the list that is published of its journal. Contracts see the desk, and how many entries the list covers.
+/// A desk, and the published list of its journal. Contracts see the desk, and how many entries the list covers.
 #[derive(Drop)]
 pub struct Locked<K: Session> {
     desk: Desk,
     pair: Pair,
-    // The entries whose changes the pair has.
+    // How many entries' changes the pair has.
     added: usize,
     shown: usize,
     of: PhantomData<K>,
@@ -40,7 +40,7 @@ impl<K: Session> Model for Locked<K> {
 }
 
 impl<K: Session> Locked<K> {
-    /// A desk with no entries, and a pair that has the opening alone.
+    /// A desk with no entries, and a pair that has only the opening.
     pub(crate) fn new(desk: Desk, pair: Pair) -> Locked<K>
         requires empty { desk.journal ≡ [] }
         requires base { desk.base ≡ K.base }
@@ -59,8 +59,8 @@ impl<K: Session> Locked<K> {
         }
     }
 
-    /// Makes a call of a worker: one entry more in the journal. `Stamp` where the pass's number is not the next one of its
-    /// worker, before anything else is looked at.
+    /// Makes a call of a worker, which adds one entry to the journal. `Stamp` if the pass doesn't have its worker's next number;
+    /// this is checked before anything else.
     pub fn apply(&mut self, alloc: Global, pass: &mut Pass, call: &Call) -> Result<Reply, CallFault>
         ensures ok { IfOk result (λ r.
             IsApplied (desk_of self.old) pass.old call.now r (desk_of self.new) pass.new) }
@@ -80,7 +80,7 @@ impl<K: Session> Locked<K> {
         self.shown as u64
     }
 
-    /// Shows all that waits, in one step, or nothing of it where memory is wanting; what is then published is told.
+    /// Shows viewers everything that waits, in one step, or nothing when out of memory. Returns the list that is published then.
     pub fn publish<R: Wait>(&mut self, rt: &R) -> Told
         ensures desk { desk_of self.new ≡ desk_of self.old }
         ensures shown { CoversAllOrSame self.old self.new.shown }
@@ -96,7 +96,7 @@ impl<K: Session> Locked<K> {
     }
 }
 
-// Adds the changes of the next entries to the pair, as far as there is memory. It answers how many entries the pair then has.
+// Adds the changes of the next entries to the pair, as far as memory allows. Returns how many entries the pair then has.
 fn gather(pair: &mut Pair, journal: &[Entry], added: usize) -> usize
     requires { added ≤ length journal.now }
     ensures order { (added ≤ result) × (result ≤ length journal.now) }
@@ -106,7 +106,7 @@ fn gather(pair: &mut Pair, journal: &[Entry], added: usize) -> usize
     added + pair.add_entries(&journal[added..])
 }
 
-// Shows what the pair has, if it has the changes of all entries. It answers how many entries the published list then covers.
+// Shows what the pair has, if it has the changes of all entries. Returns how many entries the published list then covers.
 fn show<R: Wait>(rt: &R, pair: &mut Pair, added: usize, made: usize, shown: usize) -> usize
     ensures shown { ((result ≡ made) × (added ≡ made)) ⊎ (result ≡ shown) }
     ensures lists { ShowsOf pair.old added shown pair.new result }

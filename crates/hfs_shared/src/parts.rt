@@ -17,9 +17,9 @@ use std::sync::Wait;
 /// Why a volume was not shared.
 #[derive(Clone, Copy, Debug)]
 pub enum Why {
-    /// Memory is wanting.
+    /// Out of memory.
     Memory,
-    /// There was no place for a viewer.
+    /// There was no room for another viewer.
     NoPlace,
 }
 
@@ -27,12 +27,12 @@ pub enum Why {
 #[derive(Drop)]
 pub struct StartFault {
     pub why: Why,
-    /// The volume that was given. Its bytes are as they were; none of its blocks need still be kept as changed.
+    /// The volume that was given. Its bytes are as they were, but its blocks may no longer be kept as changed.
     pub volume: Volume,
 }
 
-/// A volume that is to be shared, with no call made yet. Contracts see the name of the published list's history, the image that
-/// is shared, whose volume opens that list, and how many workers there are.
+/// A volume that is about to be shared, with no call made yet. Contracts see the name of the published list's history, the image
+/// that is shared, whose volume opens that list, and how many workers there are.
 #[derive(Drop)]
 pub struct Parts {
     desk: Desk,
@@ -50,9 +50,9 @@ impl Model for Parts {
 }
 
 impl Parts {
-    /// The parts of a volume for so many workers and viewers, with the passes of workers 1, 2 and so on, and with viewers that
-    /// have seen the volume as it is now. At a fault the volume is handed back: `Memory` where memory is wanting, `NoPlace` where
-    /// there was no place for a viewer.
+    /// The parts of a volume for `workers` workers and `viewers` viewers, with the passes of workers 1, 2 and so on, and viewers
+    /// that have seen the volume as it is now. At a fault the volume is handed back: `Memory` when out of memory, `NoPlace` if
+    /// there was no room for a viewer.
     pub fn start<R: Wait>(
         rt: &R,
         alloc: Global,
@@ -73,9 +73,9 @@ impl Parts {
         }
     }
 
-    /// The parts of a volume that no viewer reads, for so many workers, with their passes as of [`Parts::start`]. Nothing is kept for
-    /// viewers. The one viewer has seen the volume as it is now: it learns told lists and serves to close, but
-    /// any read of it is `Gone`. At a fault, which is `Memory`, the volume is handed back.
+    /// The parts of a volume that no viewer reads, for `workers` workers, with their passes as for [`Parts::start`]. Nothing is
+    /// kept for viewers. The one viewer has seen the volume as it is now: it learns published lists and serves to close, but any
+    /// read through it is `Gone`. At a fault, which is `Memory`, the volume is handed back.
     pub fn start_unread(
         alloc: Global,
         volume: Volume,
@@ -99,7 +99,7 @@ impl Parts {
     }
 }
 
-// A desk of the volume, and the first passes.
+// A desk over the volume, and the first passes.
 fn begin(alloc: Global, volume: Volume, workers: u32) -> Result<(Desk, Vec<Pass>), StartFault>
     requires { workers ≤ 8 }
     ensures desk { IfOk result (λ r. r.0
@@ -124,7 +124,7 @@ fn fault(why: Why, volume: Volume) -> StartFault
     StartFault { why, volume }
 }
 
-// A desk of the volume, which is mounted anew. It comes back where memory is wanting.
+// A desk over the volume, which is mounted anew. When out of memory, the volume is handed back.
 fn new_desk(alloc: Global, volume: Volume, workers: u32) -> Result<Desk, Volume>
     requires { workers ≤ 8 }
     ensures ok { IfOk result (λ d. d ≡ desk_state volume.current volume.current [] [] workers) }
@@ -137,7 +137,7 @@ fn new_desk(alloc: Global, volume: Volume, workers: u32) -> Result<Desk, Volume>
     }
 }
 
-// The passes of so many workers. None where memory is wanting.
+// The first passes of `workers` workers. None when out of memory.
 fn first_passes(alloc: Global, workers: u32) -> Option<Vec<Pass>>
     requires { workers ≤ 8 }
     ensures { IfSome result (λ v. AreFirstPasses workers v.items) }

@@ -38,7 +38,7 @@ impl Pass {
         self.worker
     }
 
-    /// The number of its next call, which is 1 at first.
+    /// The number of its next call; 1 at first.
     pub fn number(&self) -> u64
         ensures value { result ≡ self.now.number }
         ensures positive { 0 < result }
@@ -46,14 +46,14 @@ impl Pass {
         self.number
     }
 
-    /// Whether it is the pass of this worker, with this number.
+    /// Whether it is this worker's pass, with this number.
     pub fn is(&self, worker: u32, number: u64) -> bool
         ensures { IsWhether result (self.now ≡ pass_state worker number) }
     {
         self.worker == worker && self.number == number
     }
 
-    /// A copy, for the answer about a job whose own pass is lost with it.
+    /// A copy, for the result of a job whose own pass is lost with it.
     pub(crate) fn again(&self) -> Pass
         ensures { result ≡ self.now }
     {

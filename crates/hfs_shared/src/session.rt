@@ -1,7 +1,7 @@
 //! Which pair of copies a shared volume has, and over which image it was shared.
 use std::marker::Brand;
 
-/// Names one pair of copies, by its history, and the image that was shared: its volume opens the history.
+/// Names one pair of copies, by its history, and the image that was shared, whose volume opens the history.
 pub trait Session {
     ghost use Rattle.std.specs.Prelude.{ℕ, List};
     ghost use Rattle.logbook.specs.Pages.{Book};

@@ -15,8 +15,8 @@ use hfs_published::{Told, Viewer};
 use std::alloc::Global;
 use std::sync::{Mutex, Wait};
 
-/// A volume with its journal under one lock, for workers with passes, and the list of its changes that viewers read without
-/// the lock.
+/// A volume with its journal under one lock, for workers with passes, and the list of its changes, which viewers read without the
+/// lock.
 #[derive(Drop)]
 pub struct Shared<K: Session> {
     lock: Mutex<Locked<K>>,
@@ -29,19 +29,19 @@ impl<K: Session> Shared<K> {
         }
     }
 
-    /// What lies under the lock, for a caller who alone has it.
+    /// What lies under the lock, for a caller that owns all of it.
     pub fn into_locked(self) -> Locked<K> {
         let Shared { lock } = self;
         lock.into_inner()
     }
 
-    /// The lock, for which it waits.
+    /// Takes the lock, and waits for it.
     pub fn lock<R: Wait>(&self, rt: &R) -> Guard<'_, K> {
         Guard::new(self.lock.lock(rt))
     }
 
-    /// Makes one call under the lock, and publishes what waits: the reply, and what is published then. At a fault, as of
-    /// [`Guard::apply`], nothing has changed.
+    /// Makes one call under the lock, and publishes what waits. Returns the reply, and the list that is published then. At a
+    /// fault, as for [`Guard::apply`], nothing has changed.
     pub fn call<R: Wait>(
         &self,
         rt: &R,
@@ -60,9 +60,9 @@ impl<K: Session> Shared<K> {
         Ok((reply, told))
     }
 
-    /// Ends the sharing, for which it waits for viewers that read; the lent viewer, of the same `Shared`, learns all that was
-    /// published. Refused as by [`Locked::close`], where the passes are not those of all workers, each once and with its next
-    /// number: then the same parts come back, and the viewer is unchanged.
+    /// Ends the sharing, waiting for viewers that are reading; the viewer that is lent, which must be of the same `Shared`,
+    /// learns everything that was published. Refused, as by [`Locked::close`], if the passes are not those of all workers, each
+    /// once and with its next number: then the same parts are handed back, and the viewer is unchanged.
     pub fn close<R: Wait>(
         self,
         rt: &R,

@@ -18,17 +18,17 @@ use std::thread::Threads;
 
 /// What is called around each call of a worker, with the worker and the call's number.
 pub trait Gate {
-    /// Before the lock is asked for.
+    /// Called before the lock is asked for.
     fn before(&self, worker: u32, stamp: u64);
 
-    /// While it is held, when the call was made and is not published yet.
+    /// Called while the lock is held, after the call was made and before it is published.
     fn inside(&self, worker: u32, stamp: u64);
 
-    /// When it was let go.
+    /// Called after the lock was let go.
     fn after(&self, worker: u32, stamp: u64);
 }
 
-// One call, with the gate's around it.
+// One call, with the gate's calls around it.
 fn call_at<K: Session, R: Wait, G: Gate>(
     shared: &Shared<K>,
     rt: &R,
@@ -49,7 +49,7 @@ fn call_at<K: Session, R: Wait, G: Gate>(
     answer
 }
 
-// One call under the lock, with the gate's between it and what it publishes.
+// One call under the lock, with the gate's call between it and the publishing.
 fn call_inside<K: Session, R: Wait, G: Gate>(
     shared: &Shared<K>,
     rt: &R,
@@ -98,7 +98,7 @@ fn one_more<K: Session, R: Wait, G: Gate>(
     }
 }
 
-// The calls of a worker, up to its first fault.
+// Makes a worker's calls, up to its first fault.
 fn work<K: Session, R: Wait, G: Gate>(
     shared: &Shared<K>,
     rt: &R,
@@ -121,7 +121,7 @@ fn work<K: Session, R: Wait, G: Gate>(
     done.fault = fault;
 }
 
-// What is done of a job that is not begun.
+// The result of a job that is not begun.
 fn begin(alloc: Global, pass: &Pass) -> Done
     ensures { result.pass ≡ pass.now }
 {
@@ -132,7 +132,7 @@ fn begin(alloc: Global, pass: &Pass) -> Done
     }
 }
 
-// What is done of jobs that are not begun. None where memory is wanting.
+// The results of jobs that are not begun. None when out of memory.
 fn begin_all(alloc: Global, jobs: &Vec<(Pass, Vec<Call>)>) -> Option<Vec<Done>>
     ensures many { IfSome result (λ v. length v.items ≡ length jobs.now.items) }
     ensures passes { IfSome result (λ v. HaveTheirPasses jobs.now.items v.items) }
@@ -147,10 +147,10 @@ fn begin_all(alloc: Global, jobs: &Vec<(Pass, Vec<Call>)>) -> Option<Vec<Done>>
     Some(dones)
 }
 
-/// Runs each job in a thread of its own, or, where no thread can be made for it, in another job's: a worker makes its calls in
-/// order, with the gate's around each, and stops at its first fault. Room for a reply is made before its call; where there is
-/// none, that call is not made, and the fault is `Memory`. The jobs come back, with nothing done, where memory was wanting
-/// before the first thread.
+/// Runs each job in a thread of its own or, if no thread can be made for it, in another job's. A worker makes its calls in order,
+/// with the gate's calls around each, and stops at its first fault. Room for a reply is made before its call; if there is none,
+/// the call is not made, and the fault is `Memory`. If memory runs out before the first thread, the jobs are handed back with
+/// nothing done.
 pub fn run_workers<K: Session + Send + Sync, R: Threads + Wait + Sync, G: Gate + Sync>(
     shared: &Shared<K>,
     rt: &R,

@@ -1,4 +1,4 @@
-//! A viewer beside a worker that is held under the lock.
+//! A viewer that reads while a worker is held under the lock.
 ghost use Rattle.std.specs.Prelude.{◌≡◌};
 ghost use Rattle.std.specs.Thread.{IsSync};
 
@@ -15,7 +15,7 @@ use std::test::Fail;
 use std::thread;
 use std::thread::Threads;
 
-/// A worker stands under the lock, when its call was made, until a list is answered.
+/// A worker that is held under the lock, after its call was made, until a list is answered.
 #[derive(Drop)]
 struct Within<'a> {
     clock: &'a HostRuntime,
@@ -37,7 +37,7 @@ impl Gate for Within<'_> {
     fn after(&self, _worker: u32, _stamp: u64) {}
 }
 
-/// A gate beside which a viewer watches.
+/// A gate during which a viewer watches.
 trait Watched {
     fn watch(&self, alloc: Global, viewer: &mut Viewer) -> bool;
 }
@@ -52,7 +52,7 @@ impl Watched for Within<'_> {
     }
 }
 
-/// How many replies a worker gets, and how many faults; and what a viewer sees beside it.
+/// How many replies a worker gets, and how many faults; and what a viewer sees meanwhile.
 type Seen = ((usize, usize), bool);
 
 fn run_beside<K: Session + Send + Sync, R: Threads + Wait + Sync, G: Gate + Watched + Sync>(

@@ -9,7 +9,7 @@ use std::marker::Brand;
 use std::sync::Wait;
 use std::test::Fail;
 
-/// A worker makes the files that have these letters for their names. Where one is there, the call is refused.
+/// A worker makes the files with these letters as names. If one exists, the call is refused.
 fn make_files<K: Session>(
     rt: &impl Wait,
     alloc: Global,
@@ -22,7 +22,7 @@ fn make_files<K: Session>(
     }
 }
 
-/// The same of each worker.
+/// The same for each worker.
 fn make_all<K: Session>(
     rt: &impl Wait,
     alloc: Global,
@@ -35,7 +35,7 @@ fn make_all<K: Session>(
     }
 }
 
-/// What closing gives when each worker has made these files.
+/// What closing returns after each worker has made these files.
 fn closed_after<K: Session, R: Wait>(
     rt: &R,
     alloc: Global,
@@ -71,8 +71,8 @@ fn closed_one(rt: &impl Wait, alloc: Global) -> Result<Option<Closed>, Fail> {
     Ok(closed)
 }
 
-/// Whether a journal has ten calls that are made, and behind them the same ten that are refused, since the files are there; and all
-/// are shown.
+/// Whether a journal has ten calls that are made, and then the same ten that are refused, since the files exist; and all are
+/// shown.
 fn is_made_once(closed: &Closed) -> bool {
     for (place, entry) in closed.journal.iter().enumerate() {
         let wanted = if place < 10 { 0 } else { -48 };

@@ -1,4 +1,4 @@
-//! A fork that a worker writes while a viewer reads it, and what closing gives of it.
+//! A fork that a worker writes while a viewer reads it, and what closing returns.
 ghost use Rattle.std.specs.Prelude.{◌≡◌, IfSome};
 
 use crate::sharing::{begun_new, closed, make, make_file};
@@ -21,7 +21,7 @@ fn writing(alloc: Global, offset: u32, bytes: &[u8]) -> Result<Call, AllocError>
     })
 }
 
-/// Makes the file, and writes `hello` into it: what is told; none where a call is not answered.
+/// Makes the file, and writes `hello` into it, and returns the list that is published then; None if a call is not answered.
 fn make_hello<K: Session>(
     rt: &impl Wait,
     alloc: Global,
@@ -36,7 +36,7 @@ fn make_hello<K: Session>(
     Some(told)
 }
 
-/// Writes bytes into the file under the lock. Whether it is answered 0.
+/// Writes bytes into the file under the lock. Whether the answer is 0.
 fn writes<K: Session>(
     alloc: Global,
     guard: &mut Guard<'_, K>,
@@ -53,7 +53,7 @@ fn writes<K: Session>(
     }
 }
 
-/// Writes a byte over the second one a hundred times. Whether each is answered 0.
+/// Writes a byte over the second one a hundred times. Whether each answer is 0.
 fn writes_more<K: Session>(alloc: Global, guard: &mut Guard<'_, K>, pass: &mut Pass) -> bool {
     let mut are_made = true;
     for _turn in 0..100 {
@@ -90,7 +90,7 @@ fn reads(alloc: Global, viewer: &mut Viewer, wanted: &[u8; 5]) -> bool
     }
 }
 
-/// Whether a viewer reads the old bytes behind a write, and behind a hundred more, and the new ones when it learned of them.
+/// Whether a viewer reads the old bytes after a write, and after a hundred more, and the new ones once it learned of them.
 fn reads_beside<K: Session>(
     rt: &impl Wait,
     alloc: Global,
@@ -109,7 +109,7 @@ fn reads_beside<K: Session>(
     reads(alloc, viewer, b"xyllo") && is_first && is_last
 }
 
-/// The same by the first of these passes, on a file that has `hello`, of which the viewer learned.
+/// The same with the first of these passes, on a file that has `hello`, of which the viewer learned.
 fn reads_all<K: Session>(
     rt: &impl Wait,
     alloc: Global,
@@ -130,7 +130,7 @@ fn reads_all<K: Session>(
     reads(alloc, viewer, b"hello") && reads_beside(rt, alloc, shared, pass, viewer)
 }
 
-/// The same of the parts of a volume, and what closing gives then.
+/// The same on the parts of a volume, and what closing then returns.
 fn read_and_closed<K: Session, R: Wait>(
     rt: &R,
     alloc: Global,

@@ -1,5 +1,5 @@
-//! Tests of a volume that workers and viewers share: small volumes, calls of which what they leave
-//! is written by hand, and gates that wait for at most 100,000 turns.
+//! Tests of a volume that workers and viewers share: small volumes, calls whose results are written by hand, and gates that wait
+//! for at most 100,000 turns.
 #![tactic(auto)]
 
 #[cfg(test)]

@@ -12,8 +12,8 @@ use std::sync::atomic::{AtomicU64, Ordering};
 use std::test::Fail;
 use std::thread::Threads;
 
-/// Eight workers that all stand before their first calls at once, and one of which stands there until all calls of the others are
-/// answered. So many are here, so many of these calls are answered, and so many waited in vain.
+/// Eight workers that are all held before their first calls at once, and one of which is held there until all calls of the others
+/// are answered. Counts how many are here, how many of these calls are answered, and how many waited in vain.
 #[derive(Drop)]
 struct Meeting<'a> {
     clock: &'a HostRuntime,
@@ -24,7 +24,7 @@ struct Meeting<'a> {
 }
 
 impl Meeting<'_> {
-    /// Waits for what a worker is to wait for, and answers whether it came.
+    /// Waits for what a worker is to wait for, and returns whether it came.
     fn meets(&self, worker: u32) -> bool {
         waits_for(self.clock, &self.here, 8)
             && (worker != self.held || waits_for(self.clock, &self.answered, 14))
@@ -91,7 +91,7 @@ fn counted(dones: &Vec<Done>) -> (usize, usize) {
     (replies, faults)
 }
 
-/// Runs jobs: how many replies there are, and how many faults.
+/// Runs jobs, and returns how many replies there are, and how many faults.
 pub fn run<K: Session + Send + Sync, R: Threads + Wait + Sync, G: Gate + Sync>(
     shared: &Shared<K>,
     rt: &R,
@@ -105,7 +105,7 @@ pub fn run<K: Session + Send + Sync, R: Threads + Wait + Sync, G: Gate + Sync>(
     }
 }
 
-/// The parts of a new volume, a job of two calls for each of so many workers, and a viewer.
+/// The parts of a new volume, a job of two calls for each of this many workers, and a viewer.
 pub fn begun_jobs(
     rt: &impl Wait,
     alloc: Global,

@@ -32,7 +32,7 @@ fn refused_stamp<K: Session>(
     }
 }
 
-/// The stamps with which other first passes are refused: of worker 1, who made a call, and of worker 3, of whom there is none.
+/// The stamps with which other first passes are refused: of worker 1, who made a call, and of worker 3, which doesn't exist.
 fn refused<K: Session, R: Wait>(
     rt: &R,
     alloc: Global,
@@ -47,7 +47,7 @@ fn refused<K: Session, R: Wait>(
     (elsewhere, refused_stamp(rt, alloc, &shared, Pass::first(3)))
 }
 
-/// The same of a new volume with one worker.
+/// The same for a new volume with one worker.
 fn refused_on_new(rt: &impl Wait, alloc: Global) -> Result<(Stamp, Stamp), Fail> {
     let (parts, pass, _viewer) = begun_one(rt, alloc, new_volume(alloc)?)?;
     let stamps = refused::<Brand, _>(rt, alloc, parts, pass);

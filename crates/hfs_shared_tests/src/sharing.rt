@@ -1,4 +1,4 @@
-//! A small volume that is shared, the calls on it in short, and what viewers are asked.
+//! A small volume that is shared, short forms of the calls on it, and what viewers are asked.
 ghost use Rattle.std.specs.Prelude.{◌≡◌, ◌<◌, ◌≤◌, All, IfOk, IfSome};
 
 use hfs_fixtures::{FixtureFault, new_image};
@@ -52,7 +52,7 @@ pub fn begun(
     }
 }
 
-/// The same of a new volume.
+/// The same for a new volume.
 pub fn begun_new(
     rt: &impl Wait,
     alloc: Global,
@@ -88,7 +88,7 @@ pub fn create(alloc: Global, name: &[u8]) -> Result<Call, AllocError> {
     })
 }
 
-/// Makes a call: its reply, and what is told; none where it is not answered.
+/// Makes a call, and returns its reply and the list that is published then; None if it is not answered.
 pub fn make<K: Session>(
     rt: &impl Wait,
     alloc: Global,
@@ -104,7 +104,7 @@ pub fn make<K: Session>(
     }
 }
 
-/// Makes a file in the root: what is told; none where the call is not answered.
+/// Makes a file in the root, and returns the list that is published then; None if the call is not answered.
 pub fn make_file<K: Session>(
     rt: &impl Wait,
     alloc: Global,
@@ -135,7 +135,7 @@ pub fn applied<K: Session>(
     }
 }
 
-/// What closing by the passes of all workers gives; none where it is refused.
+/// What closing with the passes of all workers returns; None if it is refused.
 pub fn closed<K: Session>(
     rt: &impl Wait,
     shared: Shared<K>,
@@ -157,7 +157,7 @@ fn push_name(text: &mut Vec<u8>, name: &[u8]) -> Result<(), AllocError> {
     Ok(())
 }
 
-/// The names of these items, each with a space behind it.
+/// The names of these items, each followed by a space.
 fn names_of(alloc: Global, infos: &[Info]) -> Result<Vec<u8>, AllocError> {
     let mut text = Vec::new(alloc);
     for info in infos {
@@ -166,7 +166,7 @@ fn names_of(alloc: Global, infos: &[Info]) -> Result<Vec<u8>, AllocError> {
     Ok(text)
 }
 
-/// Whether these are the names of items, each with a space behind it.
+/// Whether these are the names of items, each followed by a space.
 fn are_names(alloc: Global, infos: &[Info], wanted: &[u8]) -> bool {
     match names_of(alloc, infos) {
         Ok(names) => *names.as_slice() == *wanted,
@@ -174,7 +174,7 @@ fn are_names(alloc: Global, infos: &[Info], wanted: &[u8]) -> bool {
     }
 }
 
-/// Whether a reply tells these names, each with a space behind it.
+/// Whether a reply has these names, each followed by a space.
 fn tells(alloc: Global, reply: &Reply, wanted: &[u8]) -> bool {
     match &reply.value {
         Value::Many(infos) => are_names(alloc, infos.as_slice(), wanted),
@@ -189,7 +189,7 @@ fn tells(alloc: Global, reply: &Reply, wanted: &[u8]) -> bool {
     }
 }
 
-/// Whether these are the names of the root's children as a viewer lists them, each with a space behind it.
+/// Whether these are the names of the root's children as a viewer lists them, each followed by a space.
 pub fn lists(alloc: Global, viewer: &mut Viewer, wanted: &[u8]) -> bool
     ensures { viewer.new.book ≡ viewer.old.book }
 {

@@ -1,4 +1,4 @@
-//! What a viewer sees of what it is told.
+//! What a viewer sees of the lists that it learns.
 ghost use Rattle.std.specs.Prelude.{◌≡◌};
 
 use crate::closing::counts_of;
@@ -9,7 +9,8 @@ use std::marker::Brand;
 use std::sync::Wait;
 use std::test::Fail;
 
-/// Whether a viewer that learns what is told of the file `b`, and then of the file `a` that was made before it, lists both.
+/// Whether a viewer that learns the list after the file `b`, and then that after the file `a`, which was made before it, lists
+/// both.
 fn learns_both<K: Session>(
     rt: &impl Wait,
     alloc: Global,
@@ -31,7 +32,7 @@ fn learns_both<K: Session>(
     lists(alloc, viewer, b"a b ")
 }
 
-/// The same by the first of these passes.
+/// The same with the first of these passes.
 fn learns_by_first<K: Session>(
     rt: &impl Wait,
     alloc: Global,
@@ -48,7 +49,7 @@ fn learns_by_first<K: Session>(
     }
 }
 
-/// The same, and what closing gives by the viewer that learned of both.
+/// The same, and what closing returns with the viewer that learned of both.
 fn learned<K: Session, R: Wait>(
     rt: &R,
     alloc: Global,
@@ -64,7 +65,8 @@ fn learned<K: Session, R: Wait>(
     (learns, closed(rt, shared, passes, &mut viewer))
 }
 
-/// The same of a new volume: whether both are listed, how many entries there are, how many are shown, and whether blocks are changed.
+/// The same for a new volume: whether both are listed, how many entries there are, how many are shown, and whether blocks are
+/// changed.
 fn learned_on_new(
     rt: &impl Wait,
     alloc: Global,
@@ -81,7 +83,7 @@ fn told_lists_are_learned_in_any_order(rt: HostRuntime) -> Result<(), Fail> {
     Ok(())
 }
 
-/// Publishes what waits, and lets a viewer learn it: what is told of how many entries are shown, and are made.
+/// Publishes what waits, and lets a viewer learn it; returns how many entries are shown, and how many are made.
 fn publish_to<K: Session>(
     rt: &impl Wait,
     guard: &mut Guard<'_, K>,
@@ -94,8 +96,8 @@ fn publish_to<K: Session>(
     (told.shown(), told.made())
 }
 
-/// While the lock is held: how many entries are shown before a publish and after it, and what is told of both numbers; and whether
-/// a viewer lists nothing before it, and the file `a` alone when it was told.
+/// While the lock is held: how many entries are shown before a publish and after it, and both numbers of the list; and whether a
+/// viewer lists nothing before it, and only the file `a` once it learned the list.
 fn shown_under_lock<K: Session>(
     rt: &impl Wait,
     alloc: Global,
@@ -117,7 +119,7 @@ fn shown_under_lock<K: Session>(
     )
 }
 
-/// The same of the parts of a volume.
+/// The same for the parts of a volume.
 fn shown_by_publish<K: Session, R: Wait>(
     rt: &R,
     alloc: Global,

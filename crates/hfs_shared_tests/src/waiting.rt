@@ -3,7 +3,7 @@ use std::sync::atomic::{AtomicU64, Ordering};
 use std::thread;
 use std::time::Duration;
 
-/// Each thirty-second turn sleeps for a millisecond, the others yield.
+/// Every thirty-second turn sleeps for a millisecond, the others yield.
 fn pause(clock: &HostRuntime, turn: u32) {
     if turn % 32 == 31 {
         thread::sleep(clock, Duration::from_millis(1));
@@ -12,7 +12,7 @@ fn pause(clock: &HostRuntime, turn: u32) {
     }
 }
 
-/// Waits until there are so many, and answers whether there are.
+/// Waits until there are `wanted`, and returns whether there are.
 pub fn waits_for(clock: &HostRuntime, count: &AtomicU64, wanted: u64) -> bool {
     for turn in 0..100_000 {
         if count.load(Ordering::SeqCst) >= wanted {

@@ -24,15 +24,15 @@ use std::time::{Duration, SystemTime, UNIX_EPOCH};
 /// How many names are tried for the folder in which a folder is written.
 const NAMES: u32 = 100;
 
-/// A system that is handed back, with why what was asked was not done.
+/// A system that is handed back, with the reason why something was not done.
 #[derive(Drop)]
 pub struct Unmade<Y> {
     pub system: Y,
     pub fault: ShelfFault,
 }
 
-/// A folder that is written beside its place under a name of its own, and gets its place when it is
-/// whole. Its files are made new, so no path leads through a link that was there before.
+/// A folder that is written under another name next to its place, and gets its place once it is whole. Its files are created as
+/// new, so no path leads through a link that was there before.
 #[derive(Drop)]
 pub struct FileShelf<Y: FileSystem> {
     alloc: Global,
@@ -41,14 +41,13 @@ pub struct FileShelf<Y: FileSystem> {
     pub folder: String,
     /// The path within the folder of the file that was made last, while it takes pieces.
     made: Option<String>,
-    /// The time that this file gets when it is let go of.
+    /// The time that this file gets when it is closed.
     pub modified: Option<u32>,
-    /// The folder, opened and never read: it keeps a descriptor, so that there is one for taking away
-    /// what was written.
+    /// The folder, opened and never read: it holds a file descriptor, so that one is left for removing what was written.
     kept: Option<Y::Names>,
 }
 
-/// Makes the first folder whose name is free of those in which a folder at this path may be written.
+/// Makes the folder in which a folder at this path is written, under the first name that is free.
 #[tactic(auto, using(crate::proofs::PlacingLemmas::placing))]
 fn new_folder<Y: FileSystem>(
     alloc: Global,
@@ -77,10 +76,9 @@ fn new_folder<Y: FileSystem>(
 }
 
 impl<Y: FileSystem> FileShelf<Y> {
-    /// Makes the folder in which a folder at this path is to be written: `PATH.0.new` to
-    /// `PATH.99.new`, the first whose name is free. Faults: `CannotWrite` of that name, also where
-    /// the folder can't be opened, or of the path itself where no name is free; `NoMemory`. At a fault
-    /// no folder was made, or it is taken away again.
+    /// Makes the folder in which a folder at this path will be written, under the first of the names `PATH.0.new` to
+    /// `PATH.99.new` that is free. Faults: `CannotWrite` of that name, also if the folder can't be opened, or of the path itself
+    /// if no name is free; `NoMemory`. At a fault no folder was made, or it was removed again.
     #[tactic(auto, using(crate::proofs::PlacingLemmas::placing, crate::proofs::RemovalLemmas::removals))]
     pub fn create(alloc: Global, system: Y, path: &str) -> Result<FileShelf<Y>, Unmade<Y>>
         ensures empty { IfOk result (λ shelf. given_by (string_bytes shelf.folder) shelf.modified (Y.did shelf.system) ≡ []) }
@@ -112,8 +110,8 @@ impl<Y: FileSystem> FileShelf<Y> {
         }
     }
 
-    /// Gives the folder its place. Faults: `CannotWrite` of that place, and then what was written is
-    /// taken away as [`FileShelf::take_away`] does it; `NoMemory` where that lacked memory, too.
+    /// Gives the folder its place. Faults: `CannotWrite` of that place, and then what was written is removed as by
+    /// [`FileShelf::take_away`]; `NoMemory` if that ran out of memory as well.
     #[tactic(auto, using(crate::proofs::PlacingLemmas::placing))]
     pub fn place(self, path: &str) -> Result<Y, Unmade<Y>>
         ensures placed { IfOk result (λ system. HasNext (moved (string_bytes self.folder) path.now)
@@ -139,8 +137,8 @@ impl<Y: FileSystem> FileShelf<Y> {
         }
     }
 
-    /// Takes away all that was written, as far as the system allows, and hands the system back: as the
-    /// error where memory was refused, and then the rest stays.
+    /// Removes everything that was written, as far as the system allows, and hands the system back; as the error if memory was
+    /// refused, and then the rest stays.
     #[tactic(auto, using(crate::proofs::PlacingLemmas::placing, crate::proofs::RemovalLemmas::removals))]
     pub fn take_away(self) -> Result<Y, Y>
         ensures away { IfOk result (λ system. IsTakenAway (string_bytes self.folder)
@@ -163,8 +161,7 @@ impl<Y: FileSystem> FileShelf<Y> {
         }
     }
 
-    /// Lets go of the file that was made last, and sets its time, where it is to have one. That the
-    /// system doesn't set it is no fault.
+    /// Closes the file that was made last, and sets its time, if it is to have one. It is no fault if the system doesn't set it.
     #[tactic(auto, using(crate::proofs::PlacingLemmas::placing))]
     fn close(&mut self)
         ensures closed { IsClosed self.old.modified (Y.did self.old.system) (Y.did self.new.system) }
@@ -181,7 +178,7 @@ impl<Y: FileSystem> FileShelf<Y> {
     }
 }
 
-/// Takes away a folder for this fault, which stays, but where memory was refused.
+/// Removes a folder because of this fault, which stays the same, unless memory was refused.
 #[tactic(auto, using(crate::proofs::PlacingLemmas::placing, crate::proofs::RemovalLemmas::removals))]
 fn removed<Y: FileSystem>(alloc: Global, system: Y, folder: &str, fault: ShelfFault) -> Unmade<Y>
     ensures left { IsLeft result.fault folder.now (Y.did system) (Y.did result.system) }
@@ -197,7 +194,7 @@ fn removed<Y: FileSystem>(alloc: Global, system: Y, folder: &str, fault: ShelfFa
     }
 }
 
-/// The moment so many seconds after the beginning of 1970.
+/// The moment `seconds` seconds after the beginning of 1970.
 fn time_at(seconds: u32) -> SystemTime
     ensures { system_time_nanos result ≡ seconds * 1_000_000_000 }
 {
@@ -207,7 +204,7 @@ fn time_at(seconds: u32) -> SystemTime
     }
 }
 
-/// How a file is made: it is new, and is written.
+/// How a file is made: it is new, and opened for writing.
 fn new_file() -> OpenOptions
     ensures { makes_file result ≡ true }
 {
@@ -217,7 +214,7 @@ fn new_file() -> OpenOptions
     how
 }
 
-/// The fault of a path that can't be written.
+/// The fault for a path that can't be written.
 fn cannot_write(alloc: Global, path: &str) -> ShelfFault
     ensures { Tells path.now result }
 {
@@ -227,7 +224,7 @@ fn cannot_write(alloc: Global, path: &str) -> ShelfFault
     }
 }
 
-/// The fault of a path within a folder that can't be written.
+/// The fault for a path within a folder that can't be written.
 fn cannot_write_within(alloc: Global, folder: &str, path: &str) -> ShelfFault
     ensures { TellsWithin folder.now result }
 {
@@ -237,8 +234,8 @@ fn cannot_write_within(alloc: Global, folder: &str, path: &str) -> ShelfFault
     }
 }
 
-/// The first of the names under which a folder at this path is written, `PATH.0.new`, where anything
-/// has it: a run that was stopped left it. The only error is want of memory.
+/// The first of the names under which a folder at this path is written, `PATH.0.new`, if anything has it: an interrupted run left
+/// it. Fails only when out of memory.
 pub fn left_folder<R: Files + AllocGlobal>(rt: &R, path: &str) -> Result<Option<String>, AllocError>
     ensures { IfOk result (λ left. IfSome left
         (λ name. string_bytes name ≡ new_folder_path path.now 0)) }

@@ -1,4 +1,4 @@
-//! Shelves: where a row of folders and files goes, in pieces.
+//! Shelves: where folders and files go one after the other, in pieces.
 #![tactic(auto)]
 
 mod fault;

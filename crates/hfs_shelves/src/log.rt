@@ -1,4 +1,4 @@
-//! What was asked of the system, for proofs alone: it takes no memory, and its methods do nothing when they run.
+//! What was asked of the system, for proofs only: it takes no memory, and its methods do nothing at run time.
 ghost use Rattle.std.specs.Prelude.{◌≡◌, List, []};
 ghost use Rattle.std.specs.Borrow.{ftrue};
 ghost use Rattle.hfs_shelves.specs.SystemSteps.{SystemStep};
@@ -7,7 +7,7 @@ use std::fs::OpenOptions;
 use std::marker::Model;
 use std::time::SystemTime;
 
-/// The list of what was asked of the system, the last step first.
+/// The list of what was asked of the system, last step first.
 #[derive(Drop)]
 pub struct SystemLog {
     pub ghost steps: { List SystemStep },
@@ -17,20 +17,20 @@ impl Model for SystemLog {
     ghost also_owns = { λ _. ftrue };
 }
 
-/// What was asked at one step.
+/// What was asked in one step.
 #[derive(Clone, Copy, Drop)]
 pub enum Step<'a> {
     /// A folder is made.
     MadeFolder(&'a str),
     /// A file is opened.
     Opened(&'a OpenOptions, &'a str),
-    /// Bytes are laid behind those of the file that was opened last.
+    /// Bytes are appended to the file that was opened last.
     Wrote(&'a [u8]),
     /// The file that was opened last gets this time.
     Timed(SystemTime),
-    /// The file that was opened last is let go of.
+    /// The file that was opened last is closed.
     Closed,
-    /// What has the first path gets the second.
+    /// What has the first path gets the second one.
     Moved(&'a str, &'a str),
     /// What isn't a folder is removed.
     RemovedFile(&'a str),
@@ -45,21 +45,21 @@ pub enum Step<'a> {
 impl SystemLog {
     ghost use Rattle.hfs_shelves.specs.LoggedSteps.{with_step, with_failed};
 
-    /// Nothing was asked.
+    /// The list in which nothing was asked.
     pub fn new() -> SystemLog
         ensures { result.steps ≡ [] }
     {
         SystemLog {}
     }
 
-    /// What was asked, and then this, which was done.
+    /// The list with one more step, which was done.
     pub fn then(&self, _step: &Step<'_>) -> SystemLog
         ensures { result.steps ≡ with_step self.now.steps _step.now }
     {
         SystemLog {}
     }
 
-    /// What was asked, and then this, which failed.
+    /// The list with one more step, which failed.
     pub fn then_failed(&self, _step: &Step<'_>) -> SystemLog
         ensures { result.steps ≡ with_failed self.now.steps _step.now }
     {

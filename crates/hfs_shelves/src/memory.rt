@@ -16,7 +16,7 @@ pub struct Stored {
     pub bytes: Option<Vec<u8>>,
 }
 
-/// A shelf that keeps all that it was given, in order. Its only fault is want of memory.
+/// A shelf that keeps all that it was given, in order. Its only fault is running out of memory.
 #[derive(Drop)]
 pub struct MemoryShelf {
     alloc: Global,
@@ -35,7 +35,7 @@ impl MemoryShelf {
     }
 }
 
-/// Lays a piece behind the bytes of a file; a folder has none. At a fault nothing changed.
+/// Appends a piece to the bytes of a file; a folder has none. At a fault nothing has changed.
 fn extend(stored: &mut Stored, piece: &[u8]) -> Result<(), ShelfFault>
     ensures whole { OnOk result (stored_entry stored.new ≡ longer (stored_entry stored.old)
         piece.now) }
@@ -51,7 +51,7 @@ fn extend(stored: &mut Stored, piece: &[u8]) -> Result<(), ShelfFault>
     }
 }
 
-/// Keeps one thing more.
+/// Keeps one more thing.
 fn keep(
     shelf: &mut MemoryShelf,
     path: &str,

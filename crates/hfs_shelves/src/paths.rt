@@ -4,7 +4,7 @@ ghost use Rattle.hfs_shelves.specs.ShelfPaths.{new_folder_path, path_within};
 
 use std::alloc::{AllocError, Global};
 
-/// The path of the folder in which a folder is written, by the number in its name.
+/// The path of the folder in which a folder is written, with this number in its name.
 #[tactic(auto, unfolding(crate::specs::ShelfPaths::new_folder_path))]
 pub(crate) fn new_folder_path(alloc: Global, path: &str, number: u32) -> Result<String, AllocError>
     ensures { IfOk result (λ name. string_bytes name ≡ new_folder_path path.now number) }

@@ -1,4 +1,4 @@
-//! Taking a folder away with all that lies in it.
+//! Removing a folder with everything in it.
 ghost use Rattle.std.specs.Prelude.{◌≡◌, [], IfOk, MatchResult, is_some, string_bytes, true};
 ghost use Rattle.hfs_shelves.specs.Told.{IsFolderOrIn};
 ghost use Rattle.hfs_shelves.specs.Removals.{HasSince, IsTakenAway, RemovesIn};
@@ -12,21 +12,20 @@ use std::io::Read;
 /// How many bytes of a folder's names are read at a time.
 const NAMES: usize = 4_096;
 
-/// What came of removing what lies in a folder.
+/// The result of removing what is in a folder.
 #[derive(Drop)]
 pub(crate) enum Tried {
-    /// The folder of this name is there.
+    /// There is a folder with this name.
     Folder(String),
-    /// What was tried is gone.
+    /// What was to be removed is gone.
     Gone,
     /// The system refused.
     Refused,
 }
 
-/// Removes a folder with all that lies in it, each folder when it holds nothing more. One folder is
-/// open at a time, and each is opened once, and once more for each folder in it. A link that lies in
-/// it is removed, not what it leads to. Where the system refuses, the rest stays. The only error is
-/// want of memory, and then it stays too.
+/// Removes a folder with everything in it; each folder is removed when it is empty. One folder is open at a time. Each is opened
+/// once, and once more for each folder in it. A link in it is removed, not what it leads to. Where the system refuses, the rest
+/// stays. Fails only when out of memory, and then the rest stays as well.
 #[tactic(auto, using(crate::proofs::RemovalLemmas::removals))]
 pub(crate) fn remove_folder<Y: FileSystem>(
     alloc: Global,
@@ -49,8 +48,8 @@ pub(crate) fn remove_folder<Y: FileSystem>(
     Ok(())
 }
 
-/// Removes what lies at a path in a folder, which is empty for the folder itself, up to the first
-/// folder in it. The path in the folder where to go on; none where nothing is left to do.
+/// Removes what is at a path in a folder, up to the first folder in it; the path is empty for the folder itself. Returns the path
+/// in the folder where to go on; None if nothing is left to do.
 #[tactic(auto, using(crate::proofs::RemovalLemmas::removals))]
 fn remove_next<Y: FileSystem>(
     alloc: Global,
@@ -92,7 +91,7 @@ fn some(path: Result<String, AllocError>) -> Result<Option<String>, AllocError>
     }
 }
 
-/// The path of what lies at a path in a folder, which is empty for the folder itself.
+/// The path of what is at a path in a folder; the inner path is empty for the folder itself.
 fn place_in(alloc: Global, folder: &str, inner: &str) -> Result<String, AllocError>
     ensures within { IfOk result (λ place. IsFolderOrIn folder.now (string_bytes place)) }
     ensures whole { inner.now ≡ [] → IfOk result (λ place. string_bytes place ≡ folder.now) }
@@ -104,7 +103,7 @@ fn place_in(alloc: Global, folder: &str, inner: &str) -> Result<String, AllocErr
     }
 }
 
-/// The path in a folder of what has a name in what lies at a path in it.
+/// The path, within a folder, of the entry with this name in what is at a path in it.
 fn inner_path(alloc: Global, inner: &str, name: String) -> Result<String, AllocError> {
     if inner.is_empty() {
         Ok(name)
@@ -121,7 +120,7 @@ fn folder_of(alloc: Global, inner: &str) -> Result<String, AllocError> {
     }
 }
 
-/// Removes what lies in a folder, up to the first folder in it. Names that are no text are passed over.
+/// Removes what is in a folder, up to the first folder in it. Names that are not text are skipped.
 #[tactic(auto, using(crate::proofs::RemovalLemmas::removals))]
 fn remove_to_folder<Y: FileSystem>(
     alloc: Global,
@@ -151,7 +150,7 @@ fn remove_to_folder<Y: FileSystem>(
     Ok(Tried::Gone)
 }
 
-/// Removes what has these names in a folder, each ended by a zero byte, up to the first folder.
+/// Removes the entries of a folder with these names, each of which ends with a zero byte, up to the first folder.
 #[tactic(auto, using(crate::proofs::RemovalLemmas::removals))]
 fn remove_names<Y: FileSystem>(
     alloc: Global,
@@ -175,7 +174,7 @@ fn remove_names<Y: FileSystem>(
     Ok(Tried::Gone)
 }
 
-/// Whether there is something that is not gone.
+/// Whether something is not gone.
 fn is_stopped(tried: &Result<Tried, AllocError>) -> bool
     ensures { result ≡ is_stopped tried.now }
 {
@@ -187,8 +186,8 @@ fn is_stopped(tried: &Result<Tried, AllocError>) -> bool
     }
 }
 
-/// Removes what has this name in a folder, unless it is a folder. The names by which a folder and
-/// the one above it are called in themselves, and no name, are passed over.
+/// Removes the entry of a folder with this name, unless it is a folder. The folder's own entries for itself and its parent are
+/// skipped, and so is an empty name.
 #[tactic(auto, using(crate::proofs::RemovalLemmas::removals))]
 fn remove_name<Y: FileSystem>(
     alloc: Global,

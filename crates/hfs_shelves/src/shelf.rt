@@ -5,9 +5,9 @@ ghost use Rattle.hfs_shelves.specs.Entries.{ShelfEntry, IsBeginning, with_folder
 
 use crate::fault::ShelfFault;
 
-/// What takes folders and files: each is made by its path, and a file's bytes come in pieces, behind
-/// one another. Contracts know a shelf by the list of what it was given, by the path of the folder that
-/// it writes, and by the faults that a shelf of its kind may answer there.
+/// What takes folders and files: each is made by its path, and a file's bytes come in pieces, one after another. Contracts see a
+/// shelf as the list of what it was given, the path of the folder that it writes, and the faults that a shelf of its kind may
+/// return there.
 pub trait Shelf {
     ghost given: { Self → List ShelfEntry };
 
@@ -23,8 +23,8 @@ pub trait Shelf {
         ensures fault { IfErr result (Fails (place self.old)) }
         ensures place { place self.new ≡ place self.old };
 
-    /// Makes a file without bytes, which the next pieces are for. It is to have this time, in seconds from
-    /// the beginning of 1970, where one is told: the shelf may be unable to set it. Faults: as of a folder.
+    /// Makes an empty file, for the pieces that follow. It is to have this time, in seconds since the beginning of 1970, if one
+    /// is given; the shelf may be unable to set it. Faults: as for a folder.
     fn make_file(&mut self, path: &str, modified: Option<u32>) -> Result<(), ShelfFault>
         ensures whole { OnOk result (given self.new ≡ with_file (given self.old) path.now modified) }
         ensures part { OnErr result (IsBeginning (given self.new)
@@ -32,8 +32,8 @@ pub trait Shelf {
         ensures fault { IfErr result (Fails (place self.old)) }
         ensures place { place self.new ≡ place self.old };
 
-    /// Lays these bytes behind those of the file that was made last. Faults: `CannotWrite` of its
-    /// path, also where nothing or a folder was made last; `NoMemory`.
+    /// Appends these bytes to the file that was made last. Faults: `CannotWrite` of its path, also if nothing or a folder was
+    /// made last; `NoMemory`.
     fn append(&mut self, piece: &[u8]) -> Result<(), ShelfFault>
         ensures whole { OnOk result (given self.new ≡ with_piece (given self.old) piece.now) }
         ensures part { OnErr result (IsBeginning (given self.new)

@@ -10,8 +10,8 @@ use std::rt::Files;
 use std::time::SystemTime;
 use std::{fs, io};
 
-/// The system's own files, with the list of what was asked of them. Each method asks one thing and notes it: that the system
-/// does what it is asked where it answers so is trusted, and nothing else.
+/// The system's own files, with the list of what was asked of them. Each method asks one thing and notes it. Only this is
+/// trusted: that the system does what it is asked when it reports success.
 #[derive(Drop)]
 pub struct SystemFiles<'a, R: Files> {
     rt: &'a R,
@@ -20,7 +20,7 @@ pub struct SystemFiles<'a, R: Files> {
 }
 
 impl<'a, R: Files> SystemFiles<'a, R> {
-    /// The files of this system, of which nothing was asked yet.
+    /// The files of this system, of which nothing has been asked yet.
     pub fn new(rt: &'a R) -> SystemFiles<'a, R>
         ensures { result.log.steps ≡ [] }
     {
@@ -32,7 +32,7 @@ impl<'a, R: Files> SystemFiles<'a, R> {
     }
 }
 
-/// What was asked before, and then this, with what came of it.
+/// What was asked before, and then this step, with what came of it.
 fn noted<T>(log: &SystemLog, step: &Step<'_>, came: &io::Result<T>) -> SystemLog
     ensures { MatchResult came.now
         (λ _. result.steps ≡ with_step log.now.steps step.now)

@@ -2,7 +2,7 @@
 ghost use Rattle.std.specs.Prelude.{◌≡◌, ◌≢◌, codes, Some};
 ghost use Rattle.hfs_sizes.specs.Sizes.{IsNumberOf};
 
-/// The number that a text is, from 0 to 4,294,967,295; none where it is no such number.
+/// The number in a text, from 0 to 4,294,967,295; None if it is no such number.
 fn number_of(text: &str) -> Option<u32>
     ensures { IsNumberOf text.now result }
 {
@@ -12,7 +12,8 @@ fn number_of(text: &str) -> Option<u32>
     }
 }
 
-/// The blocks of 512 bytes that a text names: `800K` and `1440K` are the two floppies of the Macintosh, all else is the number itself.
+/// The blocks of 512 bytes that a text stands for: `800K` and `1440K` are the two floppies of the Macintosh; anything else is the
+/// number itself.
 pub fn blocks_of(text: &str) -> Option<u32>
     ensures double { text.now ≡ codes "800K" → result ≡ Some 1600 }
     ensures high { text.now ≡ codes "1440K" → result ≡ Some 2880 }

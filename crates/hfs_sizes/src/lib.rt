@@ -1,4 +1,4 @@
-//! How large a new volume and its trees are, by what is typed.
+//! How large a new volume and its trees are, from what is typed.
 #![tactic(auto)]
 
 mod blocks;

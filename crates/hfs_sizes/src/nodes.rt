@@ -1,4 +1,4 @@
-//! The nodes that a new volume's trees get where nobody names them.
+//! The nodes that a new volume's trees get if no number is given.
 ghost use Rattle.std.specs.Prelude.{◌≡◌, ◌≤◌, ◌<◌, ◌/◌};
 ghost use Rattle.hfs_format.specs.Plan as plan;
 ghost use Rattle.hfs_sizes.specs.Sizes.{chosen_nodes};
@@ -13,7 +13,7 @@ fn block_factor(blocks: u32) -> u32
     blocks / 65_536 + 1
 }
 
-/// How many allocation blocks a volume of so many blocks has.
+/// How many allocation blocks a volume of `blocks` blocks has.
 #[tactic(auto, using(crate::proofs::PlanNumbers::allocation_blocks_is))]
 fn allocation_blocks(blocks: u32) -> u32
     ensures { result ≡ plan.allocation_blocks blocks }
@@ -23,7 +23,8 @@ fn allocation_blocks(blocks: u32) -> u32
     blocks.saturating_sub(2).saturating_sub(start) / factor
 }
 
-/// How many nodes a tree of a volume of so many blocks gets where nobody names them: one for each 128 allocation blocks, and at least `least`.
+/// How many nodes a tree of a volume of `blocks` blocks gets if no number is given: one for each 128 allocation blocks, and at
+/// least `least`.
 #[tactic(auto, unfolding(crate::specs::Sizes::chosen_nodes))]
 pub fn chosen_nodes(least: u32, blocks: u32) -> u32
     ensures { result ≡ chosen_nodes least blocks }

@@ -5,21 +5,21 @@ ghost use Rattle.hfs_source.specs.Images.{FailsWhere, HasAt, HasLength, OfEach};
 use crate::placed::PlacedBytes;
 use std::io;
 
-/// An image whose blocks of 512 bytes can be read in any order, where each read may fail. What is read of it is said of each image
-/// that has the bytes which were read.
+/// An image whose blocks of 512 bytes can be read in any order; each read may fail. What is read from it holds for every image
+/// consistent with the bytes read.
 pub trait PlacedBlocks {
-    /// The images that have the bytes which were read so far.
+    /// The images consistent with the bytes read so far.
     ghost Holds: { Self → List ℕ → Type 0 };
 
-    /// Where a read may fail: from a byte on, of so many bytes.
+    /// Where a read may fail: from which byte on, and for how many bytes.
     ghost Fails: { Self → ℕ → ℕ → Type 0 };
 
     /// How many bytes there are.
     fn len(&self) -> u64
         ensures { OfEach (Holds self.now) (HasLength result) };
 
-    /// Reads the blocks from number `first` on, counted from 0, as many bytes as there is room for in `into`. Error: the read failed,
-    /// or the image ends before the room is full; what stands there then isn't stated.
+    /// Reads blocks, starting at number `first`, counted from 0: as many bytes as `into` has room for. Error: the read failed, or
+    /// the image ends before the room is full; what `into` holds then isn't specified.
     fn read_blocks(&mut self, first: u32, into: &mut [u8]) -> io::Result<()>
         ensures read { OnOk result (OfEach (Holds self.new) (HasAt (512 * first) into.new)) }
         ensures held { OfEach (Holds self.new) (Holds self.old) }
@@ -27,7 +27,7 @@ pub trait PlacedBlocks {
         ensures later { FailsWhere (Fails self.new) (Fails self.old) };
 }
 
-/// The blocks of bytes that are read by their places.
+/// The blocks of bytes that are read by position.
 #[derive(Drop)]
 pub struct BlocksOf<S> {
     /// The bytes.

@@ -1,4 +1,4 @@
-//! A file that is read by its places.
+//! A file that is read by position.
 ghost use Rattle.std.specs.Prelude.{◌≡◌, ◌+◌, ⊤, [], ◌∷◌, length, pos, Some, IfOk, IfSome, OnErr, OnOk};
 ghost use Rattle.std.specs.Option.{option_map};
 ghost use Rattle.std.specs.Io.KnownBytes.{Consumes};
@@ -12,9 +12,9 @@ use crate::reader::PlacedReader;
 use std::io;
 use std::io::{Read, Seek, SeekFrom};
 
-/// What can be read and sought in, as a file, with the list of what was done with it. Each step does one thing and notes it. A file tells
-/// nothing of its bytes: that the system goes where it is told, tells where the end is, and gives the bytes from there on, is trusted,
-/// and nothing else. Of a reader that tells its place and its bytes each step is proved.
+/// Something that can be read and sought in, such as a file, with the list of what was done with it. Each step does one thing and
+/// notes it. Only this is trusted: that the system goes where it is told to, says where the end is, and returns the bytes from
+/// there on. For a reader whose model has its position and its bytes, each step is proved.
 #[derive(Drop)]
 pub struct TrustedFile<F> {
     file: F,

@@ -1,5 +1,5 @@
-//! Where an image's bytes are read from, each read of which may fail: what is promised of them is promised of each image that
-//! has the bytes which were read.
+//! Where an image's bytes are read from. Each read may fail: what is promised about the bytes holds for every image
+//! consistent with those read.
 #![tactic(auto)]
 
 mod blocks;

@@ -5,7 +5,7 @@ use crate::placed::PlacedBytes;
 use std::io;
 use std::io::ErrorKind;
 
-/// An image that is its bytes in memory. Only a read that leads past its end fails.
+/// An image whose bytes are in memory. Only a read past its end fails.
 #[derive(Drop)]
 pub struct MemoryBytes<'a> {
     /// The image's bytes.

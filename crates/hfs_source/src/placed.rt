@@ -1,24 +1,24 @@
-//! Bytes that are read by their places.
+//! Bytes that are read by position.
 ghost use Rattle.std.specs.Prelude.{◌≡◌, List, ℕ, IsOk, OnErr, OnOk, length};
 ghost use Rattle.hfs_source.specs.Images.{FailsWhere, HasAt, HasLength, OfEach};
 
 use std::io;
 
-/// An image whose bytes can be read from any place on, where each read may fail. What is read of it is said of each image that has
-/// the bytes that were read: over memory there is one, over a file each that the file may be.
+/// An image whose bytes can be read from any place on; each read may fail. What is read from it holds for every image consistent
+/// with the bytes read: over memory that is one image, over a file each that the file may be.
 pub trait PlacedBytes {
-    /// The images that have the bytes which were read so far.
+    /// The images consistent with the bytes read so far.
     ghost Holds: { Self → List ℕ → Type 0 };
 
-    /// Where a read may fail: from a place on, of so many bytes.
+    /// Where a read may fail: from which place on, and for how many bytes.
     ghost Fails: { Self → ℕ → ℕ → Type 0 };
 
     /// How many bytes there are.
     fn len(&self) -> u64
         ensures { OfEach (Holds self.now) (HasLength result) };
 
-    /// Reads the bytes from `place` on, counted from 0, as many as there is room for in `into`. Error: the read failed, or the bytes
-    /// end before the room is full; what stands there then isn't stated. Where there is no room nothing is read, and that is no
+    /// Reads bytes, starting at `place`, counted from 0: as many as `into` has room for. Error: the read failed, or the bytes end
+    /// before the room is full; what `into` holds then isn't specified. If there is no room, nothing is read, and that is no
     /// error at any place.
     fn read_at(&mut self, place: u64, into: &mut [u8]) -> io::Result<()>
         ensures read { OnOk result (OfEach (Holds self.new) (HasAt place into.new)) }

@@ -6,10 +6,10 @@ use crate::placed::PlacedBytes;
 use std::io;
 use std::io::ErrorKind;
 
-/// A range of an image's bytes, from its beginning to its end, and none beyond.
+/// A range of an image's bytes, and none beyond it.
 #[derive(Drop)]
 pub struct RangeBytes<S> {
-    /// The bytes that it lies in.
+    /// The bytes that the range lies in.
     pub bytes: S,
     /// The byte where it begins, counted from 0.
     pub start: u64,
@@ -19,7 +19,7 @@ pub struct RangeBytes<S> {
 }
 
 impl<S: PlacedBytes> RangeBytes<S> {
-    /// The range from `start` on, of `len` bytes; or the bytes back, where it doesn't lie in them.
+    /// The range of `len` bytes from `start` on; or the bytes back, if it doesn't lie in them.
     pub fn new(bytes: S, start: u64, len: u64) -> Result<RangeBytes<S>, S>
         ensures bytes { IfOk result (λ range. range.bytes ≡ bytes) }
         ensures range { IfOk result (λ range. (range.start ≡ start) × (range.len ≡ len)) }

@@ -9,10 +9,10 @@ use std::io::{Cursor, ErrorKind};
 
 /// A reader that stands at a place in an image's bytes, and can go to any other.
 pub trait PlacedReader {
-    /// The images that have the bytes which were read so far.
+    /// The images consistent with the bytes read so far.
     ghost Holds: { Self → List ℕ → Type 0 };
 
-    /// Where a read may fail: from a place on, of so many bytes.
+    /// Where a read may fail: from which place on, and for how many bytes.
     ghost Fails: { Self → ℕ → ℕ → Type 0 };
 
     /// Where the next read begins, if that is known.
@@ -25,7 +25,7 @@ pub trait PlacedReader {
         ensures fails { OnErr result (AllFail (Fails self.old)) }
         ensures later { FailsWhere (Fails self.new) (Fails self.old) };
 
-    /// Goes to the end of the bytes. Which place that is: how many bytes there are.
+    /// Goes to the end of the bytes, and returns where that is: how many bytes there are.
     fn go_to_end(&mut self) -> io::Result<u64>
         ensures end { IfOk result (λ end. OfEach (Holds self.new) (HasLength end)) }
         ensures place { IfOk result (λ end. place self.new ≡ Some end) }
@@ -33,8 +33,8 @@ pub trait PlacedReader {
         ensures fails { OnErr result (AllFail (Fails self.old)) }
         ensures later { FailsWhere (Fails self.new) (Fails self.old) };
 
-    /// Reads the bytes from its place on, as many as there is room for in `into`, and stands right after them then. Error: the read
-    /// failed, or the bytes end before the room is full; what stands there then, and where the reader stands, isn't stated.
+    /// Reads as many bytes as `into` has room for, and stands right after them. Error: the read failed, or the bytes end before
+    /// the room is full; what `into` holds then, and where the reader stands, isn't specified.
     fn read_on(&mut self, into: &mut [u8]) -> io::Result<()>
         ensures read { OnOk result (IfSome (place self.old)
             (λ from. OfEach (Holds self.new) (HasAt from into.new))) }

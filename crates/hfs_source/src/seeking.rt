@@ -1,4 +1,4 @@
-//! Bytes of what can be sought in, as files can.
+//! Bytes that can be sought in, such as those of a file.
 ghost use Rattle.std.specs.Prelude.{◌≡◌, IfErr, IfOk};
 ghost use Rattle.hfs_source.specs.Images.{AllFail, OfEach};
 
@@ -11,7 +11,7 @@ use std::marker::Model;
 #[derive(Drop)]
 pub struct SeekableBytes<P: PlacedReader> {
     reader: P,
-    /// Where the reader stands, where that is known: it needn't go there.
+    /// Where the reader stands, if that is known, so that it needn't go there again.
     place: Option<u64>,
     /// How many bytes there are.
     len: u64,
@@ -30,7 +30,7 @@ impl<P: PlacedReader> Model for SeekableBytes<P> {
 }
 
 impl<P: PlacedReader> SeekableBytes<P> {
-    /// The bytes of a reader, wherever it stands; or the reader back, where it can't go to their end.
+    /// The bytes of a reader, wherever it stands; or the reader back, if it can't go to their end.
     pub fn open(reader: P) -> Result<SeekableBytes<P>, P>
         ensures held { IfOk result (λ bytes. OfEach (P.Holds bytes) (P.Holds reader)) }
         ensures refused { IfErr result (λ back. OfEach (P.Holds back) (P.Holds reader)) }

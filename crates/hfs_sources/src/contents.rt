@@ -1,4 +1,4 @@
-//! What files of a tree hold that are AppleDouble or MacBinary.
+//! What AppleDouble and MacBinary files of a tree hold.
 ghost use Rattle.std.specs.Prelude.{◌≡◌, IfOk};
 ghost use Rattle.hfs_incoming.specs.AppleDouble.{apple_double_in};
 ghost use Rattle.hfs_incoming.specs.MacBinary.{macbinary_in};
@@ -9,8 +9,7 @@ use crate::tree::HostTree;
 use hfs_incoming::{AppleDoubleFile, MacBinaryFile, read_apple_double, read_macbinary};
 use std::alloc::Global;
 
-/// What the file at a path holds that is AppleDouble; none where it isn't. Only the head and the parts that are asked for are
-/// read.
+/// What the AppleDouble file at a path holds; None if it isn't one. Only the head and the parts that are used are read.
 pub(crate) fn read_double<T: HostTree>(
     alloc: Global,
     tree: &mut T,
@@ -28,7 +27,7 @@ pub(crate) fn read_double<T: HostTree>(
     Ok(found)
 }
 
-/// What the file at a path holds that is MacBinary; none where it isn't. Only its header is read.
+/// What the MacBinary file at a path holds; None if it isn't one. Only its header is read.
 pub(crate) fn read_header<T: HostTree>(
     alloc: Global,
     tree: &mut T,

@@ -1,11 +1,11 @@
-//! What lies in a folder of a host, by name.
+//! The entries of a host's folder, by name.
 ghost use Rattle.std.specs.Prelude.{◌≡◌, string_bytes};
 ghost use Rattle.hfs_sources.specs.Looks.{host_date};
 
 use hfs_put_plan::{EntryKind, date_before_1970, date_since_1970};
 use std::marker::Model;
 
-/// When something was last changed: so many seconds behind the beginning of 1970, and nanoseconds behind these.
+/// When something was last changed: seconds after the beginning of 1970, and nanoseconds after these.
 #[derive(Clone, Copy)]
 pub struct HostTime {
     pub seconds: i64,
@@ -19,7 +19,7 @@ pub struct Look {
     pub modified: HostTime,
 }
 
-/// What has a name in a folder of a host. Contracts see name and look.
+/// An entry of a host's folder. Contracts see name and look.
 #[derive(Drop)]
 pub struct HostEntry {
     name: String,
@@ -36,7 +36,7 @@ impl Model for HostEntry {
 }
 
 impl HostEntry {
-    /// An entry of this name.
+    /// The entry with this name.
     pub fn new(name: String, look: Look) -> HostEntry
         ensures { result ≡ record { name = string_bytes name; look = look } }
     {
@@ -58,7 +58,7 @@ impl HostEntry {
     }
 }
 
-/// The date of a Macintosh in which a time lies, or the nearest that there is.
+/// The Macintosh date of a time, or the nearest that there is.
 #[tactic(auto, unfolding(crate::specs::Looks::host_date))]
 pub fn host_date(time: HostTime) -> u32
     ensures { result ≡ host_date time }

@@ -1,14 +1,14 @@
-//! Why what was to be put could not be looked at.
+//! Why the sources could not be looked at.
 ghost use Rattle.std.specs.Prelude.{◌≡◌};
 ghost use Rattle.hfs_sources.specs.Faults.{IsUnread};
 ghost use Rattle.hfs_sources.specs.declared.fault.HostFault.TheVariants.{NoMemory};
 
 use std::alloc::{AllocError, AllocFailed, Global};
 
-/// Why what was to be put could not be looked at.
+/// Why the sources could not be looked at.
 #[derive(Debug, Drop)]
 pub enum HostFault {
-    /// What has this path can't be read.
+    /// What is at this path can't be read.
     CannotRead(String),
     /// A name in the folder at this path is not UTF-8.
     NotUtf8(String),
@@ -32,7 +32,7 @@ impl<T: Drop> From<AllocFailed<T>> for HostFault {
     }
 }
 
-/// The fault of what has a path and can't be read; `NoMemory` where the path can't be kept.
+/// The fault for what is at a path and can't be read; `NoMemory` if the path can't be kept.
 pub fn cannot_read(alloc: Global, path: &str) -> HostFault
     ensures { IsUnread path.now result }
 {
@@ -42,7 +42,7 @@ pub fn cannot_read(alloc: Global, path: &str) -> HostFault
     }
 }
 
-/// The fault of a folder with a name in it that is not UTF-8.
+/// The fault for a folder with a name in it that is not UTF-8.
 pub(crate) fn not_utf8(alloc: Global, path: &str) -> HostFault {
     match String::from_str(alloc, path) {
         Ok(path) => HostFault::NotUtf8(path),

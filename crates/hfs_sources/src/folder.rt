@@ -14,7 +14,7 @@ use crate::tree::HostTree;
 use hfs_put_plan::FolderItem;
 use std::alloc::Global;
 
-/// A folder by its path, and its place in the list of items.
+/// A folder: its path, and its place in the list of items.
 #[derive(Clone, Copy)]
 pub(crate) struct FolderPlace<'a> {
     pub(crate) path: &'a str,
@@ -34,7 +34,7 @@ fn look_of(entries: &[HostEntry], place: Option<usize>) -> Option<Look>
     }
 }
 
-/// The name of the entry at a place; none where there is none.
+/// The name of the entry at a place; empty if there is none.
 fn name_of(entries: &[HostEntry], place: Option<usize>) -> &str
     ensures { result.now ≡ name_of (entry_at entries.now place) }
 {
@@ -60,7 +60,7 @@ fn item_name(entries: &[HostEntry], item: FolderItem) -> &str
     }
 }
 
-/// The item of a name in a folder, by what is seen of its own entry and of the one that belongs to it.
+/// The item with this name in a folder, from what is seen of its own entry and of the one that belongs to it.
 fn named_item<T: HostTree, B: ToldItems>(
     alloc: Global,
     tree: &mut T,
@@ -88,7 +88,7 @@ fn named_item<T: HostTree, B: ToldItems>(
     Ok(SourceItem::new(path, double_path, folder.place, plan))
 }
 
-/// The items of a folder's entries in their order.
+/// The items of a folder's entries, in order.
 fn read_items<T: HostTree, B: ToldItems>(
     alloc: Global,
     tree: &mut T,
@@ -114,7 +114,7 @@ fn read_items<T: HostTree, B: ToldItems>(
     Ok(items)
 }
 
-/// The items in a folder, in their order.
+/// The items in a folder, in order.
 pub(crate) fn items_in<T: HostTree, B: ToldItems>(
     alloc: Global,
     tree: &mut T,

@@ -1,4 +1,4 @@
-//! Items that are to come.
+//! Items that are to be put on a disk.
 ghost use Rattle.std.specs.Prelude.{◌≡◌, IfOk, MatchOption, None, OnOk, Some, string_bytes};
 ghost use Rattle.hfs_sources.specs.Forks.{fork_path, fork_span};
 ghost use Rattle.hfs_sources.specs.Items.{planned_item};
@@ -17,8 +17,8 @@ use hfs_model::Fork;
 use std::alloc::Global;
 use std::marker::Model;
 
-/// An item that is to come. Contracts see its path on the host, the path of what belongs to it by its name, the place of its parent
-/// among the items, and its plan.
+/// An item that is to be put on a disk. Contracts see its path on the host, the path of the file that belongs to it by its name,
+/// the place of its parent among the items, and its plan.
 #[derive(Drop)]
 pub struct SourceItem {
     path: String,
@@ -42,7 +42,7 @@ impl Model for SourceItem {
 }
 
 impl SourceItem {
-    /// An item by its path, and the path of what belongs to it where anything does.
+    /// An item with this path, and the path of the file that belongs to it, if there is one.
     pub(crate) fn new(
         path: String,
         double_path: String,
@@ -70,7 +70,7 @@ impl SourceItem {
         self.path.as_str()
     }
 
-    /// The path on the host of what belongs to it by its name; none where nothing does, or where it is passed over.
+    /// The path on the host of the file that belongs to it by its name; None if there is none, or if it is ignored.
     pub fn double(&self) -> Option<&str>
         ensures { MatchOption result (self.now.double ≡ None)
             (λ path. self.now.double ≡ Some path.now) }
@@ -81,15 +81,15 @@ impl SourceItem {
         }
     }
 
-    /// The place of the folder in which it lies, among the items of the walk; none of what the sources are themselves.
+    /// The place, among the items of the walk, of the folder that it is in; None for the sources themselves.
     pub fn parent(&self) -> Option<usize>
         ensures { result ≡ self.now.parent }
     {
         self.parent
     }
 
-    /// The path on the host of the file in which one of its forks lies: of a MacBinary file both in its own, else the resource fork in
-    /// what belongs to it by its name. None where there is no such file.
+    /// The path on the host of the file that has one of its forks: a MacBinary file has both itself; otherwise the resource fork
+    /// is in the file that belongs to it by its name. None if there is no such file.
     pub fn fork_path(&self, fork: Fork) -> Option<&str>
         ensures { MatchOption result (fork_path self.now fork ≡ None)
             (λ path. fork_path self.now fork ≡ Some path.now) }
@@ -106,7 +106,7 @@ impl SourceItem {
         }
     }
 
-    /// Where in that file the fork lies.
+    /// Where the fork lies in that file.
     pub fn fork_span(&self, fork: Fork) -> ForkSpan
         ensures { result ≡ fork_span self.now.plan fork }
     {
@@ -116,7 +116,7 @@ impl SourceItem {
         }
     }
 
-    /// The same item, with a note whether one before it in its folder has its name.
+    /// The same item, with a note whether an earlier one in its folder has its name.
     pub(crate) fn with_twin(self, twin: bool) -> SourceItem
         ensures { result ≡ with_twin self twin }
     {
@@ -125,7 +125,7 @@ impl SourceItem {
         item
     }
 
-    /// What is planned of it.
+    /// The plan of the item.
     pub fn plan(&self) -> ItemPlan
         ensures { result ≡ self.now.plan }
     {
@@ -133,7 +133,7 @@ impl SourceItem {
     }
 }
 
-/// An item by its name, what is seen of its own entry and of the one that belongs to it, and the paths of both.
+/// An item's name, what is seen of its own entry and of the one that belongs to it, and the paths of both.
 #[derive(Clone, Copy)]
 pub(crate) struct ItemPlace<'a> {
     pub(crate) name: &'a str,
@@ -143,7 +143,7 @@ pub(crate) struct ItemPlace<'a> {
     pub(crate) double_path: &'a str,
 }
 
-/// What an item's own file holds that is MacBinary, where that is asked for.
+/// What an item's own file holds as MacBinary, if that is asked for.
 fn own_header<T: HostTree>(
     alloc: Global,
     tree: &mut T,
@@ -162,7 +162,7 @@ fn own_header<T: HostTree>(
     }
 }
 
-/// What a file holds that is AppleDouble and belongs to an item.
+/// What the AppleDouble file that belongs to an item holds.
 fn own_double<T: HostTree>(
     alloc: Global,
     tree: &mut T,
@@ -180,7 +180,7 @@ fn own_double<T: HostTree>(
     }
 }
 
-/// What is planned of an item.
+/// The plan of an item.
 pub(crate) fn read_plan<T: HostTree, B: ToldItems>(
     alloc: Global,
     tree: &mut T,

@@ -1,4 +1,4 @@
-//! What is to come onto a disk out of a host's folders and files: the tree of what comes, and the walk over it.
+//! What is put on a disk from folders and files of a host: the host's tree, and the walk over it.
 #![tactic(auto)]
 
 mod contents;

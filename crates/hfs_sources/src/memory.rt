@@ -8,10 +8,10 @@ use crate::tree::HostTree;
 use hfs_source::MemoryBytes;
 use std::alloc::{AllocError, Global};
 
-/// A file, a folder, or what is neither, of a tree in memory.
+/// A file, a folder, or something else, in a tree in memory.
 #[derive(Clone, Copy)]
 pub struct HostNode<'a> {
-    /// The path of the folder in which it lies.
+    /// The path of the folder that it is in.
     pub folder: &'a str,
     pub name: &'a str,
     pub path: &'a str,
@@ -20,13 +20,13 @@ pub struct HostNode<'a> {
     pub bytes: &'a [u8],
 }
 
-/// A tree that is its nodes in memory. Its only fault but want of memory is that of a file which isn't there.
+/// A tree whose nodes are in memory. Its only faults are running out of memory and that of a file which isn't there.
 #[derive(Drop)]
 pub struct MemoryTree<'a> {
     pub nodes: &'a [HostNode<'a>],
 }
 
-/// The first node that has a path.
+/// The first node with this path.
 fn node_at<'a>(path: &str, nodes: &[HostNode<'a>]) -> Option<HostNode<'a>>
     ensures { result ≡ node_at path.now nodes.now }
 {
@@ -41,7 +41,7 @@ fn entry_of(alloc: Global, node: &HostNode<'_>) -> Result<HostEntry, AllocError>
     Ok(HostEntry::new(name, node.look))
 }
 
-/// Lists a node, where it lies in this folder.
+/// Lists a node, if it is in this folder.
 fn list_node(
     alloc: Global,
     folder: &str,
@@ -56,7 +56,7 @@ fn list_node(
     Ok(())
 }
 
-/// What lies in the folder at a path.
+/// The entries of the folder at a path.
 fn listed_in(
     alloc: Global,
     folder: &str,

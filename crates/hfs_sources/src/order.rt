@@ -1,4 +1,4 @@
-//! The order in which what lies in a folder is taken.
+//! The order in which a folder's entries are taken.
 ghost use Rattle.std.specs.Prelude.{◌≡◌, IfOk};
 ghost use Rattle.hfs_put_plan.specs.Entries.{items_from};
 ghost use Rattle.hfs_sources.specs.Folders.{AreInOrder, MakesItems, AreNamed};
@@ -7,14 +7,14 @@ use crate::entry::{HostEntry, host_date};
 use hfs_put_plan::{Entry, FolderItem, entry_order, folder_items};
 use std::alloc::{AllocError, Global};
 
-/// Puts what lies in a folder in the order in which it is taken.
+/// Puts a folder's entries in the order in which they are taken.
 fn sort_entries(entries: &mut [HostEntry])
     ensures { AreInOrder entries.old entries.new }
 {
     entries.sort_unstable_by(|a, b| entry_order(a.name().as_bytes(), b.name().as_bytes()));
 }
 
-/// The same entries, as those of which items are made.
+/// The same entries, in the form from which items are made.
 fn named_entries<'a>(alloc: Global, entries: &'a [HostEntry]) -> Result<Vec<Entry<'a>>, AllocError>
     ensures { IfOk result (λ named. AreNamed entries.now named.items) }
 {
@@ -30,7 +30,7 @@ fn named_entries<'a>(alloc: Global, entries: &'a [HostEntry]) -> Result<Vec<Entr
     Ok(named)
 }
 
-/// The items that entries in their order make, by the places of these.
+/// The items that entries in order make, by the places of these.
 fn items_of(alloc: Global, entries: &[HostEntry]) -> Result<Vec<FolderItem>, AllocError>
     ensures { IfOk result (λ items. MakesItems entries.now items.items) }
 {
@@ -38,7 +38,7 @@ fn items_of(alloc: Global, entries: &[HostEntry]) -> Result<Vec<FolderItem>, All
     folder_items(alloc, named.as_slice())
 }
 
-/// Puts what lies in a folder in its order, and answers the items that it makes.
+/// Puts a folder's entries in order, and returns the items that they make.
 pub(crate) fn ordered_items(
     alloc: Global,
     entries: &mut [HostEntry],

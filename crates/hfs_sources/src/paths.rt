@@ -1,4 +1,4 @@
-//! Paths of what lies in a folder of a host.
+//! Paths of the entries of a host's folder.
 ghost use Rattle.std.specs.Prelude.{◌≡◌, IfOk, MatchOption, None, Some, string_bytes};
 ghost use Rattle.hfs_sources.specs.Paths.{behind_mark, double_path, ends_in_slash, entry_path};
 
@@ -12,7 +12,7 @@ fn ends_in_slash(path: &str) -> bool
     path.len() >= 1 && path[path.len() - 1] == b'/'
 }
 
-/// The path of what has a name in a folder, whose path may end in a slash.
+/// The path of the entry with this name in a folder, whose path may end in a slash.
 #[tactic(auto, unfolding(crate::specs::Paths::entry_path))]
 pub fn entry_path(alloc: Global, folder: &str, name: &str) -> Result<String, AllocError>
     ensures { IfOk result (λ path. string_bytes path ≡ entry_path folder.now name.now) }
@@ -24,7 +24,7 @@ pub fn entry_path(alloc: Global, folder: &str, name: &str) -> Result<String, All
     }
 }
 
-/// The path of what belongs by its name to what has a name in a folder.
+/// The path of the file that belongs, by its name, to the entry with this name in a folder.
 #[tactic(auto, unfolding(crate::specs::Paths::double_path))]
 pub(crate) fn double_path(alloc: Global, folder: &str, name: &str) -> Result<String, AllocError>
     ensures { IfOk result (λ path. string_bytes path ≡ double_path folder.now name.now) }
@@ -36,7 +36,7 @@ pub(crate) fn double_path(alloc: Global, folder: &str, name: &str) -> Result<Str
     }
 }
 
-/// What stands behind `._` in a name that begins so.
+/// What follows `._` in a name that begins with it.
 pub(crate) fn behind_mark(name: &str) -> Option<&str>
     ensures { MatchOption result (behind_mark name.now ≡ None)
         (λ found. behind_mark name.now ≡ Some found.now) }

@@ -1,4 +1,4 @@
-//! What is planned of an item that is to come.
+//! The plan of an item that is to be put on a disk.
 ghost use Rattle.std.specs.Prelude.{◌≡◌, None};
 ghost use Rattle.hfs_sources.specs.Plans.{data_span, double_span, findings, fit, is_file, is_file_kind, is_folder, is_folder_kind, is_item, kind_span, macbinary_plan, modified_date, plain_plan, resource_span, span_of};
 
@@ -10,12 +10,12 @@ use hfs_put_plan::{
     put_name, read_put_name,
 };
 
-/// How what comes is looked at.
+/// How the sources are read.
 #[derive(Clone, Copy)]
 pub struct PutOptions {
     /// MacBinary files are taken apart.
     pub macbinary: bool,
-    /// What is no item name is changed into one.
+    /// Names that are no item names are changed into some.
     pub rename: bool,
 }
 
@@ -28,23 +28,23 @@ pub struct ForkSpan {
     pub len: u64,
 }
 
-/// What is planned of an item that is to come.
+/// The plan of an item that is to be put on a disk.
 #[derive(Clone, Copy)]
 pub struct ItemPlan {
-    /// What is seen of its own file or folder; none where only that is there which belongs to it by its name.
+    /// What is seen of its own file or folder; None if there is only the file that belongs to it by its name.
     pub own: Option<Look>,
-    /// What is seen of the file that belongs to it by its name, where it counts.
+    /// What is seen of the file that belongs to it by its name, if that counts.
     pub double: Option<Look>,
-    /// It is a MacBinary file, in which both forks lie. Else the resource fork lies in the file that belongs to it.
+    /// It is a MacBinary file, which has both forks. Otherwise the resource fork is in the file that belongs to it.
     pub is_macbinary: bool,
-    /// The name that it gets, where it has one.
+    /// The name that it gets, if it has one.
     pub name: Option<Name>,
-    /// What is kept of it beside its forks.
+    /// What is kept of it besides its forks.
     pub facts: ItemFacts,
     pub data_fork: ForkSpan,
     pub resource_fork: ForkSpan,
-    /// What was found of it. Whether it is the first of its name is known of the items of a whole folder; whether its first call
-    /// is accepted is the caller's to tell.
+    /// What was found of it. Whether it is the first with its name is known once all items of its folder are; whether its first
+    /// call is accepted is for the caller to say.
     pub found: Findings,
 }
 
@@ -68,7 +68,7 @@ fn is_folder_kind(kind: EntryKind) -> bool
     }
 }
 
-/// Whether it is there, and a file.
+/// Whether it exists and is a file.
 pub fn is_file(look: Option<Look>) -> bool
     ensures { result ≡ is_file look }
 {
@@ -78,7 +78,7 @@ pub fn is_file(look: Option<Look>) -> bool
     }
 }
 
-/// Whether it is there, and a folder.
+/// Whether it exists and is a folder.
 pub(crate) fn is_folder(look: Option<Look>) -> bool
     ensures { result ≡ is_folder look }
 {
@@ -88,7 +88,7 @@ pub(crate) fn is_folder(look: Option<Look>) -> bool
     }
 }
 
-/// Whether an item with this of its own is a file or a folder: a file too, where nothing of its own is there.
+/// Whether an item with this entry of its own is a file or a folder; without an entry of its own it is a file.
 fn is_item(own: Option<Look>) -> bool
     ensures { result ≡ is_item own }
 {
@@ -136,7 +136,7 @@ fn double_span(double: Option<AppleDoubleFile>) -> ForkSpan
     }
 }
 
-/// The resource fork of what belongs to an item by its name; a folder has none.
+/// The resource fork in the file that belongs to an item by its name; a folder has none.
 fn resource_span(own: Option<Look>, double: Option<AppleDoubleFile>) -> ForkSpan
     ensures { result ≡ resource_span own double }
 {
@@ -147,7 +147,7 @@ fn resource_span(own: Option<Look>, double: Option<AppleDoubleFile>) -> ForkSpan
     }
 }
 
-/// Whether both forks are as large as forks are.
+/// Whether neither fork is larger than a fork may be.
 fn fit(data_fork: ForkSpan, resource_fork: ForkSpan) -> bool
     ensures { result ≡ fit data_fork resource_fork }
 {
@@ -181,7 +181,7 @@ fn findings(is_item: bool, fits: bool, is_double: bool, is_named: bool) -> Findi
     }
 }
 
-/// The plan of an item by what belongs to it by its name.
+/// The plan of an item, given the file that belongs to it by its name.
 pub(crate) fn plain_plan(
     how: PutOptions,
     told: Option<ToldFacts>,

@@ -1,4 +1,4 @@
-//! What sources give, each of which is the path of a file, of a folder, or of a bag.
+//! The items of sources, each of which is the path of a file, of a folder, or of a bag.
 ghost use Rattle.std.specs.Prelude.{◌≡◌, IfOk, map, string_bytes};
 ghost use Rattle.hfs_sources.specs.Sources.{Gives, GivesBy, GiveAll, IsFolderListing, IsListing, beside, is_bag, named_plan, nameless, source_double, source_item, source_plan};
 ghost use Rattle.hfs_sources.specs.Trees.{OfEachTree};
@@ -16,7 +16,7 @@ use crate::walking::walk;
 use std::alloc::{AllocError, Global};
 use std::path::Path;
 
-/// The path of what belongs by its name to a source.
+/// The path of the file that belongs, by its name, to a source.
 #[tactic(auto, unfolding(crate::specs::Sources::beside))]
 fn beside(alloc: Global, source: &str, name: &str) -> Result<String, AllocError>
     ensures { IfOk result (λ path. string_bytes path ≡ beside source.now name.now) }
@@ -26,7 +26,7 @@ fn beside(alloc: Global, source: &str, name: &str) -> Result<String, AllocError>
     String::from_str(alloc, path.as_str())
 }
 
-/// The same plan of what has no name.
+/// The same plan, without a name.
 fn nameless(plan: ItemPlan) -> ItemPlan
     ensures { result ≡ nameless plan }
 {
@@ -36,7 +36,7 @@ fn nameless(plan: ItemPlan) -> ItemPlan
     plan
 }
 
-/// The plan of a source by its name.
+/// The plan of a source, given its name.
 fn named_plan<T: HostTree, B: ToldItems>(
     alloc: Global,
     tree: &mut T,
@@ -98,7 +98,7 @@ fn source_plan<T: HostTree, B: ToldItems>(
     }
 }
 
-/// The path of what belongs by its name to a source.
+/// The path of the file that belongs, by its name, to a source.
 fn source_double(alloc: Global, source: &str) -> Result<String, AllocError>
     ensures { IfOk result (λ path. string_bytes path ≡ source_double source.now (path_file_name source.now)) }
 {
@@ -130,7 +130,8 @@ fn source_item<T: HostTree, B: ToldItems>(
     Ok(SourceItem::new(path, double_path, None, plan))
 }
 
-/// Whether a source is a bag, by what its path leads to: a folder with `bagit.txt` and `data`. Faults: as of [`HostTree::look`].
+/// Whether a source is a bag, from what its path leads to: a folder with `bagit.txt` and `data`. Faults: as for
+/// [`HostTree::look`].
 pub fn is_bag<T: HostTree>(
     alloc: Global,
     tree: &mut T,
@@ -151,7 +152,7 @@ pub fn is_bag<T: HostTree>(
     Ok(is_file(declaration) && is_folder(payload))
 }
 
-/// What a source gives, which leads to what is seen so.
+/// The items of a source whose path leads to what is seen here.
 fn given_by<T: HostTree, B: ToldItems>(
     alloc: Global,
     tree: &mut T,
@@ -178,7 +179,7 @@ fn given_by<T: HostTree, B: ToldItems>(
     Ok(items)
 }
 
-/// What a source gives.
+/// The items of a source.
 fn gives<T: HostTree, B: ToldItems>(
     alloc: Global,
     tree: &mut T,
@@ -196,7 +197,7 @@ fn gives<T: HostTree, B: ToldItems>(
     }
 }
 
-/// What all sources give, one after the other.
+/// The items of all sources, one after the other.
 fn give_all<T: HostTree, B: ToldItems>(
     alloc: Global,
     tree: &mut T,
@@ -216,10 +217,10 @@ fn give_all<T: HostTree, B: ToldItems>(
     Ok(items)
 }
 
-/// The list of all that is to come, in the order of the walk: of each source in turn the file, or the folder and behind it what
-/// lies in it, or what lies in the `data` of a bag. A link that is a source is followed, and none below it. What can't be put is
-/// listed, and nothing below it. Faults: `CannotRead` of what can't be read or is not there, `NotUtf8` of a folder, `NoMemory`;
-/// the first one ends it.
+/// The list of everything that is to be put, in the order of the walk: for each source in turn, the file, or the folder and then
+/// what is in it, or what is in the `data` of a bag. A source that is a link is followed, but no link below it. What can't be put
+/// is listed, but nothing below it. Faults: `CannotRead` of what can't be read or doesn't exist, `NotUtf8` of a folder,
+/// `NoMemory`; the first one ends the list.
 pub fn list_sources<T: HostTree, B: ToldItems>(
     alloc: Global,
     tree: &mut T,
@@ -235,8 +236,8 @@ pub fn list_sources<T: HostTree, B: ToldItems>(
     walk(alloc, tree, told, how, top)
 }
 
-/// The list of all that lies in a folder, in the order of the walk, as [`list_sources`] lists what lies in the `data` of a bag.
-/// Faults: as [`list_sources`] has them.
+/// The list of everything in a folder, in the order of the walk, as [`list_sources`] lists what is in the `data` of a bag.
+/// Faults: as for [`list_sources`].
 pub fn list_folder<T: HostTree, B: ToldItems>(
     alloc: Global,
     tree: &mut T,

@@ -15,8 +15,8 @@ use std::os::unix::fs::MetadataExt;
 use std::rt::Files;
 use std::{fs, io};
 
-/// The system's own folders and files, with the list of what was asked of them. Each method asks one thing and notes it: that the
-/// system has what it answers is trusted, and nothing else.
+/// The system's own folders and files, with the list of what was asked of them. Each method asks one thing and notes it. Only
+/// this is trusted: that the system has what it answers.
 #[derive(Drop)]
 pub struct SystemTree<'a, R: Files> {
     rt: &'a R,
@@ -24,7 +24,7 @@ pub struct SystemTree<'a, R: Files> {
 }
 
 impl<'a, R: Files> SystemTree<'a, R> {
-    /// The tree of this system, of which nothing was asked yet.
+    /// The tree of this system, of which nothing has been asked yet.
     pub fn new(rt: &'a R) -> SystemTree<'a, R>
         ensures { result.log.steps ≡ [] }
     {
@@ -35,7 +35,7 @@ impl<'a, R: Files> SystemTree<'a, R> {
     }
 }
 
-/// What the system tells of a file or folder.
+/// What the system says about a file or folder.
 fn look_of(metadata: &Metadata) -> Look {
     let kind = if metadata.is_file() {
         EntryKind::File(metadata.len())
@@ -53,7 +53,7 @@ fn look_of(metadata: &Metadata) -> Look {
     }
 }
 
-/// What the system tells of a path; none where it says that nothing has it.
+/// What the system says about a path; None if it says that nothing has it.
 fn told_of(told: io::Result<Metadata>) -> io::Result<Option<Look>> {
     match told {
         Ok(metadata) => Ok(Some(look_of(&metadata))),
@@ -64,7 +64,7 @@ fn told_of(told: io::Result<Metadata>) -> io::Result<Option<Look>> {
     }
 }
 
-/// What lies in the folder at a path.
+/// The entries of the folder at a path.
 fn read_folder<R: Files>(rt: &R, alloc: Global, folder: &str) -> Result<Vec<HostEntry>, HostFault> {
     let Ok(names) = fs::read_dir(&(rt, alloc), folder) else {
         return Err(cannot_read(alloc, folder));
@@ -87,7 +87,7 @@ fn read_folder<R: Files>(rt: &R, alloc: Global, folder: &str) -> Result<Vec<Host
     Ok(entries)
 }
 
-/// How files are opened that are read.
+/// How files are opened for reading.
 fn reading() -> OpenOptions {
     let mut how = OpenOptions::new();
     how.read(true);

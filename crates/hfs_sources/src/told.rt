@@ -1,19 +1,19 @@
-//! What bags tell of what lies in them.
+//! What bags say about their files and folders.
 ghost use Rattle.std.specs.Prelude.{◌≡◌, ℕ, List, None, Option};
 ghost use Rattle.hfs_put_plan.specs.declared.facts.ToldFacts.{ToldFacts};
 
 use hfs_put_plan::ToldFacts;
 
-/// What is told of items by their paths on the host, which goes before all else that is known of lock and dates.
+/// What bags say about items, by the items' paths on the host; it takes precedence over all else that is known of lock and dates.
 pub trait ToldItems {
     ghost told: { Self → List ℕ → Option ToldFacts };
 
-    /// What is told of the item at a path.
+    /// What is said about the item at a path.
     fn told(&self, path: &str) -> Option<ToldFacts>
         ensures { result ≡ told self.now path.now };
 }
 
-/// Nothing is told of any item, as where it lies in no bag.
+/// Nothing is said about any item, as if it were in no bag.
 #[derive(Clone, Copy, Drop)]
 pub struct NothingTold {}
 

@@ -1,4 +1,4 @@
-//! Items of one folder that get the same name, and what is still to come.
+//! Items of one folder that get the same name, and the items that are still to be visited.
 ghost use Rattle.std.specs.Prelude.{◌≡◌, ◌++◌, [], IfOk, OnOk, false, get_or, map, reverse};
 ghost use Rattle.hfs_put_plan.specs.Twins.{later_twins};
 ghost use Rattle.hfs_sources.specs.Walks.{marked, put_name_of, with_twin, with_twins};
@@ -18,7 +18,7 @@ fn no_name() -> Name
     }
 }
 
-/// The name that an item gets; the empty one where it has none.
+/// The name that an item gets; the empty one if it has none.
 fn put_name_of(item: &SourceItem) -> Name
     ensures { result ≡ put_name_of item.now }
 {
@@ -39,14 +39,14 @@ fn put_names(alloc: Global, items: &[SourceItem]) -> Result<Vec<Name>, AllocErro
     Ok(names)
 }
 
-/// Whether the item at a place has the name of one before it.
+/// Whether an earlier item has the same name as the one at a place.
 fn twin_at(twins: &[bool], place: usize) -> bool
     ensures { result ≡ get_or twins.now place false }
 {
     twins.get(place).copied().unwrap_or(false)
 }
 
-/// Lays items on what is still to come, the last first, so that the first of them comes next.
+/// Pushes items on the stack of those to be visited, last one first, so that the first comes next.
 fn lay_marked(
     todo: &mut Vec<SourceItem>,
     items: Vec<SourceItem>,
@@ -62,8 +62,8 @@ fn lay_marked(
     Ok(())
 }
 
-/// Lays the items of one folder on what is still to come, so that the first of them comes next, and notes of each whether one
-/// before it has its name.
+/// Pushes the items of one folder on the stack of those to be visited, so that the first comes next, and notes for each whether
+/// an earlier one has its name.
 pub(crate) fn lay_on(
     alloc: Global,
     todo: &mut Vec<SourceItem>,

@@ -1,4 +1,4 @@
-//! The walk over what is to come.
+//! The walk over everything that is to be put.
 ghost use Rattle.std.specs.Prelude.{◌≡◌, IfOk};
 ghost use Rattle.hfs_sources.specs.Trees.{OfEachTree};
 ghost use Rattle.hfs_sources.specs.Walks.{AreInside, IsWalk, is_entered, with_twins};
@@ -20,7 +20,7 @@ fn is_entered(plan: &ItemPlan) -> bool
     is_folder(plan.own) && why_not(&plan.found).is_none()
 }
 
-/// What lies in an item that has this place in the list.
+/// What is in the item at this place of the list.
 fn items_inside<T: HostTree, B: ToldItems>(
     alloc: Global,
     tree: &mut T,
@@ -43,8 +43,8 @@ fn items_inside<T: HostTree, B: ToldItems>(
     items_in(alloc, tree, told, how, &folder)
 }
 
-/// These items with all that lies in them, each followed by what lies in it. What can't be put is listed, and nothing below it.
-/// Of items that get the same name in one folder the later ones are marked. Faults: as the tree's, the first one; `NoMemory`.
+/// These items and everything in them, each followed by what is in it. What can't be put is listed, but nothing below it. If
+/// items in one folder get the same name, the later ones are marked. Faults: the tree's first one; `NoMemory`.
 pub fn walk<T: HostTree, B: ToldItems>(
     alloc: Global,
     tree: &mut T,

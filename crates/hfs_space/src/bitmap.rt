@@ -12,8 +12,8 @@ use std::alloc::{AllocError, Global};
 /// How many bits a block of the bitmap has.
 const BITS: u32 = 4096;
 
-/// The volume bitmap: one bit for each allocation block, set where the block is in use. The most significant bit of the
-/// first byte is allocation block 0.
+/// The volume bitmap: one bit for each allocation block, set if the block is in use. The most significant bit of the first byte
+/// is allocation block 0.
 ///
 /// Source: Inside Macintosh: Files, chapter 2, 'Volume bitmap'.
 #[derive(Drop)]
@@ -40,7 +40,7 @@ impl<B: Blocks> Bitmap<'_, B> {
         is_marked(&bytes, (block % BITS) as usize)
     }
 
-    /// Sees that these are the bytes in which an allocation block's bit stands. They are read where it is the first bit of a block.
+    /// Makes `bytes` those that have an allocation block's bit. They are read if it is the first bit of a block.
     fn turn_to(&self, block: u16, bytes: &mut [u8; 512])
         requires within { block < self.now.count }
         requires before { block % 4096 ≢ 0
@@ -54,7 +54,8 @@ impl<B: Blocks> Bitmap<'_, B> {
         }
     }
 
-    /// For each allocation block whether it is marked as in use. Each block of the bitmap is read once. The only error is want of memory.
+    /// For each allocation block, whether it is marked as in use. Reads each block of the bitmap once. Fails only when out of
+    /// memory.
     pub fn marks(&self, alloc: Global) -> Result<Vec<bool>, AllocError>
         ensures { GivesItems (spec.marks (B.blocks self.now.blocks.now) self.now.start self.now.count)
             result }
@@ -84,10 +85,9 @@ impl<B: Blocks> Bitmap<'_, B> {
         free
     }
 
-    /// Clears the bits of `count` allocation blocks from `first` on, in the volume's blocks with the patch over them. The
-    /// blocks of the bitmap that have these bits are in the patch afterwards. For want of memory some of the bits may still
-    /// be set; no other bit and no other block has changed then either. The patch gets blocks of the bitmap alone, which are
-    /// among the volume's.
+    /// Clears the bits of `count` allocation blocks from `first` on, in the volume's blocks with the patch over them. The blocks
+    /// of the bitmap that have these bits are in the patch afterwards. When out of memory, some of the bits may still be set; no
+    /// other bit and no other block has changed. The patch only gets blocks of the bitmap, which are within the volume.
     pub fn release(&self, patch: &mut Patch, first: u16, count: u16) -> Result<(), AllocError>
         requires { first + count ≤ self.now.count }
         ensures cleared { OnOk result

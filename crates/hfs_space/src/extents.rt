@@ -10,8 +10,8 @@ use hfs_btree::{Nodes, find};
 use hfs_fields::{ExtKey, Extent};
 use std::alloc::{AllocError, Global};
 
-/// Whether each extent lies among the first `blocks` allocation blocks of the volume (drNmAlBlks). One without blocks lies
-/// anywhere. Takes no memory.
+/// Whether each extent lies within the first `blocks` allocation blocks of the volume (drNmAlBlks). An extent without blocks may
+/// lie anywhere. Takes no memory.
 pub fn are_within(extents: &[Extent], blocks: u16) -> bool
     ensures { IsTrue result ↔ spec.AreExtentsWithin blocks extents.now }
 {
@@ -38,7 +38,7 @@ pub(crate) fn block_total(extents: &[Extent; 3]) -> u32
     block_count(first) + block_count(second) + block_count(third)
 }
 
-/// The three extents that go on with a fork from its block `block` on, if the tree has a record of them that has a block.
+/// The three extents that continue a fork from its block `block` on, if the tree has a record of them with a block.
 fn next_extents<N: Nodes>(
     alloc: Global,
     tree: &N,
@@ -69,11 +69,11 @@ fn next_extents<N: Nodes>(
     Ok(Some(extents))
 }
 
-/// All extents of a fork: the three of its record, and then, as long as the extents tree holds a record of the file and fork
-/// that has a block and whose first block is the number of blocks so far, that record's three.
+/// All extents of a fork: the three of its record, and then, as long as the extents tree has a record of the file and fork with a
+/// block whose first block is the number of blocks so far, that record's three.
 ///
-/// The catalog file is file 4, and its data fork begins with the three extents of the master directory block. The extents
-/// file itself has only its three there. The only error is want of memory.
+/// The catalog file is file 4, and its data fork begins with the three extents of the master directory block. The extents file
+/// itself has only its three there. Fails only when out of memory.
 ///
 /// Source: Inside Macintosh: Files, chapter 2, 'Extents overflow file'.
 pub fn fork_extents<N: Nodes>(

@@ -16,7 +16,7 @@ pub struct CatalogFile {
 }
 
 impl CatalogFile {
-    /// The file whose record is the catalog's of this number. None exactly where the record's body is no file's.
+    /// The file whose record in the catalog has this number. None exactly when the record's body isn't a file's.
     #[tactic(auto, unfolding(hfs_fields::specs::Records::begins_file))]
     pub fn read(number: usize, body: &[u8]) -> Option<CatalogFile>
         ensures { SomeIff result (IsTrue (is_file body.now)) (file_at number body.now) }

@@ -11,7 +11,7 @@ use hfs_blocks::{Blocks, Run};
 use hfs_fields::{Extent, Mdb};
 use std::alloc::{AllocError, Global};
 
-/// Appends the bytes of a run of blocks from `from` up to `end`. Only the blocks that have one of them are read.
+/// Appends the bytes of a run of blocks from `from` up to `end`. Reads only the blocks that have one of them.
 fn read_run<B: Blocks>(
     blocks: &B,
     run: Run,
@@ -62,9 +62,8 @@ fn read_extent<B: Blocks>(
     read_run(blocks, run, from, from + count, bytes)
 }
 
-/// Bytes of a fork with these extents and this logical length, in bytes: those from `offset` on, `count` of them or as many
-/// as there are. Sums are taken in 64 bits. Only the blocks that have one of these bytes are read. The only error is want of
-/// memory.
+/// Bytes of a fork with these extents and this logical length in bytes: `count` of them from `offset` on, or as many as there
+/// are. Sums are taken in 64 bits. Reads only the blocks that have one of these bytes. Fails only when out of memory.
 ///
 /// Source: Inside Macintosh: Files, chapter 2, 'Extents overflow file'.
 pub fn read_fork<B: Blocks>(
@@ -96,8 +95,8 @@ pub fn read_fork<B: Blocks>(
     Ok(bytes)
 }
 
-/// Reads on from a place in the bytes of a fork's extents: the next `count` bytes, or as many as there are, and the place
-/// behind them. Reading a fork piece by piece passes each of its extents once. The only error is want of memory.
+/// Reads on from a place in the bytes of a fork's extents: the next `count` bytes, or as many as there are, and the place after
+/// them. Reading a fork piece by piece goes through each of its extents once. Fails only when out of memory.
 pub fn read_on<B: Blocks>(
     alloc: Global,
     blocks: &B,

@@ -21,8 +21,8 @@ use hfs_btree::Nodes;
 use hfs_fields::{Extent, FileRecord, ForkRecord, Mdb};
 use std::alloc::{AllocError, Global};
 
-/// Whether a fork's extents, those of its overflow records among them, lie in the volume and have room for its bytes. They are
-/// laid into `extents`, in place of what it has.
+/// Whether a fork's extents, including those of its overflow records, lie in the volume and have room for its bytes. They replace
+/// what `extents` has.
 #[tactic(auto, unfolding(crate::specs::Faults::is_fork_right))]
 fn is_fork_right(
     mdb: &Mdb,
@@ -40,7 +40,7 @@ fn is_fork_right(
     Ok(can_hold(mdb, extents, fork.length))
 }
 
-/// Whether both forks of a file are right. Their extents are laid into `extents`, in place of what it has.
+/// Whether both forks of a file are right. Their extents replace what `extents` has.
 #[tactic(auto, unfolding(crate::specs::Owners::forks_of_file))]
 fn are_forks_right(
     mdb: &Mdb,
@@ -83,7 +83,7 @@ fn first_wrong_file(
     Ok(None)
 }
 
-/// Marks the records of the extents tree that a file goes on with.
+/// Marks the records of the extents tree that continue a file.
 fn mark_file(overflow: &[OverflowRecord], file: &FileRecord, marks: &mut [bool])
     requires rises { Rises ext_cmp overflow.now }
     requires length { length marks.old ≡ length overflow.now }
@@ -99,7 +99,7 @@ fn mark_file(overflow: &[OverflowRecord], file: &FileRecord, marks: &mut [bool])
     );
 }
 
-/// Marks the records of the extents tree that one of the files goes on with.
+/// Marks the records of the extents tree that continue one of the files.
 fn mark_files(overflow: &[OverflowRecord], files: &[CatalogFile], marks: &mut [bool])
     requires rises { Rises ext_cmp overflow.now }
     requires length { length marks.old ≡ length overflow.now }
@@ -110,7 +110,7 @@ fn mark_files(overflow: &[OverflowRecord], files: &[CatalogFile], marks: &mut [b
     }
 }
 
-/// Marks the records of the extents tree that the catalog file or one of the files goes on with.
+/// Marks the records of the extents tree that continue the catalog file or one of the files.
 fn mark_used(mdb: &Mdb, overflow: &[OverflowRecord], files: &[CatalogFile], marks: &mut [bool])
     requires rises { Rises ext_cmp overflow.now }
     requires length { length marks.old ≡ length overflow.now }
@@ -126,7 +126,7 @@ fn mark_used(mdb: &Mdb, overflow: &[OverflowRecord], files: &[CatalogFile], mark
     mark_files(overflow, files, marks);
 }
 
-/// The marks of the records of the extents tree that the catalog file or one of the files goes on with.
+/// The marks of the records of the extents tree that continue the catalog file or one of the files.
 fn used_marks(
     alloc: Global,
     mdb: &Mdb,
@@ -142,7 +142,7 @@ fn used_marks(
     Ok(marks)
 }
 
-/// Whether a record's extents lie among the first `blocks` allocation blocks.
+/// Whether a record's extents lie within the first `blocks` allocation blocks.
 fn is_within(r: &OverflowRecord, blocks: u16) -> bool
     ensures { result ≡ spec.are_extents_within blocks (extents.record_extents r.now.1) }
 {
@@ -152,7 +152,7 @@ fn is_within(r: &OverflowRecord, blocks: u16) -> bool
     }
 }
 
-/// Whether a record of the extents tree has a block, and is one of the bad blocks that lies in the volume, or one that is
+/// Whether a record of the extents tree has a block, and is either one of the bad blocks' that lies in the volume, or one that is
 /// used.
 fn is_record_right(mdb: &Mdb, r: &OverflowRecord, used: bool) -> bool
     ensures { result ≡ runs.is_overflow_right_if mdb.now used r.now }
@@ -188,15 +188,13 @@ fn overflow_fault(
     Ok(None)
 }
 
-/// The first fault of a volume's extents, where `tree` is its extents tree, `files` are the files of its catalog and
-/// `records` is how many leaf records the catalog has. It is the number of the first file's record of which a fork's extents,
-/// those of its overflow records among them, don't lie in the volume or have no room for the fork's bytes. Where there is
-/// none, it is `records` and the number of the first record of the extents tree that has no block, that is of the bad
-/// blocks (file 5) and doesn't lie in the volume, or that is of another file and none of the records that the catalog file
-/// (file 4) or a file of the catalog goes on with.
+/// The first fault of a volume's extents; `tree` is its extents tree, `files` are the files of its catalog, and `records` is how
+/// many leaf records the catalog has. It is the number of the first file's record with a fork whose extents, including those of
+/// its overflow records, don't lie in the volume or have no room for the fork's bytes. If there is none, it is `records` plus the
+/// number of the first wrong record of the extents tree: one that has no block; one of the bad blocks (file 5) that doesn't lie
+/// in the volume; or one of another file that continues neither the catalog file (file 4) nor a file of the catalog.
 ///
-/// The work is that of some searches for each file, and of going once through the extents tree. The only error is want of
-/// memory.
+/// The work is some searches for each file, and going through the extents tree once. Fails only when out of memory.
 ///
 /// Source: Inside Macintosh: Files, chapter 2, 'Extents overflow file'.
 pub fn fork_fault<N: Nodes>(

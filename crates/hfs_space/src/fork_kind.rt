@@ -12,7 +12,7 @@ pub enum ForkKind {
     Resource,
 }
 
-/// The byte of a fork in the keys of the extents tree (xkrFkType): $00 of the data fork, $FF of the resource fork.
+/// The byte of a fork in the keys of the extents tree (xkrFkType): $00 for the data fork, $FF for the resource fork.
 pub(crate) fn fork_byte(fork: ForkKind) -> u8
     ensures { result ≡ fork_byte fork }
 {

@@ -42,7 +42,7 @@ impl OverflowRecord {
         self.key
     }
 
-    /// The record's three extents; None where its body is too short for them.
+    /// The record's three extents; None if its body is too short for them.
     pub(crate) fn extents(&self) -> Option<[Extent; 3]>
         ensures { SomeIff result (12 ≤ length self.now.1) (extents_at 0 self.now.1) }
     {
@@ -94,7 +94,7 @@ fn next_record<N: Nodes>(
     }
 }
 
-/// All records of the extents tree, in order. Each leaf is read once. The only error is want of memory.
+/// All records of the extents tree, in order. Reads each leaf once. Fails only when out of memory.
 pub(crate) fn overflow_records<N: Nodes>(
     alloc: Global,
     tree: &N,

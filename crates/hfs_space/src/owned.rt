@@ -1,4 +1,4 @@
-//! All extents that somebody owns.
+//! All extents that have an owner.
 ghost use Rattle.std.specs.Prelude.{◌≡◌, ◌++◌, OnOk};
 ghost use Rattle.std.specs.List.{flat_map};
 ghost use Rattle.hfs_fields.specs.declared.key.CatKey.{CatKey};
@@ -64,9 +64,9 @@ fn push_bad(overflow: &[OverflowRecord], owned: &mut Vec<Extent>) -> Result<(), 
     Ok(())
 }
 
-/// All extents that somebody owns, where `tree` is a volume's extents tree and `files` are the files of its catalog: those of
-/// the catalog file and of the files' forks, their overflow records' among them, those of the extents file, and those of
-/// the bad blocks (file 5). Each leaf of the tree is read once. The only error is want of memory.
+/// All extents that have an owner; `tree` is a volume's extents tree, and `files` are the files of its catalog. They are those of
+/// the catalog file and of the files' forks, including their overflow records', those of the extents file, and those of the bad
+/// blocks (file 5). Reads each leaf of the tree once. Fails only when out of memory.
 ///
 /// Source: Inside Macintosh: Files, chapter 2, 'Extents overflow file'.
 #[tactic(auto, unfolding(crate::specs::Owners::owned_extents))]

@@ -1,4 +1,4 @@
-//! How many own each allocation block.
+//! How many owners each allocation block has.
 ghost use Rattle.std.specs.Prelude.{◌≡◌, ◌==◌, map, count_by};
 ghost use Rattle.std.specs.List.{range_with_len};
 ghost use Rattle.hfs_space.specs.Extents.{extent_blocks};
@@ -14,11 +14,11 @@ use std::alloc::{AllocError, Global};
 pub(crate) enum Edge {
     /// Its first block.
     First,
-    /// The block behind its last.
+    /// The block after its last.
     Behind,
 }
 
-/// The first block of an extent, or the one behind its last.
+/// The first block of an extent, or the one after its last.
 fn block_at(extent: Extent, edge: Edge) -> u32
     ensures { result ≡ edges.block_at edge extent }
 {
@@ -47,8 +47,8 @@ fn edge_counts(
     Ok(counts)
 }
 
-/// How many of the extents have each of the first `blocks` allocation blocks. The work is that of going once through the
-/// extents and once through the blocks, however many blocks the extents have.
+/// How many of the extents have each of the first `blocks` allocation blocks. The work is going through the extents once and
+/// through the blocks once, however many blocks the extents have.
 pub(crate) fn owner_counts(
     alloc: Global,
     blocks: u16,

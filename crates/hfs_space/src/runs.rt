@@ -1,4 +1,4 @@
-//! Which records of the extents tree a fork goes on with.
+//! Which records of the extents tree continue a fork.
 ghost use Rattle.std.specs.Prelude.{◌≡◌, ℕ, ◌+◌, ◌<◌, ◌≤◌, ◌++◌, false, List, length, slice_index_or, OnOk};
 ghost use Rattle.hfs_fields.specs.declared.key.ExtKey.{ExtKey};
 ghost use Rattle.hfs_fields.specs.Keys.{ext_cmp};
@@ -12,7 +12,7 @@ use crate::overflow::{OverflowRecord, blocks_in, push_record};
 use hfs_fields::Extent;
 use std::alloc::AllocError;
 
-/// Whether a record is of this fork.
+/// Whether a record is one of this fork's.
 fn is_of_fork(r: &OverflowRecord, file: u32, fork: u8) -> bool
     ensures { result ≡ spec.is_of_fork file fork r.now }
 {
@@ -20,7 +20,7 @@ fn is_of_fork(r: &OverflowRecord, file: u32, fork: u8) -> bool
     key.file == file && key.fork == fork
 }
 
-/// Whether a record stands before those of this fork.
+/// Whether a record comes before those of this fork.
 fn is_before_fork(r: &OverflowRecord, file: u32, fork: u8) -> bool
     ensures { result ≡ spec.is_before_fork file fork r.now }
 {
@@ -28,7 +28,7 @@ fn is_before_fork(r: &OverflowRecord, file: u32, fork: u8) -> bool
     key.file < file || (key.file == file && key.fork < fork)
 }
 
-/// Whether a record goes on with this fork from this block of it on.
+/// Whether a record continues this fork from this block of it on.
 fn goes_on(r: &OverflowRecord, file: u32, fork: u8, block: u32) -> bool
     ensures { result ≡ goes_on file fork block r.now }
 {
@@ -40,7 +40,7 @@ fn goes_on(r: &OverflowRecord, file: u32, fork: u8, block: u32) -> bool
         && 0 < blocks_in(r)
 }
 
-/// How many records stand before those of this fork.
+/// How many records come before those of this fork.
 fn first_of_fork(overflow: &[OverflowRecord], file: u32, fork: u8) -> usize
     requires { Rises ext_cmp overflow.now }
     ensures bound { result ≤ length overflow.now }
@@ -50,8 +50,8 @@ fn first_of_fork(overflow: &[OverflowRecord], file: u32, fork: u8) -> usize
     overflow.partition_point(|r| is_before_fork(r, file, fork))
 }
 
-/// Marks the records that a fork goes on with whose record has these first extents. The work is that of a search, and of
-/// going through the fork's own records.
+/// Marks the records that continue the fork whose record has these first extents. The work is a search, and going through the
+/// fork's own records.
 pub(crate) fn mark_run(
     overflow: &[OverflowRecord],
     file: u32,
@@ -77,8 +77,8 @@ pub(crate) fn mark_run(
     }
 }
 
-/// Adds all extents of a fork whose record has these first ones. The work is that of a search, and of going through the fork's
-/// own records.
+/// Adds all extents of the fork whose record has these first ones. The work is a search, and going through the fork's own
+/// records.
 pub(crate) fn push_fork(
     overflow: &[OverflowRecord],
     file: u32,

@@ -11,24 +11,24 @@ use hfs_blocks::Blocks;
 use hfs_fields::{Extent, Mdb};
 use std::alloc::{AllocError, Global};
 
-/// Whether a block that is marked or not, with so many owners, is sound: it has none, or one and is marked.
+/// Whether a block with this mark and this many owners is sound: it has none, or it has one and is marked.
 fn is_sound(marked: bool, owners: usize) -> bool
     ensures { result ≡ is_allowed marked owners }
 {
     owners == 0 || (owners == 1 && marked)
 }
 
-/// Whether a block that is marked or not, with so many owners, is marked and has none.
+/// Whether a block with this mark and this many owners is marked and has none.
 fn is_stray(marked: bool, owners: usize) -> bool
     ensures { result ≡ is_stray marked owners }
 {
     owners == 0 && marked
 }
 
-/// The first fault of a volume's space, where `owned` is all extents that somebody owns: those of the files' forks, of the
-/// catalog file, of the extents file and of the bad blocks. It is the least allocation block that two own, or that one owns
-/// and the bitmap doesn't mark; and where there is none but drFreeBks isn't the number of clear bits, it is the number of
-/// allocation blocks. A block may be marked though nobody owns it. The only error is want of memory.
+/// The first fault of a volume's space; `owned` are all extents that have an owner: those of the files' forks, of the catalog
+/// file, of the extents file and of the bad blocks. It is the first allocation block that has two owners, or that has one and
+/// isn't marked in the bitmap; if there is none, but drFreeBks isn't the number of clear bits, it is the number of allocation
+/// blocks. A block may be marked without an owner. Fails only when out of memory.
 ///
 /// Source: Inside Macintosh: Files, chapter 2, 'Volume bitmap'.
 #[tactic(auto, unfolding(crate::specs::Faults::space_fault))]
@@ -62,8 +62,8 @@ pub fn space_fault<B: Blocks>(
     }
 }
 
-/// How many allocation blocks the bitmap marks that nobody owns, where `owned` is all extents that somebody owns. The only
-/// error is want of memory.
+/// How many allocation blocks are marked in the bitmap but have no owner; `owned` are all extents that have one. Fails only when
+/// out of memory.
 pub fn stray_count<B: Blocks>(
     alloc: Global,
     blocks: &B,

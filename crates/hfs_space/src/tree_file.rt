@@ -33,8 +33,8 @@ fn first_blocks<B: Blocks>(blocks: &B, mdb: &Mdb, extent: Extent, most: u32) -> 
     }
 }
 
-/// The runs of logical blocks in which the nodes of a tree's file lie, in order: those of its extents that have blocks,
-/// cut where the file of `size` bytes (drXTFlSize, drCTFlSize) ends. The only error is want of memory.
+/// The runs of logical blocks that hold the nodes of a tree's file, in order: those of its extents that have blocks, cut where
+/// the file of `size` bytes (drXTFlSize, drCTFlSize) ends. Fails only when out of memory.
 ///
 /// Source: Inside Macintosh: Files, chapter 2, 'B*-trees'.
 #[tactic(auto, unfolding(crate::specs::TreeFiles::tree_nodes))]

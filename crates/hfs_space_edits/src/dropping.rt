@@ -1,4 +1,4 @@
-//! The records of the extents tree of a file that goes.
+//! The records of the extents tree of a file that is deleted.
 
 ghost use Rattle.std.specs.Prelude.{◌≡◌, OnOk};
 ghost use Rattle.hfs_space.specs.TreeKeys.{IsExtentsTree, overflow_of};
@@ -29,11 +29,11 @@ fn first_of_file<N: Nodes>(nodes: &N, file: u32) -> Option<ExtKey>
     }
 }
 
-/// Takes all records of a file out of the extents tree: those of both its forks. Nothing is written where it has none.
+/// Removes all records of a file from the extents tree, for both its forks. Writes nothing if it has none.
 ///
-/// The work is that of a search and a removal for each of the file's own records, however many others have.
+/// The work is a search and a removal for each of the file's own records, however many other files have.
 ///
-/// Errors: `AllocError` where memory was refused. Then nothing is known of the nodes, which are to be thrown away.
+/// Errors: `AllocError` if memory was refused. Then nothing is known of the nodes, which must be thrown away.
 ///
 /// Source: Inside Macintosh: Files, chapter 2, 'Extents overflow file'.
 pub fn drop_overflow<S: NodesMut>(alloc: Global, nodes: &mut S, file: u32) -> Result<(), AllocError>

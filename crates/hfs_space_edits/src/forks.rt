@@ -9,8 +9,8 @@ use hfs_fields::{Extent, FileRecord};
 use hfs_space::{ForkKind, fork_extents};
 use std::alloc::{AllocError, Global};
 
-/// All extents of a file: those of its data fork and then those of its resource fork, each with those that go on in the extents
-/// tree. The only error is want of memory.
+/// All extents of a file: those of its data fork and then those of its resource fork, each including those in the extents tree.
+/// Fails only when out of memory.
 ///
 /// Source: Inside Macintosh: Files, chapter 2, 'Extents overflow file'.
 #[tactic(auto, using(crate::proofs::BothForks::both_forks))]

@@ -1,4 +1,4 @@
-//! What a file that goes gives back: its records of the extents tree, and the bits of its allocation blocks.
+//! What a file that is deleted gives back: its records of the extents tree, and the bits of its allocation blocks.
 #![tactic(auto)]
 
 mod dropping;

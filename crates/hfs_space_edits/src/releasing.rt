@@ -1,4 +1,4 @@
-//! The allocation blocks of a file that goes.
+//! The allocation blocks of a file that is deleted.
 
 ghost use Rattle.std.specs.Prelude.{OnOk};
 ghost use Rattle.hfs_blocks.specs.Layers.{KeepsWithin};
@@ -10,13 +10,13 @@ use hfs_fields::Extent;
 use hfs_space::Bitmap;
 use std::alloc::AllocError;
 
-/// Clears the bits of the extents' allocation blocks in the bitmap's blocks with the patch over them: those of a file's two
-/// forks, as `file_extents` gives them. An extent without blocks clears nothing, wherever it lies.
+/// Clears the bits of the extents' allocation blocks in the bitmap's blocks with the patch over them; the extents are those of a
+/// file's two forks, as `file_extents` returns them. An extent without blocks clears nothing, wherever it lies.
 ///
-/// Where each block is in one extent alone and is marked, as the blocks of a sound volume's file are, so many more bits are
-/// clear afterwards as the extents have blocks.
+/// If each block is in one extent only and is marked, as the blocks of a sound volume's file are, there are as many more clear
+/// bits afterwards as the extents have blocks.
 ///
-/// Errors: `AllocError` where memory was refused. Then some of the bits may still be set.
+/// Errors: `AllocError` if memory was refused. Then some of the bits may still be set.
 ///
 /// Source: Inside Macintosh: Files, chapter 2, 'Volume bitmap'.
 pub fn release_extents<B: Blocks>(

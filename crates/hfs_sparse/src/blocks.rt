@@ -14,7 +14,7 @@ use indexmap::IndexMap;
 use std::alloc::Global;
 use std::marker::Model;
 
-/// The blocks of an image that were read, by their numbers. One of zeros takes no room but that of its number.
+/// The blocks of an image that were read, by their numbers. A block of zeros only takes room for its number.
 #[derive(Drop)]
 pub struct SparseBlocks {
     held: Held,
@@ -59,7 +59,7 @@ impl SparseBlocks {
         self.held.places.contains_key(&n)
     }
 
-    /// Copies block `n`, zeros where it wasn't read.
+    /// Copies block `n`, or zeros if it wasn't read.
     pub fn copy_block(&self, n: u32, into: &mut [u8; 512])
         ensures { into.new ≡ sparse self.now n }
     {
@@ -71,7 +71,7 @@ impl SparseBlocks {
         ensures read { result.read.now ≡ self.now }
         ensures count { result.count ≡ count }
     {
-        // A proof knows that the blocks have 512 bytes once it has seen them.
+        // Once a proof has seen the blocks, it knows that they have 512 bytes.
         let _held = &self.held;
         SparseVolume { read: self, count }
     }
@@ -91,7 +91,8 @@ impl SparseBlocks {
         most
     }
 
-    /// Reads `count` blocks from number `first` on, of which none was read before, by one read. At an error what was read before stays.
+    /// Reads `count` blocks from number `first` on, none of which was read before, in one read. At an error, what was read before
+    /// stays.
     pub(crate) fn read_range<S: BlockSource>(
         &mut self,
         source: &mut S,

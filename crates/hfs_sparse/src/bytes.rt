@@ -5,7 +5,7 @@ use crate::source::BlockSource;
 use std::io;
 use std::io::ErrorKind;
 
-/// A whole image as bytes, whose blocks are copied. A block that ends behind the last byte can't be read.
+/// A whole image as bytes, whose blocks are copied. A block that ends past the last byte can't be read.
 #[derive(Drop)]
 pub struct ByteSource<'a> {
     /// The image's bytes.

@@ -10,7 +10,8 @@ use crate::source::BlockSource;
 use hfs_blocks::Run;
 use std::alloc::Global;
 
-/// Appends the bytes of `count` blocks from number `first` on, by one read. At an error zeros may stand there, or some of these bytes.
+/// Appends the bytes of `count` blocks from number `first` on, in one read. At an error, zeros or some of these bytes may have
+/// been appended.
 fn append_range<S: BlockSource>(
     source: &mut S,
     first: u32,
@@ -34,7 +35,7 @@ fn append_range<S: BlockSource>(
     }
 }
 
-/// The bytes of the blocks of these runs, in their order. Errors: a read failed, memory was refused.
+/// The bytes of the blocks of these runs, in order. Errors: a read failed, memory was refused.
 pub fn read_runs<S: BlockSource>(
     alloc: Global,
     source: &mut S,

@@ -1,4 +1,4 @@
-//! Reading the blocks that are wanted.
+//! Reading the blocks that are needed.
 ghost use Rattle.std.specs.Prelude.{◌≡◌, ℕ, ◌+◌, ◌<◌, ◌≤◌, IsSome, OnOk, IfOk, length};
 ghost use Rattle.std.specs.List.{flat_map, range_with_len};
 ghost use Rattle.hfs_blocks.specs.Blocks.{run_of, AreRunsWithin};
@@ -10,7 +10,7 @@ use crate::blocks::SparseBlocks;
 use crate::source::BlockSource;
 use hfs_blocks::Run;
 
-/// The most blocks that are read at once, which have 64 KB.
+/// The most blocks that are read at once: 64 KB.
 const MOST_AT_ONCE: u32 = 128;
 
 /// Why a block was not read.
@@ -22,8 +22,8 @@ pub enum SparseFault {
     Memory,
 }
 
-/// Reads some of the first of `most` blocks from number `first` on, those that were not read before by one read. How many they are, at least
-/// one. At an error what was read before stays.
+/// Reads some of the first of `most` blocks from number `first` on; those that were not read before are read in one read. Returns
+/// how many, at least one. At an error, what was read before stays.
 #[tactic(auto, using(crate::proofs::Seen::sees_itself))]
 fn fetch_some<S: BlockSource>(
     source: &mut S,
@@ -48,7 +48,7 @@ fn fetch_some<S: BlockSource>(
     Ok(unread)
 }
 
-/// Reads block `n`, unless it was read before. At an error what was read before stays.
+/// Reads block `n`, unless it was read before. At an error, what was read before stays.
 pub fn fetch<S: BlockSource>(
     source: &mut S,
     read: &mut SparseBlocks,
@@ -65,7 +65,8 @@ pub fn fetch<S: BlockSource>(
     Ok(())
 }
 
-/// Reads `count` blocks from number `first` on, each unless it was read before, and up to 128 that stand side by side by one read.
+/// Reads `count` blocks from number `first` on, each unless it was read before; up to 128 that are next to each other are read in
+/// one read.
 #[tactic(auto, using(crate::proofs::Seen::sees_itself))]
 pub fn fetch_range<S: BlockSource>(
     source: &mut S,

@@ -1,4 +1,4 @@
-//! Blocks that are held by their numbers, of which those of zeros take no room.
+//! Blocks that are held by their numbers; those of zeros take no room.
 ghost use Rattle.std.specs.Prelude.{◌≡◌, ℕ, ◌+◌, ◌*◌, ◌<◌, ◌≤◌, true, None, length, IfSome, OnOk, OnErr};
 ghost use Rattle.std.specs.List.{range_with_len};
 ghost use Rattle.hfs_blocks.specs.Blocks.{block_at};
@@ -16,15 +16,15 @@ use std::alloc::AllocError;
 /// Blocks by their numbers.
 #[derive(Drop)]
 pub(crate) struct Held {
-    /// Where each block stands among the bytes, counted in blocks; none for one of zeros.
+    /// Where each block is among the bytes, counted in blocks; None for a block of zeros.
     pub(crate) places: IndexMap<u32, Option<usize>>,
-    /// The bytes of the other blocks, and behind them what was read and isn't held yet.
+    /// The bytes of the other blocks, and then what was read and isn't held yet.
     pub(crate) bytes: Vec<u8>,
     /// How many blocks of the bytes are held.
     pub(crate) count: usize,
 }
 
-/// Whether a block has zeros alone.
+/// Whether a block has only zeros.
 #[tactic(auto, unfolding(crate::specs::Sparse::zero_block))]
 fn is_zeros(block: &[u8]) -> bool
     ensures { result ≡ true → block.now ≡ zero_block }
@@ -32,7 +32,7 @@ fn is_zeros(block: &[u8]) -> bool
     block == [0; 512].as_slice()
 }
 
-/// Copies the block at place `from` to place `to`, not behind it.
+/// Copies the block at place `from` to place `to`, which is not after it.
 fn move_block(bytes: &mut Vec<u8>, from: usize, to: usize)
     requires before { to ≤ from }
     requires there { 512 * from + 512 ≤ length bytes.old.items }
@@ -47,7 +47,7 @@ fn move_block(bytes: &mut Vec<u8>, from: usize, to: usize)
 }
 
 impl Held {
-    /// Puts in block `n`, whose bytes stand at place `from`, behind the blocks that are held.
+    /// Adds block `n`, whose bytes are at place `from`, after the blocks that are held.
     fn put_in(&mut self, n: u32, from: usize) -> Result<(), AllocError>
         requires held { AreHeld self.old }
         requires behind { self.old.count ≤ from }
@@ -70,7 +70,7 @@ impl Held {
         Ok(())
     }
 
-    /// Puts in `count` blocks from number `first` on, whose bytes stand right behind the blocks that are held.
+    /// Adds `count` blocks from number `first` on, whose bytes are right after the blocks that are held.
     fn put_in_all(&mut self, first: u32, count: u32) -> Result<(), AllocError>
         requires held { AreHeld self.old }
         requires there { 512 * (self.old.count + count) ≤ length self.old.bytes.items }
@@ -89,7 +89,8 @@ impl Held {
         Ok(())
     }
 
-    /// Reads `count` blocks from number `first` on, by one read, to where they stand if they are put in: right behind those that are held.
+    /// Reads `count` blocks from number `first` on, in one read, to where they will be when they are added: right after those
+    /// that are held.
     fn read_behind<S: BlockSource>(
         &mut self,
         source: &mut S,
@@ -120,7 +121,7 @@ impl Held {
         }
     }
 
-    /// Lets the bytes go that are not of a block that is held.
+    /// Drops the bytes that are not of a block that is held.
     fn trim(&mut self)
         requires { AreHeld self.old }
         ensures same { HasSame (held_blocks self.old) (held_blocks self.new) }
@@ -129,7 +130,7 @@ impl Held {
         self.bytes.truncate(self.count * 512);
     }
 
-    /// Reads `count` blocks from number `first` on, of which none is there, by one read, and puts them in.
+    /// Reads `count` blocks from number `first` on, none of which is held, in one read, and adds them.
     pub(crate) fn read_in<S: BlockSource>(
         &mut self,
         source: &mut S,
@@ -161,7 +162,7 @@ impl Held {
         Ok(())
     }
 
-    /// Copies block `n`, zeros where there is none.
+    /// Copies block `n`, or zeros if there is none.
     pub(crate) fn copy_block(&self, n: u32, into: &mut [u8; 512])
         requires { AreHeld self.now }
         ensures { into.new ≡ sparse (held_blocks self.now) n }

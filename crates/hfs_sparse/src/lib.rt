@@ -1,4 +1,4 @@
-//! Images of which only some blocks are read, each when it is wanted, with zeros in place of the others.
+//! Images of which only some blocks are read, each when it is needed, with zeros in place of the others.
 #![tactic(auto)]
 
 mod blocks;

@@ -6,10 +6,10 @@ use crate::source::BlockSource;
 use hfs_source::PlacedBlocks;
 use std::io;
 
-/// Blocks that are read by their numbers, of which what was read is known, and nothing before.
+/// Blocks that are read by their numbers; nothing is known of them but what was read.
 #[derive(Drop)]
 pub struct SeenBlocks<S> {
-    /// Where they are read from.
+    /// What they are read from.
     pub blocks: S,
 }
 

@@ -5,22 +5,22 @@ ghost use Rattle.hfs_sparse.specs.Sparse.{HoldsFrom};
 
 use std::io;
 
-/// An image whose blocks can be read in any order, where each read may fail.
+/// An image whose blocks can be read in any order; each read may fail.
 pub trait BlockSource {
-    /// The bytes of the whole image, where they are known. A file doesn't tell them.
+    /// The bytes of the whole image, if they are known. For a file on disk they aren't.
     ghost image: { Self → Option (List ℕ) };
 
-    /// The images that have the bytes which were read so far: over memory one, over a file each that it may be.
+    /// The images consistent with the bytes read so far: over memory that is one, over a file each that it may be.
     ghost Holds: { Self → List ℕ → Type 0 };
 
-    /// Reads the blocks from number `first` on, counted from 0, as many as there is room for in `into`, by one read. Error: the read failed,
-    /// or the image ends before the room is full; what stands there then is not told.
+    /// Reads blocks from number `first` on, counted from 0, as many as `into` has room for, in one read. Error: the read failed,
+    /// or the image ends before the room is full; what `into` holds then isn't specified.
     fn read_blocks(&mut self, first: u32, into: &mut [u8]) -> io::Result<()>
         ensures read { OnOk result (HoldsFrom (image self.old) (512 * first) into.new) }
         ensures image { image self.new ≡ image self.old }
         ensures seen { OnOk result (OfEach (Holds self.new) (HasAt (512 * first) into.new)) }
         ensures narrows { OfEach (Holds self.new) (Holds self.old) };
 
-    /// Where the bytes are known, their image is one that has the bytes which were read.
+    /// If the bytes are known, their image is one of those consistent with the bytes read.
     ghost known_holds: { (source : Self) (bytes : List ℕ) → image source ≡ Some bytes → Holds source bytes };
 }

@@ -6,7 +6,7 @@ ghost use Rattle.hfs_sparse.specs.Sparse.{zero_block, length-zero_block, sparse}
 use crate::blocks::SparseBlocks;
 use hfs_blocks::Blocks;
 
-/// So many blocks, of which some were read, with zeros in place of the others.
+/// `count` blocks, some of which were read, with zeros in place of the others.
 #[derive(Drop)]
 pub struct SparseVolume<'a> {
     /// Those that were read.

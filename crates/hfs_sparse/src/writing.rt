@@ -1,4 +1,4 @@
-//! Writing the bytes of blocks as they are read.
+//! Writing the bytes of blocks while they are read.
 ghost use Rattle.std.specs.Prelude.{◌≡◌, ◌≢◌, ◌-◌, ◌*◌, ◌+◌, ◌<◌, ◌≤◌, Err, IfOk, OnErr, OnOk, length};
 ghost use Rattle.std.specs.List.{flat_map, range_with_len};
 ghost use Rattle.hfs_blocks.specs.Blocks.{run_of, AreRunsWithin};
@@ -12,14 +12,14 @@ use hfs_texts::put;
 use std::alloc::{AllocError, Global};
 use std::io::Write;
 
-/// Why bytes of blocks were not all written.
+/// Why the bytes of blocks were not all written.
 #[derive(Clone, Copy, Debug, PartialEq, Eq)]
 pub enum CopyFault {
     /// Memory was refused, and nothing was written.
     Memory,
     /// A read failed, and nothing was written.
     ReadFailed,
-    /// A read failed behind bytes that were written.
+    /// A read failed after some bytes were written.
     BrokenOff,
     /// The writer failed.
     WriteFailed,
@@ -28,8 +28,8 @@ pub enum CopyFault {
 /// The most blocks that are read at once.
 const MOST_AT_ONCE: u32 = 128;
 
-/// Writes what there is of the first `left` bytes in `count` blocks from number `first` on, and answers how many of them are left. At first there were
-/// `all`.
+/// Writes as many of the first `left` bytes as are in `count` blocks from number `first` on, and returns how many of them are
+/// left. At first there were `all`.
 fn copy_piece<S: BlockSource, W: Write>(
     source: &mut S,
     first: u32,
@@ -72,8 +72,8 @@ fn copy_piece<S: BlockSource, W: Write>(
     Ok(left - most as u32)
 }
 
-/// Writes what there is of the first `left` bytes in the blocks of a run, piece by piece, and answers how many of them are left. At first there
-/// were `all`.
+/// Writes as many of the first `left` bytes as are in the blocks of a run, piece by piece, and returns how many of them are left.
+/// At first there were `all`.
 fn copy_run<S: BlockSource, W: Write>(
     source: &mut S,
     run: &Run,
@@ -114,15 +114,15 @@ fn copy_run<S: BlockSource, W: Write>(
     Ok(rest)
 }
 
-/// Room for so many blocks.
+/// Room for `count` blocks.
 fn buffer_of(alloc: Global, count: u32) -> Result<Vec<u8>, AllocError>
     ensures { IfOk result (λ buffer. length buffer.items ≡ 512 * count) }
 {
     vec![in alloc; 0; count as usize * 512]
 }
 
-/// Writes the first `size` bytes of the blocks of these runs, or all that there are, at most 65,536 at a time: memory doesn't grow with them. At
-/// an error a part may have gone out, from the first on, and nothing else.
+/// Writes the first `size` bytes of the blocks of these runs, or all that there are, at most 65,536 at a time, so memory doesn't
+/// grow with them. At an error, only the beginning may have been written.
 pub fn copy_runs<S: BlockSource, W: Write>(
     alloc: Global,
     source: &mut S,

@@ -5,7 +5,7 @@ ghost use Rattle.hfs_model.specs.Forks.{resized, written, fork_bytes};
 use hfs_model::{Fork, Kind};
 use std::alloc::{AllocError, Global};
 
-/// The bytes of a fork, none of a folder.
+/// The bytes of a fork; none for a folder.
 pub fn fork_bytes(fork: Fork, kind: &Kind) -> &[u8]
     ensures bytes { result.now ≡ fork_bytes fork kind.now }
     ensures short { length result.now < 2 ^ 32 }
@@ -19,7 +19,7 @@ pub fn fork_bytes(fork: Fork, kind: &Kind) -> &[u8]
     }
 }
 
-/// The first `count` bytes, with zeros after them where there are fewer.
+/// The first `count` bytes, followed by zeros if there are fewer.
 #[tactic(auto, unfolding(hfs_model::specs::Forks::resized))]
 pub fn resized(alloc: Global, bytes: &[u8], count: usize) -> Result<Vec<u8>, AllocError>
     ensures bytes { IfOk result (λ made. made.items ≡ resized count bytes.now) }
@@ -30,7 +30,7 @@ pub fn resized(alloc: Global, bytes: &[u8], count: usize) -> Result<Vec<u8>, All
     Ok(made)
 }
 
-/// New bytes from `offset` on, also past the end of the old ones.
+/// The old bytes with new ones from `offset` on, which may be past their end.
 #[tactic(auto, unfolding(hfs_model::specs::Forks::written), using(hfs_model::proofs::ForkLemmas::written_is_short))]
 pub fn written(
     alloc: Global,

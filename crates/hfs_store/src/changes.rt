@@ -23,7 +23,7 @@ fn touch(items: &mut Vec<(u32, Item)>, dir: u32, now: u32)
     }
 }
 
-/// Takes the item at a place away.
+/// Removes the item at a place.
 fn take_away(items: &mut Vec<(u32, Item)>, at: usize)
     requires { at < length items.old.items }
     ensures { BecomesAt items.old.items items.new.items at (λ m e. map.remove m e.0) }
@@ -31,7 +31,7 @@ fn take_away(items: &mut Vec<(u32, Item)>, at: usize)
     items.remove(at);
 }
 
-/// Puts the item at a place under another folder.
+/// Moves the item at a place to another folder.
 fn set_parent(items: &mut Vec<(u32, Item)>, at: usize, parent: u32)
     requires within { at < length items.old.items }
     requires room { valence items.old.items parent < 65535 }
@@ -40,7 +40,7 @@ fn set_parent(items: &mut Vec<(u32, Item)>, at: usize, parent: u32)
     items[at].1.parent = parent;
 }
 
-/// Takes the item at a place away, and sets the modified date of the folder that held it.
+/// Removes the item at a place, and sets the modified date of the folder that held it.
 pub fn remove_item(items: &mut Vec<(u32, Item)>, at: usize, dir: u32, now: u32)
     requires { at < length items.old.items }
     ensures { BecomesAt items.old.items items.new.items at (λ m e. removed m e dir now) }
@@ -49,7 +49,7 @@ pub fn remove_item(items: &mut Vec<(u32, Item)>, at: usize, dir: u32, now: u32)
     touch(items, dir, now);
 }
 
-/// Puts the item at a place under another folder, and sets the modified date of both.
+/// Moves the item at a place to another folder, and sets the modified date of both folders.
 pub fn move_item(items: &mut Vec<(u32, Item)>, at: usize, dir: u32, new_dir: u32, now: u32)
     requires within { at < length items.old.items }
     requires room { valence items.old.items new_dir < 65535 }
@@ -60,7 +60,7 @@ pub fn move_item(items: &mut Vec<(u32, Item)>, at: usize, dir: u32, new_dir: u32
     touch(items, new_dir, now);
 }
 
-/// Gives the item at a place another name.
+/// Renames the item at a place.
 pub fn rename_item(items: &mut Vec<(u32, Item)>, at: usize, name: Name)
     requires { at < length items.old.items }
     ensures { ItemBecomes items.old.items items.new.items at (λ i. record i { name = name }) }
@@ -113,7 +113,7 @@ fn set_thread_bit(kept: &mut [u8; 102], set: bool)
     kept[2] = FileFlags(kept[2]).with_thread(set).0;
 }
 
-/// Gives a file a thread, or takes its thread away.
+/// Gives a file a thread, or removes it.
 pub fn set_thread(items: &mut Vec<(u32, Item)>, at: usize, there: bool)
     requires { at < length items.old.items }
     ensures { BecomesAt items.old.items items.new.items at (λ m e. set_thread there e m) }
@@ -124,7 +124,7 @@ pub fn set_thread(items: &mut Vec<(u32, Item)>, at: usize, there: bool)
     }
 }
 
-/// Writes the four lowest bytes of a number over a file's kept bytes, the highest of them first.
+/// Writes the four lowest bytes of a number over a file's kept bytes, highest byte first.
 #[tactic(auto, using(hfs_model::proofs::ForkLemmas::four_of_eight))]
 fn put_number(kept: &mut [u8; 102], at: usize, number: u64)
     requires { at ≤ 98 }
@@ -146,7 +146,7 @@ fn set_physical_length(kept: &mut [u8; 102], fork: Fork, bytes: u64)
     }
 }
 
-/// How many bytes the allocation blocks have that so many bytes take; none where a block has none.
+/// How many bytes the allocation blocks have that `length` bytes take; 0 if a block has none.
 fn physical_length(block_size: u32, length: u32) -> u64
     ensures { result ≡ physical_length block_size length }
 {

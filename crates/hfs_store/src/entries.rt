@@ -101,7 +101,7 @@ pub fn is_folder(entries: &[(u32, Item)], id: u32) -> bool
     }
 }
 
-/// The number of items whose parent it is.
+/// The number of items whose parent this is.
 pub fn valence(entries: &[(u32, Item)], dir: u32) -> usize
     ensures { result ≡ valence entries.now dir }
 {
@@ -116,7 +116,7 @@ pub fn is_busy(entries: &[(u32, Item)], entry: &(u32, Item)) -> bool
     is_folder_kind(&entry.1.kind) && valence(entries, entry.0) > 0
 }
 
-/// Whether a folder has no room for one more child.
+/// Whether a folder has no room for another child.
 #[tactic(auto, unfolding(hfs_model::specs::Choices::is_full))]
 pub fn is_full(entries: &[(u32, Item)], dir: u32) -> bool
     ensures test { result ≡ is_full entries.now dir }
@@ -141,7 +141,7 @@ pub fn is_taken(entries: &[(u32, Item)], dir: u32, name: &[u8], id: u32) -> bool
     other_named(entries, dir, name, id).is_some()
 }
 
-/// Whether `id` stands at most `steps` parents up from `dir`.
+/// Whether `id` is at most `steps` parents up from `dir`.
 #[tactic(auto, unfolding(hfs_model::specs::Choices::lies_in))]
 fn lies_in(entries: &[(u32, Item)], steps: usize, dir: u32, id: u32) -> bool
     ensures { result ≡ lies_in entries.now steps dir id }
@@ -158,7 +158,7 @@ fn lies_in(entries: &[(u32, Item)], steps: usize, dir: u32, id: u32) -> bool
     }
 }
 
-/// Whether a move of the item to a folder would put it into itself.
+/// Whether moving the item to a folder would put it into itself.
 #[tactic(auto, unfolding(hfs_model::specs::Choices::is_bad_move))]
 pub fn is_bad_move(entries: &[(u32, Item)], entry: &(u32, Item), dir: u32) -> bool
     ensures { result ≡ is_bad_move entries.now entry.now dir }
@@ -166,7 +166,7 @@ pub fn is_bad_move(entries: &[(u32, Item)], entry: &(u32, Item), dir: u32) -> bo
     is_folder_kind(&entry.1.kind) && lies_in(entries, entries.len(), dir, entry.0)
 }
 
-/// What is known of an item.
+/// What a reply says about an item.
 #[tactic(auto, unfolding(hfs_model::specs::Replies::info_of))]
 pub fn info_of(entries: &[(u32, Item)], entry: &(u32, Item)) -> Info
     requires { (id : ℕ) → valence entries.now id ≤ 65535 }
@@ -201,7 +201,7 @@ pub fn info_of(entries: &[(u32, Item)], entry: &(u32, Item)) -> Info
     info
 }
 
-/// The place of the first that comes after the name.
+/// The place of the first one that comes after the name.
 fn place_scan(found: &[Info], name: &Name) -> Option<usize>
     ensures { result ≡ position (comes_after name.now) found.now }
 {
@@ -226,7 +226,7 @@ fn place_info(found: &mut Vec<Info>, info: Info) -> Result<(), AllocError>
     Ok(())
 }
 
-/// What is known of a folder's children, in name order.
+/// What a reply says about a folder's children, in name order.
 #[tactic(auto, using(crate::proofs::Sorted::placed))]
 pub fn infos(alloc: Global, entries: &[(u32, Item)], dir: u32) -> Result<Vec<Info>, AllocError>
     requires { (id : ℕ) → valence entries.now id ≤ 65535 }
@@ -264,7 +264,7 @@ pub fn new_file(alloc: Global) -> Kind
     })
 }
 
-/// A new item, made now.
+/// A new item, made at the moment `now`.
 pub fn new_item(kind: Kind, dir: u32, name: Name, now: u32) -> Item
     ensures { result ≡ new_item kind dir name now }
 {

@@ -32,12 +32,11 @@ use hfs_model::{
 use std::alloc::{AllocError, Global};
 use std::marker::Model;
 
-/// A volume as a list of items in the order of their IDs. Contracts see the model volume: a finite map from ID to item,
-/// the next ID, the moment of the last change, two locks and the size of an allocation block.
+/// A volume as a list of items in the order of their IDs. Contracts see the model volume: a finite map from ID to item, the next
+/// ID, the moment of the last change, two locks and the size of an allocation block.
 ///
-/// Each call searches the whole list, some of them once for each item. The methods named for a call answer as
-/// [`PlainVolume::call`] does, and `docs/CALLS.md` says what that is. `Err` comes only where memory is wanting; then the
-/// volume is as it was.
+/// Each call searches the whole list, some of them once for each item. The methods that are named after a call answer as
+/// [`PlainVolume::call`] does; `docs/CALLS.md` says how. `Err` comes only when out of memory; then the volume is as it was.
 #[derive(Drop)]
 pub struct PlainVolume {
     alloc: Global,
@@ -65,7 +64,7 @@ impl Model for PlainVolume {
 
 #[tactic(auto, using(crate::proofs::ById::entries_back))]
 impl PlainVolume {
-    /// A new volume, with its root alone, and allocation blocks of 512 bytes. `Err` only where memory is wanting.
+    /// A new volume with only its root, and allocation blocks of 512 bytes. `Err` only when out of memory.
     pub fn new(alloc: Global, name: Name, now: u32) -> Result<Self, AllocError>
         ensures { IfOk result (λ s. s ≡ new_volume name now) }
     {
@@ -82,8 +81,8 @@ impl PlainVolume {
         })
     }
 
-    /// The volume of these items, with no lock set, and allocation blocks of 512 bytes. Their IDs rise and are below `next_id`, and no
-    /// folder has more than 65,535 items. Takes no memory.
+    /// The volume of these items, with no lock set, and allocation blocks of 512 bytes. Their IDs must rise and be below
+    /// `next_id`, and no folder may have more than 65,535 items. Takes no memory.
     pub fn of(alloc: Global, items: Vec<(u32, Item)>, next_id: u32, changed: u32) -> Self
         requires { AreEntries items.items next_id }
         ensures { result ≡ unlocked_volume items.items next_id changed }
@@ -99,8 +98,8 @@ impl PlainVolume {
         }
     }
 
-    /// Puts an item under an ID that is not below the next one, which rises to the one after it. So a volume is laid
-    /// item by item, in the order of the IDs. `Err` only where memory is wanting, and then the volume is as it was.
+    /// Adds an item under an ID that is not below the next one, which becomes the ID after it. In this way a volume is built item
+    /// by item, in the order of the IDs. `Err` only when out of memory, and then the volume is as it was.
     #[tactic(auto)]
     pub fn lay(&mut self, id: u32, item: Item) -> Result<(), AllocError>
         requires free { self.old.next_id ≤ id }
@@ -138,7 +137,7 @@ impl PlainVolume {
         self.next_id
     }
 
-    /// The number of items whose parent is the folder of that ID, at most 65,535.
+    /// The number of items whose parent is the folder with that ID, at most 65,535.
     #[tactic(auto)]
     pub fn valence(&self, dir: u32) -> u32
         ensures count { result ≡ valence (entries_of self.now) dir }
@@ -183,35 +182,35 @@ impl PlainVolume {
         &self.items
     }
 
-    /// What is told of the folder of that ID.
+    /// Answers with the folder that has this ID.
     pub fn get_dir_info(&self, dir: u32) -> Reply
         ensures { result ≡ get_dir_info (entries_of self.now) dir }
     {
         reading::get_dir_info(self.entries(), dir)
     }
 
-    /// What is told of the folder's item of that name.
+    /// Answers with the folder's item of that name.
     pub fn get_cat_info(&self, dir: u32, name: &[u8]) -> Reply
         ensures { result ≡ get_cat_info (entries_of self.now) dir name.now }
     {
         reading::get_cat_info(self.entries(), dir, name)
     }
 
-    /// What is told of the folder's child at that place in name order, counted from 1.
+    /// Answers with the folder's child at that place in name order, counted from 1.
     pub fn get_indexed(&self, dir: u32, index: u32) -> Result<Reply, AllocError>
         ensures { Gives (get_indexed (entries_of self.now) dir index) result }
     {
         reading::get_indexed(self.alloc, self.entries(), dir, index)
     }
 
-    /// What is told of the folder's children, in name order.
+    /// Answers with the folder's children, in name order.
     pub fn list(&self, dir: u32) -> Result<Reply, AllocError>
         ensures { Gives (list (entries_of self.now) dir) result }
     {
         reading::list(self.alloc, self.entries(), dir)
     }
 
-    /// At most `count` bytes of a file's fork, from an offset on.
+    /// At most `count` bytes of a file's fork, starting at an offset.
     pub fn read_fork(
         &self,
         dir: u32,
@@ -225,14 +224,14 @@ impl PlainVolume {
         reading::read_fork(self.alloc, self.entries(), dir, name, fork, offset, count)
     }
 
-    /// The folder and the name of the file of that ID, by its thread.
+    /// The folder and the name of the file with that ID, by its thread.
     pub fn resolve_file_id(&self, id: u32) -> Reply
         ensures { result ≡ resolve_file_id (entries_of self.now) id }
     {
         reading::resolve_file_id(self.entries(), id)
     }
 
-    // What each change first chooses: the place of an item, an ID, or a code.
+    // What each change chooses first: the place of an item, an ID, or a code.
 
     fn is_locked(&self) -> bool
         ensures { result ≡ is_locked self.now }
@@ -288,7 +287,7 @@ impl PlainVolume {
         Ok(at)
     }
 
-    /// The same of a file.
+    /// The same for a file.
     #[tactic(auto, unfolding(hfs_model::specs::Choices::file_to_change))]
     fn file_to_change(&self, dir: u32, name: &[u8]) -> Result<usize, i16>
         ensures { IsPlaceIn self.now (file_to_change self.now dir name.now) result }
@@ -437,7 +436,7 @@ impl PlainVolume {
         }
     }
 
-    /// Puts an item under another folder.
+    /// Moves an item to another folder.
     #[tactic(auto, unfolding(hfs_model::specs::Changes::cat_move))]
     pub fn cat_move(&mut self, dir: u32, name: &[u8], new_dir: u32, now: u32) -> Reply
         ensures { (self.new, result) ≡ cat_move self.old dir name.now new_dir now }
@@ -523,7 +522,7 @@ impl PlainVolume {
         }
     }
 
-    /// Takes a file's thread away.
+    /// Removes a file's thread.
     #[tactic(auto, unfolding(hfs_model::specs::FileIds::delete_file_id))]
     pub fn delete_file_id(&mut self, id: u32, now: u32) -> Reply
         ensures { (self.new, result) ≡ delete_file_id self.old id now }
@@ -538,7 +537,7 @@ impl PlainVolume {
         }
     }
 
-    /// Gives an item another name.
+    /// Renames an item.
     #[tactic(auto, unfolding(hfs_model::specs::Changes::rename))]
     pub fn rename(&mut self, dir: u32, name: &[u8], new_name: &[u8], now: u32) -> Reply
         ensures { (self.new, result) ≡ rename self.old dir name.now new_name.now now }
@@ -593,7 +592,7 @@ impl PlainVolume {
         self.add(new_folder(), dir, name, now)
     }
 
-    /// Answers a call. A refused call, and one for which memory was wanting, changes nothing.
+    /// Answers a call. A call that is refused, or for which memory ran out, changes nothing.
     #[tactic(auto)]
     pub fn call(&mut self, call: &Call) -> Result<Reply, AllocError>
         ensures ok { GivesOutcome (step self.old call.now) self.new result }
@@ -641,8 +640,8 @@ impl PlainVolume {
         }
     }
 
-    /// Answers a call that may change the volume: the names, places and threads of its items here, what else is told of one
-    /// in [`PlainVolume::set`], and the bytes of its forks in [`PlainVolume::write`].
+    /// Answers a call that may change the volume: here the names, places and threads of its items, in [`PlainVolume::set`] what
+    /// else a reply says about them, and in [`PlainVolume::write`] the bytes of its forks.
     #[tactic(auto)]
     fn change(&mut self, call: &Call) -> Result<Reply, AllocError>
         requires { is_reading call.now ≡ false }
@@ -683,7 +682,7 @@ impl PlainVolume {
         }
     }
 
-    /// Answers a call that sets what is told of an item: its Finder bytes, its dates or its lock. No memory is wanting.
+    /// Answers a call that sets an item's Finder bytes, dates or lock. Memory never runs out here.
     #[tactic(auto)]
     fn set(&mut self, call: &Call) -> Reply
         requires { IsTrue (is_setting call.now) }
@@ -733,8 +732,8 @@ impl PlainVolume {
         }
     }
 
-    /// Answers the calls one after another, with their replies in order. `Err` only where memory is wanting: then some of
-    /// the first calls were made, and their replies are lost.
+    /// Answers the calls one after another, with their replies in order. `Err` only when out of memory: then some of the first
+    /// calls were made, and their replies are lost.
     #[tactic(auto)]
     pub fn run(&mut self, calls: &[Call]) -> Result<Vec<Reply>, AllocError>
         ensures ok { IfOk result (λ replies. (self.new, replies.items) ≡ run self.old calls.now) }

@@ -1,4 +1,4 @@
-//! The reading calls.
+//! The calls that read.
 ghost use Rattle.std.specs.Prelude.{◌≡◌, ℕ, ◌≤◌, IfOk};
 ghost use Rattle.hfs_model.specs.Children.{valence};
 ghost use Rattle.hfs_model.specs.Replies.{refusal, success};

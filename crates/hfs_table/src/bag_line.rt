@@ -1,4 +1,4 @@
-//! A row in the table of a bag: in CSV, with the path below the payload behind all other fields.
+//! A row in the table of a bag: in CSV, with the path below the payload as the last field.
 ghost use Rattle.std.specs.Prelude.{◌≡◌, ◌++◌, OnOk};
 ghost use Rattle.hfs_names.specs.Gains.{Gains};
 ghost use Rattle.hfs_table.specs.Lines.{bag_end, bag_head, bag_line, bag_path, csv_fields, own_bag_line, own_fields};
@@ -10,7 +10,7 @@ use hfs_model::Info;
 use hfs_names::push_host_path;
 use std::alloc::{AllocError, Global};
 
-/// Appends the head of a bag's table: the names of its columns. At an error a part of it may have come.
+/// Appends the head of a bag's table: the names of its columns. At an error, a part of it may have been appended.
 #[tactic(auto, unfolding(crate::specs::Lines::bag_head, crate::specs::Columns::columns))]
 pub fn push_bag_head(text: &mut Vec<u8>) -> Result<(), AllocError>
     ensures { OnOk result (text.new.items ≡ text.old.items ++ bag_head) }
@@ -30,7 +30,7 @@ fn push_bag_end(text: &mut Vec<u8>, path: &str) -> Result<(), AllocError>
     text.extend_from_slice(b"\r\n")
 }
 
-/// Appends where an item lies in the bag of a sound volume, to which these names lead from the root's down.
+/// Appends where an item lies in the bag of a sound volume, from the names that lead to it, starting with the root's.
 pub fn push_bag_path(text: &mut String, names: &[Name]) -> Result<(), AllocError>
     ensures { OnOk result (Gains text.old text.new (bag_path names.now)) }
 {
@@ -40,7 +40,8 @@ pub fn push_bag_path(text: &mut String, names: &[Name]) -> Result<(), AllocError
     }
 }
 
-/// Appends the row of an item of a sound volume, to which these names lead from the root's down. At an error a part of it may have come.
+/// Appends the row of an item of a sound volume, from the names that lead to it, starting with the root's. At an error, a part of
+/// it may have been appended.
 pub fn push_bag_row(
     alloc: Global,
     text: &mut Vec<u8>,
@@ -55,9 +56,9 @@ pub fn push_bag_row(
     push_bag_end(text, path.as_str())
 }
 
-/// Appends the row of an item of which only its own record is known, and which lies at this path below the payload: whether it has
-/// a thread, and how many items lie in it, stay empty, and so does the Mac path where no names lead to it. At an error a part of it
-/// may have come.
+/// Appends the row of an item of which only its own record is known, with this path below the payload. Whether it has a thread
+/// and how many items are in it stay empty, and so does the Mac path if no names lead to it. At an error, a part of the row may
+/// have been appended.
 pub fn push_own_bag_row(
     alloc: Global,
     text: &mut Vec<u8>,

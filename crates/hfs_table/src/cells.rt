@@ -13,10 +13,10 @@ use hfs_names::{push_hex, push_mac_path, push_moment, push_plain_text};
 use itoa::Buffer;
 use std::alloc::AllocError;
 
-/// The bytes that most rows take, so that a row's text grows once.
+/// How many bytes most rows take, so that a row's text grows once.
 pub(crate) const USUAL: usize = 512;
 
-/// What kind of item it is, in a word.
+/// The kind of an item, in a word.
 pub(crate) fn kind_word(kind: ItemKind) -> &'static str
     ensures { result.now ≡ kind_word kind }
 {
@@ -33,7 +33,7 @@ fn push_number(text: &mut String, number: u32) -> Result<(), AllocError>
     text.push_str(buffer.format(number))
 }
 
-/// Appends the characters of bytes, of a file alone.
+/// Appends the characters of bytes, for a file only.
 fn push_of_file(text: &mut String, kind: ItemKind, bytes: &[u8]) -> Result<(), AllocError>
     ensures { OnOk result (Gains text.old text.new (cell_text (of_file kind (characters bytes.now)))) }
 {
@@ -43,7 +43,7 @@ fn push_of_file(text: &mut String, kind: ItemKind, bytes: &[u8]) -> Result<(), A
     }
 }
 
-/// Appends a flag in a word, of a file alone.
+/// Appends a flag in a word, for a file only.
 fn push_flag(text: &mut String, kind: ItemKind, is_set: bool) -> Result<(), AllocError>
     ensures { OnOk result (Gains text.old text.new (cell_text (of_file kind (flag is_set)))) }
 {
@@ -53,7 +53,7 @@ fn push_flag(text: &mut String, kind: ItemKind, is_set: bool) -> Result<(), Allo
     }
 }
 
-/// Appends a number, of a file alone.
+/// Appends a number, for a file only.
 fn push_length(text: &mut String, kind: ItemKind, length: u32) -> Result<(), AllocError>
     ensures { OnOk result (Gains text.old text.new (cell_text (of_file kind (number length)))) }
 {
@@ -63,7 +63,7 @@ fn push_length(text: &mut String, kind: ItemKind, length: u32) -> Result<(), All
     }
 }
 
-/// Appends a number, of a folder alone.
+/// Appends a number, for a folder only.
 fn push_valence(text: &mut String, kind: ItemKind, valence: u32) -> Result<(), AllocError>
     ensures { OnOk result (Gains text.old text.new (cell_text (of_folder kind (number valence)))) }
 {

@@ -23,7 +23,7 @@ pub enum Column {
     Finder,
 }
 
-/// The columns behind that of the path, which is the first.
+/// The columns after that of the path, which comes first.
 pub(crate) const BEHIND_PATH: [Column; 15] = [
     Column::Kind,
     Column::Id,
@@ -42,8 +42,8 @@ pub(crate) const BEHIND_PATH: [Column; 15] = [
     Column::Finder,
 ];
 
-/// Of these the columns before that of a file's ID, those between it and that of the number of a folder's items, and those
-/// behind it.
+/// Of these, the columns before that of a file's ID, those between it and that of the number of a folder's items, and those after
+/// it.
 pub(crate) const BEFORE_FILE_ID: [Column; 7] = [
     Column::Kind,
     Column::Id,

@@ -52,7 +52,7 @@ fn push_all_doubled(text: &mut Vec<u8>, field: &[u8]) -> Result<(), AllocError>
     Ok(())
 }
 
-/// Appends a field, between quotation marks where it holds a comma or a quotation mark.
+/// Appends a field, in quotation marks if it has a comma or a quotation mark.
 #[tactic(auto, unfolding(crate::specs::Lines::csv_field))]
 pub(crate) fn push_csv_field(text: &mut Vec<u8>, field: &[u8]) -> Result<(), AllocError>
     ensures { OnOk result (text.new.items ≡ text.old.items ++ csv_field field.now) }
@@ -65,7 +65,7 @@ pub(crate) fn push_csv_field(text: &mut Vec<u8>, field: &[u8]) -> Result<(), All
     text.extend_from_slice(b"\"")
 }
 
-/// Appends the field of a column. The other text is only for that field, to be used again.
+/// Appends the field of a column. The other text is only there to be reused for the field.
 fn push_column(
     text: &mut Vec<u8>,
     field: &mut String,
@@ -81,7 +81,7 @@ fn push_column(
     push_csv_field(text, field.as_bytes())
 }
 
-/// Appends the fields of columns, each behind a comma.
+/// Appends the fields of columns, each after a comma.
 fn push_columns(
     text: &mut Vec<u8>,
     field: &mut String,
@@ -128,7 +128,7 @@ pub(crate) fn push_csv_line(
     text.extend_from_slice(b"\r\n")
 }
 
-/// Appends the fields of an item of which only its own record is known: whether it has a thread, and how many items lie in it, stay
+/// Appends the fields of an item of which only its own record is known: whether it has a thread and how many items are in it stay
 /// empty.
 #[tactic(auto, unfolding(crate::specs::Lines::own_fields))]
 pub(crate) fn push_own_fields(

@@ -12,15 +12,15 @@ use std::alloc::{AllocError, Global};
 /// How the table is written.
 #[derive(Clone, Copy, Debug, PartialEq, Eq)]
 pub enum Format {
-    /// Fields with tabs between, and no head.
+    /// Fields separated by tabs, and no head.
     Tab,
     /// RFC 4180: a head of column names, lines that end with CR LF.
     Csv,
-    /// An object a line, and no head.
+    /// An object per line, and no head.
     Json,
 }
 
-/// Appends what stands before the first row. At an error a part of it may have come.
+/// Appends what precedes the first row. At an error, a part of it may have been appended.
 pub fn push_head(text: &mut Vec<u8>, format: Format) -> Result<(), AllocError>
     ensures { OnOk result (text.new.items ≡ text.old.items ++ head_text format) }
 {
@@ -30,7 +30,8 @@ pub fn push_head(text: &mut Vec<u8>, format: Format) -> Result<(), AllocError>
     }
 }
 
-/// Appends the row of an item, to which these names lead from the root's down. At an error a part of it may have come.
+/// Appends the row of an item, from the names that lead to it, starting with the root's. At an error, a part of it may have been
+/// appended.
 pub fn push_row(
     alloc: Global,
     text: &mut Vec<u8>,

@@ -17,7 +17,7 @@ use hfs_names::{push_characters, push_hex, push_mac_path_characters, push_moment
 use json::Writer;
 use std::alloc::{AllocError, Global};
 
-/// The bytes that most paths and all other texts of a row take.
+/// How many bytes most paths and all other texts of a row take.
 const USUAL_TEXT: usize = 128;
 
 pub(crate) fn put_path(alloc: Global, writer: &mut Writer, names: &[Name]) -> Result<(), AllocError>
@@ -28,7 +28,7 @@ pub(crate) fn put_path(alloc: Global, writer: &mut Writer, names: &[Name]) -> Re
     writer.string(text.as_str())
 }
 
-/// Puts the characters of bytes, of a file alone.
+/// Puts the characters of bytes, for a file only.
 fn put_of_file(
     alloc: Global,
     writer: &mut Writer,

@@ -14,7 +14,7 @@ use hfs_model::Info;
 use json::Writer;
 use std::alloc::{AllocError, Global};
 
-/// Appends the row with tabs between its fields.
+/// Appends the row, with tabs between its fields.
 #[tactic(auto, unfolding(crate::specs::OwnLines::own_tab_line))]
 fn push_own_tab_line(
     alloc: Global,
@@ -59,7 +59,7 @@ fn put_path_member(alloc: Global, writer: &mut Writer, names: &[Name]) -> Result
     }
 }
 
-/// Puts the member of a column of which nothing is told.
+/// Puts the member of a column without a value.
 fn put_null_member(writer: &mut Writer, column: Column) -> Result<(), AllocError>
     ensures { Adds result writer.old writer.new (null_member column) }
 {
@@ -67,7 +67,7 @@ fn put_null_member(writer: &mut Writer, column: Column) -> Result<(), AllocError
     writer.null()
 }
 
-/// Puts the members behind that of the path.
+/// Puts the members after that of the path.
 #[tactic(auto, unfolding(crate::specs::OwnLines::own_members))]
 fn put_own_members(
     alloc: Global,
@@ -116,8 +116,8 @@ fn push_own_json_line(
     text.extend_from_slice(b"\n")
 }
 
-/// Appends the row of an item of which only its own record is known: whether it has a thread, and how many items lie in it, stay
-/// empty, and so does the path where no names lead to it. At an error a part of it may have come.
+/// Appends the row of an item of which only its own record is known: whether it has a thread and how many items are in it stay
+/// empty, and so does the path if no names lead to it. At an error, a part of the row may have been appended.
 pub fn push_own_row(
     alloc: Global,
     text: &mut Vec<u8>,

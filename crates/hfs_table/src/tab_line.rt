@@ -9,7 +9,7 @@ use hfs_fields::Name;
 use hfs_model::Info;
 use std::alloc::{AllocError, Global};
 
-/// Appends the fields of columns, each behind a tab.
+/// Appends the fields of columns, each after a tab.
 pub(crate) fn push_tabbed(
     line: &mut String,
     columns: &[Column],

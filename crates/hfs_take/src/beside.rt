@@ -1,4 +1,4 @@
-//! The digest of an image, which is made beside the payload where the image was opened a second time.
+//! The digest of an image, made at the same time as the payload if the image was opened a second time.
 ghost use Rattle.std.specs.Prelude.{◌≡◌, ◌++◌, ⊤, ℕ, List, Option, IfErr, IfOk, OnErr, OnOk, length};
 ghost use Rattle.hfs_bag.specs.Bags.{payload};
 ghost use Rattle.hfs_bag.specs.Faults.{IsPayloadFault};
@@ -21,7 +21,8 @@ use hfs_sparse::SeenBlocks;
 use std::alloc::Global;
 use std::thread::{Threads, join_mut};
 
-/// What the digest is to be made of beside the payload, where it is asked for, and whether it is to be made at once, of the image itself.
+/// What the digest is to be made of at the same time as the payload, if it is asked for, and whether it is to be made first, from
+/// the image itself.
 #[tactic(auto, using(crate::proofs::DigestLemmas::told_as_asked))]
 pub(crate) fn plan_digest<S: PlacedBlocks + Drop>(
     beside: Option<SeenBlocks<S>>,
@@ -39,7 +40,7 @@ pub(crate) fn plan_digest<S: PlacedBlocks + Drop>(
     }
 }
 
-/// The digest of the `len` bytes of an image, where it is to be made of it at once.
+/// The digest of the `len` bytes of an image, if it is to be made first, from the image itself.
 #[tactic(auto, using(crate::proofs::DigestLemmas::told_each))]
 pub(crate) fn digest_at_once<S: PlacedBlocks>(
     alloc: Global,
@@ -59,8 +60,8 @@ pub(crate) fn digest_at_once<S: PlacedBlocks>(
     Ok(Some(digest))
 }
 
-/// Gives the payload of a bag, and makes the digest of the `len` bytes of an image, in a thread of its own or, where none can be begun, behind the
-/// payload. Faults: the payload's, and then the digest's.
+/// Gives the payload of a bag, and makes the digest of the `len` bytes of an image: in a thread of its own or, if none can be
+/// started, after the payload. Faults: those of the payload, then those of the digest.
 fn give_beside<R: Threads, D: ImageBlocks + Send, T: Shelf, B: BagSource>(
     threads: &R,
     alloc: Global,
@@ -94,8 +95,8 @@ fn give_beside<R: Threads, D: ImageBlocks + Send, T: Shelf, B: BagSource>(
     Ok((given, digest))
 }
 
-/// Gives the payload of a bag, and answers what is told of the image's digest, too: what was made of it, or what is made of the source beside it.
-/// Faults: the payload's, and then those of the digest.
+/// Gives the payload of a bag, and also returns the image's digest: the one that was made first, or the one that is made
+/// meanwhile from the second opening. Faults: those of the payload, then those of the digest.
 #[tactic(auto, using(crate::proofs::DigestLemmas::planned_made))]
 pub(crate) fn give_first<R: Threads, S: PlacedBlocks + Send, T: Shelf, B: BagSource>(
     threads: &R,

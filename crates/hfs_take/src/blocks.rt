@@ -9,11 +9,11 @@ use std::io;
 
 /// What an image's bytes are read from, in blocks.
 pub trait ImageBlocks {
-    /// The images that have the bytes which were read so far.
+    /// The images consistent with the bytes read so far.
     ghost Holds: { Self → List ℕ → Type 0 };
 
-    /// Reads the blocks from number `first` on, as many as there is room for in `into`, by one read. Error: the read failed, or the image ends
-    /// before the room is full.
+    /// Reads blocks from number `first` on, as many as `into` has room for, in one read. Error: the read failed, or the image
+    /// ends before the room is full.
     fn read_from(&mut self, first: u32, into: &mut [u8]) -> io::Result<()>
         ensures seen { OnOk result (OfEach (Holds self.new) (HasAt (512 * first) into.new)) }
         ensures narrows { OfEach (Holds self.new) (Holds self.old) };

@@ -13,17 +13,18 @@ use std::alloc::{AllocError, Global};
 /// How many blocks are read at once.
 const BLOCKS: u32 = 128;
 
-/// How many bytes these have.
+/// How many bytes these blocks have.
 const PIECE: usize = 65_536;
 
-/// Room for so many bytes.
+/// Room for `len` bytes.
 fn buffer_of(alloc: Global, len: usize) -> Result<Vec<u8>, AllocError>
     ensures { IfOk result (λ buffer. length buffer.items ≡ len) }
 {
     vec![in alloc; 0; len]
 }
 
-/// Gives the bytes of an image from a block on to the digest, as many of those that are left as there is room for: at least one. How many they are.
+/// Gives bytes of an image, starting at a block, to the digest: as many of those that are left as there is room for, at least
+/// one. Returns how many.
 fn add_piece<B: ImageBlocks>(
     image: &mut B,
     first: u32,
@@ -50,7 +51,7 @@ fn add_piece<B: ImageBlocks>(
     Ok(count)
 }
 
-/// The number of the block behind those that were read at once. An image has fewer than 2^32 blocks.
+/// The number of the block after those that were read at once. An image has fewer than 2^32 blocks.
 fn block_behind(first: u32) -> Result<u32, SourceFault>
     ensures { IfOk result (λ next. next ≡ first + 128) }
 {

@@ -1,4 +1,4 @@
-//! What a bag tells of the image that it was taken from.
+//! What a bag says about the image that it was taken from.
 ghost use Rattle.std.specs.Prelude.{◌≡◌, ◌++◌, IfOk, MatchResult, OnOk, string_bytes};
 ghost use Rattle.hfs_commands.specs.Volumes.{container_text, name_text};
 ghost use Rattle.hfs_image_items.specs.Faults.{WantsMemory};
@@ -37,7 +37,7 @@ fn push_container(text: &mut String, container: Container) -> Result<(), AllocEr
     }
 }
 
-/// Appends the plain text of a name in its field of a length byte and characters.
+/// Appends the plain text of a name, from its field with a length byte and characters.
 #[tactic(auto, unfolding(hfs_commands::specs::Volumes::name_text))]
 fn push_name(text: &mut String, name: &[u8]) -> Result<(), AllocError>
     ensures { OnOk result (Gains text.old text.new (name_text name.now)) }
@@ -51,7 +51,7 @@ fn push_name(text: &mut String, name: &[u8]) -> Result<(), AllocError>
     }
 }
 
-/// Appends the name of a volume, where there is one.
+/// Appends the name of a volume, if there is one.
 fn push_told_name(text: &mut String, name: &Option<[u8; 28]>) -> Result<(), AllocError>
     ensures { OnOk result (Gains text.old text.new (told_name name.now)) }
 {
@@ -61,7 +61,7 @@ fn push_told_name(text: &mut String, name: &Option<[u8; 28]>) -> Result<(), Allo
     }
 }
 
-/// Appends whether the sum is right, where there is one.
+/// Appends whether the sum is right, if there is one.
 fn push_told_sum(text: &mut String, sum: Option<bool>) -> Result<(), AllocError>
     ensures { OnOk result (Gains text.old text.new (told_sum sum)) }
 {
@@ -72,7 +72,7 @@ fn push_told_sum(text: &mut String, sum: Option<bool>) -> Result<(), AllocError>
     }
 }
 
-/// Appends that there is no volume, where there is none.
+/// Appends that there is no volume, if there is none.
 fn push_told_missing(text: &mut String, name: &Option<[u8; 28]>) -> Result<(), AllocError>
     ensures { OnOk result (Gains text.old text.new (told_missing name.now)) }
 {
@@ -82,7 +82,7 @@ fn push_told_missing(text: &mut String, name: &Option<[u8; 28]>) -> Result<(), A
     }
 }
 
-/// Appends how many raw sectors have no user data, where there are some.
+/// Appends how many raw sectors have no user data, if any.
 #[tactic(auto, unfolding(crate::specs::Facts::told_others))]
 fn push_told_others(text: &mut String, others: u64) -> Result<(), AllocError>
     ensures { OnOk result (Gains text.old text.new (told_others others)) }
@@ -94,8 +94,8 @@ fn push_told_others(text: &mut String, others: u64) -> Result<(), AllocError>
     write!(text, "{}", others)
 }
 
-/// The line of a volume in its file: number, how it lies, first byte, bytes, the plain text of its name, what is told of its sum, and how many raw sectors
-/// have no user data, with spaces between.
+/// The line of a volume in its file: number, how it lies there, first byte, length in bytes, the plain text of its name, whether
+/// its sum is right, and how many raw sectors have no user data, separated by spaces.
 #[tactic(auto, unfolding(crate::specs::Facts::volume_text))]
 pub(crate) fn volume_text(
     alloc: Global,
@@ -142,7 +142,8 @@ fn info_bytes(alloc: Global, head: &[u8; 1536]) -> Result<Vec<u8>, InfoFault>
     Ok(lines)
 }
 
-/// The lines of the master directory block in the first 1,536 bytes of a volume, and those of its check behind them. The only fault is want of memory.
+/// The lines of the master directory block in the first 1,536 bytes of a volume, and after them those of its check. The only
+/// fault is running out of memory.
 pub fn report_text(
     alloc: Global,
     head: &[u8; 1536],

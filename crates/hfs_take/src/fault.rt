@@ -1,4 +1,4 @@
-//! Why a disk was not taken apart.
+//! Why a volume was not taken.
 ghost use Rattle.std.specs.Prelude.{◌≡◌, Some};
 ghost use Rattle.hfs_take.specs.Faults.{KeepsShelfFault, fault_of_shelf, take_fault_text, take_status};
 
@@ -8,10 +8,10 @@ use hfs_commands::{Fault, ShownPath, Status};
 use hfs_shelves::ShelfFault;
 use std::fmt;
 
-/// Why a disk was not taken apart. Its `Display` is the text that the program prints alone on a line.
+/// Why a volume was not taken. Its `Display` is the text that the program prints alone on a line.
 #[derive(Drop)]
 pub enum TakeFault<'a> {
-    /// The image was not read, or is refused, or memory was refused.
+    /// The image was not read or is refused, or memory was refused.
     Image(Fault<'a>),
     /// Something has the folder's name already.
     IsThere(&'a str),
@@ -30,7 +30,7 @@ impl TakeFault<'_> {
         }
     }
 
-    /// What a fault of a source means for the image's file.
+    /// The fault for a source that failed, given the image's file.
     pub fn of_source(fault: SourceFault, image: &str) -> TakeFault<'_>
         ensures read { fault ≡ SourceFault.ReadFailed
             → result ≡ TakeFault.Image (Fault.CannotRead image.entry) }
@@ -42,7 +42,7 @@ impl TakeFault<'_> {
         }
     }
 
-    /// What a fault of a shelf means.
+    /// The fault for a shelf that failed.
     pub fn of_shelf(fault: ShelfFault) -> TakeFault<'static>
         ensures { result ≡ fault_of_shelf fault }
     {
@@ -52,7 +52,7 @@ impl TakeFault<'_> {
         }
     }
 
-    /// What a fault of a bag means, which was filled from the image in this file.
+    /// The fault for a bag that was not filled from the image in this file.
     pub fn of_bag(fault: BagFault, image: &str) -> TakeFault<'_>
         ensures read { fault ≡ BagFault.Source SourceFault.ReadFailed
             → result ≡ TakeFault.Image (Fault.CannotRead image.entry) }

@@ -65,18 +65,18 @@ fn item_count(report: &Report) -> u64 {
     u64::from(report.files) + u64::from(report.folders)
 }
 
-/// What a bag tells of an image before its items are read.
+/// What a bag says about an image before its items are read.
 #[derive(Drop)]
 struct Told {
     /// The last part of its path.
     name: String,
     /// The lines of `info` and of `check`.
     report: String,
-    /// Its digest, where that was made.
+    /// Its digest, if that was made first.
     digest: Option<[u8; 32]>,
 }
 
-/// What a bag tells of an image with this report before its items are read, with its digest where that is to be made at once.
+/// What a bag says about an image with this report before its items are read, with its digest if that is to be made first.
 fn told_of<S: PlacedBlocks>(
     alloc: Global,
     image: &mut SeenImage<S>,
@@ -102,7 +102,7 @@ fn told_of<S: PlacedBlocks>(
     })
 }
 
-/// Gives a shelf the bag of these items of an image, of which this is told.
+/// Gives a shelf the bag of these items of an image, with what it says about the image.
 fn give_items<R: Threads, S: PlacedBlocks + Drop + Send, T: Shelf, W: Watch>(
     threads: &R,
     alloc: Global,
@@ -162,7 +162,7 @@ fn give_items<R: Threads, S: PlacedBlocks + Drop + Send, T: Shelf, W: Watch>(
     Ok(sums)
 }
 
-/// A text, where there is one.
+/// A text, if there is one.
 fn text_in(text: &Option<String>) -> Option<&str>
     ensures { text_in result ≡ option_map string_bytes text.now }
 {
@@ -172,19 +172,20 @@ fn text_in(text: &Option<String>) -> Option<&str>
     }
 }
 
-/// What became of giving the bag of an image, and what it was read from.
+/// The result of giving the bag of an image, and what it was read from.
 #[derive(Drop)]
 pub struct GivenBag<S: PlacedBlocks> {
-    /// How much the bag has, or why it was not given.
+    /// How much the bag holds, or why it was not given.
     pub sums: Result<BagSums, BagFault>,
     pub image: SeenImage<S>,
-    /// What its digest was made of, where that is another source.
+    /// What its digest was made of, if that is another source.
     pub beside: Option<SeenBlocks<S>>,
 }
 
-/// Gives a shelf the bag of an image: the items of its volume, and what these words tell of it. The digest is made in a thread of its own where
-/// the image was opened a second time. At a fault what was given is a beginning of the bag. All this of each image that has the bytes which were
-/// read, by either opening. Faults: reading the image, the shelf's, memory was refused; `TooLarge`.
+/// Gives a shelf the bag of an image: the items of its volume, and what these words say about it. The digest is made in a thread
+/// of its own if the image was opened a second time. At a fault, what was given is a beginning of the bag. All this holds for
+/// every image consistent with the bytes read, by either opening. Faults: reading the image, those of the shelf, memory was
+/// refused; `TooLarge`.
 #[tactic(auto, using(crate::proofs::BagLemmas::nothing_given))]
 pub fn give_image<R: Threads, S: PlacedBlocks + Drop + Send, T: Shelf, W: Watch>(
     threads: &R,

@@ -1,4 +1,4 @@
-//! An image that is to be taken apart.
+//! An image whose volume is to be taken.
 ghost use Rattle.std.proofs.Props.{props};
 ghost use Rattle.std.specs.Prelude.{◌≡◌, IfErr, IfOk};
 ghost use Rattle.hfs_check.specs.Report.{report_of};
@@ -13,25 +13,25 @@ use hfs_source::PlacedBlocks;
 use hfs_sparse::SeenBlocks;
 use std::alloc::Global;
 
-/// A sound image that was opened, and what is told of it before its forks are read.
+/// A sound image that was opened, and what is known of it before its forks are read.
 #[derive(Drop)]
 pub struct TakenImage<S: PlacedBlocks> {
     pub opened: SeenImage<S>,
-    /// The same image once more, where it was opened a second time, to be read beside it.
+    /// The same image, to be read at the same time, if it was opened a second time.
     pub beside: Option<SeenBlocks<S>>,
     /// How many bytes it has.
     pub len: u64,
-    /// What its check tells.
+    /// The report of its check.
     pub report: Report,
-    /// Where it lies in its file, where it was looked for there: the line that a bag has of it.
+    /// Where it lies in its file, if it was looked for there: its line in the bag.
     pub volume: Option<String>,
     ghost len_is: { OfEach (S.Holds opened) (HasLength len) } by { Prim.hlevel props },
     ghost report_is: { OfEach (S.Holds opened) (λ image. report ≡ report_of image) } by { Prim.hlevel props },
 }
 
 impl<S: PlacedBlocks + Drop> TakenImage<S> {
-    /// Reads the needed blocks of an image, and makes all checks, once. Errors, with the source back: a read failed, memory was refused, or the image is
-    /// refused.
+    /// Reads the needed blocks of an image, and makes all checks once. Errors, with the source handed back: a read failed, memory
+    /// was refused, or the image is refused.
     pub fn open(
         alloc: Global,
         source: SeenBlocks<S>,

@@ -1,4 +1,4 @@
-//! What is taken apart, by its path.
+//! Opening what is to be taken, by its path.
 ghost use Rattle.std.specs.Prelude.{◌≡◌, IfErr, IfOk, IfSome, None, string_bytes};
 ghost use Rattle.std.specs.Option.{option_map};
 ghost use Rattle.hfs_commands.specs.Faults.{IsUnopened, IsUnreadFile};
@@ -27,7 +27,7 @@ use std::os::unix::fs::MetadataExt;
 use std::rt::Files;
 use std::{fs, io};
 
-/// Bytes that may hold a volume, and what is told of where they lie in their file, where they are a range inside.
+/// Bytes that may hold a volume and, if they are a range inside their file, where they lie in it.
 #[derive(Drop)]
 pub struct FoundPart<F: Read + Seek> {
     pub bytes: Window<OpenedFile<F>>,
@@ -37,8 +37,8 @@ pub struct FoundPart<F: Read + Seek> {
     pub sum: Option<bool>,
 }
 
-/// The line of a range of a file, and whether its sum is right, where it has one: it is taken of all its bytes. Of raw sectors each is looked at. Faults: a
-/// read failed, memory was refused.
+/// The line of a range of a file, and whether its sum is right, if it has one, which takes reading all its bytes. Each raw sector
+/// is looked at. Faults: a read failed, memory was refused.
 fn line_of<'a, F: Read + Seek>(
     alloc: Global,
     file: &mut OpenedFile<F>,
@@ -67,7 +67,7 @@ fn line_of<'a, F: Read + Seek>(
     }
 }
 
-/// A part of a file, and what is told of where it lies. Faults: a read failed, memory was refused.
+/// A part of a file, and its line. Faults: a read failed, memory was refused.
 fn told_part<'a, F: Read + Seek + Drop>(
     alloc: Global,
     part: FilePart<F>,
@@ -95,8 +95,8 @@ fn told_part<'a, F: Read + Seek + Drop>(
     })
 }
 
-/// What is asked for of an image, by the number of a volume that lies in it or without one, as [`open_asked`] opens it, and what is told of where it lies.
-/// Faults: as [`open_asked`] has them.
+/// What is asked for of an image, given the number of a volume in it or none, as [`open_asked`] opens it, and its line. Faults:
+/// as for [`open_asked`].
 #[tactic(auto, using(crate::proofs::PartLines::line_of_part, crate::proofs::PartLines::sum_of_part))]
 pub fn find_part<'a, R: Files + AllocGlobal>(
     rt: &R,
@@ -115,12 +115,12 @@ pub fn find_part<'a, R: Files + AllocGlobal>(
     Ok(found)
 }
 
-/// Whether both are one file of the system.
+/// Whether both are the same file of the system.
 fn is_same(one: &Metadata, other: &Metadata) -> bool {
     one.dev() == other.dev() && one.ino() == other.ino()
 }
 
-/// The file at this path, which is opened anew. None where it can't be opened, or is another file than it was.
+/// The file at this path, opened again. None if it can't be opened, or is another file than before.
 fn open_again<R: Files>(rt: &R, path: &str, was: &Metadata) -> Option<StoredFile<R::File>>
     ensures { IfSome result (λ file. stored_bytes file ≡ None) }
 {
@@ -139,7 +139,7 @@ fn open_again<R: Files>(rt: &R, path: &str, was: &Metadata) -> Option<StoredFile
     }
 }
 
-/// The same bytes of a file that was opened anew.
+/// The same bytes of a file that was opened again.
 fn source_beside<R: Files>(
     rt: &R,
     path: &str,
@@ -158,7 +158,7 @@ fn source_beside<R: Files>(
     }
 }
 
-/// The user data of a file of raw sectors that was opened anew.
+/// The user data of a file of raw sectors that was opened again.
 fn raw_beside<R: Files>(
     rt: &R,
     path: &str,
@@ -177,8 +177,8 @@ fn raw_beside<R: Files>(
     }
 }
 
-/// The blocks of the same bytes once more, to be read beside what was found at this path. None where that is no file that can be opened once more: its bytes
-/// are held, as a pipe's, or another file has its path.
+/// The blocks of the same bytes, opened a second time to be read at the same time as what was found at this path. None if they
+/// can't be opened again: all bytes are held, such as those of a pipe, or another file has the path.
 fn open_beside<R: Files>(
     rt: &R,
     path: &str,
@@ -201,22 +201,22 @@ fn open_beside<R: Files>(
     }
 }
 
-/// What is asked for of an image, to be read, and what is told of where it lies.
+/// What is asked for of an image, to be read, and where it lies.
 #[derive(Drop)]
 struct FoundBlocks<F: Read + Seek> {
     source: PartBlocks<F>,
-    /// The same bytes once more, where their digest is to be made beside them.
+    /// The same bytes, opened a second time if their digest is to be made at the same time.
     beside: Option<PartBlocks<F>>,
     /// Where they lie in their file.
     range: ByteRange,
-    /// The range's line, where it lies inside.
+    /// The range's line, if it lies inside the file.
     line: Option<String>,
     /// Whether the sum of a disk copy is right.
     sum: Option<bool>,
 }
 
-/// The blocks of what is asked for of an image, once more where its digest is to be made beside it: of exactly the range that the line tells. Faults: as
-/// [`open_asked`] has them.
+/// The blocks of what is asked for of an image, twice if its digest is to be made at the same time: those of exactly the range in
+/// its line. Faults: as for [`open_asked`].
 fn find_blocks<'a, R: Files + AllocGlobal>(
     rt: &R,
     words: &TakeWords<'a>,
@@ -251,7 +251,7 @@ fn find_blocks<'a, R: Files + AllocGlobal>(
     })
 }
 
-/// What is to be taken apart, and whether the sum of a disk copy is right in which it lies.
+/// What is to be taken and, if it lies in a disk copy, whether that one's sum is right.
 #[derive(Drop)]
 pub(crate) struct OpenedTake<S: PlacedBlocks> {
     pub(crate) image: TakenImage<S>,
@@ -261,8 +261,8 @@ pub(crate) struct OpenedTake<S: PlacedBlocks> {
 /// The blocks of a part of a file, known by what is read of them.
 type PlacedPart<F> = BlocksOf<RangeBytes<OpenedFile<F>>>;
 
-/// Opens what is to be taken apart, once more where its digest is to be made beside it, and makes all checks. Faults, the first that holds: the image can't be
-/// read; `NoVolume`, `SeveralVolumes`; the image's own; memory was refused.
+/// Opens what is to be taken, twice if its digest is to be made at the same time, and makes all checks. Faults, the first that
+/// holds: the image can't be read; `NoVolume`, `SeveralVolumes`; the image's own; memory was refused.
 pub(crate) fn open_image<'a, R: Files + AllocGlobal>(
     rt: &R,
     words: &TakeWords<'a>,

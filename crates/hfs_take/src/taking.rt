@@ -1,4 +1,4 @@
-//! The word that takes a disk apart.
+//! The word that takes the items off a disk.
 ghost use Rattle.std.specs.Prelude.{◌≡◌, IfErr, IfOk, string_bytes};
 ghost use Rattle.std.specs.Option.{option_map};
 ghost use Rattle.hfs_bag.specs.Sums.{IsSumOf};
@@ -29,34 +29,34 @@ use std::alloc::{AllocError, Global};
 use std::rt::Files;
 use std::thread::Threads;
 
-/// A disk that was taken apart.
+/// The result of taking a volume.
 #[derive(Drop)]
 pub struct Taken {
-    /// How much its bag has.
+    /// How much its bag holds.
     pub sums: BagSums,
-    /// Whether the sum of the disk copy is right that it was taken out of, if it was.
+    /// Whether the sum of the disk copy that it came from is right, if it came from one.
     pub sum: Option<bool>,
 }
 
-/// A bag that has its place, the system on which it lies, and what it was taken from.
+/// A bag that is in its place, the system that it is on, and what it was taken from.
 #[derive(Drop)]
 pub struct PlacedBag<Y, S: PlacedBlocks> {
-    /// How much it has.
+    /// How much it holds.
     pub sums: BagSums,
     pub system: Y,
     pub image: SeenImage<S>,
-    /// What the image's digest was made of, where that is another source.
+    /// What the image's digest was made of, if that is another source.
     pub beside: Option<SeenBlocks<S>>,
 }
 
-/// Why a bag has no place, and the system back.
+/// Why a bag is not in its place, with the system handed back.
 #[derive(Drop)]
 pub struct UnplacedBag<'a, Y> {
     pub fault: TakeFault<'a>,
     pub system: Y,
 }
 
-/// Gives a whole bag its place. At a fault it is taken away.
+/// Gives a whole bag its place. At a fault, it is removed.
 fn place_bag<'a, Y: FileSystem + Drop>(
     shelf: FileShelf<Y>,
     words: &TakeWords<'a>,
@@ -76,7 +76,7 @@ fn place_bag<'a, Y: FileSystem + Drop>(
     }
 }
 
-/// Takes away what was written of a bag. The fault stays, but where memory is refused for that.
+/// Removes what was written of a bag. The fault stays the same, unless memory is refused for that.
 fn take_away<'a, Y: FileSystem + Drop>(
     shelf: FileShelf<Y>,
     fault: TakeFault<'a>,
@@ -94,7 +94,8 @@ fn take_away<'a, Y: FileSystem + Drop>(
     }
 }
 
-/// Writes the bag of an image: to a folder beside its place, which gets its place when it is whole, and is taken away at a fault.
+/// Writes the bag of an image to a folder next to its place; the folder gets its place once it is whole, and is removed at a
+/// fault.
 fn write_bag<'a, Y: FileSystem + Drop, H: Threads, S: PlacedBlocks + Drop + Send, W: Watch>(
     alloc: Global,
     system: Y,
@@ -143,9 +144,9 @@ fn write_bag<'a, Y: FileSystem + Drop, H: Threads, S: PlacedBlocks + Drop + Send
     }
 }
 
-/// Takes an image apart that was opened, over any system, where nothing has the folder's name. Exactly the bag of each image that has the bytes which were
-/// read has this place then, as the last that the system did. At a fault nothing has the place that did not have it, and what was written is taken away, as
-/// far as the system and memory allow. Faults: `IsThere`; as [`write_bag`] has them.
+/// Takes the volume of an opened image, over any system, if nothing has the folder's name. As the last thing that the system
+/// does, exactly the bag of every image consistent with the bytes read gets this place. At a fault the place is as free as it
+/// was, and what was written is removed, as far as the system and memory allow. Faults: `IsThere`; as for [`write_bag`].
 pub fn take_opened<'a, Y: FileSystem + Drop, H: Threads, S: PlacedBlocks + Drop + Send, W: Watch>(
     alloc: Global,
     system: Y,
@@ -171,9 +172,10 @@ pub fn take_opened<'a, Y: FileSystem + Drop, H: Threads, S: PlacedBlocks + Drop 
     write_bag(alloc, system, threads, image, words, watch)
 }
 
-/// Takes the volume of an image apart: makes the folder a bag of all its items. Faults, the first that holds: the image can't be read; `NoVolume`, `SeveralVolumes`;
-/// the image's own; `IsThere`; `CannotWrite` of the path that isn't written, the image can't be read in the middle, memory was refused. At a fault
-/// the folder isn't there, and what was written is taken away, as far as the system and memory allow.
+/// Takes the volume of an image: makes the folder a bag of all its items. Faults, the first that holds: the image can't be read;
+/// `NoVolume`, `SeveralVolumes`; the image's own; `IsThere`; `CannotWrite` of the path that isn't written, a later read of the
+/// image failed, memory was refused. At a fault the folder doesn't exist, and what was written is removed, as far as the system
+/// and memory allow.
 pub fn take<'a, R: Files + AllocGlobal, H: Threads, W: Watch>(
     rt: &R,
     threads: &H,
@@ -198,7 +200,7 @@ where
     }
 }
 
-/// A folder's path without slashes at its end; a slash alone stays.
+/// A folder's path without slashes at its end; a single slash stays.
 pub fn folder_path(path: &str) -> &str
     ensures { IsFolderPath path.now result.now }
 {

@@ -1,4 +1,4 @@
-//! What stands in the columns of a line.
+//! The columns of a line.
 ghost use Rattle.std.specs.Prelude.{◌≡◌};
 ghost use Rattle.std.specs.Option.{option_map_or};
 ghost use Rattle.hfs_rows.specs.declared.value.RowValue.TheVariants.{Empty};
@@ -8,7 +8,7 @@ use crate::column::Origin;
 use crate::keys::Keys;
 use hfs_rows::RowValue;
 
-/// What stands in a column of a row with these keys; None where the row has no such place.
+/// The value of a column of a row with these keys; None if the row has no such place.
 pub(crate) fn cell<'a>(
     keys: &'a Keys,
     values: &'a [RowValue],

@@ -13,11 +13,11 @@ pub(crate) enum Origin {
     ImageDigest,
     /// The number of the volume that came last.
     VolumeNumber,
-    /// The row itself, in this place.
+    /// This place of the row itself.
     Row(usize),
 }
 
-/// What a line says that it is.
+/// What a line says it is.
 #[derive(Clone, Copy)]
 pub(crate) enum Label {
     /// A row of this table.
@@ -35,7 +35,7 @@ pub(crate) struct Column {
     pub(crate) origin: Origin,
 }
 
-/// Those of an image.
+/// The columns of an image.
 pub(crate) const IMAGE_COLUMNS: [Column; 4] = [
     Column {
         name: "path",
@@ -55,7 +55,7 @@ pub(crate) const IMAGE_COLUMNS: [Column; 4] = [
     },
 ];
 
-/// Those of a volume: the keys of its image, and its own.
+/// The columns of a volume: the keys of its image, and its own.
 pub(crate) const VOLUME_COLUMNS: [Column; 14] = [
     Column {
         name: "image_path",
@@ -115,7 +115,7 @@ pub(crate) const VOLUME_COLUMNS: [Column; 14] = [
     },
 ];
 
-/// Those of an item: the keys of its image and of its volume, and its own.
+/// The columns of an item: the keys of its image and of its volume, and its own.
 pub(crate) const ITEM_COLUMNS: [Column; 25] = [
     Column {
         name: "image_path",
@@ -219,7 +219,7 @@ pub(crate) const ITEM_COLUMNS: [Column; 25] = [
     },
 ];
 
-/// Those of an image's end: its keys, and whether all its rows came.
+/// The columns of an image's end: its keys, and whether all its rows came.
 pub(crate) const END_COLUMNS: [Column; 3] = [
     Column {
         name: "image_path",

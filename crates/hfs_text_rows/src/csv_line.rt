@@ -70,7 +70,7 @@ fn push_number(text: &mut Vec<u8>, n: u64) -> Result<(), AllocError>
     text.extend_from_slice(buffer.format(n).as_bytes())
 }
 
-/// Appends a value's field, which is empty where there is none.
+/// Appends a value's field, which is empty if there is none.
 fn push_value(text: &mut Vec<u8>, value: Option<&RowValue>) -> Result<(), AllocError>
     ensures { OnOk result (text.new.items ≡ text.old.items
         ++ field (option_map_or (λ value. value.now) value.entry Empty)) }
@@ -95,7 +95,7 @@ fn push_field(
     push_value(text, cell(keys, values, column.origin))
 }
 
-/// Appends the fields of columns, each behind a comma.
+/// Appends the fields of columns, each after a comma.
 fn push_fields(
     text: &mut Vec<u8>,
     columns: &[Column],
@@ -112,7 +112,7 @@ fn push_fields(
     Ok(())
 }
 
-/// Appends a row's line. At an error a part of it may have come.
+/// Appends a row's line. At an error, a part of it may have been appended.
 pub(crate) fn push_csv_line(
     text: &mut Vec<u8>,
     columns: &[Column],
@@ -130,7 +130,7 @@ pub(crate) fn push_csv_line(
     text.extend_from_slice(b"\r\n")
 }
 
-/// Appends the names of columns, each behind a comma.
+/// Appends the names of columns, each after a comma.
 fn push_names(text: &mut Vec<u8>, columns: &[Column]) -> Result<(), AllocError>
     ensures { OnOk result (text.new.items ≡ text.old.items
         ++ flat_map (λ column. codes "," ++ column.name.now) columns.now) }

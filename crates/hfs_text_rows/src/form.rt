@@ -5,10 +5,10 @@ use hfs_rows::Table;
 /// Which rows are written, and how.
 #[derive(Clone, Copy, Debug, PartialEq, Eq)]
 pub enum Form {
-    /// All rows, in JSON: an object a line, with its table first, and behind the rows of an image its end.
+    /// All rows, in JSON: an object per line, which begins with its table; the rows of an image are followed by its end.
     All,
-    /// Those of one table, in JSON: an object a line.
+    /// The rows of one table, in JSON: an object per line.
     Json(Table),
-    /// Those of one table, in CSV (RFC 4180), behind a head of column names; lines end with CR LF.
+    /// The rows of one table, in CSV (RFC 4180), after a head of column names; lines end with CR LF.
     Csv(Table),
 }

@@ -15,7 +15,7 @@ use hfs_rows::RowValue;
 use json::Writer;
 use std::alloc::Global;
 
-/// The bytes that most lines take, so that a line's text grows once.
+/// How many bytes most lines take, so that a line's text grows once.
 const USUAL: usize = 1024;
 
 /// Puts a text.
@@ -29,7 +29,7 @@ fn put_text(writer: &mut Writer, text: &[u8]) -> Result<(), LineFault>
     Ok(())
 }
 
-/// Puts a value, and null where there is none.
+/// Puts a value, or null if there is none.
 fn put_value(writer: &mut Writer, value: Option<&RowValue>) -> Result<(), LineFault>
     ensures { Adds result writer.old writer.new
         (value_token (option_map_or (λ value. value.now) value.entry Empty) ∷ []) }
@@ -77,7 +77,7 @@ fn put_members(
     Ok(())
 }
 
-/// Puts the member that says of which table a line is, where it is asked for.
+/// Puts the member that says which table a line belongs to, if it is asked for.
 fn put_table(writer: &mut Writer, label: Option<Label>) -> Result<(), LineFault>
     ensures { Adds result writer.old writer.new (table_member label) }
 {
@@ -109,7 +109,7 @@ fn put_object(
     Ok(())
 }
 
-/// Appends a row's line. At a fault a part of it may have come.
+/// Appends a row's line. At a fault, a part of it may have been appended.
 #[tactic(auto, unfolding(crate::specs::Lines::json_line))]
 pub(crate) fn push_json_line(
     alloc: Global,

@@ -1,4 +1,4 @@
-//! The keys of rows: what came last of the images and volumes that rows belong to.
+//! The keys of rows: the last of the images and volumes that rows belong to.
 ghost use Rattle.std.specs.Prelude.{◌≡◌, IfOk, OnOk};
 ghost use Rattle.hfs_text_rows.specs.Keys.{keys_after, no_keys, value_at};
 
@@ -17,7 +17,7 @@ pub(crate) struct Keys {
     pub(crate) number: RowValue,
 }
 
-/// A copy of what stands in this place of a row. The only error is want of memory.
+/// A copy of the value at this place of a row. Fails only when out of memory.
 fn copied(alloc: Global, values: &[RowValue], place: usize) -> Result<RowValue, AllocError>
     ensures { IfOk result (λ copy. copy ≡ value_at values.now place) }
 {
@@ -32,7 +32,7 @@ fn copied(alloc: Global, values: &[RowValue], place: usize) -> Result<RowValue, 
 }
 
 impl Keys {
-    /// None, as before the first row.
+    /// No keys, as before the first row.
     pub(crate) fn none() -> Keys
         ensures { result ≡ no_keys }
     {
@@ -43,7 +43,7 @@ impl Keys {
         }
     }
 
-    /// Those of the rows behind this one. The only error is want of memory.
+    /// The keys of the rows after this one. Fails only when out of memory.
     pub(crate) fn note(
         &mut self,
         alloc: Global,
@@ -66,7 +66,7 @@ impl Keys {
     }
 }
 
-/// Those of the rows behind an image's. The only error is want of memory.
+/// The keys of the rows after an image's. Fails only when out of memory.
 fn image_keys(alloc: Global, values: &[RowValue]) -> Result<Keys, AllocError>
     ensures path { IfOk result (λ keys. keys.path ≡ value_at values.now 0) }
     ensures digest { IfOk result (λ keys. keys.digest ≡ value_at values.now 2) }

@@ -12,7 +12,7 @@ use crate::line_fault::LineFault;
 use hfs_rows::{RowValue, Table};
 use std::alloc::{AllocError, Global};
 
-/// Whether both are one table.
+/// Whether both are the same table.
 fn is_same(wanted: Table, table: Table) -> bool
     ensures { result ≡ is_same wanted table }
 {
@@ -26,7 +26,7 @@ fn is_same(wanted: Table, table: Table) -> bool
     }
 }
 
-/// Appends what stands before the first row. At an error a part of it may have come.
+/// Appends what precedes the first row. At an error, a part of it may have been appended.
 pub(crate) fn push_head(text: &mut Vec<u8>, form: Form) -> Result<(), AllocError>
     ensures { OnOk result (text.new.items ≡ text.old.items ++ head_text form) }
 {
@@ -36,7 +36,7 @@ pub(crate) fn push_head(text: &mut Vec<u8>, form: Form) -> Result<(), AllocError
     }
 }
 
-/// Appends the line of a row of a table, where it is one of the wanted table.
+/// Appends the line of a row of a table, if that is the wanted one.
 fn push_json_of(
     alloc: Global,
     text: &mut Vec<u8>,
@@ -54,7 +54,7 @@ fn push_json_of(
     push_json_line(alloc, text, None, columns_of(table), keys, values)
 }
 
-/// Appends the line of a row in CSV, where it is one of the wanted table.
+/// Appends the line of a row in CSV, if its table is the wanted one.
 fn push_csv_of(
     text: &mut Vec<u8>,
     wanted: Table,
@@ -72,7 +72,7 @@ fn push_csv_of(
     Ok(())
 }
 
-/// Appends the line of a row of this table, where it is wanted. At a fault a part of it may have come.
+/// Appends the line of a row of this table, if it is wanted. At a fault, a part of it may have been appended.
 pub(crate) fn push_row(
     alloc: Global,
     text: &mut Vec<u8>,
@@ -93,14 +93,14 @@ pub(crate) fn push_row(
     }
 }
 
-/// Whether all rows came, as it stands in a row.
+/// Whether all rows came, as a row's value.
 fn whole_value(is_whole: bool) -> RowValue
     ensures { result ≡ whole_value is_whole }
 {
     RowValue::Number(if is_whole { 1 } else { 0 })
 }
 
-/// Appends the line of the end of the image with these keys, where there is one.
+/// Appends the line of the end of the image with these keys, if there is one.
 fn push_end_line(
     alloc: Global,
     text: &mut Vec<u8>,
@@ -118,7 +118,7 @@ fn push_end_line(
     }
 }
 
-/// Appends what stands behind the rows of the image with these keys. At a fault a part of it may have come.
+/// Appends what follows the rows of the image with these keys. At a fault, a part of it may have been appended.
 pub(crate) fn push_end(
     alloc: Global,
     text: &mut Vec<u8>,

@@ -6,7 +6,7 @@ use std::alloc::AllocError;
 /// Why a line was not made.
 #[derive(Clone, Copy, Debug, PartialEq, Eq)]
 pub(crate) enum LineFault {
-    /// A value is no text in UTF-8.
+    /// A value is not UTF-8.
     NotText,
     /// Memory was refused.
     NoMemory,

@@ -15,7 +15,7 @@ use std::io::Write;
 /// How many bytes of text are gathered before they are written.
 const PIECE: usize = 65_536;
 
-/// Writes a text, and begins the next one. Fault: `CannotWrite`, and then a part of it may have gone out, from its beginning on.
+/// Writes a text, and empties it for the next one. Fault: `CannotWrite`, and then only its beginning may have been written.
 pub(crate) fn put_piece<W: Write>(writer: &mut W, text: &mut Vec<u8>) -> Result<(), TakerFault>
     ensures written { OnOk result (Appends (W.contents writer.old) (W.contents writer.new) text.old.items) }
     ensures empty { OnOk result (text.new.items ≡ []) }
@@ -29,7 +29,7 @@ pub(crate) fn put_piece<W: Write>(writer: &mut W, text: &mut Vec<u8>) -> Result<
     Ok(())
 }
 
-/// Writes a text where it is long, and begins the next one. Fault: as of [`put_piece`].
+/// Writes a text if it is long, and empties it for the next one. Fault: as for [`put_piece`].
 pub(crate) fn make_room<W: Write>(writer: &mut W, text: &mut Vec<u8>) -> Result<(), TakerFault>
     ensures moved { OnOk result (Moves (W.contents writer.old) (W.contents writer.new)
         text.old.items text.new.items) }
@@ -42,7 +42,7 @@ pub(crate) fn make_room<W: Write>(writer: &mut W, text: &mut Vec<u8>) -> Result<
     put_piece(writer, text)
 }
 
-/// Writes what stands before the first row. Faults: `CannotWrite`, and then a part of it may have gone out; `NoMemory`.
+/// Writes what precedes the first row. Faults: `CannotWrite`, and then a part of it may have been written; `NoMemory`.
 pub fn write_head<W: Write>(alloc: Global, writer: &mut W, form: Form) -> Result<(), TakerFault>
     ensures written { OnOk result (Appends (W.contents writer.old) (W.contents writer.new)
         (head_text form)) }

@@ -14,7 +14,7 @@ use hfs_rows::{GivenRow, TakerFault};
 use std::alloc::Global;
 use std::io::Write;
 
-/// Writes a text, and behind it the end of the image with these keys. At a fault a beginning of it all was written.
+/// Writes a text, and after it the end of the image with these keys. At a fault, a beginning of all this was written.
 pub(crate) fn write_end<W: Write>(
     alloc: Global,
     writer: &mut W,
@@ -34,7 +34,7 @@ pub(crate) fn write_end<W: Write>(
     }
 }
 
-/// Appends the line of a row to a text, which is written first where it is long, and takes in the row's keys. At a fault a
+/// Appends the line of a row to a text, which is written first if it is long, and takes in the row's keys. At a fault, a
 /// beginning of the text may have been written.
 pub(crate) fn put_row<W: Write>(
     alloc: Global,

@@ -13,18 +13,18 @@ use std::alloc::Global;
 use std::io::Write;
 use std::snapshot::Snapshot;
 
-/// The rows of an image on their way to a writer, as text, in pieces of 65,536 bytes and a line. After a fault it takes no more. What
+/// A taker that writes the rows of an image as text, in pieces of 65,536 bytes and a line. After a fault it takes no more. What
 /// was written since the image began is a beginning of the text of the rows that it was given.
 #[derive(Drop)]
 pub struct TextTaker<W: Write> {
     alloc: Global,
     writer: W,
     form: Form,
-    /// What is to be written.
+    /// What is still to be written.
     text: Vec<u8>,
     keys: Keys,
     has_failed: bool,
-    /// The writer as the image began.
+    /// The writer when the image began.
     start: Snapshot<W>,
     given: Given,
     ghost underway: { ∥ IsUnderWay (W.contents start.value) (W.contents writer) text.items form keys given.rows has_failed ∥₁ },
@@ -50,8 +50,8 @@ impl<W: Write + Drop> TextTaker<W> {
         }
     }
 
-    /// Ends an image, of which all rows came or not, and writes what is still to be written: behind this the next image may come. At
-    /// a fault a beginning of it all was written. Faults: `CannotWrite`, also behind a fault; `NoMemory`.
+    /// Ends an image, whether or not all its rows came, and writes what is still to be written; after this the next image may
+    /// come. At a fault, a beginning of all this was written. Faults: `CannotWrite`, also after a fault; `NoMemory`.
     pub fn end(&mut self, is_whole: bool) -> Result<(), TakerFault>
         ensures form { self.new.form ≡ self.old.form }
         ensures written { OnOk result (Appends (W.contents self.old.start.value)

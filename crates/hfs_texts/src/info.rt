@@ -17,19 +17,19 @@ use thiserror::Error;
 /// The signature of an HFS volume, in drSigWord.
 const SIGNATURE: u16 = 0x4244;
 
-/// Why no lines, or not all of them, were printed.
+/// Why no lines, or not all of them, were written.
 #[derive(Debug, Drop, Error)]
 pub enum InfoFault {
     /// The input ended before 1,536 bytes.
     #[error("image too short")]
     Short,
-    /// 1,536 bytes were read, and drSigWord is not $4244.
+    /// 1,536 bytes were read, but drSigWord is not $4244.
     #[error("not an HFS volume")]
     NoMacDisk,
     /// The reader failed before 1,536 bytes.
     #[error("cannot read")]
     ReadFailed,
-    /// The writer failed, and a part of the lines may have gone out, from the first on.
+    /// The writer failed, and only the beginning of the lines may have been written.
     #[error("cannot write")]
     WriteFailed,
     /// Memory for the text was refused.
@@ -38,33 +38,33 @@ pub enum InfoFault {
 }
 
 /// Reads the first 1,536 bytes of a volume, and no more, and writes the 30 lines of its master directory block
-/// (`docs/FORMATS.md`). The block is logical block 2, the bytes from 1,024 (Inside Macintosh: Files, chapter 2,
-/// "Master Directory Blocks").
+/// (`docs/FORMATS.md`). The block is logical block 2, which begins at byte 1,024 (Inside Macintosh: Files, chapter 2, "Master
+/// Directory Blocks").
 ///
-/// The text is made whole before its first byte is written, so at every fault but `WriteFailed` nothing was written.
+/// The whole text is made before its first byte is written, so nothing was written at any fault but `WriteFailed`.
 pub fn run_info<R: Read, W: Write>(
     alloc: Global,
     reader: &mut R,
     writer: &mut W,
 ) -> Result<(), InfoFault>
-    // 1,536 bytes were read, and their lines were written and nothing else.
+    // 1,536 bytes were read; their lines were written, and nothing else.
     ensures ok { OnOk result ((head : List ℕ)
         × GaveHead (R.remaining reader.old) (R.remaining reader.new) head × HasSignature head
         × Appends (W.contents writer.old) (W.contents writer.new) (info_text head)) }
     // The input ended earlier.
     ensures short { IsErrOf result InfoFault.Short
         → GaveLast (R.remaining reader.old) (R.remaining reader.new) 1536 }
-    // 1,536 bytes were read, and the signature is another.
+    // 1,536 bytes were read, and the signature is another one.
     ensures no_mac_disk { IsErrOf result InfoFault.NoMacDisk → (head : List ℕ)
         × GaveHead (R.remaining reader.old) (R.remaining reader.new) head × ¬ HasSignature head }
     // The reader failed before that.
     ensures read_failed { IsErrOf result InfoFault.ReadFailed
         → GaveFewer (R.remaining reader.old) (R.remaining reader.new) 1536 }
-    // The volume is read and signed, and only its lines failed: a part of them was written, from the first on.
+    // The volume was read and has the signature, and only writing its lines failed: a beginning of them was written.
     ensures write_failed { IsErrOf result InfoFault.WriteFailed → (head : List ℕ)
         × GaveHead (R.remaining reader.old) (R.remaining reader.new) head × HasSignature head
         × AppendsFront (W.contents writer.old) (W.contents writer.new) (info_text head) }
-    // The volume is read and signed, and there is no text.
+    // The volume was read and has the signature, and there is no text.
     ensures memory { IsErrOf result InfoFault.Memory → (head : List ℕ)
         × GaveHead (R.remaining reader.old) (R.remaining reader.new) head × HasSignature head }
     // Nothing was written.

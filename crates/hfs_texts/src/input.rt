@@ -8,8 +8,8 @@ use std::io;
 use std::io::{ErrorKind, Read};
 use thiserror::Error;
 
-/// Reads until the buffer is full or the input ends, and answers how many bytes there are. At an error some of the
-/// input is read, and less than the buffer holds.
+/// Reads until the buffer is full or the input ends, and returns how many bytes were read. At an error, less of the input was
+/// read than the buffer holds.
 pub fn fill<R: Read>(reader: &mut R, buffer: &mut [u8]) -> io::Result<usize>
     requires { 0 < length buffer.old }
     ensures within { IfOk result (λ count. count ≤ length buffer.new) }
@@ -38,14 +38,13 @@ pub fn fill<R: Read>(reader: &mut R, buffer: &mut [u8]) -> io::Result<usize>
     Err(io::Error::from(ErrorKind::TimedOut))
 }
 
-/// The most bytes that an image has: 2 GiB.
+/// The most bytes that an image may have: 2 GiB.
 pub const IMAGE_LIMIT: usize = 2_147_483_648;
 
 /// How many bytes are read at once.
 const CHUNK: usize = 65_536;
 
-/// How many zeros are laid at once where room is made for what is read: few enough that the processor lays them from its
-/// registers.
+/// How many zeros are written at once to make room for what is read: few enough that the processor keeps them in registers.
 const ZEROS: usize = 2_048;
 
 /// Why an input was not loaded.
@@ -62,8 +61,8 @@ pub enum LoadFault {
     Memory,
 }
 
-/// All bytes up to the reader's end, at most `IMAGE_LIMIT`. A reader that gives more is left after exactly one byte
-/// more, so a device that never ends is left too.
+/// All bytes up to the reader's end, at most `IMAGE_LIMIT`. A reader that has more is given up after exactly one more byte, even
+/// a device that never ends.
 pub fn load<R: Read>(alloc: Global, reader: &mut R) -> Result<Vec<u8>, LoadFault>
     ensures whole { HasLoaded (R.remaining reader.old) (R.remaining reader.new) result }
     ensures ended { OnOk result (IsAtEnd (R.remaining reader.new)) }
@@ -75,8 +74,8 @@ pub fn load<R: Read>(alloc: Global, reader: &mut R) -> Result<Vec<u8>, LoadFault
     load_within(alloc, reader, IMAGE_LIMIT as u64)
 }
 
-/// All bytes up to the reader's end, at most `limit`, which is at most `IMAGE_LIMIT`. A reader that gives more is left after
-/// exactly one byte more.
+/// All bytes up to the reader's end, at most `limit`, which is at most `IMAGE_LIMIT`. A reader that has more is given up after
+/// exactly one more byte.
 pub fn load_within<R: Read>(alloc: Global, reader: &mut R, limit: u64) -> Result<Vec<u8>, LoadFault>
     requires { limit ≤ IMAGE_LIMIT }
     ensures whole { HasLoaded (R.remaining reader.old) (R.remaining reader.new) result }
@@ -97,7 +96,7 @@ pub fn load_within<R: Read>(alloc: Global, reader: &mut R, limit: u64) -> Result
     Err(LoadFault::TooLarge)
 }
 
-/// Reads as many bytes as there is room for, behind those that are there. Answers whether the input ended.
+/// Reads as many bytes as there is room for, after those that are there. Returns whether the input ended.
 fn load_more<R: Read>(reader: &mut R, bytes: &mut Vec<u8>, room: usize) -> Result<bool, LoadFault>
     requires some { 0 < room }
     requires end { vec_len bytes.old + room < 2 ^ 64 }
@@ -120,7 +119,7 @@ fn load_more<R: Read>(reader: &mut R, bytes: &mut Vec<u8>, room: usize) -> Resul
     Ok(count < room)
 }
 
-/// Makes the bytes as many as `end` by zeros, where they are fewer.
+/// Appends zeros until there are `end` bytes, if there are fewer.
 fn make_room(bytes: &mut Vec<u8>, end: usize) -> Result<(), AllocError>
     requires { vec_len bytes.old ≤ end }
     ensures kept { OnOk result (take (vec_len bytes.old) bytes.new.items ≡ bytes.old.items) }
@@ -133,7 +132,7 @@ fn make_room(bytes: &mut Vec<u8>, end: usize) -> Result<(), AllocError>
     Ok(())
 }
 
-/// Reads into the part of the bytes behind the first `start`, as `fill` does.
+/// Reads into the bytes after the first `start`, as `fill` does.
 fn fill_behind<R: Read>(reader: &mut R, bytes: &mut [u8], start: usize) -> io::Result<usize>
     requires { start < length bytes.old }
     ensures front { take start bytes.new ≡ take start bytes.old }

@@ -6,7 +6,7 @@ ghost use Rattle.hfs_texts.specs.Writing.{AppendsFront};
 use std::io;
 use std::io::{ErrorKind, Write};
 
-/// Writes all bytes. At an error a part of them may have gone out, from the first on, and nothing else.
+/// Writes all bytes. At an error, only some of the first ones may have been written.
 pub fn put<W: Write>(writer: &mut W, bytes: &[u8]) -> io::Result<()>
     ensures ok { OnOk result (Appends (W.contents writer.old) (W.contents writer.new) bytes.now) }
     ensures err { OnErr result (AppendsFront (W.contents writer.old) (W.contents writer.new)

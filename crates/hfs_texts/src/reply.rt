@@ -117,7 +117,7 @@ fn push_item(text: &mut String, info: &Info) -> Result<(), AllocError>
     push_spaced(text, info.name)
 }
 
-/// An item, by its text.
+/// An item as text.
 #[derive(Drop)]
 struct ShownItem<'a>(&'a Info);
 
@@ -167,7 +167,7 @@ fn push_numbers(text: &mut String, word: &str, first: u32, second: u32) -> Resul
     push_spaced(text, second)
 }
 
-/// Appends a value, and behind a list its items.
+/// Appends a value, and after a list its items.
 #[tactic(auto, unfolding(crate::specs::Answers::value_text))]
 fn push_value(text: &mut String, value: &Value) -> Result<(), AllocError>
     ensures { OnOk result (Gains text.old text.new (value_text value.now)) }
@@ -203,7 +203,7 @@ fn push_value(text: &mut String, value: &Value) -> Result<(), AllocError>
     }
 }
 
-/// A text as it stands.
+/// A text as it is.
 #[derive(Drop)]
 struct Plain<'a>(&'a str);
 
@@ -215,7 +215,7 @@ impl Show for Plain<'_> {
     }
 }
 
-/// Appends the lines of an answer, as `reply_text` has them. Who called is any value with a printed form.
+/// Appends the lines of an answer, as `reply_text` has them. The caller is any value with a printed form.
 #[tactic(auto, unfolding(crate::specs::Answers::reply_text))]
 pub fn push_reply<S: Show + Drop>(
     text: &mut String,
@@ -235,8 +235,8 @@ pub fn push_reply<S: Show + Drop>(
     text.push('\n')
 }
 
-/// The lines of an answer: the worker (or `v` and the viewer), the number of the call among its own, the code and the
-/// value, with tabs between; behind a list a line for each item. Each line ends with a line feed.
+/// The lines of an answer: the worker (or `v` and the viewer), the number of the call among its own, the code and the value,
+/// separated by tabs; after a list, a line for each item. Each line ends with a line feed.
 pub fn reply_text(
     alloc: Global,
     who: &str,

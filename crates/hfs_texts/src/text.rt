@@ -8,7 +8,7 @@ use hfs_fields::Extent;
 use itoa::{Buffer, Integer};
 use std::alloc::AllocError;
 
-/// What has a printed form.
+/// Values with a printed form.
 pub trait Show {
     /// The printed form.
     ghost shown: { Self → List ℕ };
@@ -99,7 +99,7 @@ fn hex_digit(digit: u8) -> char
     }
 }
 
-/// A name in its field of a length byte and characters.
+/// A name, from its field with a length byte and characters.
 #[derive(Drop)]
 pub struct ShownName<'a>(pub &'a [u8]);
 
@@ -128,7 +128,7 @@ fn push_characters(text: &mut String, characters: &[u8]) -> Result<(), AllocErro
     Ok(())
 }
 
-/// Appends a character of a name, as two digits behind a backslash where it is not printable or a backslash.
+/// Appends a character of a name, as two digits after a backslash if it is not printable or is a backslash.
 #[tactic(auto, unfolding(crate::specs::Lines::shown_character))]
 fn push_character(text: &mut String, character: u8) -> Result<(), AllocError>
     ensures { OnOk result (Gains text.old text.new (shown_character character)) }
@@ -140,7 +140,7 @@ fn push_character(text: &mut String, character: u8) -> Result<(), AllocError>
     text.push(char::from(character))
 }
 
-/// Extents with spaces between them.
+/// Extents, separated by spaces.
 #[derive(Drop)]
 pub struct ShownExtents<'a>(pub &'a [Extent]);
 

@@ -1,4 +1,4 @@
-//! What the words do on items by their paths.
+//! What the words do with items by their paths.
 
 use crate::commands::{print_code, print_fork, print_macbinary, print_told};
 use crate::remaining::{look_at, show_folder, show_fork};
@@ -7,7 +7,7 @@ use hfs_commands::{Fault, PartImage, file_path_reply, open_seen, path_reply, see
 use hfs_model::{Reply, Value};
 use std::io::{Read, Seek};
 
-/// Prints the children of the folder that a path leads to, or the code that refuses the path; or the rows of that folder, where the
+/// Prints the children of the folder that a path leads to, or the code that refuses the path; or the rows of that folder, if the
 /// image is refused.
 pub fn print_list_at<'a>(rt: &HostRuntime, place: &PathWords<'a>) -> Result<u8, Fault<'a>> {
     match look_at(rt, place.image, place.volume)? {
@@ -31,7 +31,7 @@ fn print_list_in<F: Read + Seek + Drop>(
     }
 }
 
-/// What is told of the file that a path leads to, or the reply that refuses it.
+/// The reply about the file that a path leads to, or the reply that refuses it.
 fn file_at<'a, F: Read + Seek + Drop>(
     rt: &HostRuntime,
     image: &PartImage<F>,
@@ -43,8 +43,8 @@ fn file_at<'a, F: Read + Seek + Drop>(
     }
 }
 
-/// Prints the bytes of a fork of the file that a path leads to, or the code that refuses it; or what is found of that fork, where the
-/// image is refused.
+/// Prints the bytes of a fork of the file that a path leads to, or the code that refuses it; or what is found of that fork, if
+/// the image is refused.
 pub fn print_fork_at<'a>(rt: &HostRuntime, words: &ForkPathWords<'a>) -> Result<u8, Fault<'a>> {
     let place = &words.place;
     match look_at(rt, place.image, place.volume)? {

@@ -1,4 +1,4 @@
-//! What the words do on an image, or on the volume in it that is asked for or lies alone in it.
+//! What the words do with an image, or with the volume in it that is asked for or is the only one.
 
 use crate::commands::{
     print_fork, print_info_of, print_macbinary, print_needed_check, print_refused, print_table,
@@ -9,7 +9,7 @@ use crate::volumes::print_volume_info;
 use crate::words::{FileWords, ForkWords};
 use hfs_commands::{Fault, Format, open_part, open_seen, part_blocks, seen_list_text};
 
-/// Prints the master directory block. Without a number it is that of the image as it is.
+/// Prints the master directory block. Without a number, it is that of the image as it is.
 pub fn tell_info<'a>(
     rt: &HostRuntime,
     image: &'a str,
@@ -21,7 +21,7 @@ pub fn tell_info<'a>(
     }
 }
 
-/// Prints what is told of it. Each fault of the image is told behind `refused`.
+/// Prints the report on it. A fault of the image is printed after `refused`.
 pub fn tell_check<'a>(
     rt: &HostRuntime,
     image: &'a str,
@@ -45,7 +45,7 @@ pub fn tell_list<'a>(
     print_told(rt, seen_list_text(rt.alloc(), &image, dir))
 }
 
-/// Prints the table of its items, or of what is found of it where it is refused.
+/// Prints the table of its items, or of what is found of it if it is refused.
 pub fn tell_items<'a>(
     rt: &HostRuntime,
     image: &'a str,

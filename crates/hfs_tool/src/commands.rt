@@ -3,6 +3,7 @@
 use crate::by_path::{print_fork_at, print_list_at, print_macbinary_at};
 use crate::by_volume::{tell_check, tell_fork, tell_info, tell_items, tell_list, tell_macbinary};
 use crate::extracting::extract_volume;
+use crate::making::make_new_volume;
 use crate::pages::print_page;
 use crate::putting::put_on_volume;
 use crate::rescuing::{list_remains, rescue_volume};
@@ -26,7 +27,7 @@ use std::io::{Read, Seek, Write};
 use std::sync::Wait;
 use std::thread::Threads;
 
-/// Does what the words ask for, and answers the exit status.
+/// Does what the words ask for, and returns the exit status.
 pub fn obey<'a, T: Threads + Wait + Sync>(
     rt: &HostRuntime,
     threads: &T,
@@ -57,6 +58,7 @@ pub fn obey<'a, T: Threads + Wait + Sync>(
         Words::Repair(words) => write_repaired(rt, words),
         Words::Run(run) => run_script_of(rt, threads, run),
         Words::Put(words) => put_on_volume(rt, words),
+        Words::Make(words) => make_new_volume(rt, words),
     }
 }
 
@@ -80,7 +82,7 @@ pub fn print_info<'a, R: Read>(
     }
 }
 
-/// Prints lines with an exit status, where memory sufficed for them, and answers the status.
+/// Prints lines, if there was memory for them, and returns their exit status.
 pub fn print_told(
     rt: &HostRuntime,
     told: Result<(u8, String), AllocError>,
@@ -92,7 +94,7 @@ pub fn print_told(
     Ok(status)
 }
 
-/// Prints what a check tells, and what a refusal means.
+/// Prints the answer of a check, and what a refusal means.
 pub fn print_checked(rt: &HostRuntime, told: &CheckAnswer) -> Result<u8, Fault<'static>> {
     print_lines(rt, told.lines.as_str())?;
     if let Some(why) = told.fault {
@@ -101,7 +103,7 @@ pub fn print_checked(rt: &HostRuntime, told: &CheckAnswer) -> Result<u8, Fault<'
     Ok(told.status)
 }
 
-/// Prints what a check of a part of a file tells that is read where it is needed.
+/// Prints the answer of checking a part of a file, which is read on demand.
 pub fn print_needed_check<'a, F: Read + Seek + Drop>(
     rt: &HostRuntime,
     path: &'a str,
@@ -145,7 +147,7 @@ fn print_found(rt: &HostRuntime, found: Result<NeededFile, Reply>) -> Result<u8,
     }
 }
 
-/// Prints a file with both forks, or the code of a reply that tells of no file.
+/// Prints a file with both forks, or the code of a reply that describes no file.
 fn print_file(rt: &HostRuntime, file: &NeededFile) -> Result<u8, Fault<'static>> {
     let code = put_macbinary(&mut rt.stdout(), &file.told, &file.data, &file.resource)?;
     if code == 0 {
@@ -155,7 +157,8 @@ fn print_file(rt: &HostRuntime, file: &NeededFile) -> Result<u8, Fault<'static>>
     }
 }
 
-/// Prints the bytes of a file's fork of an opened image, piece by piece as they are read, or the code of the call that was refused.
+/// Prints the bytes of a file's fork of an opened image, piece by piece while they are read, or the code of the call that was
+/// refused.
 pub fn print_fork<'a, F: Read + Seek + Drop>(
     rt: &HostRuntime,
     image: &mut PartImage<F>,
@@ -170,7 +173,7 @@ pub fn print_fork<'a, F: Read + Seek + Drop>(
     }
 }
 
-/// Prints the code of the call that refused a fork, where it was not written.
+/// Prints the code of the call that refused a fork, if it was not written.
 fn print_refusal(rt: &HostRuntime, told: Result<(), Reply>) -> Result<u8, Fault<'static>> {
     match told {
         Ok(()) => Ok(Status::Done.number()),
@@ -187,7 +190,7 @@ pub fn print_code(rt: &HostRuntime, reply: &Reply) -> Result<u8, Fault<'static>>
     Ok(Status::CallRefused.number())
 }
 
-/// Writes a new volume to its file. Where the plan is refused, the file is left as it was.
+/// Writes a new volume to its file. If the plan is refused, the file is left as it was.
 fn write_new<'a>(rt: &HostRuntime, volume: &NewVolume<'a>) -> Result<u8, Fault<'a>> {
     let Ok(name) = Vec::from_slice(rt.alloc(), volume.name.as_bytes()) else {
         return Err(Fault::NoMemory);
@@ -209,8 +212,8 @@ fn write_new<'a>(rt: &HostRuntime, volume: &NewVolume<'a>) -> Result<u8, Fault<'
     }
 }
 
-/// Writes an image with its counts mended to a file, or with those of the volume in it that is asked for, and prints what was
-/// mended. An image that is refused is told of, and nothing is written; where the write fails nothing else is printed.
+/// Writes an image to a file with its counts mended, or those of the volume in it that is asked for, and prints what was mended.
+/// If the image is refused, prints that and writes nothing; if the write fails, nothing else is printed.
 fn write_repaired<'a>(rt: &HostRuntime, words: &RepairWords<'a>) -> Result<u8, Fault<'a>> {
     let written = match words.volume {
         None | Some(0) => write_mended_image(rt, words),
@@ -261,7 +264,7 @@ fn write_mended_volume<'a>(
     print_mended(rt, words, contents, fault, status, lines.as_str())
 }
 
-/// Mends an image of so many bytes, which was opened by this path.
+/// Mends an image of `len` bytes that was opened by this path.
 fn mended<'a, S: BlockSource + Drop>(
     rt: &HostRuntime,
     path: &'a str,
@@ -274,7 +277,7 @@ fn mended<'a, S: BlockSource + Drop>(
     }
 }
 
-/// Writes what a file is to hold with a mended image, if it isn't refused, and prints what was mended.
+/// Writes a file with a mended image, unless the image is refused, and prints what was mended.
 fn print_mended<'a, C: ReadContents + Drop>(
     rt: &HostRuntime,
     words: &RepairWords<'a>,

@@ -8,7 +8,8 @@ use hfs_commands::{
 use hfs_console::{print_lines, tell_sum};
 use hfs_take::{FoundPart, find_part};
 
-/// Writes the bytes of a volume to a file of its own, and prints how many they are. Without a number bytes that hold no volume aren't written.
+/// Writes the bytes of a volume to a file of its own, and prints how many there are. Without a number, bytes that hold no volume
+/// aren't written.
 pub fn extract_volume<'a>(rt: &HostRuntime, words: &ExtractWords<'a>) -> Result<u8, Fault<'a>> {
     let part = find_part(rt, words.file, Counted::Volumes, words.volume)?;
     let FoundPart {
@@ -31,7 +32,8 @@ pub fn extract_volume<'a>(rt: &HostRuntime, words: &ExtractWords<'a>) -> Result<
     Ok(Status::Done.number())
 }
 
-/// Makes the file, and prints that it has so many bytes. The text is made before the file is, so that want of memory leaves none.
+/// Makes the file, and prints how many bytes it has. The text is made before the file, so that no file is left when memory runs
+/// out.
 fn make_file<'a, C: ReadContents>(
     rt: &HostRuntime,
     words: &ExtractWords<'a>,

@@ -1,6 +1,6 @@
-//! What the help says behind the words and their options.
+//! The help about the words and their options.
 
-/// The program, as a bag tells what it was made by.
+/// The name and version of the program, as a bag gives them.
 pub(crate) const PROGRAM: &str = "hfs_tool 1.0.0";
 
 /// What the numbers of checks mean.
@@ -16,7 +16,7 @@ pub(crate) const CHECKS: &str = "What is printed if the volume is not sound:
   C12  space
 docs/CHECKS.md says what each requires, and what N counts.";
 
-/// What the word `volumes` tells beside its arguments.
+/// What the help of the word `volumes` says besides its arguments.
 pub(crate) const VOLUMES: &str = "How a volume lies in the file:
   bare       it is the whole file
   macbinary  it is the data fork of a MacBinary file
@@ -41,7 +41,7 @@ run, repair and put write the file with that volume changed.
 Not looked for: a map within a map or within a disk copy, Disk Copy 6
 and other compressed forms, MFS, and HFS Plus without a wrapper.";
 
-/// What the word `extract` tells beside its arguments.
+/// What the help of the word `extract` says besides its arguments.
 pub(crate) const EXTRACTS: &str =
     "Without --volume that is a bare volume as it is, or else the only one
 inside; if the file holds none, or several, nothing is written. With
@@ -51,7 +51,7 @@ and with --volume 0 the file as it is. Nothing is checked.
 OUT is written as OUT.0.new next to it, and gets its name when it is
 complete: after a fault it isn't there. No file is overwritten.";
 
-/// What the word `run` tells beside its arguments.
+/// What the help of the word `run` says besides its arguments.
 pub(crate) const RUNS: &str = "Each line of the script is answered by a line: who called, the number
 of the call among the caller's own, the code, and a value. With --out
 the changed image is written before the first answer is printed.
@@ -73,7 +73,19 @@ alone:
   no place for a viewer
   cannot write FILE  the file is as it was";
 
-/// What the word `put` tells beside its arguments.
+/// What the help of the word `make` says besides its arguments.
+pub(crate) const MAKES: &str = "The volume gets what put would put into its root, by the same lines.
+Of one folder that is no bag what lies in it comes. Its name: NAME; else
+the one that the one bag tells of its disk; else the last part of the
+one folder's path. Its catalog has room for what comes and more. Nothing
+is written, and the status is 2, at:
+  bad name   not 1 to 27 characters of an item name, or none at all
+  bad size   not whole blocks of 512 bytes, 64K to 2G
+  no room    no size up to 2G is enough; or SIZE is too small for the
+             two trees alone
+When FILE is written: made, and the lines of put.";
+
+/// What the help of the word `put` says besides its arguments.
 pub(crate) const PUTS: &str = "SOURCEs come in their order, and what is in a folder in the order of
 its names. ._X next to X is read as AppleDouble: type, creator, the
 Finder's bytes, dates and the resource fork of X. .DS_Store stays
@@ -129,7 +141,7 @@ is old or lost.
 A spreadsheet runs a name that begins with = + - or @ as a formula:
 import the file with its columns as text.";
 
-/// What the word `page` tells beside its arguments.
+/// What the help of the word `page` says besides its arguments.
 pub(crate) const PAGES: &str = "The page is one self-contained HTML document: it loads nothing from
 elsewhere, and can be put on a web site as it is. The picture has a
 square for each allocation block, or for several if there are more than
@@ -184,7 +196,7 @@ directory (unsure if it is a guess), files, folders, the bytes of all,
 how many files are whole, and how many are damaged. The status is 3 if
 one of them is damaged, or the catalog is.";
 
-/// What stands behind the help text.
+/// What follows the help text.
 pub(crate) const AFTER_HELP: &str = "Exit statuses:
   0  done
   1  the words are refused

@@ -6,6 +6,7 @@ mod by_volume;
 mod commands;
 mod extracting;
 mod help;
+mod making;
 mod pages;
 mod progress;
 mod putting;
@@ -33,7 +34,7 @@ fn main(rt: HostRuntime) -> ExitCode {
     ExitCode::from(answer(&rt, &rt))
 }
 
-/// Reads the words and does what they ask for, by threads where it has many callers. Answers the exit status.
+/// Reads the command line and does what it asks for, with threads if it has many callers. Returns the exit status.
 fn answer<T: Threads + Wait + Sync>(rt: &HostRuntime, threads: &T) -> u8 {
     let Ok(arguments) = env::args(rt) else {
         return refused(rt, &Fault::WordsNotText);
@@ -47,7 +48,8 @@ fn answer<T: Threads + Wait + Sync>(rt: &HostRuntime, threads: &T) -> u8 {
     }
 }
 
-/// Does what the words ask for, and tells at a terminal what a refused image is. Without words a terminal gets the help: nobody types a volume there.
+/// Does what the words ask for and, at a terminal, prints what a refused image is. Without words, a terminal gets the help:
+/// nobody types a volume there.
 fn answer_words<T: Threads + Wait + Sync>(rt: &HostRuntime, threads: &T, words: &Words<'_>) -> u8 {
     if words.is_standard_input() && rt.stdin().is_terminal() {
         return print_help(rt);
@@ -59,7 +61,7 @@ fn answer_words<T: Threads + Wait + Sync>(rt: &HostRuntime, threads: &T, words: 
     status
 }
 
-/// Does what the words ask for, and prints the fault where it isn't done, with what more there is to it at a terminal.
+/// Does what the words ask for, and prints the fault if it isn't done, with what else there is to say about it at a terminal.
 fn obey_words<T: Threads + Wait + Sync>(rt: &HostRuntime, threads: &T, words: &Words<'_>) -> u8 {
     match obey(rt, threads, words) {
         Ok(status) => status,
@@ -73,14 +75,15 @@ fn obey_words<T: Threads + Wait + Sync>(rt: &HostRuntime, threads: &T, words: &W
     }
 }
 
-/// Tells at a terminal what the image is that the words look at, where its bytes say it.
+/// Prints, at a terminal, what the image is that the words look at, if its bytes say.
 fn tell_looked_at(rt: &HostRuntime, words: &Words<'_>) {
     if let Some(image) = words.looked_at() {
         tell_kind(rt, image.path, image.volume);
     }
 }
 
-/// Prints why the words are refused, or the help that was asked for; and how an item is named by its path, where a path stands in the place of an ID.
+/// Prints why the command line is refused, or the help that was asked for; and how an item is named by its path, if a path is in
+/// place of an ID.
 fn refuse_words(rt: &HostRuntime, words: &[String], fault: &WordsFault) -> u8 {
     let status = refused_words(rt, fault);
     if status == Status::WordsRefused.number() && has_bare_path(words) {

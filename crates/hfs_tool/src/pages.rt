@@ -17,8 +17,8 @@ use hfs_take::{image_digest, image_name};
 use std::alloc::Global;
 use std::io::{Read, Seek};
 
-/// Prints the page of an image, or of the volume with this number that lies in it. Links that no URL
-/// of a server or of a page may begin are refused, as words are.
+/// Prints the page of an image, or of the volume with this number in it. A URL that no link to a server or from a page may begin
+/// with is refused, like a wrong command line.
 pub fn print_page<'a>(rt: &HostRuntime, words: &PageWords<'a>) -> Result<u8, Fault<'a>> {
     match words.base {
         Some(base) if !is_base(base.as_bytes()) => Ok(print_refused_base(rt)),
@@ -26,7 +26,7 @@ pub fn print_page<'a>(rt: &HostRuntime, words: &PageWords<'a>) -> Result<u8, Fau
     }
 }
 
-/// Prints which URLs links may begin with, and answers the exit status.
+/// Prints which URLs links may begin with, and returns the exit status.
 fn print_refused_base(rt: &HostRuntime) -> u8 {
     Status::WordsRefused.after(println!(rt;
         "--base wants a URL that begins with http: or https:, or is relative"
@@ -58,7 +58,7 @@ fn print_refused_image<'a>(
     print_refused_page(rt, &texts_of(words, name, digest), why)
 }
 
-/// What the page says of the image beside its volume.
+/// What the page says about the image besides its volume.
 fn texts_of<'a>(words: &PageWords<'a>, name: &'a str, digest: Option<&'a str>) -> PageTexts<'a> {
     let image = PageImage {
         name: name.as_bytes(),
@@ -68,7 +68,7 @@ fn texts_of<'a>(words: &PageWords<'a>, name: &'a str, digest: Option<&'a str>) -
     standard_texts(VERSION.as_bytes(), image)
 }
 
-/// The bytes of a text, where there is one.
+/// The bytes of a text, if there is one.
 fn bytes_of<'a>(text: Option<&'a str>) -> Option<&'a [u8]> {
     match text {
         Some(text) => Some(text.as_bytes()),
@@ -76,7 +76,7 @@ fn bytes_of<'a>(text: Option<&'a str>) -> Option<&'a [u8]> {
     }
 }
 
-/// Prints the page of an image, with its digest where this is asked for.
+/// Prints the page of an image, with its digest if that is asked for.
 fn print_page_of<'a, F: Read + Seek + Drop>(
     rt: &HostRuntime,
     words: &PageWords<'a>,
@@ -110,8 +110,8 @@ fn digits_of<'a, F: Read + Seek + Drop>(
     }
 }
 
-/// Prints the page of an image, with these texts beside its volume; of what may be one of several ranges nothing is looked for where it is
-/// refused.
+/// Prints the page of an image, with these texts besides its volume. If it is refused and may be one of several ranges, nothing
+/// is looked for in it.
 fn print_told_page<'a, F: Read + Seek + Drop>(
     rt: &HostRuntime,
     words: &PageWords<'a>,
@@ -133,7 +133,7 @@ fn print_told_page<'a, F: Read + Seek + Drop>(
     }
 }
 
-/// Prints the page of an image that is opened, or of its fault alone where it is refused.
+/// Prints the page of an image that is opened, or only of its fault if it is refused.
 fn print_unsought_page<'a, F: Read + Seek + Drop>(
     rt: &HostRuntime,
     words: &PageWords<'a>,
@@ -147,7 +147,7 @@ fn print_unsought_page<'a, F: Read + Seek + Drop>(
     }
 }
 
-/// Prints the page of an image that was not opened, where it is refused.
+/// Prints the page of an image that was not opened, if it is refused.
 fn print_unopened_page<'a>(
     rt: &HostRuntime,
     words: &PageWords<'a>,
@@ -161,7 +161,7 @@ fn print_unopened_page<'a>(
     }
 }
 
-/// Prints the page of what is found of an image that is refused, or of its fault alone where nothing is.
+/// Prints the page of what is found of an image that is refused, or only of its fault if nothing is.
 fn print_remains_page<S: PlacedBlocks + Drop>(
     rt: &HostRuntime,
     image: &str,

@@ -1,5 +1,4 @@
-//! What long work shows while it goes on: one line on standard error that is written over again and again, where standard error
-//! is a terminal.
+//! What long work shows while it goes on: one line on standard error that is rewritten, if standard error is a terminal.
 
 use hfs_commands::Gate;
 use hfs_console::Line;
@@ -16,10 +15,10 @@ const ITEMS_SHOWN: u64 = 100;
 /// After how many bytes of forks the line is written.
 const BYTES_SHOWN: u64 = 4_194_304;
 
-/// How few bytes a script of a thousand calls has: its shortest line has nine.
+/// How few bytes a script of a thousand calls can have: its shortest line has nine.
 const SCRIPT_SHOWN: usize = 9_000;
 
-/// The progress of a run: the last worker that came to another 1,000 of its calls.
+/// The progress of a run: the last worker that reached another 1,000 of its calls.
 #[derive(Drop)]
 pub struct Progress<'a> {
     pub rt: &'a HostRuntime,
@@ -27,10 +26,10 @@ pub struct Progress<'a> {
 }
 
 impl Progress<'_> {
-    /// Takes the line away, where a script of so many bytes may have shown one.
+    /// Removes the line, if a script of this length may have shown one.
     pub fn end(&self, script: usize) {
         if self.is_shown && script >= SCRIPT_SHOWN {
-            // Where the terminal takes nothing more, the run goes on.
+            // If the terminal takes nothing more, the run goes on.
             let _printed = eprint!(self.rt; "\r\x1b[K");
         }
     }
@@ -43,27 +42,27 @@ impl Gate for Progress<'_> {
 
     fn after(&self, worker: u32, stamp: u64) {
         if self.is_shown && stamp % CALLS_SHOWN == 0 {
-            // Where the terminal takes nothing more, the run goes on.
+            // If the terminal takes nothing more, the run goes on.
             let _printed = eprint!(self.rt; "\rworker {worker}: {stamp} calls\x1b[K");
         }
     }
 }
 
-/// The progress of a volume that is taken off: how many of how many items came, and how many bytes of how many of the last one.
+/// The progress of taking a volume: how many items of how many have come, and how many bytes of the last one of how many.
 #[derive(Drop)]
 pub struct ItemProgress<'a> {
     line: Line<'a>,
     number: Cell<u64>,
     all: Cell<u64>,
-    /// The bytes of the last item, and how many of them came.
+    /// The bytes of the last item, and how many of them have come.
     bytes: Cell<u64>,
     came: Cell<u64>,
-    /// How many bytes came since the line was written.
+    /// How many bytes have come since the line was last written.
     fresh: Cell<u64>,
 }
 
 impl<'a> ItemProgress<'a> {
-    /// The progress that standard error shows.
+    /// The progress, shown on standard error.
     pub fn on(rt: &'a HostRuntime) -> ItemProgress<'a> {
         ItemProgress {
             line: Line::on(rt),
@@ -75,12 +74,12 @@ impl<'a> ItemProgress<'a> {
         }
     }
 
-    /// Takes the line away.
+    /// Removes the line.
     pub fn end(&self) {
         self.line.end();
     }
 
-    /// Writes how far it is.
+    /// Shows how far it is.
     fn show(&self) {
         self.fresh.set(0);
         let (number, all) = (self.number.get(), self.all.get());
@@ -115,12 +114,12 @@ pub struct ByteProgress<'a> {
     line: Line<'a>,
     all: Cell<u64>,
     came: Cell<u64>,
-    /// How many bytes came since the line was written.
+    /// How many bytes have come since the line was last written.
     fresh: Cell<u64>,
 }
 
 impl<'a> ByteProgress<'a> {
-    /// The progress that standard error shows.
+    /// The progress, shown on standard error.
     pub fn on(rt: &'a HostRuntime) -> ByteProgress<'a> {
         ByteProgress {
             line: Line::on(rt),
@@ -130,12 +129,12 @@ impl<'a> ByteProgress<'a> {
         }
     }
 
-    /// A file of so many bytes is written.
+    /// A file of `all` bytes is written.
     pub fn begin(&self, all: u64) {
         self.all.set(all);
     }
 
-    /// Takes the line away.
+    /// Removes the line.
     pub fn end(&self) {
         self.line.end();
     }

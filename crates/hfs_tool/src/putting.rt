@@ -12,7 +12,7 @@ use hfs_word_put::{PutFault, PutImage, PutOrder, date_of, put_lines, put_sources
 use std::fs::File;
 use std::time::SystemTime;
 
-/// What a file is to hold in which something was put on a volume.
+/// The contents of a file with what was put on a volume in it.
 type Put<'w, 'r> = PutImage<
     'w,
     WatchedImage<File>,
@@ -20,8 +20,8 @@ type Put<'w, 'r> = PutImage<
     ByteProgress<'r>,
 >;
 
-/// Puts files and folders on a volume, and prints how much came. The changed image is written before; where that fails, or something
-/// can't be put, only that is printed.
+/// Puts files and folders on a volume, and prints how much was put. The changed image is written first; if that fails, or
+/// something can't be put, only that is printed.
 pub fn put_on_volume<'a>(rt: &HostRuntime, words: &PutWords<'a>) -> Result<u8, Fault<'a>> {
     let progress = ByteProgress::on(rt);
     match put_at(rt, words, &progress) {
@@ -30,8 +30,8 @@ pub fn put_on_volume<'a>(rt: &HostRuntime, words: &PutWords<'a>) -> Result<u8, F
     }
 }
 
-/// The moment of the calls: the one that is given, or the clock's. A clock that is set before 1970 counts as at its beginning.
-fn moment(rt: &HostRuntime, given: Option<u32>) -> u32 {
+/// The moment of the calls: the given one, or the clock's. A clock that is set before 1970 counts as set to its beginning.
+pub fn moment(rt: &HostRuntime, given: Option<u32>) -> u32 {
     match given {
         Some(now) => now,
         None => match SystemTime::now(rt) {
@@ -41,7 +41,7 @@ fn moment(rt: &HostRuntime, given: Option<u32>) -> u32 {
     }
 }
 
-/// What a file is to hold with what is put on its volume.
+/// The contents of a file with what is put on its volume.
 fn put_at<'w, 'r, 'a>(
     rt: &'r HostRuntime,
     words: &PutWords<'a>,
@@ -72,8 +72,8 @@ fn put_at<'w, 'r, 'a>(
     )
 }
 
-/// Writes the changed image to its file, and prints how much came. The lines are made before, so that nothing is written where there
-/// is no memory for them.
+/// Writes the changed image to its file, and prints how much was put. The lines are made first, so that nothing is written if
+/// there is no memory for them.
 fn save_put<'a>(
     rt: &HostRuntime,
     words: &PutWords<'a>,
@@ -101,8 +101,8 @@ fn save_put<'a>(
     }
 }
 
-/// Prints why nothing was put, and answers the exit status. A fault of the image is handed on.
-fn print_fault<'a>(rt: &HostRuntime, fault: PutFault<'a>) -> Result<u8, Fault<'a>> {
+/// Prints why nothing was put, and returns the exit status. A fault of the image is handed on.
+pub fn print_fault<'a>(rt: &HostRuntime, fault: PutFault<'a>) -> Result<u8, Fault<'a>> {
     let status = fault.status();
     match fault {
         PutFault::Image(why) => Err(why),

@@ -6,6 +6,7 @@ mod extract;
 mod info;
 mod items;
 mod list;
+mod make;
 mod new;
 mod page;
 mod places;
@@ -28,6 +29,7 @@ use hfs_console::{VERSION, WordsFault, refused_words};
 use info::{info_command, info_words};
 use items::{items_command, items_words};
 use list::{list_command, list_words};
+use make::{make_command, make_words};
 use new::{new_command, new_words};
 use page::{page_command, page_words};
 use put::{put_command, put_words};
@@ -64,7 +66,8 @@ fn command<'a>(alloc: Global) -> Result<Command<'a>, AllocError> {
     let with_new = with_word(with_rescue, new_command(alloc));
     let with_repair = with_word(with_new, repair_command(alloc));
     let with_run = with_word(with_repair, run_command(alloc));
-    with_word(with_run, put_command(alloc))
+    let with_put = with_word(with_run, put_command(alloc));
+    with_word(with_put, make_command(alloc))
 }
 
 /// The program's command, with no word yet.
@@ -72,7 +75,7 @@ fn bare_command<'a>(alloc: Global) -> Result<Command<'a>, AllocError> {
     TOOL.command(alloc)
 }
 
-/// Reads the words, the first of which is the program's own name.
+/// Reads the command line, whose first word is the program's own name.
 pub fn read_words<'a>(alloc: Global, words: &'a [String]) -> Result<Words<'a>, WordsFault> {
     if is_collect(words) {
         return Err(WordsFault::Moved {
@@ -84,17 +87,17 @@ pub fn read_words<'a>(alloc: Global, words: &'a [String]) -> Result<Words<'a>, W
     words_of(alloc, &matches)
 }
 
-/// What the program's command finds in the words.
+/// What the program's command finds in the command line.
 fn matches_of<'a>(alloc: Global, words: &'a [String]) -> Result<ArgMatches<'a>, Error> {
     command(alloc)?.try_get_matches_from(words)
 }
 
-/// What the program's command answers where its help is asked for.
+/// What the program's command answers when its help is asked for.
 fn help_of<'a>(alloc: Global) -> Result<ArgMatches<'a>, Error> {
     command(alloc)?.try_get_matches_from(&["hfs_tool", "--help"])
 }
 
-/// Prints the program's help, and answers the exit status.
+/// Prints the program's help, and returns the exit status.
 pub fn print_help(rt: &HostRuntime) -> u8 {
     match help_of(rt.alloc()) {
         Ok(_matches) => Status::Done.number(),
@@ -102,7 +105,7 @@ pub fn print_help(rt: &HostRuntime) -> u8 {
     }
 }
 
-/// Whether a path stands behind the image of `ls` or `cat`, where the ID of a folder is wanted.
+/// Whether a path follows the image of `ls` or `cat`, where the ID of a folder is wanted.
 pub fn has_bare_path(words: &[String]) -> bool {
     match (words.get(1), words.get(3)) {
         (Some(word), Some(place)) => {
@@ -112,7 +115,7 @@ pub fn has_bare_path(words: &[String]) -> bool {
     }
 }
 
-/// Whether the first word is that of another program, whatever stands behind it.
+/// Whether the first word is that of another program, whatever follows it.
 fn is_collect(words: &[String]) -> bool {
     match words.get(1) {
         Some(word) => word.as_str() == "collect",
@@ -120,16 +123,17 @@ fn is_collect(words: &[String]) -> bool {
     }
 }
 
-/// What the words ask for, by what was found in them.
+/// What the command line asks for, from what was found in it.
 fn words_of<'a>(alloc: Global, matches: &ArgMatches<'a>) -> Result<Words<'a>, WordsFault> {
     match matches.subcommand() {
         Some(("put", inner)) => put_words(alloc, inner),
+        Some(("make", inner)) => make_words(alloc, inner),
         Some((word, inner)) => Ok(words_behind(word, inner)?),
         None => Ok(Words::StandardInput),
     }
 }
 
-/// What the words ask for behind the first of them, which takes no list.
+/// What the words after the first one ask for, if that takes no list.
 fn words_behind<'a>(word: &str, inner: &ArgMatches<'a>) -> Result<Words<'a>, NoValue> {
     match word {
         "info" => info_words(inner),

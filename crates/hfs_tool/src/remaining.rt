@@ -1,4 +1,4 @@
-//! What is found of a refused image, as the words show it that read a sound one.
+//! What is found of a refused image, shown as the words show a sound one.
 
 use crate::commands::print_code;
 use crate::words::{ForkPathWords, PathWords};
@@ -19,7 +19,7 @@ use std::fs::File;
 /// The blocks of a part of a file.
 pub type Part = BlocksOf<RangeBytes<OpenedFile<File>>>;
 
-/// What comes of a look: a sound image, or a refused one.
+/// The result of a look: a sound image, or a refused one.
 pub type Looked = Result<PartImage<File>, RefusedImage<Part>>;
 
 /// What is looked at of a file, and whether it is the only range that it may be.
@@ -28,7 +28,7 @@ pub struct Chosen {
     pub is_one: bool,
 }
 
-/// Whether all bytes of what was opened are held, as a pipe's.
+/// Whether all bytes of what was opened are held, such as those of a pipe.
 fn is_held(file: &OpenedFile<File>) -> bool {
     match file {
         OpenedFile::Plain(StoredFile::Whole(_)) => true,
@@ -36,8 +36,8 @@ fn is_held(file: &OpenedFile<File>) -> bool {
     }
 }
 
-/// What is looked at of a file in which no volume was found: the only range that lies in it, also one without a volume, else the file as
-/// it is.
+/// What is looked at of a file in which no volume was found: the only range in it, even one without a volume; otherwise the file
+/// as it is.
 fn choose_range<'a>(
     alloc: Global,
     file: Window<OpenedFile<File>>,
@@ -58,7 +58,8 @@ fn choose_range<'a>(
     })
 }
 
-/// What is looked at of an image: the volume that is asked for, or that lies alone in it; where none does, what `rescue` would take.
+/// What is looked at of an image: the volume that is asked for, or that is the only one in it; if there is none, what `rescue`
+/// would take.
 pub fn choose<'a>(
     rt: &HostRuntime,
     path: &'a str,
@@ -74,7 +75,7 @@ pub fn choose<'a>(
     choose_range(rt.alloc(), bytes, path)
 }
 
-/// Opens what holds several ranges and no volume, which is refused.
+/// Opens something that holds several ranges and no volume, which is refused.
 fn open_several<'a>(
     rt: &HostRuntime,
     part: Window<OpenedFile<File>>,
@@ -86,8 +87,8 @@ fn open_several<'a>(
     }
 }
 
-/// Looks at an image, or at the volume in it that is asked for: opens it once, makes all checks, and where it is refused finds what
-/// remains of it.
+/// Looks at an image, or at the volume in it that is asked for: opens it once, makes all checks, and, if it is refused, finds
+/// what remains of it.
 pub fn look_at<'a>(
     rt: &HostRuntime,
     path: &'a str,
@@ -112,8 +113,8 @@ fn rescue_words<'a>(image: &'a str, volume: Option<u64>) -> RescueWords<'a> {
     }
 }
 
-/// Prints on standard error why an image is refused of which something was shown, and what that means. A program that can't say so
-/// has failed.
+/// Prints on standard error why an image of which something was shown is refused, and what that means. A program that can't print
+/// that has failed.
 fn tell_refused(rt: &HostRuntime, why: MountFault, status: u8) -> Result<u8, Fault<'static>> {
     let fault = Fault::Refused(why);
     let Ok(()) = eprintln!(rt; "{fault}") else {
@@ -123,7 +124,7 @@ fn tell_refused(rt: &HostRuntime, why: MountFault, status: u8) -> Result<u8, Fau
     Ok(status)
 }
 
-/// Prints the code of a path that leads to nothing of the kind, and answers the exit status.
+/// Prints the code of a path that leads to nothing of that kind, and returns the exit status.
 fn print_end(rt: &HostRuntime, told: Result<u8, Reply>) -> Result<u8, Fault<'static>> {
     match told {
         Ok(status) => Ok(status),
@@ -131,7 +132,7 @@ fn print_end(rt: &HostRuntime, told: Result<u8, Reply>) -> Result<u8, Fault<'sta
     }
 }
 
-/// What remains of a refused image. Where nothing does, its refusal is the fault.
+/// What remains of a refused image. If nothing does, its refusal is the fault.
 fn find(rt: &HostRuntime, refused: RefusedImage<Part>) -> Result<Remains<Part>, Fault<'static>> {
     let why = refused.why;
     match remains_of(rt.alloc(), refused) {
@@ -141,7 +142,7 @@ fn find(rt: &HostRuntime, refused: RefusedImage<Part>) -> Result<Remains<Part>, 
     }
 }
 
-/// Prints the table of what is found of a refused image, and behind it on standard error why it is refused.
+/// Prints the table of what is found of a refused image, and then on standard error why it is refused.
 pub fn show_items<'a>(
     rt: &HostRuntime,
     image: &'a str,
@@ -156,8 +157,8 @@ pub fn show_items<'a>(
     tell_refused(rt, why, status)
 }
 
-/// Prints the page of what is found of a refused image, and behind it on standard error why it is refused; None where nothing is found,
-/// and nothing is printed.
+/// Prints the page of what is found of a refused image, and then on standard error why it is refused; None if nothing is found,
+/// and then nothing is printed.
 pub fn show_page<S: PlacedBlocks + Drop>(
     rt: &HostRuntime,
     image: &str,
@@ -178,7 +179,7 @@ pub fn show_page<S: PlacedBlocks + Drop>(
     }
 }
 
-/// Prints the rows of the folder of a refused image that a path leads to, or the code that refuses the path; and behind them on
+/// Prints the rows of the folder of a refused image that a path leads to, or the code that refuses the path; then prints on
 /// standard error why the image is refused.
 pub fn show_folder<'a>(
     rt: &HostRuntime,
@@ -201,8 +202,8 @@ fn kind_of(fork: Fork) -> ForkKind {
     }
 }
 
-/// Prints the bytes that are found of a fork of the file of a refused image that a path leads to, or the code that refuses the path; and
-/// behind them on standard error why the image is refused.
+/// Prints the bytes that are found of a fork of the file of a refused image that a path leads to, or the code that refuses the
+/// path; then prints on standard error why the image is refused.
 pub fn show_fork<'a>(
     rt: &HostRuntime,
     file: &ForkPathWords<'a>,

@@ -7,14 +7,15 @@ use hfs_commands::Fault;
 use hfs_console::{print_lines, tell_sum};
 use hfs_salvage::{BagWords, RescueWords, Rescued, list_rescue, rescue};
 
-/// Prints what is told of an image of which something remains, and answers the exit status.
+/// Prints the answer for an image of which something remains, and returns the exit status.
 fn print_answer(rt: &HostRuntime, image: &str, rescued: &Rescued) -> Result<u8, Fault<'static>> {
     tell_sum(rt, image, rescued.sum == Some(false));
     print_lines(rt, rescued.answer.lines.as_str())?;
     Ok(rescued.answer.status)
 }
 
-/// Takes what remains off a volume, and prints what is told of it, or why the folder was not made. Faults: those of the image, which aren't printed here.
+/// Rescues what remains of a volume, and prints the answer, or why the folder was not made. Faults: those of the image, which
+/// aren't printed here.
 pub fn rescue_volume<'a>(rt: &HostRuntime, words: &BagWords<'a>) -> Result<u8, Fault<'a>> {
     let left = left_beside(rt, words.folder)?;
     let progress = ItemProgress::on(rt);
@@ -27,7 +28,7 @@ pub fn rescue_volume<'a>(rt: &HostRuntime, words: &BagWords<'a>) -> Result<u8, F
     }
 }
 
-/// Prints a line for each item that remains of a volume, and what is told of it.
+/// Prints a line for each item that remains of a volume, and the answer.
 pub fn list_remains<'a>(rt: &HostRuntime, words: &RescueWords<'a>) -> Result<u8, Fault<'a>> {
     let rescued = list_rescue(rt, &mut rt.stdout(), words)?;
     print_answer(rt, words.image, &rescued)

@@ -15,7 +15,7 @@ use std::sync::Wait;
 use std::thread::Threads;
 
 /// Runs a script on an image, or on the volume in it that is asked for, and prints the answers. The changed image is written
-/// before the first line is printed; where that fails, only the fault is printed.
+/// before the first line is printed; if that fails, only the fault is printed.
 pub fn run_script_of<'a, T: Threads + Wait + Sync>(
     rt: &HostRuntime,
     threads: &T,
@@ -44,7 +44,7 @@ fn run_on_image<'a, T: Threads + Wait + Sync>(
     }
 }
 
-/// Runs a script on a volume in a file. What is written is the file, with the volume changed.
+/// Runs a script on a volume in a file. The file is written, with the volume changed.
 fn run_on_volume<'a, T: Threads + Wait + Sync>(
     rt: &HostRuntime,
     threads: &T,
@@ -58,7 +58,7 @@ fn run_on_volume<'a, T: Threads + Wait + Sync>(
     print_ran_image(rt, run, image, &ran.answers, ran.whole)
 }
 
-/// The progress of a run that standard error shows.
+/// The progress of a run, shown on standard error.
 fn progress(rt: &HostRuntime) -> Progress<'_> {
     Progress {
         rt,
@@ -90,7 +90,7 @@ fn run_whole<'a, T: Threads + Wait + Sync>(
     }
 }
 
-/// Writes the changed image to its file, where one is given, and prints the answers.
+/// Writes the changed image to its file, if one is given, and prints the answers.
 fn print_ran<'a>(rt: &HostRuntime, out: Option<&'a str>, ran: &Ran) -> Result<u8, Fault<'a>> {
     let leftover = match out {
         Some(file) => save(rt, file, &ran.volume)?,
@@ -99,7 +99,7 @@ fn print_ran<'a>(rt: &HostRuntime, out: Option<&'a str>, ran: &Ran) -> Result<u8
     print_answers(rt, ran.text.as_str(), ran.whole, &leftover)
 }
 
-/// Runs a script on an image of so many bytes, of which only what the script needs is read. A refused image is a fault once the
+/// Runs a script on an image of `len` bytes, of which only what the script needs is read. A refused image is a fault once the
 /// script was read.
 fn run_by_need<'a, T: Threads + Wait + Sync, S: Watched + Drop>(
     rt: &HostRuntime,
@@ -122,7 +122,7 @@ fn run_by_need<'a, T: Threads + Wait + Sync, S: Watched + Drop>(
     }
 }
 
-/// Writes the changed image to its file as it is read, where one is given, and prints the answers.
+/// Writes the changed image to its file while it is read, if one is given, and prints the answers.
 fn print_ran_image<'a, C: ReadContents + Drop>(
     rt: &HostRuntime,
     run: &RunWords<'a>,
@@ -139,7 +139,7 @@ fn print_ran_image<'a, C: ReadContents + Drop>(
     Ok(end(rt, whole, &leftover))
 }
 
-/// Prints the answers to a script, and tells of a file beside the written one that was there already.
+/// Prints the answers to a script, and reports a file next to the written one that was already there.
 fn print_answers(
     rt: &HostRuntime,
     text: &str,
@@ -150,7 +150,7 @@ fn print_answers(
     Ok(end(rt, whole, leftover))
 }
 
-/// Tells of a file beside the written one that was there already, and answers the exit status of a run.
+/// Reports a file next to the written one that was already there, and returns the exit status of a run.
 fn end(rt: &HostRuntime, whole: bool, leftover: &Option<Leftover>) -> u8 {
     tell(rt, leftover);
     Status::of_run(whole).number()

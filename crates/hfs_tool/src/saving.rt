@@ -1,12 +1,12 @@
-//! Files and folders that are written, and what is told of those beside them.
+//! Writing files and folders, and reporting those next to them.
 
 use hfs_commands::{
     Contents, Fault, Leftover, ReadContents, Saved, save_file, save_new, save_read,
 };
 use hfs_take::left_folder;
 
-/// Writes a file, and answers which file beside it was left by a run that was stopped, if any was
-/// there. Where the write fails, that one is told before the fault.
+/// Writes a file, and returns the file next to it that an interrupted run left, if any. If the write fails, that one is reported
+/// before the fault.
 pub fn save<'a, C: Contents>(
     rt: &HostRuntime,
     file: &'a str,
@@ -15,8 +15,7 @@ pub fn save<'a, C: Contents>(
     written(rt, save_file(rt, file, contents))
 }
 
-/// Writes a file as [`save`] does, of contents that are read from the file `source` as they are
-/// written.
+/// Writes a file as [`save`] does, from contents that are read from the file `source` while they are written.
 pub fn save_as_read<'a, C: ReadContents>(
     rt: &HostRuntime,
     file: &'a str,
@@ -26,7 +25,7 @@ pub fn save_as_read<'a, C: ReadContents>(
     written(rt, save_read(rt, file, source, contents))
 }
 
-/// Makes a file as [`save_new`] does, of contents that are read from the file `source` as they are written.
+/// Makes a file as [`save_new`] does, from contents that are read from the file `source` while they are written.
 pub fn save_as_new<'a, C: ReadContents>(
     rt: &HostRuntime,
     file: &'a str,
@@ -36,7 +35,7 @@ pub fn save_as_new<'a, C: ReadContents>(
     written(rt, save_new(rt, file, source, contents))
 }
 
-/// The folder beside this one that a run left that was stopped, if any is there.
+/// The folder next to this one that an interrupted run left, if any.
 pub fn left_beside(rt: &HostRuntime, folder: &str) -> Result<Option<Leftover>, Fault<'static>> {
     match left_folder(rt, folder) {
         Ok(Some(path)) => Ok(Some(Leftover { path })),
@@ -45,7 +44,7 @@ pub fn left_beside(rt: &HostRuntime, folder: &str) -> Result<Option<Leftover>, F
     }
 }
 
-/// What is told of how a file was written.
+/// Reports how writing a file went.
 fn written<'a>(rt: &HostRuntime, saved: Saved<'a>) -> Result<Option<Leftover>, Fault<'a>> {
     match saved.written {
         Ok(()) => Ok(saved.leftover),
@@ -56,8 +55,8 @@ fn written<'a>(rt: &HostRuntime, saved: Saved<'a>) -> Result<Option<Leftover>, F
     }
 }
 
-/// Tells on standard error of a file or a folder that a run left that was stopped. Where nothing more can be
-/// written there, the program goes on.
+/// Reports on standard error a file or a folder that an interrupted run left. If nothing more can be written there, the program
+/// goes on.
 pub fn tell(rt: &HostRuntime, leftover: &Option<Leftover>) {
     if let Some(leftover) = leftover {
         let _printed = eprintln!(rt; "{leftover}");

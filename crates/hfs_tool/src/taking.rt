@@ -1,4 +1,4 @@
-//! What a volume that is taken apart shows.
+//! What taking a volume shows.
 
 use crate::progress::ItemProgress;
 use crate::saving::{left_beside, tell};
@@ -7,7 +7,7 @@ use hfs_console::{print_lines, tell_sum};
 use hfs_take::{BagSums, TakeFault, TakeWords, Taken, take, taken_text};
 use std::thread::Threads;
 
-/// Takes a volume apart, and prints what the folder has then.
+/// Takes a volume, and prints what the folder then holds.
 pub fn take_volume<'a, T: Threads>(
     rt: &HostRuntime,
     threads: &T,
@@ -21,7 +21,7 @@ pub fn take_volume<'a, T: Threads>(
     print_taken(rt, words.image, taken)
 }
 
-/// Prints what the folder has, or why it was not made. Faults: those of the image, which aren't printed here.
+/// Prints what the folder holds, or why it was not made. Faults: those of the image, which aren't printed here.
 fn print_taken<'a>(
     rt: &HostRuntime,
     image: &str,
@@ -36,7 +36,7 @@ fn print_taken<'a>(
     }
 }
 
-/// Prints how much a bag has.
+/// Prints how much a bag holds.
 fn print_sums(rt: &HostRuntime, sums: &BagSums) -> Result<u8, Fault<'static>> {
     let Ok(text) = taken_text(rt.alloc(), sums) else {
         return Err(Fault::NoMemory);
@@ -45,7 +45,7 @@ fn print_sums(rt: &HostRuntime, sums: &BagSums) -> Result<u8, Fault<'static>> {
     Ok(Status::Done.number())
 }
 
-/// Prints why a folder was not made, and answers the exit status. A fault of the image is handed on.
+/// Prints why a folder was not made, and returns the exit status. A fault of the image is handed on.
 pub fn print_fault<'a>(rt: &HostRuntime, fault: TakeFault<'a>) -> Result<u8, Fault<'a>> {
     match fault {
         TakeFault::Image(why) => Err(why),

@@ -1,11 +1,11 @@
-//! What the words do on volumes that lie in files.
+//! What the words do with volumes inside files.
 
 use crate::commands::print_info;
 use hfs_commands::{Fault, Status, Window, content_of, open_file, open_part, volume_lines};
 use hfs_console::print_lines;
 use hfs_source::PlacedBytes;
 
-/// Prints a line for each volume that lies in a file.
+/// Prints a line for each volume inside a file.
 pub fn print_volumes<'a>(rt: &HostRuntime, path: &'a str) -> Result<u8, Fault<'a>> {
     let file = open_file(rt, path)?;
     let Window {

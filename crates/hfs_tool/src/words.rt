@@ -9,25 +9,25 @@ use hfs_take::TakeWords;
 /// What the words ask for.
 #[derive(Drop)]
 pub enum Words<'a> {
-    /// No words: the fields of the master directory block that standard input has.
+    /// No words: the fields of the master directory block on standard input.
     StandardInput,
     /// `info IMAGE [--volume N]`: the fields of the master directory block.
     Info {
         image: &'a str,
         volume: Option<u64>,
     },
-    /// `check IMAGE [--volume N]`: what is told of the image.
+    /// `check IMAGE [--volume N]`: the report on the image.
     Check {
         image: &'a str,
         volume: Option<u64>,
     },
-    /// `ls IMAGE [DIR] [--volume N]`: a line for each child of the folder of that ID.
+    /// `ls IMAGE [DIR] [--volume N]`: a line for each child of the folder with that ID.
     List {
         image: &'a str,
         volume: Option<u64>,
         dir: u32,
     },
-    /// `ls IMAGE --path PATH [--volume N]`: the same of the folder that the path leads to.
+    /// `ls IMAGE --path PATH [--volume N]`: the same for the folder that the path leads to.
     ListAt(PathWords<'a>),
     /// `items IMAGE [--format tab|csv|json] [--volume N]`: a line for each item of the volume.
     Items {
@@ -35,17 +35,17 @@ pub enum Words<'a> {
         volume: Option<u64>,
         format: Format,
     },
-    /// `page IMAGE [--volume N] [--base URL] [--digest]`: a page of the volume, as a document of HTML.
+    /// `page IMAGE [--volume N] [--base URL] [--digest]`: a page of the volume, as an HTML document.
     Page(PageWords<'a>),
     /// `cat IMAGE DIR NAME [--resource] [--volume N]`: the bytes of a file's fork.
     Cat(ForkWords<'a>),
-    /// `cat IMAGE --path PATH [--resource] [--volume N]`: the same of the file that the path leads to.
+    /// `cat IMAGE --path PATH [--resource] [--volume N]`: the same for the file that the path leads to.
     CatAt(ForkPathWords<'a>),
     /// `cat IMAGE DIR NAME --macbinary [--volume N]`: a file with both forks.
     MacBinary(FileWords<'a>),
-    /// `cat IMAGE --path PATH --macbinary [--volume N]`: the same of the file that the path leads to.
+    /// `cat IMAGE --path PATH --macbinary [--volume N]`: the same for the file that the path leads to.
     MacBinaryAt(PathWords<'a>),
-    /// `volumes FILE`: a line for each volume that lies in a file.
+    /// `volumes FILE`: a line for each volume inside a file.
     Volumes {
         file: &'a str,
     },
@@ -59,6 +59,8 @@ pub enum Words<'a> {
     RescueList(RescueWords<'a>),
     /// `new FILE NAME BLOCKS NODES EXTENTS [--now N]`: a new volume.
     New(NewVolume<'a>),
+    /// `make FILE SOURCE.. [--name NAME] [--size SIZE] [--now N] [--macbinary] [--rename]`: a new volume with files and folders.
+    Make(MakeWords<'a>),
     /// `repair IMAGE FILE [--volume N]`: the image with its counts mended.
     Repair(RepairWords<'a>),
     /// `run IMAGE SCRIPT [--now N] [--out FILE] [--volume N]`: the calls of a script.
@@ -72,9 +74,9 @@ pub enum Words<'a> {
 pub struct PageWords<'a> {
     /// The path of the image.
     pub image: &'a str,
-    /// The number of the volume in it, where one is asked for.
+    /// The number of the volume in it, if one is asked for.
     pub volume: Option<u64>,
-    /// The URL of the bag that the volume was taken into, where files are to be links.
+    /// The URL of the bag that the volume was taken into, if files are to be links.
     pub base: Option<&'a str>,
     /// Whether the page has the image's digest.
     pub is_digested: bool,
@@ -85,20 +87,20 @@ pub struct PageWords<'a> {
 pub struct LookedAt<'a> {
     /// The path of the image.
     pub path: &'a str,
-    /// The number of the volume in it, where one is asked for.
+    /// The number of the volume in it, if one is asked for.
     pub volume: Option<u64>,
 }
 
 impl<'a> Words<'a> {
-    /// Whether nothing is asked for but what standard input has.
+    /// Whether only standard input is to be read.
     pub fn is_standard_input(&self) -> bool {
         matches!(self, Words::StandardInput)
     }
 
-    /// The image that the words look at; none where they take standard input, or make a volume.
+    /// The image that the words look at; None if they read standard input, or make a volume.
     pub fn looked_at(&self) -> Option<LookedAt<'a>> {
         let (path, volume) = match self {
-            Words::StandardInput | Words::New(_) => return None,
+            Words::StandardInput | Words::New(_) | Words::Make(_) => return None,
             Words::Info { image, volume }
             | Words::Check { image, volume }
             | Words::List { image, volume, .. }
@@ -126,7 +128,7 @@ impl<'a> Words<'a> {
 pub struct ForkWords<'a> {
     /// The path of the image.
     pub image: &'a str,
-    /// The number of the volume in it, where one is asked for.
+    /// The number of the volume in it, if one is asked for.
     pub volume: Option<u64>,
     /// The ID of the folder that holds the file.
     pub dir: u32,
@@ -141,7 +143,7 @@ pub struct ForkWords<'a> {
 pub struct FileWords<'a> {
     /// The path of the image.
     pub image: &'a str,
-    /// The number of the volume in it, where one is asked for.
+    /// The number of the volume in it, if one is asked for.
     pub volume: Option<u64>,
     /// The ID of the folder that holds the file.
     pub dir: u32,
@@ -154,7 +156,7 @@ pub struct FileWords<'a> {
 pub struct PathWords<'a> {
     /// The path of the image.
     pub image: &'a str,
-    /// The number of the volume in it, where one is asked for.
+    /// The number of the volume in it, if one is asked for.
     pub volume: Option<u64>,
     /// The path of the item.
     pub path: &'a str,
@@ -175,7 +177,7 @@ pub struct ExtractWords<'a> {
     pub file: &'a str,
     /// The path of the file that is made.
     pub out: &'a str,
-    /// The number of the volume, where one is asked for.
+    /// The number of the volume, if one is asked for.
     pub volume: Option<u64>,
 }
 
@@ -186,13 +188,13 @@ pub struct NewVolume<'a> {
     pub file: &'a str,
     /// The volume's name.
     pub name: &'a str,
-    /// Logical blocks of 512 bytes.
+    /// How many logical blocks of 512 bytes it has.
     pub blocks: u32,
-    /// Nodes of the catalog file.
+    /// How many nodes the catalog file has.
     pub catalog_nodes: u32,
-    /// Nodes of the extents file.
+    /// How many nodes the extents file has.
     pub extents_nodes: u32,
-    /// The moment of its making, in seconds since midnight of 1 January 1904.
+    /// The moment when it is made, in seconds since midnight, 1 January 1904.
     pub now: u32,
 }
 
@@ -201,7 +203,7 @@ pub struct NewVolume<'a> {
 pub struct RepairWords<'a> {
     /// The path of the image.
     pub image: &'a str,
-    /// The number of the volume in it, where one is asked for.
+    /// The number of the volume in it, if one is asked for.
     pub volume: Option<u64>,
     /// The path of the file that the mended image is written to.
     pub file: &'a str,
@@ -212,11 +214,11 @@ pub struct RepairWords<'a> {
 pub struct RunWords<'a> {
     /// The path of the image.
     pub image: &'a str,
-    /// The number of the volume in it, where one is asked for.
+    /// The number of the volume in it, if one is asked for.
     pub volume: Option<u64>,
     /// The path of the script.
     pub script: &'a str,
-    /// The moment of every change, in seconds since midnight of 1 January 1904.
+    /// The moment of every change, in seconds since midnight, 1 January 1904.
     pub now: u32,
     /// The path of the file that the changed image is written to.
     pub out: Option<&'a str>,
@@ -227,18 +229,35 @@ pub struct RunWords<'a> {
 pub struct PutWords<'a> {
     /// The path of the image.
     pub image: &'a str,
-    /// The number of the volume in it, where one is asked for.
+    /// The number of the volume in it, if one is asked for.
     pub volume: Option<u64>,
-    /// The paths of what comes, in order.
+    /// The paths of the sources, in order.
     pub sources: Vec<&'a str>,
     /// The path of the file that the changed image is written to.
     pub out: &'a str,
-    /// The path of the folder on the volume that they are put into; the root where it isn't given.
+    /// The path of the folder on the volume into which they are put; the root if none is given.
     pub to: Option<&'a str>,
+    /// How the sources are read.
+    pub how: PutOptions,
+    /// Whether files of the same name are replaced.
+    pub replace: bool,
+    /// The moment of every change, in seconds since midnight, 1 January 1904; the clock's if none is given.
+    pub now: Option<u32>,
+}
+
+/// A new volume that is made of files and folders.
+#[derive(Drop)]
+pub struct MakeWords<'a> {
+    /// The path of the file that it is written to.
+    pub file: &'a str,
+    /// The paths of what comes, in order.
+    pub sources: Vec<&'a str>,
+    /// Its name; where it isn't given, that of what comes.
+    pub name: Option<&'a str>,
+    /// Its size; where it isn't given, the least that suffices.
+    pub size: Option<&'a str>,
     /// How what comes is looked at.
     pub how: PutOptions,
-    /// Whether files that stand there are replaced.
-    pub replace: bool,
     /// The moment of every change, in seconds since midnight of 1 January 1904; the clock's where it isn't given.
     pub now: Option<u32>,
 }

@@ -1,4 +1,4 @@
-//! What is said of the forks of a damaged volume, and the table that tells it.
+//! The verdicts on the forks of a damaged volume, and their table.
 #![tactic(auto)]
 
 mod rows;

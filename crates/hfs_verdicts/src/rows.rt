@@ -7,7 +7,7 @@ use crate::verdict::Verdict;
 use crate::words::push_verdict;
 use std::alloc::{AllocError, Global};
 
-/// Appends what is said of the two forks, data before resources; dashes for a folder, which has none.
+/// Appends the verdicts on the two forks, data before resources; dashes for a folder, which has none.
 fn push_forks(
     alloc: Global,
     text: &mut String,
@@ -23,8 +23,9 @@ fn push_forks(
     push_verdict(alloc, text, resource)
 }
 
-/// Appends an item's line: its path below the payload, its number, its ID, and what is said of its two forks, data before resources
-/// (None of a folder), with tabs between. The only error is want of memory; a part of the line may have come then.
+/// Appends an item's line: its path below the payload, its number, its ID, and the verdicts on its two forks, data before
+/// resources (None for a folder), separated by tabs. Fails only when out of memory; a part of the line may have been appended
+/// then.
 pub fn push_row(
     alloc: Global,
     text: &mut String,

@@ -1,15 +1,15 @@
-//! What is said of a fork.
+//! The verdict on a fork.
 ghost use Rattle.std.specs.Prelude.{◌≡◌};
 ghost use Rattle.hfs_verdicts.specs.Verdicts as spec;
 
 /// What is found of a fork that is taken.
 #[derive(Clone, Copy, Debug, PartialEq, Eq)]
 pub struct Finding {
-    /// For how many bytes alone there are blocks, where these are fewer than its length.
+    /// How many bytes have blocks, if these are fewer than its length.
     pub cut: Option<u32>,
-    /// How many of its bytes are zeros for want of blocks.
+    /// How many of its bytes are zeros because their blocks are missing.
     pub missing: u32,
-    /// Whether a block that holds bytes of it holds others as well.
+    /// Whether a block with some of its bytes also has bytes of others.
     pub shared: bool,
 }
 
@@ -22,17 +22,17 @@ impl Finding {
     }
 }
 
-/// What is said of a fork.
+/// The verdict on a fork.
 #[derive(Clone, Copy, Debug, PartialEq, Eq)]
 pub enum Verdict {
-    /// It is left, since it would bring the bytes that are taken above the limit.
+    /// It is left out, since with it the bytes taken would exceed the limit.
     Left,
-    /// It is taken, and this is found of it: it is whole where that is nothing.
+    /// It is taken, with these findings; without any, it is whole.
     Taken(Finding),
 }
 
 impl Verdict {
-    /// Whether the fork is whole, as far as its blocks tell.
+    /// Whether the fork is whole, as far as its blocks show.
     pub fn is_whole(&self) -> bool
         ensures { result ≡ spec.is_whole self.now }
     {

@@ -6,7 +6,7 @@ ghost use Rattle.hfs_verdicts.specs.Verdicts as spec;
 use crate::verdict::{Finding, Verdict};
 use std::alloc::{AllocError, Global};
 
-/// Adds that a fork is cut, where it is.
+/// Adds that a fork is cut, if it is.
 fn push_cut(alloc: Global, words: &mut Vec<String>, cut: Option<u32>) -> Result<(), AllocError>
     ensures { OnOk result (map string_bytes words.new.items ≡ map string_bytes words.old.items
         ++ spec.cut_words cut) }
@@ -17,7 +17,7 @@ fn push_cut(alloc: Global, words: &mut Vec<String>, cut: Option<u32>) -> Result<
     Ok(())
 }
 
-/// Adds how many bytes are missing, where there are any.
+/// Adds how many bytes are missing, if there are any.
 fn push_missing(alloc: Global, words: &mut Vec<String>, missing: u32) -> Result<(), AllocError>
     ensures { OnOk result (map string_bytes words.new.items ≡ map string_bytes words.old.items
         ++ spec.missing_words missing) }
@@ -28,7 +28,7 @@ fn push_missing(alloc: Global, words: &mut Vec<String>, missing: u32) -> Result<
     Ok(())
 }
 
-/// Adds that blocks are shared, where one is.
+/// Adds that blocks are shared, if any is.
 fn push_shared(alloc: Global, words: &mut Vec<String>, shared: bool) -> Result<(), AllocError>
     ensures { OnOk result (map string_bytes words.new.items ≡ map string_bytes words.old.items
         ++ spec.shared_words shared) }
@@ -39,7 +39,7 @@ fn push_shared(alloc: Global, words: &mut Vec<String>, shared: bool) -> Result<(
     Ok(())
 }
 
-/// What is found of a fork, a word for each.
+/// The findings on a fork, in a word each.
 fn words_of(alloc: Global, finding: &Finding) -> Result<Vec<String>, AllocError>
     ensures { IfOk result (λ words. map string_bytes words.items ≡ spec.words_of finding.now) }
 {
@@ -50,7 +50,7 @@ fn words_of(alloc: Global, finding: &Finding) -> Result<Vec<String>, AllocError>
     Ok(words)
 }
 
-/// Words with commas between them, or `whole` where there are none.
+/// Words separated by commas, or `whole` if there are none.
 fn joined(alloc: Global, words: &[String]) -> Result<String, AllocError>
     ensures { IfOk result (λ text. string_bytes text ≡ spec.text_of_words (map string_bytes
         words.now)) }
@@ -63,8 +63,8 @@ fn joined(alloc: Global, words: &[String]) -> Result<String, AllocError>
     Ok(text)
 }
 
-/// Appends what is said of a fork: `left`, or each of `cut N`, `missing N` and `shared` that holds, with commas between, or `whole`.
-/// The only error is want of memory; a part of it may have come then.
+/// Appends the verdict on a fork: `left`; or those of `cut N`, `missing N` and `shared` that hold, separated by commas; or
+/// `whole`. Fails only when out of memory; a part of it may have been appended then.
 pub fn push_verdict(alloc: Global, text: &mut String, verdict: &Verdict) -> Result<(), AllocError>
     ensures { OnOk result (Gains text.old text.new (spec.verdict_text verdict.now)) }
 {

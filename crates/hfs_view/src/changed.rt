@@ -1,4 +1,4 @@
-//! Which blocks of forks were changed since a volume was mounted.
+//! Which blocks of forks have changed since a volume was mounted.
 ghost use Rattle.std.specs.Prelude.{◌≡◌, false};
 ghost use Rattle.hfs_space.specs.Extents.{IsExtentWithin};
 ghost use Rattle.hfs_space.specs.Forks.{HasArea};
@@ -9,7 +9,7 @@ use hfs_changed_blocks::ChangedBlocks;
 use hfs_fields::{Extent, Mdb};
 use hfs_volume::Volume;
 
-/// Whether there is a block of an extent among these.
+/// Whether one of these changes is to a block of this extent.
 fn has_block_of(changes: &ChangedBlocks, mdb: &Mdb, extent: Extent) -> bool
     requires area { HasArea mdb.now 4294967295 }
     requires within { IsExtentWithin mdb.now.allocation_blocks extent }
@@ -28,7 +28,7 @@ fn has_block_of(changes: &ChangedBlocks, mdb: &Mdb, extent: Extent) -> bool
     false
 }
 
-/// Whether a block of these extents was changed since the volume was mounted, where `changed` says whether any was.
+/// Whether a block of these extents has changed since the volume was mounted. `changed` says whether any block has.
 pub fn are_changed(volume: &Volume, changed: bool, extents: &[Extent]) -> bool
     requires changed { TellsChanges volume.now changed }
     requires within { AreExtentsIn volume.now.current extents.now }

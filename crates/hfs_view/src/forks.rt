@@ -16,10 +16,10 @@ use hfs_model::{Fork, SharedBytes};
 use hfs_volume::{OpenFork, Opened, Volume};
 use std::alloc::{AllocError, Global};
 
-/// The most bytes that a piece of a fork has, as those of a call.
+/// The most bytes that a piece of a fork has, as for a call.
 const PIECE: u32 = 65_536;
 
-/// All bytes that are left of an open fork, by pieces. The only error is want of memory.
+/// All bytes that are left to read of an open fork, in pieces. Fails only when out of memory.
 fn read_pieces(alloc: Global, source: &mut OpenFork<'_>) -> Result<ForkPieces, AllocError>
     ensures { IfOk result (AreAllOf source.old) }
 {
@@ -34,7 +34,7 @@ fn read_pieces(alloc: Global, source: &mut OpenFork<'_>) -> Result<ForkPieces, A
     Ok(pieces)
 }
 
-/// The row of a fork that has all its bytes itself, and none in the base. The only error is want of memory.
+/// The row of a fork that holds all its bytes itself, and none in the base. Fails only when out of memory.
 fn whole_row(
     alloc: Global,
     volume: &Volume,
@@ -72,8 +72,8 @@ fn base_row(alloc: Global, extents: Vec<Extent>, file: &FileRecord, fork: Fork) 
     }
 }
 
-/// The row of one of a file's forks: with all its extents, where none of their blocks was changed since the volume was mounted, else with
-/// its bytes. The only error is want of memory.
+/// The row of one of a file's forks: with all its extents if none of their blocks has changed since the volume was mounted,
+/// otherwise with its bytes. Fails only when out of memory.
 pub fn fork_row(
     alloc: Global,
     volume: &Volume,

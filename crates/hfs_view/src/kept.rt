@@ -4,7 +4,7 @@ ghost use Rattle.hfs_catalog.specs.Items.{folder_kept, fork_kept, file_kept};
 
 use hfs_fields::{DirRecord, Extent, FileRecord, ForkRecord};
 
-/// Of a folder's record.
+/// Those of a folder's record.
 #[tactic(auto, unfolding(hfs_catalog::specs::Items::folder_kept))]
 pub fn folder_kept(folder: &DirRecord) -> [u8; 70]
     ensures { result ≡ folder_kept folder.now }
@@ -35,7 +35,7 @@ fn blank_fork(fork: &ForkRecord) -> ForkRecord
     }
 }
 
-/// Of a file's record.
+/// Those of a file's record.
 #[tactic(auto, unfolding(hfs_catalog::specs::Items::file_kept))]
 pub fn file_kept(file: &FileRecord) -> [u8; 102]
     ensures { result ≡ file_kept file.now }

@@ -1,5 +1,5 @@
 //! The rows that viewers read: a volume's items by their IDs and by their names, over the base that it shares. They answer
-//! the calls that read with no lock, and take in the changes that were accepted.
+//! the calls that read without a lock, and take in the changes that were accepted.
 #![tactic(auto)]
 
 mod changed;

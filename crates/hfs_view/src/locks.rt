@@ -1,4 +1,4 @@
-//! The locks that a volume's attributes say.
+//! The locks in a volume's attributes.
 ghost use Rattle.std.specs.Prelude.{◌≡◌};
 ghost use Rattle.hfs_fields.specs.Records.{is_bit_set};
 

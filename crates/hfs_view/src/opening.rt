@@ -26,7 +26,7 @@ pub struct Maps {
     pub by_name: BTreeMap<Place, u32>,
 }
 
-/// The 32 Finder bytes of an item, which stand in two places of its record.
+/// The 32 Finder bytes of an item, which are in two places of its record.
 fn finder_bytes(info: &[u8; 16], extended: &[u8; 16]) -> [u8; 32]
     ensures { result ≡ info.now ++ extended.now }
 {
@@ -56,7 +56,7 @@ fn folder_row(key: &CatKey, folder: &DirRecord) -> Row
     }
 }
 
-/// The row of a file's record. The only error is want of memory.
+/// The row of a file's record. Fails only when out of memory.
 fn file_row(
     alloc: Global,
     volume: &Volume,
@@ -90,8 +90,8 @@ fn file_row(
     })
 }
 
-/// A map with the same entries, whose nodes are full: where keys come in order, a map's nodes are half empty. The only error is want of
-/// memory, of which it takes that of the entries once more.
+/// A map with the same entries, whose nodes are full; a map to which keys are added in order has half-empty nodes. Fails only
+/// when out of memory; it takes as much as the entries once more.
 fn packed<K: Ord + Drop, V: Drop>(
     map: BTreeMap<K, V>,
     alloc: Global,
@@ -102,7 +102,7 @@ fn packed<K: Ord + Drop, V: Drop>(
 }
 
 impl Maps {
-    /// Puts a row under its ID and at its place. The only error is want of memory.
+    /// Puts a row under its ID and at its place. Fails only when out of memory.
     fn enter(&mut self, id: u32, row: Row) -> Result<(), AllocError>
         ensures { OnOk result (Enters id row self.old self.new) }
     {
@@ -111,7 +111,7 @@ impl Maps {
         Ok(())
     }
 
-    /// Takes in a record of the volume's catalog, if it is an item's. The only error is want of memory.
+    /// Takes in a record of the volume's catalog, if it is an item's. Fails only when out of memory.
     #[tactic(auto, unfolding(hfs_fields::specs::Records::begins_dir, hfs_fields::specs::Records::begins_file))]
     fn take(
         &mut self,
@@ -144,7 +144,7 @@ impl Maps {
         Ok(())
     }
 
-    /// The rows of a volume's catalog, whose records these are, as they came. The only error is want of memory.
+    /// The rows of a volume's catalog, from its records in the order in which they come. Fails only when out of memory.
     fn gathered(
         alloc: Global,
         volume: &Volume,
@@ -169,7 +169,7 @@ impl Maps {
         Ok(maps)
     }
 
-    /// The same rows in maps whose nodes are full. The only error is want of memory.
+    /// The same rows in maps whose nodes are full. Fails only when out of memory.
     fn packed(self, alloc: Global) -> Result<Maps, AllocError>
         ensures { IfOk result (HasSameRows self) }
     {
@@ -179,8 +179,8 @@ impl Maps {
         Ok(Maps { by_id, by_name })
     }
 
-    /// The rows of a volume's catalog, whose records these are, where `changed` says whether a block of the volume was changed since it
-    /// was mounted. The only error is want of memory.
+    /// The rows of a volume's catalog, from its records. `changed` says whether a block of the volume has changed since it was
+    /// mounted. Fails only when out of memory.
     pub fn of(
         alloc: Global,
         volume: &Volume,
@@ -199,7 +199,7 @@ impl Maps {
     }
 }
 
-/// The table of these rows over a base, in a volume whose master directory block this is.
+/// The table of these rows over a base, in a volume with this master directory block.
 pub fn table_over(base: Base, mdb: Mdb, maps: Maps) -> Table
     ensures { result ≡ table_over base mdb maps }
 {

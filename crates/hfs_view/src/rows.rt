@@ -49,8 +49,8 @@ impl Clone for Rows {
 }
 
 impl Rows {
-    /// The rows of a volume as it is now, over the bytes as they were mounted. A fork of which a block was changed since is read whole,
-    /// and takes memory for its bytes. The only error is want of memory.
+    /// The rows of a volume as it is now, over the bytes as they were mounted. A fork with a block that has changed since is read
+    /// whole, and takes memory for its bytes. Fails only when out of memory.
     pub fn of(alloc: Global, volume: &Volume) -> Result<Rows, AllocError>
         ensures { IfOk result (λ rows. rows ≡ volume_of volume.now.current) }
     {
@@ -63,7 +63,7 @@ impl Rows {
         Ok(Rows { alloc, table })
     }
 
-    /// The table of the rows, with what the volume has beside its items.
+    /// The table of the rows, with what the volume has besides its items.
     pub fn table(&self) -> &Table
         ensures volume { tables.volume_of result.now ≡ self.now }
         ensures table { IsTable result.now }
@@ -72,8 +72,8 @@ impl Rows {
         &self.table
     }
 
-    /// Takes in a change. One that is refused leaves the rows, as do calls that read. The only error is want of memory,
-    /// and then the rows are as they were.
+    /// Takes in a change. A change that is refused leaves the rows as they were, and so does a call that reads. Fails only when
+    /// out of memory, and then the rows are as they were.
     pub fn absorb(&mut self, call: &Call) -> Result<(), AllocError>
         ensures ok { OnOk result (self.new ≡ (step self.old call.now).0) }
         ensures err { OnErr result (self.new ≡ self.old) }
@@ -82,12 +82,12 @@ impl Rows {
         self.table.absorb(self.alloc, call)
     }
 
-    /// Answers a call that reads. The only error is want of memory.
+    /// Answers a call that reads. Fails only when out of memory.
     pub fn read(&self, alloc: Global, call: &Call) -> Result<Reply, AllocError>
         requires { IsTrue (is_reading call.now) }
         ensures { IfOk result (λ reply. reply ≡ (step self.now call.now).1) }
     {
-        // A proof knows what the rows keep to once it has seen the table.
+        // Once a proof has seen the table, it knows what the rows keep to.
         let _next = self.table.next_id();
         match call {
             Call::GetDirInfo { dir } => Ok(self.table.get_dir_info(*dir)),

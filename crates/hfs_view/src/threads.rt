@@ -1,4 +1,4 @@
-//! The IDs of which a catalog has a thread record.
+//! The IDs for which a catalog has a thread record.
 ghost use Rattle.std.specs.Prelude.{◌≡◌, nat_eq, OnOk, IfOk};
 ghost use Rattle.hfs_catalog.specs.Records.{is_thread_of};
 ghost use Rattle.hfs_view.specs.Opened.{AddsNumbers, has_number, AreThreadsOf};
@@ -23,7 +23,7 @@ impl Model for ThreadIds {
 }
 
 impl ThreadIds {
-    /// The IDs of the threads among these records, each of which is read once. The only error is want of memory.
+    /// The IDs of the threads among these records. Reads each record once. Fails only when out of memory.
     pub fn of(alloc: Global, records: &[CatalogRecord]) -> Result<ThreadIds, AllocError>
         ensures { IfOk result (AreThreadsOf records.now) }
     {
@@ -46,7 +46,7 @@ impl ThreadIds {
         Ok(())
     }
 
-    /// Puts an ID into the set. The only error is want of memory.
+    /// Puts an ID into the set. Fails only when out of memory.
     fn add(&mut self, id: u32) -> Result<(), AllocError>
         ensures { OnOk result (AddsNumbers (nat_eq id) self.old self.new) }
     {
@@ -54,7 +54,7 @@ impl ThreadIds {
         Ok(())
     }
 
-    /// Whether the ID is one of them.
+    /// Whether the ID is in the set.
     pub fn has(&self, id: u32) -> bool
         ensures { result ≡ has_number self.now id }
     {

@@ -1,4 +1,4 @@
-//! Bytes that never change, shared by those who read them: all that an image has, or the blocks that were read of it.
+//! The bytes of an image, or the blocks that were read from one: they never change, and their readers share them.
 
 ghost use Rattle.std.specs.Prelude.{◌≡◌, ◌/◌, ◌<◌, ◌≤◌, ◌^◌, length, IfOk, IfErr, IfSome, IfNone};
 ghost use Rattle.hfs_blocks.specs.Blocks.{block_at, block_count, length-block_at, few-block_count};
@@ -18,17 +18,17 @@ use std::alloc::{AllocError, AllocFailed, Global};
 use std::marker::Model;
 use std::sync::Arc;
 
-/// What a base has of its bytes.
+/// How a base holds its bytes.
 #[derive(Drop)]
 pub(crate) enum BaseKind {
     /// All of them.
     Whole(Arc<Vec<u8>>),
-    /// The blocks that were read of so many bytes; the others are zeros.
+    /// The blocks that were read from an image of this many bytes; the others are zeros.
     Read(Arc<SparseBlocks>, u64),
 }
 
-/// The bytes of an image as it was opened, at most 2,147,483,648 of them: all that it has, or zeros but for the blocks that were
-/// read of it. Contracts see the list.
+/// The bytes of an image as it was opened, at most 2,147,483,648 of them: all of them, or zeros except for the blocks that were
+/// read. Contracts see the list.
 #[derive(Drop)]
 pub struct Base {
     kind: BaseKind,
@@ -46,7 +46,7 @@ impl Model for Base {
 }
 
 impl Base {
-    /// The base of these bytes. Where memory is wanting they are handed back.
+    /// The base of these bytes. When out of memory, they are handed back.
     pub fn new(alloc: Global, bytes: Vec<u8>) -> Result<Base, AllocFailed<Vec<u8>>>
         requires { length bytes.items ≤ 2147483648 }
         ensures bytes { IfOk result (λ base. base ≡ bytes.items) }
@@ -58,7 +58,7 @@ impl Base {
         })
     }
 
-    /// The base of the blocks that were read of an image of `len` bytes, with zeros in place of the others. Where memory is wanting
+    /// The base of the blocks that were read from an image of `len` bytes, with zeros in place of the others. When out of memory,
     /// the blocks are handed back.
     pub fn of_read(
         alloc: Global,
@@ -76,7 +76,8 @@ impl Base {
         })
     }
 
-    /// All bytes, where they lie in memory: not of a base of blocks that were read, in which zeros follow the last whole block.
+    /// All bytes, if they are in memory. None for a base of blocks that were read; its bytes after the last whole block are
+    /// zeros.
     pub fn bytes(&self) -> Option<&[u8]>
         ensures bytes { IfSome result (λ bytes. bytes.now ≡ self.now) }
         ensures zeros { IfNone result (EndsInZeros self.now) }
@@ -103,7 +104,7 @@ impl Base {
     pub fn blocks(&self) -> BaseBlocks<'_>
         ensures { result.base.now ≡ self.now }
     {
-        // A proof knows how long the bytes can be once they are counted.
+        // Once the bytes are counted, a proof knows how many there can be.
         let _len = self.len();
         BaseBlocks { base: self }
     }
@@ -119,9 +120,8 @@ impl Base {
         }
     }
 
-    /// Bytes of the allocation blocks of these extents, which lie one extent behind the other: those from `offset` on, `count` of
-    /// them or as many as there are. Where the allocation blocks lie is read off the master directory block. The only error is want
-    /// of memory.
+    /// The bytes of these extents' allocation blocks, one extent after the other: `count` of them from `offset` on, or as many as
+    /// there are. The master directory block says where the allocation blocks lie. Fails only when out of memory.
     pub fn read(
         &self,
         alloc: Global,
@@ -138,7 +138,7 @@ impl Base {
         read_extents(alloc, &blocks, &mdb, extents, offset, count)
     }
 
-    /// The same bytes once more, without a copy of them. The only error is want of memory.
+    /// Another handle to the same bytes, without copying them. Fails only when out of memory.
     pub fn share(&self) -> Result<Base, AllocError>
         ensures { IfOk result (λ base. base ≡ self.now) }
     {

@@ -1,4 +1,4 @@
-//! Bytes of extents, from any offset on.
+//! Bytes of extents, starting at any offset.
 
 ghost use Rattle.std.specs.Prelude.{◌≡◌, ◌-◌, ◌*◌};
 ghost use Rattle.hfs_space.specs.Extents.{block_total, AreExtentsWithin};
@@ -10,7 +10,7 @@ use hfs_fields::{Extent, Mdb};
 use hfs_space::{ForkPlace, read_on};
 use std::alloc::{AllocError, Global};
 
-/// How many of the first `wanted` bytes the blocks of these extents lack.
+/// How many of the first `wanted` bytes lie past the blocks of these extents.
 fn lacking(mdb: &Mdb, extents: &[Extent], wanted: u64) -> u64
     ensures { result ≡ wanted - 512 * (block_total extents.now * blocks_each mdb.now) }
 {
@@ -23,8 +23,8 @@ fn lacking(mdb: &Mdb, extents: &[Extent], wanted: u64) -> u64
     left
 }
 
-/// Bytes of the blocks of these extents, which lie one extent behind the other: those from `offset` on, `count` of them or as
-/// many as there are. The only error is want of memory.
+/// The bytes of these extents' blocks, one extent after the other: `count` of them from `offset` on, or as many as there are.
+/// Fails only when out of memory.
 pub(crate) fn read_extents<B: Blocks>(
     alloc: Global,
     blocks: &B,

@@ -15,8 +15,8 @@ use hfs_model::{END_OF_FILE, Fork, OwnedBytes, Reply, Value};
 use hfs_space::{ForkKind, fork_extents, read_fork};
 use std::alloc::{AllocError, Global};
 
-/// The reply of these bytes, which were read from an offset on of a fork that has `length` bytes: -39 where `count` of them
-/// end behind the fork.
+/// The reply with these bytes, which were read from `offset` on in a fork of `length` bytes: -39 if `count` bytes would end past
+/// the fork.
 fn part_reply(bytes: Vec<u8>, length: u32, offset: u32, count: u32) -> Reply
     ensures { result ≡ part_reply bytes.items length offset count }
 {
@@ -31,8 +31,8 @@ fn part_reply(bytes: Vec<u8>, length: u32, offset: u32, count: u32) -> Reply
     }
 }
 
-/// At most `count` bytes of a file's fork from an offset on, with -39 where the fork ends before `count` of them. Only the
-/// blocks that have one of these bytes are read. The only error is want of memory.
+/// At most `count` bytes of a file's fork, starting at an offset, with -39 if the fork ends before `count` of them. Reads only
+/// the blocks that have one of these bytes. Fails only when out of memory.
 pub(crate) fn read_part<B: Blocks, N: Nodes>(
     alloc: Global,
     blocks: &B,
@@ -57,7 +57,7 @@ pub(crate) fn read_part<B: Blocks, N: Nodes>(
     Ok(part_reply(bytes, fork.length, offset, count))
 }
 
-/// What a file's record says of one of its forks.
+/// What a file's record says about one of its forks.
 pub(crate) fn fork_record(file: &FileRecord, fork: Fork) -> (ForkKind, ForkRecord)
     ensures { result ≡ fork_record fork file.now }
 {

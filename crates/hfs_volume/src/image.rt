@@ -1,4 +1,4 @@
-//! An image: its bytes as they were opened, and the blocks that were changed since.
+//! An image: its bytes as they were opened, and the blocks that have changed since.
 
 ghost use Rattle.std.specs.Prelude.{◌≡◌, [], ◌++◌, ◌<◌, ◌≤◌, ◌^◌, length, IfOk, IfErr, OnOk, OnErr, nat_eq};
 ghost use Rattle.std.specs.List.{IsDistinct, flat_map};
@@ -19,8 +19,8 @@ use std::alloc::{AllocError, AllocFailed, Global};
 use std::io::Write;
 use std::marker::Model;
 
-/// An image of at most 2,147,483,648 bytes: blocks of 512 bytes, counted from 0, and what may follow the last whole one.
-/// Contracts see its bytes as they were opened, and as they are, and which blocks of forks were written since.
+/// An image of at most 2,147,483,648 bytes: blocks of 512 bytes, counted from 0, and what may follow the last whole block.
+/// Contracts see its bytes as they were opened and as they are now, and which blocks of forks were written since.
 #[derive(Drop)]
 pub struct Image {
     base: Base,
@@ -39,7 +39,7 @@ impl Model for Image {
 }
 
 impl Image {
-    /// An image with nothing changed. Where memory is wanting the bytes are handed back.
+    /// An image in which nothing has changed. When out of memory, the bytes are handed back.
     pub fn new(alloc: Global, bytes: Vec<u8>) -> Result<Image, AllocFailed<Vec<u8>>>
         requires { length bytes.items ≤ 2147483648 }
         ensures base { IfOk result (λ image. image.base ≡ bytes.items) }
@@ -52,14 +52,14 @@ impl Image {
         Ok(Image::over(alloc, base))
     }
 
-    /// An image of these bytes with nothing changed. Takes no memory.
+    /// An image of these bytes in which nothing has changed. Takes no memory.
     pub fn over(alloc: Global, base: Base) -> Image
         ensures base { result.base ≡ base }
         ensures current { result.current ≡ base }
         ensures changed { result.changed ≡ [] }
         ensures written { result.written ≡ [] }
     {
-        // A proof knows how long the bytes can be once they are counted.
+        // Once the bytes are counted, a proof knows how many there can be.
         let _len = base.len();
         Image {
             base,
@@ -68,7 +68,7 @@ impl Image {
         }
     }
 
-    /// The changed blocks, which lie over the bytes as they were opened.
+    /// The changed blocks, to be laid over the bytes as they were opened.
     pub fn changes(&self) -> &ChangedBlocks
         ensures current { self.now.current ≡ patched result.now self.now.base }
         ensures changed { self.now.changed ≡ numbers result.now }
@@ -76,20 +76,20 @@ impl Image {
         &self.changed
     }
 
-    /// The bytes as they were opened, without a copy of them. The only error is want of memory.
+    /// The bytes as they were opened, without copying them. Fails only when out of memory.
     pub fn base(&self) -> Result<Base, AllocError>
         ensures { IfOk result (λ base. base ≡ self.now.base) }
     {
         self.base.share()
     }
 
-    /// How many blocks are kept as changed. Each block that differs from what it was at first is one of them.
+    /// How many blocks are kept as changed. They include each block that differs from what it was when the image was opened.
     pub fn changed(&self) -> u32
         ensures count { result ≡ length self.now.changed }
         ensures once { IsDistinct nat_eq self.now.changed }
         ensures others { IsSameBeside self.now }
     {
-        // A proof knows how long the bytes can be once the blocks are counted.
+        // Once the blocks are counted, a proof knows how many there can be.
         let _count = self.count();
         self.changed.len() as u32
     }
@@ -111,8 +111,8 @@ impl Image {
         self.changed.over(&base).block(n, into);
     }
 
-    /// Lays a patch over the image, with the blocks of the first runs as zeros below it; those of the others are blocks of a fork that
-    /// were written. At an error the bytes are as they were. The bytes as they were opened stay.
+    /// Lays a patch over the image. The blocks of `zeros` become zeros below the patch; those of `written` are the blocks of a
+    /// fork that were written. At an error the bytes are as they were. The bytes as they were opened never change.
     pub fn commit(
         &mut self,
         alloc: Global,
@@ -138,7 +138,7 @@ impl Image {
         Ok(())
     }
 
-    /// Writes the bytes as they are now. Takes no memory. At a fault the first of them went out, and no others.
+    /// Writes the bytes as they are now. Takes no memory. At a fault, the first bytes were written, and no others.
     pub fn save<W: Write>(&self, writer: &mut W) -> Result<(), SaveFault>
         ensures ok { WritesAll result W.contents writer.old writer.new self.now.current }
         ensures err { BreaksOff result W.contents writer.old writer.new self.now.current }
@@ -149,7 +149,7 @@ impl Image {
         }
     }
 
-    /// Writes block after block, and last the zeros that follow the last whole one.
+    /// Writes all whole blocks, and then the bytes that follow the last one.
     fn save_blocks<W: Write>(&self, writer: &mut W) -> Result<(), SaveFault>
         requires { EndsInZeros self.now.current }
         ensures ok { WritesAll result W.contents writer.old writer.new self.now.current }
@@ -166,7 +166,7 @@ impl Image {
         write_at(writer, count, &block[..rest])
     }
 
-    /// A copy of the bytes as they are now. The only error is want of memory.
+    /// A copy of the bytes as they are now. Fails only when out of memory.
     pub fn copy(&self, alloc: Global) -> Result<Vec<u8>, AllocError>
         ensures { IfOk result (λ bytes. bytes.items ≡ self.now.current) }
     {
@@ -177,8 +177,8 @@ impl Image {
         }
     }
 
-    /// The image with its bytes as they are now as those that it was opened with: nothing is changed. Takes no memory where nothing
-    /// was. Where memory is wanting the image is handed back.
+    /// The image opened anew: its bytes as they are now count as those that it was opened with, and nothing has changed. Takes no
+    /// memory if nothing had. When out of memory, the image is handed back.
     pub fn opened_anew(self, alloc: Global) -> Result<Image, AllocFailed<Image>>
         ensures base { IfOk result (λ image. image.base ≡ self.current) }
         ensures current { IfOk result (λ image. image.current ≡ self.current) }
@@ -189,7 +189,7 @@ impl Image {
         if self.changed() == 0 {
             return Ok(self.as_opened(alloc));
         }
-        // A proof knows how long the bytes can be once the blocks are counted.
+        // Once the blocks are counted, a proof knows how many there can be.
         let _count = self.count();
         let Ok(bytes) = self.copy(alloc) else {
             return Err(AllocFailed { value: self });
@@ -200,7 +200,7 @@ impl Image {
         }
     }
 
-    /// The image, in which nothing is changed, over its own base.
+    /// The image, in which nothing has changed, over its own base.
     fn as_opened(self, alloc: Global) -> Image
         requires { length self.changed ≡ 0 }
         ensures base { result.base ≡ self.current }
@@ -220,7 +220,7 @@ impl Image {
     pub fn blocks(&self) -> ImageBlocks<'_>
         ensures { result.image.now ≡ self.now }
     {
-        // A proof knows how long the bytes can be once the blocks are counted.
+        // Once the blocks are counted, a proof knows how many there can be.
         let _count = self.count();
         ImageBlocks { image: self }
     }

@@ -1,4 +1,4 @@
-//! A mounted volume: its image as it was opened and as it is, and the calls of the File Manager on it.
+//! A mounted volume: its image as it was opened and as it is now, and the calls of the File Manager on it.
 #![tactic(auto)]
 
 mod base;

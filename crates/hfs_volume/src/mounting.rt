@@ -13,17 +13,17 @@ use crate::volume::Volume;
 use hfs_check::{MountFault, SoundVolume, VolumeTrees, check_image};
 use std::alloc::{AllocFailed, Global};
 
-/// Why an image was not mounted, with the image as it was given.
+/// Why an image was not mounted, and the image as it was given.
 #[derive(Drop)]
 pub struct Refused {
-    /// The first check that fails, or that memory is wanting.
+    /// The first check that fails, or that memory ran out.
     pub fault: MountFault,
     /// The image's bytes as they were given.
     pub image: Vec<u8>,
 }
 
-/// Mounts the volume of an image: the whole volume, beginning with its boot blocks. Ok exactly where the image is sound,
-/// unless memory is wanting; else the first fault in the order of docs/CHECKS.md, with the image as it was given.
+/// Mounts the volume of an image, which begins with its boot blocks. Ok exactly when the image is sound, unless memory runs out;
+/// otherwise the first fault in the order of docs/CHECKS.md, with the image as it was given.
 ///
 /// Source: Inside Macintosh: Files, chapter 2, "Data Organization on Volumes".
 pub fn mount(alloc: Global, image: Vec<u8>) -> Result<Volume, Refused>
@@ -51,7 +51,8 @@ pub fn mount(alloc: Global, image: Vec<u8>) -> Result<Volume, Refused>
     }
 }
 
-/// Mounts the volume of a base whose checks were made: its master directory block, and where its trees lie. Takes no memory.
+/// Mounts the volume of a base that has passed its checks, given its master directory block and the runs of its trees. Takes no
+/// memory.
 #[tactic(auto, using(hfs_check::proofs::LawsProved::agrees_with_itself))]
 pub fn mount_sound(alloc: Global, base: Base, found: SoundVolume) -> Volume
     requires sound { IsSound base }

@@ -1,4 +1,4 @@
-//! A file's fork that is read from its beginning on.
+//! A file's fork, read from its beginning on.
 
 ghost use Rattle.std.specs.Prelude.{◌≡◌, ◌%◌, length, take, drop, IfOk, OnOk, OnErr};
 ghost use Rattle.hfs_blocks.specs.Blocks.{block_count};
@@ -14,14 +14,13 @@ use hfs_space::{ForkKind, ForkPlace, fork_extents, read_on};
 use std::alloc::{AllocError, Global};
 use std::marker::Model;
 
-/// A file's fork that is read from its beginning on. Its extents are collected once. Contracts see the bytes that are left
-/// to be read.
+/// A file's fork, read from its beginning on. Its extents are collected once. Contracts see the bytes that are left to read.
 #[derive(Drop)]
 pub struct OpenFork<'a> {
     blocks: ImageBlocks<'a>,
     mdb: &'a Mdb,
     extents: Vec<Extent>,
-    /// Where in the extents the next byte stands.
+    /// Where in the extents the next byte is.
     place: ForkPlace,
     /// How many bytes are left.
     left: u32,
@@ -38,18 +37,18 @@ impl<'a> Model for OpenFork<'a> {
     ghost invariant = { λ f. IsOpenFork f.blocks.image.now f.mdb.now f.extents.items f.place f.left };
 }
 
-/// A fork that is open, or the reply that refuses it.
+/// An open fork, or the reply that refuses it.
 #[derive(Drop)]
 pub enum Opened<'a> {
-    /// The fork, of which nothing is read yet.
+    /// The fork, of which nothing has been read yet.
     Fork(OpenFork<'a>),
-    /// What a call that reads the fork answers.
+    /// What a call that reads the fork would answer.
     Refused(Reply),
 }
 
 impl<'a> OpenFork<'a> {
-    /// A file's fork with all its bytes left, where `tree` is the extents tree and `fork` what the file's record says of the
-    /// fork. The only error is want of memory.
+    /// A file's fork with all its bytes left to read. `tree` is the extents tree, `fork` what the file's record says about the
+    /// fork. Fails only when out of memory.
     pub(crate) fn new<N: Nodes>(
         alloc: Global,
         blocks: ImageBlocks<'a>,
@@ -80,14 +79,14 @@ impl<'a> OpenFork<'a> {
 }
 
 impl OpenFork<'_> {
-    /// How many bytes are left to be read.
+    /// How many bytes are left to read.
     pub fn len(&self) -> u32
         ensures { result ≡ length self.now }
     {
         self.left
     }
 
-    /// Reads the next `count` bytes, or as many as are left. The only error is want of memory, and then none are read.
+    /// Reads the next `count` bytes, or as many as are left. Fails only when out of memory, and then reads none.
     pub fn read(&mut self, alloc: Global, count: u32) -> Result<Vec<u8>, AllocError>
         ensures bytes { IfOk result (λ bytes. bytes.items ≡ take count self.old) }
         ensures left { OnOk result (self.new ≡ drop count self.old) }

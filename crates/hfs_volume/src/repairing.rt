@@ -1,4 +1,4 @@
-//! Mounting of images that are right but for their counts.
+//! Mounting images in which only counts are wrong.
 
 ghost use Rattle.std.specs.Prelude.{◌≡◌, [], IfOk, IfErr, OnOk};
 ghost use Rattle.hfs_check.specs.Sound.{IsSound};
@@ -13,7 +13,7 @@ use hfs_check::MountFault;
 use hfs_repair::{BytePut, Fix, Mending, exchange, exchange_back};
 use std::alloc::Global;
 
-/// A refusal with the image as it was before these bytes were exchanged.
+/// A refusal, with the image as it was before these bytes were swapped.
 fn given_back(refused: Refused, puts: &[BytePut]) -> Refused
     ensures fault { result.fault ≡ refused.fault }
     ensures given { result.image.items ≡ put_back puts.now refused.image.items }
@@ -23,12 +23,13 @@ fn given_back(refused: Refused, puts: &[BytePut]) -> Refused
     Refused { fault, image }
 }
 
-/// Mounts the volume of an image with its counted numbers mended: drNmFls, drFreeBks, drNmRtDirs, drFilCnt, drDirCnt, both trees'
-/// bthNRecs and bthFree, and the valences. Ok exactly where the repaired image is sound, unless memory is wanting, with that image
-/// as it was opened, and with the numbers that were wrong, each once, in the order of `FixPlace`; else the first fault of the
-/// repaired image, with the image as it was given. An image in which anything before these numbers is wrong is its own repair.
+/// Mounts the volume of an image after mending its counts: drNmFls, drFreeBks, drNmRtDirs, drFilCnt, drDirCnt, both trees'
+/// bthNRecs and bthFree, and the valences. Ok exactly when the repaired image is sound, unless memory runs out: then with the
+/// image as it was opened being the repaired one, and with the numbers that were wrong, each once, in the order of `FixPlace`.
+/// Otherwise the first fault of the repaired image, with the image as it was given. If anything that is checked before these
+/// numbers is wrong, the image is its own repair.
 ///
-/// While the repaired image is checked the mended numbers stand in its bytes; at a refusal they are exchanged back, which takes no
+/// The mended numbers are put into the image's bytes while it is checked; at a refusal they are swapped back, which takes no
 /// memory.
 ///
 /// Source: Inside Macintosh: Files, chapter 2, "Data Organization on Volumes"; docs/CHECKS.md has the ten numbers.

@@ -1,4 +1,4 @@
-//! What a call answers that changes nothing.
+//! What a call that changes nothing answers.
 
 ghost use Rattle.std.specs.Prelude.{◌≡◌};
 ghost use Rattle.hfs_volume.specs.Steps.{refusal_reply};
@@ -7,7 +7,7 @@ use hfs_call_edits::Refusal;
 use hfs_model::{DISK_FULL, Reply};
 use hfs_queries::refusal;
 
-/// The reply to a call that was refused: its code, or -34 with what is wanting.
+/// The reply to a call that was refused: its code, or -34 with what it lacks.
 pub(crate) fn refused_by(reason: Refusal) -> Reply
     ensures { result ≡ refusal_reply reason }
 {

@@ -1,4 +1,4 @@
-//! Writing an image to any writer, which takes no memory.
+//! Writing an image to any writer, without taking memory.
 
 ghost use Rattle.std.specs.Prelude.{◌≡◌, ℕ, ◌-◌, ◌*◌, ◌<◌, ◌≤◌, IfErr, is_some, false, IsSome};
 ghost use Rattle.hfs_blocks.specs.Blocks.{block_count};
@@ -10,15 +10,15 @@ use hfs_changed_blocks::ChangedBlocks;
 use std::io::{ErrorKind, Write};
 use thiserror::Error;
 
-/// A write failed, or took no byte.
+/// A write failed, or took no bytes.
 #[derive(Debug, Clone, Copy, PartialEq, Eq, Error)]
 #[error("cannot write")]
 pub struct SaveFault {
-    /// How many bytes went out: the first ones, and no others.
+    /// How many bytes were written: the first ones, and no others.
     pub written: u64,
 }
 
-/// Writes the bytes. At an error, says how many of the first went out.
+/// Writes the bytes. At an error, returns how many of the first ones were written.
 fn write_counted<W: Write>(writer: &mut W, bytes: &[u8]) -> Result<(), usize>
     ensures ok { WritesAll result W.contents writer.old writer.new bytes.now }
     ensures err { IfErr result (WritesFirst W.contents writer.old writer.new bytes.now) }
@@ -41,7 +41,7 @@ fn write_counted<W: Write>(writer: &mut W, bytes: &[u8]) -> Result<(), usize>
     Err(done)
 }
 
-/// Writes the bytes of an image from block `n` on, where those before it went out. The fault counts these, too.
+/// Writes bytes of an image from block `n` on, after those before it were written. The fault counts these as well.
 pub(crate) fn write_at<W: Write>(writer: &mut W, n: u32, bytes: &[u8]) -> Result<(), SaveFault>
     ensures ok { WritesAll result W.contents writer.old writer.new bytes.now }
     ensures err { BreaksOffBehind n result W.contents writer.old writer.new bytes.now }
@@ -70,7 +70,7 @@ fn next_changed(changed: &ChangedBlocks, n: u32, count: u32) -> u32
     count
 }
 
-/// The longest piece from block `n` on that lies in one place, and the block behind it.
+/// The longest piece from block `n` on that lies in one place, and the block after it.
 fn piece<'a>(changed: &'a ChangedBlocks, base: &'a [u8], n: u32, count: u32) -> (&'a [u8], u32)
     requires count { count ≡ block_count base.now }
     requires in_range { n < count }

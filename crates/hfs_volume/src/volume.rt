@@ -41,8 +41,8 @@ use std::marker::Model;
 
 mod sharing;
 
-/// A mounted volume. Contracts see its image as it was mounted, and as it is; both are sound, and nothing in the latter but
-/// what calls change differs from the former.
+/// A mounted volume. Contracts see its image as it was mounted and as it is now. Both are sound, and they differ only in what
+/// calls change.
 #[derive(Drop)]
 pub struct Volume {
     image: Image,
@@ -66,7 +66,7 @@ impl Model for Volume {
 }
 
 impl Volume {
-    /// The volume of an image, with what mounting found out.
+    /// The volume of an image, from what mounting found.
     pub(crate) fn new(image: Image, mdb: Mdb, extents: Vec<Run>, catalog: Vec<Run>) -> Volume
         requires { IsMounted image mdb extents.items catalog.items }
         ensures { result ≡ image }
@@ -79,7 +79,7 @@ impl Volume {
         }
     }
 
-    /// Answers a call that reads, as [`Call::is_reading`] says, by the volume as it is now. The only error is want of memory.
+    /// Answers a call that reads (see [`Call::is_reading`]), by the volume as it is now. Fails only when out of memory.
     ///
     /// Source: Inside Macintosh: Files, chapter 2, "High-Level HFS Routines" and "Low-Level HFS Routines".
     pub fn read(&self, alloc: Global, call: &Call) -> Result<Reply, AllocError>
@@ -115,9 +115,8 @@ impl Volume {
         }
     }
 
-    /// Answers a call, and makes of the volume what it makes of it. At a code other than 0,
-    /// and where the call only reads, the volume stays as it is. The only error is want of memory, where the bytes stay as they
-    /// are.
+    /// Answers a call, and changes the volume as the call says. If the code isn't 0, or the call only reads, the volume stays as
+    /// it is. Fails only when out of memory, and then the bytes stay as they are.
     ///
     /// Source: Inside Macintosh: Files, chapter 2, "High-Level HFS Routines" and "Low-Level HFS Routines".
     #[tactic(auto, using(hfs_model::proofs::LawsProved::reading_needs_none))]
@@ -138,8 +137,8 @@ impl Volume {
         self.change(alloc, call)
     }
 
-    /// Answers calls one after the other: the replies in order. The only error is want of memory, where the first of the calls
-    /// have been made, and no others.
+    /// Answers calls one after the other, with their replies in order. Fails only when out of memory; then some of the first
+    /// calls have been made, and no others.
     pub fn run(&mut self, alloc: Global, calls: &[Call]) -> Result<Vec<Reply>, AllocError>
         ensures made { IfOk result (AreRepliesTo calls.now self.old.current self.new.current) }
         ensures broken { OnErr result
@@ -156,56 +155,56 @@ impl Volume {
         Ok(replies)
     }
 
-    /// What is told of the folder of that ID: -120 where it isn't the ID of a folder. Takes no memory.
+    /// Answers with the folder that has this ID; -120 if no folder has it. Takes no memory.
     pub fn get_dir_info(&self, dir: u32) -> Reply
         ensures { result ≡ get_dir_info (entries_in self.now.current) dir }
     {
         queries::get_dir_info(&self.catalog_nodes(), dir)
     }
 
-    /// What is told of the folder's item of that name, whatever its case: -37 where the name isn't an item name, -120 where
-    /// `dir` isn't the ID of a folder, -43 where it holds no item of that name. Takes no memory.
+    /// Answers with the folder's item of that name, ignoring case: -37 if the name isn't an item name, -120 if `dir` isn't the ID
+    /// of a folder, -43 if the folder has no item of that name. Takes no memory.
     pub fn get_cat_info(&self, dir: u32, name: &[u8]) -> Reply
         ensures { result ≡ get_cat_info (entries_in self.now.current) dir name.now }
     {
         queries::get_cat_info(&self.catalog_nodes(), dir, name)
     }
 
-    /// What is told of the folder's child at that place in name order, counted from 1: -50 where `index` is 0, -120 where
-    /// `dir` isn't the ID of a folder, -43 where the folder has fewer children. Takes no memory.
+    /// Answers with the folder's child at that place in name order, counted from 1: -50 if `index` is 0, -120 if `dir` isn't the
+    /// ID of a folder, -43 if the folder has fewer children. Takes no memory.
     pub fn get_indexed(&self, dir: u32, index: u32) -> Reply
         ensures { result ≡ get_indexed (entries_in self.now.current) dir index }
     {
         queries::get_indexed(&self.catalog_nodes(), dir, index)
     }
 
-    /// What is told of all the folder's children, in name order: -120 where `dir` isn't the ID of a folder. The only error
-    /// is want of memory.
+    /// Answers with all the folder's children, in name order: -120 if `dir` isn't the ID of a folder. Fails only when out of
+    /// memory.
     pub fn list(&self, alloc: Global, dir: u32) -> Result<Reply, AllocError>
         ensures { IfOk result (λ reply. reply ≡ list (entries_in self.now.current) dir) }
     {
         queries::list(alloc, &self.catalog_nodes(), dir, Detail::Full)
     }
 
-    /// The reply to `list` with `has_id` false in each item: no thread is looked up, which is most of the work of `list`. The
-    /// only error is want of memory.
+    /// The reply to `list`, but with `has_id` false for each item: no thread is looked up, which is most of the work of `list`.
+    /// Fails only when out of memory.
     pub fn list_in_brief(&self, alloc: Global, dir: u32) -> Result<Reply, AllocError>
         ensures { Gives (without_ids (list (entries_in self.now.current) dir)) result }
     {
         queries::list(alloc, &self.catalog_nodes(), dir, Detail::Brief)
     }
 
-    /// The folder and the name of the file of that ID: -1302 where it is the ID of a folder, -1300 where no file of that ID has a
-    /// thread. Takes no memory.
+    /// Answers with the folder and the name of the file with that ID: -1302 if it is the ID of a folder, -1300 if no file with
+    /// that ID has a thread. Takes no memory.
     pub fn resolve_file_id(&self, id: u32) -> Reply
         ensures { result ≡ resolve_file_id (entries_in self.now.current) id }
     {
         queries::resolve_file_id(&self.catalog_nodes(), id)
     }
 
-    /// Bytes of a file's fork from an offset on, at most 65,536 of them: -50 where `count` is above that, -37, -120 and -43 as
-    /// in [`Volume::get_cat_info`], -43 where the item is a folder, and -39 with what there is where the fork ends before
-    /// `count` bytes. Only the blocks that have one of these bytes are read. The only error is want of memory.
+    /// At most 65,536 bytes of a file's fork, starting at an offset: -50 if `count` is above that; -37, -120 and -43 as for
+    /// [`Volume::get_cat_info`]; -43 if the item is a folder; and -39, with the bytes that there are, if the fork ends before
+    /// `count` of them. Reads only the blocks that have one of these bytes. Fails only when out of memory.
     pub fn read_fork(
         &self,
         alloc: Global,
@@ -253,8 +252,8 @@ impl Volume {
         )
     }
 
-    /// Opens a file's fork, to be read from its beginning on: -37, -120 and -43 as in [`Volume::read_fork`]. The only error is
-    /// want of memory.
+    /// Opens a file's fork, to be read from its beginning on: -37, -120 and -43 as for [`Volume::read_fork`]. Fails only when out
+    /// of memory.
     pub fn open_fork(
         &self,
         alloc: Global,
@@ -293,8 +292,8 @@ impl Volume {
         )
     }
 
-    /// Writes the image's bytes as they are now, what follows the last whole block too. Takes no memory. At a fault the first
-    /// of them went out, and no others.
+    /// Writes the image's bytes as they are now, including what follows the last whole block. Takes no memory. At a fault, the
+    /// first bytes were written, and no others.
     pub fn save<W: Write>(&self, writer: &mut W) -> Result<(), SaveFault>
         ensures ok { WritesAll result W.contents writer.old writer.new self.now.current }
         ensures err { BreaksOff result W.contents writer.old writer.new self.now.current }
@@ -302,8 +301,8 @@ impl Volume {
         self.image.save(writer)
     }
 
-    /// How many blocks of the image are kept as changed since it was mounted. Each block that differs from what it was then is
-    /// one of them; one that was written back as it was may be.
+    /// How many blocks of the image are kept as changed since it was mounted. They include each block that differs from what it
+    /// was then, and maybe some that were written back as they were.
     pub fn changed(&self) -> u32
         ensures count { result ≡ length self.now.changed }
         ensures once { IsDistinct nat_eq self.now.changed }
@@ -329,7 +328,7 @@ impl Volume {
         self.make(alloc, edit)
     }
 
-    /// Makes of the image what some call makes of it, and answers the call.
+    /// Makes a call's change to the image, and answers the call.
     fn make(&mut self, alloc: Global, edit: Result<Change, Refusal>) -> Result<Reply, AllocError>
         requires { IsEditIn self.old.current edit }
         ensures outcome { IfOk result (IsEditReply edit self.old.current self.new.current) }
@@ -346,7 +345,7 @@ impl Volume {
         }
     }
 
-    /// Lays a change over the image. The volume's own master directory block follows when nothing can go wrong any more.
+    /// Lays a change over the image. The volume's own master directory block follows once nothing can fail any more.
     fn commit(&mut self, alloc: Global, change: Change) -> Result<Reply, AllocError>
         requires { IsEditIn self.old.current (Ok change) }
         ensures volume { OnOk result (IsImageAfter self.old.current change self.new.current) }
@@ -370,7 +369,7 @@ impl Volume {
         Ok(success(value))
     }
 
-    /// The nodes of the catalog, whose records answer the queries of the volume.
+    /// The nodes of the catalog, whose records answer the volume's queries.
     fn catalog_nodes(&self) -> ImageNodes<'_>
         ensures sound { IsSound self.now.current }
         ensures catalog { IsCatalog result }

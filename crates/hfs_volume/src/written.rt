@@ -1,4 +1,4 @@
-//! What a change writes of a fork.
+//! What a change writes into a fork.
 
 ghost use Rattle.std.specs.Prelude.{◌≡◌};
 ghost use Rattle.hfs_volume.specs.Steps as spec;
@@ -6,7 +6,7 @@ ghost use Rattle.hfs_volume.specs.Steps as spec;
 use hfs_blocks::Run;
 use hfs_call_patches::ForkBlocks;
 
-/// The runs of zeros that it lays.
+/// The runs that it fills with zeros.
 pub(crate) fn zero_runs(written: &Option<ForkBlocks>) -> &[Run]
     ensures { result.now ≡ spec.zero_runs written.now }
 {
@@ -16,7 +16,7 @@ pub(crate) fn zero_runs(written: &Option<ForkBlocks>) -> &[Run]
     }
 }
 
-/// The runs of the blocks that it wrote.
+/// The runs of blocks that it writes.
 pub(crate) fn written_runs(written: &Option<ForkBlocks>) -> &[Run]
     ensures { result.now ≡ spec.written_runs written.now }
 {

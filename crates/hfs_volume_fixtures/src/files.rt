@@ -1,4 +1,4 @@
-//! Files of a mounted volume: calls by their text, where forks lie behind them, and how many blocks are changed.
+//! Files of a mounted volume: calls from text, where forks lie after them, and how many blocks are changed.
 use crate::volumes::mounted;
 use hfs_fields::{Extent, FileRecord};
 use hfs_fixtures::FixtureFault;
@@ -20,7 +20,7 @@ fn are_made(alloc: Global, volume: &mut Volume, text: &[u8]) -> Result<bool, All
     Ok(are_made)
 }
 
-/// The record of the file of that ID.
+/// The record of the file with that ID.
 fn file_with(alloc: Global, volume: &Volume, id: u32) -> Result<Option<FileRecord>, AllocError> {
     let mut found = None;
     for record in volume.records(alloc)? {
@@ -32,7 +32,7 @@ fn file_with(alloc: Global, volume: &Volume, id: u32) -> Result<Option<FileRecor
     Ok(found)
 }
 
-/// Whether these are the first blocks and the numbers of blocks of the extents.
+/// Whether the extents have these first blocks and these numbers of blocks.
 fn are_extents(extents: &[Extent], wanted: &[(u16, u16)]) -> bool {
     if extents.len() != wanted.len() {
         return false;
@@ -41,8 +41,8 @@ fn are_extents(extents: &[Extent], wanted: &[(u16, u16)]) -> bool {
         && extent.count == *count)
 }
 
-/// Whether the fork of the file of that ID has these extents: the three of its record, and three for each of its records in the extents
-/// tree, those that aren't used too.
+/// Whether the fork of the file with that ID has these extents: the three of its record, and three for each of its records in the
+/// extents tree, including those that aren't used.
 fn has_extents(
     alloc: Global,
     volume: &Volume,
@@ -57,7 +57,7 @@ fn has_extents(
     Ok(are_extents(&extents, wanted))
 }
 
-/// Whether the calls of these texts are made on the volume of an image, and a fork lies there then, as [`has_extents`] has it.
+/// Whether the calls of these texts are made on the volume of an image, and a fork then lies there, as [`has_extents`] says.
 pub fn lies_after(
     alloc: Global,
     image: Vec<u8>,
@@ -71,7 +71,7 @@ pub fn lies_after(
     Ok(is_made && has_extents(alloc, &volume, id, fork, wanted)?)
 }
 
-/// How many blocks are changed behind the calls of a text on the volume of an image. None where a call has another code than 0.
+/// How many blocks are changed after the calls of a text on the volume of an image. None if a call has a code other than 0.
 pub fn changed_after(
     alloc: Global,
     image: Vec<u8>,

@@ -1,7 +1,6 @@
-//! Volumes of any size for tests, mounted, calls on them by their text, and where forks lie; a writer
-//! that fails; and in `refused` what a program needs that runs while memory is refused. No function here promises
-//! anything, so that no test reads the contracts of these calls again: what a test finds out, it
-//! compares with values that were written by hand.
+//! Volumes of any size for tests, mounted, calls on them from text, and where forks lie; a writer that fails; and in `refused`
+//! what a program needs that runs while memory is refused. No function here promises anything, so that no test reads the
+//! contracts of these calls again: a test compares what it finds with values that were written by hand.
 #![tactic(auto)]
 
 mod files;

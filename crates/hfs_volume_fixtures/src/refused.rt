@@ -1,6 +1,5 @@
-//! What a program needs that runs while memory is refused: a small volume, calls by their text, and
-//! bytes that are compared without memory. What the program finds out, it compares with what was
-//! written by hand.
+//! What a program needs that runs while memory is refused: a small volume, calls from text, and bytes that are compared without
+//! memory. The program compares what it finds with what was written by hand.
 
 mod calls;
 mod images;

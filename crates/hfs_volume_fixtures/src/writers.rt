@@ -11,7 +11,7 @@ pub struct LimitedWriter {
 }
 
 impl LimitedWriter {
-    /// A writer that takes so many bytes.
+    /// A writer that takes `left` bytes.
     pub fn new(alloc: Global, left: usize) -> LimitedWriter {
         LimitedWriter {
             taken: Vec::new(alloc),

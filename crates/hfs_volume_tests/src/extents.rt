@@ -1,4 +1,4 @@
-//! Where the extents of forks stand that calls wrote, and how many blocks are changed then.
+//! Where the extents of forks that calls wrote are, and how many blocks are changed then.
 //!
 //! The new volume has 64 blocks and 58 allocation blocks, of which 42 to 57 are free; its first new item gets the ID 16.
 use hfs_fixtures::{FixtureFault, new_image, one_file_image};
@@ -23,15 +23,15 @@ const FOUR_APART: &[u8] =
 const THREE_EACH: &[u8] =
     b"1\tdelete\t2\tb\n1\tdelete\t2\td\n1\tdelete\t2\tf\n1\tdelete\t2\th\n1\tdelete\t2\tj\n1\tcreate\t2\tx\n1\tseteof\t2\tx\tdata\t2560\n1\tdelete\t2\ta\n1\tdelete\t2\tl\n1\tdelete\t2\tn\n1\tdelete\t2\tp\n1\tcreate\t2\ty\n1\tseteof\t2\ty\tdata\t2048\n1\tseteof\t2\tx\tdata\t1536\n1\tseteof\t2\ty\tdata\t1536\n";
 
-/// Blocks 43, 45 and so on to 57 become free; of the files `x` and `y`, IDs 32 and 33, the latter goes on in the extents tree first, and then
-/// the former, whose record comes before it.
+/// Blocks 43, 45 and so on to 57 become free; of the files `x` and `y`, IDs 32 and 33, the latter continues in the extents tree
+/// first, and then the former, whose record comes before it.
 const HIGHER_FIRST: &[u8] =
     b"1\tdelete\t2\tb\n1\tdelete\t2\td\n1\tdelete\t2\tf\n1\tdelete\t2\th\n1\tdelete\t2\tj\n1\tdelete\t2\tl\n1\tdelete\t2\tn\n1\tdelete\t2\tp\n1\tcreate\t2\tx\n1\tcreate\t2\ty\n1\tseteof\t2\ty\tres\t2048\n1\tseteof\t2\tx\tdata\t2048\n";
 
 /// What isn't used of an extents record.
 const NONE: (u16, u16) = (0, 0);
 
-/// Whether a fork lies there behind these calls on the sixteen files.
+/// Whether a fork lies there after these calls on the sixteen files.
 fn lies(
     alloc: Global,
     text: &[u8],
@@ -74,7 +74,7 @@ const FOUR_BYTES: &[u8] = b"1\twrite\t2\tf\tdata\t510\tffffffff\n";
 /// No byte.
 const EMPTIED: &[u8] = b"1\tseteof\t2\tf\tdata\t0\n";
 
-/// Whether the fork of the one file lies there behind the bytes and another call.
+/// Whether the fork of the one file lies there after the bytes and another call.
 fn one_lies(alloc: Global, text: &[u8], wanted: &[(u16, u16)]) -> Result<bool, FixtureFault> {
     let fork = (16, Fork::DataFork);
     lies_after(

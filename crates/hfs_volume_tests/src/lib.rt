@@ -1,9 +1,7 @@
-//! Tests of what no run of the program shows of mounted volumes: images that are refused and come
-//! back, how many bytes went out where saving fails, images of which two blocks were read, where the
-//! extents of forks stand that were written, how many blocks are changed then, and a record of a
-//! catalog that gets a shorter one in its place.
-//! Expected values are written by hand. What calls answer stands as text in `tests/volumes/lists`,
-//! what mounting and repair find in `tests/volumes/images.txt`.
+//! Tests of what no run of the program shows of mounted volumes: images that are refused and handed back, how many bytes were
+//! written when saving fails, images of which two blocks were read, where the extents of forks are that were written, how many
+//! blocks are changed then, and a record of a catalog that is replaced by a shorter one. Expected values are written by hand.
+//! What calls answer is text in `tests/volumes/lists`, what mounting and repair find in `tests/volumes/images.txt`.
 #![tactic(auto)]
 
 #[cfg(test)]

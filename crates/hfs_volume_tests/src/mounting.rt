@@ -1,4 +1,4 @@
-//! Images that are refused, and come back as they were.
+//! Images that are refused, and handed back as they were.
 use hfs_check::MountFault;
 use hfs_volume::{Refused, mount, mount_repaired};
 use std::alloc::{AllocError, Global};
@@ -12,7 +12,7 @@ fn refusal_of(alloc: Global, image: Vec<u8>) -> Option<Refused> {
     }
 }
 
-/// The refusal of one that isn't mounted with its counts mended either.
+/// The refusal of one that isn't mounted even with its counts mended.
 fn refusal_in_repair(alloc: Global, image: Vec<u8>) -> Option<Refused> {
     match mount_repaired(alloc, image) {
         Ok(_mended) => None,
@@ -28,7 +28,7 @@ fn is_for(refused: Option<Refused>, given: &[u8], fault: MountFault) -> bool {
     }
 }
 
-/// Whether so many bytes of 0 are refused for this fault both times, and handed back as they were.
+/// Whether `len` bytes of 0 are refused for this fault both times, and handed back as they were.
 fn are_zeros_refused(alloc: Global, len: usize, fault: MountFault) -> Result<bool, AllocError> {
     let zeros = vec![in alloc; 0u8; len]?;
     let is_refused = is_for(refusal_of(alloc, zeros.clone()?), &zeros, fault);

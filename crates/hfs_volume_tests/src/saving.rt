@@ -1,4 +1,4 @@
-//! Images with changed blocks that are saved by writers that fail: how many bytes went out.
+//! Images with changed blocks that are saved by writers that fail: how many bytes were written.
 ghost use Rattle.std.specs.Prelude.{◌<◌};
 ghost use Rattle.hfs_blocks.specs.Blocks.{block_count};
 
@@ -65,20 +65,20 @@ fn change(alloc: Global, image: &mut Image, values: [u8; 3]) -> Result<(), Alloc
     }
 }
 
-/// What is saved of an image by a writer that takes so many bytes, and how the saving ended.
+/// What is saved of an image by a writer that takes `left` bytes, and how the saving ended.
 fn saved(alloc: Global, image: &Image, left: usize) -> (Vec<u8>, Result<(), SaveFault>) {
     let mut writer = LimitedWriter::new(alloc, left);
     let end = image.save(&mut writer);
     (writer.taken, end)
 }
 
-/// Whether a writer that takes so many bytes gets these.
+/// Whether a writer that takes `left` bytes gets these.
 pub fn is_saved(alloc: Global, image: &Image, left: usize, whole: &[u8]) -> bool {
     let (bytes, end) = saved(alloc, image, left);
     end.is_ok() && bytes.as_slice() == whole
 }
 
-/// Whether a writer that fails after so many bytes has the first of these and no others.
+/// Whether a writer that fails after `left` bytes has the first of these and no others.
 pub fn is_front(alloc: Global, image: &Image, whole: &[u8], left: usize) -> bool {
     let (bytes, end) = saved(alloc, image, left);
     match end {

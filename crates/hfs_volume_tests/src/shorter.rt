@@ -32,7 +32,7 @@ fn longer_tree() -> [[u8; 512]; 2] {
     [header_node(), leaf]
 }
 
-/// The same with 46 bytes of $5A under the name `v`: what stands behind them moves up, and the free space has zeros.
+/// The same with 46 bytes of $5A under the name `v`: what stands after them moves up, and the free space has zeros.
 fn shorter_tree() -> [[u8; 512]; 2] {
     let mut leaf = [0; 512];
     leaf[8..12].copy_from_slice(&[255, 1, 0, 2]);
@@ -44,7 +44,7 @@ fn shorter_tree() -> [[u8; 512]; 2] {
     [header_node(), leaf]
 }
 
-/// Puts a pair in the place of the one with its key. Whether the tree is sound before and after, and had such a pair, which is no
+/// Puts a pair in place of the one with its key. Whether the tree is sound before and after, and had such a pair, which is no
 /// shorter.
 fn put(alloc: Global, nodes: &mut NodeTable, key: &CatKey, body: &[u8]) -> Result<bool, Fail> {
     let Ok(_) = check_tree::<CatKey, NodeTable>(alloc, nodes, nodes.size()) else {

@@ -1,4 +1,4 @@
-//! An image's rows in the database.
+//! Putting an image's rows into the database.
 ghost use Rattle.std.specs.Prelude.{◌≡◌, ◌++◌, false, IfErr, IfNone, IfOk, IfSome, OnErr};
 ghost use Rattle.hfs_collection.specs.Counts.{image_counts};
 ghost use Rattle.hfs_collection.specs.Images.{image_rows};
@@ -16,7 +16,7 @@ use sqlite::Alter;
 use std::alloc::Global;
 use std::marker::PhantomData;
 
-/// An image, as a source of its rows: what it gives is said of the picked image, where that has the bytes which were read.
+/// An image, as a source of its rows; what it gives holds for the picked image, if that is consistent with the bytes read.
 #[derive(Drop)]
 pub struct ImageRows<'a, S, K, F> {
     pub(crate) alloc: Global,
@@ -58,10 +58,10 @@ impl<S: PlacedBytes + Drop, K: PickedImage, F: ImageFile<S, K>> RowSource
     }
 }
 
-/// Puts the rows of an image into the database, in the place of those that it had of the same path, and answers how much the image
-/// holds. None if it can't be opened or read as far as is wanted: then nothing has changed, and no transaction is under way. At a
-/// fault the open database shows what it showed; in the file are all rows, or nothing has changed. Faults: `CannotWrite`,
-/// `NoMemory`.
+/// Puts the rows of an image into the database, in place of those that it had for the same path, and returns how much the image
+/// holds. None if it can't be opened or not be read as far as needed: then nothing has changed, and no transaction is open. At a
+/// fault, the open database shows what it showed before; the file has all rows, or nothing in it has changed. Faults:
+/// `CannotWrite`, `NoMemory`.
 #[tactic(auto, using(crate::proofs::WrittenImages::unread_by))]
 pub fn collect_image<D: Alter + Drop, S: PlacedBytes + Drop, K: PickedImage, F: ImageFile<S, K>>(
     collection: &mut Collection<D>,

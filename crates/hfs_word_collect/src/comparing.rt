@@ -1,4 +1,4 @@
-//! Images beside what the database has of them.
+//! Comparing images with what the database has about them.
 ghost use Rattle.std.specs.Prelude.{◌≡◌, ◌≢◌, IfErr, IfNone, IfOk, IfSome, OnErr, string_bytes};
 ghost use Rattle.hex.specs.Hex.{encode_lower};
 ghost use Rattle.sha2.specs.Sha256.{sha256};
@@ -22,7 +22,7 @@ use std::alloc::Global;
 use std::io;
 use std::rt::Files;
 
-/// The hexadecimal digits of the digest of an image. None where a read fails.
+/// The hexadecimal digits of the digest of an image. None if a read fails.
 fn image_digits<S: PlacedBytes>(alloc: Global, source: &mut S) -> Result<Option<String>, RunFault>
     ensures digits { IfOk result (λ found. IfSome found (λ digits. OfEach (S.Holds source.new)
         (λ file. string_bytes digits ≡ encode_lower (sha256 file)))) }
@@ -40,7 +40,8 @@ fn image_digits<S: PlacedBytes>(alloc: Global, source: &mut S) -> Result<Option<
     }
 }
 
-/// How an image of `len` bytes stands to what the database has of it, by the digits of its digest; where these aren't needed, any do.
+/// How an image of `len` bytes compares to what the database has about it, by the digits of its digest; if these aren't needed,
+/// any do.
 fn told_by(known: &KnownImage, len: u64, digits: &str) -> Comparison
     ensures told { result ≡ comparison known.now len digits.now }
     ensures read { result ≢ Missing }
@@ -48,8 +49,8 @@ fn told_by(known: &KnownImage, len: u64, digits: &str) -> Comparison
     known.compared(len, digits)
 }
 
-/// How an image compares with what the database has of it. It is read where its digest is needed; where a read fails, it is
-/// missing. The only fault is `NoMemory`.
+/// How an image compares to what the database has about it. It is read if its digest is needed; if a read fails, it is missing.
+/// The only fault is `NoMemory`.
 #[tactic(auto, using(crate::proofs::Comparisons::told_by, crate::proofs::Comparisons::told_missing, crate::proofs::Comparisons::compared_missing_of, crate::proofs::Comparisons::compared_unread, crate::proofs::Comparisons::compared_read, crate::proofs::Comparisons::known_read, crate::proofs::Comparisons::unread_missing))]
 pub fn compare_known<S: PlacedBytes>(
     alloc: Global,
@@ -73,8 +74,8 @@ pub fn compare_known<S: PlacedBytes>(
     }
 }
 
-/// How an image stands to what the database has of this path: `New` where it has no row of it, else by its length and its digest;
-/// `Missing` where a read fails. Faults: `CannotWrite` where the database can't be read, `NoMemory`.
+/// How an image compares to what the database has for this path: `New` if it has no row of it, otherwise by its length and its
+/// digest; `Missing` if a read fails. Faults: `CannotWrite` if the database can't be read, `NoMemory`.
 #[tactic(auto, using(crate::proofs::Comparisons::asked_known, crate::proofs::Comparisons::asked_new, crate::proofs::Comparisons::compared_known, crate::proofs::Comparisons::compared_new, crate::proofs::Comparisons::known_read, crate::proofs::Comparisons::new_read, crate::proofs::Comparisons::fails_by_database, crate::proofs::Comparisons::fails_by_memory))]
 pub fn compare_file<D: Alter + Drop, S: PlacedBytes>(
     alloc: Global,
@@ -97,7 +98,7 @@ pub fn compare_file<D: Alter + Drop, S: PlacedBytes>(
     }
 }
 
-/// Reads the first byte of an image, where it has any.
+/// Reads the first byte of an image, if it has any.
 fn read_first<S: PlacedBytes>(source: &mut S) -> io::Result<()>
     ensures held { OfEach (S.Holds source.new) (S.Holds source.old) }
     ensures fails { OnErr result (SomeFail (S.Holds source.new) (S.Fails source.old)) }
@@ -111,8 +112,8 @@ fn read_first<S: PlacedBytes>(source: &mut S) -> io::Result<()>
     Ok(())
 }
 
-/// How an image that was opened compares with what the database has of its path, as [`compare_file`] says; `Missing` also where its
-/// first byte can't be read, and then the database isn't asked. It is said of each image that has the bytes which were read.
+/// How an opened image compares to what the database has for its path, as [`compare_file`] says; `Missing` also if its first byte
+/// can't be read, and then the database isn't asked. This holds for every image consistent with the bytes read.
 #[tactic(auto, using(crate::proofs::Comparisons::asked_missing, crate::proofs::Comparisons::compared_missing, crate::proofs::Comparisons::unread_missing, crate::proofs::Comparisons::read_before))]
 pub fn compare_image<D: Alter + Drop, S: PlacedBytes>(
     alloc: Global,
@@ -135,8 +136,8 @@ pub fn compare_image<D: Alter + Drop, S: PlacedBytes>(
     compare_file(alloc, collection, path, source)
 }
 
-/// Opens the image of this path, whose length is told to the watch. None where it can't be opened; what can't be sought in, such as a pipe, is read
-/// whole and held.
+/// Opens the image at this path, whose length is reported to the watch. None if it can't be opened; something that can't be
+/// sought in, such as a pipe, is read whole and held.
 pub fn open_image<'a, R: Files + AllocGlobal, W: ReadWatch>(
     rt: &'a R,
     path: &'a str,

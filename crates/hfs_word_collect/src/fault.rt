@@ -11,7 +11,7 @@ use hfs_rows::TakerFault;
 pub enum RunFault {
     /// The database can't be opened.
     CannotOpen(Obstacle),
-    /// The database can't be written, or what takes the text.
+    /// The database, or the writer of the text, can't be written.
     CannotWrite,
     /// Memory was refused.
     NoMemory,
@@ -45,7 +45,8 @@ impl From<TakerFault> for RunFault {
 }
 
 impl RunFault {
-    /// What a fault of giving an image's rows means for the run. None where only the image can't be read, and the next one comes.
+    /// What a failure to give an image's rows means for the run. None if only the image can't be read, and the run goes on with
+    /// the next one.
     pub fn of_image(fault: CollectFault) -> Option<RunFault>
         ensures { result ≡ image_fault fault }
     {

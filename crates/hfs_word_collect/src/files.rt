@@ -12,19 +12,20 @@ use std::io::{Read, Seek};
 use std::marker::Brand;
 use std::rt::Files;
 
-/// A file by its path, which is opened as often as it is asked for; what can't be sought in, such as a pipe, is read once and held.
+/// A file by its path, which is opened each time it is asked for; something that can't be sought in, such as a pipe, is read once
+/// and held.
 #[derive(Drop)]
 pub struct FileByPath<'a, R: Files, W> {
     rt: &'a R,
     path: &'a str,
-    /// Who is told of what is read.
+    /// What is notified of what is read.
     watch: &'a W,
     /// What is held.
     held: Option<StoredFile<R::File>>,
 }
 
 impl<'a, R: Files, W> FileByPath<'a, R, W> {
-    /// The file of this path, which isn't opened yet.
+    /// The file at this path, which isn't opened yet.
     pub fn new(rt: &'a R, path: &'a str, watch: &'a W) -> FileByPath<'a, R, W> {
         FileByPath {
             rt,
@@ -43,7 +44,7 @@ pub type RowsOfFile<'a, R, W> = ImageRows<
     NotedFile<WatchedFile<'a, <R as Files>::File, W>, Brand, FileByPath<'a, R, W>>,
 >;
 
-/// The rows of the image of the path that these facts have.
+/// The rows of the image at the path in these facts.
 pub fn rows_at<'a, R: Files + AllocGlobal, W: ReadWatch>(
     rt: &'a R,
     facts: &'a ImageFacts<'a>,
@@ -54,14 +55,14 @@ pub fn rows_at<'a, R: Files + AllocGlobal, W: ReadWatch>(
     ImageRows::new(rt.alloc(), file, facts)
 }
 
-/// Whether so many files can be opened at once as a database wants: itself, its log, and the folder that
-/// holds both. Where fewer can be, opening it would leave a file without bytes.
+/// Whether as many files can be opened at once as a database needs: itself, its log, and the folder that holds both. If not,
+/// opening it would leave an empty file.
 pub fn can_open_database<R: Files>(rt: &R) -> bool {
     let opened = (rt.open_dir("/"), rt.open_dir("/"), rt.open_dir("/"));
     opened.0.is_ok() && opened.1.is_ok() && opened.2.is_ok()
 }
 
-/// The same bytes once more, where they are held. The only error is want of memory.
+/// Another handle to the same bytes, if they are held. Fails only when out of memory.
 fn again<F: Read + Seek>(file: &StoredFile<F>) -> Result<Option<StoredFile<F>>, SparseFault>
     ensures same { IfOk result (λ found. IfSome found (IsSameAs file.now)) }
     ensures none { IfOk result (λ found. IfNone found (IsNotHeld file.now)) }
@@ -73,7 +74,7 @@ fn again<F: Read + Seek>(file: &StoredFile<F>) -> Result<Option<StoredFile<F>>, 
 }
 
 impl<R: Files + AllocGlobal, W> FileByPath<'_, R, W> {
-    /// What is held, once more. The only error is want of memory.
+    /// Another handle to what is held. Fails only when out of memory.
     fn lent(&self) -> Result<Option<StoredFile<R::File>>, SparseFault>
         ensures lent { IfOk result (λ found. IfSome found (IsLentOf self.now.held)) }
         ensures held { IfOk result (λ found. IfSome found (IsHeldIn self.now.held)) }
@@ -85,8 +86,8 @@ impl<R: Files + AllocGlobal, W> FileByPath<'_, R, W> {
         }
     }
 
-    /// The file: what is held of it, else it is opened, and what can't be sought in is held from then on. Errors: it can't be opened or read,
-    /// memory was refused.
+    /// The file: what is held of it, or else it is opened; something that can't be sought in is held from then on. Errors: it
+    /// can't be opened or read, memory was refused.
     fn stored(&mut self) -> Result<StoredFile<R::File>, SparseFault>
         ensures lent { IfOk result (IsLentOf self.old.held) }
         ensures held { IfOk result (IsHeldIn self.new.held) }

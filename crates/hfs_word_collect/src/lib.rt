@@ -1,4 +1,4 @@
-//! Images that are collected in one database, compared with what it has of them, or told as text.
+//! Images that are collected in one database, compared to what it has about them, or printed as text.
 #![tactic(auto)]
 
 mod collecting;

@@ -1,4 +1,4 @@
-//! What is printed of images.
+//! What is printed about images.
 ghost use Rattle.std.specs.Prelude.{◌≡◌, IfOk, string_bytes};
 ghost use Rattle.hfs_word_collect.specs.Lines.{comparison_line, image_line};
 
@@ -7,7 +7,7 @@ use hfs_commands::ShownPath;
 use hfs_database::Comparison;
 use std::alloc::{AllocError, Global};
 
-/// The line of an image that was collected. The only error is want of memory.
+/// The line of an image that was collected. Fails only when out of memory.
 #[tactic(auto, unfolding(crate::specs::Lines::image_line))]
 pub fn image_line(alloc: Global, path: &str, counts: &ImageCounts) -> Result<String, AllocError>
     ensures { IfOk result (λ line. string_bytes line ≡ image_line path.now counts.now) }
@@ -26,7 +26,7 @@ pub fn image_line(alloc: Global, path: &str, counts: &ImageCounts) -> Result<Str
     Ok(line)
 }
 
-/// The line of an image that was compared. The only error is want of memory.
+/// The line of an image that was compared. Fails only when out of memory.
 #[tactic(auto, unfolding(crate::specs::Lines::comparison_line))]
 pub fn comparison_line(alloc: Global, path: &str, found: Comparison) -> Result<String, AllocError>
     ensures { IfOk result (λ line. string_bytes line ≡ comparison_line path.now found) }

@@ -1,4 +1,4 @@
-//! A file that is read while somebody watches.
+//! A file that is read while a watch is notified.
 ghost use Rattle.hfs_commands.specs.OpenedFiles.{stored_failures, stored_images};
 
 use hfs_commands::StoredFile;
@@ -6,16 +6,16 @@ use hfs_source::PlacedBytes;
 use std::io;
 use std::io::{Read, Seek};
 
-/// Who is told of the bytes that are read of an image.
+/// What is notified of the bytes that are read of an image.
 pub trait ReadWatch {
-    /// The image was opened, and has so many bytes.
+    /// The image was opened, and has `len` bytes.
     fn opened(&self, len: u64);
 
-    /// So many bytes more were read.
+    /// This many more bytes were read.
     fn bytes_read(&self, count: u64);
 }
 
-/// A file of which each read is told to a watch.
+/// A file whose reads are reported to a watch.
 #[derive(Drop)]
 pub struct WatchedFile<'a, F: Read + Seek, W: ReadWatch> {
     pub(crate) file: StoredFile<F>,

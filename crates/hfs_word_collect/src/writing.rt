@@ -12,9 +12,9 @@ use hfs_source::PlacedBytes;
 use hfs_text_rows::TextTaker;
 use std::io::Write;
 
-/// Writes the rows of an image, and its end, and answers how much the image holds where all of them came. None where they
-/// don't, since the image can't be opened, or not be read as far as is wanted. At a fault a beginning of this was written. Faults: `CannotWrite` of the writer,
-/// `NoMemory`.
+/// Writes the rows of an image, and its end, and returns how much the image holds if all of them came. None if they didn't,
+/// because the image can't be opened, or not be read as far as needed. At a fault, a beginning of this was written. Faults:
+/// `CannotWrite` of the writer, `NoMemory`.
 #[tactic(auto, using(crate::proofs::WrittenImages::unread_by))]
 pub fn write_image<W: Write + Drop, S: PlacedBytes + Drop, K: PickedImage, F: ImageFile<S, K>>(
     taker: &mut TextTaker<W>,

@@ -1,4 +1,4 @@
-//! A file with what is put on its volume, which is looked at again with all that it is read from.
+//! A file with what is put on its volume; it is looked at again, with everything that it is read from.
 ghost use Rattle.std.specs.Prelude.{◌≡◌, OnOk};
 ghost use Rattle.hfs_source.specs.Images.{OfEach};
 ghost use Rattle.hfs_laid_forks.specs.Failures.{FailsLaid};
@@ -12,14 +12,14 @@ use hfs_sources::HostFault;
 use std::io;
 use std::io::ErrorKind;
 
-/// Who is told of the bytes that are read while a file is written.
+/// What is notified of the bytes that are read while a file is written.
 pub trait PutWatch {
-    /// So many bytes more were read.
+    /// This many more bytes were read.
     fn bytes_came(&self, count: u64);
 }
 
-/// The bytes of a file with the forks of what comes in their places, as far as the file and what comes are as they were. Each read is
-/// told to a watch.
+/// The bytes of a file with the forks of the sources in their places, provided that the file and the sources are as they were.
+/// Each read is reported to a watch.
 #[derive(Drop)]
 pub struct LaidFile<'a, S, H, W> {
     pub forks: LaidForks<S, H>,
@@ -44,7 +44,7 @@ impl<S: PlacedBytes + Drop, H: PlacedFiles + Drop, W: PutWatch> PlacedBytes
 }
 
 impl<S: WatchedBytes + Drop, H: PlacedFiles + Drop, W: PutWatch> LaidFile<'_, S, H, W> {
-    /// Why what comes couldn't be read, or was found changed, the first time.
+    /// Why the sources couldn't be read, or were found changed, the first time.
     pub fn into_fault(self) -> Option<HostFault>
         ensures { result ≡ self.entry.forks.fault }
     {
@@ -56,7 +56,7 @@ impl<S: WatchedBytes + Drop, H: PlacedFiles + Drop, W: PutWatch> LaidFile<'_, S,
     }
 }
 
-/// Looks again at all files that come, and then at the file in which they are laid. What was found changed is kept.
+/// Looks again at all files that are put, and then at the file into which they are laid. A change that was found is kept.
 fn look_again<S: WatchedBytes + Drop, H: PlacedFiles + Drop>(
     forks: &mut LaidForks<S, H>,
 ) -> io::Result<()>

@@ -10,14 +10,14 @@ use hfs_sources::HostFault;
 use std::alloc::{AllocError, Global};
 use std::fmt;
 
-/// Why nothing was put. Its `Display` is what the program prints, each line with its end.
+/// Why nothing was put. Its `Display` is what the program prints, whole lines.
 #[derive(Drop)]
 pub enum PutFault<'a> {
-    /// The image can't be read, or is refused; the file can't be written; or memory was refused.
+    /// The image can't be read or is refused; the file can't be written; or memory was refused.
     Image(Fault<'a>),
-    /// What has this path among what is to come can't be read, or changed while it was.
+    /// The source at this path can't be read, or changed while it was.
     CannotRead(String),
-    /// Something can't be put, as these lines say.
+    /// Something can't be put, for the reasons in these lines.
     Refused(String),
 }
 
@@ -35,7 +35,7 @@ impl PutFault<'_> {
 }
 
 impl PutFault<'static> {
-    /// The fault that these lines say, where there was memory for them.
+    /// The fault with these lines, if there was memory for them.
     pub fn of_lines(lines: Result<String, AllocError>) -> PutFault<'static>
         ensures told { IfOk lines (λ text. TellsBy (string_bytes text) result) }
         ensures memory { IfErr lines (λ _. result ≡ PutFault.Image Fault.NoMemory) }
@@ -46,7 +46,7 @@ impl PutFault<'static> {
         }
     }
 
-    /// What it means that what is to come can't be looked at.
+    /// The fault for sources that can't be looked at.
     pub fn of_host(alloc: Global, fault: HostFault) -> PutFault<'static>
         ensures { IsHostFault fault result }
     {

@@ -1,4 +1,4 @@
-//! What the calls that put a list make of a volume, but for the bytes of forks.
+//! What the calls that put a list make of a volume, except for the bytes of forks.
 ghost use Rattle.std.specs.Prelude.{◌≡◌, IfErr, IfOk};
 ghost use Rattle.hfs_blocks.specs.Blocks.{block_at, block_count};
 ghost use Rattle.hfs_check.specs.VolumeOf.{volume_of};
@@ -38,7 +38,7 @@ pub fn wants_of(volume: &Volume, places: &[PutItem]) -> BlockWants
     }
 }
 
-/// Why an item can't be put, one of whose calls got this reply.
+/// Why an item can't be put, from the reply to one of its calls.
 fn reason_of_reply(reply: &Reply, wants: BlockWants) -> PutReason
     ensures { result ≡ reply_reason reply.now wants }
 {
@@ -59,7 +59,7 @@ fn reason_of_reply(reply: &Reply, wants: BlockWants) -> PutReason
     }
 }
 
-/// What it means that a list was not laid.
+/// The fault for a list that was not laid.
 pub fn of_lay(
     alloc: Global,
     fault: LayFault,
@@ -81,8 +81,8 @@ pub fn of_lay(
     }
 }
 
-/// Makes all calls that put a list on a volume but those that write forks: what goes out. Fault: the first call that is refused;
-/// where blocks are wanting, those that were free before all, and all that the list wants.
+/// Makes all calls that put a list on a volume, except those that write forks, and returns the blocks to be written. Fault: the
+/// first call that is refused; if there are too few blocks, with those that were free at first and all that the list wants.
 pub fn lay_all(
     alloc: Global,
     volume: &mut Volume,

@@ -1,4 +1,4 @@
-//! What the word `put` does: files and folders of a host are put on a volume in a file, and what is printed of that.
+//! What the word `put` does: puts files and folders of a host on a volume in a file, and prints what it did.
 #![tactic(auto)]
 
 mod contents;

@@ -1,4 +1,4 @@
-//! The lines that are printed of what is put, and of what can't be.
+//! The lines that are printed about what is put, and about what can't be.
 ghost use Rattle.std.specs.Prelude.{◌≡◌, ◌≤◌, ◌+◌, ◌-◌, IfOk, OnOk, length, string_bytes, take, unwrap_or};
 ghost use Rattle.hfs_texts.specs.Texts.{Gains};
 ghost use Rattle.hfs_word_put.specs.Lines.{item_line, line_at, line_of, lines_of, more_line, put_lines, refusal_line, refused_lines, told_path};
@@ -16,17 +16,17 @@ const MOST_TOLD: usize = 100;
 /// How much was put on a volume.
 #[derive(Clone, Copy, Debug, PartialEq, Eq)]
 pub struct PutSums {
-    /// The files that came.
+    /// The files that were put.
     pub files: u64,
     /// The folders that were made.
     pub folders: u64,
-    /// The bytes of all forks that came.
+    /// The bytes of all forks that were put.
     pub bytes: u64,
-    /// The allocation blocks that are free then.
+    /// The allocation blocks that are free afterwards.
     pub free: u32,
 }
 
-/// Appends the line of what has this path and can't be put.
+/// Appends the line of something that has this path and can't be put.
 #[tactic(auto, unfolding(crate::specs::Lines::refusal_line))]
 fn push_refusal(text: &mut String, path: &str, reason: PutReason) -> Result<(), AllocError>
     ensures { OnOk result (Gains text.old text.new (refusal_line path.now reason)) }
@@ -38,7 +38,7 @@ fn push_refusal(text: &mut String, path: &str, reason: PutReason) -> Result<(), 
     text.push('\n')
 }
 
-/// The path of what belongs to an item by its name, or else its own.
+/// The path of the AppleDouble file that belongs to an item by its name, or else the item's own.
 fn double_or_own(item: &SourceItem) -> &str
     ensures { result.now ≡ unwrap_or item.now.double item.now.path }
 {
@@ -48,7 +48,7 @@ fn double_or_own(item: &SourceItem) -> &str
     }
 }
 
-/// The path by which an item is told.
+/// The path by which an item is reported.
 fn told_path(item: &SourceItem, reason: PutReason) -> &str
     ensures { result.now ≡ told_path item.now reason }
 {
@@ -116,7 +116,7 @@ fn push_all(
     Ok(())
 }
 
-/// Appends how many more there are, where there are any.
+/// Appends how many more there are, if any.
 #[tactic(auto, unfolding(crate::specs::Lines::more_line))]
 fn push_more(text: &mut String, more: usize) -> Result<(), AllocError>
     ensures { OnOk result (Gains text.old text.new (more_line more)) }
@@ -129,7 +129,7 @@ fn push_more(text: &mut String, more: usize) -> Result<(), AllocError>
     text.push_str(" more\n")
 }
 
-/// The first of them that have a line of their own.
+/// Those of the items that have a line of their own.
 fn first_told(refused: &[RefusedItem]) -> &[RefusedItem]
     ensures { result.now ≡ take 100 refused.now }
 {
@@ -140,8 +140,8 @@ fn first_told(refused: &[RefusedItem]) -> &[RefusedItem]
     }
 }
 
-/// The lines of the items that can't be put: one for each of the first 100, and how many more there are. The only error is want of
-/// memory.
+/// The lines of the items that can't be put: one for each of the first 100, and then how many more there are. Fails only when out
+/// of memory.
 #[tactic(auto, unfolding(crate::specs::Lines::refused_lines))]
 pub fn refused_lines(
     alloc: Global,
@@ -156,7 +156,7 @@ pub fn refused_lines(
     Ok(text)
 }
 
-/// The line of the item at a place of a list, which can't be put; none where there is no such item. The only error is want of memory.
+/// The line of the item at a place of a list, which can't be put; empty if there is no such item. Fails only when out of memory.
 pub fn line_at(
     alloc: Global,
     items: &[SourceItem],
@@ -170,7 +170,7 @@ pub fn line_at(
     Ok(text)
 }
 
-/// The line of what has a path and can't be put. The only error is want of memory.
+/// The line of something that has this path and can't be put. Fails only when out of memory.
 pub fn refusal_line(alloc: Global, path: &str, reason: PutReason) -> Result<String, AllocError>
     ensures { IfOk result (λ text. string_bytes text ≡ refusal_line path.now reason) }
 {
@@ -179,7 +179,7 @@ pub fn refusal_line(alloc: Global, path: &str, reason: PutReason) -> Result<Stri
     Ok(text)
 }
 
-/// The lines of what was put. The only error is want of memory.
+/// The lines about what was put. Fails only when out of memory.
 #[tactic(auto, unfolding(crate::specs::Lines::put_lines))]
 pub fn put_lines(alloc: Global, sums: &PutSums) -> Result<String, AllocError>
     ensures { IfOk result (λ text. string_bytes text ≡ put_lines sums.now) }

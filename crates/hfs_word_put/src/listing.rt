@@ -1,4 +1,4 @@
-//! What comes, as far as the host tells it.
+//! What is put, as the host describes it.
 ghost use Rattle.std.specs.Prelude.{◌≡◌, None, IfErr, IfOk, OnOk};
 ghost use Rattle.hfs_bag_facts.specs.Digests.{first_wrong};
 ghost use Rattle.hfs_bag_facts.specs.Later.{told_at};
@@ -13,16 +13,16 @@ use hfs_bag_facts::{BagFacts, ManifestDigests, first_wrong_file};
 use hfs_sources::{HostFault, HostTree, SourceItem, list_sources};
 use std::alloc::Global;
 
-/// What comes.
+/// What is put.
 #[derive(Drop)]
 pub struct Listed {
     /// The items, in the order of the walk.
     pub items: Vec<SourceItem>,
-    /// The digests that bags tell of their files.
+    /// The digests that bags give for their files.
     pub digests: ManifestDigests,
 }
 
-/// Reads what the tags of bags tell, and lists what comes.
+/// Reads the tags of bags, and lists what is put.
 fn read_list<T: HostTree>(
     alloc: Global,
     tree: &mut T,
@@ -38,8 +38,8 @@ fn read_list<T: HostTree>(
     Ok(Listed { items, digests })
 }
 
-/// Lists what comes, with what bags tell of it. Faults: the first that can't be read; a folder in which a name is not UTF-8; want of
-/// memory.
+/// Lists what is put, with what bags say about it. Faults: the first source that can't be read; a folder with a name that is not
+/// UTF-8; out of memory.
 pub fn list_all<T: HostTree>(
     alloc: Global,
     tree: &mut T,
@@ -56,8 +56,8 @@ pub fn list_all<T: HostTree>(
     }
 }
 
-/// Looks that each file has the digest that its bag tells of it, for which the files of bags are read. Faults: the first that has
-/// another, or that can't be read; want of memory.
+/// Checks that each file has the digest that its bag gives, which takes reading the files of bags. Faults: the first file that
+/// has another digest, or can't be read; out of memory.
 pub fn need_digests<T: HostTree>(
     alloc: Global,
     tree: &mut T,

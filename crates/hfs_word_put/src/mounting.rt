@@ -1,4 +1,4 @@
-//! The volume of an image is mounted over the blocks that calls read and write.
+//! Mounting the volume of an image over the blocks that calls read and write.
 ghost use Rattle.std.specs.Prelude.{◌≡◌, ◌/◌, None, IfErr, IfOk, Some, length};
 ghost use Rattle.hfs_check.specs.Faults.{fault_of};
 ghost use Rattle.hfs_check.specs.Sound.{IsSound};
@@ -16,7 +16,7 @@ use hfs_volume::Volume;
 use hfs_working::{WorkingVolume, mount_read, open_working};
 use std::alloc::Global;
 
-/// Reads the blocks that calls read and write of an image of `len` bytes, which was opened by this path, and makes all checks.
+/// Reads those blocks of an image of `len` bytes, opened by this path, that calls read and write, and makes all checks.
 fn open_image<'a, S: BlockSource>(
     alloc: Global,
     source: &mut S,
@@ -51,8 +51,8 @@ fn mount(alloc: Global, working: WorkingVolume, len: u64) -> Result<Volume, Faul
     }
 }
 
-/// Reads the blocks that calls read and write of an image of `len` bytes, which was opened by this path, makes all checks, and mounts
-/// its volume over them, with zeros in the place of all other blocks. Faults: `CannotRead` of the path; `Refused`; `NoMemory`.
+/// Reads those blocks of an image of `len` bytes, opened by this path, that calls read and write, makes all checks, and mounts
+/// its volume over them, with zeros in place of all other blocks. Faults: `CannotRead` of the path; `Refused`; `NoMemory`.
 pub fn mount_image<'a, S: BlockSource>(
     alloc: Global,
     source: &mut S,

@@ -4,14 +4,14 @@ use hfs_sources::PutOptions;
 /// What is put on a volume, and how.
 #[derive(Clone, Copy)]
 pub struct PutOrder<'a> {
-    /// The paths of what comes, in order.
+    /// The paths of the sources, in order.
     pub sources: &'a [&'a str],
-    /// The path of the folder on the volume into which it comes; the root where there is none.
+    /// The path of the folder on the volume into which they are put; the root if there is none.
     pub to: Option<&'a str>,
-    /// How what comes is looked at.
+    /// How the sources are read.
     pub how: PutOptions,
-    /// Whether files that stand there are replaced.
+    /// Whether files of the same name are replaced.
     pub replace: bool,
-    /// The moment of every change, in seconds since midnight of 1 January 1904.
+    /// The moment of every change, in seconds since midnight, 1 January 1904.
     pub now: u32,
 }

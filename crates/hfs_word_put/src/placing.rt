@@ -1,4 +1,4 @@
-//! Where what comes gets its place on a volume.
+//! Where the items are placed on a volume.
 ghost use Rattle.std.specs.Prelude.{◌≡◌, ℕ, Err, Some, MatchResult, Ok, OnOk, None, IfErr, IfOk, map, option_map};
 ghost use Rattle.hfs_check.specs.VolumeOf.{volume_of};
 ghost use Rattle.hfs_commands.specs.Entries.{entries_in};
@@ -23,11 +23,11 @@ use std::alloc::Global;
 pub struct PlacedList {
     /// The ID of the folder into which it is put.
     pub target: u32,
-    /// Its items as they are put, in their order.
+    /// Its items as they are put, in order.
     pub places: Vec<PutItem>,
 }
 
-/// Finds the folder into which it comes.
+/// Finds the folder into which the items are put.
 fn find_target(alloc: Global, volume: &Volume, to: Option<&str>) -> Result<u32, PutFault<'static>>
     ensures { let found = target_folder (entries_in volume.now.current) (option_map (λ text. text.now) to.entry) in
         MatchResult result (λ target. found ≡ Ok target) (TellsAny (target_line found)) }
@@ -38,7 +38,7 @@ fn find_target(alloc: Global, volume: &Volume, to: Option<&str>) -> Result<u32, 
     }
 }
 
-/// Looks that the volume isn't locked, where anything comes.
+/// Checks that the volume isn't locked, if anything is put.
 fn need_unlocked(
     alloc: Global,
     volume: &Volume,
@@ -80,8 +80,8 @@ fn find_places(
     }
 }
 
-/// Finds the folder of a volume into which a list comes, and how each item gets its place. Faults, in this order: there is no such
-/// folder; the volume is locked; all items that can't be put. Or want of memory.
+/// Finds the folder of a volume into which a list is put, and how each item is placed. Faults, in this order: there is no such
+/// folder; the volume is locked; all items that can't be put. Also out of memory.
 pub fn place_all(
     alloc: Global,
     volume: &Volume,

@@ -1,4 +1,4 @@
-//! What comes is put on a volume in a file: what the file is to hold then.
+//! Putting the sources on a volume in a file: what the file is to hold.
 ghost use Rattle.std.specs.Prelude.{◌≡◌, ◌≤◌, ◌/◌, IfErr, IfOk, OnOk};
 ghost use Rattle.hfs_blocks.specs.Blocks.{block_at, block_count};
 ghost use Rattle.hfs_check.specs.Parts.{mdb_in};
@@ -34,35 +34,35 @@ use std::alloc::Global;
 /// A list that was put on a volume.
 #[derive(Drop)]
 pub struct PutList {
-    /// The blocks that go out, and where the forks are to be laid.
+    /// The blocks to be written, and where the forks are to be laid.
     pub blocks: PutBlocks,
     /// How much was put.
     pub sums: PutSums,
 }
 
-/// What came, and was put on a volume.
+/// What was put on a volume.
 #[derive(Drop)]
 pub struct PutItems {
     pub items: Vec<SourceItem>,
     pub list: PutList,
 }
 
-/// What a file is to hold in which something was put on a volume, and how much was put.
+/// The contents of a file with what was put on a volume in it, and how much was put.
 #[derive(Drop)]
 pub struct PutImage<'w, S, H, W> {
     pub contents: ImageInFile<LaidFile<'w, S, H, W>>,
     pub sums: PutSums,
 }
 
-/// How much was put of a list on a volume.
+/// How much of a list was put on a volume.
 fn sums_of(volume: &Volume, places: &[PutItem]) -> PutSums
     ensures { result ≡ put_sums places.now (mdb_in (block_at volume.now.current)).free_blocks }
 {
     put_sums(places, u32::from(volume.directory().free_blocks))
 }
 
-/// Puts a list on a volume that was mounted just now. Faults, in this order: what can't come to its place; the first call that is
-/// refused. Or want of memory.
+/// Puts a list on a volume that has just been mounted. Faults, in this order: items that can't be placed; the first call that is
+/// refused. Also out of memory.
 fn put_list(
     alloc: Global,
     volume: &mut Volume,
@@ -86,9 +86,9 @@ fn put_list(
     }
 }
 
-/// Puts what comes on a volume that was mounted just now, by all calls but those that write forks. Faults, in this order: what can't
-/// be read of it; what can't come to its place; the first call that is refused; the first file with another digest than its bag
-/// tells. Or want of memory.
+/// Puts the sources on a volume that has just been mounted, with all calls except those that write forks. Faults, in this order:
+/// sources that can't be read; items that can't be placed; the first call that is refused; the first file with another digest
+/// than its bag gives. Also out of memory.
 pub fn put_items<T: HostTree>(
     alloc: Global,
     volume: &mut Volume,
@@ -111,7 +111,7 @@ pub fn put_items<T: HostTree>(
     }
 }
 
-/// Puts what comes on the volume of an image of `len` bytes, which was opened by this path. Faults, in this order: those of
+/// Puts the sources on the volume of an image of `len` bytes, opened by this path. Faults, in this order: those of
 /// [`mount_image`], then those of [`put_items`].
 pub fn put_on<'a, S: BlockSource, T: HostTree>(
     alloc: Global,
@@ -139,8 +139,8 @@ pub fn put_on<'a, S: BlockSource, T: HostTree>(
     }
 }
 
-/// What a file is to hold in which an image of `len` bytes lies, on whose volume this was put. Fault: `CannotRead` of the path, where
-/// the forks don't lie in the file.
+/// The contents of the file in which an image of `len` bytes lies, after this was put on its volume. Fault: `CannotRead` of the
+/// path, if the forks don't lie in the file.
 pub fn put_image<'a, 'w, S: WatchedBytes + Drop, H: PlacedFiles + Drop, W: PutWatch>(
     alloc: Global,
     image: WatchedRange<S>,
@@ -192,9 +192,9 @@ pub fn put_image<'a, 'w, S: WatchedBytes + Drop, H: PlacedFiles + Drop, W: PutWa
     })
 }
 
-/// Puts what comes on the volume of an image that lies in a file, which was opened by this path: what the file is to hold then. The
-/// bytes of forks are read as it is written, of which a watch is told. Faults: those of [`put_on`]; `CannotRead` of the path, where
-/// the forks don't lie in the file, or the image's range isn't as long as it was (which no source of bytes tells).
+/// Puts the sources on the volume of an image in a file, opened by this path, and returns what the file is to hold. The bytes of
+/// forks are read while it is written, and reported to a watch. Faults: those of [`put_on`]; `CannotRead` of the path, if the
+/// forks don't lie in the file, or the image's range isn't as long as it was (which no source of bytes lets happen).
 pub fn put_sources<'a, 'w, S: WatchedBytes + Drop, T: HostTree + Drop, W: PutWatch>(
     alloc: Global,
     image: WatchedRange<S>,
@@ -221,8 +221,7 @@ pub fn put_sources<'a, 'w, S: WatchedBytes + Drop, T: HostTree + Drop, W: PutWat
     }
 }
 
-/// What it means that what a file is to hold was not written: where what comes couldn't be read, or had changed, that; else this
-/// fault.
+/// The fault for a file that was not written: why the sources couldn't be read or had changed, if so; otherwise the given fault.
 pub fn unsaved<'a, S: WatchedBytes + Drop, H: PlacedFiles + Drop, W: PutWatch>(
     alloc: Global,
     contents: ImageInFile<LaidFile<'_, S, H, W>>,

@@ -1,4 +1,4 @@
-//! Why what comes can't be put, as it is printed.
+//! Why an item can't be put, as it is printed.
 ghost use Rattle.std.specs.Fmt.{signed_decimal};
 ghost use Rattle.std.specs.Prelude.{◌≡◌, ◌++◌, OnOk, codes};
 ghost use Rattle.hfs_texts.specs.Texts.{Gains};
@@ -9,33 +9,33 @@ use hfs_put_plan::Why;
 use hfs_texts::Show;
 use std::alloc::AllocError;
 
-/// Why what comes can't be put.
+/// Why an item can't be put.
 #[derive(Clone, Copy, Debug, PartialEq, Eq, Drop)]
 pub enum PutReason {
     /// It is neither a file nor a folder.
     NotAFile,
-    /// One of its forks has more bytes than a fork has.
+    /// One of its forks has more bytes than a fork can have.
     TooLarge,
-    /// What belongs to it by its name is no AppleDouble file.
+    /// The file that belongs to it by its name is no AppleDouble file.
     NotAppleDouble,
     /// It has no item name.
     NoName,
-    /// One before it in the same folder has the same name.
+    /// An earlier item in the same folder has the same name.
     TwoOfOneName,
     /// A call that puts it answers with this code.
     Code(i16),
     /// It isn't what its bag's manifest says.
     Digest,
-    /// So many allocation blocks are free, and all that comes wants so many.
+    /// This many allocation blocks are free, and all items together want this many.
     Room { free: u32, wanted: u64 },
-    /// A call that puts it wants more nodes of a tree: so many are free, and it has so many levels.
+    /// A call that puts it wants more nodes of a tree: this many are free, and the tree has this many levels.
     Full { free: u32, depth: u32 },
-    /// It is a folder, in which a name is not UTF-8.
+    /// It is a folder with a name that is not UTF-8.
     NameNotText,
 }
 
 impl PutReason {
-    /// The reason that was found of an item. One whose first call is refused has its place taken.
+    /// The reason for what was found of an item. If its first call is refused, the name is taken.
     pub fn of(why: Why) -> PutReason
         ensures { result ≡ reason_of why }
     {
@@ -50,7 +50,7 @@ impl PutReason {
     }
 }
 
-/// Appends a word and two numbers behind it.
+/// Appends a word and then two numbers.
 fn push_two<F: Show + Drop, S: Show + Drop>(
     text: &mut String,
     word: &str,

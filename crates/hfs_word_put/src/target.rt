@@ -1,4 +1,4 @@
-//! The folder into which what comes is put.
+//! The folder into which the items are put.
 ghost use Rattle.std.specs.Prelude.{◌≡◌, IfOk, option_map};
 ghost use Rattle.std.specs.List.{fold};
 ghost use Rattle.hfs_commands.specs.ByPath.{path_reply};
@@ -17,7 +17,7 @@ use std::alloc::{AllocError, Global};
 /// The ID of the root.
 const ROOT: u32 = 2;
 
-/// What is told of the folder's item of that name. A name that no item may have leads nowhere.
+/// The reply about the folder's item of that name. A name that no item may have leads nowhere.
 fn told_child(volume: &Volume, dir: u32, name: &[u8]) -> Reply
     ensures { result ≡ path.told_child (get_cat_info (entries_in volume.now.current)) dir name.now }
 {
@@ -28,7 +28,7 @@ fn told_child(volume: &Volume, dir: u32, name: &[u8]) -> Reply
     }
 }
 
-/// What is told one name further on a path. Where nothing was told of an item, that stays.
+/// The reply for one more name on a path. A reply without an item stays as it is.
 #[tactic(auto, unfolding(hfs_needed::specs::Paths::told_next))]
 fn told_next(volume: &Volume, told: Reply, name: &[u8]) -> Reply
     ensures { result ≡ path.told_next (get_cat_info (entries_in volume.now.current)) told name.now }
@@ -46,7 +46,7 @@ fn told_next(volume: &Volume, told: Reply, name: &[u8]) -> Reply
     }
 }
 
-/// What is told behind all these names.
+/// The reply after all these names.
 fn told_behind(volume: &Volume, root: Reply, below: &[Name]) -> Reply
     ensures { result
         ≡ fold (path.told_next (get_cat_info (entries_in volume.now.current))) root below.now }
@@ -75,7 +75,7 @@ fn is_root_name(name: &[u8], root: &Value) -> bool
     }
 }
 
-/// What is told of the item that these names lead to.
+/// The reply about the item that these names lead to.
 #[tactic(auto, unfolding(hfs_needed::specs::Paths::told_at))]
 fn path_told(volume: &Volume, names: &[Name]) -> Reply
     ensures { result ≡ path.path_told (entries_in volume.now.current) names.now }
@@ -91,7 +91,7 @@ fn path_told(volume: &Volume, names: &[Name]) -> Reply
     }
 }
 
-/// What is told of the item that the text of a path leads to.
+/// The reply about the item that the text of a path leads to.
 #[tactic(auto, using(crate::proofs::PathTargets::by_names, crate::proofs::PathTargets::by_none))]
 fn path_reply(alloc: Global, volume: &Volume, path: &str) -> Result<Reply, AllocError>
     ensures { IfOk result (λ reply. reply ≡ path_reply (entries_in volume.now.current) path.now) }
@@ -102,7 +102,7 @@ fn path_reply(alloc: Global, volume: &Volume, path: &str) -> Result<Reply, Alloc
     }
 }
 
-/// The folder that is an item of this kind and ID; -120 of a file.
+/// The folder that is an item of this kind and ID; -120 for a file.
 fn folder_by(kind: ItemKind, id: u32) -> Result<u32, Reply>
     ensures { result ≡ folder_by kind id }
 {
@@ -112,7 +112,7 @@ fn folder_by(kind: ItemKind, id: u32) -> Result<u32, Reply>
     }
 }
 
-/// The folder that a reply tells of, or the reply that refuses it.
+/// The folder that a reply describes, or the reply that refuses it.
 fn folder_of(reply: Reply) -> Result<u32, Reply>
     ensures { result ≡ folder_of reply }
 {
@@ -129,9 +129,9 @@ fn folder_of(reply: Reply) -> Result<u32, Reply>
     }
 }
 
-/// The folder of a volume into which what comes is put: the one that a path leads to, as `ls --path` takes it, or the root where none
-/// is given. Or the reply that refuses it: -43 where the path leads nowhere or is none, -120 where it leads to a file or through one.
-/// The only error is want of memory.
+/// The folder of a volume into which the items are put: the one that a path leads to, read as by `ls --path`, or the root if
+/// there is no path. Or the reply that refuses it: -43 if the path leads nowhere or is none, -120 if it leads to a file or
+/// through one. Fails only when out of memory.
 pub fn target_folder(
     alloc: Global,
     volume: &Volume,

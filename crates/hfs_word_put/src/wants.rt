@@ -26,7 +26,7 @@ fn wanted_blocks(size: BlockSize, items: &[PutItem]) -> u64
     wanted
 }
 
-/// How many allocation blocks of so many bytes the forks of a list want; 0 where a block has no such size.
+/// How many allocation blocks of `bytes` bytes the forks of a list want; 0 if a block can't have that size.
 pub fn wanted_of(bytes: u32, items: &[PutItem]) -> u64
     ensures { result ≡ wanted_of bytes items.now }
 {
@@ -43,7 +43,7 @@ fn item_bytes(item: &PutItem) -> u64
     u64::from(item.data_len) + u64::from(item.resource_len)
 }
 
-/// 1 of a folder that is made, 0 of one that stays, and of a file.
+/// 1 for a folder that is made, 0 for one that is already there, and for a file.
 fn folders_by(kind: ItemKind, placing: Placing) -> u64
     ensures { result ≡ folders_by kind placing }
 {
@@ -58,7 +58,7 @@ fn folders_by(kind: ItemKind, placing: Placing) -> u64
     }
 }
 
-/// 1 of a file, 0 of a folder.
+/// 1 for a file, 0 for a folder.
 fn files_by(kind: ItemKind) -> u64
     ensures { result ≡ files_by kind }
 {
@@ -101,7 +101,7 @@ fn bytes_in(items: &[PutItem]) -> u64
     bytes
 }
 
-/// How much was put of a list, where so many allocation blocks are free then.
+/// How much of a list was put, given how many allocation blocks are free afterwards.
 pub fn put_sums(items: &[PutItem], free: u32) -> PutSums
     ensures { result ≡ put_sums items.now free }
 {

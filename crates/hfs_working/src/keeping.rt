@@ -8,7 +8,7 @@ use hfs_changed_blocks::ChangedBlocks;
 use hfs_sparse::SparseBlocks;
 use std::alloc::{AllocError, Global};
 
-/// Puts in block `n`, where it was changed and was read.
+/// Keeps block `n`, if it was changed and was read.
 fn keep_block(
     kept: &mut Patch,
     changed: &ChangedBlocks,
@@ -26,8 +26,9 @@ fn keep_block(
     }
 }
 
-/// Those changed blocks of a volume of `count` blocks that were read. A block that was not read is none that calls change, unless they
-/// write a fork: where it is kept as changed, it is as it was in the copy, and the image has other bytes there. The only error is want of memory.
+/// Those changed blocks of a volume of `count` blocks that were read. Calls change no block that was not read, unless they write
+/// a fork; if such a block is kept as changed, it is as it was in the copy, but the image has other bytes there. Fails only when
+/// out of memory.
 pub fn kept_to(
     alloc: Global,
     changed: &ChangedBlocks,

@@ -1,4 +1,4 @@
-//! The blocks that calls read and write, and what follows of an image where these alone were read.
+//! The blocks that calls read and write, and what holds for an image of which only these were read.
 #![tactic(auto)]
 
 mod keeping;

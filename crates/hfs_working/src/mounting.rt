@@ -8,8 +8,8 @@ use crate::opening::WorkingVolume;
 use hfs_volume::{Base, Volume, mount_sound};
 use std::alloc::{AllocFailed, Global};
 
-/// Mounts the volume of an image of `len` bytes over the blocks that were read of it, with zeros in place of the others. No check is made
-/// again. Where memory is wanting the blocks are handed back.
+/// Mounts the volume of an image of `len` bytes over the blocks that were read of it, with zeros in place of the others. No check
+/// is made again. When out of memory, the blocks are handed back.
 pub fn mount_read(
     alloc: Global,
     working: WorkingVolume,

@@ -17,7 +17,7 @@ use hfs_needed::{NeededFault, gather_needed};
 use hfs_sparse::{BlockSource, SparseBlocks, SparseFault, fetch_runs};
 use std::alloc::Global;
 
-/// The working blocks of a sound volume, and what its checks found out.
+/// The working blocks of a sound volume, and what its checks found.
 #[derive(Drop)]
 pub struct WorkingVolume {
     /// The blocks that were read.
@@ -28,7 +28,7 @@ pub struct WorkingVolume {
     pub sound: SoundVolume,
 }
 
-/// What a read that failed or was refused memory means for its volume.
+/// The volume's fault for a read that failed or was refused memory.
 fn unread(fault: SparseFault) -> NeededFault
     ensures { (why : MountFault) → result ≢ NeededFault.Refused why }
 {
@@ -89,9 +89,10 @@ fn open_blocks<S: BlockSource>(
     }
 }
 
-/// Reads the working blocks of an image of `len` bytes, and makes all checks: the blocks that the checks need, and the free nodes of both trees.
-/// What was read, with zeros elsewhere, is sound, and is a copy of the image over which calls can be made; it is of each image that has the
-/// bytes which were read. Errors: a read failed, memory was refused, or the image is refused.
+/// Reads the working blocks of an image of `len` bytes, and makes all checks. These are the blocks that the checks need, and the
+/// free nodes of both trees. What was read, with zeros elsewhere, is sound, and is a copy of the image over which calls can be
+/// made; this holds for every image consistent with the bytes read. Errors: a read failed, memory was refused, or the image is
+/// refused.
 pub fn open_working<S: BlockSource>(
     alloc: Global,
     source: &mut S,

@@ -8,8 +8,8 @@ use crate::pair::Pair;
 use hfs_model::Entry;
 
 impl Pair {
-    /// Adds the accepted changes of the next entries of a journal, as far as there is memory. It answers how many of the
-    /// entries are done.
+    /// Adds the accepted changes of the next entries of a journal, as far as memory allows. Returns how many of the entries are
+    /// done.
     pub fn add_entries(&mut self, entries: &[Entry]) -> usize
         ensures within { result ≤ length entries.now }
         ensures added { self.new ≡ with_added self.old (changes (take result entries.now)) }
@@ -23,7 +23,7 @@ impl Pair {
         entries.len()
     }
 
-    // Adds the change of an entry, if it is one that was accepted, and answers whether the entry is done.
+    // Adds the change of an entry, if it is one that was accepted, and returns whether the entry is done.
     fn add_entry(&mut self, entry: &Entry) -> bool
         ensures added { IsAllOrNothing result (with_entry self.old entry.now) self.old self.new }
         ensures idle { is_accepted entry.now ≡ false → result ≡ true }

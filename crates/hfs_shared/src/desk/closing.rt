@@ -1,4 +1,4 @@
-//! Taking a desk apart, when all workers have given their passes back.
+//! Taking a desk apart once all workers have given their passes back.
 ghost use Rattle.std.specs.Prelude.{◌≡◌};
 ghost use Rattle.hfs_shared.specs.Closings.{HasPass, AreAllPasses, HasNoOthers, IsWhether};
 ghost use Rattle.hfs_shared.specs.Desks.{pass_state, IsHeadline};
@@ -17,7 +17,7 @@ impl Desk {
         &self.volume
     }
 
-    /// The volume alone.
+    /// The volume, without its journal.
     pub(crate) fn into_volume(self) -> Volume
         ensures base { result.base ≡ self.base }
         ensures current { result.current ≡ self.current }
@@ -47,7 +47,7 @@ impl Desk {
         (volume, journal)
     }
 
-    /// Whether the passes are those of all workers, each once and with its next number.
+    /// Whether these are the passes of all workers, each once and with its next number.
     pub(crate) fn are_all(&self, passes: &Vec<Pass>) -> bool
         ensures { IsWhether result
             (AreAllPasses passes.now.items self.now.workers self.now.journal) }

@@ -1,4 +1,4 @@
-//! Ending what lies under the lock, when all workers have given their passes back.
+//! Ending what lies under the lock once all workers have given their passes back.
 ghost use Rattle.std.specs.Prelude.{◌≡◌, IfOk, IfErr, MatchResult};
 ghost use mathlib.Core.List.{IsPrefix};
 ghost use Rattle.hfs_check.specs.VolumeOf.{volume_of};
@@ -14,9 +14,9 @@ use hfs_published::Viewer;
 use std::sync::Wait;
 
 impl<K: Session> Locked<K> {
-    /// Ends the pair, for which it waits for viewers that read; the lent viewer, of that pair, learns all that was published.
-    /// Refused exactly where the passes are not those of all workers, each once and with its next number: then the same parts
-    /// come back, and the viewer is unchanged.
+    /// Ends the pair, waiting for viewers that are reading; the viewer that is lent, which must be of this pair, learns
+    /// everything that was published. Refused exactly when the passes are not those of all workers, each once and with its next
+    /// number: then the same parts are handed back, and the viewer is unchanged.
     pub fn close<R: Wait>(
         self,
         rt: &R,
@@ -38,7 +38,7 @@ impl<K: Session> Locked<K> {
         Ok(self.end(rt))
     }
 
-    // Whether the passes are those of all workers, each once and with its next number.
+    // Whether these are the passes of all workers, each once and with its next number.
     fn are_all(&self, passes: &Vec<Pass>) -> bool
         ensures { IsWhether result
             (AreAllPasses passes.now.items self.now.workers self.now.journal) }
@@ -46,7 +46,7 @@ impl<K: Session> Locked<K> {
         self.desk.are_all(passes)
     }
 
-    // The viewer learns all that was published. It waits where the viewer knows of more, which no viewer of this pair does.
+    // The viewer learns everything that was published. Waits if the viewer knows of more, which no viewer of this pair does.
     fn teach<R: Wait>(&self, rt: &R, viewer: &mut Viewer)
         requires { viewer.old.book ≡ K.book }
         ensures seen { viewer.new.list
@@ -56,7 +56,7 @@ impl<K: Session> Locked<K> {
         self.pair.teach(rt, viewer);
     }
 
-    // Ends the pair, which waits for the readers, and gives the rest.
+    // Ends the pair, waiting for its readers, and returns the rest.
     fn end<R: Wait>(self, rt: &R) -> Closed
         ensures base { result.volume.base ≡ self.base }
         ensures current { result.volume.current ≡ self.current }

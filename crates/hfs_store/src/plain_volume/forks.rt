@@ -14,7 +14,7 @@ use hfs_model::{Call, END_OF_FILE, FILE_LOCKED, Fork, PARAMETER, Reply, Value};
 use std::alloc::AllocError;
 
 impl PlainVolume {
-    /// The place of the folder's file of that name, which isn't locked, in a volume that may be changed.
+    /// The place of the folder's file of that name, if it isn't locked, in a volume that may be changed.
     fn file_to_write(&self, dir: u32, name: &[u8]) -> Result<usize, i16>
         ensures { IsPlaceIn self.now (file_to_write self.now dir name.now) result }
     {
@@ -59,9 +59,9 @@ impl PlainVolume {
         Ok(at)
     }
 
-    /// Makes a file's fork its first `length` bytes, with zeros after them where it was shorter, and its physical length that of
-    /// the allocation blocks that these take. `Err` only where memory is wanting, and then the volume is as it was.
-    /// A lawful volume stays lawful.
+    /// Makes a file's fork `length` bytes long, by cutting it or adding zeros at its end, and sets its physical length to that of
+    /// the allocation blocks that it then takes. `Err` only when out of memory, and then the volume is as it was. A lawful volume
+    /// stays lawful.
     #[tactic(auto, unfolding(hfs_model::specs::ForkCalls::set_eof))]
     pub fn set_eof(
         &mut self,
@@ -88,9 +88,8 @@ impl PlainVolume {
         }
     }
 
-    /// Writes bytes into a file's fork from an offset on, which lengthens the fork where they go past its end. `Err` only where
-    /// memory is wanting, and then the volume is as it was.
-    /// A lawful volume stays lawful.
+    /// Writes bytes into a file's fork, starting at an offset; the fork grows if they go past its end. `Err` only when out of
+    /// memory, and then the volume is as it was. A lawful volume stays lawful.
     #[tactic(auto, unfolding(hfs_model::specs::ForkCalls::write_fork))]
     pub fn write_fork(
         &mut self,
@@ -117,7 +116,7 @@ impl PlainVolume {
             Err(code) => Ok(refusal(code)),
         }
     }
-    /// Answers a call that writes a fork. A refused call, and one for which memory was wanting, changes nothing.
+    /// Answers a call that writes a fork. A call that is refused, or for which memory ran out, changes nothing.
     #[tactic(auto)]
     pub(super) fn write(&mut self, call: &Call) -> Result<Reply, AllocError>
         requires { IsTrue (is_writing call.now) }

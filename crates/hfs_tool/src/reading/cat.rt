@@ -23,7 +23,7 @@ const NAME: Argument = Argument {
     excludes: &[],
 };
 
-/// A file by its path, in place of the ID of a folder and a name.
+/// A file by its path, instead of by a folder's ID and a name.
 const FILE_PATH: Argument = Argument {
     excludes: &["DIR", "NAME"],
     ..PATH
@@ -68,7 +68,7 @@ pub fn cat_words<'a>(matches: &ArgMatches<'a>) -> Result<Words<'a>, NoValue> {
     }
 }
 
-/// What `cat` asks for, of a file by its path.
+/// What `cat` asks for, for a file by its path.
 fn words_at<'a>(matches: &ArgMatches<'a>, place: PathWords<'a>) -> Result<Words<'a>, NoValue> {
     if MACBINARY.is_given(matches)? {
         return Ok(Words::MacBinaryAt(place));
@@ -79,7 +79,7 @@ fn words_at<'a>(matches: &ArgMatches<'a>, place: PathWords<'a>) -> Result<Words<
     }))
 }
 
-/// What `cat` asks for, of a file by its folder and its name.
+/// What `cat` asks for, for a file by its folder and its name.
 fn words_by_name<'a>(matches: &ArgMatches<'a>) -> Result<Words<'a>, NoValue> {
     let file = FileWords {
         image: IMAGE.text(matches)?,

@@ -8,7 +8,7 @@ use hfs_arguments::{Argument, NoValue, Takes, Word};
 use hfs_commands::Format;
 use std::alloc::{AllocError, Global};
 
-/// The format of a table, with tabs where it isn't given.
+/// The format of a table; with tabs by default.
 const FORMAT: Argument = Argument {
     name: "format",
     takes: Takes::ChoiceOption {

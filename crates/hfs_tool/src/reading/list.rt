@@ -6,7 +6,7 @@ use clap::{ArgMatches, Command};
 use hfs_arguments::{Argument, NoValue, Takes, Word};
 use std::alloc::{AllocError, Global};
 
-/// The ID of a folder, the root's where it isn't given.
+/// The ID of a folder; by default the root's.
 const DIR: Argument = Argument {
     name: "DIR",
     takes: Takes::NumberOr("2"),

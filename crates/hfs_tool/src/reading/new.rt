@@ -31,7 +31,7 @@ const BLOCKS: Argument = Argument {
     excludes: &[],
 };
 
-/// What is told where the blocks are no number.
+/// What is printed if the blocks are no number.
 const NO_BLOCKS: NoValue = NoValue("<BLOCKS>: a number of blocks, or 800K, or 1440K");
 
 /// How many nodes its catalog has.
@@ -83,7 +83,7 @@ fn blocks_in(matches: &ArgMatches<'_>) -> Result<u32, NoValue> {
     }
 }
 
-/// How many nodes are asked for, or chosen for so many blocks where none are.
+/// How many nodes are asked for, or are chosen for this many blocks if none are.
 fn nodes_in(
     argument: Argument,
     least: u32,

@@ -4,7 +4,7 @@ use crate::words::PathWords;
 use clap::ArgMatches;
 use hfs_arguments::{Argument, NoValue, Takes};
 
-/// The image of a volume, by its path: the volume itself, or a file in which the only one is looked for.
+/// The image of a volume, by its path: the volume itself, or a file in which the only volume is looked for.
 pub const IMAGE: Argument = Argument {
     name: "IMAGE",
     takes: Takes::Text,
@@ -52,7 +52,7 @@ pub const NO_DIGEST: Argument = Argument {
     excludes: &[],
 };
 
-/// The moment of every change, 0 where it isn't given.
+/// The moment of every change; 0 by default.
 pub const NOW: Argument = Argument {
     name: "now",
     takes: Takes::NumberOption {
@@ -63,11 +63,11 @@ pub const NOW: Argument = Argument {
     excludes: &[],
 };
 
-/// What the help says of the file that gets a changed image.
+/// What the help says about the file that gets a changed image.
 pub const OUT_HELP: &str =
     "The file for the changed image; what it has is replaced; it may be the image";
 
-/// The number of the volume in an image, where one is given.
+/// The number of the volume in an image, if one is given.
 pub fn volume_of(matches: &ArgMatches<'_>) -> Result<Option<u64>, NoValue> {
     match VOLUME.given_number(matches)? {
         Some(number) => Ok(Some(u64::from(number))),
@@ -75,7 +75,7 @@ pub fn volume_of(matches: &ArgMatches<'_>) -> Result<Option<u64>, NoValue> {
     }
 }
 
-/// The item that a path leads to, where a path is given.
+/// The item that a path leads to, if a path is given.
 pub fn path_words<'a>(matches: &ArgMatches<'a>) -> Result<Option<PathWords<'a>>, NoValue> {
     let Some(path) = PATH.given_text(matches) else {
         return Ok(None);

@@ -9,7 +9,7 @@ use hfs_console::WordsFault;
 use hfs_sources::PutOptions;
 use std::alloc::{AllocError, Global};
 
-/// The paths of what comes.
+/// The paths of the sources.
 const SOURCE: Argument = Argument {
     name: "SOURCE",
     takes: Takes::SomeTexts,
@@ -25,7 +25,7 @@ const OUT: Argument = Argument {
     excludes: &[],
 };
 
-/// The folder on the volume that gets what comes, by its path.
+/// The path of the folder on the volume into which the sources are put.
 const TO: Argument = Argument {
     name: "to",
     takes: Takes::AnyTextOption { value: "PATH" },
@@ -34,7 +34,7 @@ const TO: Argument = Argument {
 };
 
 /// The choice that MacBinary files are taken apart.
-const MACBINARY: Argument = Argument {
+pub const MACBINARY: Argument = Argument {
     name: "macbinary",
     takes: Takes::Flag,
     help: "Takes MacBinary files apart: name, type, creator, lock, dates and both forks",
@@ -50,7 +50,7 @@ const REPLACE: Argument = Argument {
 };
 
 /// The choice that names are changed.
-const RENAME: Argument = Argument {
+pub const RENAME: Argument = Argument {
     name: "rename",
     takes: Takes::Flag,
     help: "Makes an item name of any other: _ for each character that none has, cut to 31",
@@ -58,7 +58,7 @@ const RENAME: Argument = Argument {
 };
 
 /// The moment of every change.
-const CLOCK_NOW: Argument = Argument {
+pub const CLOCK_NOW: Argument = Argument {
     name: "now",
     takes: Takes::GivenNumberOption { value: "N" },
     help: "The moment, in seconds since midnight of 1 January 1904; the clock's if left out",
@@ -74,7 +74,7 @@ const PUT: Word = Word {
     ],
 };
 
-/// How `put` is used: options may stand before what comes or behind it.
+/// How `put` is used: options may come before or after the sources.
 const USAGE: &str = "hfs_tool put [OPTIONS] --out <FILE> <IMAGE> <SOURCE>...";
 
 /// The command of `put`.
@@ -82,7 +82,7 @@ pub fn put_command<'a>(alloc: Global) -> Result<Command<'a>, AllocError> {
     Ok(PUT.command(alloc)?.override_usage(USAGE))
 }
 
-/// What `put` asks for. Faults: the program's own, or want of memory.
+/// What `put` asks for. Faults: the program's own, or out of memory.
 pub fn put_words<'a>(alloc: Global, matches: &ArgMatches<'a>) -> Result<Words<'a>, WordsFault> {
     let image = BARE_IMAGE.text(matches)?;
     let volume = volume_of(matches)?;
@@ -102,8 +102,8 @@ pub fn put_words<'a>(alloc: Global, matches: &ArgMatches<'a>) -> Result<Words<'a
     }))
 }
 
-/// How what comes is to be looked at.
-fn options_of(matches: &ArgMatches<'_>) -> Result<PutOptions, NoValue> {
+/// How the sources are to be read.
+pub fn options_of(matches: &ArgMatches<'_>) -> Result<PutOptions, NoValue> {
     Ok(PutOptions {
         macbinary: MACBINARY.is_given(matches)?,
         rename: RENAME.is_given(matches)?,

@@ -9,7 +9,7 @@ use hfs_salvage::{BagWords, RescueWords};
 use hfs_take::folder_path;
 use std::alloc::{AllocError, Global};
 
-/// The choice of a list in place of a folder.
+/// The choice of a list instead of a folder.
 const LIST: Argument = Argument {
     name: "list",
     takes: Takes::Flag,

@@ -1,4 +1,4 @@
-//! What those who read beside the writer take from a mounted volume.
+//! What a mounted volume hands to readers that run next to its writer.
 
 ghost use Rattle.std.specs.Prelude.{◌≡◌, [], IfOk, IfErr};
 ghost use Rattle.hfs_blocks.specs.Blocks.{block_at};
@@ -22,7 +22,7 @@ use hfs_space::fork_extents;
 use std::alloc::{AllocError, AllocFailed, Global};
 
 impl Volume {
-    /// The bytes as they were mounted, without a copy of them. The only error is want of memory.
+    /// The bytes as they were mounted, without copying them. Fails only when out of memory.
     pub fn base(&self) -> Result<Base, AllocError>
         ensures base { IfOk result (λ base. base ≡ self.now.base) }
         ensures sound { IsSound self.now.base }
@@ -31,18 +31,18 @@ impl Volume {
         self.image.base()
     }
 
-    /// The bytes as they were mounted are sound, and as they are now they agree with those, and so are sound, too: whatever
-    /// calls were made. It does nothing.
+    /// Whatever calls were made, the bytes as they were mounted are sound, and the bytes as they are now agree with them, so they
+    /// are sound as well. Does nothing.
     pub fn agrees_with_base(&self)
         ensures base { IsSound self.now.base }
         ensures agrees { AgreesBut self.now.written self.now.base self.now.current }
     {
-        // A proof knows what a volume keeps to once it has seen the image.
+        // Once a proof has seen the image, it knows what the volume keeps to.
         let _image = &self.image;
     }
 
-    /// The blocks that were changed since the volume was mounted, by their numbers: laid over the bytes as they were mounted they make
-    /// those that they are now. There may be some that are as they were.
+    /// The blocks that have changed since the volume was mounted, by their numbers. Laid over the bytes as they were mounted,
+    /// they give the bytes as they are now. Some may be as they were.
     pub fn changes(&self) -> &ChangedBlocks
         ensures current { self.now.current ≡ patched result.now self.now.base }
         ensures changed { self.now.changed ≡ numbers result.now }
@@ -50,8 +50,8 @@ impl Volume {
         self.image.changes()
     }
 
-    /// The volume with its bytes as they are now as those that it was mounted with: no block is changed. Where memory is wanting
-    /// the volume is handed back.
+    /// The volume mounted anew: its bytes as they are now count as those that it was mounted with, and no block has changed. When
+    /// out of memory, the volume is handed back.
     pub fn mounted_anew(self, alloc: Global) -> Result<Volume, AllocFailed<Volume>>
         ensures base { IfOk result (λ volume. volume.base ≡ self.current) }
         ensures current { IfOk result (λ volume. volume.current ≡ self.current) }
@@ -91,15 +91,14 @@ impl Volume {
         self.mdb.next_id
     }
 
-    /// The records of the catalog's leaves, in their order. Each leaf is read once. The only error is want of memory.
+    /// The records of the catalog's leaves, in order. Reads each leaf once. Fails only when out of memory.
     pub fn records(&self, alloc: Global) -> Result<Vec<CatalogRecord>, AllocError>
         ensures { IfOk result (λ records. records.items ≡ catalog_in (block_at self.now.current)) }
     {
         read_records(alloc, &self.catalog_nodes())
     }
 
-    /// All extents of a fork of the file with this record, those of the extents tree among them. The only error is want of
-    /// memory.
+    /// All extents of a fork of the file with this record, including those in the extents tree. Fails only when out of memory.
     #[tactic(auto, unfolding(crate::specs::Sharing::file_extents))]
     pub fn file_extents(
         &self,
@@ -109,22 +108,22 @@ impl Volume {
     ) -> Result<Vec<Extent>, AllocError>
         ensures { GivesItems (file_extents (block_at self.now.current) fork file.now) result }
     {
-        // A proof knows what a volume keeps to once it has seen the image.
+        // Once a proof has seen the image, it knows what the volume keeps to.
         let _image = &self.image;
         let (kind, record) = fork_record(file, fork);
         fork_extents(alloc, &self.extents_nodes(), file.id, kind, &record.extents)
     }
 
-    /// All extents of a fork of the file of that ID, those of the extents tree among them. Their bytes in the base begin with those
-    /// of the fork, which is as long as its logical length. A file without a thread is looked for among all records. The only error
-    /// is want of memory.
+    /// All extents of a fork of the file with that ID, including those in the extents tree. Their bytes in the base begin with
+    /// those of the fork, which has as many as its logical length. A file without a thread is looked for among all records. Fails
+    /// only when out of memory.
     pub fn extents(&self, alloc: Global, id: u32, fork: Fork) -> Result<Vec<Extent>, AllocError>
         requires { IsFileId (volume_of self.now.current) id }
         ensures extents { IfOk result (AreForkExtents self.now.current id fork) }
         ensures within { IfOk result (λ extents. AreExtentsIn self.now.base extents.items) }
         ensures bytes { IfOk result (BeginWithFork self.now id fork) }
     {
-        // A proof knows what a volume keeps to once it has seen the image.
+        // Once a proof has seen the image, it knows what the volume keeps to.
         let _image = &self.image;
         let Some(item) = by_id(&self.catalog_nodes(), id) else {
             unreachable!()

@@ -1,10 +1,10 @@
-//! Calls by their text.
+//! Calls from text.
 use anyhow::{Result, bail};
 use hfs_model::Call;
 use hfs_scripts::{ScriptFault, read_script};
 use std::alloc::Global;
 
-/// The call that a script's line asks for, without its worker, at the moment 7.
+/// The call in a script's line, without its worker, at the moment 7.
 pub fn call_of(alloc: Global, text: &[u8]) -> Result<Call> {
     let mut line = Vec::from_slice(alloc, b"1\t")?;
     line.extend_from_slice(text)?;

@@ -24,7 +24,7 @@ pub fn image_with(alloc: Global, edits: &[Edit<'_>]) -> Result<Vec<u8>, FixtureF
     Ok(image)
 }
 
-/// The volume of an image, which is sound. Where memory is refused it is mounted once more.
+/// The volume of an image, which is sound. If memory is refused, it is mounted once more.
 pub fn mounted(alloc: Global, image: Vec<u8>) -> Result<Volume> {
     match mount(alloc, image) {
         Ok(volume) => Ok(volume),

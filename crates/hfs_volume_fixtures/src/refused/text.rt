@@ -4,7 +4,7 @@ use hfs_texts::{LoadFault, load};
 use std::alloc::Global;
 use std::io::Read;
 
-/// All that a reader gives.
+/// Everything that a reader gives.
 pub fn input<R: Read>(alloc: Global, reader: &mut R) -> Result<Vec<u8>> {
     match load(alloc, reader) {
         Ok(bytes) => Ok(bytes),
@@ -13,7 +13,7 @@ pub fn input<R: Read>(alloc: Global, reader: &mut R) -> Result<Vec<u8>> {
     }
 }
 
-/// The text before the first such byte, and the text behind it.
+/// The text before the first such byte, and the text after it.
 pub fn split_at(text: &[u8], byte: u8) -> (&[u8], &[u8]) {
     match text.iter().position(|b| *b == byte) {
         Some(end) => (&text[..end], &text[end + 1..]),

@@ -1,0 +1,46 @@
+//! What comes into a new volume, as far as the host tells it.
+ghost use Rattle.std.specs.Prelude.{IfErr, IfOk};
+ghost use Rattle.hfs_sources.specs.Trees.{OfEachTree};
+ghost use Rattle.hfs_word_make.specs.Listed.{IsNewListed};
+ghost use Rattle.hfs_word_put.specs.Listed.{IsUnlisted};
+
+use crate::order::MakeOrder;
+use hfs_bag_facts::{BagFacts, ManifestDigests};
+use hfs_make_items::list_new;
+use hfs_sources::{HostFault, HostTree};
+use hfs_word_put::{Listed, PutFault};
+use std::alloc::Global;
+
+/// Reads what the tags of bags tell, and lists what comes.
+fn read_list<T: HostTree>(
+    alloc: Global,
+    tree: &mut T,
+    order: &MakeOrder<'_>,
+) -> Result<Listed, HostFault>
+    ensures listed { IfOk result (λ listed. OfEachTree (T.Holds tree.new)
+        (IsNewListed order.entry.now listed.items.items listed.digests)) }
+    ensures held { OfEachTree (T.Holds tree.new) (T.Holds tree.old) }
+{
+    let facts = BagFacts::read(alloc, tree, order.sources)?;
+    let digests = ManifestDigests::read(alloc, tree, order.sources)?;
+    let items = list_new(alloc, tree, &facts, order.how, order.sources)?;
+    Ok(Listed { items, digests })
+}
+
+/// Lists what comes into a new volume, with what bags tell of it. Faults: the first that can't be read; a folder in which a name is
+/// not UTF-8; want of memory.
+pub fn list_all_new<T: HostTree>(
+    alloc: Global,
+    tree: &mut T,
+    order: &MakeOrder<'_>,
+) -> Result<Listed, PutFault<'static>>
+    ensures listed { IfOk result (λ listed. OfEachTree (T.Holds tree.new)
+        (IsNewListed order.entry.now listed.items.items listed.digests)) }
+    ensures held { OfEachTree (T.Holds tree.new) (T.Holds tree.old) }
+    ensures fault { IfErr result IsUnlisted }
+{
+    match read_list(alloc, tree, order) {
+        Ok(listed) => Ok(listed),
+        Err(fault) => Err(PutFault::of_host(alloc, fault)),
+    }
+}

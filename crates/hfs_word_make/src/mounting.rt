@@ -1,0 +1,49 @@
+//! A new volume is mounted, which lies in no file yet.
+ghost use Rattle.std.specs.Prelude.{◌≡◌, ◌≤◌, IfErr, IfOk, OnOk, length};
+ghost use Rattle.hfs_format.specs.Image.{image_bytes};
+ghost use Rattle.hfs_word_put.specs.Put.{IsUnmounted};
+ghost use Rattle.hfs_working.specs.Working.{IsWorkingCopy};
+
+use hfs_commands::Fault;
+use hfs_make::NewImage;
+use hfs_needed::NeededFault;
+use hfs_source::PlacedBytes;
+use hfs_volume::Volume;
+use hfs_working::{WorkingVolume, mount_read, open_working};
+use std::alloc::Global;
+
+/// What it means that a new volume isn't opened that is to lie at this path.
+fn of_needed(fault: NeededFault, path: &str) -> Fault<'_>
+    ensures { IsUnmounted path.entry result }
+{
+    match fault {
+        NeededFault::Refused(why) => Fault::Refused(why),
+        NeededFault::ReadFailed => Fault::CannotRead(path),
+        NeededFault::Memory => Fault::NoMemory,
+    }
+}
+
+/// Makes the blocks of a new volume that calls read and write, and mounts it over them, with zeros in the place of all other blocks.
+/// The path is the one at which it is to lie.
+pub(crate) fn mount_new<'a>(
+    alloc: Global,
+    image: NewImage,
+    path: &'a str,
+) -> Result<Volume, Fault<'a>>
+    ensures copy { IfOk result (λ volume.
+        IsWorkingCopy volume.base (image_bytes image.planned)) }
+    ensures small { OnOk result (length (image_bytes image.planned) ≤ 2147483648) }
+    ensures fresh { IfOk result (λ volume. volume.current ≡ volume.base) }
+    ensures fault { IfErr result (IsUnmounted path.entry) }
+{
+    let mut image = image;
+    let len = PlacedBytes::len(&image);
+    let working = match open_working(alloc, &mut image, len) {
+        Ok(working) => working,
+        Err(fault) => return Err(of_needed(fault, path)),
+    };
+    match mount_read(alloc, working, len) {
+        Ok(volume) => Ok(volume),
+        Err(_) => Err(Fault::NoMemory),
+    }
+}
