@@ -15,9 +15,9 @@ stays_held (Seekable file) new held later = tt
 stays_held (Whole bytes) (Seekable file) held later = absurd (omega (arith, later 0 0 tt))
 stays_held (Whole bytes) (Whole others) held later = ap Some (held (arc_value others).items refl)
 
--- what is told of each file that has the bytes which were read is told of those that were held
-pub told_held : {F : Type 0} (old new : StoredFile F) (value : List ℕ → ℕ) (x : ℕ) → OfEach (stored_images new) (stored_images old) → FailsWhere (stored_failures new) (stored_failures old)
-    → OfEach (stored_images new) (λ file. x ≡ value file) → IfSome (stored_bytes old) (λ file. x ≡ value file)
-told_held (Seekable file) new value x held later told = tt
-told_held (Whole bytes) (Seekable file) value x held later told = absurd (omega (arith, later 0 0 tt))
-told_held (Whole bytes) (Whole others) value x held later told = subst (λ file. x ≡ value file) (held (arc_value others).items refl) (told (arc_value others).items refl)
+-- how many sectors are told to have no user data, of each file that has the bytes which were read, is told of those that were held
+pub others_held : {F : Type 0} (old new : StoredFile F) (others : ℕ) → OfEach (stored_images new) (stored_images old) → FailsWhere (stored_failures new) (stored_failures old)
+    → OfEach (stored_images new) (λ file. others ≡ other_count file) → IfSome (stored_bytes old) (λ file. others ≡ other_count file)
+others_held (Seekable file) new others held later told = tt
+others_held (Whole bytes) (Seekable file) others held later told = absurd (omega (arith, later 0 0 tt))
+others_held (Whole bytes) (Whole now) others held later told = subst (λ file. others ≡ other_count file) (held (arc_value now).items refl) (told (arc_value now).items refl)

@@ -102,7 +102,7 @@ impl<F: Read + Seek> PlacedBytes for OpenedFile<F> {
 }
 
 /// How many raw sectors of a file have no user data: each is looked at. Error: a read failed.
-#[tactic(auto, using(crate::proofs::HeldBytes::stays_held, crate::proofs::HeldBytes::told_held))]
+#[tactic(auto, using(crate::proofs::HeldBytes::stays_held))]
 fn others_of<F: Read + Seek>(file: &mut StoredFile<F>) -> Result<u64, SparseFault>
     ensures others { IfOk result (λ others. OfEach (stored_images file.new)
         (λ bytes. others ≡ other_count bytes)) }
