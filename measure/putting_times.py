@@ -1,12 +1,13 @@
 #!/usr/bin/env python3
-"""How long `put` takes, on a RAM disk, and its most memory.
+"""How long `put` and `make` take, on a RAM disk, and their most memory.
 
-measure/putting_times.py files         5,800 files of 20 MB in 200 folders, beside `cp -a` of these files and of the image, and `hcopy -r` folder by folder
+measure/putting_times.py files         5,800 files of 20 MB in 200 folders, beside `cp -a` of these files and of the image, and `hcopy -r` folder by folder;
+                                       a disk made of them, beside `cp -a` of them
 measure/putting_times.py fork [MB]     a file of 500 MB, or of so many, beside `cp` of it
 measure/putting_times.py small [MB]    a small file on a volume of 2,000 MB, or of so many, without holes, beside one Create by `run --out`
-measure/putting_times.py many [N]      100,000 empty files, or so many, in folders of 100: processor time and memory
+measure/putting_times.py many [N]      100,000 empty files, or so many, in folders of 100, put and made: processor time and memory
 
-Each runs seven times, a large one three times, in turns; the least time is told, with the seconds in the program and in the system of that run.
+Each runs seven times, a large one three times, in turns; the least time is told, by the clock and of the processor.
 """
 import os
 import resource
@@ -19,36 +20,59 @@ from pathlib import Path
 
 ROOT = Path(__file__).resolve().parents[1]
 TOOL = os.environ.get('HFS_TOOL') or str(ROOT / 'crates' / 'hfs_tool' / 'out' / 'hfs_tool')
+sys.path.insert(0, str(ROOT / 'tests'))
+from driver.programs import MEASURED  # noqa: E402
+
 QUIET = {'stdin': subprocess.DEVNULL, 'stdout': subprocess.DEVNULL, 'stderr': subprocess.DEVNULL}
 
 
-def do(*words) -> int:
-    """Runs these words; its most memory, in KB."""
-    ran = subprocess.Popen([str(it) for it in words], **QUIET)
-    _, status, used = os.wait4(ran.pid, 0)
+def do(*words) -> None:
+    """Runs these words."""
+    status = subprocess.run([str(it) for it in words], **QUIET).returncode
     if status != 0:
         sys.exit(f'{words} ends with {status}')
-    return used.ru_maxrss
 
 
-def best(runs: int, jobs) -> dict[str, float]:
-    """The least time of each of these jobs, which take turns, with what its processes took; each makes a file or a folder, which goes before the next."""
+def memory(*words) -> str:
+    """What these words take of memory at most. A program's counts as much as what begins it, so that is little."""
+    ran = subprocess.run([sys.executable, '-S', '-E', '-c', MEASURED, *map(str, words)], stdin=subprocess.DEVNULL, stdout=subprocess.PIPE, check=True, text=True)
+    return f'{int(ran.stdout.split()[-1]) / 1024:.1f} MB'
+
+
+def best(runs: int, jobs):
+    """The least time of each of these jobs, which take turns, by the clock and of the processor; each makes a file or a folder, which goes before
+    the next."""
     least = {}
     for _ in range(runs):
         for name, job, made in jobs:
             shutil.rmtree(made, ignore_errors=True) if made.is_dir() else made.unlink(missing_ok=True)
             before, began = resource.getrusage(resource.RUSAGE_CHILDREN), time.time()
-            memory = job()
+            job()
             took, after = time.time() - began, resource.getrusage(resource.RUSAGE_CHILDREN)
-            least[name] = min(least.get(name, (9e9,)), (took, after.ru_utime - before.ru_utime, after.ru_stime - before.ru_stime, memory))
-    for name, (took, own, system, memory) in least.items():
-        print(f'{name}: {took:.3f} s (program {own:.3f}, system {system:.3f}), {memory / 1024:.1f} MB', flush=True)
-    return {name: it[0] for name, it in least.items()}
+            spent = after.ru_utime - before.ru_utime, after.ru_stime - before.ru_stime
+            clock, processor = least.get(name, (9e9, (9e9,)))
+            least[name] = min(clock, took), min(processor, spent, key=sum)
+    for name, (took, (own, system)) in least.items():
+        print(f'{name}: {took:.3f} s; of the processor {own + system:.3f} (program {own:.3f}, system {system:.3f})', flush=True)
+    return least
+
+
+def compare(least, ours: str, *others: str) -> None:
+    """Prints how much more one takes than others, by the clock and of the processor."""
+    for other in others:
+        if other in least:
+            (took, spent), (beside, beside_spent) = least[ours], least[other]
+            print(f'{ours} to {other}: {took / beside:.2f} by the clock, {sum(spent) / sum(beside_spent):.2f} of the processor', flush=True)
 
 
 def put(image: Path, source: Path, out: Path):
     """The job that puts a source on an image."""
     return lambda: do(TOOL, 'put', image, source, '--out', out)
+
+
+def make(source: Path, out: Path, *words):
+    """The job that makes a disk of a source."""
+    return lambda: do(TOOL, 'make', out, source, *words)
 
 
 def files(folder: Path) -> None:
@@ -61,20 +85,26 @@ def files(folder: Path) -> None:
     do(TOOL, 'new', empty, 'Empty', 49_152, 6000, 40)
     names = sorted(it.name for it in tree.iterdir())
 
-    def copied_on() -> int:
+    def copied_on() -> None:
         shutil.copy(empty, peer)
         do('hmount', peer)
         for it in names:
             do('hmkdir', f':{it}')
             do('hcopy', '-r', *sorted((tree / it).iterdir()), f':{it}:')
-        return do('humount')
+        do('humount')
 
-    def copied_both() -> int:
+    def copied_both() -> None:
         copied.mkdir()
-        return do('cp', '-a', tree, empty, copied)
+        do('cp', '-a', tree, empty, copied)
 
-    took = best(7, [('put', put(empty, tree, out), out), ('cp -a', copied_both, copied), *([('hcopy -r', copied_on, peer)] if shutil.which('hcopy') else [])])
-    print(', '.join(f'of {name} {took["put"] / it:.2f}' for name, it in took.items() if name != 'put'))
+    def copied_files() -> None:
+        do('cp', '-a', tree, copied)
+
+    least = best(7, [('put', put(empty, tree, out), out), ('cp -a of both', copied_both, copied), ('make', make(tree, out), out), ('cp -a', copied_files, copied),
+                     *([('hcopy -r', copied_on, peer)] if shutil.which('hcopy') else [])])
+    compare(least, 'put', 'cp -a of both', 'hcopy -r')
+    compare(least, 'make', 'cp -a', 'hcopy -r')
+    print(f'put {memory(TOOL, "put", empty, tree, "--out", out)}, make {memory(TOOL, "make", out, tree)}')
 
 
 def fork(folder: Path, size: int) -> None:
@@ -83,8 +113,8 @@ def fork(folder: Path, size: int) -> None:
         for _ in range(size):
             file.write(os.urandom(1 << 20))
     do(TOOL, 'new', image, 'Large', size * 2150 + 2000)
-    took = best(3, [('put', put(image, content, out), out), ('cp', lambda: do('cp', content, copied), copied)])
-    print(f'of cp {took["put"] / took["cp"]:.2f}')
+    compare(best(3, [('put', put(image, content, out), out), ('cp', lambda: do('cp', content, copied), copied), ('make', make(content, out, '--name', 'Large'), out)]), 'put', 'cp')
+    print(f'put {memory(TOOL, "put", image, content, "--out", out)}, make {memory(TOOL, "make", out, content, "--name", "Large")}')
 
 
 def small(folder: Path, size: int) -> None:
@@ -97,8 +127,8 @@ def small(folder: Path, size: int) -> None:
             file.write(b'x' * (1 << 20))
     source.write_bytes(b'a small file')
     script.write_text('1\tcreate\t2\tsource\n')
-    took = best(3, [('put', put(image, source, out), out), ('run --out', lambda: do(TOOL, 'run', image, script, '--out', out), out)])
-    print(f'of run --out {took["put"] / took["run --out"]:.2f}')
+    compare(best(3, [('put', put(image, source, out), out), ('run --out', lambda: do(TOOL, 'run', image, script, '--out', out), out)]), 'put', 'run --out')
+    print(f'put {memory(TOOL, "put", image, source, "--out", out)}')
 
 
 def many(folder: Path, count: int) -> None:
@@ -109,7 +139,8 @@ def many(folder: Path, count: int) -> None:
             path.parent.mkdir(parents=True)
         path.touch()
     do(TOOL, 'new', image, 'Many', 400_000, 65_000, 8)
-    best(3, [('put', put(image, tree, out), out)])
+    best(3, [('put', put(image, tree, out), out), ('make', make(tree, out), out)])
+    print(f'put {memory(TOOL, "put", image, tree, "--out", out)}, make {memory(TOOL, "make", out, tree)}')
 
 
 def main() -> None:

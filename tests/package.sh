@@ -151,6 +151,7 @@ offered() {
 [ "$(offered hfs_tool ex)" = 'extract ' ] && [ "$(offered hfs_tool extract --)" = '--help --volume ' ] || fail 'the completion of extract'
 [ "$(offered hfs_tool run --)" = '--help --now --out --volume ' ] || fail "the completion of an option: $(offered hfs_tool run --)"
 [ "$(offered hfs_tool put --)" = '--help --macbinary --now --out --rename --replace --to --volume ' ] || fail 'the completion of put'
+[ "$(offered hfs_tool ma)" = 'make ' ] && [ "$(offered hfs_tool make --)" = '--help --macbinary --name --now --rename --size ' ] || fail 'the completion of make'
 [ "$(offered hfs_collect --)" = '--compare --help --no-digest --version ' ] || fail 'the completion of an option of hfs_collect'
 [ "$(offered hfs_tool items disk.img --format '')" = 'csv json tab ' ] || fail 'the completion of a format'
 [ "$(offered hfs_tool items disk.img --format j)" = 'json ' ] || fail 'the completion of a format that was begun'

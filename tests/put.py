@@ -6,7 +6,7 @@ programs, and in other files; a disk taken apart and put together again. What co
 fsck.hfs where they are installed; AppleDouble and MacBinary files of hfsutils and unar come in. Then sources that change or can't be read while
 they are written, full disks, few open files, and runs that are killed: FILE is the old one or whole.
 
-tests/put.py [--lists N] [--seed WORD]      runs $HFS_TOOL, or the program as it is built in crates/hfs_tool/out
+tests/put.py [--lists N] [--seed WORD] [--large]      runs $HFS_TOOL, or the program as it is built in crates/hfs_tool/out
 
 It prints how many runs there were; at a difference it says which, and ends with status 1. What isn't installed is left out and named.
 """
@@ -25,7 +25,7 @@ from pathlib import Path
 
 from driver.calls import Call, read_answers, script_of
 from driver.image import MDB, Image
-from driver.programs import REAL_VOLUMES, Program, built
+from driver.programs import MEASURED, REAL_VOLUMES, Program, built
 from driver.putting import Disk, Placed
 from driver.sources import DATES, FINDER, LONGEST, RESOURCE, CannotRead, NotText, Walk, apple_double, letters_of, mac_binary, read_mac_binary
 from driver.wanted import agrees_in_a_folder, ensure
@@ -393,6 +393,26 @@ def of_names(bench: Bench) -> None:
            f'the order of what comes, by hand: {paths}')
 
 
+def of_each_byte(bench: Bench) -> None:
+    """Names with each byte, spelled by digits and as a character, and by itself, which isn't UTF-8."""
+    disk = bench.new(1600)
+    lay('bytes', {f'{it:03}={it:02X}': b'' for it in range(256)})
+    lay('characters', {f'{it:03}{bytes([it]).decode("mac_roman")}': b'' for it in range(1, 256) if it != ord('/')})
+    named = [it for it in range(32, 127) if it not in b':`']
+    for folder, spelled in (('bytes', lambda it: f'{it:03}={it:02X}'), ('characters', lambda it: f'{it:03}{bytes([it]).decode("mac_roman")}')):
+        others = [it for it in range(folder == 'characters', 256) if it not in named]
+        lines = [f'cannot put {folder}/{path_text(spelled(it))}: name\n' for it in others]
+        bench.tells(f'names of each byte in {folder}', disk, [folder], ''.join(lines[:100]) + f'and {len(lines) - 100} more\n')
+        bench.puts(f'names of each byte in {folder}, changed', disk, [folder], Options(rename=True))
+        bench.puts(f'names of each byte in {folder} that are some', disk, [f'{folder}/{spelled(it)}' for it in named if (folder, it) != ('characters', ord('/'))])
+    for it in range(128, 256, 9):
+        os.mkdir('raw byte')
+        lay(os.fsencode('raw byte/') + bytes([it]), b'')
+        found = bench.put(disk, ['raw byte'], Options(rename=True))
+        ensure(found == (3, 'cannot put raw byte: a name in it is not UTF-8\n') and not bench.out.exists(), f'the byte {it} in a name: {found}')
+        shutil.rmtree('raw byte')
+
+
 def of_reasons(bench: Bench) -> None:
     """Each reason why an item can't be put, the first of several, and at most a hundred lines."""
     disk = bench.new(1600, calls=[Call.of('mkdir', 2, 'w'), Call.of('create', 16, 'old'), Call.of('create', 2, 'f'), Call.of('lock', 2, 'f'), Call.of('mkdir', 2, 'd'),
@@ -752,16 +772,36 @@ def of_hfsutils(bench: Bench) -> None:
         'a MacBinary file of hfsutils')
 
 
-def of_unar(bench: Bench) -> None:
-    """AppleDouble files as unar lays them: of a MacBinary file, and of one that went through an archive."""
+def unpacked_by_unar(skipped: list[str]):
+    """Folders that unar unpacked, each behind the other under one name: of a MacBinary file, and of one of the first kind that macutils made."""
     if not shutil.which('unar'):
-        bench.skipped.append('unar')
+        skipped.append('unar')
         return
     lay('packed.bin', mac_binary(b'packed', FINDER_BYTES[:16], b'D' * 700, b'R' * 300))
-    subprocess.run(['unar', '-q', '-k', 'hidden', '-D', '-o', 'unpacked', 'packed.bin'], check=True, stdout=subprocess.DEVNULL)
-    bench.puts('AppleDouble of unar', bench.new(1600), ['unpacked'])
-    row = bench.text('items', 'out').splitlines()[2].split('\t')
-    ensure((row[0], row[4:6], row[13:15]) == ('D:unpacked:packed', ['TEXT', 'ttxt'], ['700', '300']), f'AppleDouble of unar: {row}')
+    archives, quiet = ['packed.bin'], {'stdin': subprocess.DEVNULL, 'stderr': subprocess.DEVNULL, 'check': True}
+    if shutil.which('binhex') and shutil.which('hexbin'):
+        os.mkdir('hexbin')
+        with open('hexbin/packed.hqx', 'wb') as file:
+            subprocess.run(['binhex', 'packed.bin'], stdout=file, **quiet)
+        subprocess.run(['hexbin', 'packed.hqx'], cwd='hexbin', stdout=subprocess.DEVNULL, **quiet)
+        archives.append('hexbin/packed.bin')
+    else:
+        skipped.append('macutils')
+    for archive in archives:
+        shutil.rmtree('Unpacked', ignore_errors=True)
+        subprocess.run(['unar', '-q', '-k', 'hidden', '-D', '-o', 'Unpacked', archive], stdout=subprocess.DEVNULL, **quiet)
+        yield archive
+
+
+def of_unar(bench: Bench) -> None:
+    """AppleDouble files as unar lays them; a MacBinary file of the first kind is a file like others."""
+    disk = bench.new(1600)
+    for archive in unpacked_by_unar(bench.skipped):
+        bench.puts(f'{archive} by unar', disk, ['Unpacked'])
+        row = bench.text('items', 'out').splitlines()[2].split('\t')
+        ensure((row[0], row[4:6], row[13:15]) == ('D:Unpacked:packed', ['TEXT', 'ttxt'], ['700', '300']), f'{archive} by unar: {row}')
+    if Path('hexbin').exists():
+        ensure(bench.put(disk, ['hexbin/packed.bin'], Options(macbinary=True))[1].startswith('put\nfiles 1\nfolders 0\nbytes 1280\n'), 'MacBinary of macutils')
 
 
 # ---- the files themselves
@@ -842,16 +882,37 @@ def of_depth(bench: Bench, depth: int) -> None:
     bench.puts('folders deep in one another', disk, ['deep'])
 
 
+def of_very_many(bench: Bench, count: int = 100_000) -> None:
+    """A hundred thousand files in folders of a hundred."""
+    for number in range(0, count, 100):
+        lay(f'crowd {number // 100:04}', {f'file {it:06}': b'x' * (it % 50 == 0) for it in range(number, number + 100)})
+    folders = sorted(map(str, Path().glob('crowd *')))
+    bench.image.write_bytes(bench.new(70_000, 60_000))
+    words = [bench.tool.path, 'put', bench.image, *folders, '--out', bench.out, '--now', str(NOW)]
+    ran = subprocess.run([sys.executable, '-c', MEASURED, *words], stdin=subprocess.DEVNULL, stdout=subprocess.PIPE, check=True, text=True)
+    *told, ended = ran.stdout.splitlines()
+    status, memory = map(int, ended.split())
+    ensure(status == 0 and told[:4] == ['put', f'files {count}', f'folders {count // 100}', f'bytes {count // 50}'], f'{count} files: {ran.stdout[:200]}')
+    ensure(memory < 16_384 + count + count // 100, f'{count} files take {memory} KB')
+    report = dict(it.split(' ') for it in bench.text('check', bench.out).splitlines()[1:])
+    ensure((report['files'], report['folders'], f'free {report["free"]}') == (str(count), str(count // 100), told[4]), f'{count} files: {report}')
+    paths = sorted(it.split('\t')[0].replace(':', '/') for it in bench.text('items', bench.out).splitlines()[1:])
+    ensure(paths == sorted(f'D/{it}' for folder in folders for it in (folder, *map(str, Path(folder).iterdir()))), f'the paths of {count} files')
+
+
 def try_all(bench: Bench, given: argparse.Namespace) -> None:
-    for part in (by_hand, of_doubles, of_mac_binary, of_names, of_reasons, of_places, of_room, of_bags, of_volumes_inside, of_real_volumes, of_own_files, of_faults,
+    for part in (by_hand, of_doubles, of_mac_binary, of_names, of_each_byte, of_reasons, of_places, of_room, of_bags, of_volumes_inside, of_real_volumes, of_own_files, of_faults,
                  of_hfsutils, of_unar, lambda it: of_depth(it, 200), lambda it: of_drawn(it, given.seed, given.lists)):
         part(bench)
+    if given.large:
+        of_very_many(bench)
 
 
 def main() -> int:
     parser = argparse.ArgumentParser(description=__doc__, formatter_class=argparse.RawDescriptionHelpFormatter)
     parser.add_argument('--lists', type=int, default=60, help='how many drawn trees')
     parser.add_argument('--seed', default='put')
+    parser.add_argument('--large', action='store_true', help='also 100,000 files')
     given = parser.parse_args()
     sys.setrecursionlimit(10_000)
     bench, started = Bench(), time.monotonic()

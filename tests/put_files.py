@@ -18,18 +18,19 @@ import time
 from pathlib import Path
 
 import devices
-from driver.programs import ended_at_terminal
+from driver.programs import MEASURED, ended_at_terminal
 from driver.sources import FINDER, RESOURCE, apple_double, mac_binary
 from driver.wanted import agrees_in_a_folder, ensure
 from put import FINDER_BYTES, NOW, Bench, Options, lay
 
 OLD = b'the old file'
-# A source is changed when FILE's new file is made, or at one of the writes into it.
+# A source is changed when FILE's new file is made, or at one of the writes into it; or when it is looked at for the first time, or once more.
 CHANGES = r'''
 #define _GNU_SOURCE
 #include <dlfcn.h>
 #include <fcntl.h>
 #include <stdarg.h>
+#include <stdio.h>
 #include <stdlib.h>
 #include <string.h>
 #include <sys/stat.h>
@@ -37,7 +38,7 @@ CHANGES = r'''
 #include <unistd.h>
 
 static int made = -1;
-static long writes;
+static long writes, looks;
 
 static void change(void) {
     const char *source = getenv("SOURCE"), *how = getenv("CHANGE");
@@ -45,7 +46,7 @@ static void change(void) {
     if (stat(source, &was)) abort();
     if (!strcmp(how, "cut") && truncate(source, was.st_size / 2)) abort();
     if (!strcmp(how, "longer") && truncate(source, was.st_size + 1)) abort();
-    if (!strcmp(how, "gone") && unlink(source)) abort();
+    if (!strcmp(how, "gone") && rename(source, getenv("ELSEWHERE"))) abort();
     if (!strcmp(how, "touched")) {
         struct timespec times[2] = {was.st_atim, was.st_mtim};
         times[1].tv_sec += 1;
@@ -58,7 +59,7 @@ static void change(void) {
 static void opened(int file, const char *path, int how) {
     if (file < 0 || !(how & O_CREAT) || !strstr(path, ".new")) return;
     made = file;
-    if (!getenv("WRITES")) change();
+    if (!getenv("WRITES") && !getenv("LOOKS")) change();
 }
 
 int open(const char *path, int how, ...) {
@@ -79,6 +80,12 @@ int openat(int folder, const char *path, int how, ...) {
     int (*next)(int, const char *, int, ...) = dlsym(RTLD_NEXT, "openat"), file = next(folder, path, how, mode);
     opened(file, path, how);
     return file;
+}
+
+int statx(int folder, const char *restrict path, int flags, unsigned mask, struct statx *restrict into) {
+    int (*next)(int, const char *, int, unsigned, struct statx *) = dlsym(RTLD_NEXT, "statx");
+    if (getenv("LOOKS") && !strcmp(path, getenv("SOURCE")) && ++looks == atol(getenv("LOOKS"))) change();
+    return next(folder, path, flags, mask, into);
 }
 
 static void wrote(int file) {
@@ -103,15 +110,10 @@ ssize_t writev(int file, const struct iovec *parts, int count) {
     return next(file, parts, count);
 }
 '''
-# Runs the words behind it, and prints how they end, and their most memory. The memory of what begins a program counts as its own, so it is little.
-MEASURED = '''
-import os, sys
-_, status, used = os.wait4(os.posix_spawn(sys.argv[1], sys.argv[1:], os.environ), 0)
-print(status, used.ru_maxrss)
-'''
 
 
 def library(name: str, source: str) -> Path:
+    """A library that is loaded before the C library."""
     Path(f'{name}.c').write_text(source)
     subprocess.run(['cc', '-shared', '-fPIC', '-O1', '-o', f'{name}.so', f'{name}.c', '-ldl'], check=True)
     return Path(f'{name}.so').resolve()
@@ -148,20 +150,35 @@ class Files:
         ensure(found == (4, text, '') and not self.is_old_or_whole(what), f'{what}: {found}')
 
 
+def changed(files: Files, source: str, how: str, **when) -> tuple[int, str, str]:
+    """A run beside which a source is changed in this way; the tree is as it was then."""
+    shutil.copytree('files', 'kept', symlinks=True, copy_function=shutil.copy2)
+    os.mkdir('elsewhere')
+    found = files.run(env={**os.environ, 'LD_PRELOAD': str(Path('changes.so').resolve()), 'SOURCE': source, 'CHANGE': how, 'ELSEWHERE': 'elsewhere/it', **when})
+    for folder in ('files', 'elsewhere'):
+        shutil.rmtree(folder)
+    os.rename('kept', 'files')
+    return found
+
+
 def of_changes(files: Files) -> None:
     """Each source is changed in each way, at the beginning and in the middle: it is told, and FILE stays as it was."""
-    loaded = library('changes', CHANGES)
+    library('changes', CHANGES)
     for number, how in enumerate(('cut', 'longer', 'gone', 'touched', 'link', 'folder')):
         for name in ('large', '._large', 'binary', 'empty', 'sub/last'):
             if (name, how) == ('empty', 'cut'):
                 continue
             for writes in ({}, {'WRITES': '1'}, {'WRITES': '3'})[:1 + (number + len(name)) % 3]:
-                shutil.copytree('files', 'kept', symlinks=True, copy_function=shutil.copy2)
-                source = f'files/{name}'
-                files.fails(f'{source}, {how} {writes}', f'cannot read {source}\n',
-                            env={**os.environ, 'LD_PRELOAD': str(loaded), 'SOURCE': source, 'CHANGE': how, **writes})
-                shutil.rmtree('files')
-                os.rename('kept', 'files')
+                what, source = f'{name}, {how} {writes}', f'files/{name}'
+                found = changed(files, source, how, **writes)
+                ensure(found == (4, f'cannot read {source}\n', '') and not files.is_old_or_whole(what), f'{what}: {found}')
+    for name in ('large', '._large', 'binary', 'sub/last', 'sub'):
+        # gone before it is looked at, and before the look behind that; where there is none, it stays
+        for looks in ('1', '2'):
+            what, source = f'{name}, gone at look {looks}', f'files/{name}'
+            found = changed(files, source, 'gone', LOOKS=looks)
+            is_whole = files.is_old_or_whole(what)
+            ensure(found == (4, f'cannot read {source}\n', '') and not is_whole or (looks, found[0]) == ('2', 0) and is_whole, f'{what}: {found}')
     ensure(files.run()[0] == 0 and files.is_old_or_whole('the same tree'), 'the tree is as it was')
 
 

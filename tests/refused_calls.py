@@ -3,7 +3,7 @@
 library that stands before malloc (tests/refused_memory.sh makes it, and calls this). The calls of
 volumes/refused.txt are run by an image's path, and out of a pipe with a viewer beside them, who
 reads what they read; then a script with two workers and a viewer, whose answers are known by hand;
-new volumes, reports, lists, forks, repairs, volumes that are changed where they lie and that are extracted, and what is put, both ways.
+new volumes, reports, lists, forks, repairs, volumes that are changed where they lie and that are extracted, and what is put, both ways, and made.
 
 Where the program tells want of memory, nothing else was printed, nothing was written, and no file
 lies beside; else it prints and writes what it does without a refusal; or a caller's lines from one
@@ -95,7 +95,7 @@ class Trial:
     def is_told(self, ran, old):
         """Whether want of memory is told, also for the words, for the name of a file beside FILE and for the list of a folder, and nothing was done."""
         told = [(5, b'out of memory\n'), (4, f'cannot write {self.file}\n'.encode()), (1, b'the words are not text\n'),
-                (4, f'cannot read {self.folder / "tree"}\n'.encode())]
+                *((4, f'cannot read {self.folder / it}\n'.encode()) for it in ('tree', 'bag', 'bag/data'))]
         return (ran.status, ran.printed) in told and not ran.errors and ran.written == old
 
     def refuse_each(self, words, wanted, given=None, old=None, is_part=lambda ran: False):
@@ -279,15 +279,21 @@ def extract(trial, _line):
     trial.refuse_each(['extract', image, trial.file], (4, f'{trial.file} is there already\n'.encode(), b'', b'old\n'), None, b'old\n')
 
 
-def put(trial, _line):
-    """A folder with a file of both forks that is put on a volume, both ways, as the calls of a script make it; and one that can't be put."""
-    content, tree = named(trial, 'new'), trial.folder / 'tree'
+def lay_tree(trial):
+    """A folder with a file of both forks."""
+    tree = trial.folder / 'tree'
     head = bytes.fromhex('000516070002000000000000000000000000000000000000000200000009000000320000002000000002000000520000000354455854') + bytes(28)
     tree.mkdir()
     for path, what in ((tree / 'g', b'x' * 600), (tree / '._g', head + b'RES')):
         path.write_bytes(what)
     for path in (tree / 'g', tree):
         os.utime(path, (0, 0))
+    return tree
+
+
+def put(trial, _line):
+    """A folder with a file of both forks that is put on a volume, both ways, as the calls of a script make it; and one that can't be put."""
+    content, tree = named(trial, 'new'), lay_tree(trial)
     facts = f'{UNIX}\t{UNIX}\t0'
     lines = ['1\tmkdir\t2\ttree\n', '1\tcreate\t16\tg\n', f'1\twrite\t16\tg\tdata\t0\t{"78" * 600}\n', '1\twrite\t16\tg\tres\t0\t524553\n',
              f'1\tsetinfo\t16\tg\t{facts}\t54455854{"00" * 28}\n', f'1\tsetinfo\t2\ttree\t{facts}\t{"00" * 32}\n']
@@ -299,6 +305,26 @@ def put(trial, _line):
         trial.refuse_each(['put', source, tree, '--now', NOW, '--out', trial.file], wanted, given, b'old\n')
     (tree / 'x:y').touch()
     trial.refuse_each(['put', image, tree, '--out', trial.file], (3, f'cannot put {tree}/x:y: name\n'.encode(), b'', b'old\n'), None, b'old\n')
+
+
+def make(trial, _line):
+    """A volume of a folder with a file of both forks, as `new` and the calls of a script make it; a bag that tells its name; and what can't be put."""
+    tree, facts = lay_tree(trial), f'{UNIX}\t{UNIX}\t0'
+    # the catalog of 5 nodes suffices; 6 blocks are around it and 8 nodes, and the forks have 3
+    image = trial.lay('image', trial.run(['new', trial.file, 'tree', 222, 5, 8, '--now', NOW]).written)
+    lines = ['1\tcreate\t2\tg\n', f'1\twrite\t2\tg\tdata\t0\t{"78" * 600}\n', '1\twrite\t2\tg\tres\t0\t524553\n', f'1\tsetinfo\t2\tg\t{facts}\t54455854{"00" * 28}\n']
+    saved = files_behind(trial, image, lines)[-1]
+    told = b'made\nfiles 1\nfolders 0\nbytes 603\nfree 200\n'
+    trial.refuse_each(['make', trial.file, tree, '--now', NOW], (0, told, b'', saved), None, b'old\n')
+    bag = trial.folder / 'bag'
+    bag.mkdir()
+    tree.rename(bag / 'data')
+    for name, text in (('bagit.txt', ''), ('bag-info.txt', 'External-Identifier: tree\n')):
+        (bag / name).write_text(text)
+    trial.refuse_each(['make', trial.file, bag, '--now', NOW], (0, told, b'', saved), None, b'old\n')
+    (bag / 'data' / 'x:y').touch()
+    trial.refuse_each(['make', trial.file, bag], (3, f'cannot put {bag}/data/x:y: name\n'.encode(), b'', b'old\n'), None, b'old\n')
+    trial.refuse_each(['make', trial.file, bag, '--rename', '--size', '1'], (2, b'bad size\n', b'', b'old\n'), None, b'old\n')
 
 
 def attempt(job):
@@ -313,7 +339,7 @@ def attempt(job):
 
 def main(tool, library):
     lines = [it for it in (VOLUMES / 'refused.txt').read_text().splitlines() if not it.startswith('#')]
-    jobs = [(tool, library, run_calls, line) for line in lines] + [(tool, library, part, '') for part in (run_script, read_forks, tell, repair, inside, extract, put)]
+    jobs = [(tool, library, run_calls, line) for line in lines] + [(tool, library, part, '') for part in (run_script, read_forks, tell, repair, inside, extract, put, make)]
     counts = Counts()
     # the descriptor is taken before the pool takes any
     os.dup2(os.open(os.devnull, os.O_RDWR), TOLD)

@@ -70,6 +70,7 @@ word() {
         repair) words=(repair "$folder/wrong.img" "$2") printed='fixed drFilCnt 1 0\nsound\n' ;;
         run) words=(run "$folder/small.img" "$folder/script" --out "$2") printed='1\t1\t0\tid 16\n1\t2\t0\t-\n1\t3\t0\t-\n' ;;
         put) words=(put "$folder/small.img" "$folder/source" --now 5 --out "$2") printed='put\nfiles 1\nfolders 0\nbytes 2\nfree 49\n' ;;
+        make) words=(make "$2" "$folder/source" --name D --size 64K --now 5) printed='made\nfiles 1\nfolders 0\nbytes 2\nfree 108\n' ;;
     esac
 }
 
@@ -99,12 +100,14 @@ printf '1\tcreate\t2\ta\n1\twrite\t2\ta\tdata\t0\t6162\n1\tseteof\t2\ta\tres\t90
 printf ab > "$folder/source"
 "$tool" put "$folder/small.img" "$folder/source" --now 5 --out "$folder/put.img" > "$folder/printed"
 [ "$("$tool" cat "$folder/put.img" 2 source)" = ab ] || fail 'what put writes'
+"$tool" make "$folder/make.img" "$folder/source" --name D --size 64K --now 5 > "$folder/printed"
+[ "$("$tool" cat "$folder/make.img" 2 source)" = ab ] || fail 'what make writes'
 
 # Whether a file may be written and by whom: without a permission for anybody no one writes it, root
 # neither.
 protection() {
     local name
-    for name in new repair run put; do
+    for name in new repair run put make; do
         for mode in 444 400 555 000; do
             lay "$mode"
             refused "$name" "$here/file.img" "over a file of mode $mode"
@@ -140,7 +143,7 @@ owned() {
 # Owner and group: root keeps both, a plain user the group, where it is one of theirs.
 owners() {
     local name
-    for name in new repair run put; do
+    for name in new repair run put make; do
         lay 644
         if [ -z "$plain" ]; then
             owned "$name" 1234:3456 640 '640 1234 3456'
@@ -166,7 +169,7 @@ owners() {
 # The second name of a file keeps the old bytes.
 second_links() {
     local name
-    for name in new repair run put; do
+    for name in new repair run put make; do
         lay 644
         rm -f "$here/second.img"
         ln "$here/file.img" "$here/second.img"
@@ -187,7 +190,7 @@ links() {
     ln -s round.img "$here/ring.img"
     ln -s ring.img "$here/round.img"
     mkfifo -m 666 "$here/pipe"
-    for name in new repair run put; do
+    for name in new repair run put make; do
         for link in link.img inner/link.img; do
             lay 640
             written "$name" "$here/$link" "$here/file.img"
@@ -216,7 +219,7 @@ links() {
 # What runs that were stopped left.
 leftovers() {
     local name n told
-    for name in new repair run put; do
+    for name in new repair run put make; do
         lay 644
         echo left > "$here/file.img.0.new"
         word "$name" "$here/file.img"
@@ -273,7 +276,8 @@ paths() {
     wants 4 "cannot read $shown\n" '' run "$folder/small.img" "$raw"
     wants 4 "cannot read $shown\n" '' put "$raw" "$folder/source" --out "$here/out.img"
     wants 4 "cannot read $shown\n" '' put "$folder/small.img" "$raw" --out "$here/out.img"
-    for name in new repair run put; do
+    wants 4 "cannot read $shown\n" '' make "$here/out.img" "$raw" --name D
+    for name in new repair run put make; do
         word "$name" "$raw/none"
         wants 4 "cannot write $shown/none\n" '' "${words[@]}"
         echo left > "$raw.0.new"

@@ -14,6 +14,12 @@ REAL_VOLUMES = ROOT / 'tests' / 'volumes'
 SECONDS = 600
 # No program looks at its environment.
 ENVIRONMENT = {'PATH': os.defpath}
+# Runs the words behind it, and prints how they end, and their most memory. The memory of what begins a program counts as its own, so it is little.
+MEASURED = '''
+import os, sys
+_, status, used = os.wait4(os.posix_spawn(sys.argv[1], sys.argv[1:], os.environ), 0)
+print(status, used.ru_maxrss)
+'''
 
 
 def ended(program, words, given=None, seconds=SECONDS, **how) -> tuple[int, bytes, bytes]:

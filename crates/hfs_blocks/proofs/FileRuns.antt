@@ -78,6 +78,19 @@ ends-at before (run ∷ rest) n (suc i) d h lt high few =
     ends-at (before + run.count) rest n i d h.1 (omega arith)
     (λ lt'. let same : suc i + 1 ≡ suc (i + 1) = omega arith in subst (λ k. n < (get_or (run ∷ rest) k d).before) same (high (omega arith))) (omega (arith, len))
 
+-- a run ends with the file or before
+ends-within : (before : ℕ) (runs : List Run) (i : ℕ) (d : Run) → AreCountedFrom before runs → i < length runs
+    → (get_or runs i d).before + (get_or runs i d).count ≤ before + length (numbers runs)
+ends-within before [] i d h lt = absurd (omega arith)
+ends-within before (run ∷ rest) zero d h lt = let e = h.0 in let len = length-numbers run rest in omega (arith, e, len)
+ends-within before (run ∷ rest) (suc i) d h lt =
+    let more = ends-within (before + run.count) rest i d h.1 (omega arith) in
+    let len = length-numbers run rest in
+    omega (arith, more, len)
+
+pub run-ends : (runs : List Run) (i : ℕ) (d : Run) → AreCounted runs → i < length runs → (get_or runs i d).before + (get_or runs i d).count ≤ length (numbers runs)
+run-ends runs i d h lt = let within = ends-within 0 runs i d (counted-0 runs h) lt in omega (arith, within)
+
 -- a node that lies in run i of a file
 pub block-is : (runs : List Run) (n i : ℕ) (d : Run) → AreCounted runs → i < length runs
     → (get_or runs i d).before ≤ n → n < (get_or runs i d).before + (get_or runs i d).count

@@ -1,3 +1,5 @@
-pub mod Entering
+mod LaidLemmas
 mod FileRuns
 pub mod LayerLemmas
+mod PlaceLemmas
+mod TableLemmas

@@ -1,5 +1,5 @@
 -- Blocks of 512 bytes, and files that lie in runs of them.
-use Rattle.std.specs.Prelude.{◌≡◌, ℕ, ◌+◌, ◌*◌, ◌/◌, ◌<◌, ◌≤◌, ◌^◌, List, length, map, take, drop, slice_index_or}
+use Rattle.std.specs.Prelude.{◌≡◌, ℕ, ◌+◌, ◌*◌, ◌/◌, ◌<◌, ◌≤◌, ◌^◌, List, length, map, take, drop, slice_index, slice_index_or}
 use Rattle.std.specs.List.{All, flat_map, range_with_len, sum_by}
 use Rattle.std.proofs.Common.{arith, length-drop, length-take}
 use Rattle.hfs_blocks.specs.declared.run.Run.{Run}
@@ -43,3 +43,7 @@ pub record AreRunsWithin (runs : List Run) (total : ℕ) : Type 0 where
 -- the node with this number in its file comes before the end of this run
 abbrev pub IsBeforeEnd : ℕ → Run → Type 0
 IsBeforeEnd n run = n < run.before + run.count
+
+-- the blocks of a run are the file's from its node n on
+abbrev pub IsRestAt : List Run → ℕ → Run → Type 0
+IsRestAt runs n rest = (i : ℕ) → i < rest.count → slice_index (flat_map run_of runs) (n + i) ≡ rest.first + i

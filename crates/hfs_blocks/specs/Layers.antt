@@ -56,10 +56,6 @@ length-over changes below n whole own = by (changes n) refl
     by None e = own
     by (Some b) e = whole n b e
 
--- no block came but those that another has
-abbrev pub GainsOnly : Changes → Changes → Changes → Type 0
-GainsOnly old other new = (k : ℕ) → IsSome (new k) → IsSome (old k) ⊎ IsSome (other k)
-
 -- over these blocks, a patch shows the blocks of another that was laid over the old one
 abbrev pub IsLaid : (ℕ → List ℕ) → Numbered → Numbered → Numbered → Type 0
 IsLaid below old other new = ShowsLaid below (changes old) (changes other) (changes new)
@@ -71,10 +67,6 @@ KeepsWithin old new count = AreWithin (changes old) count → AreWithin (changes
 -- new has a block of each number of which old has one
 abbrev pub HasEachOf : Changes → Changes → Type 0
 HasEachOf old new = (k : ℕ) → IsSome (old k) → IsSome (new k)
-
--- no block came but that of number n
-abbrev pub GainsNoneBut : ℕ → Changes → Changes → Type 0
-GainsNoneBut n old new = (k : ℕ) → IsSome (new k) → IsSome (old k) ⊎ (n ≡ k)
 
 -- b is the block of number n, and the others are the same
 abbrev pub HasChange : ℕ → List ℕ → Changes → Changes → Type 0

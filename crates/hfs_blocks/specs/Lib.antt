@@ -1,2 +1,4 @@
 pub mod Blocks
 pub mod Layers
+pub mod Places
+pub mod Tables

@@ -5,10 +5,12 @@ mod blocks;
 mod image;
 mod patch;
 mod patched;
+mod places;
 mod run;
+mod table;
 
 pub use blocks::Blocks;
 pub use image::ImageBytes;
 pub use patch::Patch;
 pub use patched::Patched;
-pub use run::{Run, block_of};
+pub use run::{Run, block_of, rest_of_run};

@@ -1,33 +1,40 @@
 //! Changed blocks.
 
-ghost use Rattle.std.specs.Prelude.{◌≡◌, ◌<◌, [], length, Some, OnOk, OnErr, IsSome, nat_eq};
+ghost use Rattle.std.specs.Prelude.{◌≡◌, ◌+◌, ◌^◌, ◌≤◌, [], length, false, OnOk, OnErr, nat_eq};
 ghost use Rattle.std.specs.List.{IsDistinct};
 ghost use Rattle.std.specs.Option.{option_copied};
-ghost use Rattle.hfs_blocks.specs.Layers.{changes, numbers, with_change, AreWhole, AreWithin, HasJoined, ShowsSame, ShowsLaid, GainsOnly, IsLaid, KeepsWithin, HasEachOf, GainsNoneBut, HasChange, HasChangesOf};
+ghost use Rattle.hfs_blocks.specs.Layers.{changes, numbers, with_change, AreWhole, AreWithin, HasJoined, ShowsSame, IsLaid, KeepsWithin};
+ghost use Rattle.hfs_blocks.specs.Tables.{HasLaid, HasNoneOf};
 
 use crate::blocks::Blocks;
 use crate::patched::Patched;
+use crate::places::{add_row, add_rows, is_any_placed, place_of};
+use crate::table::{add_rows_for, lay_all, lay_one, lay_run, make_room};
 use indexmap::IndexMap;
 use std::alloc::{AllocError, Global};
 use std::marker::Model;
 
-/// Blocks by their numbers.
-type BlockMap = IndexMap<u32, [u8; 512]>;
-
 /// Blocks of 512 bytes by number, to be laid over the blocks of a volume: the edits of one call.
 #[derive(Drop)]
 pub struct Patch {
-    blocks: IndexMap<u32, [u8; 512]>,
+    /// The numbers of the blocks, in the order in which they came.
+    numbers: Vec<u32>,
+    /// The blocks, in the same order.
+    blocks: Vec<[u8; 512]>,
+    /// Where they stand.
+    places: IndexMap<u32, [u32; 16]>,
 }
 
 impl Model for Patch {
-    ghost use Rattle.hfs_blocks.specs.Layers.{Numbered, changes, AreWhole};
+    ghost use Rattle.std.specs.Prelude.{zip};
+    ghost use Rattle.hfs_blocks.specs.Layers.{Numbered};
+    ghost use Rattle.hfs_blocks.specs.Tables.{IsTable};
 
     ghost Value = { Numbered };
 
-    ghost view = { λ p. p.blocks.entries };
+    ghost view = { λ p. zip p.numbers.items p.blocks.items };
 
-    ghost invariant = { λ p. AreWhole (changes p.blocks.entries) };
+    ghost invariant = { λ p. IsTable p.numbers.items p.blocks.items p.places.entries };
 }
 
 impl Patch {
@@ -36,7 +43,9 @@ impl Patch {
         ensures { result ≡ [] }
     {
         Patch {
-            blocks: IndexMap::new(alloc),
+            numbers: Vec::new(alloc),
+            blocks: Vec::new(alloc),
+            places: IndexMap::new(alloc),
         }
     }
 
@@ -45,7 +54,7 @@ impl Patch {
         ensures len { result ≡ length (numbers self.now) }
         ensures different { IsDistinct nat_eq (numbers self.now) }
     {
-        self.blocks.len()
+        self.numbers.len()
     }
 
     /// Block `n`, if the patch has it. Takes no memory.
@@ -53,7 +62,11 @@ impl Patch {
         ensures value { option_copied result ≡ changes self.now n }
         ensures whole { AreWhole (changes self.now) }
     {
-        self.blocks.get(&n)
+        let place = place_of(&self.places, n);
+        if place == 0 {
+            return None;
+        }
+        Some(&self.blocks[place as usize - 1])
     }
 
     /// The patch over the blocks of a volume. Takes no memory.
@@ -72,75 +85,50 @@ impl Patch {
             (changes self.new ≡ with_change (changes self.old) n block.now) }
         ensures kept { OnErr result (self.new ≡ self.old) }
     {
-        let slot = self.blocks.entry(n)?.or_insert([0; 512]);
-        *slot = *block;
+        make_room(&mut self.numbers, &mut self.blocks, 1)?;
+        add_row(&mut self.places, n)?;
+        lay_one(
+            &mut self.numbers,
+            &mut self.blocks,
+            &mut self.places,
+            n,
+            block,
+        );
         Ok(())
     }
 
-    /// Enters block `n` with the bytes that it has below, unless the patch has it.
-    fn enter<B: Blocks>(&mut self, below: &B, n: u32) -> Result<(), AllocError>
-        requires { n < B.total below.now }
-        ensures same { ShowsSame (B.blocks below.now) (changes self.old) (changes self.new) }
-        ensures kept { HasEachOf (changes self.old) (changes self.new) }
-        ensures entered { OnOk result (IsSome (changes self.new n)) }
-        ensures no_other { GainsNoneBut n (changes self.old) (changes self.new) }
-        ensures within { KeepsWithin self.old self.new (B.total below.now) }
+    /// Puts blocks that follow one another into the patch, the first as block `first`, in place of those that it has. At an error
+    /// the patch is as it was.
+    pub fn put_run(&mut self, first: u32, run: &[[u8; 512]]) -> Result<(), AllocError>
+        requires { first + length run.now ≤ 2 ^ 32 }
+        ensures written { OnOk result (HasLaid first (length run.now) run.now
+            (changes self.old) (changes self.new)) }
+        ensures kept { OnErr result (self.new ≡ self.old) }
+        ensures whole { AreWhole (changes self.new) }
+        ensures were_whole { AreWhole (changes self.old) }
     {
-        if self.get(n).is_some() {
-            return Ok(());
-        }
-        let mut block = [0; 512];
-        below.block(n, &mut block);
-        self.put(n, &block)?;
+        make_room(&mut self.numbers, &mut self.blocks, run.len())?;
+        add_rows(&mut self.places, first, run.len())?;
+        lay_run(
+            &mut self.numbers,
+            &mut self.blocks,
+            &mut self.places,
+            first,
+            run,
+        );
         Ok(())
     }
 
-    /// Enters each of the blocks that the patch lacks, with the bytes that it has below.
-    fn enter_all<B: Blocks>(&mut self, below: &B, blocks: &BlockMap) -> Result<(), AllocError>
-        requires { AreWithin (changes blocks.now.entries) (B.total below.now) }
-        ensures same { ShowsSame (B.blocks below.now) (changes self.old) (changes self.new) }
-        ensures kept { HasEachOf (changes self.old) (changes self.new) }
-        ensures entered { OnOk result (HasEachOf (changes blocks.now.entries) (changes self.new)) }
-        ensures no_other { GainsOnly (changes self.old) (changes blocks.now.entries)
-            (changes self.new) }
-        ensures within { KeepsWithin self.old self.new (B.total below.now) }
+    /// Whether the patch may have one of `count` blocks from `first` on. Takes no memory.
+    pub fn may_have(&self, first: u32, count: u32) -> bool
+        requires { first + count ≤ 2 ^ 32 }
+        ensures { result ≡ false → HasNoneOf first count (changes self.now) }
     {
-        for i in 0..blocks.len() {
-            let Some((n, _)) = blocks.get_index(i) else {
-                unreachable!();
-            };
-            self.enter(below, *n)?;
-        }
-        Ok(())
+        is_any_placed(&self.places, first, count as usize)
     }
 
-    /// Writes over a block that the patch has. Takes no memory.
-    fn overwrite(&mut self, n: u32, block: &[u8; 512])
-        requires { IsSome (changes self.old n) }
-        ensures { HasChange n block.now (changes self.old) (changes self.new) }
-    {
-        let Some(slot) = self.blocks.get_mut(&n) else {
-            unreachable!();
-        };
-        *slot = *block;
-    }
-
-    /// Writes each of the blocks over the patch's block of its number. Takes no memory.
-    fn overwrite_all(&mut self, blocks: &BlockMap)
-        requires { HasEachOf (changes blocks.now.entries) (changes self.old) }
-        ensures { HasChangesOf (changes blocks.now.entries) (changes self.old) (changes self.new) }
-    {
-        for i in 0..blocks.len() {
-            let Some((n, block)) = blocks.get_index(i) else {
-                unreachable!();
-            };
-            self.overwrite(*n, block);
-        }
-    }
-
-    /// Lays another patch over this one, which lies over the blocks of `below`. Each block of the other one that this one lacks
-    /// is entered first, with the bytes that it has there, so that the rest takes no memory. At an error this patch may have more
-    /// blocks, but over those of `below` it is as it was.
+    /// Lays another patch over this one, which lies over the blocks of `below`. Room for all of its blocks is made first, so that
+    /// what follows takes no memory: at an error this patch is as it was.
     pub fn lay<B: Blocks>(&mut self, below: &B, patch: &Patch) -> Result<(), AllocError>
         requires { AreWithin (changes patch.now) (B.total below.now) }
         ensures laid { OnOk result (IsLaid (B.blocks below.now) self.old patch.now self.new) }
@@ -150,8 +138,15 @@ impl Patch {
             (HasJoined (changes self.old) (changes patch.now) (changes self.new)) }
         ensures within { KeepsWithin self.old self.new (B.total below.now) }
     {
-        self.enter_all(below, &patch.blocks)?;
-        self.overwrite_all(&patch.blocks);
+        make_room(&mut self.numbers, &mut self.blocks, patch.numbers.len())?;
+        add_rows_for(&mut self.places, &patch.numbers)?;
+        lay_all(
+            &mut self.numbers,
+            &mut self.blocks,
+            &mut self.places,
+            &patch.numbers,
+            &patch.blocks,
+        );
         Ok(())
     }
 }

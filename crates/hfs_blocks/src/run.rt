@@ -2,7 +2,7 @@
 
 ghost use Rattle.std.specs.Prelude.{◌≡◌, ℕ, ◌+◌, ◌<◌, ◌≤◌, length, slice_index_or};
 ghost use Rattle.std.specs.List.{flat_map};
-ghost use Rattle.hfs_blocks.specs.Blocks.{run_of, AreCounted, AreRunsWithin, IsBeforeEnd};
+ghost use Rattle.hfs_blocks.specs.Blocks.{run_of, AreCounted, AreRunsWithin, IsBeforeEnd, IsRestAt};
 ghost use Rattle.hfs_blocks.specs.declared.run.Run.{Run};
 
 /// Consecutive blocks: the number of the first, counted from 0, and how many there are.
@@ -36,4 +36,23 @@ pub fn block_of(runs: &[Run], n: u32) -> u32
 {
     let run = runs[place_of(runs, n)];
     run.first + (n - run.before)
+}
+
+/// The blocks from node `n` of the file on that lie in one run with it, where the file's nodes lie in these runs. A binary search.
+pub fn rest_of_run(runs: &[Run], n: u32) -> Run
+    requires within { n < length (flat_map run_of runs.now) }
+    requires small { AreRunsWithin runs.now 4294967296 }
+    ensures some { 0 < result.count }
+    ensures within { n + result.count ≤ length (flat_map run_of runs.now) }
+    ensures numbers { IsRestAt runs.now n result }
+    ensures inside { (total : ℕ) → AreRunsWithin runs.now total
+        → result.first + result.count ≤ total }
+{
+    let whole = runs[place_of(runs, n)];
+    let passed = n - whole.before;
+    Run {
+        first: whole.first + passed,
+        count: whole.count - passed,
+        before: n,
+    }
 }

@@ -1,6 +1,6 @@
 -- What the leaf where a search ends says of the whole content.
-use Rattle.std.proofs.Common.{◌≡◌, ℕ, ◌<◌, List, [], ◌∷◌, ◌++◌, length, map, get_or, drop, refl, sym, ap, ◌∙◌, subst, arith, append_assoc, Some, None}
-use Rattle.std.specs.Prelude.{true, Option}
+use Rattle.std.proofs.Common.{◌≡◌, ℕ, ◌<◌, List, [], ◌∷◌, ◌++◌, length, map, get_or, drop, refl, sym, ap, ◌∙◌, subst, arith, append_assoc, Some, None, true≢false}
+use Rattle.std.specs.Prelude.{true, false, Option}
 use Rattle.std.specs.Option.{option_or}
 use Rattle.std.specs.List.{flat_map}
 use Rattle.std.specs.Cmp.{IsTotalOrder}
@@ -8,13 +8,15 @@ use Rattle.std.proofs.lemmas.List.{length-map}
 use Rattle.hfs_node.specs.Node.{node_of}
 use Rattle.hfs_btree.specs.declared.header.Header.{Header}
 use Rattle.hfs_btree.specs.declared.key.Key.{Ghosts}
-use Rattle.hfs_btree.specs.Pairs.{Pairs, lookup, after}
+use Rattle.hfs_btree.specs.Pairs.{Pairs, Rises, lookup, after}
 use Rattle.hfs_scans.specs.Each.{Each}
 use Rattle.hfs_btree.specs.Tree.{Store, first_of, forward_of, pair_of, pairs, records_of}
 use Rattle.hfs_btree.specs.Header.{header_in, depth_of, leaves, tree_content}
 use Rattle.hfs_btree.specs.Lookups.{first_pair}
-use Rattle.hfs_btree.proofs.LookupLemmas.{lookup-between, after-between}
+use Rattle.hfs_btree.proofs.LookupLemmas.{lookup-between, lookup-part, after-between}
 use Rattle.hfs_btree.specs.Search.{leaf_for}
+use Rattle.hfs_btree.specs.Near.{IsLastLeaf}
+use Rattle.hfs_btree.specs.declared.near.LastLeaf.{LastLeaf}
 use Rattle.hfs_btree.proofs.SearchLemmas.{IsLeafFor}
 use Rattle.hfs_btree.specs.Sound.{HasStructure, IsSound, IsRight}
 use Rattle.hfs_btree.proofs.DecodedLemmas.{records-read, read-in, decoded-within}
@@ -23,6 +25,10 @@ use Rattle.hfs_btree.proofs.DescentLemmas.{leaf-found, leaf-node, leaf-entries, 
 -- a header record that was read tells whether there is a level
 pub some-levels : (h : Header) (nodes : Store) → h ≡ header_in nodes → (h.depth ≡ 0 → ⊥) → 0 < depth_of nodes
 some-levels h nodes is some = let same = ap (λ (x : Header). x.depth) is in omega arith
+
+-- where no leaf was read, none is asked about
+pub none-read : {K : Type 0} (g : Ghosts K) (nodes : Store) (last : LastLeaf) → last.is_read ≡ false → IsLastLeaf g nodes last
+none-read g nodes last none = record { some = λ read. absurd (true≢false (sym read ∙ none)); other = λ read. absurd (true≢false (sym read ∙ none)) }
 
 module _ {K : Type 0} (g : Ghosts K) (total : IsTotalOrder g.compare) (nodes : Store) (t : K) (sound : IsSound g nodes) (some : 0 < depth_of nodes) (n : ℕ) (is : n ≡ leaf_for g nodes t)
     (bytes : List ℕ) (read : bytes ≡ get_or nodes n []) where
@@ -45,6 +51,13 @@ module _ {K : Type 0} (g : Ghosts K) (total : IsTotalOrder g.compare) (nodes : S
   found-body =
       sym (ap (lookup g.compare t) about
       ∙ lookup-between g.compare total t (flat_map (pairs g nodes) found.before) (map (pair_of g) (records_of (node_of bytes))) (flat_map (pairs g nodes) found.behind) found.below found.above)
+
+  -- what the leaf has under another key, the tree has
+  pub near-body : (key : K) (b : List ℕ) → Some b ≡ lookup g.compare key (map (pair_of g) (records_of (node_of bytes))) → Some b ≡ lookup g.compare key (tree_content g nodes)
+  near-body key b is =
+      sym (ap (lookup g.compare key) about
+      ∙ lookup-part g.compare total key (flat_map (pairs g nodes) found.before) (map (pair_of g) (records_of (node_of bytes))) (flat_map (pairs g nodes) found.behind) b
+      (subst (λ (ps : Pairs K). Rises g.compare ps) about sound.ordered.rises) (sym is))
 
   -- ---- what follows the leaf
 

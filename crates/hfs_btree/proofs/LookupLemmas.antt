@@ -1,12 +1,13 @@
 -- Lemmas about the definitions of specs/Lookups.antt.
-use Rattle.std.proofs.Common.{◌≡◌, ℕ, Bool, true, false, List, [], ◌∷◌, ◌++◌, Option, Some, None, refl, sym, ap, ◌∙◌}
+use Rattle.std.proofs.Common.{◌≡◌, ℕ, Bool, true, false, List, [], ◌∷◌, ◌++◌, Option, Some, None, refl, sym, ap, ◌∙◌, true≢false}
 use Rattle.std.specs.Prelude.{cond}
 use Rattle.std.specs.Option.{option_or}
 use Rattle.std.specs.declared.cmp.Ordering.{Ordering}
 use Rattle.std.specs.declared.cmp.Ordering.TheVariants.{Less, Equal, Greater}
 use Rattle.std.specs.Ordering.{is_eq, is_gt, is_lt, ordering_reverse}
 use Rattle.std.specs.Cmp.{IsTotalOrder}
-use Rattle.hfs_btree.specs.Pairs.{Order, Pairs, lookup, after, pairs_from, IsAbove}
+use Rattle.std.proofs.lemmas.Option.{none-some}
+use Rattle.hfs_btree.specs.Pairs.{Order, Pairs, Rises, lookup, after, pairs_from, IsAbove}
 use Rattle.hfs_btree.proofs.PairLemmas.{IsBelow}
 use Rattle.hfs_scans.specs.Each.{Each}
 use Rattle.hfs_scans.proofs.ElementLemmas.{each-mono}
@@ -56,6 +57,40 @@ module _ {K : Type 0} (cmp : Order K) (total : IsTotalOrder cmp) where
   lookup-left : (t : K) (ps qs : Pairs K) → Each (λ p. is_eq (cmp t p.0) ≡ false) qs → lookup cmp t (ps ++ qs) ≡ lookup cmp t ps
   lookup-left t [] qs h = lookup-none t qs h
   lookup-left t (p ∷ ps) qs h = ap (λ r. cond (is_eq (cmp t p.0)) (Some p.1) r) (lookup-left t ps qs h)
+
+  -- a key that is below one of the pairs has no body where that one has
+  below-other : (t x y : K) → cmp x y ≡ Less → is_eq (cmp t y) ≡ true → is_eq (cmp t x) ≡ false
+  below-other t x y less same = by (cmp t x) refl
+    where
+      by : (o : Ordering) → cmp t x ≡ o → is_eq o ≡ false
+      by Less e = refl
+      by Greater e = refl
+      by Equal e =
+          let below : cmp t y ≡ Less = le-lt t x y (ap is_gt e) less in
+          absurd (true≢false (sym same ∙ ap is_eq below))
+
+  other-key : (t : K) (p : K × List ℕ) (ps : Pairs K) (b : List ℕ) → Each (λ q. cmp p.0 q.0 ≡ Less) ps → lookup cmp t ps ≡ Some b → is_eq (cmp t p.0) ≡ false
+  other-key t p [] b rises is = absurd (none-some b is)
+  other-key t p (q ∷ qs) b rises is = by (is_eq (cmp t q.0)) refl (other-key t p qs b rises.1)
+    where
+      by : (e : Bool) → is_eq (cmp t q.0) ≡ e → (lookup cmp t qs ≡ Some b → is_eq (cmp t p.0) ≡ false) → is_eq (cmp t p.0) ≡ false
+      by true here rest = below-other t p.0 q.0 rises.0 here
+      by false there rest = rest (sym (ap (λ e. cond e (Some q.1) (lookup cmp t qs)) there) ∙ is)
+
+  lookup-first : (t : K) (ps qs : Pairs K) (b : List ℕ) → lookup cmp t ps ≡ Some b → lookup cmp t (ps ++ qs) ≡ Some b
+  lookup-first t [] qs b is = absurd (none-some b is)
+  lookup-first t (p ∷ ps) qs b is = by (is_eq (cmp t p.0)) refl (lookup-first t ps qs b)
+    where
+      by : (e : Bool) → is_eq (cmp t p.0) ≡ e → (lookup cmp t ps ≡ Some b → lookup cmp t (ps ++ qs) ≡ Some b) → lookup cmp t (p ∷ (ps ++ qs)) ≡ Some b
+      by true here rest = ap (λ e. cond e (Some p.1) (lookup cmp t (ps ++ qs))) here ∙ sym (ap (λ e. cond e (Some p.1) (lookup cmp t ps)) here) ∙ is
+      by false there rest = ap (λ e. cond e (Some p.1) (lookup cmp t (ps ++ qs))) there ∙ rest (sym (ap (λ e. cond e (Some p.1) (lookup cmp t ps)) there) ∙ is)
+
+  -- what a part of rising pairs has under a key, all of them have
+  pub lookup-part : (t : K) (before part behind : Pairs K) (b : List ℕ) → Rises cmp (before ++ (part ++ behind)) → lookup cmp t part ≡ Some b → lookup cmp t (before ++ (part ++ behind)) ≡ Some b
+  lookup-part t [] part behind b rises is = lookup-first t part behind b is
+  lookup-part t (p ∷ before) part behind b rises is =
+      let rest = lookup-part t before part behind b rises.1 is in
+      ap (λ e. cond e (Some p.1) (lookup cmp t (before ++ (part ++ behind)))) (other-key t p (before ++ (part ++ behind)) b rises.0 rest) ∙ rest
 
   pub below-differs : (t : K) (ps : Pairs K) → IsAbove cmp t ps → Each (λ p. is_eq (cmp t p.0) ≡ false) ps
   below-differs t ps h = each-mono _ _ ps (λ p e. ap is_eq (flipped p.0 t Less e)) h

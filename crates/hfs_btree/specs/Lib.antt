@@ -8,3 +8,4 @@ pub mod Lookups
 pub mod Search
 pub mod Walk
 pub mod LeafPairs
+pub mod Near

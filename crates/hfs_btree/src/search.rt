@@ -92,7 +92,7 @@ pub fn descend<K: Key, N: Nodes>(nodes: &N, header: &Header, key: &K, bytes: &mu
 }
 
 /// The body of the record with this key, in a leaf.
-fn body_in<'a, K: Key>(bytes: &'a [u8; 512], key: &K) -> Option<&'a [u8]>
+pub(crate) fn body_in<'a, K: Key>(bytes: &'a [u8; 512], key: &K) -> Option<&'a [u8]>
     requires { Each (λ entry. K.is_leaf entry ≡ true) (records_of (node_of bytes.now)) }
     ensures { option_map (λ body. body.now) result ≡ leaf_body K.Key bytes.now key.now }
 {

@@ -54,6 +54,22 @@ and-none false = refl
 abbrev pub GainsUpTo : ℕ → ℕ → Numbered → Numbered → Numbered → Type 0
 GainsUpTo first n kept old new = (passes : ℕ → Bool) → AreAgain passes kept old → AreAgain (λ k. passes k || between first n k) kept new
 
+-- a run of which the kept patch has no block gains nothing
+pub gains_nothing : (run : Run) (kept old : Numbered) → ((n : ℕ) → run.first ≤ n → n < run.first + run.count → changes kept n ≡ None) → GainsRun run kept old old
+gains_nothing run kept old none passes are n = are n ∙ ap zeros_if (⊎_elim
+    (λ (lt : n < run.first). beside (below_first run.first (run.first + run.count) n lt))
+    (λ (ge : run.first ≤ n). ⊎_elim
+    (λ (lt : n < run.first + run.count). inside (none n ge lt))
+    (λ (le : run.first + run.count ≤ n). beside (behind_end run.first (run.first + run.count) n le))
+    (cases_lt n (run.first + run.count)))
+    (cases_lt n run.first))
+  where
+    beside : is_of_run n run ≡ false → (passes n && is_some (changes kept n)) ≡ ((passes n || is_of_run n run) && is_some (changes kept n))
+    beside e = ap (λ (b : Bool). b && is_some (changes kept n)) (sym (ap (λ (b : Bool). passes n || b) e ∙ or-false (passes n)))
+
+    inside : changes kept n ≡ None → (passes n && is_some (changes kept n)) ≡ ((passes n || is_of_run n run) && is_some (changes kept n))
+    inside e = ap (λ o. passes n && is_some o) e ∙ and-none (passes n) ∙ sym (ap (λ o. (passes n || is_of_run n run) && is_some o) e ∙ and-none (passes n || is_of_run n run))
+
 pub gains_none : (first : ℕ) (kept old : Numbered) → GainsUpTo first first kept old old
 gains_none first kept old passes are k =
     are k ∙ ap (λ (b : Bool). zeros_if (b && is_some (changes kept k))) (sym (or-false (passes k)) ∙ ap (λ (b : Bool). passes k || b) (sym (empty k)))

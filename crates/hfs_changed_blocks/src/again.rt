@@ -12,6 +12,9 @@ fn put_again(kept: &Patch, run: Run, again: &mut Patch) -> Result<(), AllocError
     requires { run.first + run.count ≤ 4294967295 }
     ensures { OnOk result (GainsRun run kept.now again.old again.new) }
 {
+    if !kept.may_have(run.first, run.count) {
+        return Ok(());
+    }
     let zeros = [0; 512];
     for n in run.first..run.first + run.count {
         if kept.get(n).is_some() {

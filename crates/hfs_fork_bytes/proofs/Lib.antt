@@ -9,3 +9,4 @@ mod ZeroSteps
 pub mod CoverLemmas
 mod FromLemmas
 pub mod WholeLemmas
+mod BlockSteps

@@ -36,3 +36,9 @@ KeepsBesideOver below ns offset count old new = KeepsBeside ns offset count (ove
 -- the blocks of both patches have 512 bytes each
 abbrev pub AreBothWhole : Numbered → Numbered → Type 0
 AreBothWhole old new = AreWhole (changes old) × AreWhole (changes new)
+
+-- the blocks from `first` on have these bytes, of whole blocks, and no other block has changed
+pub record HasBlocks (first : ℕ) (bytes : List ℕ) (old new : ℕ → List ℕ) : Type 0 where
+  pub given : (i : ℕ) → i < length bytes → slice_index (new (first + i / 512)) (i % 512) ≡ slice_index bytes i
+  pub before : (n : ℕ) → n < first → new n ≡ old n
+  pub behind : (n : ℕ) → first + length bytes / 512 ≤ n → new n ≡ old n

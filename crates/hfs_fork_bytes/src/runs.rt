@@ -1,15 +1,15 @@
 //! Bytes and zeros over the runs of a file's blocks.
 
-ghost use Rattle.std.specs.Prelude.{◌≡◌, ℕ, ◌+◌, ◌-◌, ◌*◌, ◌/◌, ◌%◌, ◌<◌, ◌≤◌, ◌^◌, length, min, OnOk};
+ghost use Rattle.std.specs.Prelude.{◌≡◌, ℕ, ◌+◌, ◌-◌, ◌*◌, ◌/◌, ◌%◌, ◌<◌, ◌≤◌, ◌^◌, length, min, take, drop, OnOk, OnErr, IfOk};
 ghost use Rattle.std.specs.List.{flat_map};
 ghost use Rattle.hfs_blocks.specs.Blocks.{run_of, AreRunsWithin};
-ghost use Rattle.hfs_blocks.specs.Layers.{KeepsWithin};
+ghost use Rattle.hfs_blocks.specs.Layers.{changes, over, KeepsWithin};
 ghost use Rattle.hfs_fork_bytes.specs.Parts.{zeros};
 ghost use Rattle.hfs_fork_bytes.specs.Written.{AreBothWhole};
 ghost use Rattle.hfs_fork_bytes.specs.Written as spec;
 
 use crate::parts::put_part;
-use hfs_blocks::{Blocks, Patch, Run, block_of};
+use hfs_blocks::{Blocks, Patch, Run, block_of, rest_of_run};
 use std::alloc::AllocError;
 
 /// Writes bytes of a file whose blocks lie in these runs, from the file's byte `at` on. They are in one block.
@@ -44,6 +44,65 @@ fn in_one_block(at: u64, count: u64) -> u64
     count.min(512 - at % 512)
 }
 
+/// Writes whole blocks one after the other, the first as block `first`, into the patch over these blocks. At an error the patch is
+/// as it was.
+fn put_blocks<B: Blocks>(
+    below: &B,
+    patch: &mut Patch,
+    first: u32,
+    bytes: &[u8],
+) -> Result<(), AllocError>
+    requires whole { length bytes.now % 512 ≡ 0 }
+    requires within { first + length bytes.now / 512 ≤ B.total below.now }
+    ensures part { OnOk result (spec.HasBlocks first bytes.now
+        (over (changes patch.old) (B.blocks below.now))
+        (over (changes patch.new) (B.blocks below.now))) }
+    ensures kept { OnErr result (patch.new ≡ patch.old) }
+    ensures whole { AreBothWhole patch.old patch.new }
+    ensures within { KeepsWithin patch.old patch.new (B.total below.now) }
+{
+    let (blocks, _rest) = bytes.as_chunks::<512>();
+    patch.put_run(first, blocks)?;
+    Ok(())
+}
+
+/// Writes some more of the bytes of a file whose blocks lie in these runs, of which the first `done` are written, from the file's
+/// byte `offset` on: as many whole blocks as lie in one run, or else those that stand in one block. Answers how many are written.
+fn write_some<B: Blocks>(
+    below: &B,
+    patch: &mut Patch,
+    runs: &[Run],
+    offset: u64,
+    bytes: &[u8],
+    done: usize,
+) -> Result<usize, AllocError>
+    requires runs { AreRunsWithin runs.now (B.total below.now) }
+    requires different { spec.AreDifferent (flat_map run_of runs.now) }
+    requires some { done < length bytes.now }
+    requires fits { offset + length bytes.now ≤ 512 * length (flat_map run_of runs.now) }
+    ensures some { IfOk result (λ end. done < end) }
+    ensures few { IfOk result (λ end. end ≤ length bytes.now) }
+    ensures part { IfOk result (λ end. spec.HasPartOver (B.blocks below.now)
+        (flat_map run_of runs.now) (offset + done) (take (end - done) (drop done bytes.now))
+        patch.old patch.new) }
+    ensures beside { spec.KeepsBesideOver (B.blocks below.now) (flat_map run_of runs.now)
+        (offset + done) (length bytes.now - done) patch.old patch.new }
+    ensures whole { AreBothWhole patch.old patch.new }
+    ensures within { KeepsWithin patch.old patch.new (B.total below.now) }
+{
+    let at = offset + done as u64;
+    let left = bytes.len() - done;
+    if at % 512 == 0 && left >= 512 {
+        let rest = rest_of_run(runs, (at / 512) as u32);
+        let end = done + 512 * (left / 512).min(rest.count as usize);
+        put_blocks(below, patch, rest.first, &bytes[done..end])?;
+        return Ok(end);
+    }
+    let end = done + in_one_block(at, left as u64) as usize;
+    put_in_file(below, patch, runs, at, &bytes[done..end])?;
+    Ok(end)
+}
+
 /// Writes bytes of a file whose blocks lie in these runs, from the file's byte `offset` on. Only the blocks that have one of
 /// these bytes change. At an error some of them may not be written.
 pub(crate) fn write_runs<B: Blocks>(
@@ -66,11 +125,7 @@ pub(crate) fn write_runs<B: Blocks>(
 {
     let mut done = 0;
     while done < bytes.len() {
-        let at = offset + done as u64;
-        let more = in_one_block(at, (bytes.len() - done) as u64);
-        let end = done + more as usize;
-        put_in_file(below, patch, runs, at, &bytes[done..end])?;
-        done = end;
+        done = write_some(below, patch, runs, offset, bytes, done)?;
     }
     Ok(())
 }

@@ -3,10 +3,11 @@
 ghost use Rattle.std.specs.Prelude.{◌≡◌, ℕ, ◌+◌, ◌<◌, ◌≤◌, ◌++◌, ◌^◌, [], length, IfOk, IsTrue, ◌↔◌};
 ghost use Rattle.hfs_space.specs.Extents as spec;
 ghost use Rattle.hfs_space.specs.Results.{GivesItems};
-ghost use Rattle.hfs_space.specs.TreeKeys.{IsExtentsTree, overflow_of, GoesOnIn, extents_through};
+ghost use Rattle.hfs_space.specs.TreeKeys.{IsExtentsTree, ext_keys, overflow_of, GoesOnIn, extents_through};
+ghost use Rattle.hfs_btree.specs.Near.{IsLastLeaf};
 
 use crate::fork_kind::{ForkKind, fork_byte};
-use hfs_btree::{Nodes, find};
+use hfs_btree::{LastLeaf, Nodes, find_near};
 use hfs_fields::{ExtKey, Extent};
 use std::alloc::{AllocError, Global};
 
@@ -45,9 +46,12 @@ fn next_extents<N: Nodes>(
     file: u32,
     fork: ForkKind,
     block: u32,
+    last: &mut LastLeaf,
 ) -> Result<Option<[Extent; 3]>, AllocError>
-    requires { IsExtentsTree (N.nodes tree.now) }
-    ensures { IfOk result (λ found. GoesOnIn (N.nodes tree.now) file fork block found) }
+    requires tree { IsExtentsTree (N.nodes tree.now) }
+    requires last { IsLastLeaf ext_keys (N.nodes tree.now) last.old }
+    ensures found { IfOk result (λ found. GoesOnIn (N.nodes tree.now) file fork block found) }
+    ensures last { IsLastLeaf ext_keys (N.nodes tree.now) last.new }
 {
     let Ok(block) = u16::try_from(block) else {
         return Ok(None);
@@ -57,7 +61,7 @@ fn next_extents<N: Nodes>(
         file,
         block,
     };
-    let Some(body) = find(alloc, tree, &key)? else {
+    let Some(body) = find_near(alloc, tree, &key, last)? else {
         return Ok(None);
     };
     let Some(extents) = Extent::read_record(&body) else {
@@ -75,6 +79,8 @@ fn next_extents<N: Nodes>(
 /// The catalog file is file 4, and its data fork begins with the three extents of the master directory block. The extents file
 /// itself has only its three there. Fails only when out of memory.
 ///
+/// A leaf of the tree is read once for all records in it that follow one another.
+///
 /// Source: Inside Macintosh: Files, chapter 2, 'Extents overflow file'.
 pub fn fork_extents<N: Nodes>(
     alloc: Global,
@@ -88,7 +94,8 @@ pub fn fork_extents<N: Nodes>(
 {
     let mut extents = Vec::from_slice(alloc, first)?;
     let mut blocks = block_total(first);
-    while let Some(more) = next_extents(alloc, tree, file, fork, blocks)? {
+    let mut last = LastLeaf::none();
+    while let Some(more) = next_extents(alloc, tree, file, fork, blocks, &mut last)? {
         let count = block_total(&more);
         extents.extend_from_slice(&more)?;
         blocks += count;

@@ -1,10 +1,13 @@
 -- One block more came, or the kept patch has none.
-use Rattle.std.proofs.Common.{◌≡◌, ◌+◌, ◌∙◌, ap, sym, subst, arith}
+use Rattle.std.proofs.Common.{◌≡◌, ◌+◌, ◌∙◌, false, ap, sym, subst, arith, rules}
 use Rattle.std.specs.Prelude.{is_some}
 use Rattle.hfs_blocks.specs.Layers.{Numbered, changes}
-use Rattle.hfs_changed_blocks.proofs.Runs.{GainsUpTo, copied_some, gains_put, gains_not}
+use Rattle.hfs_changed_blocks.proofs.Runs.{GainsUpTo, copied_some, gains_nothing, gains_put, gains_not}
 use Rattle.hfs_changed_blocks.proofs.again.put_again.Goals.{then-is_some+in_ok-put, else-is_some}
 use Rattle.hfs_changed_blocks.proofs.again.put_again.Goals as goal
+
+pub returns-then-not-may_have : goal.returns-then-not-may_have
+returns-then-not-may_have c = gains_nothing c.args.run c.args.kept.now c.args.again.now (c.may_have.ensures (let none : c.may_have.result ≡ false = search rules in none))
 
 pub loop-n-preserved : goal.loop-n-preserved
 loop-n-preserved c =

@@ -1,17 +1,14 @@
--- One more part is written.
-use Rattle.std.proofs.Common.{◌+◌, ◌≤◌, length, arith}
+-- Some more bytes are written.
+use Rattle.std.proofs.Common.{◌-◌, length, arith}
 use Rattle.std.specs.List.{flat_map}
 use Rattle.hfs_blocks.specs.Blocks.{run_of}
 use Rattle.hfs_blocks.specs.Layers.{changes, over}
-use Rattle.hfs_fork_bytes.proofs.Puts.{runs-length}
-use Rattle.hfs_fork_bytes.proofs.PartSteps.{HasPart-next, KeepsBeside-more, slice-fits, whole-next}
+use Rattle.hfs_fork_bytes.proofs.PartSteps.{KeepsBeside-more, whole-next}
+use Rattle.hfs_fork_bytes.proofs.BlockSteps.{HasPart-on}
 use Rattle.hfs_fork_bytes.proofs.runs.write_runs.Goals as goal
 
-pub overflow_add-at : goal.overflow_add-at
-overflow_add-at g c = record { fits = omega (arith, runs-length c.args.runs.now, c.requires.runs.few, c.requires.fits, c.loop-done.invariant.few) }
-
-pub returns-in_err-put_in_file-clause-within : goal.returns-in_err-put_in_file-clause-within
-returns-in_err-put_in_file-clause-within g c = λ was. c.in_err-put_in_file.ensures.within (c.loop-done.invariant.within was)
+pub returns-in_err-done-clause-within : goal.returns-in_err-done-clause-within
+returns-in_err-done-clause-within g c = λ was. c.in_err-done.ensures.within (c.loop-done.invariant.within was)
 
 pub loop-done-preserved : goal.loop-done-preserved
 loop-done-preserved g c =
@@ -19,15 +16,17 @@ loop-done-preserved g c =
     let ns = flat_map run_of c.args.runs.now in
     let old = over (changes c.args.patch.now) below in
     let mid = over (changes c.loop-done.patch) below in
-    let new = over (changes c.put_in_file.new.patch) below in
+    let new = over (changes c.write_some.new.patch) below in
     let done = c.loop-done.done in
-    let more = c.in_one_block-more.result in
-    let most : done + more ≤ length c.args.bytes.now = omega (arith, c.in_one_block-more.ensures) in
+    let end = c.in_ok-done.done in
+    let further = c.in_ok-done.ensures.some in
+    let most = c.in_ok-done.ensures.few in
     record {
       few = most;
-      begins = λ none. absurd (omega (arith, none, c.in_one_block-more.ensures, c.loop-done-test.true));
-      part = HasPart-next ns c.args.offset c.args.bytes.now done more old mid new most c.requires.fits c.loop-done.invariant.part c.in_ok-put_in_file.ensures.part;
-      beside = KeepsBeside-more ns c.args.offset done _ (length c.args.bytes.now) old mid new (slice-fits c.args.bytes.now done more most) c.loop-done.invariant.beside c.in_ok-put_in_file.ensures.beside;
-      whole = λ some. whole-next c.args.patch.now c.loop-done.patch c.put_in_file.new.patch done c.loop-done.invariant.begins c.loop-done.invariant.whole c.in_ok-put_in_file.ensures.whole;
-      within = λ was. c.in_ok-put_in_file.ensures.within (c.loop-done.invariant.within was);
+      begins = λ none. absurd (omega (arith, none, further));
+      part = HasPart-on ns c.args.offset c.args.bytes.now done end old mid new (omega (arith, further)) most c.requires.fits c.loop-done.invariant.part c.in_ok-done.ensures.part;
+      beside = KeepsBeside-more ns c.args.offset done (length c.args.bytes.now - done) (length c.args.bytes.now) old mid new (omega (arith, c.loop-done.invariant.few)) c.loop-done.invariant.beside
+          c.in_ok-done.ensures.beside;
+      whole = λ some. whole-next c.args.patch.now c.loop-done.patch c.write_some.new.patch done c.loop-done.invariant.begins c.loop-done.invariant.whole c.in_ok-done.ensures.whole;
+      within = λ was. c.in_ok-done.ensures.within (c.loop-done.invariant.within was);
     }
