@@ -1,13 +1,13 @@
 #!/usr/bin/env python3
 """How long `put` and `make` take, on a RAM disk, and their most memory.
 
-measure/putting_times.py files [BYTES] 5,800 files of 3,500 bytes, or of so many, in 200 folders, beside `cp -a` of these and of the image of 24 MB, and
-                                       `hcopy -r` folder by folder; a disk made of them, beside `cp -a` of them
-measure/putting_times.py fork [MB]     a file of 500 MB, or of so many, beside `cp` of it
-measure/putting_times.py small [MB]    a small file on a volume of 2,000 MB, or of so many, without holes, beside one Create by `run --out`
+measure/putting_times.py files [BYTES] 5,800 files of 3,500 bytes, or of so many, in 200 folders, compared with `cp -a` of these and of the image of 24 MB, and
+                                       `hcopy -r` folder by folder; a disk made of them, compared with `cp -a` of them
+measure/putting_times.py fork [MB]     a file of 500 MB, or of so many, compared with `cp` of it
+measure/putting_times.py small [MB]    a small file on a volume of 2,000 MB, or of so many, without holes, compared with one Create by `run --out`
 measure/putting_times.py many [N]      100,000 empty files, or so many, in folders of 100, put and made: processor time and memory
 
-Each runs seven times, a large one three times, in turns; the least time is told, by the clock and of the processor.
+Each runs seven times, a large one three times, in turns; the least time is printed, by the clock and of the processor.
 """
 import os
 import resource

@@ -1,9 +1,9 @@
 #!/usr/bin/env python3
-"""Runs words with standard error on a terminal, and compares what is told there with what a hand wrote; standard output is the same
-as without a terminal, and where standard error is a pipe nothing is told: images that are refused, files of each kind that is known
+"""Runs words with standard error on a terminal, and compares what is printed there with what was written by hand; standard output is the same
+as without a terminal, and if standard error is a pipe nothing is printed: images that are refused, files of each kind that is known
 by its bytes, files that can't be read, plans of new volumes that are refused, databases that can't be opened, images in which nothing
-is found. Then the line of progress within a large file and beside many items, what `ls` says of a path in the place of an ID, and the
-help that `hfs_tool` alone prints where standard input is a terminal.
+is found. Then the line of progress within a large file and of many items, what `ls` says of a path in the place of an ID, and the
+help that `hfs_tool` alone prints if standard input is a terminal.
 
 tests/hints.py      runs $HFS_TOOL and $HFS_COLLECT, or the programs as they are built in crates/*/out
 """

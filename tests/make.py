@@ -1,15 +1,15 @@
 #!/usr/bin/env python3
-"""Wants of `make` what its rules say: the name, the size and the trees of the new volume, what comes into it, and what is told of what can't. The
-rules are told once more in Python, on those that tests/put.py has of what comes; FILE is to be the volume that `new` and the calls of `run` make by
-them. Names, sizes and the least sizes are by hand as well. Then the law of a disk that is taken apart: of disks of other programs, and of
-drawn ones (driver/filling.py), `take`, `make` and `take` give the same payload, and a table that differs in IDs and the root's row alone. What
-`rescue` takes off a disk whose names no sound one has comes back by `--rename`. hfsutils copies all off what was made; files of unar and hfsutils
-come in. FILE where it stands there, full disks, few open files, and runs that are killed: FILE is the old one or whole.
+"""Tests that `make` does what its rules say: the name, the size and the trees of the new volume, what is put on it, and what is printed of what can't be. The
+rules are written again in Python, over those that tests/put.py has of what is put; FILE is to be the volume that `new` and the calls of `run` make by
+them. Names, sizes and the least sizes are by hand as well. Then disks that are taken apart: of disks of other programs, and of
+random ones (driver/filling.py), `take`, `make` and `take` give the same payload, and a table that differs only in IDs and the root's row. What
+`rescue` takes off a disk with names that no sound one has is put on a disk by `--rename`. hfsutils copies all off what was made; files of unar and hfsutils
+are put on it. FILE where one exists, full disks, few open files, and runs that are killed: FILE is the old one or whole.
 
 tests/make.py [--folders N] [--disks N] [--damaged N] [--bags N] [--seed WORD] [--large] [FOLDER..]      runs $HFS_TOOL, or the program as it is built in crates/hfs_tool/out
 
 The images of FOLDERs are taken apart and made again, too. --large makes a volume of 2 GB, and one of 100,000 files. It prints how many volumes were
-made; at a difference it says which, and ends with status 1. What isn't installed is left out and named.
+made; at a difference it says which, and ends with status 1. What isn't installed is skipped and named.
 """
 import argparse
 import os

@@ -1,14 +1,14 @@
 #!/usr/bin/env python3
-"""Wants of `put` what its rules say: which items come of folders and files, under which names, with which facts and forks; what is told of those
-that can't; and that nothing is written then. The rules are told once more in Python (driver/sources.py, driver/putting.py), and what FILE is to be
-comes from the calls that they give, made by `run`. By hand on small trees and volumes, and of drawn trees on drawn volumes; volumes of other
-programs, and in other files; a disk taken apart and put together again. What comes is read back by `items`, `take` and `check`, and by hfsutils and
-fsck.hfs where they are installed; AppleDouble and MacBinary files of hfsutils and unar come in. Then sources that change or can't be read while
+"""Tests that `put` does what its rules say: which items folders and files make, under which names, with which facts and forks; what is printed of those
+that can't be put; and that nothing is written then. The rules are written again in Python (driver/sources.py, driver/putting.py), and what FILE is to be
+is what `run` makes by the calls that they give. By hand on small trees and volumes, and of random trees on random volumes; volumes of other
+programs, and in other files; a disk taken apart and put together again. What was put is read back by `items`, `take` and `check`, and by hfsutils and
+fsck.hfs if these are installed; AppleDouble and MacBinary files of hfsutils and unar are put. Then sources that change or can't be read while
 they are written, full disks, few open files, and runs that are killed: FILE is the old one or whole.
 
 tests/put.py [--lists N] [--seed WORD] [--large]      runs $HFS_TOOL, or the program as it is built in crates/hfs_tool/out
 
-It prints how many runs there were; at a difference it says which, and ends with status 1. What isn't installed is left out and named.
+It prints how many runs there were; at a difference it says which, and ends with status 1. What isn't installed is skipped and named.
 """
 import argparse
 import csv

@@ -1,11 +1,11 @@
 #!/usr/bin/env python3
-"""What `put`, and partly `make`, does about files and devices: sources that change, go or can't be read while FILE is written, full disks, few open files, runs that are
-killed, output that nobody takes, memory, and what is told at a terminal. FILE is the old one or whole, and nothing is left beside it. A library
+"""What `put`, and partly `make`, does about files and devices: sources that change, vanish or can't be read while FILE is written, full disks, few open files, runs that are
+killed, output that nobody takes, memory, and what is printed at a terminal. FILE is the old one or whole, and nothing is left next to it. A library
 that is loaded before the C library changes the sources; it needs a C compiler.
 
 tests/put_files.py      runs $HFS_TOOL, or the program as it is built in crates/hfs_tool/out
 
-It prints how many runs there were; at a difference it says which, and ends with status 1. What can't be tried here is left out and named.
+It prints how many runs there were; at a difference it says which, and ends with status 1. What can't be tried here is skipped and named.
 """
 import os
 import re
