@@ -10,7 +10,7 @@ pub fn print_volumes<'a>(rt: &HostRuntime, path: &'a str) -> Result<u8, Fault<'a
     let file = open_file(rt, path)?;
     let Window {
         mut source,
-        range: _,
+        range: _range,
     } = content_of(file, path)?;
     let layout = source.layout();
     let others = match source.others() {
