@@ -7,3 +7,4 @@ pub mod TagLemmas
 pub mod HalfLemmas
 pub mod FaultLemmas
 pub mod PathLemmas
+pub mod ForkLemmas

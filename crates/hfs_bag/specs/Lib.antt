@@ -10,3 +10,4 @@ pub mod Tags
 pub mod TagParts
 pub mod Sums
 pub mod Laws
+pub mod Forks

@@ -1,15 +1,15 @@
 //! What the program does: opens and closes the database, handles one image after the other, and returns statuses.
 
-use crate::progress::ReadProgress;
 use crate::reading::CollectWords;
 use crate::telling::{tell_found, tell_obstacle};
+use hfs_bag::Watch;
 use hfs_collection::ImageFacts;
 use hfs_commands::{Fault, ShownPath, Status};
-use hfs_console::{print_lines, tell_sum, tell_unread};
+use hfs_console::{Progress, print_lines, tell_sum, tell_unread};
 use hfs_word_collect::{
-    Collection, Comparison, DatabaseFiles, FileCollection, ImageCounts, Obstacle, ReadWatch,
-    RunFault, can_open_database, collect_image, compare_image, comparison_line, image_line,
-    next_path, open_image, rows_at,
+    Collection, Comparison, DatabaseFiles, FileCollection, ImageCounts, Obstacle, RunFault,
+    can_open_database, collect_image, compare_image, comparison_line, image_line, next_path,
+    open_image, rows_at,
 };
 
 /// What a row says about the program that read an image.
@@ -135,7 +135,7 @@ fn collect_images(
 }
 
 /// Puts the image that these facts are of into the database.
-fn put_rows<W: ReadWatch>(
+fn put_rows<W: Watch>(
     rt: &HostRuntime,
     database: &mut FileCollection,
     facts: &ImageFacts<'_>,
@@ -159,7 +159,7 @@ fn put_one(
         takes_digests: words.takes_digests,
     };
     let all = words.images.len() as u64;
-    let progress = ReadProgress::on(rt, (i as u64).saturating_add(1), Some(all), path);
+    let progress = Progress::of_image(rt, (i as u64).saturating_add(1), Some(all), path);
     let counts = put_rows(rt, database, &facts, &progress);
     progress.end();
     counts
@@ -276,14 +276,14 @@ fn compared(
     i: u64,
     all: Option<u64>,
 ) -> Result<Comparison, RunFault> {
-    let progress = ReadProgress::on(rt, i.saturating_add(1), all, path);
+    let progress = Progress::of_image(rt, i.saturating_add(1), all, path);
     let found = compare_at(rt, database, path, &progress);
     progress.end();
     found
 }
 
 /// Opens an image and compares it to what the database has about it.
-fn compare_at<W: ReadWatch>(
+fn compare_at<W: Watch>(
     rt: &HostRuntime,
     database: &mut FileCollection,
     path: &str,

@@ -4,7 +4,6 @@
 
 mod collecting;
 mod page;
-mod progress;
 mod reading;
 mod reading_page;
 mod reading_rows;

@@ -1,14 +1,12 @@
 //! What the word `rows` does: one image after the other, as text on standard output.
 
 use crate::collecting::PROGRAM;
-use crate::progress::ReadProgress;
 use crate::reading_rows::RowsWords;
+use hfs_bag::Watch;
 use hfs_collection::ImageFacts;
 use hfs_commands::{Fault, ShownPath, Status};
-use hfs_console::tell_sum;
-use hfs_word_collect::{
-    ImageCounts, ReadWatch, RunFault, TextTaker, rows_at, write_head, write_image,
-};
+use hfs_console::{Progress, tell_sum};
+use hfs_word_collect::{ImageCounts, RunFault, TextTaker, rows_at, write_head, write_image};
 use std::io::Stdout;
 
 /// Prints the rows of the images, and returns the exit status. Faults go to standard error, where no program looks for rows.
@@ -37,7 +35,7 @@ fn print_rows(rt: &HostRuntime, words: &RowsWords<'_>) -> Result<Status, RunFaul
 }
 
 /// Prints the rows of the image that these facts are of.
-fn write_rows<W: ReadWatch>(
+fn write_rows<W: Watch>(
     rt: &HostRuntime,
     taker: &mut TextTaker<Stdout>,
     facts: &ImageFacts<'_>,
@@ -64,7 +62,7 @@ fn print_image(
         takes_digests: words.takes_digests,
     };
     let all = words.images.len() as u64;
-    let progress = ReadProgress::on(rt, (i as u64).saturating_add(1), Some(all), path);
+    let progress = Progress::of_image(rt, (i as u64).saturating_add(1), Some(all), path);
     let written = write_rows(rt, taker, &facts, &progress);
     progress.end();
     match written? {

@@ -16,10 +16,10 @@ module _ (bytes : List ℕ) (finds : Finds) (salvage : Salvaged) (limit : ℕ) (
   same-limit : IsSalvageOf finds (4 * length bytes) salvage
   same-limit = subst (λ (n : ℕ). IsSalvageOf finds n salvage) usual kept
 
-  pub rows_kept : (taken : Bool) (Fact : List TakenRow → Type 0) → Fact (remains_rows_from taken (kept_image bytes finds salvage) 0 finds.items.items) → Fact (remains_rows_by taken bytes (Some finds.mdb))
+  pub rows_kept : (taken : Bool) (Fact : List TakenRow → Type 0) → Fact (remains_rows_from taken (kept_image bytes finds.places salvage) 0 finds.items.items) → Fact (remains_rows_by taken bytes (Some finds.mdb))
   rows_kept taken Fact given = subst Fact (λ i. remains_rows_from taken (kept_found bytes finds salvage found same-limit i) 0 (found.items_are i)) given
 
-  pub files_kept : (Fact : FileCounts → Type 0) → Fact (remains_files_from (kept_image bytes finds salvage) 0 finds.items.items) → Fact (files_by bytes (Some finds.mdb))
+  pub files_kept : (Fact : FileCounts → Type 0) → Fact (remains_files_from (kept_image bytes finds.places salvage) 0 finds.items.items) → Fact (files_by bytes (Some finds.mdb))
   files_kept Fact given = subst Fact (λ i. remains_files_from (kept_found bytes finds salvage found same-limit i) 0 (found.items_are i)) given
 
 -- what was found of each image is of this one

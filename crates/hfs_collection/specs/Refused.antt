@@ -7,13 +7,13 @@ use Rattle.hfs_finds.specs.Images.{FoundImage, kept_image}
 use Rattle.hfs_rows.specs.declared.value.Table.TheVariants.{Volume}
 use Rattle.hfs_rows.specs.Taken.{TakenRow, row_of}
 use Rattle.hfs_collection.specs.declared.places.VolumePlace.{VolumePlace}
-use Rattle.hfs_collection.specs.declared.remaining.Remaining.{Remaining}
+use Rattle.hfs_rescue_items.specs.declared.found.Found.{Found}
 use Rattle.hfs_collection.specs.Remains.{remains_rows_by}
 use Rattle.hfs_collection.specs.Volumes.{volume_values}
 
--- an image, what is found of it, and what is taken
-abbrev pub image_of : Remaining → List ℕ → FoundImage
-image_of r image = kept_image image r.finds.now r.salvage.now
+-- an image, what was found of it, and what is taken
+abbrev pub image_of : Found → List ℕ → FoundImage
+image_of found image = kept_image image found.places.now found.salvage.now
 
 -- this was found of an image, of whose forks so many bytes are taken at most as is usual
 pub record IsFoundOf (finds : Finds) (limit : ℕ) (image : List ℕ) : Type 0 where

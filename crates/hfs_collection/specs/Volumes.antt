@@ -16,7 +16,7 @@ use Rattle.hfs_table.specs.Columns.{moment_cell}
 use Rattle.hfs_model.specs.Children.{entries_of}
 use Rattle.hfs_check.specs.VolumeOf.{volume_of}
 use Rattle.hfs_refusals.specs.Refusals.{refusal_text}
-use Rattle.hfs_commands.specs.Volumes.{container_text, name_text, sum_told}
+use Rattle.hfs_commands.specs.Volumes.{container_text, name_text}
 use Rattle.hfs_containers.specs.declared.ranges.Container.{Container}
 use Rattle.hfs_finds.specs.Finds.{found_directory}
 use Rattle.hfs_rows.specs.declared.value.RowValue.{RowValue}

@@ -14,16 +14,17 @@ ghost use Rattle.hfs_finds.specs.Looks.{IsRefusedAs};
 use crate::counts::{FileCounts, ImageCounts};
 use crate::fault::CollectFault;
 use crate::places::VolumePlace;
-use crate::remaining::Remaining;
+use crate::telling::told_item;
 use crate::volumes::volume_values;
 use hfs_check::MountFault;
 use hfs_fields::Mdb;
 use hfs_finds::{Finds, RefusedImage, salvage_of};
 use hfs_remains::usual_limit;
 use hfs_rescue::FoundRecord;
-use hfs_rescue_items::told_of;
+use hfs_rescue_items::{Found, told_of};
 use hfs_rows::{RowTaker, Table};
 use hfs_source::PlacedBlocks;
+use hfs_sparse::BlockSource;
 use std::alloc::Global;
 
 /// Gives the row of a volume.
@@ -47,11 +48,11 @@ pub(crate) fn give_volume_row<T: RowTaker>(
 
 /// Gives the row of an item that remains, with this number, and returns whether it is a file, and whether it is whole.
 #[tactic(auto, using(crate::proofs::RemainsGoing::none_told, crate::proofs::RemainsGoing::row_told, crate::proofs::Counting::none_counted, crate::proofs::Counting::row_counted))]
-fn give_remaining_item<S: PlacedBlocks, T: RowTaker>(
+fn give_remaining_item<S: BlockSource, T: RowTaker>(
     alloc: Global,
     taker: &mut T,
     source: &mut S,
-    found: &Remaining<'_>,
+    found: &Found<'_>,
     i: usize,
     item: &FoundRecord,
     taken: bool,
@@ -68,17 +69,17 @@ fn give_remaining_item<S: PlacedBlocks, T: RowTaker>(
     let Some(info) = told_of(item) else {
         return Ok(FileCounts::none());
     };
-    let told = found.told_item(alloc, source, i, &info, taken)?;
+    let told = told_item(alloc, source, found, i, &info, taken)?;
     taker.take(Table::Item, &told.values)?;
     Ok(told.counts)
 }
 
 /// Gives the rows of items that remain, with numbers from 0 on, and returns how many files are among them.
-fn give_remaining<S: PlacedBlocks, T: RowTaker>(
+fn give_remaining<S: BlockSource, T: RowTaker>(
     alloc: Global,
     taker: &mut T,
     source: &mut S,
-    found: &Remaining<'_>,
+    found: &Found<'_>,
     items: &[FoundRecord],
     taken: bool,
 ) -> Result<FileCounts, CollectFault>
@@ -106,7 +107,7 @@ fn give_remaining<S: PlacedBlocks, T: RowTaker>(
 
 /// Gives the rows of what was found of a volume, and returns how many files are among them. At most `limit` bytes are taken of
 /// all forks.
-fn give_remains<S: PlacedBlocks, T: RowTaker>(
+fn give_remains<S: BlockSource, T: RowTaker>(
     alloc: Global,
     taker: &mut T,
     source: &mut S,
@@ -127,14 +128,18 @@ fn give_remains<S: PlacedBlocks, T: RowTaker>(
     ensures place { T.place taker.new ≡ T.place taker.old }
 {
     let salvage = salvage_of(alloc, finds, limit)?;
-    let salvage = &salvage;
-    let found = Remaining { finds, salvage };
+    let found = Found {
+        mdb: &finds.mdb,
+        items: &finds.items,
+        places: &finds.places,
+        salvage: &salvage,
+    };
     give_remaining(alloc, taker, source, &found, &finds.items, taken)
 }
 
 /// Gives the row of a refused volume of which this was found, and those of what remains of it, and returns how many files are
 /// among the latter.
-fn give_found<S: PlacedBlocks, T: RowTaker>(
+fn give_found<S: BlockSource, T: RowTaker>(
     alloc: Global,
     taker: &mut T,
     source: &mut S,
@@ -194,7 +199,7 @@ pub(crate) fn give_refused<S: PlacedBlocks, T: RowTaker>(
 {
     let limit = limit_of(image);
     let why = image.why;
-    let (source, found) = (&mut image.source.blocks, &image.found);
+    let (source, found) = (&mut image.source, &image.found);
     match found {
         Some(finds) => {
             let counts = give_found(alloc, taker, source, place, why, finds, limit, taken)?;
@@ -231,7 +236,7 @@ pub(crate) fn give_where_found<S: PlacedBlocks, T: RowTaker>(
 {
     let limit = limit_of(image);
     let why = image.why;
-    let (source, found) = (&mut image.source.blocks, &image.found);
+    let (source, found) = (&mut image.source, &image.found);
     match found {
         Some(finds) => {
             let counts = give_found(alloc, taker, source, place, why, finds, limit, taken)?;

@@ -13,7 +13,6 @@ mod image;
 mod items;
 mod places;
 mod reader;
-mod remaining;
 mod remains;
 mod source;
 mod telling;

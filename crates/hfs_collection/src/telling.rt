@@ -1,7 +1,6 @@
 //! What the rows of items say about what remains of a refused volume.
-ghost use Rattle.std.specs.Prelude.{◌≡◌, ◌&&◌, Some, IfOk, string_bytes};
-ghost use Rattle.hfs_remains.specs.Verdicts.{FindsFork, shares_at};
-ghost use Rattle.hfs_rescue_items.specs.Found.{path_at};
+ghost use Rattle.std.specs.Prelude.{◌≡◌, ◌&&◌, Some, IfOk};
+ghost use Rattle.hfs_remains.specs.Verdicts.{shares_at};
 ghost use Rattle.hfs_rows.specs.declared.value.RowValue.TheVariants.{Text};
 ghost use Rattle.hfs_verdicts.specs.Verdicts.{verdict_text};
 ghost use Rattle.hfs_remains.specs.ForkBytes.{fork_bytes};
@@ -14,15 +13,15 @@ ghost use Rattle.hfs_source.specs.Images.{OfEach};
 use crate::counts::FileCounts;
 use crate::digests::digest_text;
 use crate::fault::CollectFault;
-use crate::remaining::Remaining;
 use crate::remains::{ForkTold, remains_values};
-use hfs_finds::fork_digest;
+use hfs_digests::DigestWriter;
+use hfs_fields::Mdb;
 use hfs_model::{Info, OwnedBytes};
 use hfs_remains::FoundFork;
-use hfs_rescue_items::names_at;
+use hfs_rescue_items::{Found, names_at, write_fork};
 use hfs_rows::RowValue;
-use hfs_source::PlacedBlocks;
 use hfs_space::ForkKind;
+use hfs_sparse::{BlockSource, CopyFault};
 use hfs_verdicts::{Verdict, push_verdict};
 use std::alloc::{AllocError, Global};
 
@@ -42,147 +41,130 @@ fn are_whole(data_fork: &ForkTold, resource_fork: &ForkTold) -> bool
     data_fork.is_whole && resource_fork.is_whole
 }
 
-impl Remaining<'_> {
-    /// The path of an item below the payload; no text if there is none.
-    fn path(&self, alloc: Global, i: usize) -> Result<String, AllocError>
-        ensures { IfOk result (λ path. string_bytes path ≡ path_at self.now.finds.now.places i) }
-    {
-        if i >= self.finds.places.things().len() {
-            return Ok(String::new(alloc));
-        }
-        self.finds.places.payload_path(alloc, i)
+/// The digest of the bytes of a fork, where it is to be taken.
+fn taken_digest<S: BlockSource>(
+    alloc: Global,
+    source: &mut S,
+    mdb: &Mdb,
+    fork: &FoundFork,
+    taken: bool,
+) -> Result<RowValue, CollectFault>
+    ensures digest { IfOk result (λ value. OfEach (S.Holds source.new) (λ image. value
+        ≡ where_taken taken (digest_value (fork_bytes image mdb.now
+        fork.now.length fork.now.places.items)))) }
+    ensures narrows { OfEach (S.Holds source.new) (S.Holds source.old) }
+{
+    if !taken {
+        return Ok(RowValue::Empty);
     }
-
-    /// A fork of an item; None for a folder, and if there is no such item.
-    fn fork(&self, alloc: Global, i: usize, kind: ForkKind) -> Result<Option<FoundFork>, AllocError>
-        ensures { IfOk result (FindsFork self.now.salvage.now i kind) }
-    {
-        if i >= self.salvage.len() {
-            return Ok(None);
-        }
-        self.salvage.fork(alloc, i, kind)
-    }
-
-    /// The digest of a fork's bytes, if it is to be taken.
-    fn taken_digest<S: PlacedBlocks>(
-        &self,
-        alloc: Global,
-        source: &mut S,
-        fork: &FoundFork,
-        taken: bool,
-    ) -> Result<RowValue, CollectFault>
-        ensures digest { IfOk result (λ value. OfEach (S.Holds source.new) (λ image. value
-            ≡ where_taken taken (digest_value (fork_bytes image self.now.finds.now.mdb
-            fork.now.length fork.now.places.items)))) }
-        ensures narrows { OfEach (S.Holds source.new) (S.Holds source.old) }
-    {
-        if !taken {
-            return Ok(RowValue::Empty);
-        }
-        let digest = fork_digest(source, self.finds.total, &self.finds.mdb, fork)?;
-        let text = digest_text(alloc, &digest)?;
-        Ok(text)
-    }
-
-    /// The digest of a fork's bytes, if it is to be taken and the fork isn't left out.
-    fn digest<S: PlacedBlocks>(
-        &self,
-        alloc: Global,
-        source: &mut S,
-        fork: &FoundFork,
-        taken: bool,
-    ) -> Result<RowValue, CollectFault>
-        ensures digest { IfOk result (λ value. OfEach (S.Holds source.new) (λ image. value
-            ≡ said_digest taken fork.now.verdict (fork_bytes image self.now.finds.now.mdb
-            fork.now.length fork.now.places.items))) }
-        ensures narrows { OfEach (S.Holds source.new) (S.Holds source.old) }
-    {
-        match &fork.verdict {
-            Verdict::Left => Ok(RowValue::Empty),
-            Verdict::Taken(_) => self.taken_digest(alloc, source, fork, taken),
+    let mut digest = DigestWriter::new();
+    match write_fork(alloc, source, mdb, fork, &mut digest) {
+        Ok(()) => Ok(digest_text(alloc, &digest.finish())?),
+        Err(CopyFault::Memory) => Err(CollectFault::NoMemory),
+        Err(CopyFault::ReadFailed | CopyFault::BrokenOff | CopyFault::WriteFailed) => {
+            Err(CollectFault::ReadFailed)
         }
     }
+}
 
-    /// What a row says about a fork that was found.
-    fn told<S: PlacedBlocks>(
-        &self,
-        alloc: Global,
-        source: &mut S,
-        fork: &FoundFork,
-        taken: bool,
-    ) -> Result<ForkTold, CollectFault>
-        ensures told { IfOk result (λ told. OfEach (S.Holds source.new) (λ image. told
-            ≡ told_by taken fork.now.verdict (fork_bytes image self.now.finds.now.mdb
-            fork.now.length fork.now.places.items))) }
-        ensures narrows { OfEach (S.Holds source.new) (S.Holds source.old) }
-    {
-        let digest = self.digest(alloc, source, fork, taken)?;
-        let verdict = verdict_value(alloc, &fork.verdict)?;
-        Ok(ForkTold {
-            digest,
-            verdict,
-            is_whole: fork.verdict.is_whole(),
-        })
+/// The digest of the bytes of a fork, where it is to be taken and the fork isn't left.
+fn digest<S: BlockSource>(
+    alloc: Global,
+    source: &mut S,
+    mdb: &Mdb,
+    fork: &FoundFork,
+    taken: bool,
+) -> Result<RowValue, CollectFault>
+    ensures digest { IfOk result (λ value. OfEach (S.Holds source.new) (λ image. value
+        ≡ said_digest taken fork.now.verdict (fork_bytes image mdb.now
+        fork.now.length fork.now.places.items))) }
+    ensures narrows { OfEach (S.Holds source.new) (S.Holds source.old) }
+{
+    match &fork.verdict {
+        Verdict::Left => Ok(RowValue::Empty),
+        Verdict::Taken(_) => taken_digest(alloc, source, mdb, fork, taken),
     }
+}
 
-    /// What a row says about a fork of an item: nothing for a folder.
-    fn told_fork<S: PlacedBlocks>(
-        &self,
-        alloc: Global,
-        source: &mut S,
-        i: usize,
-        kind: ForkKind,
-        taken: bool,
-    ) -> Result<ForkTold, CollectFault>
-        ensures told { IfOk result (λ told. OfEach (S.Holds source.new) (λ image. told
-            ≡ told_fork taken (image_of self.now image) kind (shares_at self.now.salvage.now i))) }
-        ensures narrows { OfEach (S.Holds source.new) (S.Holds source.old) }
-    {
-        match self.fork(alloc, i, kind)? {
-            Some(fork) => {
-                let told = self.told(alloc, source, &fork, taken)?;
-                Ok(told)
-            }
-            None => Ok(ForkTold {
-                digest: RowValue::Empty,
-                verdict: RowValue::Empty,
-                is_whole: true,
-            }),
+/// What a row tells of a fork that was found.
+fn told<S: BlockSource>(
+    alloc: Global,
+    source: &mut S,
+    mdb: &Mdb,
+    fork: &FoundFork,
+    taken: bool,
+) -> Result<ForkTold, CollectFault>
+    ensures told { IfOk result (λ told. OfEach (S.Holds source.new) (λ image. told
+        ≡ told_by taken fork.now.verdict (fork_bytes image mdb.now
+        fork.now.length fork.now.places.items))) }
+    ensures narrows { OfEach (S.Holds source.new) (S.Holds source.old) }
+{
+    let digest = digest(alloc, source, mdb, fork, taken)?;
+    let verdict = verdict_value(alloc, &fork.verdict)?;
+    Ok(ForkTold {
+        digest,
+        verdict,
+        is_whole: fork.verdict.is_whole(),
+    })
+}
+
+/// What a row tells of a fork of an item: nothing of a folder.
+fn told_fork<S: BlockSource>(
+    alloc: Global,
+    source: &mut S,
+    found: &Found<'_>,
+    i: usize,
+    kind: ForkKind,
+    taken: bool,
+) -> Result<ForkTold, CollectFault>
+    ensures told { IfOk result (λ told. OfEach (S.Holds source.new) (λ image. told
+        ≡ told_fork taken (image_of found.now image) kind (shares_at found.now.salvage.now i))) }
+    ensures narrows { OfEach (S.Holds source.new) (S.Holds source.old) }
+{
+    match found.fork(alloc, i, kind)? {
+        Some(fork) => {
+            let told = told(alloc, source, found.mdb, &fork, taken)?;
+            Ok(told)
         }
+        None => Ok(ForkTold {
+            digest: RowValue::Empty,
+            verdict: RowValue::Empty,
+            is_whole: true,
+        }),
     }
+}
 
-    /// What is known of an item with this record.
-    #[tactic(auto, using(crate::proofs::RemainsGoing::values_told, crate::proofs::Counting::item_counted))]
-    pub(crate) fn told_item<S: PlacedBlocks>(
-        &self,
-        alloc: Global,
-        source: &mut S,
-        i: usize,
-        info: &Info,
-        taken: bool,
-    ) -> Result<ToldItem, CollectFault>
-        ensures values { IfOk result (λ item. OfEach (S.Holds source.new) (λ image.
-            item.values.items ≡ told_values taken (image_of self.now image) i info.now)) }
-        ensures counts { IfOk result (λ item. OfEach (S.Holds source.new) (λ image.
-            item.counts ≡ remains_files (image_of self.now image) i (Some info.now))) }
-        ensures narrows { OfEach (S.Holds source.new) (S.Holds source.old) }
-    {
-        let path = self.path(alloc, i)?;
-        let names = names_at(alloc, &self.finds.places, &self.finds.mdb, i, path.as_str())?;
-        let data_fork = self.told_fork(alloc, source, i, ForkKind::Data, taken)?;
-        let resource_fork = self.told_fork(alloc, source, i, ForkKind::Resource, taken)?;
-        let counts = FileCounts::of(info.kind, are_whole(&data_fork, &resource_fork));
-        let values = remains_values(
-            alloc,
-            i as u64,
-            &names,
-            path,
-            info,
-            data_fork,
-            resource_fork,
-        )?;
-        Ok(ToldItem { values, counts })
-    }
+/// What is told of an item, of which its record tells this.
+#[tactic(auto, using(crate::proofs::RemainsGoing::values_told, crate::proofs::Counting::item_counted))]
+pub(crate) fn told_item<S: BlockSource>(
+    alloc: Global,
+    source: &mut S,
+    found: &Found<'_>,
+    i: usize,
+    info: &Info,
+    taken: bool,
+) -> Result<ToldItem, CollectFault>
+    ensures values { IfOk result (λ item. OfEach (S.Holds source.new) (λ image.
+        item.values.items ≡ told_values taken (image_of found.now image) i info.now)) }
+    ensures counts { IfOk result (λ item. OfEach (S.Holds source.new) (λ image.
+        item.counts ≡ remains_files (image_of found.now image) i (Some info.now))) }
+    ensures narrows { OfEach (S.Holds source.new) (S.Holds source.old) }
+{
+    let path = found.path(alloc, i)?;
+    let names = names_at(alloc, found.places, found.mdb, i, path.as_str())?;
+    let data_fork = told_fork(alloc, source, found, i, ForkKind::Data, taken)?;
+    let resource_fork = told_fork(alloc, source, found, i, ForkKind::Resource, taken)?;
+    let counts = FileCounts::of(info.kind, are_whole(&data_fork, &resource_fork));
+    let values = remains_values(
+        alloc,
+        i as u64,
+        &names,
+        path,
+        info,
+        data_fork,
+        resource_fork,
+    )?;
+    Ok(ToldItem { values, counts })
 }
 
 /// The verdict on a fork, as a value.

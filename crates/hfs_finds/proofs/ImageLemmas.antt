@@ -4,6 +4,7 @@ use Rattle.std.specs.Prelude.{nat_le}
 use Rattle.std.specs.Option.{is_none}
 use Rattle.std.proofs.lemmas.Bool.{leb-true}
 use Rattle.hfs_blocks.specs.Blocks.{block_at, block_count}
+use Rattle.hfs_places.specs.declared.things.Thing.{Thing}
 use Rattle.hfs_check.specs.declared.mount_fault.MountFault.TheVariants.{TooLarge, Short}
 use Rattle.hfs_check.specs.Faults.{◌or_fault◌, fault_unless, length_fault}
 use Rattle.hfs_rescue.specs.Directory.{directory_in, directory_of}
@@ -14,7 +15,7 @@ use Rattle.hfs_finds.specs.Images.{IsSalvageOf, found_image, kept_image, owned}
 
 -- what is kept of an image is what is found of it
 pub kept_found : (image : List ℕ) (finds : Finds) (salvage : Salvaged) → AreFinds image finds → IsSalvageOf finds (4 * length image) salvage
-    → kept_image image finds salvage ≡ found_image image finds.mdb
+    → kept_image image finds.places salvage ≡ found_image image finds.mdb
 kept_found image finds salvage found kept = λ i. record {
   image = image;
   total = (kept.total_is ∙ found.total_is) i;
@@ -31,9 +32,9 @@ kept_found image finds salvage found kept = λ i. record {
     shares image finds limit found = λ i. shares_of (found.overflow_is i) finds.mdb limit (found.items_are i)
 
 -- the blocks that are owned
-pub owned_kept : (image : List ℕ) (finds : Finds) (salvage : Salvaged) (young : Bool) → all_used salvage.trees young salvage.shares ≡ owned (kept_image image finds salvage) young
+pub owned_kept : (image : List ℕ) (things : List Thing) (salvage : Salvaged) (young : Bool) → all_used salvage.trees young salvage.shares ≡ owned (kept_image image things salvage) young
 unfolding all_used
-owned_kept image finds salvage young = refl
+owned_kept image things salvage young = refl
 
 -- ---- how long an image is
 

@@ -1,4 +1,3 @@
-pub mod ForkLemmas
 pub mod ImageLemmas
 mod SameFiles
 pub mod SameFinds

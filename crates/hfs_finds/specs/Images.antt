@@ -54,16 +54,16 @@ said_of f file share = verdict_of f.total f.overflow f.mdb (owned f (not file.ol
 
 -- ---- what is kept of it
 
--- an image, what is found of it, and what is taken, as they are kept
-abbrev pub kept_image : List ℕ → Finds → Salvaged → FoundImage
-kept_image image finds salvage = record {
+-- an image, the places of what is found of it, and what is taken, as they are kept
+abbrev pub kept_image : List ℕ → List Thing → Salvaged → FoundImage
+kept_image image things salvage = record {
   image = image;
   total = salvage.trees.total;
   mdb = salvage.trees.mdb.now;
   overflow = salvage.trees.overflow.now;
   extents_file = salvage.trees.extents_file.now;
   catalog_file = salvage.trees.catalog_file.now;
-  things = finds.places;
+  things = things;
   shares = salvage.shares;
 }
 

@@ -4,7 +4,6 @@
 mod again;
 mod finding;
 mod finds;
-mod forks;
 mod gathering;
 mod laws;
 mod looking;
@@ -16,7 +15,6 @@ mod whole;
 
 pub use finding::find_in;
 pub use finds::Finds;
-pub use forks::fork_digest;
 pub use laws::needed_find_same;
 pub use looking::{Unlooked, finds_of, look, look_reported};
 pub use needed::{NeededFinds, needed_finds};

@@ -1,5 +1,5 @@
 -- The items of an image that holds.
-use Rattle.std.proofs.Common.{◌≡◌, List, [], ◌∷◌, length, drop, Option, Some, None, Result, Ok, Err, refl, sym, ap, ◌∙◌, arith, ℕ}
+use Rattle.std.proofs.Common.{◌≡◌, false, List, [], ◌∷◌, length, drop, Option, Some, None, Result, Ok, Err, refl, sym, ap, ◌∙◌, arith, ℕ}
 use Rattle.std.specs.Prelude.{IfOk}
 use Rattle.std.specs.List.{flat_map}
 use Rattle.hfs_blocks.specs.Blocks.{run_of}
@@ -16,8 +16,9 @@ use Rattle.hfs_needed.specs.SeenFiles.{LiesInRuns, RefusesFork}
 use Rattle.hfs_image_items.proofs.RootLemmas.{HasSomeRow}
 use Rattle.hfs_image_items.specs.Items.{bytes_or_none, entries_in, fork_told, of_file, table_text}
 use Rattle.hfs_source.specs.Images.{OfEach}
-use Rattle.hfs_image_items.specs.declared.fork_reading.ForkReading.{ForkReading}
-use Rattle.hfs_image_items.specs.Reading.{AreBegunBy, BeginsWith, IsEmptyFork, LiesThere, first_bytes, fork_rest}
+use Rattle.hfs_bag.specs.declared.fork_reading.ForkReading.{ForkReading}
+use Rattle.hfs_bag.specs.Forks.{fork_rest}
+use Rattle.hfs_image_items.specs.Reading.{AreBegunBy, BeginsWith, IsEmptyFork, LiesThere, first_bytes}
 
 -- ---- forks
 
@@ -53,9 +54,9 @@ pub fork_begun : (fork : Fork) (info : Info) (found : ForkRuns) (rest image : Li
 fork_begun fork info found rest image there is = is ∙ there.bytes
 
 pub each_begun : {E : Type 0} (Holds : List ℕ → Type 0) (result : Result ForkReading E) (fork : Fork) (info : Info) (found : ForkRuns) → OfEach Holds (LiesThere fork info found)
-    → ((image : List ℕ) → IfOk result (λ begun. fork_rest image begun ≡ first_bytes image found.length (flat_map run_of found.runs.items)))
-    → IfOk result (λ begun. OfEach Holds (λ image. fork_rest image begun ≡ fork_told (entries_in image) fork info))
-each_begun Holds (Ok begun) fork info found there is = λ image h. fork_begun fork info found (fork_rest image begun) image (there image h) (is image)
+    → ((image : List ℕ) → IfOk result (λ begun. fork_rest false image begun ≡ first_bytes image found.length (flat_map run_of found.runs.items)))
+    → IfOk result (λ begun. OfEach Holds (λ image. fork_rest false image begun ≡ fork_told (entries_in image) fork info))
+each_begun Holds (Ok begun) fork info found there is = λ image h. fork_begun fork info found (fork_rest false image begun) image (there image h) (is image)
 each_begun Holds (Err e) fork info found there is = tt
 
 -- ---- rows

@@ -13,7 +13,8 @@ use Rattle.hfs_names.specs.HostNames.{host_name}
 use Rattle.hfs_image_items.specs.declared.items.CameItem.{CameItem}
 use Rattle.hfs_image_items.specs.declared.reading.Reading.{Reading}
 use Rattle.hfs_image_items.specs.Items.{bag_item, entries_in, folders_text, item_at, names_between}
-use Rattle.hfs_image_items.specs.Reading.{ReadsOn, reading_rest}
+use Rattle.hfs_bag.specs.Forks.{ReadsOn}
+use Rattle.hfs_image_items.specs.Reading.{reading_rest}
 use Rattle.hfs_image_items.specs.Sources.{source_of, stream_told}
 
 pub has_read : (image : List ℕ) (left : List ToldRow) (came : CameItem) (reading reading' : Reading) (piece : List ℕ)

@@ -7,7 +7,8 @@ use Rattle.hfs_model.proofs.Facts.{true_false}
 use Rattle.hfs_table.specs.Columns.{column_name, columns}
 use Rattle.hfs_table.specs.Lines.{bag_head}
 use Rattle.hfs_image_items.specs.Items.{rows_text, table_text}
-use Rattle.hfs_image_items.specs.Reading.{AddsRow, ReadsOn}
+use Rattle.hfs_bag.specs.Forks.{ReadsOn}
+use Rattle.hfs_image_items.specs.Reading.{AddsRow}
 
 -- bytes that were read, and those that are left
 pub reads_on : (piece old new : List ℕ) → old ≡ piece ++ new → (piece ≡ [] → new ≡ []) → ReadsOn piece old new

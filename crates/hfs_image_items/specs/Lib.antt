@@ -1,4 +1,3 @@
-pub mod Pieces
 pub mod Items
 pub mod Reading
 pub mod Sources

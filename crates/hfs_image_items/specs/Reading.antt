@@ -1,6 +1,6 @@
 -- What is still to be read of a stream.
-use Rattle.std.specs.Prelude.{◌≡◌, ⊤, ℕ, suc, Bool, true, false, List, [], ◌∷◌, ◌++◌, length, take, drop, Option, Some, None}
-use Rattle.std.specs.List.{flat_map}
+use Rattle.std.specs.Prelude.{◌≡◌, ⊤, ℕ, suc, Bool, true, false, List, [], ◌∷◌, ◌++◌, length, take, Option, Some, None}
+use Rattle.hfs_bag.specs.Forks.{fork_rest}
 use Rattle.hfs_blocks.specs.Blocks.{AreRunsWithin}
 use Rattle.hfs_inventory.specs.Told.{ToldRow}
 use Rattle.hfs_model.specs.declared.call.Fork.{Fork}
@@ -10,18 +10,13 @@ use Rattle.hfs_needed.specs.declared.fork_runs.FileRuns.{FileRuns}
 use Rattle.hfs_needed.specs.declared.fork_runs.ForkRuns.{ForkRuns}
 use Rattle.hfs_needed.specs.ForkRuns.{run_bytes}
 use Rattle.hfs_sparse.specs.Writing.{blocks_of}
-use Rattle.hfs_image_items.specs.declared.fork_reading.ForkReading.{ForkReading}
 use Rattle.hfs_image_items.specs.declared.reading.Reading.{Reading}
 use Rattle.hfs_image_items.specs.declared.reading.Reading.TheVariants as reading
 use Rattle.hfs_image_items.specs.Items.{entries_in, fork_told, rows_text, table_text}
-use Rattle.hfs_image_items.specs.Pieces.{piece_blocks}
 
 -- the first bytes of these blocks of an image
 abbrev pub first_bytes : List ℕ → ℕ → List ℕ → List ℕ
 first_bytes image left numbers = take left (blocks_of image numbers)
-
-abbrev pub fork_rest : List ℕ → ForkReading → List ℕ
-fork_rest image fork = first_bytes image fork.left (flat_map piece_blocks (drop fork.next fork.pieces.items))
 
 -- of the table the rows that are to come, behind the head where it wasn't read
 abbrev pub table_rest : Bool → List ToldRow → List ℕ
@@ -29,18 +24,13 @@ table_rest true rows = rows_text rows
 table_rest false rows = table_text rows
 
 abbrev pub reading_rest : List ℕ → Reading → List ℕ
-reading_rest image (reading.Fork fork) = fork_rest image fork
+reading_rest image (reading.Fork fork) = fork_rest false image fork
 reading_rest image (reading.Table table) = table_rest table.is_begun table.rows.left
 
 -- how many bytes that is
 abbrev pub reading_left : Reading → ℕ
 reading_left (reading.Fork fork) = fork.left
 reading_left (reading.Table table) = length (table_rest table.is_begun table.rows.left)
-
--- the next bytes were read of what was left, and none only where none are left
-pub record ReadsOn (piece old new : List ℕ) : Type 0 where
-  pub bytes : old ≡ piece ++ new
-  pub none : piece ≡ [] → new ≡ []
 
 -- the line of the first of the rows came to the text, or there is none
 abbrev pub AddsRow : Bool → List ℕ → List ℕ → List ToldRow → List ToldRow → Type 0

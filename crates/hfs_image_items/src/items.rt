@@ -1,5 +1,5 @@
 //! The items of an opened image, for a bag.
-ghost use Rattle.std.specs.Prelude.{◌≡◌, ◌+◌, ⊤, ℕ, List, drop, length, IfErr, IfOk, MatchResult, OnOk, string_bytes};
+ghost use Rattle.std.specs.Prelude.{◌≡◌, ◌+◌, ⊤, ℕ, List, false, drop, length, IfErr, IfOk, MatchResult, OnOk, string_bytes};
 ghost use Rattle.hfs_bag.specs.Faults.{HasFailed};
 ghost use Rattle.hfs_bag.specs.Items.{IsHead};
 ghost use Rattle.hfs_bag.specs.Sources.{HasOpened, HasRead, HasRestarted, IsFewer, TakesItem};
@@ -9,15 +9,16 @@ ghost use Rattle.hfs_source.specs.Images.{OfEach};
 ghost use Rattle.hfs_names.specs.HostNames.{host_name};
 ghost use Rattle.hfs_image_items.specs.Items.{bag_kind, entries_in, fork_told, folders_text, item_at, names_between, table_text};
 ghost use Rattle.hfs_image_items.specs.Faults.{FailsToRead, WantsMemory};
-ghost use Rattle.hfs_image_items.specs.Reading.{AreBegunBy, AreTold, BeginsWith, LieThere, fork_rest, reading_left, reading_rest, table_rest};
+ghost use Rattle.hfs_bag.specs.Forks.{fork_rest};
+ghost use Rattle.hfs_image_items.specs.Reading.{AreBegunBy, AreTold, BeginsWith, LieThere, reading_left, reading_rest, table_rest};
 ghost use Rattle.hfs_image_items.specs.Sources.{source_of, stream_told};
 
-use crate::fork_reading::{ForkReading, begin_fork, empty_fork};
+use crate::fork_reading::begin_fork;
+use crate::opened_blocks::OpenedBlocks;
 use crate::paths::folders_text;
 use crate::reading::{Reading, read_next};
 use crate::table_reading::TableReading;
-use crate::watch::Watch;
-use hfs_bag::{BagHead, BagKind, BagSource, SourceFault, Stream, since_1970};
+use hfs_bag::{BagHead, BagKind, BagSource, ForkReading, SourceFault, Stream, since_1970};
 use hfs_fields::Name;
 use hfs_inventory::Inventory;
 use hfs_model::{Info, ItemKind};
@@ -39,19 +40,15 @@ struct CameItem {
 /// The items of an opened image below its root, one after the other, and the bytes of their forks in pieces. Each block of these
 /// is read once.
 #[derive(Drop)]
-pub struct ImageItems<'a, S: PlacedBlocks, W: Watch> {
+pub struct ImageItems<S: PlacedBlocks> {
     alloc: Global,
-    image: SeenImage<S>,
-    /// What is known of the root.
+    source: OpenedBlocks<S>,
+    /// What is told of the root.
     pub root: Info,
     /// The rows of the items that are left.
     rows: Inventory,
     came: CameItem,
     reading: Reading,
-    watch: &'a W,
-    /// How many items have come, and how many there are.
-    count: u64,
-    all: u64,
 }
 
 /// The rows after the root's, and what is known of the root. Error: memory was refused.
@@ -117,14 +114,6 @@ fn head_of(info: &Info, runs: &Option<FileRuns>) -> BagHead
     }
 }
 
-/// How many bytes both forks have that lie there.
-fn bytes_of(runs: &Option<FileRuns>) -> u64 {
-    match runs {
-        Some(runs) => u64::from(runs.data.length) + u64::from(runs.resource.length),
-        None => 0,
-    }
-}
-
 /// An item with its host path. Error: memory was refused.
 fn came_item(alloc: Global, path: &[Name], info: Info) -> Result<CameItem, AllocError>
     ensures above { IfOk result (λ came. string_bytes came.above
@@ -145,11 +134,11 @@ fn open_data<S: PlacedBlocks + Drop>(
     info: &Info,
 ) -> Result<ForkReading, AllocError>
     ensures { IfOk result (λ fork. OfEach (S.Holds image.now)
-        (λ bytes. fork_rest bytes fork ≡ fork_told (entries_in bytes) DataFork info.now)) }
+        (λ bytes. fork_rest false bytes fork ≡ fork_told (entries_in bytes) DataFork info.now)) }
 {
     match runs_of(alloc, image, info)? {
         Some(runs) => begin_fork(alloc, &runs.data),
-        None => Ok(empty_fork(alloc)),
+        None => Ok(ForkReading::empty(alloc)),
     }
 }
 
@@ -161,11 +150,11 @@ fn open_resource<S: PlacedBlocks + Drop>(
     info: &Info,
 ) -> Result<ForkReading, AllocError>
     ensures { IfOk result (λ fork. OfEach (S.Holds image.now)
-        (λ bytes. fork_rest bytes fork ≡ fork_told (entries_in bytes) ResFork info.now)) }
+        (λ bytes. fork_rest false bytes fork ≡ fork_told (entries_in bytes) ResFork info.now)) }
 {
     match runs_of(alloc, image, info)? {
         Some(runs) => begin_fork(alloc, &runs.resource),
-        None => Ok(empty_fork(alloc)),
+        None => Ok(ForkReading::empty(alloc)),
     }
 }
 
@@ -199,20 +188,18 @@ fn open_stream<S: PlacedBlocks + Drop>(
         Stream::DataFork => Ok(Reading::Fork(open_data(alloc, image, info)?)),
         Stream::ResourceFork => Ok(Reading::Fork(open_resource(alloc, image, info)?)),
         Stream::Table => Ok(Reading::Table(open_table(alloc, image)?)),
-        Stream::Remains => Ok(Reading::Fork(empty_fork(alloc))),
+        Stream::Remains => Ok(Reading::Fork(ForkReading::empty(alloc))),
     }
 }
 
 /// The items of an image, with these rows left after that of the root.
-fn begin<'a, S: PlacedBlocks + Drop, W: Watch>(
+fn begin<S: PlacedBlocks + Drop>(
     alloc: Global,
     image: SeenImage<S>,
     rows: Inventory,
     root: &Info,
-    all: u64,
-    watch: &'a W,
-) -> ImageItems<'a, S, W>
-    ensures image { result.image ≡ image }
+) -> ImageItems<S>
+    ensures image { result.source.image ≡ image }
     ensures root { result.root ≡ root.now }
 {
     let came = CameItem {
@@ -220,17 +207,14 @@ fn begin<'a, S: PlacedBlocks + Drop, W: Watch>(
         name: String::new(alloc),
         info: *root,
     };
-    let reading = Reading::Fork(empty_fork(alloc));
+    let reading = Reading::Fork(ForkReading::empty(alloc));
     ImageItems {
         alloc,
-        image,
+        source: OpenedBlocks { image },
         root: *root,
         rows,
         came,
         reading,
-        watch,
-        count: 0,
-        all,
     }
 }
 
@@ -242,16 +226,11 @@ pub struct Unbegun<S: PlacedBlocks> {
     pub image: SeenImage<S>,
 }
 
-impl<'a, S: PlacedBlocks + Drop, W: Watch> ImageItems<'a, S, W> {
-    /// The items of an image, `all` in number. Errors, with the image handed back: memory was refused; `ReadFailed` if there is
-    /// no root, which no sound image lacks.
-    pub fn new(
-        alloc: Global,
-        image: SeenImage<S>,
-        all: u64,
-        watch: &'a W,
-    ) -> Result<ImageItems<'a, S, W>, Unbegun<S>>
-        ensures image { IfOk result (λ made. made.image ≡ image) }
+impl<S: PlacedBlocks + Drop> ImageItems<S> {
+    /// The items of an image. Errors, with the image back: memory was refused; `ReadFailed` where there is no root, as in
+    /// no image that holds.
+    pub fn new(alloc: Global, image: SeenImage<S>) -> Result<ImageItems<S>, Unbegun<S>>
+        ensures image { IfOk result (λ made. made.source.image ≡ image) }
         ensures root { IfOk result (λ made. OfEach (S.Holds image)
             (λ bytes. BeginsWith made.root (told_rows (entries_in bytes)))) }
         ensures back { IfErr result (λ back. back.image ≡ image) }
@@ -265,19 +244,19 @@ impl<'a, S: PlacedBlocks + Drop, W: Watch> ImageItems<'a, S, W> {
             let fault = SourceFault::ReadFailed;
             return Err(Unbegun { fault, image });
         };
-        Ok(begin(alloc, image, rows, &info, all, watch))
+        Ok(begin(alloc, image, rows, &info))
     }
 
     /// The image, handed back.
     pub fn into_image(self) -> SeenImage<S>
-        ensures { result ≡ self.entry.image }
+        ensures { result ≡ self.source.image }
     {
-        self.image
+        self.source.image
     }
 }
 
-impl<S: PlacedBlocks + Drop, W: Watch> BagSource for ImageItems<'_, S, W> {
-    ghost Holds = { λ items. S.Holds items.image };
+impl<S: PlacedBlocks + Drop> BagSource for ImageItems<S> {
+    ghost Holds = { λ items. S.Holds items.source.image };
 
     ghost state = { λ items. source_of items.rows.left items.came items.reading };
 
@@ -293,12 +272,12 @@ impl<S: PlacedBlocks + Drop, W: Watch> BagSource for ImageItems<'_, S, W> {
 
     #[tactic(auto, using(crate::proofs::StateLemmas::has_restarted))]
     fn restart(&mut self) -> Result<(), SourceFault>
-        ensures restarted { MatchResult result (λ _. OfEach (S.Holds self.new.image)
+        ensures restarted { MatchResult result (λ _. OfEach (S.Holds self.new.source.image)
             (λ bytes. HasRestarted (source_of self.old.rows.left self.old.came self.old.reading bytes) (source_of self.new.rows.left self.new.came self.new.reading bytes))) (λ _. ⊤) }
-        ensures narrows { OfEach (S.Holds self.new.image) (S.Holds self.old.image) }
+        ensures narrows { OfEach (S.Holds self.new.source.image) (S.Holds self.old.source.image) }
         ensures fault { IfErr result WantsMemory }
     {
-        let Ok((rows, _root)) = rows_below(self.alloc, &self.image) else {
+        let Ok((rows, _root)) = rows_below(self.alloc, &self.source.image) else {
             return Err(SourceFault::Memory);
         };
         self.rows = rows;
@@ -307,10 +286,10 @@ impl<S: PlacedBlocks + Drop, W: Watch> BagSource for ImageItems<'_, S, W> {
 
     #[tactic(auto, using(crate::proofs::StateLemmas::has_item, crate::proofs::StateLemmas::has_no_item))]
     fn next_item(&mut self) -> Result<Option<BagHead>, SourceFault>
-        ensures taken { MatchResult result (λ head. OfEach (S.Holds self.new.image)
+        ensures taken { MatchResult result (λ head. OfEach (S.Holds self.new.source.image)
             (λ bytes. TakesItem (source_of self.old.rows.left self.old.came self.old.reading bytes) (source_of self.new.rows.left self.new.came self.new.reading bytes) head)) (λ _. ⊤) }
         ensures fewer { IfOk result (IsFewer (length self.old.rows.left) (length self.new.rows.left)) }
-        ensures narrows { OfEach (S.Holds self.new.image) (S.Holds self.old.image) }
+        ensures narrows { OfEach (S.Holds self.new.source.image) (S.Holds self.old.source.image) }
         ensures fault { IfErr result WantsMemory }
     {
         let Ok(next) = self.rows.next() else {
@@ -323,11 +302,9 @@ impl<S: PlacedBlocks + Drop, W: Watch> BagSource for ImageItems<'_, S, W> {
             return Err(SourceFault::Memory);
         };
         self.came = came;
-        let Ok(runs) = runs_of(self.alloc, &self.image, &info) else {
+        let Ok(runs) = runs_of(self.alloc, &self.source.image, &info) else {
             return Err(SourceFault::Memory);
         };
-        self.count = self.count.saturating_add(1);
-        self.watch.item_came(self.count, self.all, bytes_of(&runs));
         Ok(Some(head_of(&info, &runs)))
     }
 
@@ -341,13 +318,13 @@ impl<S: PlacedBlocks + Drop, W: Watch> BagSource for ImageItems<'_, S, W> {
 
     #[tactic(auto, using(crate::proofs::StateLemmas::has_opened))]
     fn open(&mut self, stream: Stream) -> Result<(), SourceFault>
-        ensures opened { MatchResult result (λ _. OfEach (S.Holds self.new.image)
+        ensures opened { MatchResult result (λ _. OfEach (S.Holds self.new.source.image)
             (λ bytes. HasOpened stream (source_of self.old.rows.left self.old.came self.old.reading bytes) (source_of self.new.rows.left self.new.came self.new.reading bytes))) (λ _. ⊤) }
         ensures stays { length self.new.rows.left ≡ length self.old.rows.left }
-        ensures narrows { OfEach (S.Holds self.new.image) (S.Holds self.old.image) }
+        ensures narrows { OfEach (S.Holds self.new.source.image) (S.Holds self.old.source.image) }
         ensures fault { IfErr result WantsMemory }
     {
-        match open_stream(self.alloc, &self.image, &self.came.info, stream) {
+        match open_stream(self.alloc, &self.source.image, &self.came.info, stream) {
             Ok(reading) => {
                 self.reading = reading;
                 Ok(())
@@ -358,16 +335,14 @@ impl<S: PlacedBlocks + Drop, W: Watch> BagSource for ImageItems<'_, S, W> {
 
     #[tactic(auto, using(crate::proofs::StateLemmas::has_read))]
     fn read(&mut self, piece: &mut Vec<u8>) -> Result<(), SourceFault>
-        ensures read { MatchResult result (λ _. OfEach (S.Holds self.new.image)
+        ensures read { MatchResult result (λ _. OfEach (S.Holds self.new.source.image)
             (λ bytes. HasRead piece.new.items (source_of self.old.rows.left self.old.came self.old.reading bytes) (source_of self.new.rows.left self.new.came self.new.reading bytes))) (λ _. ⊤) }
         ensures fewer { OnOk result (reading_left self.old.reading
             ≡ length piece.new.items + reading_left self.new.reading) }
         ensures stays { length self.new.rows.left ≡ length self.old.rows.left }
-        ensures narrows { OfEach (S.Holds self.new.image) (S.Holds self.old.image) }
+        ensures narrows { OfEach (S.Holds self.new.source.image) (S.Holds self.old.source.image) }
         ensures fault { IfErr result (FailsToRead self.old.reading) }
     {
-        read_next(self.alloc, &mut self.image, &mut self.reading, piece)?;
-        self.watch.bytes_came(piece.len() as u64);
-        Ok(())
+        read_next(self.alloc, &mut self.source, &mut self.reading, piece)
     }
 }

@@ -4,15 +4,13 @@
 mod fork_reading;
 mod items;
 mod laws;
+mod opened_blocks;
 mod paths;
-mod piece;
 mod pieces;
 mod reading;
 mod table_reading;
-mod watch;
 
 pub use crate::items::{ImageItems, Unbegun};
 pub use crate::laws::{
     bag_paths_are_told, items_are_placed, sound_items_are_placed, sound_paths_are_told,
 };
-pub use crate::watch::Watch;

@@ -1,6 +1,7 @@
 //! The table of all items, read in pieces.
 ghost use Rattle.std.specs.Prelude.{◌≡◌, true, [], IfOk, OnOk};
-ghost use Rattle.hfs_image_items.specs.Reading.{AddsRow, ReadsOn, table_rest};
+ghost use Rattle.hfs_bag.specs.Forks.{ReadsOn};
+ghost use Rattle.hfs_image_items.specs.Reading.{AddsRow, table_rest};
 
 use hfs_inventory::Inventory;
 use hfs_table::{push_bag_head, push_bag_row};

@@ -7,7 +7,8 @@ use Rattle.std.specs.Prelude.{codes}
 use Rattle.std.specs.List.{join_by}
 use Rattle.hfs_rescue_items.specs.Lines.{lines_of}
 use Rattle.hfs_rescue_items.specs.declared.table_lines.Lines.{Lines}
-use Rattle.hfs_rescue_items.specs.Reading.{IsFewer, Reads, ReadsLines, lines_rest}
+use Rattle.hfs_bag.specs.Forks.{ReadsOn}
+use Rattle.hfs_rescue_items.specs.Reading.{ReadsLines, lines_rest}
 
 -- a line more came
 pub line_more : (line : ℕ → FoundRecord → List ℕ) (whole piece piece' : List ℕ) (i i' : ℕ) (item : FoundRecord) (items behind : List FoundRecord)
@@ -19,7 +20,7 @@ line_more line whole piece piece' i i' item items behind so first pushed next =
     ∙ ap (λ (xs : List FoundRecord). piece ++ lines_of line i xs) (sym first) ∙ so
 
 -- what was read is as much less to read
-pub lines_fewer : (piece old new : List ℕ) → Reads piece old new → IsFewer piece old new
+pub lines_fewer : (piece old new : List ℕ) → ReadsOn piece old new → length old ≡ length piece + length new
 lines_fewer piece old new reads = ap length reads.bytes ∙ length-append piece new
 
 -- no line is left
@@ -38,5 +39,5 @@ head-some e =
     absurd (omega (arith, some, ap length e, length-append (join_by column_name (codes ",") columns) (codes ",bag_path\r\n")))
 
 -- the head was read
-pub head_read : (piece rest : List ℕ) → piece ≡ [] ++ bag_head → Reads piece (bag_head ++ rest) rest
+pub head_read : (piece rest : List ℕ) → piece ≡ [] ++ bag_head → ReadsOn piece (bag_head ++ rest) rest
 head_read piece rest is = record { bytes = ap (λ (xs : List ℕ). xs ++ rest) (sym is); none = λ e. absurd (head-some (sym is ∙ e)) }

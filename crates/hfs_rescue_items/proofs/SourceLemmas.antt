@@ -23,7 +23,8 @@ use Rattle.hfs_rescue_items.specs.declared.table_lines.Lines.{Lines}
 use Rattle.hfs_rescue_items.specs.declared.reading.Reading.{Reading}
 use Rattle.hfs_rescue_items.specs.Bytes.{HasBytes, bytes_by, taken_bytes}
 use Rattle.hfs_rescue_items.specs.Lines.{item_line, lines_of, remains_line, remains_text, table_text}
-use Rattle.hfs_rescue_items.specs.Reading.{Reads, lines_rest, reading_rest}
+use Rattle.hfs_bag.specs.Forks.{ReadsOn}
+use Rattle.hfs_rescue_items.specs.Reading.{lines_rest, reading_rest}
 use Rattle.hfs_rescue_items.specs.Sources.{above_of, came_item, finder_told, modified_told, is_alone, item_with, name_of, part_bytes, part_stream, part_told, planned_item, source_of}
 
 -- ---- lengths
@@ -85,7 +86,7 @@ module _ (image : List ℕ) (found : Found) (plan : List Planned) where
     bytes = opened ∙ stream-is next came reading s;
   }
 
-  pub has_read : (next : ℕ) (came : Came) (reading reading' : Reading) (piece : List ℕ) → Reads piece (reading_rest image found reading) (reading_rest image found reading')
+  pub has_read : (next : ℕ) (came : Came) (reading reading' : Reading) (piece : List ℕ) → ReadsOn piece (reading_rest image found reading) (reading_rest image found reading')
       → HasRead piece (source_of image found plan next came reading) (source_of image found plan next came reading')
   has_read next came reading reading' piece reads = record {
     same = record { all = refl; left = refl; item = refl; tables = refl };

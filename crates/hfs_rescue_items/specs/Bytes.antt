@@ -1,15 +1,14 @@
 -- The bytes that are taken of forks.
-use Rattle.std.specs.Prelude.{◌≡◌, ℕ, ◌+◌, ◌*◌, List, [], ◌++◌, drop, length, replicate, Option, Some, None}
-use Rattle.std.specs.List.{flat_map}
+use Rattle.std.specs.Prelude.{◌≡◌, ℕ, ◌+◌, true, List, [], ◌++◌, length, Option, Some, None}
 use Rattle.std.specs.Option.{option_map_or}
+use Rattle.hfs_bag.specs.Forks.{first_bytes}
 use Rattle.hfs_space.specs.declared.fork_kind.ForkKind.{ForkKind}
 use Rattle.hfs_remains.specs.declared.findings.FoundFork.{FoundFork}
 use Rattle.hfs_remains.specs.declared.shares.Share.{Share}
 use Rattle.hfs_remains.specs.declared.trees.Trees.{Trees}
-use Rattle.hfs_remains.specs.ForkBytes.{filled, fork_bytes, share_bytes}
+use Rattle.hfs_remains.specs.ForkBytes.{fork_bytes, share_bytes}
 use Rattle.hfs_remains.specs.Verdicts.{fork_share, shares_at}
 use Rattle.hfs_rescue_items.specs.declared.found.Found.{Found}
-use Rattle.hfs_rescue_items.specs.declared.piece.Piece.{Piece}
 
 -- ---- forks
 
@@ -34,18 +33,7 @@ GivesBytes image found bytes (Some fork) = HasBytes image found bytes fork
 
 -- ---- pieces
 
--- so many bytes of an image from a logical block on; zeros where it is missing
-abbrev pub first_bytes : List ℕ → Option ℕ → ℕ → List ℕ
-first_bytes image None count = replicate count 0
-first_bytes image (Some n) count = filled count (drop (512 * n) image)
-
 -- bytes that begin in a block, or are missing, go on behind so many of them in another block, or are missing as well
 abbrev pub GoesOn : Option ℕ → ℕ → Option ℕ → Type 0
-GoesOn first count next = (image : List ℕ) (more : ℕ) → first_bytes image first (count + more) ≡ first_bytes image first count ++ first_bytes image next more
-
-abbrev pub piece_bytes : List ℕ → Piece → List ℕ
-piece_bytes image piece = first_bytes image piece.first piece.len
-
--- those of pieces, one after the other
-abbrev pub pieces_bytes : List ℕ → List Piece → List ℕ
-pieces_bytes image pieces = flat_map (piece_bytes image) pieces
+GoesOn first count next =
+    (image : List ℕ) (more : ℕ) → first_bytes true image first (count + more) ≡ first_bytes true image first count ++ first_bytes true image next more

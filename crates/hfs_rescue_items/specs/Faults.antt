@@ -1,5 +1,5 @@
 -- Which faults what remains gives as the source of a bag.
-use Rattle.std.specs.Prelude.{◌≡◌, ◌⊎◌, ⊤, ℕ, ◌-◌, ◌<◌, List, drop, length, slice_get, take, Some}
+use Rattle.std.specs.Prelude.{◌≡◌, ◌⊎◌, ⊤, ℕ, ◌-◌, ◌<◌, ◌≤◌, List, drop, length, slice_get, take, Some}
 use Rattle.std.specs.Str.{IsUtf8}
 use Rattle.hfs_bag.specs.declared.source.SourceFault.{SourceFault}
 use Rattle.hfs_bag.specs.declared.source.SourceFault.TheVariants.{Memory}
@@ -43,9 +43,9 @@ FailsToOpen stream.ResourceFork fault = ⊤
 FailsToOpen stream.Table fault = WantsMemory fault
 FailsToOpen stream.Remains fault = WantsMemory fault
 
--- a fork fails only where pieces of it are left; for a table memory was refused
+-- a fork fails only where bytes of it are left; for a table memory was refused
 abbrev pub FailsToRead : Reading → SourceFault → Type 0
-FailsToRead (reading.Fork fork) fault = fork.next < length fork.pieces.items
+FailsToRead (reading.Fork fork) fault = 1 ≤ fork.left
 FailsToRead (reading.Table lines) fault = WantsMemory fault
 FailsToRead (reading.Items lines) fault = WantsMemory fault
 FailsToRead (reading.Remains lines) fault = WantsMemory fault

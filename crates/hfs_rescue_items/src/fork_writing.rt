@@ -1,13 +1,13 @@
 //! Writing a fork while it is read.
-ghost use Rattle.std.specs.Prelude.{◌≡◌, ◌<◌, [], false, true, length, Err, IfOk, OnErr, OnOk};
+ghost use Rattle.std.specs.Prelude.{◌≡◌, ◌<◌, false, true, Err, IfOk, OnErr, OnOk};
 ghost use Rattle.hfs_remains.specs.ForkBytes.{fork_bytes};
 ghost use Rattle.hfs_texts.specs.Writing.{AppendsFront};
 ghost use Rattle.hfs_source.specs.Images.{OfEach};
-ghost use Rattle.hfs_rescue_items.specs.Reading.{fork_rest};
+ghost use Rattle.hfs_bag.specs.Forks.{fork_rest};
 ghost use Rattle.hfs_rescue_items.specs.Writing.{MovesPiece, WritesFrontOf, WritesOf};
 
-use crate::fork_reading::{ForkReading, begin_fork, read_fork};
-use hfs_bag::SourceFault;
+use crate::fork_reading::begin_fork;
+use hfs_bag::{ForkReading, SourceFault, read_fork};
 use hfs_fields::Mdb;
 use hfs_remains::FoundFork;
 use hfs_sparse::{BlockSource, CopyFault};
@@ -43,11 +43,10 @@ fn write_next<S: BlockSource, W: Write>(
 ) -> Result<bool, CopyFault>
     ensures moved { IfOk result (λ more. OfEach (S.Holds source.new) (λ image. MovesPiece more
         (W.contents writer.old) (W.contents writer.new)
-        (fork_rest image reading.old) (fork_rest image reading.new))) }
-    ensures fewer { IfOk result (λ more. more ≡ true →
-        length (fork_rest [] reading.new) < length (fork_rest [] reading.old)) }
+        (fork_rest true image reading.old) (fork_rest true image reading.new))) }
+    ensures fewer { IfOk result (λ more. more ≡ true → reading.new.left < reading.old.left) }
     ensures part { OnErr result (WritesFrontOf (S.Holds source.new) (W.contents writer.old)
-        (W.contents writer.new) (λ image. fork_rest image reading.old)) }
+        (W.contents writer.new) (λ image. fork_rest true image reading.old)) }
     ensures none { result ≡ Err CopyFault.ReadFailed → writer.new ≡ writer.old }
     ensures none_begun { result ≡ Err CopyFault.ReadFailed → is_begun ≡ false }
     ensures memory { result ≡ Err CopyFault.Memory → writer.new ≡ writer.old }

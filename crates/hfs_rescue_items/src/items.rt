@@ -1,19 +1,19 @@
 //! What remains of a volume, for a bag.
-ghost use Rattle.std.specs.Prelude.{◌≡◌, ◌+◌, ◌-◌, ⊤, ℕ, List, [], length, IfErr, IfOk, MatchResult, OnOk};
+ghost use Rattle.std.specs.Prelude.{◌≡◌, ◌+◌, ◌-◌, ⊤, ℕ, List, length, IfErr, IfOk, MatchResult, OnOk};
 ghost use Rattle.hfs_bag.specs.Sources.{HasOpened, HasRead, HasRestarted, IsFewer, TakesItem};
 ghost use Rattle.hfs_source.specs.Images.{OfEach};
 ghost use Rattle.hfs_rescue_items.specs.Faults.{FailsToComeAt, FailsToOpen, FailsToRead, Never};
 ghost use Rattle.hfs_rescue_items.specs.Plan.{whole_plan};
-ghost use Rattle.hfs_rescue_items.specs.Reading.{reading_rest};
+ghost use Rattle.hfs_rescue_items.specs.Reading.{reading_left, reading_rest};
 ghost use Rattle.hfs_rescue_items.specs.Sources.{part_bytes, part_stream, source_of};
 
 use crate::came::{Came, came_of, part_fork};
-use crate::fork_reading::{begin_fork, empty_fork};
+use crate::fork_reading::begin_fork;
 use crate::found::Found;
 use crate::plan::{Planned, plan_of};
 use crate::reading::{Reading, read_next};
 use crate::table_lines::Lines;
-use hfs_bag::{BagHead, BagSource, SourceFault, Stream};
+use hfs_bag::{BagHead, BagSource, ForkReading, SourceFault, Stream};
 use hfs_space::ForkKind;
 use hfs_sparse::BlockSource;
 use std::alloc::{AllocError, Global};
@@ -53,7 +53,7 @@ fn open_fork<'a>(
             let reading = begin_fork(alloc, found.mdb, &fork)?;
             Ok(Reading::Fork(reading))
         }
-        None => Ok(Reading::Fork(empty_fork(alloc))),
+        None => Ok(Reading::Fork(ForkReading::empty(alloc))),
     }
 }
 
@@ -107,7 +107,7 @@ impl<'a, S: BlockSource + Drop> RescueItems<'a, S> {
             plan,
             next: 0,
             came: Came::nothing(alloc),
-            reading: Reading::Fork(empty_fork(alloc)),
+            reading: Reading::Fork(ForkReading::empty(alloc)),
         })
     }
 
@@ -135,7 +135,7 @@ impl<S: BlockSource> BagSource for RescueItems<'_, S> {
 
     ghost items_left = { λ items. length items.plan.items - items.next };
 
-    ghost bytes_left = { λ items. length (reading_rest [] items.found items.reading) };
+    ghost bytes_left = { λ items. reading_left items.found items.reading };
 
     ghost Fails = { λ _. ⊤ };
 
@@ -202,8 +202,8 @@ impl<S: BlockSource> BagSource for RescueItems<'_, S> {
         ensures read { MatchResult result (λ _. OfEach (S.Holds self.new.source) (λ image. HasRead piece.new.items
             (source_of image self.old.found self.old.plan.items self.old.next self.old.came self.old.reading)
             (source_of image self.new.found self.new.plan.items self.new.next self.new.came self.new.reading))) (λ _. ⊤) }
-        ensures fewer { OnOk result (length (reading_rest [] self.old.found self.old.reading)
-            ≡ length piece.new.items + length (reading_rest [] self.new.found self.new.reading)) }
+        ensures fewer { OnOk result (reading_left self.old.found self.old.reading
+            ≡ length piece.new.items + reading_left self.new.found self.new.reading) }
         ensures stays { length self.new.plan.items - self.new.next
             ≡ length self.old.plan.items - self.old.next }
         ensures narrows { OfEach (S.Holds self.new.source) (S.Holds self.old.source) }

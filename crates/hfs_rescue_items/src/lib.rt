@@ -10,7 +10,6 @@ mod items;
 mod laws;
 mod lines;
 mod looking;
-mod piece;
 mod pieces;
 mod plan;
 mod reading;

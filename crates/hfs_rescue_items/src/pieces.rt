@@ -3,10 +3,10 @@ ghost use Rattle.std.specs.Prelude.{◌≡◌, ◌+◌, ◌*◌, ◌≤◌, ◌+
 ghost use Rattle.std.specs.Option.{option_map};
 ghost use Rattle.hfs_rescue.specs.Allocation.{start_of};
 ghost use Rattle.hfs_remains.specs.ForkBytes.{fork_bytes, place_bytes};
-ghost use Rattle.hfs_rescue_items.specs.Bytes.{GoesOn, first_bytes, piece_bytes, pieces_bytes};
+ghost use Rattle.hfs_bag.specs.Forks.{first_bytes, piece_bytes, pieces_bytes};
+ghost use Rattle.hfs_rescue_items.specs.Bytes.{GoesOn};
 
-use crate::piece::Piece;
-use hfs_bag::SourceFault;
+use hfs_bag::{Piece, SourceFault};
 use hfs_fields::Mdb;
 use std::alloc::{AllocError, Global};
 
@@ -38,8 +38,8 @@ fn goes_on(piece: &Piece, first: Option<u32>) -> bool
 /// A piece, and bytes that begin in this logical block or are missing, as one piece; None if they aren't next to each other, or
 /// are too many.
 fn joined(piece: Piece, first: Option<u32>, len: u32) -> Option<Piece>
-    ensures { IfSome result (λ both. (image : List ℕ) → piece_bytes image both
-        ≡ piece_bytes image piece ++ first_bytes image first len) }
+    ensures { IfSome result (λ both. (image : List ℕ) → piece_bytes true image both
+        ≡ piece_bytes true image piece ++ first_bytes true image first len) }
 {
     if !goes_on(&piece, first) || MOST_AT_ONCE - piece.len < len {
         return None;
@@ -56,8 +56,8 @@ fn joined(piece: Piece, first: Option<u32>, len: u32) -> Option<Piece>
 fn push_part(pieces: &mut Vec<Piece>, first: Option<u32>, len: u32) -> Result<(), AllocError>
     requires some { 1 ≤ len }
     requires few { len ≤ 65536 }
-    ensures { (image : List ℕ) → OnOk result (pieces_bytes image pieces.new.items
-        ≡ pieces_bytes image pieces.old.items ++ first_bytes image first len) }
+    ensures { (image : List ℕ) → OnOk result (pieces_bytes true image pieces.new.items
+        ≡ pieces_bytes true image pieces.old.items ++ first_bytes true image first len) }
 {
     let part = Piece { first, len };
     let Some(last) = pieces.pop() else {
@@ -90,8 +90,8 @@ fn first_behind(first: Option<u32>, len: u32) -> Result<Option<u32>, SourceFault
 
 /// Appends bytes that begin in this logical block, or are missing.
 fn push_run(pieces: &mut Vec<Piece>, first: Option<u32>, count: u32) -> Result<(), SourceFault>
-    ensures { (image : List ℕ) → OnOk result (pieces_bytes image pieces.new.items
-        ≡ pieces_bytes image pieces.old.items ++ first_bytes image first count) }
+    ensures { (image : List ℕ) → OnOk result (pieces_bytes true image pieces.new.items
+        ≡ pieces_bytes true image pieces.old.items ++ first_bytes true image first count) }
 {
     let mut next = first;
     let mut left = count;
@@ -130,8 +130,8 @@ fn push_place(
     count: u32,
 ) -> Result<(), SourceFault>
     requires { count ≤ mdb.now.allocation_block_size }
-    ensures { (image : List ℕ) → OnOk result (pieces_bytes image pieces.new.items
-        ≡ pieces_bytes image pieces.old.items ++ take count (place_bytes image mdb.now place)) }
+    ensures { (image : List ℕ) → OnOk result (pieces_bytes true image pieces.new.items
+        ≡ pieces_bytes true image pieces.old.items ++ take count (place_bytes image mdb.now place)) }
 {
     let first = first_of(mdb, place)?;
     push_run(pieces, first, count)
@@ -146,7 +146,7 @@ pub(crate) fn pieces_of(
     places: &[Option<u16>],
     length: u32,
 ) -> Result<Vec<Piece>, SourceFault>
-    ensures { (image : List ℕ) → IfOk result (λ pieces. pieces_bytes image pieces.items
+    ensures { (image : List ℕ) → IfOk result (λ pieces. pieces_bytes true image pieces.items
         ≡ fork_bytes image mdb.now length places.now) }
 {
     let mut pieces = Vec::new(alloc);

@@ -1,16 +1,16 @@
 //! What is being read from a source.
-ghost use Rattle.std.specs.Prelude.{◌≡◌, ◌++◌, [], IfErr, OnOk};
+ghost use Rattle.std.specs.Prelude.{◌≡◌, ◌+◌, ◌++◌, [], length, IfErr, OnOk};
 ghost use Rattle.hfs_table.specs.Lines.{bag_head};
 ghost use Rattle.hfs_source.specs.Images.{OfEach};
 ghost use Rattle.hfs_rescue_items.specs.Faults.{FailsToRead, WantsMemory};
 ghost use Rattle.hfs_rescue_items.specs.Lines.{item_line, remains_line};
-ghost use Rattle.hfs_rescue_items.specs.Reading.{IsFewer, Reads, ReadsLines, reading_rest};
+ghost use Rattle.hfs_bag.specs.Forks.{ReadsOn};
+ghost use Rattle.hfs_rescue_items.specs.Reading.{ReadsLines, reading_left, reading_rest};
 
-use crate::fork_reading::{ForkReading, read_fork};
 use crate::found::Found;
 use crate::lines::{push_item_line, push_remains_line};
 use crate::table_lines::Lines;
-use hfs_bag::SourceFault;
+use hfs_bag::{ForkReading, SourceFault, read_fork};
 use hfs_sparse::BlockSource;
 use hfs_table::push_bag_head;
 use std::alloc::Global;
@@ -104,10 +104,10 @@ pub(crate) fn read_next<'a, S: BlockSource>(
     reading: &mut Reading<'a>,
     piece: &mut Vec<u8>,
 ) -> Result<(), SourceFault>
-    ensures read { OnOk result (OfEach (S.Holds source.new) (λ image. Reads piece.new.items
+    ensures read { OnOk result (OfEach (S.Holds source.new) (λ image. ReadsOn piece.new.items
         (reading_rest image found.now reading.old) (reading_rest image found.now reading.new))) }
-    ensures fewer { OnOk result (IsFewer piece.new.items (reading_rest [] found.now reading.old)
-        (reading_rest [] found.now reading.new)) }
+    ensures fewer { OnOk result (reading_left found.now reading.old
+        ≡ length piece.new.items + reading_left found.now reading.new) }
     ensures fault { IfErr result (FailsToRead reading.old) }
     ensures narrows { OfEach (S.Holds source.new) (S.Holds source.old) }
 {

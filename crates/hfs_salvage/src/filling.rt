@@ -15,15 +15,13 @@ use crate::answer::RescueAnswer;
 use crate::facts::{Told, told_of};
 use crate::found::found_in;
 use crate::image::RescuedImage;
-use crate::watched::Watched;
 use crate::words::BagWords;
-use hfs_bag::{BagFacts, BagFault, BagSums, SourceFault, give_bag};
+use hfs_bag::{BagFacts, BagFault, BagSums, SourceFault, Watch, WatchedItems, give_bag};
 use hfs_finds::salvage_of;
 use hfs_rescue_items::{Found, RescueItems};
 use hfs_shelves::Shelf;
 use hfs_source::PlacedBlocks;
 use hfs_sparse::SeenBlocks;
-use hfs_take::Watch;
 use std::alloc::Global;
 
 /// A text, if there is one.
@@ -87,7 +85,7 @@ fn give_found<S: PlacedBlocks + Drop, T: Shelf, W: Watch>(
             };
         }
     };
-    let mut watched = Watched::new(items, watch, found.items.len() as u64);
+    let mut watched = WatchedItems::new(items, watch, found.items.len() as u64);
     let came = give_bag(alloc, shelf, &mut watched, &facts);
     GivenFound {
         came,

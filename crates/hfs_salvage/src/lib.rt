@@ -14,7 +14,6 @@ mod paging;
 mod remains;
 mod rescuing;
 mod showing;
-mod watched;
 mod words;
 
 pub use crate::answer::{RescueAnswer, Rescued};

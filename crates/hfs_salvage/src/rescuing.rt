@@ -15,11 +15,12 @@ use crate::filling::{GivenRemains, give_remains};
 use crate::image::RescuedImage;
 use crate::loading::{LoadedImage, load_image};
 use crate::words::BagWords;
+use hfs_bag::Watch;
 use hfs_commands::Fault;
 use hfs_shelves::{FileShelf, FileSystem, SystemFiles};
 use hfs_source::PlacedBlocks;
 use hfs_sparse::SeenBlocks;
-use hfs_take::{TakeFault, Watch};
+use hfs_take::TakeFault;
 use std::alloc::Global;
 use std::rt::Files;
 

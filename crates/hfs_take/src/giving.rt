@@ -18,10 +18,10 @@ use crate::beside::{digest_at_once, give_first, plan_digest};
 use crate::facts::{image_name, plain_name, report_text};
 use crate::image::TakenImage;
 use crate::words::TakeWords;
-use hfs_bag::{BagFacts, BagFault, BagSums, SourceFault, give_tag_files};
+use hfs_bag::{BagFacts, BagFault, BagSums, SourceFault, Watch, WatchedItems, give_tag_files};
 use hfs_check::Report;
 use hfs_commands::report_answer;
-use hfs_image_items::{ImageItems, Watch};
+use hfs_image_items::ImageItems;
 use hfs_needed::SeenImage;
 use hfs_shelves::Shelf;
 use hfs_source::PlacedBlocks;
@@ -107,7 +107,7 @@ fn give_items<R: Threads, S: PlacedBlocks + Drop + Send, T: Shelf, W: Watch>(
     threads: &R,
     alloc: Global,
     shelf: &mut T,
-    items: &mut ImageItems<'_, S, W>,
+    watched: &mut WatchedItems<'_, ImageItems<S>, W>,
     beside: &mut Option<SeenBlocks<S>>,
     told: Told,
     line: Option<&str>,
@@ -115,23 +115,23 @@ fn give_items<R: Threads, S: PlacedBlocks + Drop + Send, T: Shelf, W: Watch>(
     len: u64,
     is_made: bool,
 ) -> Result<BagSums, BagFault>
-    requires len { OfEach (S.Holds items.old.image) (HasLength len) }
-    requires root { OfEach (S.Holds items.old.image)
-        (λ bytes. BeginsWith items.old.root (told_rows (entries_in bytes))) }
-    requires told { OfEach (S.Holds items.old.image) (IsToldOf words.now is_made told) }
-    requires planned { OfEach (S.Holds items.old.image)
+    requires len { OfEach (S.Holds watched.old.items.source.image) (HasLength len) }
+    requires root { OfEach (S.Holds watched.old.items.source.image)
+        (λ bytes. BeginsWith watched.old.items.root (told_rows (entries_in bytes))) }
+    requires told { OfEach (S.Holds watched.old.items.source.image) (IsToldOf words.now is_made told) }
+    requires planned { OfEach (S.Holds watched.old.items.source.image)
         (IsPlanned beside.old words.now.is_digested told.digest) }
-    ensures whole { OnOk result (OfEach (HoldsBoth S.Holds items.new.image beside.new)
+    ensures whole { OnOk result (OfEach (HoldsBoth S.Holds watched.new.items.source.image beside.new)
         (OfBag (text_in line.entry) words.now (λ bag. T.given shelf.new ≡ T.given shelf.old ++ bag))) }
-    ensures part { OnErr result (OfEach (HoldsBoth S.Holds items.new.image beside.new)
+    ensures part { OnErr result (OfEach (HoldsBoth S.Holds watched.new.items.source.image beside.new)
         (OfBag (text_in line.entry) words.now (λ bag. IsBeginning (T.given shelf.new) (T.given shelf.old ++ bag)))) }
-    ensures sums { IfOk result (λ sums. OfEach (S.Holds items.new.image)
+    ensures sums { IfOk result (λ sums. OfEach (S.Holds watched.new.items.source.image)
         (λ bytes. IsSumOf sums (bag_items (entries_in bytes)))) }
-    ensures fault { IfErr result (IsFillFault (T.Fails (T.place shelf.old)) (S.Holds items.new.image)) }
+    ensures fault { IfErr result (IsFillFault (T.Fails (T.place shelf.old)) (S.Holds watched.new.items.source.image)) }
     ensures place { T.place shelf.new ≡ T.place shelf.old }
-    ensures narrows { OfEach (S.Holds items.new.image) (S.Holds items.old.image) }
+    ensures narrows { OfEach (S.Holds watched.new.items.source.image) (S.Holds watched.old.items.source.image) }
 {
-    let identifier = plain_name(alloc, items.root.name.bytes())?;
+    let identifier = plain_name(alloc, watched.items.root.name.bytes())?;
     let Told {
         name,
         report,
@@ -142,7 +142,7 @@ fn give_items<R: Threads, S: PlacedBlocks + Drop + Send, T: Shelf, W: Watch>(
         threads,
         alloc,
         shelf,
-        items,
+        watched,
         digest,
         beside,
         len,
@@ -158,7 +158,7 @@ fn give_items<R: Threads, S: PlacedBlocks + Drop + Send, T: Shelf, W: Watch>(
         digest: first.1,
         report: report.as_str(),
     };
-    let sums = give_tag_files(alloc, shelf, items, &facts, &first.0)?;
+    let sums = give_tag_files(alloc, shelf, watched, &facts, &first.0)?;
     Ok(sums)
 }
 
@@ -223,7 +223,7 @@ pub fn give_image<R: Threads, S: PlacedBlocks + Drop + Send, T: Shelf, W: Watch>
             };
         }
     };
-    let mut items = match ImageItems::new(alloc, opened, item_count(&report), watch) {
+    let items = match ImageItems::new(alloc, opened) {
         Ok(items) => items,
         Err(back) => {
             return GivenBag {
@@ -234,11 +234,12 @@ pub fn give_image<R: Threads, S: PlacedBlocks + Drop + Send, T: Shelf, W: Watch>
         }
     };
     let line = text_in(&volume);
+    let mut watched = WatchedItems::new(items, watch, item_count(&report));
     let sums = give_items(
         threads,
         alloc,
         shelf,
-        &mut items,
+        &mut watched,
         &mut beside,
         told,
         line,
@@ -248,7 +249,7 @@ pub fn give_image<R: Threads, S: PlacedBlocks + Drop + Send, T: Shelf, W: Watch>
     );
     GivenBag {
         sums,
-        image: items.into_image(),
+        image: watched.into_items().into_image(),
         beside,
     }
 }

@@ -23,6 +23,5 @@ pub use crate::taking::{
     PlacedBag, Taken, UnplacedBag, folder_path, take, take_opened, taken_text,
 };
 pub use crate::words::TakeWords;
-pub use hfs_bag::BagSums;
-pub use hfs_image_items::Watch;
+pub use hfs_bag::{BagSums, Watch};
 pub use hfs_shelves::left_folder;

@@ -1,23 +1,22 @@
 //! What the word `make` does.
 
-use crate::progress::ByteProgress;
 use crate::putting::{moment, print_fault};
 use crate::saving::tell;
 use crate::words::MakeWords;
 use hfs_commands::{Fault, Status, save_read};
-use hfs_console::print_lines;
+use hfs_console::{Progress, print_lines};
 use hfs_laid_forks::HostFiles;
 use hfs_source::PlacedBytes;
 use hfs_sources::SystemTree;
 use hfs_word_make::{MakeOrder, SettledImage, made_lines, make_volume};
-use hfs_word_put::{PutImage, unsaved};
+use hfs_word_put::{PutImage, Watch, unsaved};
 
 /// What the file of a new volume is to hold.
 type Made<'w, 'r> = PutImage<
     'w,
     SettledImage,
     HostFiles<SystemTree<'r, HostRuntime>>,
-    ByteProgress<'r>,
+    Progress<'r>,
 >;
 
 /// Makes a new volume of files and folders, and prints how much came. It is written before; where that fails, or something can't be
@@ -30,7 +29,7 @@ pub fn make_new_volume<'a>(rt: &HostRuntime, words: &MakeWords<'a>) -> Result<u8
         how: words.how,
         now: moment(rt, words.now),
     };
-    let progress = ByteProgress::on(rt);
+    let progress = Progress::of_file(rt);
     let tree = SystemTree::new(rt);
     match make_volume(rt.alloc(), tree, words.file, &order, &progress) {
         Ok(made) => save_made(rt, words, made, &progress),
@@ -43,14 +42,14 @@ fn save_made<'a>(
     rt: &HostRuntime,
     words: &MakeWords<'a>,
     made: Made<'_, '_>,
-    progress: &ByteProgress<'_>,
+    progress: &Progress<'_>,
 ) -> Result<u8, Fault<'a>> {
     let PutImage { contents, sums } = made;
     let Ok(lines) = made_lines(rt.alloc(), &sums) else {
         return Err(Fault::NoMemory);
     };
     let mut contents = contents;
-    progress.begin(contents.file.len());
+    progress.began(1, 1, contents.file.len());
     let saved = save_read(rt, words.file, words.file, &mut contents);
     progress.end();
     match saved.written {

@@ -1,10 +1,10 @@
 //! What the word `put` does.
 
-use crate::progress::ByteProgress;
 use crate::saving::tell;
 use crate::words::PutWords;
+use hfs_bag::Watch;
 use hfs_commands::{Fault, Status, WatchedImage, open_volume, save_read};
-use hfs_console::{print_lines, tell_unread};
+use hfs_console::{Progress, print_lines, tell_unread};
 use hfs_laid_forks::HostFiles;
 use hfs_source::PlacedBytes;
 use hfs_sources::SystemTree;
@@ -17,13 +17,13 @@ type Put<'w, 'r> = PutImage<
     'w,
     WatchedImage<File>,
     HostFiles<SystemTree<'r, HostRuntime>>,
-    ByteProgress<'r>,
+    Progress<'r>,
 >;
 
 /// Puts files and folders on a volume, and prints how much was put. The changed image is written first; if that fails, or
 /// something can't be put, only that is printed.
 pub fn put_on_volume<'a>(rt: &HostRuntime, words: &PutWords<'a>) -> Result<u8, Fault<'a>> {
-    let progress = ByteProgress::on(rt);
+    let progress = Progress::of_file(rt);
     match put_at(rt, words, &progress) {
         Ok(put) => save_put(rt, words, put, &progress),
         Err(fault) => print_fault(rt, fault),
@@ -45,7 +45,7 @@ pub fn moment(rt: &HostRuntime, given: Option<u32>) -> u32 {
 fn put_at<'w, 'r, 'a>(
     rt: &'r HostRuntime,
     words: &PutWords<'a>,
-    progress: &'w ByteProgress<'r>,
+    progress: &'w Progress<'r>,
 ) -> Result<Put<'w, 'r>, PutFault<'a>> {
     let now = moment(rt, words.now);
     let volume = match open_volume(rt, words.image, words.volume.unwrap_or(0)) {
@@ -78,14 +78,14 @@ fn save_put<'a>(
     rt: &HostRuntime,
     words: &PutWords<'a>,
     put: Put<'_, '_>,
-    progress: &ByteProgress<'_>,
+    progress: &Progress<'_>,
 ) -> Result<u8, Fault<'a>> {
     let PutImage { contents, sums } = put;
     let mut contents = contents;
     let Ok(lines) = put_lines(rt.alloc(), &sums) else {
         return Err(Fault::NoMemory);
     };
-    progress.begin(contents.file.len());
+    progress.began(1, 1, contents.file.len());
     let saved = save_read(rt, words.out, words.image, &mut contents);
     progress.end();
     match saved.written {

@@ -1,10 +1,9 @@
 //! What remains of a damaged volume, as it is shown.
 
-use crate::progress::ItemProgress;
 use crate::saving::{left_beside, tell};
 use crate::taking::print_fault;
 use hfs_commands::Fault;
-use hfs_console::{print_lines, tell_sum};
+use hfs_console::{Progress, print_lines, tell_sum};
 use hfs_salvage::{BagWords, RescueWords, Rescued, list_rescue, rescue};
 
 /// Prints the answer for an image of which something remains, and returns the exit status.
@@ -18,7 +17,7 @@ fn print_answer(rt: &HostRuntime, image: &str, rescued: &Rescued) -> Result<u8, 
 /// aren't printed here.
 pub fn rescue_volume<'a>(rt: &HostRuntime, words: &BagWords<'a>) -> Result<u8, Fault<'a>> {
     let left = left_beside(rt, words.folder)?;
-    let progress = ItemProgress::on(rt);
+    let progress = Progress::of_items(rt);
     let rescued = rescue(rt, words, &progress);
     progress.end();
     tell(rt, &left);

@@ -1,6 +1,6 @@
 //! What the word `run` does.
 
-use crate::progress::Progress;
+use crate::progress::RunProgress;
 use crate::saving::{save, save_as_read, tell};
 use crate::words::RunWords;
 use hfs_commands::{
@@ -59,8 +59,8 @@ fn run_on_volume<'a, T: Threads + Wait + Sync>(
 }
 
 /// The progress of a run, shown on standard error.
-fn progress(rt: &HostRuntime) -> Progress<'_> {
-    Progress {
+fn progress(rt: &HostRuntime) -> RunProgress<'_> {
+    RunProgress {
         rt,
         is_shown: rt.stderr().is_terminal(),
     }

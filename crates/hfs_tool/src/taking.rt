@@ -1,9 +1,8 @@
 //! What taking a volume shows.
 
-use crate::progress::ItemProgress;
 use crate::saving::{left_beside, tell};
 use hfs_commands::{Fault, Status};
-use hfs_console::{print_lines, tell_sum};
+use hfs_console::{Progress, print_lines, tell_sum};
 use hfs_take::{BagSums, TakeFault, TakeWords, Taken, take, taken_text};
 use std::thread::Threads;
 
@@ -14,7 +13,7 @@ pub fn take_volume<'a, T: Threads>(
     words: &TakeWords<'a>,
 ) -> Result<u8, Fault<'a>> {
     let left = left_beside(rt, words.folder)?;
-    let progress = ItemProgress::on(rt);
+    let progress = Progress::of_items(rt);
     let taken = take(rt, threads, words, &progress);
     progress.end();
     tell(rt, &left);

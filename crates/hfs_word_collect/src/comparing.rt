@@ -12,7 +12,8 @@ ghost use Rattle.hfs_word_collect.specs.declared.fault.RunFault.TheVariants.{NoM
 
 use crate::fault::RunFault;
 use crate::files::FileByPath;
-use crate::watched::{ReadWatch, WatchedFile};
+use crate::watched::WatchedFile;
+use hfs_bag::Watch;
 use hfs_collection::Reopen;
 use hfs_contents::file_digest;
 use hfs_database::{Collection, Comparison, KnownImage, known_image};
@@ -138,7 +139,7 @@ pub fn compare_image<D: Alter + Drop, S: PlacedBytes>(
 
 /// Opens the image at this path, whose length is reported to the watch. None if it can't be opened; something that can't be
 /// sought in, such as a pipe, is read whole and held.
-pub fn open_image<'a, R: Files + AllocGlobal, W: ReadWatch>(
+pub fn open_image<'a, R: Files + AllocGlobal, W: Watch>(
     rt: &'a R,
     path: &'a str,
     watch: &'a W,

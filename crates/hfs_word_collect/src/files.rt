@@ -3,7 +3,8 @@ ghost use Rattle.std.specs.Prelude.{IfOk, IfSome, IfNone};
 ghost use Rattle.hfs_word_collect.specs.Files.{IsHeldIn, IsLentOf, IsNotHeld, IsSameAs};
 
 use crate::collecting::ImageRows;
-use crate::watched::{ReadWatch, WatchedFile};
+use crate::watched::WatchedFile;
+use hfs_bag::Watch;
 use hfs_collection::{ImageFacts, NotedFile, Reopen};
 use hfs_commands::{Fault, StoredFile, Window, open_file};
 use hfs_source::PlacedBytes;
@@ -45,7 +46,7 @@ pub type RowsOfFile<'a, R, W> = ImageRows<
 >;
 
 /// The rows of the image at the path in these facts.
-pub fn rows_at<'a, R: Files + AllocGlobal, W: ReadWatch>(
+pub fn rows_at<'a, R: Files + AllocGlobal, W: Watch>(
     rt: &'a R,
     facts: &'a ImageFacts<'a>,
     watch: &'a W,
@@ -106,11 +107,11 @@ impl<R: Files + AllocGlobal, W> FileByPath<'_, R, W> {
     }
 }
 
-impl<'a, R: Files + AllocGlobal, W: ReadWatch> Reopen<WatchedFile<'a, R::File, W>>
+impl<'a, R: Files + AllocGlobal, W: Watch> Reopen<WatchedFile<'a, R::File, W>>
     for FileByPath<'a, R, W> {
     fn reopen(&mut self) -> Result<WatchedFile<'a, R::File, W>, SparseFault> {
         let file = self.stored()?;
-        self.watch.opened(file.len());
+        self.watch.began(1, 1, file.len());
         Ok(WatchedFile {
             file,
             watch: self.watch,

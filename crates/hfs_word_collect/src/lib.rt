@@ -14,7 +14,7 @@ pub use crate::comparing::{compare_file, compare_image, compare_known, open_imag
 pub use crate::fault::RunFault;
 pub use crate::files::{FileByPath, RowsOfFile, can_open_database, rows_at};
 pub use crate::lines::{comparison_line, image_line};
-pub use crate::watched::{ReadWatch, WatchedFile};
+pub use crate::watched::WatchedFile;
 pub use crate::writing::write_image;
 pub use hfs_collection::ImageCounts;
 pub use hfs_database::{

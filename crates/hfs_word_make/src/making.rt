@@ -17,7 +17,7 @@ use hfs_make::{NewImage, NewItem, NewVolume, VolumeName, VolumeSize};
 use hfs_make_items::new_items;
 use hfs_source::{PlacedBytes, RangeBytes};
 use hfs_sources::HostTree;
-use hfs_word_put::{Listed, PutFault, PutImage, PutItems, PutWatch, need_digests, put_image};
+use hfs_word_put::{Listed, PutFault, PutImage, PutItems, Watch, need_digests, put_image};
 use std::alloc::Global;
 
 /// A new volume's image, and what was put on it.
@@ -105,7 +105,7 @@ fn range_of(image: NewImage) -> WatchedRange<SettledImage>
 /// `BadName`, `BadSize`; what can't be read of what comes; what can't come to its place; `NoRoom`, or the first call that is refused;
 /// the first file with another digest than its bag tells; `CannotRead` of the path, where the forks don't lie in the volume. Or want
 /// of memory.
-pub fn make_volume<'a, 'w, T: HostTree + Drop, W: PutWatch>(
+pub fn make_volume<'a, 'w, T: HostTree + Drop, W: Watch>(
     alloc: Global,
     tree: T,
     path: &'a str,

@@ -2,12 +2,14 @@
 use super::*;
 use hfs_put_plan::EntryKind;
 use hfs_sources::{HostNode, HostTime, Look, MemoryTree, PutOptions};
-use hfs_word_put::{PutSums, PutWatch};
+use hfs_word_put::{PutSums, Watch};
 
 /// Nobody is told of bytes that are read.
 struct Unwatched;
 
-impl PutWatch for Unwatched {
+impl Watch for Unwatched {
+    fn began(&self, _: u64, _: u64, _: u64) {}
+
     fn bytes_came(&self, _: u64) {}
 }
 

@@ -5,18 +5,13 @@ ghost use Rattle.hfs_laid_forks.specs.Failures.{FailsLaid};
 ghost use Rattle.hfs_laid_forks.specs.Images.{laid_images};
 ghost use Rattle.hfs_word_put.specs.Contents.{IsSettled};
 
+use hfs_bag::Watch;
 use hfs_commands::WatchedBytes;
 use hfs_laid_forks::{LaidForks, PlacedFiles};
 use hfs_source::PlacedBytes;
 use hfs_sources::HostFault;
 use std::io;
 use std::io::ErrorKind;
-
-/// What is notified of the bytes that are read while a file is written.
-pub trait PutWatch {
-    /// This many more bytes were read.
-    fn bytes_came(&self, count: u64);
-}
 
 /// The bytes of a file with the forks of the sources in their places, provided that the file and the sources are as they were.
 /// Each read is reported to a watch.
@@ -26,8 +21,7 @@ pub struct LaidFile<'a, S, H, W> {
     pub watch: &'a W,
 }
 
-impl<S: PlacedBytes + Drop, H: PlacedFiles + Drop, W: PutWatch> PlacedBytes
-    for LaidFile<'_, S, H, W> {
+impl<S: PlacedBytes + Drop, H: PlacedFiles + Drop, W: Watch> PlacedBytes for LaidFile<'_, S, H, W> {
     ghost Holds = { λ file. laid_images S.Holds H.Holds file.forks };
 
     ghost Fails = { λ file. FailsLaid (S.Fails file.forks.bytes) file.forks.start file.forks.runs.items };
@@ -43,7 +37,7 @@ impl<S: PlacedBytes + Drop, H: PlacedFiles + Drop, W: PutWatch> PlacedBytes
     }
 }
 
-impl<S: WatchedBytes + Drop, H: PlacedFiles + Drop, W: PutWatch> LaidFile<'_, S, H, W> {
+impl<S: WatchedBytes + Drop, H: PlacedFiles + Drop, W: Watch> LaidFile<'_, S, H, W> {
     /// Why the sources couldn't be read, or were found changed, the first time.
     pub fn into_fault(self) -> Option<HostFault>
         ensures { result ≡ self.entry.forks.fault }
@@ -75,7 +69,7 @@ fn look_again<S: WatchedBytes + Drop, H: PlacedFiles + Drop>(
     }
 }
 
-impl<S: WatchedBytes + Drop, H: PlacedFiles + Drop, W: PutWatch> WatchedBytes
+impl<S: WatchedBytes + Drop, H: PlacedFiles + Drop, W: Watch> WatchedBytes
     for LaidFile<'_, S, H, W> {
     ghost settled = { λ file. IsSettled S.settled H.Holds file.forks };
 

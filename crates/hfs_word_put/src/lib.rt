@@ -15,7 +15,7 @@ mod reason;
 mod target;
 mod wants;
 
-pub use crate::contents::{LaidFile, PutWatch};
+pub use crate::contents::LaidFile;
 pub use crate::fault::PutFault;
 pub use crate::laying::{BlockWants, lay_all, of_lay, wants_of};
 pub use crate::lines::{PutSums, line_at, put_lines, refusal_line, refused_lines};
@@ -30,3 +30,4 @@ pub use crate::putting::{
 pub use crate::reason::PutReason;
 pub use crate::target::target_folder;
 pub use crate::wants::{put_sums, wanted_of};
+pub use hfs_bag::Watch;

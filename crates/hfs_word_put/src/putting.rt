@@ -12,7 +12,7 @@ ghost use Rattle.hfs_word_put.specs.Files.{IsPutFile, place_of};
 ghost use Rattle.hfs_word_put.specs.Put.{IsPutFrom, IsPutOf, IsPutOn, IsUnput, IsUnputFrom, IsUnputOn, IsUnputSources, range_failures, range_images};
 ghost use Rattle.hfs_word_put.specs.Sums.{put_sums};
 
-use crate::contents::{LaidFile, PutWatch};
+use crate::contents::LaidFile;
 use crate::fault::PutFault;
 use crate::laying::lay_all;
 use crate::lines::PutSums;
@@ -21,6 +21,7 @@ use crate::mounting::mount_image;
 use crate::order::PutOrder;
 use crate::placing::place_all;
 use crate::wants::put_sums;
+use hfs_bag::Watch;
 use hfs_commands::{ByteRange, Fault, ImageInFile, WatchedBytes, WatchedRange};
 use hfs_laid_forks::{HostFiles, LaidForks, PlacedFiles};
 use hfs_patched::ImagePlace;
@@ -149,7 +150,7 @@ pub fn put_on<'a, S: FailingBlocks, T: HostTree>(
 
 /// The contents of the file in which an image of `len` bytes lies, after this was put on its volume. Fault: `CannotRead` of the
 /// path, if the forks don't lie in the file.
-pub fn put_image<'a, 'w, S: WatchedBytes + Drop, H: PlacedFiles + Drop, W: PutWatch>(
+pub fn put_image<'a, 'w, S: WatchedBytes + Drop, H: PlacedFiles + Drop, W: Watch>(
     alloc: Global,
     image: WatchedRange<S>,
     len: u64,
@@ -203,7 +204,7 @@ pub fn put_image<'a, 'w, S: WatchedBytes + Drop, H: PlacedFiles + Drop, W: PutWa
 /// Puts the sources on the volume of an image in a file, opened by this path, and returns what the file is to hold. The bytes of
 /// forks are read while it is written, and reported to a watch. Faults: those of [`put_on`]. Out of memory
 /// if the forks don't lie in the file, or the image's range isn't as long as it was: no source of bytes lets that happen.
-pub fn put_sources<'a, 'w, S: WatchedBytes + Drop, T: HostTree + Drop, W: PutWatch>(
+pub fn put_sources<'a, 'w, S: WatchedBytes + Drop, T: HostTree + Drop, W: Watch>(
     alloc: Global,
     image: WatchedRange<S>,
     sum_at: Option<u64>,
@@ -236,7 +237,7 @@ pub fn put_sources<'a, 'w, S: WatchedBytes + Drop, T: HostTree + Drop, W: PutWat
 }
 
 /// The fault for a file that was not written: why the sources couldn't be read or had changed, if so; otherwise the given fault.
-pub fn unsaved<'a, S: WatchedBytes + Drop, H: PlacedFiles + Drop, W: PutWatch>(
+pub fn unsaved<'a, S: WatchedBytes + Drop, H: PlacedFiles + Drop, W: Watch>(
     alloc: Global,
     contents: ImageInFile<LaidFile<'_, S, H, W>>,
     fault: Fault<'a>,

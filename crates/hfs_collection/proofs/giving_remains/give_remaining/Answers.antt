@@ -39,7 +39,7 @@ returns-in_err-more-clause-part g c =
     let items = c.args.items.now in
     let start = g.T.RowTaker.given c.args.taker.now in
     let new = g.T.RowTaker.given c.give_remaining_item.new.taker in
-    let part : OfEach (g.S.PlacedBlocks.Holds c.give_remaining_item.new.source) (λ image. IsBeginning new (start ++ remains_rows_from c.args.taken (image_of c.args.found.now image) 0 items)) =
+    let part : OfEach (g.S.BlockSource.Holds c.give_remaining_item.new.source) (λ image. IsBeginning new (start ++ remains_rows_from c.args.taken (image_of c.args.found.now image) 0 items)) =
     λ image h. remains_part c.args.taken (image_of c.args.found.now image) items (start ++ remains_rows_from c.args.taken (image_of c.args.found.now image) 0 items) c.loop-i.i
     (g.T.RowTaker.given c.loop-i.taker) new (c.loop-i.invariant.rows image (c.in_err-more.ensures.narrows image h)) c.in_err-more.ensures.part in
     on_err _ _ part

@@ -26,7 +26,7 @@ returns-in_err-counts-in-Some-clause-part g c =
     let refused = c.args.image.now in
     let start = g.T.RowTaker.given c.args.taker.now in
     let new = g.T.RowTaker.given c.give_found.new.taker in
-    let part : OfEach (g.S.PlacedBlocks.Holds c.give_found.new.source) (λ bytes. IsBeginning new (start ++ rows_by_directory c.args.taken c.args.place.now refused.why (found_directory bytes) bytes)) =
+    let part : OfEach (g.S.PlacedBlocks.Holds c.give_found.new.source.blocks) (λ bytes. IsBeginning new (start ++ rows_by_directory c.args.taken c.args.place.now refused.why (found_directory bytes) bytes)) =
     λ image h.
     let old = c.in_err-counts-in-Some.ensures.narrows image h in
     let long = c.requires.long image old in

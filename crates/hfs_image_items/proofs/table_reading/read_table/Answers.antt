@@ -2,7 +2,8 @@
 use Rattle.std.proofs.Common.{Bool, List, ℕ, ◌++◌, sym, ap, subst, ◌∙◌}
 use Rattle.hfs_table.specs.Lines.{bag_head}
 use Rattle.hfs_image_items.specs.Items.{rows_text}
-use Rattle.hfs_image_items.specs.Reading.{ReadsOn, table_rest}
+use Rattle.hfs_bag.specs.Forks.{ReadsOn}
+use Rattle.hfs_image_items.specs.Reading.{table_rest}
 use Rattle.hfs_image_items.proofs.TableLemmas.{head_read}
 use Rattle.hfs_image_items.proofs.table_reading.read_table.Goals as goal
 

@@ -1,7 +1,6 @@
 -- what was written and what is left to read make the fork, of each image that has the bytes which were read
-use Rattle.std.proofs.Common.{◌≡◌, [], false, length}
+use Rattle.std.proofs.Common.{◌≡◌, false}
 use Rattle.hfs_source.specs.Images.{OfEach}
-use Rattle.hfs_rescue_items.specs.Reading.{fork_rest}
 use Rattle.hfs_rescue_items.proofs.WritingLemmas.{GoesOnOf}
 use Rattle.hfs_rescue_items.proofs.fork_writing.write_fork.Given as goal
 
@@ -13,4 +12,4 @@ invariant-loop-piece g l = record {
 }
 
 abbrev pub decreases-loop-piece : goal.decreases-loop-piece
-decreases-loop-piece g l = length (fork_rest [] l.reading)
+decreases-loop-piece g l = l.reading.left

@@ -1,5 +1,5 @@
 -- What is begun are the bytes of the fork that is found.
-use Rattle.std.proofs.Common.{subst}
+use Rattle.std.proofs.Common.{true, subst}
 use Rattle.hfs_rescue_items.specs.Bytes.{GivesBytes}
 use Rattle.hfs_rescue_items.specs.Sources.{part_bytes}
 use Rattle.hfs_rescue_items.proofs.SourceLemmas.{fork_begun, none_begun}
@@ -13,4 +13,4 @@ returns-in_ok-reading-in-Some c image =
 pub returns-in-None : goal.returns-in-None
 returns-in-None c image =
     let bytes = part_bytes image c.args.found.now c.args.kind c.args.planned in
-    none_begun image c.args.found.now bytes _ (subst (GivesBytes image c.args.found.now bytes) c.in-None.is (c.in-Ok.ensures image)) (c.empty_fork.ensures image)
+    none_begun image c.args.found.now bytes _ (subst (GivesBytes image c.args.found.now bytes) c.in-None.is (c.in-Ok.ensures image)) (c.empty.ensures.rest true image)

@@ -1,6 +1,6 @@
 -- A part more came.
-use Rattle.std.proofs.Common.{rules, ◌≡◌, arith, min, refl}
-use Rattle.hfs_rescue_items.specs.Bytes.{pieces_bytes}
+use Rattle.std.proofs.Common.{true, rules, ◌≡◌, arith, min, refl}
+use Rattle.hfs_bag.specs.Forks.{pieces_bytes}
 use Rattle.hfs_rescue_items.proofs.PieceLemmas.{part_more, parts_whole}
 use Rattle.hfs_rescue_items.proofs.pieces.push_run.Goals as goal
 
@@ -11,4 +11,4 @@ loop-left-preserved c image =
 
 pub returns : goal.returns
 returns c image =
-    parts_whole image _ (pieces_bytes image c.loop-left.pieces.items) c.loop-left.next c.loop-left.left (c.loop-left.invariant image) (omega (arith, c.loop-left-test.false))
+    parts_whole image _ (pieces_bytes true image c.loop-left.pieces.items) c.loop-left.next c.loop-left.left (c.loop-left.invariant image) (omega (arith, c.loop-left-test.false))

@@ -19,11 +19,11 @@ use Rattle.hfs_take.proofs.ToldLemmas.{tells_of}
 use Rattle.hfs_take.proofs.giving.give_items.Goals as goal
 
 pub returns-in_err-identifier-clause-part : goal.returns-in_err-identifier-clause-part
-returns-in_err-identifier-clause-part g c = each_err _ (HoldsBoth g.S.PlacedBlocks.Holds c.args.items.now.image c.args.beside.now)
+returns-in_err-identifier-clause-part g c = each_err _ (HoldsBoth g.S.PlacedBlocks.Holds c.args.watched.now.items.source.image c.args.beside.now)
     (λ image h. nothing_given image (text_in c.args.line) c.args.words.now (g.T.Shelf.given c.args.shelf.now))
 
 pub returns-in_err-first-clause-part : goal.returns-in_err-first-clause-part
-returns-in_err-first-clause-part g c = each_err _ (HoldsBoth g.S.PlacedBlocks.Holds c.give_first.new.items.image c.give_first.new.beside)
+returns-in_err-first-clause-part g c = each_err _ (HoldsBoth g.S.PlacedBlocks.Holds c.give_first.new.items.items.source.image c.give_first.new.beside)
     (λ image h. payload_part image (text_in c.args.line) c.args.words.now (g.T.Shelf.given c.args.shelf.now) (g.T.Shelf.given c.give_first.new.shelf)
     (c.in_err-first.ensures.part image h.0))
 
@@ -32,10 +32,10 @@ give_tag_files-requires g c = λ image h.
     subst (λ (all : List BagItem). IsPayloadOf c.in_ok-first.first.0 all) (sym (c.in_ok-first.ensures.kept image h).all) (c.in_ok-first.ensures.told image h)
 
 pub returns-in_err-sums-clause-part : goal.returns-in_err-sums-clause-part
-returns-in_err-sums-clause-part g c = each_err _ (HoldsBoth g.S.PlacedBlocks.Holds c.give_tag_files.new.source.image c.give_first.new.beside) (λ image h.
-    let items = c.args.items.now in
+returns-in_err-sums-clause-part g c = each_err _ (HoldsBoth g.S.PlacedBlocks.Holds c.give_tag_files.new.source.items.source.image c.give_first.new.beside) (λ image h.
+    let items = c.args.watched.now.items in
     let told = c.args.told in
-    let after = c.give_first.new.items in
+    let after = c.give_first.new.items.items in
     let before = g.T.Shelf.given c.args.shelf.now in
     let first = g.T.Shelf.given c.give_first.new.shelf in
     let now = g.T.Shelf.given c.give_tag_files.new.shelf in
@@ -61,8 +61,8 @@ returns-in_err-sums-clause-part g c = each_err _ (HoldsBoth g.S.PlacedBlocks.Hol
 
 pub returns-clause-whole : goal.returns-clause-whole
 returns-clause-whole g c = λ image h.
-    let items = c.args.items.now in
-    let after = c.give_first.new.items in
+    let items = c.args.watched.now.items in
+    let after = c.give_first.new.items.items in
     let before = g.T.Shelf.given c.args.shelf.now in
     let first = g.T.Shelf.given c.give_first.new.shelf in
     let now = g.T.Shelf.given c.give_tag_files.new.shelf in
@@ -92,7 +92,7 @@ returns-clause-sums g c = λ image h.
 
 pub returns-in_err-sums-clause-fault : goal.returns-in_err-sums-clause-fault
 returns-in_err-sums-clause-fault g c =
-    let Holds = g.S.PlacedBlocks.Holds c.give_tag_files.new.source.image in
+    let Holds = g.S.PlacedBlocks.Holds c.give_tag_files.new.source.items.source.image in
     let Shelf = g.T.Shelf.Fails (g.T.Shelf.place c.give_first.new.shelf) in
     let passed = any-source _ Shelf ⊥ c.in_err-sums.field-0.0 c.in_err-sums.ensures.fault in
     let fault : IsFillFault Shelf Holds c.in_err-sums.field-0.0 = larger (λ _. ⊤) Shelf c.in_err-sums.field-0.0 (λ never. absurd never) passed in
