@@ -1,15 +1,15 @@
 #!/usr/bin/env python3
 """How long hfs_collect takes, and how much memory.
 
-measure/collection_times.py floppies [COUNT]   so many floppies of 800 KB with 60 files each, 100 where none are named: hfs_collect, and its
-                                               word `rows`, beside `items` and sha256sum of each image and of each fork of its files
-measure/collection_times.py processes [COUNT]  as many floppies, 400 where none are named: `rows` by four processes beside one, five
-                                               times in turn, and the middle one is told
-measure/collection_times.py items [COUNT]      one volume of so many items, 60,000 where none are named: time and memory
-measure/collection_times.py rows [COUNT]       a database of so many rows, 1,000,000 where none are named: hfs_collect --compare of
-                                               one image beside sqlite3's PRAGMA quick_check
+measure/collection_times.py floppies [COUNT]   so many floppies of 800 KB with 60 files each, 100 if none are named: hfs_collect, and its
+                                               word `rows`, compared with `items` and sha256sum of each image and of each fork of its files
+measure/collection_times.py processes [COUNT]  as many floppies, 400 if none are named: `rows` by four processes compared with one, five
+                                               times in turn, and the middle one is printed
+measure/collection_times.py items [COUNT]      one volume of so many items, 60,000 if none are named: time and memory
+measure/collection_times.py rows [COUNT]       a database of so many rows, 1,000,000 if none are named: hfs_collect --compare of
+                                               one image compared with sqlite3's PRAGMA quick_check
 
-Each runs three times, and the best is told. Every other floppy is a copy of
+Each runs three times, and the best is printed. Every other floppy is a copy of
 tests/volumes/hfsutils-800k.img, and those between have 57 empty files; sha256sum gets files of 4,000
 bytes in place of forks.
 """

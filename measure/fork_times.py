@@ -5,7 +5,7 @@ of 65,536 bytes, also with a viewer, and of a fork of 500 MB without a byte. Eac
 measure/fork_times.py          runs $HFS_TOOL, or the program as it is built in crates/hfs_tool/out
 measure/fork_times.py counts   by callgrind of valgrind: how many instructions a call takes, without its line and its answer, as the difference of two
                                runs of so many calls and of twice as many; also on forks in many extents, and of Creates. HFS_TOOL names a program
-                               built with --without-tests (scripts/unproved_program.py), which has the names that callgrind wants
+                               built with --without-tests (scripts/unproved_program.py), which has the names that callgrind needs
 """
 import os
 import re

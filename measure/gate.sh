@@ -4,7 +4,7 @@
 # kept; and the scripts, side by side. It prints the processor time of each part, in minutes and, where measure/unit.sh's seconds
 # are given, in that unit; then that of each crate. Nothing else should run on the machine.
 #
-# measure/gate.sh [UNIT [REPOSITORY]], as in: measure/gate.sh 95.2. The repository is this one where none is named.
+# measure/gate.sh [UNIT [REPOSITORY]], as in: measure/gate.sh 95.2. The repository is this one if none is named.
 # What `rt` says goes to gate.log in the folder that it is called in, and what wrong bodies and scripts say to gate-scripts.log.
 set -euo pipefail
 root=$(cd "$(dirname "$0")/.." && pwd)

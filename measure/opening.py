@@ -1,7 +1,7 @@
 #!/usr/bin/env python3
 """How long `hfs_collect` takes to open a database, and what of it goes by the rules of its tables: databases of N items
 by Python's sqlite3, with the tables of a collection, and the same rows in tables without some of the rules (which the
-program refuses once it has opened the file). A line for each: its bytes, seconds of processor time, and memory; beside
+program refuses once it has opened the file). A line for each: its bytes, seconds of processor time, and memory; next to
 them what sqlite3 takes for its own checks.
 
 measure/opening.py [--rows N]..    runs $HFS_COLLECT, or the program as it is built

@@ -1,6 +1,6 @@
 #!/usr/bin/env python3
-"""Runs `rt ci` from nothing in a repository and tells how much processor time each part of it took (measure/gate.sh says more).
-Kits whose `rt ci` keeps what it passed are told `--anew`; the others know no such word, and begin from nothing each time.
+"""Runs `rt ci` from nothing in a repository and prints how much processor time each part of it took (measure/gate.sh says more).
+Kits whose `rt ci` keeps what it passed are given `--anew`; the others know no such word, and begin from nothing each time.
 
 Each command that rt starts is one task: which part it belongs to is read off its words and its folder, and its time, with that of
 all that it starts, off /proc, four times a second; so of a command's last quarter of a second some may be missing, and the line

@@ -1,13 +1,13 @@
 #!/usr/bin/env python3
 """How long `put` and `make` take, on a RAM disk, and their most memory.
 
-measure/putting_times.py files         5,800 files of 20 MB in 200 folders, beside `cp -a` of these files and of the image, and `hcopy -r` folder by folder;
-                                       a disk made of them, beside `cp -a` of them
-measure/putting_times.py fork [MB]     a file of 500 MB, or of so many, beside `cp` of it
-measure/putting_times.py small [MB]    a small file on a volume of 2,000 MB, or of so many, without holes, beside one Create by `run --out`
+measure/putting_times.py files [BYTES] 5,800 files of 3,500 bytes, or of so many, in 200 folders, compared with `cp -a` of these and of the image of 24 MB, and
+                                       `hcopy -r` folder by folder; a disk made of them, compared with `cp -a` of them
+measure/putting_times.py fork [MB]     a file of 500 MB, or of so many, compared with `cp` of it
+measure/putting_times.py small [MB]    a small file on a volume of 2,000 MB, or of so many, without holes, compared with one Create by `run --out`
 measure/putting_times.py many [N]      100,000 empty files, or so many, in folders of 100, put and made: processor time and memory
 
-Each runs seven times, a large one three times, in turns; the least time is told, by the clock and of the processor.
+Each runs seven times, a large one three times, in turns; the least time is printed, by the clock and of the processor.
 """
 import os
 import resource
@@ -75,13 +75,13 @@ def make(source: Path, out: Path, *words):
     return lambda: do(TOOL, 'make', out, source, *words)
 
 
-def files(folder: Path) -> None:
+def files(folder: Path, size: int) -> None:
     image, bag, tree, empty, out, copied, peer = (folder / it for it in ('many.img', 'bag', 'tree', 'empty.img', 'out', 'copied', 'peer.img'))
     do('sh', ROOT / 'measure' / 'make_volume.sh', image)
     do(TOOL, 'take', image, bag, '--no-digest')
     os.rename(bag / 'data', tree)
-    for path in tree.rglob('._*'):
-        path.unlink()
+    for path in [it for it in tree.rglob('*') if it.is_file()]:
+        path.unlink() if path.name.startswith('._') else path.write_bytes(os.urandom(size))
     do(TOOL, 'new', empty, 'Empty', 49_152, 6000, 40)
     names = sorted(it.name for it in tree.iterdir())
 
@@ -150,7 +150,7 @@ def main() -> None:
         os.environ['HOME'] = name
         match words.get(1):
             case 'files':
-                files(folder)
+                files(folder, int(words.get(2, 3500)))
             case 'fork':
                 fork(folder, int(words.get(2, 500)))
             case 'small':

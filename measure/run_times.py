@@ -6,7 +6,7 @@ measure/run_times.py calls [IMAGE]   SetFInfo, Create, Delete and CatMove by a w
 measure/run_times.py rows [IMAGE]    look-ups, lists and children by place, by a viewer and by a
                                      worker; without IMAGE on one of 60,000 items
 measure/run_times.py shared          calls of 1, 2, 4 and 8 workers; lists of 1, 2, 4 and 8 viewers,
-                                     alone and beside a worker that writes
+                                     alone and next to a worker that writes
 
 A script is run some times, and one without its lines as often: the middle of the first less the
 middle of the second, and the best less the best, for each call. So it has what a call costs with its

@@ -1,5 +1,5 @@
 #!/usr/bin/env bash
-# Measures the program on sound volumes that are old or hostile, beside plain ones of as many items and bytes, and fails where
+# Measures the program on sound volumes that are old or hostile, compared with plain ones of as many items and bytes, and fails if
 # it takes more than three times as long. It is run by hand, and no part of the gate.
 #
 # measure/slow.sh [time]

@@ -1,10 +1,10 @@
 #!/usr/bin/env python3
 """How long `take` takes, on a RAM disk, of volumes that hfsutils fills.
 
-measure/taking_times.py files         5,800 small files in 200 folders on 20 MB, beside `cp -a` of the bag and `hcopy -r` folder by folder
-measure/taking_times.py fork [MB]     a fork of 500 MB, or of so many, beside `dd` of it and then sha256sum of what was written
+measure/taking_times.py files         5,800 small files in 200 folders on 20 MB, compared with `cp -a` of the bag and `hcopy -r` folder by folder
+measure/taking_times.py fork [MB]     a fork of 500 MB, or of so many, compared with `dd` of it and then sha256sum of what was written
 
-Each runs seven times, the fork's three times, in turns; the least time is told, with the seconds in
+Each runs seven times, the fork's three times, in turns; the least time is printed, with the seconds in
 the program and in the system of that run.
 """
 import os

@@ -1,7 +1,7 @@
 #!/usr/bin/env bash
-# Measures the program beside hfsutils, and beside fsck.hfs where it is installed, on volumes of 6,000 items and of 400: the time of one
+# Compares the program with hfsutils, and with fsck.hfs if it is installed, on volumes of 6,000 items and of 400: the time of one
 # run in milliseconds, the best of some runs, the ratio of ours to theirs, and the most memory. The program reads and checks both trees before
-# it tells anything, so its times grow with the trees, and hfsutils gives each a 128th of a volume.
+# it prints anything, so its times grow with the trees, and hfsutils gives each a 128th of a volume.
 #
 # measure/times.sh [lists]        with `lists` also every folder of the smaller volumes, by one run and by a run for each
 . "$(dirname "$0")/../tests/beside.sh"

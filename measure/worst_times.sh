@@ -1,6 +1,6 @@
 #!/usr/bin/env bash
-# Measures `check` on the inputs of 64 MB that are known to give it most to do, sound ones and damaged ones, beside a sound volume of as many
-# bytes with 60,000 items, and fails where it takes more than 20 times as long. It is run by hand, takes some minutes, and is no part of the gate.
+# Measures `check` on the inputs of 64 MB that are known to give it most to do, sound ones and damaged ones, compared with a sound volume of as many
+# bytes with 60,000 items, and fails if it takes more than 20 times as long. It is run by hand, takes some minutes, and is no part of the gate.
 #
 # What is compared is the least processor time of five runs.
 set -euo pipefail

@@ -4,7 +4,7 @@
 # is taken as it is, as `rt run` takes it. At the end crates/CRATE/out/CRATE is there, and with --both what Rattle's own compiler
 # makes of the same proof, crates/CRATE/out/CRATE.by-rattle; the last line says how long it took.
 #
-# scripts/build.sh [--both] [CRATE..]; the programs are hfs_tool and hfs_collect where none is named. RT_JOBS says how many are proved side by side.
+# scripts/build.sh [--both] [CRATE..]; the programs are hfs_tool and hfs_collect if none is named. RT_JOBS says how many are proved side by side.
 set -euo pipefail
 cd "$(dirname "$0")/.."
 both=()

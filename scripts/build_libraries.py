@@ -2,7 +2,7 @@
 """Builds the libraries of these crates, and all below them, as `rt` keeps them, so that `rt` and `scripts/check_one.sh` take
 them: up to LANES at once, each with JOBS jobs; with --below those below them alone. `rt lib` does the same one after the other.
 As `rt` does, it takes from other checkouts on this machine what was built there of the same text. Each library's sources are
-summed once, so nothing may be edited meanwhile. It stands on names of the kit's own scripts (rt and rtlib), which may change.
+summed once, so nothing may be edited meanwhile. It uses names of the kit's own scripts (rt and rtlib), which may change.
 
 scripts/build_libraries.py [--below] LANES JOBS CRATE.. , as in: scripts/build_libraries.py 2 3 hfs_shared hfs_commands
 """

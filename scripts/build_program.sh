@@ -1,7 +1,7 @@
 #!/usr/bin/env bash
 # Proves a program over its libraries as `rt` keeps them, and builds it as `rt ci` does: by LLVM as out/CRATE and, with --both, by
-# Rattle's own compiler as out/CRATE.by-rattle. It trusts what was kept, as `rt run` does, so it is no verdict: `rt ci` is.
-# The libraries must have been built: scripts/build.sh builds them first, and is what to run where one doesn't know.
+# Rattle's own compiler as out/CRATE.by-rattle. It trusts what was kept, as `rt run` does, so only `rt ci` is a verdict.
+# The libraries must have been built: scripts/build.sh builds them first, and is what to run if in doubt.
 #
 # scripts/build_program.sh [--both] CRATE, as in: scripts/build_program.sh hfs_tool, or hfs_collect
 set -euo pipefail

@@ -1,7 +1,7 @@
 #!/usr/bin/env bash
-# Checks one crate over its libraries as `rt` keeps them, and asks nothing else: `rt check` first sums all sources below the crate, once for each way
-# that crates.txt leads to them, which takes minutes near the top. It trusts the libraries' kept work, so it serves while a proof is written and
-# is no verdict. The libraries must have been built (scripts/build_libraries.py, or `rt check` in a crate above), and must not have changed since.
+# Checks one crate over its libraries as `rt` keeps them, and nothing else: `rt check` first sums all sources below the crate, once for each way
+# that crates.txt leads to them, which takes minutes near the top. It trusts the libraries' kept work, so it is for the time while a proof is written,
+# and no verdict. The libraries must have been built (scripts/build_libraries.py, or `rt check` in a crate above), and must not have changed since.
 #
 # scripts/check_one.sh CRATE [WORDS OF rattle check], as in: scripts/check_one.sh hfs_shared --only hfs_shared::desk::Desk::apply --allow-holes
 set -euo pipefail

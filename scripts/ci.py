@@ -7,7 +7,7 @@ that passed on this machine isn't done again while all that it is made from is t
 and each library below it, sources and built form. What is kept lies in ${XDG_CACHE_HOME:-$HOME/.cache}/foyersage/proved by hard
 links, two results of each proof at most; nothing is kept where that folder can't be written or 15 GB aren't free. Programs and tests
 run each time. --anew takes nothing from there. A proof that many others wait for runs with several jobs: the chain of crates is long,
-and with a job each most processors stand idle at its end. It stands on names of the kit's own scripts (rt and rtlib), which may change.
+and with a job each most processors are idle at its end. It uses names of the kit's own scripts (rt and rtlib), which may change.
 
 scripts/ci.py [--anew]
 """

@@ -1,5 +1,5 @@
 #!/usr/bin/env bash
-# Prints how many checks fit side by side on this machine: one for each processor, and one for each 4 GB of free memory
+# Prints how many checks fit on this machine at once: one for each processor, and one for each 4 GB of free memory
 # (a check takes one processor and at most 3 GB; where there are 3 GB or less, it is one). RT_JOBS, if it is set, is printed as it is.
 set -euo pipefail
 if [ -n "${RT_JOBS:-}" ]; then

@@ -1,5 +1,5 @@
 #!/usr/bin/env python3
-"""Prints the layers of the program's crates, the top first: a crate stands only on crates in rows below its own.
+"""Prints the layers of the program's crates, the top first: a crate uses only crates in rows below its own.
 
 scripts/layers.py prints them; scripts/layers.py --check compares them with the picture in docs/ARCHITECTURE.md,
 scripts/layers.py --write puts them there.

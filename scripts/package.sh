@@ -3,7 +3,7 @@
 # pages, the licence, what is new, the README and the documents for users, and completion files for bash. It needs the C library and nothing else. Made
 # twice of the same programs it has the same bytes: its dates are SOURCE_DATE_EPOCH, or else the day of the newest release that CHANGELOG.md has a day of.
 #
-# scripts/package.sh [FOLDER], which is this one where none is named; prints the package's path.
+# scripts/package.sh [FOLDER], which is this one if none is named; prints the package's path.
 set -euo pipefail
 root=$(cd "$(dirname "$0")/.." && pwd)
 into=$(cd "${1:-.}" && pwd)

@@ -1,5 +1,5 @@
 #!/usr/bin/env python3
-"""Prints how long the proofs of a crate took: its dearest functions, and the dearest parts of their proofs. It goes by the times at which the check wrote what
+"""Prints how long the proofs of a crate took: its most expensive functions, and the most expensive parts of their proofs. It goes by the times at which the check wrote what
 it keeps, so the check must have been one from nothing and with one job: remove crates/CRATE/out/incremental, then `RT_JOBS=1 scripts/check_one.sh CRATE`.
 
 scripts/proof_times.py CRATE [ROWS], as in: scripts/proof_times.py hfs_model_tests 20

@@ -1,12 +1,12 @@
 #!/usr/bin/env bash
 # Makes what is given to users of a release: the Debian package (scripts/package.sh); an archive with what the package installs, for systems that
 # don't take packages; and the SHA-256 sums of both. The programs are those that HFS_TOOL and HFS_COLLECT name, or those of this checkout, which are
-# proved and built first (scripts/build.sh) where they aren't there or a source is newer. A program that isn't proved makes no release.
+# proved and built first (scripts/build.sh) if they are missing or a source is newer. No release is made of a program that isn't proved.
 #
 # Made twice of the same programs the files have the same bytes: their dates are SOURCE_DATE_EPOCH, or else the day of the newest release that
 # CHANGELOG.md has a day of.
 #
-# scripts/release.sh [FOLDER], which is this one where none is named; prints the paths of the three files.
+# scripts/release.sh [FOLDER], which is this one if none is named; prints the paths of the three files.
 set -euo pipefail
 into=$(cd "${1:-.}" && pwd)
 . "$(dirname "$0")/../tests/common.sh"

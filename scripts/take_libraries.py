@@ -1,11 +1,11 @@
 #!/usr/bin/env python3
 """Takes the libraries that a run of `rt ci`, ended or still going on, has proved in another checkout of this machine: those whose
 sources, and all of whose libraries' sources, are the same here. They are taken by hard links, and get the mark by which `rt` and
-`scripts/check_one.sh` know them. It serves while proofs are written; `rt ci` trusts none of it. It may be called again and again
-while that run goes on. It stands on names of the kit's own scripts (rt and rtlib), which may change.
+`scripts/check_one.sh` know them. It is for the time while proofs are written; `rt ci` trusts none of it. It may be called again and again
+while that run goes on. It uses names of the kit's own scripts (rt and rtlib), which may change.
 
 scripts/take_libraries.py CHECKOUT [LOG], as in: scripts/take_libraries.py ../base ../gate.log
-LOG is what that run prints; where it isn't given, each library that lies there is taken for whole.
+LOG is what that run prints; without it, each library that is there is taken as complete.
 """
 import filecmp
 import functools

@@ -1,9 +1,9 @@
 #!/usr/bin/env python3
-"""A reader of bags by RFC 8493 alone, and by nothing else of this repository.
+"""A reader of bags, written from RFC 8493 alone.
 
-tests/bags.py FOLDER      wants that FOLDER is a whole bag of version 1.0 whose manifests are of SHA-256
+tests/bags.py FOLDER      checks that FOLDER is a whole bag of version 1.0 whose manifests are of SHA-256
 
-It prints how many files the payload has, and their bytes; where something is wrong it says what, and
+It prints how many files the payload has, and their bytes; if something is wrong it says what, and
 ends with status 1.
 """
 import hashlib

@@ -1,4 +1,4 @@
-# What the scripts beside hfsutils begin with: the program, hfsutils, and a folder that goes away at the end. Nothing is
+# How scripts that compare with hfsutils begin: the program, hfsutils, and a folder that is removed at the end. Nothing is
 # installed here: hfsutils is Debian's package of that name.
 . "$(dirname "$0")/common.sh"
 volumes=$PWD/tests/volumes

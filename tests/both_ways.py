@@ -1,7 +1,7 @@
 #!/usr/bin/env python3
-"""Wants of `check`, `ls`, `cat` and `repair` that they tell, and write, the same of an image by its path, of which they read what they need, and out of a
+"""Tests that `check`, `ls`, `cat` and `repair` print and write the same of an image by its path, of which they read what they need, and from a
 pipe, which they load whole: of real volumes and of volumes with a cut catalog, as they are, cut, made longer, with numbers that lead beyond their ends, and with damaged
-node maps. Where only nodes that no map marks hold other bytes, it wants that nothing else is told.
+node maps. If only nodes that no map marks have other bytes, the same must be printed.
 
 python3 both_ways.py TOOL VOLUMES        VOLUMES has real volumes, as *.img
 """

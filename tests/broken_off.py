@@ -1,7 +1,7 @@
 #!/usr/bin/env python3
 """Reads that fail while `cat` writes: a library that is loaded before the C library refuses each
-read of one block of an image. The fork of the image's one file has four blocks that lie apart, so
-each is read by itself. Before the first byte the fault stands in the fork's place; behind it what
+read of one block of an image. The fork of the image's one file has four blocks that are apart, so
+each is read by itself. Before the first byte the fault is printed instead of the fork; after it what
 was read stays, nothing follows it, and the fault goes to standard error.
 
 tests/broken_off.py      runs $HFS_TOOL, or the program as it is built in crates/hfs_tool/out

@@ -1,7 +1,7 @@
 #!/usr/bin/env python3
 """Runs the lists of calls of tests/volumes/lists, whose answers and bytes were written by hand. Each is made twice on its volume:
-with as few runs of the programs as it allows, and with the image saved, checked and mounted again behind each call; by hfs_tool as
-each compiler builds it, and by hfs_plain. The calls that read behind the last change are asked by a viewer too. What it prints last is
+with as few runs of the programs as it allows, and with the image saved, checked and mounted again after each call; by hfs_tool as
+each compiler builds it, and by hfs_plain. The calls that read after the last change are asked by a viewer too. At the end it prints
 how many there were, or the first that differs.
 
 tests/call_lists.py [--kept FOLDER] [FILE..]      runs all files, or these; what differs is kept in FOLDER
@@ -12,17 +12,17 @@ A line begins with a word, and an empty line says nothing:
     volume BLOCKS NODES [MORE]   begins a list, on a new volume D with so many blocks and catalog nodes, and two extents nodes, or so many
     volume NAME                  the same, on the volume of tests/volumes/small
     lay BLOCK PLACE DIGITS       lays bytes into the image, from that place of the block on
-    longer                       lays the bytes 0 to 99 behind the image
+    longer                       lays the bytes 0 to 99 after the image
     now MOMENT                   the moment of the calls that follow; at first it is 0
     call WORD FIELDS             a call, as a script has it
-    gives TEXT                   a line of its answer: the code and the value, or what stands in the lines behind these
+    gives TEXT                   a line of its answer: the code and the value, or what the following lines have
     changed COUNT                so many blocks differ from the image before the calls
     blocks NUMBER..              the blocks of these numbers differ from the image before the calls, and no others
     check TEXT                   what `check` prints, with a bar and spaces between its lines
     bytes PLACE DIGITS           the image's bytes from that place on
-    kept PLACE OLD COUNT         so many bytes are what stood at OLD before the calls
-    expect BLOCK PLACE DIGITS    as lay, for the image that is wanted
-    exact                        the image is the one that is wanted
+    kept PLACE OLD COUNT         so many bytes are those that were at OLD before the calls
+    expect BLOCK PLACE DIGITS    as lay, for the expected image
+    exact                        the image is the expected one
 """
 import argparse
 import gzip

@@ -1,8 +1,8 @@
 #!/usr/bin/env python3
-"""Makes drawn lists of calls on volumes, by hfs_tool as each compiler builds it and by hfs_plain: on new volumes with catalogs of
+"""Makes random lists of calls on volumes, by hfs_tool as each compiler builds it and by hfs_plain: on new volumes with catalogs of
 few nodes, some of them locked, and on volumes of other programs. Each code of each call is answered then. And 200 folders, each in
-the one before it, are moved about likewise. The image is saved and mounted again after every few calls. What it prints last is how
-many calls there were, or the first that is answered otherwise.
+the one before it, are moved about in the same way. The image is saved and mounted again after every few calls. At the end it prints how
+many calls there were, or the first that is answered differently.
 
 tests/call_runs.py [--lists N] [--calls N] [--seed WORD] [--kept FOLDER]
 """

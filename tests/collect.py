@@ -1,18 +1,18 @@
 #!/usr/bin/env python3
-"""Collections in one database, as hfs_collect makes them, against other programs: sqlite3 reads each
-database (its own check of the file, keys, the tables' text), and each row stands beside what
-`items`, `volumes`, `info`, `ls` and `cat` tell of the image and hashlib sums of it; of a refused
-volume beside what `rescue` lists and the bag that it writes, for each damage of tests/damaged.sh and
-tests/volumes/images.txt, and beside rows by hand. Then databases
+"""Collections in one database, as hfs_collect makes them, compared with other programs: sqlite3 reads each
+database (its own check of the file, keys, the tables' text), and each row is compared with what
+`items`, `volumes`, `info`, `ls` and `cat` print of the image and with sums by hashlib; of a refused
+volume with what `rescue` lists and the bag that it writes, for each damage of tests/damaged.sh and
+tests/volumes/images.txt, and with rows by hand. Then databases
 that sqlite3 made, with the same tables, other tables and more tables; databases that are damaged,
 locked, read-only or no databases; devices that are full; images that can't be read, also in the
 middle, that are the database itself, that have two paths or odd names; memory that is refused; runs
-that are killed at moments by chance; comparisons; and many images in one run.
+that are killed at random moments; comparisons; and many images in one run.
 
 tests/collect.py [--images N] [--kills N] [--seed N]    runs $HFS_COLLECT and $HFS_TOOL, or the programs as they are built
 
 It prints what was compared; at a difference it says which and ends with status 1. What needs root, a
-C compiler or the program sqlite3 is left out where there is none, and told.
+C compiler or the program sqlite3 is left out where it is missing, and named.
 """
 import argparse
 import csv

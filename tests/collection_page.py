@@ -1,8 +1,8 @@
 #!/usr/bin/env python3
-"""The page that `hfs_collect page` prints of a collection, read by Python's html.parser as tests/page.py reads pages, beside what
-sqlite3 tells of the same database, and beside lines by hand: each volume's line once, in the order of paths and numbers, with
-its image, name, files, damaged ones, free space, dates and verdict; the 1,000 digests that lie on most volumes, counted here in
-Python from all forks; links below a URL; names, paths and verdicts that are made of markup; values that are no texts, or no
+"""The page that `hfs_collect page` prints of a collection, read by Python's html.parser as tests/page.py reads pages, compared with what
+sqlite3 prints of the same database, and with lines by hand: each volume's line once, in the order of paths and numbers, with
+its image, name, files, damaged ones, free space, dates and verdict; the 1,000 digests that are on the most volumes, counted here in
+Python from all forks; links below a URL; names, paths and verdicts that are made of markup; values that aren't texts, or aren't
 UTF-8; the database stays byte for byte as it was. Databases are those that `hfs_collect` makes of tests/volumes, and some that
 Python's sqlite3 fills. A line of a volume has at most 600 bytes.
 

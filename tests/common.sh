@@ -1,5 +1,5 @@
 #!/usr/bin/env bash
-# What the scripts beside this file and in measure/ share. It goes to the top of the repository, and has the programs:
+# What the scripts in this folder and in measure/ share. It goes to the top of the repository, and has the programs:
 #
 #     . "$(dirname "$0")/common.sh"
 #     tool=$(program hfs_tool)

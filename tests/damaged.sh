@@ -1,7 +1,7 @@
 #!/usr/bin/env bash
 # What our program and others make of damaged volumes: a floppy with a few bytes of its catalog changed. Prints for each
-# damage what `check` tells, how `hls -laR` of hfsutils ends ('ends with N', by which signal, or 'runs on' after five
-# seconds), and what fsck.hfs says where it is installed.
+# damage what `check` prints, how `hls -laR` of hfsutils ends ('ends with N', by which signal, or 'runs on' after five
+# seconds), and what fsck.hfs says, if it is installed.
 . "$(dirname "$0")/beside.sh"
 catalog=$((16 * 512)) # where the floppy's catalog begins
 

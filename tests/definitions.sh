@@ -1,5 +1,5 @@
 #!/usr/bin/env bash
-# Prints, from the files themselves, where each definition stands and which wrong bodies the prover refuses: for each crate
+# Prints, from the files themselves, where each definition is and which wrong bodies the prover refuses: for each crate
 # (or those that are named) the files of its specs/ with what each is about, and the edits of its wrong-bodies/, which
 # tests/wrong_bodies.py tries, with the text that each changes.
 set -euo pipefail

@@ -1,8 +1,8 @@
 #!/usr/bin/env python3
 """Devices that fail, and devices that give and take a byte at a time; and which blocks of an image
-are read. A library that is loaded before the C library stands before each read and write of
-hfs_tool, and writes down what is read. All that is wanted is written by hand: the blocks of the
-small volumes are those of volumes/images.txt. What it prints is how many runs that were.
+are read. A library that is loaded before the C library comes before each read and write of
+hfs_tool, and writes down what is read. All that is expected is written by hand: the blocks of the
+small volumes are those of volumes/images.txt. It prints how many runs there were.
 
 tests/devices.py      runs $HFS_TOOL, or the program as it is built in crates/hfs_tool/out
 """

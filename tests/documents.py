@@ -1,15 +1,15 @@
 #!/usr/bin/env python3
-"""Looks whether the documents say what is there, and prints each place where they don't:
+"""Tests whether the documents say what is there, and prints each place where they don't:
 
 - each crate of the program has a README, and one row in docs/CRATES.md, which has no other; the picture in docs/ARCHITECTURE.md is what crates.txt
   says;
-- each word of the house that stands in a contract's definitions has its entry in the glossary;
+- each word of this project that is in a contract's definitions has its entry in the glossary;
 - each file that the documents name is there, and each heading that a link leads to; a page that begins with a list of its headings lists all of them;
 - each row of docs/PROMISES.md names a contract that is there: a function, a method of its type, a type, a law or a clause, of a crate that its section
   names; each clause is one of a contract that the row names; and all its other names are there, too: types of any crate and their methods, definitions
   of specs/ and their fields;
 - so is each test that a row of it names;
-- no line of README.md, CONTRIBUTING.md, docs/ and tests/README.md is longer than 100 columns, but for the rows of tables;
+- no line of README.md, CONTRIBUTING.md, docs/ and tests/README.md is longer than 100 columns, except the rows of tables;
 - README.md, docs/ARCHITECTURE.md and docs/TIMES.md stay short.
 """
 import collections

@@ -1,11 +1,11 @@
 #!/usr/bin/env python3
-"""What tests/encodings.sh compares with, laid here from the layouts, by none of the project's code.
+"""What tests/encodings.sh compares with, made here from the layouts, without any of the project's code.
 
 python3 encodings.py volume FILE      a volume of 1 MB with one file, `f`, which is locked and has both forks and Finder bytes
 python3 encodings.py bare FILE        the same with a data fork alone, and zeros in place of Finder bytes and dates
 python3 encodings.py macbinary FILE   the MacBinary file of `f`
 python3 encodings.py double FILE      the AppleDouble file of `f`
-python3 encodings.py same A B         wants that two MacBinary files differ at most in location, folder, lock and check
+python3 encodings.py same A B         checks that two MacBinary files differ at most in location, folder, lock and check
 """
 import struct
 import sys

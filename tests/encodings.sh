@@ -1,5 +1,5 @@
 #!/usr/bin/env bash
-# Takes files off whole: what `cat --macbinary` writes of a small volume, by its path and out of a pipe, byte for byte; what it refuses; and then,
+# Takes files off whole: what `cat --macbinary` writes of a small volume, by its path and from a pipe, byte for byte; what it refuses; and then,
 # each where it is installed, the same files by other programs: hfsutils writes the same and reads ours, macunpack and unar take ours apart, and
 # unar and lsar know the AppleDouble file of such a file. Prints 'encodings agree', with the number of commands and the
 # programs that were skipped, or what differs, status 1.

@@ -1,13 +1,13 @@
 #!/usr/bin/env python3
 """The rows of `hfs_collect rows` in engines that exist: the statements of the manual's chapter "Many disks",
-as they stand there, on the images of tests/collect.py. PostgreSQL (a cluster of the test's own on a
-socket, by runuser -u postgres) loads JSON Lines and CSV, SQLite loads CSV; what each then has stands beside
-the database that `collect` makes of the same images, row by row, and so does the answer to each question.
-Then several runs side by side by `xargs -P`, and images that aren't whole.
+as they are there, on the images of tests/collect.py. PostgreSQL (a cluster of the test's own on a
+socket, by runuser -u postgres) loads JSON Lines and CSV, SQLite loads CSV; what each then has is compared with
+the database that `collect` makes of the same images, row by row, and so is the answer to each question.
+Then several runs at once by `xargs -P`, and images that aren't whole.
 
 tests/engines.py [--rows N]     runs $HFS_COLLECT and $HFS_TOOL, or the programs as they are built
 
-It stands beside the gate: where there is no server, or no sqlite3, it says `skipped`. --rows N also loads a
+It is no part of the gate: where there is no server, or no sqlite3, it says `skipped`. --rows N also loads a
 table of N items into PostgreSQL, and prints how long that takes.
 """
 import argparse

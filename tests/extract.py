@@ -1,8 +1,8 @@
 #!/usr/bin/env python3
-"""Wants of `extract` that the file it makes has the bytes of the volume, each once and in order, or isn't there: volumes wrapped in
-each way, by their numbers and without, by paths and out of pipes; no volume, several, ranges that hold none; names that are taken,
-folders without leave, devices that are full, reads that fail behind each piece, runs that are killed; what is read, and in which
-pieces; little memory. Where a volume lies is found by `volumes.py`, with none of the project's code.
+"""Tests that the file which `extract` makes has the bytes of the volume, each once and in order, or isn't there: volumes wrapped in
+each way, by their numbers and without, by paths and from pipes; no volume, several, ranges that hold none; names that are taken,
+folders without permission, devices that are full, reads that fail after each piece, runs that are killed; what is read, and in which
+pieces; little memory. Where a volume lies is found by `volumes.py`, without any of the project's code.
 
 tests/extract.py [--whole]      runs $HFS_TOOL, or the program as it is built in crates/hfs_tool/out; --whole writes 2 GB, too
 """

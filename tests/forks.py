@@ -1,9 +1,9 @@
 #!/usr/bin/env python3
-"""Calls that write forks, beside a second implementation of docs/CALLS.md in Python (driver/forks.py), which says of each call what it
-answers, and of the volume behind it which blocks each fork has, where its extents stand, and what each byte of each block is. Drawn lists
+"""Calls that write forks, next to a second implementation of docs/CALLS.md in Python (driver/forks.py), which says of each call what it
+answers, and of the volume after it which blocks each fork has, where its extents are, and what each byte of each block is. Random lists
 of calls on volumes with scattered free blocks that have bytes, with allocation blocks of one to four blocks, and with files that have more
-blocks than bytes: each call by itself, and all at once, by the image's path and out of a pipe. What is saved is checked; hfsutils, where it is
-there, copies each file off it with the same bytes, and fsck.hfs finds nothing that it didn't find before. Then floppies that hfsutils left full of
+blocks than bytes: each call by itself, and all at once, by the image's path and from a pipe. What is saved is checked; hfsutils, if it is
+installed, copies each file off it with the same bytes, and fsck.hfs finds nothing that it didn't find before. Then floppies that hfsutils left full of
 gaps, and goes on with; volumes of other programs; several workers at once; a floppy in pieces; and two forks in 60,000 extents.
 
 tests/forks.py [--lists N] [--calls N] [--seed WORD] [--kept FOLDER]

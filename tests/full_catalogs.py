@@ -2,8 +2,8 @@
 """Fills catalogs of 2 to 60 nodes with files and with folders until no node is left, and empties them again: at the end each has
 its free nodes again. Follows 300 files into a catalog and out of it again, five at a time. And makes a folder with as many children
 as a folder may have, which takes no more, in a catalog with eleven map nodes. And fills and empties one of two map nodes, as `new` makes
-it. By hfs_tool as each compiler builds it, beside
-hfs_plain; the image is saved and mounted again when it is full, and when it is empty. What it prints last is how many calls there
+it. By hfs_tool as each compiler builds it, next to
+hfs_plain; the image is saved and mounted again when it is full, and when it is empty. At the end it prints how many calls there
 were, or what differs.
 
 tests/full_catalogs.py [--most NODES] [--whole] [--kept FOLDER]

@@ -1,12 +1,12 @@
 #!/usr/bin/env bash
-# Changes real volumes in ways that know their format, and runs every word of the program on each, for as long as it is told. It stops at a signal, at a
-# status outside 0 to 5, where a word takes too long for the image's size, at an image that a word changed, and where the words do not agree
-# with one another, or not on an image by its path and on the same image out of a pipe. The same seed gives the same images in the same order.
+# Changes real volumes in ways that know their format, and runs every word of the program on each, for the given time. It stops at a signal, at a
+# status outside 0 to 5, if a word takes too long for the image's size, at an image that a word changed, and if the words do not agree
+# with one another, or not on an image by its path and on the same image from a pipe. The same seed gives the same images in the same order.
 #
 # tests/fuzz.sh SECONDS [SEED [FOLDER]]        tries images for so many seconds, made of those of the repository, or of the *.img of FOLDER
 # tests/fuzz.sh image N SEED [FOLDER]          tries the image N of that seed alone, and leaves it as fuzzed.img in the folder where it was called
 #
-# What it prints last is how many images it tried and how many words it ran, or what stopped it and the words that repeat that.
+# At the end it prints how many images it tried and how many words it ran, or what stopped it and the words that repeat that.
 kept=$PWD/fuzzed.img
 . "$(dirname "$0")/common.sh"
 command -v python3 > /dev/null || { echo skipped; exit 0; }

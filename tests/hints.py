@@ -1,9 +1,9 @@
 #!/usr/bin/env python3
-"""Runs words with standard error on a terminal, and compares what is told there with what a hand wrote; standard output is the same
-as without a terminal, and where standard error is a pipe nothing is told: images that are refused, files of each kind that is known
+"""Runs words with standard error on a terminal, and compares what is printed there with what was written by hand; standard output is the same
+as without a terminal, and if standard error is a pipe nothing is printed: images that are refused, files of each kind that is known
 by its bytes, files that can't be read, plans of new volumes that are refused, databases that can't be opened, images in which nothing
-is found. Then the line of progress within a large file and beside many items, what `ls` says of a path in the place of an ID, and the
-help that `hfs_tool` alone prints where standard input is a terminal.
+is found. Then the line of progress within a large file and of many items, what `ls` says of a path in the place of an ID, and the
+help that `hfs_tool` alone prints if standard input is a terminal.
 
 tests/hints.py      runs $HFS_TOOL and $HFS_COLLECT, or the programs as they are built in crates/*/out
 """
@@ -247,10 +247,11 @@ def refused_plans(folder):
     want(['new', path, 'a:b', '64'], 2, 'bad name\n', 'NAME has 1 to 27 printable characters, without colon and grave accent\n')
     want(['new', path, 'D', '7'], 2, 'bad size\n', 'BLOCKS are blocks of 512 bytes, from 8 to 4194304; SIZE is 64K to 2G in whole blocks\n')
     want(['new', path, 'D', '819200000'], 2, 'bad size\n', 'BLOCKS are blocks of 512 bytes, from 8 to 4194304; SIZE is 64K to 2G in whole blocks\n')
+    want(['make', path, path, '--name=D', '--size=1'], 2, 'bad size\n', 'BLOCKS are blocks of 512 bytes, from 8 to 4194304; SIZE is 64K to 2G in whole blocks\n')
     want(['new', path, 'D', '64', '1'], 2, 'bad node count\n', nodes)
     want(['new', path, 'D', '64', '6', '0'], 2, 'bad node count\n', nodes)
     want(['new', path, 'D', '8', '2', '1'], 2, 'no room\n', '')
-    return 6
+    return 7
 
 
 def databases(folder):

@@ -1,13 +1,13 @@
 #!/usr/bin/env python3
-"""Hostile volumes, by each build of hfs_tool beside hfs_plain.
+"""Hostile volumes, by each build of hfs_tool next to hfs_plain.
 
 tests/hostile.py [--values N] [--step N] [--whole] [--turn N] [--kept FOLDER]
 
 Tried are small volumes with each byte of what describes them set to other values, or cut to
-each length; a catalog as deep as may be; folders in a ring; index keys that are lower than they
+each length; a catalog as deep as one may be; folders in a ring; index keys that are lower than they
 need be, at each level; a file in 60,000 extents.
 
-Each word ends, by no signal and within its processor time; `check`, `ls`, `cat` and `run` tell the
+Each word ends, by no signal and within its processor time; `check`, `ls`, `cat` and `run` print the
 same fault; and where `check` says sound, each call of one script of all calls is answered as
 hfs_plain answers it, and what is saved then is sound.
 
@@ -16,7 +16,7 @@ on at each byte: in the turns 0 to 3 each byte gets each of them. Of bytes among
 mostly in nodes and blocks that nothing uses, each eighth is tried. Of the lengths those near each
 block are tried and each Nth one between. With --whole all bytes, values and lengths are.
 
-What it prints is how many images and calls that were. At a difference it ends with 1 and leaves
+It prints how many images and calls there were. At a difference it ends with 1 and leaves
 the image and the scripts of it.
 """
 import argparse

@@ -1,4 +1,4 @@
-"""Small volumes and hostile ones, laid from the layout of the format and by none of the project's code.
+"""Small volumes and hostile ones, made from the layout of the format and without any of the project's code.
 
 Each function gives the bytes of an image. All volumes are named D and were made at the moment 0.
 """

@@ -1,9 +1,9 @@
 #!/usr/bin/env python3
 """Runs the words of the program on small volumes with bytes laid over them, as volumes/images.txt
-says, and compares what they tell with what stands there. Each image is read by its path and out of
+says, and compares what they print with what it says. Each image is read by its path and from
 a pipe, a script without a line is run on it, and it is repaired: what is refused for another fault
 than a count stays as it was. `info` prints the heads of volumes/heads.txt. Then each byte of some
-blocks is changed, and an image is cut at many places, and `check` tells the same both ways; and
+blocks is changed, and an image is cut at many places, and `check` prints the same both ways; and
 viewers and workers read all of each volume, and are answered the same.
 
 tests/images.py      runs $HFS_TOOL, or the program as it is built in crates/hfs_tool/out

@@ -1,7 +1,7 @@
 #!/usr/bin/env python3
-"""Wants of `run` and `repair` with `--volume N` that FILE is IMAGE with the bytes of the volume replaced, and the sum of a disk copy made
-anew, and no other byte changed. What the volume is to be comes from the word on the volume alone, without `--volume`; what stands around it,
-and the sum, come from Python, with none of the project's code. By paths and out of pipes; what is refused, and in which order; a file of
+"""Tests that after `run` and `repair` with `--volume N` FILE is IMAGE with the bytes of the volume replaced, and the sum of a disk copy made
+anew, and no other byte changed. What the volume is to be is given by the word on the volume alone, without `--volume`; what is around it,
+and the sum, by Python, without any of the project's code. By paths and from pipes; what is refused, and in which order; a file of
 more than 4 GB.
 
 tests/inside.py      runs $HFS_TOOL, or the program as it is built in crates/hfs_tool/out

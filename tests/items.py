@@ -1,10 +1,10 @@
 #!/usr/bin/env python3
-"""The table of a volume's items, as `items` prints it, against rows by hand, the lists that libhfs
+"""The table of a volume's items, as `items` prints it, compared with rows by hand, the lists that libhfs
 made of volumes in tests/volumes, and what hfsutils lists of volumes that it and genisoimage make
 here. The CSV is read back by Python's csv, the JSON by its json and written again, line for line
-beside the rows with tabs. A volume of many items and one of folders deep in one another are filled
-by `run`. Each image is read by its path and out of a pipe; images that are refused are told as `ls`
-tells them.
+next to the rows with tabs. A volume of many items and one of deeply nested folders are filled
+by `run`. Each image is read by its path and from a pipe; images that are refused are reported as `ls`
+reports them.
 
 tests/items.py [--items N] [--deep N]      runs $HFS_TOOL, or the program as it is built in crates/hfs_tool/out
 

@@ -1,9 +1,9 @@
 #!/usr/bin/env python3
-"""Runs scripts of eight workers with 1,000 drawn calls each, which write forks, too, and of four viewers, by hfs_tool as each compiler builds it. Each worker
-works in a folder of its own, which viewers look into. Which worker comes first is not fixed, but the IDs of what they create tell in
+"""Runs scripts of eight workers with 1,000 random calls each, which write forks, too, and of four viewers, by hfs_tool as each compiler builds it. Each worker
+works in a folder of its own, which viewers look into. Which worker is first is not fixed, but the IDs of what they create show in
 which order they did; so all calls are put into an order that gives these IDs, in which hfs_plain must answer each as it was answered,
-and make the volume that was saved. Each viewer must be answered as after some of the calls, and after no fewer than before. What it
-prints last is how many calls there were, or what differs.
+and make the volume that was saved. Each viewer must be answered as after some of the calls, and after no fewer than before. At the end
+it prints how many calls there were, or what differs.
 
 tests/long_run.py [--calls N] [--views N] [--rounds N] [--seed WORD] [--kept FOLDER]
 """

@@ -1,15 +1,15 @@
 #!/usr/bin/env python3
-"""Wants of `make` what its rules say: the name, the size and the trees of the new volume, what comes into it, and what is told of what can't. The
-rules are told once more in Python, on those that tests/put.py has of what comes; FILE is to be the volume that `new` and the calls of `run` make by
-them. Names, sizes and the least sizes are by hand as well. Then the law of a disk that is taken apart: of disks of other programs, and of
-drawn ones (driver/filling.py), `take`, `make` and `take` give the same payload, and a table that differs in IDs and the root's row alone. What
-`rescue` takes off a disk whose names no sound one has comes back by `--rename`. hfsutils copies all off what was made; files of unar and hfsutils
-come in. FILE where it stands there, full disks, few open files, and runs that are killed: FILE is the old one or whole.
+"""Tests that `make` does what its rules say: the name, the size and the trees of the new volume, what is put on it, and what is printed of what can't be. The
+rules are written again in Python, over those that tests/put.py has of what is put; FILE is to be the volume that `new` and the calls of `run` make by
+them. Names, sizes and the least sizes are by hand as well. Then disks that are taken apart: of disks of other programs, and of
+random ones (driver/filling.py), `take`, `make` and `take` give the same payload, and a table that differs only in IDs and the root's row. What
+`rescue` takes off a disk with names that no sound one has is put on a disk by `--rename`. hfsutils copies all off what was made; files of unar and hfsutils
+are put on it. FILE where one exists, full disks, few open files, and runs that are killed: FILE is the old one or whole.
 
-tests/make.py [--folders N] [--disks N] [--bags N] [--seed WORD] [--large] [FOLDER..]      runs $HFS_TOOL, or the program as it is built in crates/hfs_tool/out
+tests/make.py [--folders N] [--disks N] [--damaged N] [--bags N] [--seed WORD] [--large] [FOLDER..]      runs $HFS_TOOL, or the program as it is built in crates/hfs_tool/out
 
 The images of FOLDERs are taken apart and made again, too. --large makes a volume of 2 GB, and one of 100,000 files. It prints how many volumes were
-made; at a difference it says which, and ends with status 1. What isn't installed is left out and named.
+made; at a difference it says which, and ends with status 1. What isn't installed is skipped and named.
 """
 import argparse
 import os
@@ -350,7 +350,8 @@ def of_what_comes(table: Table) -> None:
     lay('comes', {'.DS_Store': b'x', 'a': b'1', '._a': double(), 'sub': {'b': Dated(b'22', 5 * SECOND)}, '._sub': double(), '._alone': double()})
     lay('other', {'c': b'333'})
     lay('bagged', {'bagit.txt': b'', 'data': {'d': b'4444', 'e': {}}})
-    for sources, names in ((['comes'], ['a', 'alone', 'sub']), (['comes/'], ['a', 'alone', 'sub']), (['bagged'], ['d', 'e']), (['bagged/data'], ['d', 'e']),
+    lay('holder', {'bag': {'bagit.txt': b'', 'data': {'g': b'5'}}})
+    for sources, names in ((['comes'], ['a', 'alone', 'sub']), (['comes/'], ['a', 'alone', 'sub']), (['bagged'], ['d', 'e']), (['bagged/data'], ['d', 'e']), (['holder'], ['bag']),
                            (['comes', 'other'], ['comes', 'other']), (['comes/a'], ['a']), (['comes/a', 'bagged', 'other'], ['a', 'd', 'e', 'other']), (['comes/._alone'], ['alone'])):
         ensure(table.makes(f'{sources}', Making(sources, 'Disk')).status == 0, f'{sources}')
         ensure([it.split('\t')[4] for it in table.bench.text('ls', 'out').splitlines()] == names, f'what comes of {sources}')
@@ -557,9 +558,22 @@ def is_rescued(table: Table, image: Path) -> None:
         return
     asked = Making([str(bag)], 'Rescued', how=Options(rename=True))
     wanted = table.makes(f'{image.name}, rescued', asked)
-    ensure(wanted.status == 0, f'{image.name}, rescued: {wanted.text}')
-    placed = Placed.on(table.empty, asked.items, ROOT, False)
-    bench.ensure_forks(f'{image.name}, rescued', placed)
+    if wanted.status == 0:
+        bench.ensure_forks(f'{image.name}, rescued', Placed.on(table.empty, asked.items, ROOT, False))
+    else:
+        ensure(wanted.text.endswith(': two of one name\n'), f'{image.name}, rescued: {wanted.text}')
+
+
+def of_damaged_disks(table: Table, seed: str, count: int) -> None:
+    """Disks some blocks of which have other bytes, whole or cut off: what remains of each comes back by --rename."""
+    whole = (REAL_VOLUMES / 'hfsutils-800k.img').read_bytes()
+    for number in range(count):
+        draw, content = random.Random(f'{seed} damage {number}'), bytearray(whole)
+        for _ in range(draw.randint(1, 4)):
+            at = draw.randrange(60) * BLOCK
+            content[at:at + BLOCK] = draw.choice((bytes(BLOCK), draw.randbytes(BLOCK)))
+        Path('damaged.img').write_bytes(content[:draw.choice((len(content), 50_000))])
+        is_rescued(table, Path('damaged.img'))
 
 
 def of_drawn_disks(table: Table, seed: str, count: int) -> None:
@@ -746,6 +760,7 @@ def try_all(table: Table, given: argparse.Namespace) -> None:
     of_disks(table, [REAL_VOLUMES, *given.images])
     of_drawn_folders(table, given.seed, given.folders)
     of_drawn_disks(table, given.seed, given.disks)
+    of_damaged_disks(table, given.seed, given.damaged)
     of_changed_bags(table, given.seed, given.bags)
     if table.is_large:
         of_very_large(table)
@@ -755,6 +770,7 @@ def main() -> int:
     parser = argparse.ArgumentParser(description=__doc__, formatter_class=argparse.RawDescriptionHelpFormatter)
     parser.add_argument('--folders', type=int, default=20, help='how many drawn folders')
     parser.add_argument('--disks', type=int, default=25, help='how many drawn disks')
+    parser.add_argument('--damaged', type=int, default=6, help='how many disks with blocks damaged')
     parser.add_argument('--bags', type=int, default=30, help='how many bags with bytes changed')
     parser.add_argument('--seed', default='make')
     parser.add_argument('--large', action='store_true', help='also 2 GB, and 100,000 files')

@@ -1,6 +1,6 @@
 #!/usr/bin/env bash
 # Prints the man page of a program, made of what its own help says: tests/man_page.sh hfs_tool > docs/hfs_tool.1, and
-# tests/man_page.sh hfs_collect > docs/hfs_collect.1. Its lists of words, arguments and options are filled anew for the reader's width; all else stands
+# tests/man_page.sh hfs_collect > docs/hfs_collect.1. Its lists of words, arguments and options are filled anew for the reader's width; all else is
 # as its lines are in the help, which have at most 72 columns.
 . "$(dirname "$0")/common.sh"
 exec python3 - "$1" "$(program "$1")" << 'END'

@@ -1,7 +1,7 @@
 #!/usr/bin/env python3
-"""New volumes against bytes by hand, written from the format of a volume: small ones whole, and of others the bytes that tell their names,
+"""New volumes compared with bytes by hand, written from the format of a volume: small ones whole, and of others the bytes of their names,
 moments, sizes and trees. And plans that are refused, each for its first fault, and those at the edge of
-that which are taken.
+what is accepted.
 
 tests/new_volumes.py      runs $HFS_TOOL, or the program as it is built in crates/hfs_tool/out
 """

@@ -1,6 +1,6 @@
 #!/usr/bin/env bash
-# Makes a release of stand-ins, twice, and looks into it. Then makes the package, twice, lays it into a folder, and runs what was installed: the
-# programs, their man pages at 80 columns, and the completion of their words; lintian finds no error but the mail host, since the project has no
+# Makes a release of stand-ins, twice, and looks into it. Then makes the package, twice, unpacks it into a folder, and runs what was installed: the
+# programs, their man pages at 80 columns, and the completion of their words; lintian finds no error except the mail host, since the project has no
 # address. Prints 'the package agrees', or what differs and ends with status 1. Where dpkg-deb is missing it says that it was skipped.
 . "$(dirname "$0")/common.sh"
 command -v dpkg-deb > /dev/null || { echo 'the package: skipped, since dpkg-deb is missing'; exit 0; }

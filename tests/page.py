@@ -1,11 +1,11 @@
 #!/usr/bin/env python3
-"""Reads the pages that `page` prints by Python's html.parser, which here takes no markup that isn't whole, and compares what
-they say with what is read from the bytes of each image by none of the project's code: the list of what the volume is, the
+"""Reads the pages that `page` prints by Python's html.parser, which here refuses markup that isn't whole, and compares what
+they say with what is read from the bytes of each image without any of the project's code: the list of what the volume is, the
 class and the title of each cell of the picture, the extents of all files, and the items, which are those of `items` in their
 order, each with its ID. Volumes are those in
-tests/volumes, some of each part of a disk that are laid here, and some that are filled by `run`: one with every printable
-character in its names, one of folders deep in one another, and a large one, whose page has at most 480 bytes for an item
-beside its name. Each page is asked for by the image's path, out of a pipe, and as a volume in another file; images that
+tests/volumes, some with each part of a disk that are made here, and some that are filled by `run`: one with every printable
+character in its names, one of deeply nested folders, and a large one, whose page has at most 480 bytes for an item
+besides its name. Each page is asked for by the image's path, from a pipe, and as a volume in another file; images that
 are refused have a page of their own. Links lead to the files of the bag that `take` makes; digests are hashlib's.
 
 tests/page.py [--items N] [--kept FOLDER]      runs $HFS_TOOL, or the program as it is built in crates/hfs_tool/out

@@ -1,20 +1,21 @@
 #!/usr/bin/env python3
-"""Opens pages in headless Chromium, as a reader does, where Chromium is there; else it says so, and ends with status 0.
+"""Opens pages in headless Chromium, as a reader does, if Chromium is installed; otherwise it says so, and ends with status 0.
 
-Of pages that `page` prints it asks that they ask for nothing, aren't wider than the window at 1,280 and at 400 pixels, and do
+It tests that pages which `page` prints load nothing, aren't wider than the window at 1,280 and at 400 pixels, and do
 in the browser what the manual says: the search finds names, types and creators, and says how many; a click on a column's head
-sorts; a file that is chosen, by the mouse or by the keyboard, has its own squares marked; arrow keys tell what a square is; the
-tree stands beside the picture in a wide window and before it in a narrow one; a file whose name is a link is chosen beside it, or
-as the keyboard comes to it. Of the page of a collection of 10,000 volumes, by hfs_collect, the search finds lines by their texts,
+sorts; a file that is chosen, by the mouse or by the keyboard, has its own squares marked; arrow keys say what a square is; the
+tree is next to the picture in a wide window and before it in a narrow one; a file whose name is a link is chosen by the rest of its
+row, or as the keyboard gets to it. Of the page of a collection of 10,000 volumes, by hfs_collect, the search finds lines by their texts,
 and it is opened in at most a second. The page of a large volume is opened by the processor in at most 1.5 seconds, and searched and sorted
-in as many, or --slowness times as many. The colours are as legible as they are to be, by the formula
+in as many, or --slowness times as many. The colours must be legible enough, by the formula
 of the Web Content Accessibility Guidelines, in light and in dark.
 
 tests/page_looks.py [--items N] [--volumes N] [--kept FOLDER]      runs $HFS_TOOL and $HFS_COLLECT, or the programs as they are built
 tests/page_looks.py --kept FOLDER PAGE.. [--open]    looks at these pages, with all their folders open
+tests/page_looks.py --picture docs/page.png          makes the README's picture anew, of its own height, and looks at its page alone
 
 FOLDER gets pictures in light and in dark, NAME-WIDTH-SCHEME.png, and the accessibility tree, NAME.tree. It prints a line for
-each page, and ends with status 1 at the first thing that isn't as it is to be.
+each page, and ends with status 1 at the first thing that is wrong.
 """
 import argparse
 import base64
@@ -36,7 +37,7 @@ from page import VOLUMES, every_part
 from slow_volumes import Volume
 from slow_volumes import plain as plain_volume
 
-WIDTHS, HEIGHT = (400, 1_280), 1_400
+WIDTHS, HEIGHT, PICTURE_HEIGHT = (400, 1_280), 1_400, 880
 SCHEMES = ('light', 'dark')
 LIMIT, COLLECTION_LIMIT, PATIENCE = 1_500, 1_000, 300
 USES = [f'p{it}' for it in range(7)]
@@ -115,8 +116,8 @@ class Browser:
         measured = {it['name']: it['value'] for it in self.ask('Performance.getMetrics')['metrics']}
         return round(1000 * measured.get('ThreadTime', 0))
 
-    def resize(self, width, scheme='light'):
-        self.ask('Emulation.setDeviceMetricsOverride', width=width, height=HEIGHT, deviceScaleFactor=1, mobile=width < 500)
+    def resize(self, width, scheme='light', height=HEIGHT):
+        self.ask('Emulation.setDeviceMetricsOverride', width=width, height=height, deviceScaleFactor=1, mobile=width < 500)
         self.ask('Emulation.setEmulatedMedia', features=[{'name': 'prefers-color-scheme', 'value': scheme}])
 
     def picture(self):
@@ -366,10 +367,22 @@ def look_at_own(browser, folder, kept, items, volumes):
     read_collection(browser, folder, kept, volumes)
 
 
+def take_picture(browser, folder, picture):
+    """The picture that the README shows, of the disk of its examples, with all folders open."""
+    image, page = folder / 'm0.img', folder / 'm0.html'
+    shutil.copy(VOLUMES / 'hfsutils-800k.img', image)
+    page.write_bytes(told('page', image)[1])
+    look_at(browser, page, None, True)
+    browser.resize(WIDTHS[-1], height=PICTURE_HEIGHT)
+    browser.value(DRAWN)
+    picture.write_bytes(browser.picture())
+
+
 def main():
     parser = argparse.ArgumentParser(description=__doc__, formatter_class=argparse.RawDescriptionHelpFormatter)
     parser.add_argument('pages', nargs='*', type=Path)
     parser.add_argument('--kept', type=Path, help='a folder that gets pictures')
+    parser.add_argument('--picture', type=Path, help="a file that gets the README's picture of a page")
     parser.add_argument('--items', type=int, default=60_000, help='how many items the large volume has')
     parser.add_argument('--volumes', type=int, default=10_000, help='how many volumes the large collection has')
     parser.add_argument('--slowness', type=int, default=1, help='how many times as long a page may take as it does alone on a machine')
@@ -387,7 +400,9 @@ def main():
         try:
             for page in words.pages:
                 look_at(browser, page, words.kept, words.open)
-            if not words.pages:
+            if words.picture:
+                take_picture(browser, Path(home), words.picture)
+            elif not words.pages:
                 look_at_own(browser, Path(home), words.kept, words.items, words.volumes)
         except Difference as differs:
             print(f'a page is not as it is to be: {differs}')

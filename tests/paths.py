@@ -1,8 +1,8 @@
 #!/usr/bin/env python3
-"""Items by their paths: `ls` and `cat` with `--path` on a volume by hand and on the volumes in
+"""Items by their paths: `ls` and `cat` with `--path` on a volume made by hand and on the volumes in
 tests/volumes, for each item that their table lists. What a path leads to is printed as by the
-item's IDs and name, by its path and out of a pipe; paths that lead nowhere, through a file or from
-another volume's name are refused by the codes that a hand wrote.
+item's IDs and name, by its path and from a pipe; paths that lead nowhere, through a file or from
+another volume's name are refused by the codes that were written by hand.
 
 tests/paths.py      runs $HFS_TOOL, or the program as it is built in crates/hfs_tool/out
 """

@@ -1,7 +1,7 @@
 #!/usr/bin/env bash
 # Compares the program with hfsutils, another program that reads and writes HFS volumes, both ways: what hfsutils wrote
 # is listed and read by ours, and what ours wrote is mounted, listed and filled by hfsutils. Prints 'peers agree', or
-# 'skipped' where hfsutils is not installed, or what differs and ends with status 1.
+# 'skipped' if hfsutils is not installed, or what differs and ends with status 1.
 . "$(dirname "$0")/beside.sh"
 command -v python3 > /dev/null || { echo 'skipped: python3 is not installed'; exit 0; }
 

@@ -1,6 +1,6 @@
 #!/usr/bin/env bash
 # Runs the program as its users do: what the README shows; each exit status with its text; and that nothing which reads
-# changes an image. Prints 'the program agrees', or what differs and ends with status 1. What it tells of volumes of other
+# changes an image. Prints 'the program agrees', or what differs and ends with status 1. What it prints of volumes of other
 # programs is compared by tests/real_volumes.py.
 . "$(dirname "$0")/common.sh"
 tool=$(program hfs_tool)

@@ -1,14 +1,14 @@
 #!/usr/bin/env python3
-"""Wants of `put` what its rules say: which items come of folders and files, under which names, with which facts and forks; what is told of those
-that can't; and that nothing is written then. The rules are told once more in Python (driver/sources.py, driver/putting.py), and what FILE is to be
-comes from the calls that they give, made by `run`. By hand on small trees and volumes, and of drawn trees on drawn volumes; volumes of other
-programs, and in other files; a disk taken apart and put together again. What comes is read back by `items`, `take` and `check`, and by hfsutils and
-fsck.hfs where they are installed; AppleDouble and MacBinary files of hfsutils and unar come in. Then sources that change or can't be read while
+"""Tests that `put` does what its rules say: which items folders and files make, under which names, with which facts and forks; what is printed of those
+that can't be put; and that nothing is written then. The rules are written again in Python (driver/sources.py, driver/putting.py), and what FILE is to be
+is what `run` makes by the calls that they give. By hand on small trees and volumes, and of random trees on random volumes; volumes of other
+programs, and in other files; a disk taken apart and put together again. What was put is read back by `items`, `take` and `check`, and by hfsutils and
+fsck.hfs if these are installed; AppleDouble and MacBinary files of hfsutils and unar are put. Then sources that change or can't be read while
 they are written, full disks, few open files, and runs that are killed: FILE is the old one or whole.
 
 tests/put.py [--lists N] [--seed WORD] [--large]      runs $HFS_TOOL, or the program as it is built in crates/hfs_tool/out
 
-It prints how many runs there were; at a difference it says which, and ends with status 1. What isn't installed is left out and named.
+It prints how many runs there were; at a difference it says which, and ends with status 1. What isn't installed is skipped and named.
 """
 import argparse
 import csv
@@ -299,7 +299,8 @@ GOOD_DOUBLES = {
     'dates behind the last': apple_double((DATES, b'\x7f\xff\xff\xff' * 4)),
     'half of the dates': apple_double((DATES, bytes(15))),
     'a type alone': apple_double((FINDER, b'TEXT')),
-    'parts the other way': apple_double((RESOURCE, b'RES'), (FINDER, FINDER_BYTES), laid=[1, 0]),
+    # as vfs_fruit of Samba 4.17 laid it
+    'of Samba': apple_double((RESOURCE, b'RES'), (FINDER, FINDER_BYTES), filler=b'Netatalk        ', laid=[1, 0]),
     'parts that are there twice': apple_double((FINDER, FINDER_BYTES), (FINDER, bytes(32)), (RESOURCE, b'1'), (RESOURCE, b'22')),
     'no parts': apple_double(),
     'a resource fork alone': apple_double((RESOURCE, b'R' * 70_000)),
@@ -883,7 +884,7 @@ def of_depth(bench: Bench, depth: int) -> None:
 
 
 def of_very_many(bench: Bench, count: int = 100_000) -> None:
-    """A hundred thousand files in folders of a hundred."""
+    """A hundred thousand files in folders of a hundred; and a folder with more than it can have."""
     for number in range(0, count, 100):
         lay(f'crowd {number // 100:04}', {f'file {it:06}': b'x' * (it % 50 == 0) for it in range(number, number + 100)})
     folders = sorted(map(str, Path().glob('crowd *')))
@@ -898,6 +899,12 @@ def of_very_many(bench: Bench, count: int = 100_000) -> None:
     ensure((report['files'], report['folders'], f'free {report["free"]}') == (str(count), str(count // 100), told[4]), f'{count} files: {report}')
     paths = sorted(it.split('\t')[0].replace(':', '/') for it in bench.text('items', bench.out).splitlines()[1:])
     ensure(paths == sorted(f'D/{it}' for folder in folders for it in (folder, *map(str, Path(folder).iterdir()))), f'the paths of {count} files')
+    # a folder has 65,535 items at most
+    lay('overfull', {f'{it:05}': b'' for it in range(65_536)})
+    image = bench.image.read_bytes()
+    ensure(bench.put(image, ['overfull'], Options()) == (3, 'cannot put overfull/65535: code -33\n') and not bench.out.exists(), 'a folder of 65,536 files')
+    os.unlink('overfull/65535')
+    ensure(bench.put(image, ['overfull'], Options())[1].startswith('put\nfiles 65535\nfolders 1\nbytes 0\n'), 'a folder of 65,535 files')
 
 
 def try_all(bench: Bench, given: argparse.Namespace) -> None:

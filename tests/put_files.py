@@ -1,11 +1,11 @@
 #!/usr/bin/env python3
-"""What `put` does about files and devices: sources that change, go or can't be read while FILE is written, full disks, few open files, runs that are
-killed, output that nobody takes, memory, and what is told at a terminal. FILE is the old one or whole, and nothing is left beside it. A library
+"""What `put`, and partly `make`, does about files and devices: sources that change, vanish or can't be read while FILE is written, full disks, few open files, runs that are
+killed, output that nobody takes, memory, and what is printed at a terminal. FILE is the old one or whole, and nothing is left next to it. A library
 that is loaded before the C library changes the sources; it needs a C compiler.
 
 tests/put_files.py      runs $HFS_TOOL, or the program as it is built in crates/hfs_tool/out
 
-It prints how many runs there were; at a difference it says which, and ends with status 1. What can't be tried here is left out and named.
+It prints how many runs there were; at a difference it says which, and ends with status 1. What can't be tried here is skipped and named.
 """
 import os
 import re
@@ -150,11 +150,11 @@ class Files:
         ensure(found == (4, text, '') and not self.is_old_or_whole(what), f'{what}: {found}')
 
 
-def changed(files: Files, source: str, how: str, **when) -> tuple[int, str, str]:
+def changed(files: Files, source: str, how: str, words=None, **when) -> tuple[int, str, str]:
     """A run beside which a source is changed in this way; the tree is as it was then."""
     shutil.copytree('files', 'kept', symlinks=True, copy_function=shutil.copy2)
     os.mkdir('elsewhere')
-    found = files.run(env={**os.environ, 'LD_PRELOAD': str(Path('changes.so').resolve()), 'SOURCE': source, 'CHANGE': how, 'ELSEWHERE': 'elsewhere/it', **when})
+    found = files.run(words, env={**os.environ, 'LD_PRELOAD': str(Path('changes.so').resolve()), 'SOURCE': source, 'CHANGE': how, 'ELSEWHERE': 'elsewhere/it', **when})
     for folder in ('files', 'elsewhere'):
         shutil.rmtree(folder)
     os.rename('kept', 'files')
@@ -180,6 +180,25 @@ def of_changes(files: Files) -> None:
             is_whole = files.is_old_or_whole(what)
             ensure(found == (4, f'cannot read {source}\n', '') and not is_whole or (looks, found[0]) == ('2', 0) and is_whole, f'{what}: {found}')
     ensure(files.run()[0] == 0 and files.is_old_or_whole('the same tree'), 'the tree is as it was')
+
+
+def of_made(files: Files) -> None:
+    """The same of `make`, at the beginning and in the middle; and reads that fail."""
+    words, put = ['make', files.bench.out, 'files', '--now', NOW, '--macbinary'], files.saved
+    ensure(files.run(words)[0] == 0, 'make of the tree')
+    files.saved = files.bench.out.read_bytes()
+    for how in ('cut', 'longer', 'gone', 'touched'):
+        for name in ('large', '._large', 'binary', 'sub/last'):
+            for when in ({}, {'WRITES': '2'}):
+                what, source = f'make: {name}, {how} {when}', f'files/{name}'
+                found = changed(files, source, how, words, **when)
+                ensure(found == (4, f'cannot read {source}\n', '') and not files.is_old_or_whole(what), f'{what}: {found}')
+    for reads in (0, 1, 2):
+        how = {**os.environ, 'LD_PRELOAD': str(library('reads', devices.LIBRARY)), 'IMAGE': str(os.stat('files/large').st_ino), 'READS': str(reads)}
+        found = files.run(words, env=how)
+        is_whole = files.is_old_or_whole(f'make: large behind {reads} reads')
+        ensure(found == (4, 'cannot read files/large\n', '') and not is_whole or reads and found[0] == 0 and is_whole, f'make: large behind {reads} reads: {found}')
+    files.saved = put
 
 
 def of_reads(files: Files) -> None:
@@ -310,8 +329,8 @@ def of_terminals(files: Files) -> None:
 def try_all(bench: Bench) -> None:
     files = Files(bench)
     if shutil.which('cc'):
-        of_changes(files)
-        of_reads(files)
+        for part in (of_changes, of_made, of_reads):
+            part(files)
     else:
         bench.skipped.append('sources that change, and reads that fail')
     for part in (of_permissions, of_full_disks, of_few_files, of_kills, of_memory, of_terminals):

@@ -1,17 +1,16 @@
 #!/usr/bin/env python3
-"""Calls that change, on three volumes of other programs, by each build of hfs_tool beside hfs_plain.
+"""Calls that change, on three volumes of other programs, by each build of hfs_tool next to hfs_plain.
 
-tests/real_changes.py [--kept FOLDER]                    tries all that is told below
+tests/real_changes.py [--kept FOLDER]                    tries all that follows
 tests/real_changes.py leave set|unlock|story IMAGE OUT   writes the image that some calls leave
 
 All items are dated and given Finder bytes, all files locked and unlocked; all files are deleted, in
-five orders, and what is left is compared, and then the folders; a story of items that are made, renamed, moved, given IDs and deleted is
-told; the catalog is filled up to -34 and emptied again; viewers read beside a worker that changes,
+five orders, and what is left is compared, and then the folders; a story of items that are made, renamed, moved, given IDs and deleted; the catalog is filled up to -34 and emptied again; viewers read next to a worker that changes,
 and each of their answers is that of the volume at some moment, none before that of an earlier
 answer. Where a volume is locked by hardware, and where its catalog has no room for a folder, nothing
-is changed. Behind each list of calls the volume is saved and mounted again, the definitions hold the
+is changed. After each list of calls the volume is saved and mounted again, the definitions hold the
 same items, and each byte that calls keep is as it was (tests/driver). What each call is to be
-answered stands here. What it prints is what it counted. At a difference it ends with 1 and leaves
+answered is written here. It prints what it counted. At a difference it ends with 1 and leaves
 the files of it.
 """
 import argparse

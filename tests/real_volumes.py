@@ -1,5 +1,5 @@
 #!/usr/bin/env python3
-"""What is told of five volumes that other programs made, against what those others tell.
+"""What is printed of five volumes that other programs made, compared with what those programs print.
 
 tests/real_volumes.py [--kept FOLDER]
 
@@ -8,13 +8,13 @@ line for each item, folder by folder from the root on. It is `d` for a folder, `
 for a locked one, the ID, the parent, the valence or the length of the data fork, the length of the
 resource fork, the check sums of both forks, type and creator, the moments of creation, change and
 backup in Unix time, and the name, with tabs between. A folder has `-` for what only a file has, and
-a backslash in a name stands as its code.
+a backslash in a name is written as its code.
 
 What is compared: the report of `check`; the bytes of each record and of each fork, read here by the
 layout of the format, with the lists; the answer to each call that reads, of each ID and each item,
 forks piece by piece to their ends, by each build of hfs_tool, by its viewers (whose answers are made
 of rows) and by hfs_plain, with those bytes; the lines of `ls` for each folder and the bytes of `cat`
-for each fork. What it prints is how many of all that there were. At a difference it ends with 1 and
+for each fork. It prints how many of each there were. At a difference it ends with 1 and
 leaves the image and the script of it.
 """
 import argparse

@@ -1,14 +1,14 @@
 #!/usr/bin/env python3
 """Refuses each allocation of hfs_tool in turn, counting upwards until a run meets no refusal, by a
-library that stands before malloc (tests/refused_memory.sh makes it, and calls this). The calls of
-volumes/refused.txt are run by an image's path, and out of a pipe with a viewer beside them, who
+library that comes before malloc (tests/refused_memory.sh makes it, and calls this). The calls of
+volumes/refused.txt are run by an image's path, and from a pipe with a viewer next to them, who
 reads what they read; then a script with two workers and a viewer, whose answers are known by hand;
 new volumes, reports, lists, forks, repairs, volumes that are changed where they lie and that are extracted, and what is put, both ways, and made.
 
-Where the program tells want of memory, nothing else was printed, nothing was written, and no file
-lies beside; else it prints and writes what it does without a refusal; or a caller's lines from one
+If the program reports a lack of memory, nothing else was printed, nothing was written, and no file
+is left; otherwise it prints and writes what it does without a refusal; or a caller's lines from one
 on are unanswered, and what is written is, byte for byte, what the worker's first calls leave. It
-prints how many allocations were refused, or what was met otherwise.
+prints how many allocations were refused, or what was wrong.
 
 python3 refused_calls.py TOOL LIBRARY
 """

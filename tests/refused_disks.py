@@ -1,7 +1,7 @@
 #!/usr/bin/env python3
-"""What `items`, `page`, `ls --path` and `cat --path` print of images that are refused, beside the model of what `rescue` finds in tests/remains,
+"""What `items`, `page`, `ls --path` and `cat --path` print of images that are refused, compared with the model of what `rescue` finds in tests/remains,
 which shares no line with the program: the table in its three formats, the rows of folders, both forks of files by their paths, the
-page with each item once and what is said of its forks, the status, and behind them the image's fault on standard error; by the image's path and out of a pipe. Of an image in which nothing is found,
+page with each item once and what is said of its forks, the status, and after them the image's fault on standard error; by the image's path and from a pipe. Of an image in which nothing is found,
 the refusal alone. The images are those of tests/rescue.py, of which some have their rows by hand there, and volumes inside other files.
 And what the other words answer of a refused image.
 

@@ -1,9 +1,9 @@
 #!/usr/bin/env bash
-# Refuses each allocation in turn, by a library of a few lines of C that stands before malloc, counting upwards until a run meets no refusal. Of
+# Refuses each allocation in turn, by a library of a few lines of C that comes before malloc, counting upwards until a run meets no refusal. Of
 # hfs_refused_memory, for each line of its stdin by itself: what it then prints must be the line of its stdout. Where the refusal meets
-# what is laid before, the program ends there with status 1, out of memory. And of hfs_tool, of which tests/refused_calls.py says what it
-# runs, and what is to be met. Prints how many allocations were refused, or which one was met otherwise and ends with status 1. Where
-# there is no C compiler it fails, and prints 'skipped' only where $SKIP_REFUSED_MEMORY says yes.
+# what is prepared before, the program ends there with status 1, out of memory. And of hfs_tool, of which tests/refused_calls.py says what it
+# runs, and what is to be met. Prints how many allocations were refused, or which one was met differently and ends with status 1. If
+# there is no C compiler it fails, and prints 'skipped' only if $SKIP_REFUSED_MEMORY says yes.
 #
 # tests/refused_memory.sh [PROGRAM..], both if none is named
 set -euo pipefail

@@ -1,5 +1,5 @@
 """What the page of a refused image is to say of what remains of it, by the model of tests/remains, and what it says. A script of tests/
-takes it in: it runs nothing."""
+imports it: it runs nothing."""
 from collections import Counter
 
 from driver.wanted import ensure, ensure_same

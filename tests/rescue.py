@@ -1,17 +1,17 @@
 #!/usr/bin/env python3
-"""What `rescue` brings off damaged images, beside a model of its rules in tests/remains, which shares no line with the program:
-for each image the status, the lines printed, and each folder and file of the bag with its bytes, by the image's path and out of a
-pipe, beside `--list`.
+"""What `rescue` takes off damaged images, compared with a model of its rules in tests/remains, which shares no line with the program:
+for each image the status, the lines printed, and each folder and file of the bag with its bytes, by the image's path and from a
+pipe, and with `--list`.
 
-The images: worked examples whose lines stand here as a hand wrote them; images for one rule each, with rows by hand; the damages
-of tests/damaged.sh, of tests/volumes/images.txt, of tests/hostile_images.py; the volumes in tests/volumes, sound (where the payload
+The images: worked examples whose lines are here, written by hand; images for one rule each, with rows by hand; the damages
+of tests/damaged.sh, of tests/volumes/images.txt, of tests/hostile_images.py; the volumes in tests/volumes, sound (when the payload
 is that of `take`) and inside other files; images that claim much more than they hold, within bounds of time and text; and images
-changed by chance. Also: folders that are there already, or can't be written, or have no room, words that are refused, and each step of
+changed at random. Also: folders that are there already, or can't be written, or have no room, words that are refused, and each step of
 writing and each reading that fails, which strace does. And the memory that large images take, by their paths.
 
 tests/rescue.py [--seconds N] [--seed N] [--large] [--all] [--only WORD]      runs $HFS_TOOL, or the program as it is built in crates/hfs_tool/out
 
-Images are changed by chance for N seconds. With --large the images that claim much are as large as they were made for, else
+Images are changed at random for N seconds. With --large the images that claim much are as large as they were made for, else
 small ones. It prints what it counted; at a difference it says which, leaves the image in rescue.kept, and ends with status 1.
 """
 import argparse

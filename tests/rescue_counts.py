@@ -1,16 +1,16 @@
 #!/usr/bin/env python3
-"""How many files come off damaged volumes, by `rescue` and by hcopy of hfsutils: ten damages of five volumes that hfsutils and
+"""How many files are taken off damaged volumes, by `rescue` and by hcopy of hfsutils: ten damages of five volumes that hfsutils and
 genisoimage made, three of tests/volumes and two that are made here.
 
 tests/rescue_counts.py [--model] [--each]      runs $HFS_TOOL, or the program as it is built in crates/hfs_tool/out
 
 For each damage a row: the files of the sound volumes; of those that `rescue` brings how many are right at their own paths (both
-forks, byte for byte), right elsewhere, told damaged, told whole with wrong bytes, and how many are gone; `others` are old files
+forks, byte for byte), right elsewhere, reported as damaged, reported as whole with wrong bytes, and how many are gone; `others` are old files
 that were deleted. Then how many hcopy copies right, how many with wrong bytes and status 0, how many not, and how often it runs on
 (more than two seconds), is ended by a signal, or refuses the whole volume. A block of the data that other bytes lie in can't be
-told by any program, since HFS has no sums of it.
-With --model the model in tests/remains stands in the program's place; with --each there is a row for each volume too. It wants
-hfsutils and genisoimage, takes minutes, and belongs to no gate.
+noticed by any program, since HFS has no sums of it.
+With --model the model in tests/remains runs in the program's place; with --each there is a row for each volume too. It needs
+hfsutils and genisoimage, takes minutes, and is part of no gate.
 """
 import argparse
 import os

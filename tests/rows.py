@@ -6,7 +6,7 @@ that can't be read, also in the middle; memory that is refused; runs that are ki
 tests/rows.py [--kills N] [--seed N] [--only PART]    runs $HFS_COLLECT and $HFS_TOOL, or the programs as they are built
 
 It prints what was compared; at a difference it says which and ends with status 1. What needs a C compiler
-is left out where there is none, and told.
+is left out if there is none, and named.
 """
 import argparse
 import json

@@ -1,8 +1,8 @@
 #!/usr/bin/env python3
-"""Wants of `run` that it answers, and writes, the same of an image by its path, of which it reads what it needs, and out of a pipe, which it loads whole.
-Of each real volume and of volumes laid here, among them one with forks in 60,000 extents: scripts of one worker, whose answers rest on no other, that read
-forks of each file in pieces, at its place and behind renames, moves and deletions, make what they deleted anew, and write forks; scripts of a viewer; and, many times
-over, a viewer beside a worker that deletes the file, who is answered the whole fork or -43. Of an image in a sparse file, that it stays sparse.
+"""Tests that `run` answers and writes the same of an image by its path, of which it reads what it needs, and from a pipe, which it loads whole.
+Of each real volume and of volumes made here, among them one with forks in 60,000 extents: scripts of one worker, whose answers depend on no other, that read
+forks of each file in pieces, at its place and after renames, moves and deletions, make what they deleted anew, and write forks; scripts of a viewer; and, many times
+over, a viewer next to a worker that deletes the file, who is answered the whole fork or -43. Of an image in a sparse file, that it stays sparse.
 
 python3 runs.py TOOL VOLUMES        VOLUMES has real volumes, as *.img
 """

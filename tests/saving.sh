@@ -1,8 +1,8 @@
 #!/usr/bin/env bash
 # Tries what the words that write a file leave of it: write protection, owner, group and mode,
 # second links, links, disks that are full, files that can't grow and runs that are killed in the
-# middle of the write; what is told of files that such runs left; and how paths are printed. Each is
-# tried by who runs this; where that is root, by a plain user as well. Prints 'files are left as
+# middle of the write; what is printed of files that such runs left; and how paths are printed. Each is
+# tried by who runs this; if that is root, by a plain user as well. Prints 'files are left as
 # their owner left them', or what differs and ends with status 1.
 . "$(dirname "$0")/common.sh"
 built=$(program hfs_tool)

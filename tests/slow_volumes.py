@@ -3,7 +3,7 @@
 
 python3 slow_volumes.py KIND COUNT MEGABYTES FILE
 
-All of it is laid here from the layout of the format, by none of the project's code. KIND is one of the names in KINDS.
+All of it is made here from the layout of the format, without any of the project's code. KIND is one of the names in KINDS.
 """
 import random
 import struct

@@ -1,9 +1,9 @@
 #!/usr/bin/env python3
-"""Looks at what is stated and where. Every item of specs/ is reached by a clause of the sources, since specs/ holds what a reader must
-believe and lemmas stand in proofs/. And a lemma of proofs/ should stand once.
+"""Tests what is stated and where. Every item of specs/ is reached by a clause of the sources, since specs/ holds what a reader must
+believe and lemmas are in proofs/. And a lemma of proofs/ should be there once.
 
-tests/statements.py [--twice]: prints each item that no clause reaches, with --twice also each lemma that stands in two files under one
-name with one statement, and last how many there are of each; its status is 1 where an item is not reached. It proves nothing and takes
+tests/statements.py [--twice]: prints each item that no clause reaches, with --twice also each lemma that is in two files under one
+name with one statement, and last how many there are of each; its status is 1 if an item is not reached. It proves nothing and takes
 seconds.
 """
 import collections

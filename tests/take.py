@@ -1,18 +1,18 @@
 #!/usr/bin/env python3
-"""Disks that are taken apart: what `take` writes, against rows by hand, sums that sha256sum checks,
+"""Disks that are taken apart: what `take` writes, compared with rows by hand, sums that sha256sum checks,
 a reader of bags that knows RFC 8493 alone (tests/bags.py), the lists that libhfs made of volumes in
 tests/volumes, the forks that hfsutils copies off volumes that it makes here, and unar, which reads
-the AppleDouble files. Host names are spelled here by the rules, by none of the project's code.
+the AppleDouble files. Host names are spelled here by the rules, without any of the project's code.
 
-Also: folders deep in one another, names of every character that a name may have, many items,
-volumes inside other files, images out of pipes; a folder that is there already, a link, a full disk,
-a folder without leave, reads that fail in the middle, output that nobody takes, and runs that are
-killed: the folder is a whole bag, or not there. And what a run tells at a terminal.
+Also: deeply nested folders, names of every character that a name may have, many items,
+volumes inside other files, images from pipes; a folder that is there already, a link, a full disk,
+a folder without permission, reads that fail in the middle, output that nobody takes, and runs that are
+killed: the folder is a whole bag, or not there. And what a run prints at a terminal.
 
 tests/take.py [--items N] [--kept FOLDER]      runs $HFS_TOOL, or the program as it is built in crates/hfs_tool/out
 
 It prints how many bags there were and what they held; at a difference it says which and ends with
-status 1. What isn't installed is left out and named.
+status 1. What isn't installed is skipped and named.
 """
 import argparse
 import csv

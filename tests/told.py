@@ -1,4 +1,4 @@
-"""What is to be answered of a volume, by the bytes of its image: the items as answers tell them, and each call that reads."""
+"""What is to be answered of a volume, by the bytes of its image: the items as answers have them, and each call that reads."""
 from dataclasses import dataclass
 from typing import Iterator
 

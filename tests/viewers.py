@@ -1,9 +1,9 @@
 #!/usr/bin/env python3
-"""Viewers beside a worker that makes worked lists of changes: on new volumes and on one with a file in four extents, names in their order,
-folders in one another, items that come, go, move, are set and locked, full catalogs, forks that are written, and 450 changes of 300 files.
+"""Viewers next to a worker that makes worked lists of changes: on new volumes and on one with a file in four extents, names in their order,
+nested folders, items that are made, deleted, moved, set and locked, full catalogs, forks that are written, and 450 changes of 300 files.
 For each list, and for each of its beginnings, a viewer asks every call that it may make, for the IDs and the names of the list, many times
-over. Each answer must be the volume's own behind some of the changes, and behind no fewer than the answer before; and the last ones must be those behind all
-of them. Where a viewer ended before the worker it is run again, and asks longer each time.
+over. Each answer must be that of the volume after some of the changes, and after no fewer than the answer before; and the last ones must be those after all
+of them. If a viewer ended before the worker it is run again, and asks longer each time.
 
 tests/viewers.py      runs $HFS_TOOL, or the program as it is built in crates/hfs_tool/out
 """

@@ -1,9 +1,9 @@
 #!/usr/bin/env python3
-"""Wants of `volumes` that it finds the volumes in files of each kind, and of `--volume N` that each
+"""Tests that `volumes` finds the volumes in files of each kind, and that with `--volume N` each
 word answers what it answers on the bytes that are cut out of the file: rows by hand, real volumes
-wrapped in each way, headers and maps with bytes changed by chance, a file of 5 GB, and, where they
-are installed, files by parted, genisoimage and hfsutils. Each file is read by its path and out of a
-pipe. What lies in a file is found here once more, by none of the project's code.
+wrapped in each way, headers and maps with bytes changed at random, a file of 5 GB, and, if they
+are installed, files by parted, genisoimage and hfsutils. Each file is read by its path and from a
+pipe. What lies in a file is found here again, without any of the project's code.
 
 tests/volumes.py [SEED]      runs $HFS_TOOL, or the program as it is built in crates/hfs_tool/out
 """

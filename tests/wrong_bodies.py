@@ -9,15 +9,15 @@ tests/wrong_bodies.py --gate                what .ci/run tries: HEADLINE, every 
                                             far as ten minutes of processor time go, those of which no result is kept, of the crates
                                             that changed last first
 
-Edits of different functions lie in one copy of their crate, and the prover is asked for these functions in one check, over the
-libraries that `rt ci` or scripts/build_libraries.py left in this checkout. A body is refused where the prover has an error or a
+Edits of different functions are made in one copy of their crate, and the prover is asked for these functions in one check, over the
+libraries that `rt ci` or scripts/build_libraries.py left in this checkout. A body is refused if the prover has an error or a
 missing proof of the function itself; that a function calls one that isn't proved says nothing, so bodies that call one another are
 tried apart. A check that is killed or meets a limit of the prover refuses nothing, and fails. An edit of a constant is asked of the
 functions that name it, an edit of a definition of the whole crate.
 
 What was tried is kept in ${XDG_CACHE_HOME:-$HOME/.cache}/foyersage, by the kit, the edit, the crate's files and the libraries that it
 uses as they were built; nothing is kept where that folder can't be written. --anew tries all again. RT_JOBS says how many checks run
-side by side. The last line is 'wrong bodies: N passed, M failed'; the status is 1 where one failed, 2 where none could be tried.
+at once. The last line is 'wrong bodies: N passed, M failed'; the status is 1 if one failed, 2 if none could be tried.
 """
 import argparse
 import functools

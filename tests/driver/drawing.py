@@ -1,4 +1,4 @@
-"""Calls that are drawn: the same seed draws the same."""
+"""Random calls: the same seed gives the same."""
 import random
 from typing import Sequence
 

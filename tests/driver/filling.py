@@ -1,4 +1,4 @@
-"""Disks that are drawn: new volumes filled with folders and files of all names, dates, Finder bytes, forks and locks. The same seed draws the same."""
+"""Random disks: new volumes filled with folders and files of all names, dates, Finder bytes, forks and locks. The same seed gives the same."""
 import random
 from dataclasses import dataclass, field
 

@@ -1,5 +1,5 @@
-"""A volume's forks as calls leave them, told once more from docs/CALLS.md and docs/FORMATS.md alone: which blocks come and go, where
-extents stand, and each byte of each block. It shares no code with the program, and knows the calls that make files, and those that write."""
+"""A volume's forks as calls leave them, written from docs/CALLS.md and docs/FORMATS.md alone: which blocks are added and freed, where
+extents are, and each byte of each block. It shares no code with the program, and knows the calls that make files, and those that write."""
 from dataclasses import dataclass, field
 from typing import Optional
 

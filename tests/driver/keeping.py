@@ -1,5 +1,5 @@
-"""What calls leave as it was: all but some fields of the master directory block, the bits of blocks that came or were given back, the
-nodes of both trees that came, left or were written, and blocks of forks where calls wrote some. Index keys of the catalog that are exact
+"""What calls leave as it was: all except some fields of the master directory block, the bits of blocks that were added or freed, the
+nodes of both trees that were added, freed or written, and blocks of forks where calls wrote some. Index keys of the catalog that are exact
 stay so."""
 from driver.image import BLOCK, Image, Tree, changed_blocks
 from driver.wanted import ensure

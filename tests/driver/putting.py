@@ -1,5 +1,4 @@
-"""How a list of what comes (driver/sources.py) gets its places on a volume, by which calls, and what the volume's table of items is then: told once
-more from the manual's chapter on it and from docs/CALLS.md, with none of the program's code."""
+"""How a list of what is put (driver/sources.py) gets its places on a volume, by which calls, and what the volume's table of items is then: written from the manual's chapter on it and from docs/CALLS.md, without any of the program's code."""
 from collections import Counter
 from dataclasses import dataclass
 from datetime import datetime, timedelta

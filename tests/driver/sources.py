@@ -1,5 +1,5 @@
-"""What comes onto a disk out of folders and files of a host, told once more from the manual's chapter on it and from docs/FORMATS.md, with none
-of the program's code: AppleDouble and MacBinary files, names, the order of what comes, what is kept of each item, and why one can't be put."""
+"""What is put on a disk from folders and files of a host, written from the manual's chapter on it and from docs/FORMATS.md, without any
+of the program's code: AppleDouble and MacBinary files, names, the order of what is put, what is kept of each item, and why one can't be put."""
 import binascii
 import csv
 import os

@@ -1,4 +1,4 @@
-"""What is wanted of a program, and the difference where it does otherwise."""
+"""What is expected of a program, and the difference if it does something else."""
 import os
 import tempfile
 

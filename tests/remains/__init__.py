@@ -1,2 +1,2 @@
-"""What can be taken off an image that mounting refuses, told here once more from the rules of the word `rescue`, by none of
+"""What can be taken off an image that mounting refuses, written here again from the rules of the word `rescue`, without any of
 the project's code: blocks and nodes, trees and their records, items and their places, forks and verdicts, and the bag."""

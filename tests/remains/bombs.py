@@ -1,4 +1,4 @@
-"""Images that claim much: each is small beside what its numbers tell."""
+"""Images that claim much: each is small compared with what its numbers say."""
 import struct
 from typing import Iterator
 

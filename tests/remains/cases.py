@@ -1,6 +1,6 @@
-"""Images for one rule each, with the rows that a hand wrote of what remains of them: path, number, ID, the verdict on the data
-fork and on the resource fork, with bars between. `directory` is the line that tells of it, where it isn't block 2; `folders` are
-paths below the payload that have to be there, `absent` such as mustn't."""
+"""Images for one rule each, with the rows, written by hand, of what remains of them: path, number, ID, the verdict on the data
+fork and on the resource fork, with bars between. `directory` is the line that says so, if it isn't block 2; `folders` are
+paths below the payload that have to be there, `absent` those that mustn't be."""
 from dataclasses import dataclass, field
 from typing import Callable, Iterator, Optional
 

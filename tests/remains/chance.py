@@ -1,4 +1,4 @@
-"""Images changed by chance: bytes of what describes a volume, whole blocks, single fields of records and nodes, and lengths."""
+"""Images changed at random: bytes of what describes a volume, whole blocks, single fields of records and nodes, and lengths."""
 from random import Random
 from typing import Optional
 

@@ -1,4 +1,4 @@
-"""The bytes that remain of each fork, and what is told of them."""
+"""The bytes that remain of each fork, and what is printed of them."""
 from dataclasses import dataclass, field
 from typing import Iterator, Optional
 

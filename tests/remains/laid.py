@@ -1,4 +1,4 @@
-"""Images that are laid by hand, of which nothing need be right: trees of any nodes, records of any bytes."""
+"""Images that are made by hand, in which nothing need be right: trees of any nodes, records of any bytes."""
 import struct
 from typing import Iterable, Optional
 

@@ -1,4 +1,4 @@
-"""Runs of the program on an image, each beside what the model tells of the same bytes."""
+"""Runs of the program on an image, each compared with what the model says of the same bytes."""
 import os
 import shutil
 import subprocess

@@ -1,5 +1,6 @@
 mod SetBits
 mod Claims
+mod LowestRuns
 mod Owned
 mod Counted
 mod ClaimedMore

@@ -57,6 +57,10 @@ pub record IsRoom (used : ℕ → Bool) (n wanted : ℕ) (room : Room) : Type 0 
   pub all : room.wanted ≡ wanted
   pub few : room.free < room.wanted
 
+-- k of the blocks that are free beside a row's are those of one run
+abbrev pub IsLowest : (ℕ → Bool) → ℕ → Extent → ℕ → Extent → Type 0
+IsLowest used n row k run = AreBeside used n row k (run ∷ []) × (k ≤ free_count (is_taken used row) n) × (run.count ≡ k) × (0 < k)
+
 -- k of the blocks that are free beside a row's; or how many are, where these are too few
 abbrev pub GivesBeside : (ℕ → Bool) → ℕ → Extent → ℕ → Result (Vec Extent Global) ℕ → Type 0
 GivesBeside used n row k answer =

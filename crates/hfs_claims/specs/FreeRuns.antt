@@ -42,3 +42,7 @@ pub record IsRunning (used : ℕ → Bool) (n i count : ℕ) (runs : List Extent
   pub blocks : extent_blocks runs ++ range_with_len (i - count) count ≡ free_blocks used i
   pub whole : All (IsWhole used n) runs
   pub begins : 0 < i - count → used (i - count - 1) ≡ true
+
+-- among the first i blocks no run that has ended has `count` blocks, and so many are free directly before block i
+abbrev pub IsSearched : (ℕ → Bool) → ℕ → ℕ → ℕ → ℕ → Type 0
+IsSearched used n count i free = (runs : List Extent) × IsRunning used n i free runs × All (λ run. run.count < count) runs

@@ -5,6 +5,7 @@ ghost use Rattle.hfs_space.specs.Bitmap.{is_used};
 ghost use Rattle.hfs_space.specs.Extents.{block_total};
 ghost use Rattle.hfs_claims.specs.Choice as spec;
 
+use crate::lowest::lowest_run;
 use crate::pieces::pieces_of;
 use crate::rows::row_after;
 use crate::runs::free_runs_beside;
@@ -46,9 +47,8 @@ fn some_of(alloc: Global, extent: Extent) -> Result<Vec<Extent>, AllocError>
     Ok(extents)
 }
 
-/// `wanted` blocks from those that are free outside a row: from the lowest run that has them all; if none has, from the runs by
-/// their lengths. If there are too few, how many are free. The only other error is running out of memory.
-fn pieces_beside<B: Blocks>(
+/// What `pieces_beside` gives, out of all runs of free blocks.
+fn pieces_of_all<B: Blocks>(
     alloc: Global,
     bitmap: &Bitmap<'_, B>,
     row: Extent,
@@ -66,6 +66,24 @@ fn pieces_beside<B: Blocks>(
     Ok(Ok(pieces))
 }
 
+/// `count` blocks from those that are free outside a row: from the lowest run that has them all; if none has, from the runs by
+/// their lengths. If there are too few, how many are free. The only other error is running out of memory.
+fn pieces_beside<B: Blocks>(
+    alloc: Global,
+    bitmap: &Bitmap<'_, B>,
+    row: Extent,
+    count: u32,
+) -> Result<Result<Vec<Extent>, u32>, AllocError>
+    ensures { IfOk result (spec.GivesBeside (is_used (B.blocks bitmap.now.blocks.now)
+        bitmap.now.start) bitmap.now.count row count) }
+{
+    if let Some(lowest) = lowest_run(bitmap, row, count) {
+        let pieces = some_of(alloc, lowest)?;
+        return Ok(Ok(pieces));
+    }
+    pieces_of_all(alloc, bitmap, row, count)
+}
+
 /// The free allocation blocks that are added to a fork that wants `wanted` of them, as extents in the order in which they are
 /// added. `after` is the block directly after the fork's last one; None for a fork without blocks.
 ///
@@ -73,7 +91,8 @@ fn pieces_beside<B: Blocks>(
 /// blocks that has that many; if none has, the runs by their lengths, the longest first and of equal ones the lowest, each whole,
 /// except that only as many blocks as are still wanted are taken of the last one.
 ///
-/// If the blocks from `after` on are enough, only their bits are read; otherwise each block of the bitmap once.
+/// If the blocks from `after` on are enough, only their bits are read; otherwise those up to the end of such a run, and if there is
+/// none, each block of the bitmap twice.
 ///
 /// Errors: `Room` exactly when fewer blocks are free than are wanted. `AllocError` if memory was refused.
 pub fn blocks_that_come<B: Blocks>(

@@ -4,6 +4,7 @@
 mod bits;
 mod choosing;
 mod claiming;
+mod lowest;
 mod pieces;
 mod rows;
 mod runs;

@@ -37,7 +37,7 @@ fn push_run(runs: &mut Vec<Extent>, end: u16, count: u16) -> Result<(), AllocErr
 }
 
 /// Whether one of the eight blocks from `first` on may be the extent's.
-fn meets(extent: Extent, first: u16) -> bool
+pub(crate) fn meets(extent: Extent, first: u16) -> bool
     ensures { result ≡ spec.meets extent first }
 {
     let end = u32::from(extent.first) + u32::from(extent.count);
@@ -45,7 +45,7 @@ fn meets(extent: Extent, first: u16) -> bool
 }
 
 /// Whether a block is marked, by the bytes that have its bit, or is one of the extent's.
-fn is_taken(bytes: &[u8; 512], taken: Extent, block: u16) -> bool
+pub(crate) fn is_taken(bytes: &[u8; 512], taken: Extent, block: u16) -> bool
     ensures { result ≡ (bits.is_marked bytes.now (block % 4096) || spec.is_in taken block) }
 {
     is_set(bytes, usize::from(block % BITS)) || is_in(taken, block)

@@ -10,6 +10,7 @@ ghost use Rattle.hfs_collection.specs.Items.{found_digest};
 ghost use Rattle.hfs_collection.specs.Giving.{AreDigests};
 
 use crate::fault::CollectFault;
+use core::mem::replace_with;
 use hfs_digests::DigestWriter;
 use hfs_model::{Fork, Info, ItemKind, OwnedBytes};
 use hfs_needed::SeenImage;
@@ -33,6 +34,33 @@ pub(crate) fn digest_text(alloc: Global, digest: &[u8; 32]) -> Result<RowValue, 
     Ok(RowValue::Text(OwnedBytes::new(digits.into_bytes())))
 }
 
+/// The image, and the digest of a file's fork in it, as its row has it.
+fn with_digest<S: PlacedBlocks + Drop>(
+    image: SeenImage<S>,
+    alloc: Global,
+    info: &Info,
+    fork: Fork,
+) -> (SeenImage<S>, Result<RowValue, CollectFault>)
+    ensures digest { IfOk result.1 (λ value. OfEach (S.Holds result.0) (λ bytes. value
+        ≡ found_digest (named_fork (entries_of (volume_of bytes)) info.now.parent info.now.name fork))) }
+    ensures narrows { OfEach (S.Holds result.0) (S.Holds image) }
+{
+    let mut digest = DigestWriter::new();
+    let (dir, name) = (info.parent, info.name.bytes());
+    let (told, image) = image.write_fork(alloc, dir, name, fork, &mut digest);
+    match told {
+        Ok(Ok(())) => match digest_text(alloc, &digest.finish()) {
+            Ok(value) => (image, Ok(value)),
+            Err(_) => (image, Err(CollectFault::NoMemory)),
+        },
+        Ok(Err(_)) => (image, Ok(RowValue::Empty)),
+        Err(CopyFault::Memory) => (image, Err(CollectFault::NoMemory)),
+        Err(CopyFault::ReadFailed | CopyFault::BrokenOff | CopyFault::WriteFailed) => {
+            (image, Err(CollectFault::ReadFailed))
+        }
+    }
+}
+
 /// The digest of a file's fork, as its row has it.
 fn fork_digest<S: PlacedBlocks + Drop>(
     alloc: Global,
@@ -40,17 +68,19 @@ fn fork_digest<S: PlacedBlocks + Drop>(
     info: &Info,
     fork: Fork,
 ) -> Result<RowValue, CollectFault>
-    ensures digest { IfOk result (λ value. OfEach (S.Holds image.new)
-        (λ bytes. value ≡ found_digest (named_fork (entries_of (volume_of bytes)) info.now.parent info.now.name fork))) }
+    ensures digest { IfOk result (λ value. OfEach (S.Holds image.new) (λ bytes. value
+        ≡ found_digest (named_fork (entries_of (volume_of bytes)) info.now.parent info.now.name fork))) }
     ensures narrows { OfEach (S.Holds image.new) (S.Holds image.old) }
 {
-    let mut digest = DigestWriter::new();
-    match image.write_fork(alloc, info.parent, info.name.bytes(), fork, &mut digest) {
-        Ok(Ok(())) => Ok(digest_text(alloc, &digest.finish())?),
-        Ok(Err(_)) => Ok(RowValue::Empty),
-        Err(CopyFault::Memory) => Err(CollectFault::NoMemory),
-        Err(_) => Err(CollectFault::ReadFailed),
-    }
+    replace_with(
+        image,
+        info,
+        |image, info|
+            ensures digest { IfOk result.1 (λ value. OfEach (S.Holds result.0) (λ bytes. value
+                ≡ found_digest (named_fork (entries_of (volume_of bytes)) info.now.parent info.now.name fork))) }
+            ensures narrows { OfEach (S.Holds result.0) (S.Holds image) }
+        { with_digest(image, alloc, info, fork) },
+    )
 }
 
 /// The digests of both forks of an item, if they are to be taken; a folder has none.

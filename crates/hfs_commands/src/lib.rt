@@ -43,6 +43,7 @@ pub use hfs_runs::{Answers, Gate, Ran, ScriptFault, run_script_at};
 pub use hfs_sparse::{BlockSource, CopyFault, SparseFault};
 pub use hfs_table::Format;
 pub use hfs_texts::{InfoFault, LoadFault, put, run_info};
+pub use hfs_working::FailingBlocks;
 pub use items::write_items;
 pub use listing::{children_text, code_text, seen_list_text};
 pub use macbinary::put_macbinary;

@@ -8,6 +8,7 @@ ghost use Rattle.hfs_runs.specs.Runs.{IsStartFault};
 ghost use Rattle.hfs_scripts.specs.Scripts.{script_of};
 ghost use Rattle.hfs_commands.specs.Faults.{IsTooMuch};
 ghost use Rattle.hfs_commands.specs.Running.{IsNeededFault, IsNeededRunOf, IsScriptFault};
+ghost use Rattle.hfs_needed.specs.Failing.{SomeFailsWithin};
 ghost use Rattle.hfs_source.specs.Images.{OfEach};
 
 use crate::fault::Fault;
@@ -20,7 +21,7 @@ use hfs_runs::{Answers, Gate, ScriptFault};
 use hfs_scripts::{Script, read_script};
 use hfs_sparse::{BlockSource, SparseFault};
 use hfs_texts::IMAGE_LIMIT;
-use hfs_working::{WorkingVolume, open_working};
+use hfs_working::{FailingBlocks, WorkingVolume, open_source};
 use std::alloc::Global;
 use std::marker::Model;
 use std::sync::Wait;
@@ -121,10 +122,10 @@ fn start_fault(fault: ScriptFault) -> Fault<'static>
     Fault::of_run(fault)
 }
 
-impl<S: BlockSource + Watched + Drop> RunImage<S> {
+impl<S: FailingBlocks + Drop> RunImage<S> {
     /// Reads those blocks of an image of `len` bytes that calls read and write, and makes all checks. An image that is refused is
     /// returned with its first fault, which counts only once the script was read. `path` is what was opened. Faults: `CannotRead`
-    /// if a read fails, `Refused(TooLarge)`, `NoMemory`.
+    /// if a read of bytes that it has fails, `Refused(TooLarge)`, `NoMemory`.
     pub fn open<'a>(
         alloc: Global,
         source: S,
@@ -143,12 +144,14 @@ impl<S: BlockSource + Watched + Drop> RunImage<S> {
         ensures back_image { IfOk result (λ opened. IfErr opened (λ refused.
             S.image refused.source ≡ S.image source)) }
         ensures fault { IfErr result (λ why. (why ≡ Fault.CannotRead path.entry) ⊎ IsTooMuch why) }
+        ensures failed { IfErr result (λ why. why ≡ Fault.CannotRead path.entry
+            → SomeFailsWithin len (S.Fails source)) }
     {
         if len > IMAGE_LIMIT as u64 {
             return Err(Fault::Refused(MountFault::TooLarge));
         }
-        let mut source = source;
-        match open_working(alloc, &mut source, len) {
+        let (opened, source) = open_source(alloc, source, len);
+        match opened {
             Ok(working) => Ok(Ok(RunImage {
                 source,
                 len,
@@ -159,7 +162,9 @@ impl<S: BlockSource + Watched + Drop> RunImage<S> {
             Err(NeededFault::Memory) => Err(Fault::NoMemory),
         }
     }
+}
 
+impl<S: BlockSource + Watched + Drop> RunImage<S> {
     /// Reads the forks that a script may read or write, and runs the script, with a gate that is called around each call of a
     /// worker. Faults: `CannotRead` of this path if a read fails, or if the image has changed since it was opened; `NoPlace`;
     /// `NoMemory`.

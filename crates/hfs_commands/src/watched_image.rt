@@ -11,8 +11,9 @@ use crate::volume_files::{loaded, opened};
 use crate::watched_range::WatchedBytes;
 use hfs_containers::Window;
 use hfs_files::{TrustedLooks, Watched, look_again};
-use hfs_source::PlacedBytes;
-use hfs_sparse::{BlockSource, ByteSource};
+use hfs_source::{MemoryBytes, PlacedBytes};
+use hfs_sparse::BlockSource;
+use hfs_working::FailingBlocks;
 use std::fs::{File, OpenFile};
 use std::io;
 use std::io::{ErrorKind, Read, Seek};
@@ -70,13 +71,7 @@ impl<F: Read + Seek + OpenFile> BlockSource for WatchedImage<F> {
     ghost Holds = { λ image. watched_images image };
 
     fn read_blocks(&mut self, first: u32, into: &mut [u8]) -> io::Result<()> {
-        match &mut self.file {
-            StoredFile::Seekable(bytes) => bytes.read_at(u64::from(first) * 512, into),
-            StoredFile::Whole(all) => {
-                let bytes = all.as_slice();
-                ByteSource { bytes }.read_blocks(first, into)
-            }
-        }
+        self.read_told(first, into)
     }
 
     ghost known_holds = { λ image bytes e.
@@ -84,6 +79,23 @@ impl<F: Read + Seek + OpenFile> BlockSource for WatchedImage<F> {
           | stored.Seekable file ↦ λ none. absurd (none-some bytes none)
           | stored.Whole all ↦ λ same. sym (ap (λ known. unwrap_or known (arc_value all).items) same)
         ] e };
+}
+
+impl<F: Read + Seek + OpenFile> FailingBlocks for WatchedImage<F> {
+    ghost use Rattle.hfs_commands.specs.OpenedFiles.{stored_failures};
+
+    ghost Fails = { λ image. stored_failures image.file };
+
+    fn read_told(&mut self, first: u32, into: &mut [u8]) -> io::Result<()> {
+        let place = u64::from(first) * 512;
+        match &mut self.file {
+            StoredFile::Seekable(bytes) => bytes.read_at(place, into),
+            StoredFile::Whole(all) => {
+                let bytes = all.as_slice();
+                MemoryBytes { bytes }.read_at(place, into)
+            }
+        }
+    }
 }
 
 impl<F: Read + Seek + OpenFile> Watched for WatchedImage<F> {

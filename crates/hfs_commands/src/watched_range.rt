@@ -1,7 +1,7 @@
 //! An image in a range of a file that was opened to be changed, and that file with the image's changes.
 ghost use Rattle.std.specs.Prelude.{◌≡◌, ◌≤◌, ◌/◌, List, ℕ, None, OnOk};
 ghost use Rattle.std.proofs.lemmas.Option.{none-some};
-ghost use Rattle.hfs_source.specs.Images.{IsRangeOf, OfEach};
+ghost use Rattle.hfs_source.specs.Images.{FailsInRange, IsRangeOf, OfEach};
 ghost use Rattle.hfs_blocks.specs.Layers.{changes, AreWithin};
 ghost use Rattle.hfs_containers.specs.Ranges.{range_of};
 ghost use Rattle.hfs_commands.specs.Images.{IsFileWith};
@@ -14,6 +14,7 @@ use hfs_files::Watched;
 use hfs_patched::{ImagePlace, write_file_with};
 use hfs_source::{PlacedBytes, RangeBytes};
 use hfs_sparse::BlockSource;
+use hfs_working::FailingBlocks;
 use std::alloc::Global;
 use std::io;
 use std::io::Write;
@@ -42,10 +43,18 @@ impl<S: PlacedBytes> BlockSource for WatchedRange<S> {
     ghost Holds = { λ range. IsRangeOf (S.Holds range.bytes.bytes) range.bytes.start range.bytes.len };
 
     fn read_blocks(&mut self, first: u32, into: &mut [u8]) -> io::Result<()> {
-        self.bytes.read_at(u64::from(first) * 512, into)
+        self.read_told(first, into)
     }
 
     ghost known_holds = { λ range bytes e. absurd (none-some bytes e) };
+}
+
+impl<S: PlacedBytes> FailingBlocks for WatchedRange<S> {
+    ghost Fails = { λ range. FailsInRange (S.Fails range.bytes.bytes) range.bytes.start range.bytes.len };
+
+    fn read_told(&mut self, first: u32, into: &mut [u8]) -> io::Result<()> {
+        self.bytes.read_at(u64::from(first) * 512, into)
+    }
 }
 
 impl<S: WatchedBytes> Watched for WatchedRange<S> {

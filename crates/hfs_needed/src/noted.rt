@@ -1,11 +1,11 @@
 //! Blocks with a note whether a read failed.
 ghost use Rattle.std.proofs.lemmas.Option.{none-some};
-ghost use Rattle.std.specs.Prelude.{◌≡◌, ℕ, ⊤, true, None};
+ghost use Rattle.std.specs.Prelude.{◌≡◌, ◌⊎◌, ℕ, ⊤, true, None};
 ghost use Rattle.hfs_source.specs.Images.{FailsWhere};
 ghost use Rattle.hfs_needed.specs.Failing.{SomeFailsWithin};
 
 use hfs_source::PlacedBlocks;
-use hfs_sparse::{BlockSource, SeenBlocks, SparseFault};
+use hfs_sparse::{BlockSource, CopyFault, SeenBlocks, SparseFault};
 use std::io;
 use std::marker::{Brand, Model, PhantomData};
 
@@ -102,4 +102,33 @@ pub fn noted_fault(fault: SparseFault, failed: bool) -> SparseFault
     ensures { result ≡ SparseFault.ReadFailed → failed ≡ true }
 {
     if failed { fault } else { SparseFault::Memory }
+}
+
+/// The fault of writing what is read, where it is known whether a read failed: if none did, memory was refused or, where bytes were written,
+/// the writer failed.
+pub(crate) fn noted_copy(fault: CopyFault, failed: bool) -> CopyFault
+    ensures read { result ≡ CopyFault.ReadFailed → failed ≡ true }
+    ensures broken { result ≡ CopyFault.BrokenOff → failed ≡ true }
+    ensures unread { result ≡ CopyFault.ReadFailed → fault ≡ CopyFault.ReadFailed }
+    ensures unwritten { result ≡ CopyFault.Memory
+        → (fault ≡ CopyFault.Memory) ⊎ (fault ≡ CopyFault.ReadFailed) }
+{
+    match fault {
+        CopyFault::Memory => CopyFault::Memory,
+        CopyFault::ReadFailed => {
+            if failed {
+                CopyFault::ReadFailed
+            } else {
+                CopyFault::Memory
+            }
+        }
+        CopyFault::BrokenOff => {
+            if failed {
+                CopyFault::BrokenOff
+            } else {
+                CopyFault::WriteFailed
+            }
+        }
+        CopyFault::WriteFailed => CopyFault::WriteFailed,
+    }
 }

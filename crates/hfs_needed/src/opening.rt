@@ -33,7 +33,7 @@ impl NeededFault {
     }
 
     /// This fault, given whether a read failed: if none did and the image isn't refused, memory was refused.
-    pub(crate) fn noted(self, failed: bool) -> NeededFault
+    pub fn noted(self, failed: bool) -> NeededFault
         ensures read { result ≡ NeededFault.ReadFailed → failed ≡ true }
         ensures refused { (why : MountFault) → result ≡ NeededFault.Refused why
             → self ≡ NeededFault.Refused why }

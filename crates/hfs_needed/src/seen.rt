@@ -18,7 +18,7 @@ ghost use Rattle.hfs_needed.specs.SeenFiles.{HasForkOf, IsFileFound, IsForkWritt
 use crate::fork_runs::{FileRuns, opened_runs};
 use crate::forks::write_opened;
 use crate::listing::{catalog_records, list_in_brief};
-use crate::noted::{NotedBlocks, PickedFailures, noted_fault};
+use crate::noted::{NotedBlocks, PickedFailures, noted_copy, noted_fault};
 use crate::opening::{NeededFault, NeededVolume, open_needed};
 use crate::paths::told_in;
 use crate::reporting::{ReportedVolume, open_reported};
@@ -28,7 +28,7 @@ use hfs_fields::Name;
 use hfs_inventory::Inventory;
 use hfs_model::{Fork, Reply};
 use hfs_source::PlacedBlocks;
-use hfs_sparse::{BlockSource, CopyFault, SeenBlocks, SparseFault};
+use hfs_sparse::{CopyFault, SeenBlocks, SparseFault};
 use std::alloc::{AllocError, Global};
 use std::io;
 use std::io::Write;
@@ -160,27 +160,44 @@ impl<S: PlacedBlocks> SeenImage<S> {
 
     /// Writes the bytes of a file's fork piece by piece, while they are read, at most 65,536 at a time, so memory doesn't grow
     /// with the fork. If there is no such fork, writes nothing and returns what a call that reads it answers: -37, -120 or -43.
-    /// Errors: memory was refused or a read failed, before anything was written; a read failed after some bytes were written, or
-    /// the writer failed: then only the beginning of the fork may have been written.
+    /// The image is handed back. Errors: memory was refused or a read failed, before anything was written; a read failed after
+    /// some bytes were written, or the writer failed: then only the beginning of the fork may have been written.
     pub fn write_fork<W: Write>(
-        &mut self,
+        self,
         alloc: Global,
         dir: u32,
         name: &[u8],
         fork: Fork,
         writer: &mut W,
-    ) -> Result<Result<(), Reply>, CopyFault>
-        ensures written { IfOk result (λ found. OfEach (S.Holds self.new) (IsForkWritten dir name.now
+    ) -> (Result<Result<(), Reply>, CopyFault>, SeenImage<S>)
+        ensures written { IfOk result.0 (λ found. OfEach (S.Holds result.1) (IsForkWritten dir name.now
             fork (W.contents writer.old) (W.contents writer.new) found)) }
-        ensures part { OnErr result (OfEach (S.Holds self.new) (HasForkOf dir name.now fork
+        ensures part { OnErr result.0 (OfEach (S.Holds result.1) (HasForkOf dir name.now fork
             (AppendsFront (W.contents writer.old) (W.contents writer.new)))) }
-        ensures unwritten { IfOk result (λ found. OnErr found (writer.new ≡ writer.old)) }
-        ensures none { result ≡ Err CopyFault.ReadFailed → writer.new ≡ writer.old }
-        ensures memory { result ≡ Err CopyFault.Memory → writer.new ≡ writer.old }
-        ensures narrows { OfEach (S.Holds self.new) (S.Holds self.old) }
+        ensures unwritten { IfOk result.0 (λ found. OnErr found (writer.new ≡ writer.old)) }
+        ensures none { result.0 ≡ Err CopyFault.ReadFailed → writer.new ≡ writer.old }
+        ensures memory { result.0 ≡ Err CopyFault.Memory → writer.new ≡ writer.old }
+        ensures failed { result.0 ≡ Err CopyFault.ReadFailed
+            → SomeReadFails (S.Holds self) (S.Fails self) }
+        ensures broken { result.0 ≡ Err CopyFault.BrokenOff
+            → SomeReadFails (S.Holds self) (S.Fails self) }
+        ensures narrows { OfEach (S.Holds result.1) (S.Holds self) }
+        ensures later { FailsWhere (S.Fails result.1) (S.Fails self) }
     {
-        let (source, volume) = (&mut self.source, &self.volume);
-        write_opened(alloc, source, volume, dir, name, fork, writer)
+        let SeenImage {
+            source,
+            len,
+            volume,
+        } = self;
+        let (told, source) = write_noted::<Brand, S, W>(
+            alloc, source, len, &volume, dir, name, fork, writer,
+        );
+        let image = SeenImage {
+            source,
+            len,
+            volume,
+        };
+        (told, image)
     }
 
     /// Where the bytes of both forks of the folder's file of that name lie; or what a call that reads a fork answers if there is
@@ -343,5 +360,42 @@ fn file_noted<K: PickedFailures, S: PlacedBlocks + Drop>(
     match told {
         Ok(found) => Ok((found, source)),
         Err(why) => Err(noted_fault(why, failed)),
+    }
+}
+
+/// Writes a file's fork of an image of `len` bytes as [`SeenImage::write_fork`] does, where the reads that may fail are picked.
+fn write_noted<K: PickedFailures, S: PlacedBlocks, W: Write>(
+    alloc: Global,
+    source: SeenBlocks<S>,
+    len: u64,
+    volume: &NeededVolume,
+    dir: u32,
+    name: &[u8],
+    fork: Fork,
+    writer: &mut W,
+) -> (Result<Result<(), Reply>, CopyFault>, SeenBlocks<S>)
+    requires fails { FailsWhere (S.Fails source.blocks) K.fails }
+    requires seen { IsSeenAs (S.Holds source.blocks) len volume.now }
+    requires len { len ≡ K.len }
+    ensures written { IfOk result.0 (λ found. OfEach (S.Holds result.1.blocks) (IsForkWritten dir
+        name.now fork (W.contents writer.old) (W.contents writer.new) found)) }
+    ensures part { OnErr result.0 (OfEach (S.Holds result.1.blocks) (HasForkOf dir name.now fork
+        (AppendsFront (W.contents writer.old) (W.contents writer.new)))) }
+    ensures unwritten { IfOk result.0 (λ found. OnErr found (writer.new ≡ writer.old)) }
+    ensures none { result.0 ≡ Err CopyFault.ReadFailed → writer.new ≡ writer.old }
+    ensures memory { result.0 ≡ Err CopyFault.Memory → writer.new ≡ writer.old }
+    ensures failed { result.0 ≡ Err CopyFault.ReadFailed
+        → SomeReadFails (S.Holds source.blocks) K.fails }
+    ensures broken { result.0 ≡ Err CopyFault.BrokenOff
+        → SomeReadFails (S.Holds source.blocks) K.fails }
+    ensures narrows { OfEach (S.Holds result.1.blocks) (S.Holds source.blocks) }
+    ensures later { FailsWhere (S.Fails result.1.blocks) K.fails }
+{
+    let mut noted = NotedBlocks::<S, K>::new(source, len);
+    let told = write_opened(alloc, &mut noted, volume, dir, name, fork, writer);
+    let (source, failed) = noted.into_source();
+    match told {
+        Ok(found) => (Ok(found), source),
+        Err(why) => (Err(noted_copy(why, failed)), source),
     }
 }

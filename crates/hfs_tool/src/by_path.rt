@@ -59,13 +59,12 @@ fn print_fork_in<'a, F: Read + Seek + Drop>(
     words: &ForkPathWords<'a>,
     image: PartImage<F>,
 ) -> Result<u8, Fault<'a>> {
-    let mut image = image;
     let place = &words.place;
     let reply = file_at(rt, &image, place)?;
     match &reply.value {
         Value::One(file) => {
             let (dir, name) = (file.parent, file.name.bytes());
-            print_fork(rt, &mut image, place.image, dir, name, words.fork)
+            print_fork(rt, image, place.image, dir, name, words.fork)
         }
         _ => print_code(rt, &reply),
     }

@@ -60,9 +60,9 @@ pub fn tell_items<'a>(
 
 /// Prints the bytes of a file's fork.
 pub fn tell_fork<'a>(rt: &HostRuntime, file: &ForkWords<'a>) -> Result<u8, Fault<'a>> {
-    let mut image = open_seen(rt, file.image, file.volume)?;
+    let image = open_seen(rt, file.image, file.volume)?;
     let (name, fork) = (file.name.as_bytes(), file.fork);
-    print_fork(rt, &mut image, file.image, file.dir, name, fork)
+    print_fork(rt, image, file.image, file.dir, name, fork)
 }
 
 /// Prints a file with both forks.

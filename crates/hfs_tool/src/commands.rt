@@ -161,13 +161,14 @@ fn print_file(rt: &HostRuntime, file: &NeededFile) -> Result<u8, Fault<'static>>
 /// refused.
 pub fn print_fork<'a, F: Read + Seek + Drop>(
     rt: &HostRuntime,
-    image: &mut PartImage<F>,
+    image: PartImage<F>,
     path: &'a str,
     dir: u32,
     name: &[u8],
     fork: Fork,
 ) -> Result<u8, Fault<'a>> {
-    match image.write_fork(rt.alloc(), dir, name, fork, &mut rt.stdout()) {
+    let (told, _) = image.write_fork(rt.alloc(), dir, name, fork, &mut rt.stdout());
+    match told {
         Ok(told) => print_refusal(rt, told),
         Err(fault) => Err(Fault::of_copy(fault, path)),
     }

@@ -4,9 +4,9 @@ use crate::progress::RunProgress;
 use crate::saving::{save, save_as_read, tell};
 use crate::words::RunWords;
 use hfs_commands::{
-    Answers, Fault, ImageInFile, Leftover, Ran, RanImage, ReadContents, RunImage, Status, Watched,
-    WatchedVolume, load_script, open_volume, open_watched, run_script_at, script_lines,
-    write_answers,
+    Answers, FailingBlocks, Fault, ImageInFile, Leftover, Ran, RanImage, ReadContents, RunImage,
+    Status, Watched, WatchedVolume, load_script, open_volume, open_watched, run_script_at,
+    script_lines, write_answers,
 };
 use hfs_console::print_lines;
 use std::fs::File;
@@ -101,7 +101,7 @@ fn print_ran<'a>(rt: &HostRuntime, out: Option<&'a str>, ran: &Ran) -> Result<u8
 
 /// Runs a script on an image of `len` bytes, of which only what the script needs is read. A refused image is a fault once the
 /// script was read.
-fn run_by_need<'a, T: Threads + Wait + Sync, S: Watched + Drop>(
+fn run_by_need<'a, T: Threads + Wait + Sync, S: FailingBlocks + Watched + Drop>(
     rt: &HostRuntime,
     threads: &T,
     run: &RunWords<'a>,

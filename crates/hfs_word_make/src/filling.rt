@@ -1,16 +1,16 @@
 //! What comes is put on a new volume; where the nodes of its catalog don't suffice, on one with twice as many.
-ghost use Rattle.std.specs.Prelude.{◌≡◌, ◌^◌, ◌/◌, ◌<◌, ◌≤◌, IfErr, IfOk, IfSome, MatchOption, OnOk, length};
+ghost use Rattle.std.specs.Prelude.{◌≡◌, ◌^◌, ◌/◌, ◌<◌, ◌≤◌, IfErr, IfOk, IfSome, MatchOption, MatchResult, OnOk, length};
 ghost use Rattle.hfs_blocks.specs.Layers.{changes, AreWithin};
 ghost use Rattle.hfs_format.specs.Image.{image_bytes};
+ghost use Rattle.hfs_word_make.specs.Doubled.{IsFilled, IsFullAt, IsNotFilled, IsPutAt, IsUnfilledAt, IsUnplannedAt};
 ghost use Rattle.hfs_word_make.specs.Filled.{IsFullIn, IsPutIn, IsUnfilled};
-ghost use Rattle.hfs_word_make.specs.Planned.{IsTimes};
+ghost use Rattle.hfs_word_make.specs.Planned.{IsDoubled, IsTimes};
 
 use crate::laying::lay_list;
 use crate::mounting::mount_new;
 use crate::order::MakeOrder;
-use crate::refusing::of_make;
 use crate::unplanned::unplanned;
-use hfs_make::{MakeFault, NewImage, NewVolume, plan_volume};
+use hfs_make::{NewImage, NewVolume, plan_volume};
 use hfs_sources::SourceItem;
 use hfs_word_put::{PutFault, PutList, place_all};
 use std::alloc::Global;
@@ -26,21 +26,21 @@ pub(crate) struct FilledImage {
 /// call that is refused for another reason. Or want of memory.
 fn fill<'a>(
     alloc: Global,
-    image: NewImage,
+    image: &NewImage,
     path: &'a str,
     order: &MakeOrder<'_>,
     items: &[SourceItem],
 ) -> Result<Option<PutList>, PutFault<'a>>
     ensures put { IfOk result (λ put.
-        MatchOption put (IsFullIn order.entry.now items.now (image_bytes image.planned))
-        (IsPutIn order.entry.now items.now (image_bytes image.planned))) }
+        MatchOption put (IsFullIn order.entry.now items.now (image_bytes image.now.planned))
+        (IsPutIn order.entry.now items.now (image_bytes image.now.planned))) }
     ensures within { IfOk result (λ put. IfSome put (λ put. AreWithin
-        (changes put.blocks.patch) (length (image_bytes image.planned) / 512))) }
-    ensures small { OnOk result (length (image_bytes image.planned) ≤ 2147483648) }
+        (changes put.blocks.patch) (length (image_bytes image.now.planned) / 512))) }
+    ensures small { OnOk result (length (image_bytes image.now.planned) ≤ 2147483648) }
     ensures fault { IfErr result
-        (IsUnfilled path.entry order.entry.now items.now (image_bytes image.planned)) }
+        (IsUnfilled path.entry order.entry.now items.now (image_bytes image.now.planned)) }
 {
-    let mut volume = match mount_new(alloc, image, path) {
+    let mut volume = match mount_new(alloc, *image, path) {
         Ok(volume) => volume,
         Err(fault) => return Err(PutFault::Image(fault)),
     };
@@ -51,7 +51,7 @@ fn fill<'a>(
     }
 }
 
-/// How often at most the nodes of a catalog are doubled that doesn't suffice: 2 ^ 31 times the nodes are more than any volume has.
+/// How often the nodes of a catalog are doubled at most, and once more: no volume has 2 ^ 31 times the nodes that a catalog wants.
 const MOST_DOUBLED: u32 = 32;
 
 /// The volume that is wanted, with the nodes of its catalog doubled so often.
@@ -68,8 +68,29 @@ fn doubled_volume<'a>(wanted: &NewVolume<'a>, doubled: u32) -> NewVolume<'a>
     }
 }
 
-/// Plans a new volume with the nodes of its catalog doubled so often, and puts what comes on it; none where they don't suffice.
-/// Faults: those of [`filled_image`].
+/// Plans the volume that is wanted, with the nodes of its catalog doubled so often. Faults: what can't come to its place; `NoRoom`. Or
+/// want of memory.
+fn planned_at<'a>(
+    alloc: Global,
+    wanted: &NewVolume<'_>,
+    doubled: u32,
+    path: &'a str,
+    order: &MakeOrder<'_>,
+    items: &[SourceItem],
+) -> Result<NewImage, PutFault<'a>>
+    requires { doubled < 32 }
+    ensures { MatchResult result (λ image. IsDoubled wanted.now doubled image.planned)
+        (IsUnplannedAt path.entry wanted.now order.entry.now items.now doubled) }
+{
+    let volume = doubled_volume(wanted, doubled);
+    match plan_volume(alloc, &volume) {
+        Ok(planned) => Ok(NewImage { planned }),
+        Err(fault) => Err(unplanned(alloc, fault, wanted, path, order, items)),
+    }
+}
+
+/// Plans the volume that is wanted, with the nodes of its catalog doubled so often, and puts what comes on it; none where they don't
+/// suffice. Faults: those of [`filled_image`].
 fn filled_at<'a>(
     alloc: Global,
     wanted: &NewVolume<'_>,
@@ -79,23 +100,23 @@ fn filled_at<'a>(
     items: &[SourceItem],
 ) -> Result<Option<FilledImage>, PutFault<'a>>
     requires { doubled < 32 }
-    ensures small { IfOk result (λ filled. IfSome filled (λ filled.
-        length (image_bytes filled.image.planned) ≤ 2147483648)) }
+    ensures put { IfOk result (λ filled.
+        MatchOption filled (IsFullAt wanted.now order.entry.now items.now doubled)
+        (λ filled. IsPutAt wanted.now order.entry.now items.now doubled
+        filled.image.planned filled.list)) }
     ensures within { IfOk result (λ filled. IfSome filled (λ filled. AreWithin
         (changes filled.list.blocks.patch)
         (length (image_bytes filled.image.planned) / 512))) }
+    ensures small { IfOk result (λ filled. IfSome filled (λ filled.
+        length (image_bytes filled.image.planned) ≤ 2147483648)) }
+    ensures fault { IfErr result
+        (IsUnfilledAt path.entry wanted.now order.entry.now items.now doubled) }
 {
-    let volume = doubled_volume(wanted, doubled);
-    let planned = match plan_volume(alloc, &volume) {
-        Ok(planned) => planned,
-        Err(fault) => return Err(unplanned(alloc, fault, wanted, path, order, items)),
-    };
-    match fill(alloc, NewImage { planned }, path, order, items)? {
-        Some(list) => Ok(Some(FilledImage {
-            image: NewImage { planned },
-            list,
-        })),
-        None => Ok(None),
+    let image = planned_at(alloc, wanted, doubled, path, order, items)?;
+    match fill(alloc, &image, path, order, items) {
+        Ok(Some(list)) => Ok(Some(FilledImage { image, list })),
+        Ok(None) => Ok(None),
+        Err(refused) => Err(refused),
     }
 }
 
@@ -108,15 +129,19 @@ pub(crate) fn filled_image<'a>(
     order: &MakeOrder<'_>,
     items: &[SourceItem],
 ) -> Result<FilledImage, PutFault<'a>>
-    ensures small { IfOk result (λ filled.
-        length (image_bytes filled.image.planned) ≤ 2147483648) }
+    ensures filled { IfOk result (λ filled. IsFilled wanted.now order.entry.now items.now
+        filled.image.planned filled.list) }
     ensures within { IfOk result (λ filled. AreWithin (changes filled.list.blocks.patch)
         (length (image_bytes filled.image.planned) / 512)) }
+    ensures small { IfOk result (λ filled.
+        length (image_bytes filled.image.planned) ≤ 2147483648) }
+    ensures fault { IfErr result
+        (IsNotFilled path.entry wanted.now order.entry.now items.now) }
 {
     for doubled in 0..MOST_DOUBLED {
         if let Some(filled) = filled_at(alloc, wanted, doubled, path, order, items)? {
             return Ok(filled);
         }
     }
-    Err(of_make(MakeFault::NoRoom))
+    unreachable!()
 }

@@ -1,18 +1,19 @@
 //! A new volume is made of files and folders.
-ghost use Rattle.std.specs.Prelude.{◌≡◌, ◌/◌, ◌≤◌, IfErr, IfOk, length};
+ghost use Rattle.std.specs.Prelude.{◌≡◌, ◌/◌, ◌<◌, ◌≤◌, ◌^◌, IfErr, IfOk, OnOk, length};
 ghost use Rattle.hfs_blocks.specs.Layers.{changes, AreWithin};
-ghost use Rattle.hfs_commands.specs.declared.fault.Fault.TheVariants as why;
 ghost use Rattle.hfs_format.specs.Image.{image_bytes};
+ghost use Rattle.hfs_laid_forks.specs.Files.{IsReadOf};
 ghost use Rattle.hfs_sources.specs.Trees.{OfEachTree};
+ghost use Rattle.hfs_word_make.specs.Made.{IsMadeFile, IsMadeOf, IsUnmade, IsUnmadeList};
 
 use crate::filling::{FilledImage, filled_image};
 use crate::listing::list_all_new;
 use crate::naming::{made_name, made_size};
 use crate::order::MakeOrder;
 use crate::settled_image::SettledImage;
-use hfs_commands::{Fault, WatchedRange};
-use hfs_laid_forks::{HostFiles, PlacedFiles};
-use hfs_make::{NewImage, NewVolume};
+use hfs_commands::WatchedRange;
+use hfs_laid_forks::HostFiles;
+use hfs_make::{NewImage, NewItem, NewVolume, VolumeName, VolumeSize};
 use hfs_make_items::new_items;
 use hfs_source::{PlacedBytes, RangeBytes};
 use hfs_sources::HostTree;
@@ -24,6 +25,29 @@ use std::alloc::Global;
 struct MadeList {
     image: NewImage,
     put: PutItems,
+}
+
+/// The volume that is wanted for these items, its catalog with as many nodes as they want.
+fn wanted_volume(
+    name: VolumeName,
+    size: Option<VolumeSize>,
+    items: &[NewItem],
+    moment: u32,
+) -> NewVolume<'_>
+    ensures name { result.name ≡ name }
+    ensures size { result.size ≡ size }
+    ensures items { result.items.now ≡ items.now }
+    ensures moment { result.moment ≡ moment }
+    ensures once { result.catalog_times ≡ 1 }
+    ensures dated { moment < 2 ^ 32 }
+{
+    NewVolume {
+        name,
+        size,
+        items,
+        catalog_times: 1,
+        moment,
+    }
 }
 
 /// Puts what comes on a new volume, by all calls but those that write forks. Faults: those of [`make_volume`].
@@ -38,58 +62,70 @@ fn make_list<'a, T: HostTree>(
     ensures within { IfOk result (λ made. AreWithin (changes made.put.list.blocks.patch)
         (length (image_bytes made.image.planned) / 512)) }
     ensures held { OfEachTree (T.Holds tree.new) (T.Holds tree.old) }
+    ensures dated { OnOk result (order.entry.now.now < 2 ^ 32) }
+    ensures made { IfOk result (λ made. IsMadeOf (T.Holds tree.new) order.entry.now
+        made.put.items.items made.image.planned made.put.list) }
+    ensures fault { IfErr result
+        (IsUnmadeList path.entry (T.Holds tree.new) order.entry.now) }
 {
     let name = made_name(alloc, tree, order)?;
     let size = made_size(order)?;
     let Listed { items, digests } = list_all_new(alloc, tree, order)?;
     let new = new_items(alloc, &items)?;
-    let wanted = NewVolume {
-        name,
-        size,
-        items: &new,
-        catalog_times: 1,
-        moment: order.now,
+    let wanted = wanted_volume(name, size, &new, order.now);
+    let filled = match filled_image(alloc, &wanted, path, order, &items) {
+        Ok(filled) => filled,
+        Err(fault) => return Err(fault),
     };
-    let FilledImage { image, list } = filled_image(alloc, &wanted, path, order, &items)?;
-    need_digests(alloc, tree, &digests, &items)?;
-    let put = PutItems { items, list };
-    Ok(MadeList { image, put })
+    let FilledImage { image, list } = filled;
+    match need_digests(alloc, tree, &digests, &items) {
+        Ok(()) => {
+            let put = PutItems { items, list };
+            Ok(MadeList { image, put })
+        }
+        Err(fault) => Err(fault),
+    }
 }
 
-/// The image of a new volume as a file that it fills. Its error doesn't come: the range is the whole image.
-fn range_of(image: NewImage) -> Result<WatchedRange<SettledImage>, Fault<'static>>
-    ensures image { IfOk result (λ range. range.bytes.bytes.image ≡ image) }
-    ensures start { IfOk result (λ range. range.bytes.start ≡ 0) }
-    ensures fault { IfErr result (λ fault. fault ≡ why.NoMemory) }
+/// The image of a new volume as a file that it fills.
+fn range_of(image: NewImage) -> WatchedRange<SettledImage>
+    ensures image { result.bytes.bytes.image ≡ image }
+    ensures start { result.bytes.start ≡ 0 }
 {
     let image = SettledImage { image };
     let len = PlacedBytes::len(&image);
     match RangeBytes::new(image, 0, len) {
-        Ok(bytes) => Ok(WatchedRange { bytes }),
-        Err(_) => Err(Fault::NoMemory),
+        Ok(bytes) => WatchedRange { bytes },
+        Err(_) => unreachable!(),
     }
 }
 
 /// Makes a new volume with what comes: what the file with this path is to hold. The bytes of forks are read as it is written, of
 /// which a watch is told. Faults, in this order:
 /// `BadName`, `BadSize`; what can't be read of what comes; what can't come to its place; `NoRoom`, or the first call that is refused;
-/// the first file with another digest than its bag tells. Or want of memory.
+/// the first file with another digest than its bag tells; `CannotRead` of the path, where the forks don't lie in the volume. Or want
+/// of memory.
 pub fn make_volume<'a, 'w, T: HostTree + Drop, W: Watch>(
     alloc: Global,
     tree: T,
     path: &'a str,
     order: &MakeOrder<'_>,
     watch: &'w W,
-) -> Result<PutImage<'w, SettledImage, HostFiles<T>, W>, PutFault<'a>> {
+) -> Result<PutImage<'w, SettledImage, HostFiles<T>, W>, PutFault<'a>>
+    ensures made { IfOk result (IsMadeFile (IsReadOf T.Holds T.File.Holds) order.entry.now) }
+    ensures held { IfOk result (λ made. OfEachTree
+        (IsReadOf T.Holds T.File.Holds made.contents.file.forks.files) (T.Holds tree)) }
+    ensures fault { IfErr result (IsUnmade T.Holds path.entry order.entry.now tree) }
+{
     let mut tree = tree;
-    let MadeList { image, put } = make_list(alloc, &mut tree, path, order)?;
-    let len = PlacedBytes::len(&image);
-    let range = match range_of(image) {
-        Ok(range) => range,
-        Err(fault) => return Err(PutFault::Image(fault)),
+    let list = match make_list(alloc, &mut tree, path, order) {
+        Ok(list) => list,
+        Err(fault) => return Err(fault),
     };
+    let MadeList { image, put } = list;
+    let len = PlacedBytes::len(&image);
     let files = HostFiles::new(alloc, tree);
-    match put_image(alloc, range, len, None, path, files, put, watch) {
+    match put_image(alloc, range_of(image), len, None, path, files, put, watch) {
         Ok(made) => Ok(made),
         Err(fault) => Err(PutFault::Image(fault)),
     }

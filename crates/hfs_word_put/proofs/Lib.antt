@@ -2,3 +2,4 @@ mod Copies
 mod PathTargets
 mod Places
 mod MadeFiles
+mod Spared

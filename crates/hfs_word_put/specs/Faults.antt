@@ -1,5 +1,5 @@
 -- Why nothing was put, as it is printed, and how the program ends.
-use Rattle.std.specs.Prelude.{◌≡◌, ℕ, List, ◌++◌, codes, string_bytes, Option, Some, None}
+use Rattle.std.specs.Prelude.{◌≡◌, ⊤, ℕ, List, ◌++◌, codes, string_bytes, Option, Some, None}
 use Rattle.hfs_commands.specs.Faults.{fault_text, status_of}
 use Rattle.hfs_commands.specs.Paths.{path_text}
 use Rattle.hfs_commands.specs.declared.fault.Fault.{Fault}
@@ -40,3 +40,9 @@ IsHostFault host.NoMemory told = told ≡ fault.Image why.NoMemory
 abbrev pub IsUnsavedBy : Option HostFault → Fault → PutFault → Type 0
 IsUnsavedBy (Some why) found told = IsHostFault why told
 IsUnsavedBy None found told = told ≡ fault.Image found
+
+-- not that the image can't be read, or is refused
+abbrev pub SparesImage : PutFault → Type 0
+SparesImage (fault.Image found) = found ≡ why.NoMemory
+SparesImage (fault.CannotRead path) = ⊤
+SparesImage (fault.Refused lines) = ⊤

@@ -1,17 +1,19 @@
 -- What is put on a volume in a file, and what the file is to hold then.
-use Rattle.std.specs.Prelude.{◌≡◌, ◌⊎◌, ◌≤◌, ◌/◌, ℕ, List, length, None}
+use Rattle.std.specs.Prelude.{◌≡◌, ◌⊎◌, ◌≤◌, ◌/◌, ℕ, List, length, None, Some}
 use Rattle.std.specs.Borrow.{Bor}
 use Rattle.hfs_bag_facts.specs.Digests.{first_wrong}
 use Rattle.hfs_bag_facts.specs.Later.{Entries, told_at}
 use Rattle.hfs_blocks.specs.Blocks.{block_at, block_count}
+use Rattle.hfs_check.specs.Faults.{fault_of}
 use Rattle.hfs_check.specs.Parts.{mdb_in}
 use Rattle.hfs_check.specs.VolumeOf.{volume_of}
 use Rattle.hfs_commands.specs.declared.fault.Fault.{Fault}
 use Rattle.hfs_commands.specs.declared.fault.Fault.TheVariants as why
+use Rattle.hfs_commands.specs.declared.watched_range.WatchedRange.{WatchedRange}
 use Rattle.hfs_check.specs.declared.mount_fault.MountFault.{MountFault}
 use Rattle.hfs_put_image.specs.PutImages.{IsPutOver}
 use Rattle.hfs_put_image.specs.declared.putting.PutBlocks.{PutBlocks}
-use Rattle.hfs_source.specs.Images.{OfEach}
+use Rattle.hfs_source.specs.Images.{FailsInRange, IsRangeOf, OfEach}
 use Rattle.hfs_sources.specs.Items.{PlannedItem}
 use Rattle.hfs_sources.specs.Trees.{OfEachTree, Tree}
 use Rattle.hfs_working.specs.Working.{IsWorkingCopy}
@@ -33,9 +35,14 @@ pub record IsCopyOfEach (Holds : List ℕ → Type 0) (len : ℕ) (copy : List �
   pub count : block_count copy ≡ len / 512
   pub same : OfEach Holds (λ image. length image ≡ len → IsWorkingCopy copy image)
 
--- an image that was opened by this path can't be read, or is too much, or is refused
-abbrev pub IsUnmounted : Bor (List ℕ) → Fault → Type 0
-IsUnmounted path found = (found ≡ why.CannotRead path) ⊎ ((found ≡ why.NoMemory) ⊎ ((refusal : MountFault) × (found ≡ why.Refused refusal)))
+-- where the image has so many bytes, it is refused for this
+abbrev pub IsRefusedImage : ℕ → MountFault → List ℕ → Type 0
+IsRefusedImage len refusal image = length image ≡ len → fault_of image ≡ Some refusal
+
+-- an image that was opened by this path can't be read, or is too much, or each of these images is refused
+abbrev pub IsUnmounted : Bor (List ℕ) → (List ℕ → Type 0) → ℕ → Fault → Type 0
+IsUnmounted path Range len found =
+    (found ≡ why.CannotRead path) ⊎ ((found ≡ why.NoMemory) ⊎ ((refusal : MountFault) × (found ≡ why.Refused refusal) × OfEach Range (IsRefusedImage len refusal)))
 
 -- ---- what is put
 
@@ -85,8 +92,8 @@ pub record IsPutFrom (Range : List ℕ → Type 0) (Hosts : Tree → Type 0) (or
   pub done : IsPutOf Hosts order copy items put sums
 
 -- the image was not mounted, and that is told
-abbrev pub IsImageFault : Bor (List ℕ) → PutFault → Type 0
-IsImageFault path told = (found : Fault) × (told ≡ fault.Image found) × IsUnmounted path found
+abbrev pub IsImageFault : Bor (List ℕ) → (List ℕ → Type 0) → ℕ → PutFault → Type 0
+IsImageFault path Range len told = (found : Fault) × (told ≡ fault.Image found) × IsUnmounted path Range len found
 
 -- nothing was put on a copy of each of these images that has so many bytes
 pub record IsUnputCopy (Range : List ℕ → Type 0) (Hosts : Tree → Type 0) (order : PutOrder) (len : ℕ) (told : PutFault) : Type 0 where
@@ -96,4 +103,21 @@ pub record IsUnputCopy (Range : List ℕ → Type 0) (Hosts : Tree → Type 0) (
 
 -- why nothing was put on an image that was opened by this path
 abbrev pub IsUnputFrom : Bor (List ℕ) → (List ℕ → Type 0) → (Tree → Type 0) → PutOrder → ℕ → PutFault → Type 0
-IsUnputFrom path Range Hosts order len told = IsImageFault path told ⊎ IsUnputCopy Range Hosts order len told
+IsUnputFrom path Range Hosts order len told = IsImageFault path Range len told ⊎ IsUnputCopy Range Hosts order len told
+
+-- the images that lie in a range of a file of which such bytes were read
+abbrev pub range_images : {S : Type 0} → (S → List ℕ → Type 0) → WatchedRange S → List ℕ → Type 0
+range_images Files range = IsRangeOf (Files range.bytes.bytes) range.bytes.start range.bytes.len
+
+-- where a read of such a range may fail, by where one of its file may
+abbrev pub range_failures : {S : Type 0} → (S → ℕ → ℕ → Type 0) → WatchedRange S → ℕ → ℕ → Type 0
+range_failures Fails range = FailsInRange (Fails range.bytes.bytes) range.bytes.start range.bytes.len
+
+-- why nothing was put on the image of a range that was opened by this path: of each that has the bytes which were read, and of each tree that has what
+-- was read
+pub record IsUnputSources {S T : Type 0} (Files : S → List ℕ → Type 0) (Hosts : T → Tree → Type 0) (range : WatchedRange S) (tree : T) (path : Bor (List ℕ)) (order : PutOrder) (told : PutFault) : Type 0 where
+  pub read : WatchedRange S
+  pub seen : T
+  pub narrows : OfEach (range_images Files read) (range_images Files range)
+  pub held : OfEachTree (Hosts seen) (Hosts tree)
+  pub why : IsUnputFrom path (range_images Files read) (Hosts seen) order range.bytes.len told

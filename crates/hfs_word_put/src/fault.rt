@@ -1,6 +1,6 @@
 //! Why nothing was put.
 ghost use Rattle.std.specs.Prelude.{◌≡◌, Err, IfErr, IfOk, Ok, Some, string_bytes};
-ghost use Rattle.hfs_word_put.specs.Faults.{IsHostFault, TellsBy, fault_lines, put_status};
+ghost use Rattle.hfs_word_put.specs.Faults.{IsHostFault, SparesImage, TellsBy, fault_lines, put_status};
 ghost use Rattle.hfs_word_put.specs.Lines.{refusal_line};
 
 use crate::lines::refusal_line;
@@ -39,6 +39,7 @@ impl PutFault<'static> {
     pub fn of_lines(lines: Result<String, AllocError>) -> PutFault<'static>
         ensures told { IfOk lines (λ text. TellsBy (string_bytes text) result) }
         ensures memory { IfErr lines (λ _. result ≡ PutFault.Image Fault.NoMemory) }
+        ensures spares { SparesImage result }
     {
         match lines {
             Ok(lines) => PutFault::Refused(lines),
@@ -48,7 +49,8 @@ impl PutFault<'static> {
 
     /// The fault for sources that can't be looked at.
     pub fn of_host(alloc: Global, fault: HostFault) -> PutFault<'static>
-        ensures { IsHostFault fault result }
+        ensures told { IsHostFault fault result }
+        ensures spares { SparesImage result }
     {
         match fault {
             HostFault::CannotRead(path) => PutFault::CannotRead(path),

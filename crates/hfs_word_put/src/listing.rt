@@ -3,6 +3,7 @@ ghost use Rattle.std.specs.Prelude.{◌≡◌, None, IfErr, IfOk, OnOk};
 ghost use Rattle.hfs_bag_facts.specs.Digests.{first_wrong};
 ghost use Rattle.hfs_bag_facts.specs.Later.{told_at};
 ghost use Rattle.hfs_sources.specs.Trees.{OfEachTree};
+ghost use Rattle.hfs_word_put.specs.Faults.{SparesImage};
 ghost use Rattle.hfs_word_put.specs.Listed.{IsListed, IsUnlisted, IsUnverified};
 
 use crate::fault::PutFault;
@@ -49,6 +50,7 @@ pub fn list_all<T: HostTree>(
         (IsListed order.entry.now listed.items.items listed.digests)) }
     ensures held { OfEachTree (T.Holds tree.new) (T.Holds tree.old) }
     ensures fault { IfErr result IsUnlisted }
+    ensures spares { IfErr result SparesImage }
 {
     match read_list(alloc, tree, order) {
         Ok(listed) => Ok(listed),
@@ -68,6 +70,7 @@ pub fn need_digests<T: HostTree>(
         (λ host. first_wrong host (told_at digests.now) items.now ≡ None)) }
     ensures held { OfEachTree (T.Holds tree.new) (T.Holds tree.old) }
     ensures fault { IfErr result (IsUnverified (T.Holds tree.new) digests.now items.now) }
+    ensures spares { IfErr result SparesImage }
 {
     match first_wrong_file(alloc, tree, digests, items) {
         Ok(None) => Ok(()),

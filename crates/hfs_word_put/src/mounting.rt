@@ -1,39 +1,41 @@
 //! Mounting the volume of an image over the blocks that calls read and write.
-ghost use Rattle.std.specs.Prelude.{◌≡◌, ◌/◌, None, IfErr, IfOk, Some, length};
-ghost use Rattle.hfs_check.specs.Faults.{fault_of};
+ghost use Rattle.std.specs.Prelude.{◌≡◌, ◌/◌, None, IfErr, IfOk};
 ghost use Rattle.hfs_check.specs.Sound.{IsSound};
 ghost use Rattle.hfs_check.specs.declared.mount_fault.MountFault.{MountFault};
 ghost use Rattle.hfs_commands.specs.Running.{IsRunnable};
+ghost use Rattle.hfs_needed.specs.Failing.{SomeFailsWithin};
 ghost use Rattle.hfs_source.specs.Images.{OfEach};
 ghost use Rattle.hfs_volume.specs.Image.{copy_of};
 ghost use Rattle.hfs_working.specs.Opened.{IsWorkingOf};
-ghost use Rattle.hfs_word_put.specs.Put.{IsCopyOfEach, IsUnmounted};
+ghost use Rattle.hfs_word_put.specs.Put.{IsCopyOfEach, IsRefusedImage, IsUnmounted};
 
 use hfs_commands::Fault;
 use hfs_needed::NeededFault;
-use hfs_sparse::BlockSource;
 use hfs_volume::Volume;
-use hfs_working::{WorkingVolume, mount_read, open_working};
+use hfs_working::{FailingBlocks, WorkingVolume, mount_read, open_source};
 use std::alloc::Global;
 
 /// Reads those blocks of an image of `len` bytes, opened by this path, that calls read and write, and makes all checks.
-fn open_image<'a, S: BlockSource>(
+fn open_image<'a, S: FailingBlocks>(
     alloc: Global,
-    source: &mut S,
+    source: S,
     len: u64,
     path: &'a str,
-) -> Result<WorkingVolume, Fault<'a>>
-    ensures opened { IfOk result (IsRunnable (S.Holds source.new) len) }
-    ensures fault { IfErr result (IsUnmounted path.entry) }
-    ensures refused { IfErr result (λ fault. (why : MountFault) → fault ≡ Fault.Refused why
-        → OfEach (S.Holds source.new) (λ image. length image ≡ len → fault_of image ≡ Some why)) }
-    ensures narrows { OfEach (S.Holds source.new) (S.Holds source.old) }
+) -> (Result<WorkingVolume, Fault<'a>>, S)
+    ensures opened { IfOk result.0 (IsRunnable (S.Holds result.1) len) }
+    ensures fault { IfErr result.0 (IsUnmounted path.entry (S.Holds result.1) len) }
+    ensures failed { IfErr result.0 (λ fault. fault ≡ Fault.CannotRead path.entry
+        → SomeFailsWithin len (S.Fails source)) }
+    ensures refused { IfErr result.0 (λ fault. (why : MountFault) → fault ≡ Fault.Refused why
+        → OfEach (S.Holds result.1) (IsRefusedImage len why)) }
+    ensures narrows { OfEach (S.Holds result.1) (S.Holds source) }
 {
-    match open_working(alloc, source, len) {
-        Ok(working) => Ok(working),
-        Err(NeededFault::Refused(why)) => Err(Fault::Refused(why)),
-        Err(NeededFault::ReadFailed) => Err(Fault::CannotRead(path)),
-        Err(NeededFault::Memory) => Err(Fault::NoMemory),
+    let (opened, source) = open_source(alloc, source, len);
+    match opened {
+        Ok(working) => (Ok(working), source),
+        Err(NeededFault::Refused(why)) => (Err(Fault::Refused(why)), source),
+        Err(NeededFault::ReadFailed) => (Err(Fault::CannotRead(path)), source),
+        Err(NeededFault::Memory) => (Err(Fault::NoMemory), source),
     }
 }
 
@@ -52,21 +54,26 @@ fn mount(alloc: Global, working: WorkingVolume, len: u64) -> Result<Volume, Faul
 }
 
 /// Reads those blocks of an image of `len` bytes, opened by this path, that calls read and write, makes all checks, and mounts
-/// its volume over them, with zeros in place of all other blocks. Faults: `CannotRead` of the path; `Refused`; `NoMemory`.
-pub fn mount_image<'a, S: BlockSource>(
+/// its volume over them, with zeros in place of all other blocks. The source is handed back. Faults: `CannotRead` of the path, if
+/// a read of bytes that it has failed; `Refused`; `NoMemory`.
+pub fn mount_image<'a, S: FailingBlocks>(
     alloc: Global,
-    source: &mut S,
+    source: S,
     len: u64,
     path: &'a str,
-) -> Result<Volume, Fault<'a>>
-    ensures copy { IfOk result (λ volume. IsCopyOfEach (S.Holds source.new) len volume.base) }
-    ensures fresh { IfOk result (λ volume. volume.current ≡ volume.base) }
-    ensures fault { IfErr result (IsUnmounted path.entry) }
-    ensures refused { IfErr result (λ fault. (why : MountFault) → fault ≡ Fault.Refused why
-        → OfEach (S.Holds source.new) (λ image. length image ≡ len → fault_of image ≡ Some why)) }
-    ensures narrows { OfEach (S.Holds source.new) (S.Holds source.old) }
+) -> (Result<Volume, Fault<'a>>, S)
+    ensures copy { IfOk result.0 (λ volume. IsCopyOfEach (S.Holds result.1) len volume.base) }
+    ensures fresh { IfOk result.0 (λ volume. volume.current ≡ volume.base) }
+    ensures fault { IfErr result.0 (IsUnmounted path.entry (S.Holds result.1) len) }
+    ensures failed { IfErr result.0 (λ fault. fault ≡ Fault.CannotRead path.entry
+        → SomeFailsWithin len (S.Fails source)) }
+    ensures refused { IfErr result.0 (λ fault. (why : MountFault) → fault ≡ Fault.Refused why
+        → OfEach (S.Holds result.1) (IsRefusedImage len why)) }
+    ensures narrows { OfEach (S.Holds result.1) (S.Holds source) }
 {
-    let working = open_image(alloc, source, len, path)?;
-    let volume = mount(alloc, working, len)?;
-    Ok(volume)
+    let (opened, source) = open_image(alloc, source, len, path);
+    match opened {
+        Ok(working) => (mount(alloc, working, len), source),
+        Err(fault) => (Err(fault), source),
+    }
 }

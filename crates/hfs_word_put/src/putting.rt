@@ -2,13 +2,14 @@
 ghost use Rattle.std.specs.Prelude.{◌≡◌, ◌≤◌, ◌/◌, IfErr, IfOk, OnOk};
 ghost use Rattle.hfs_blocks.specs.Blocks.{block_at, block_count};
 ghost use Rattle.hfs_check.specs.Parts.{mdb_in};
+ghost use Rattle.hfs_needed.specs.Failing.{SomeFailsWithin};
 ghost use Rattle.hfs_source.specs.Images.{OfEach};
 ghost use Rattle.hfs_blocks.specs.Layers.{changes, AreWithin};
 ghost use Rattle.hfs_sources.specs.Trees.{OfEachTree};
 ghost use Rattle.hfs_laid_forks.specs.Files.{IsReadOf};
-ghost use Rattle.hfs_word_put.specs.Faults.{IsUnsavedBy};
+ghost use Rattle.hfs_word_put.specs.Faults.{IsUnsavedBy, SparesImage};
 ghost use Rattle.hfs_word_put.specs.Files.{IsPutFile, place_of};
-ghost use Rattle.hfs_word_put.specs.Put.{IsPutFrom, IsPutOf, IsPutOn, IsUnput, IsUnputFrom, IsUnputOn};
+ghost use Rattle.hfs_word_put.specs.Put.{IsPutFrom, IsPutOf, IsPutOn, IsUnput, IsUnputFrom, IsUnputOn, IsUnputSources, range_failures, range_images};
 ghost use Rattle.hfs_word_put.specs.Sums.{put_sums};
 
 use crate::contents::LaidFile;
@@ -28,8 +29,8 @@ use hfs_put_calls::PutItem;
 use hfs_put_image::PutBlocks;
 use hfs_source::RangeBytes;
 use hfs_sources::{HostTree, SourceItem};
-use hfs_sparse::BlockSource;
 use hfs_volume::Volume;
+use hfs_working::FailingBlocks;
 use std::alloc::Global;
 
 /// A list that was put on a volume.
@@ -64,6 +65,7 @@ fn sums_of(volume: &Volume, places: &[PutItem]) -> PutSums
 
 /// Puts a list on a volume that has just been mounted. Faults, in this order: items that can't be placed; the first call that is
 /// refused. Also out of memory.
+#[tactic(auto, using(crate::proofs::Spared::unput))]
 fn put_list(
     alloc: Global,
     volume: &mut Volume,
@@ -76,6 +78,7 @@ fn put_list(
     ensures within { IfOk result (λ put. AreWithin (changes put.blocks.patch)
         (block_count volume.old.base)) }
     ensures fault { IfErr result (IsUnputOn order.entry.now volume.old.base items.now) }
+    ensures spares { IfErr result SparesImage }
 {
     let list = place_all(alloc, volume, order, items)?;
     match lay_all(alloc, volume, &list, items, order.now) {
@@ -103,6 +106,7 @@ pub fn put_items<T: HostTree>(
         (block_count volume.old.base)) }
     ensures held { OfEachTree (T.Holds tree.new) (T.Holds tree.old) }
     ensures fault { IfErr result (IsUnput (T.Holds tree.new) order.entry.now volume.old.base) }
+    ensures spares { IfErr result SparesImage }
 {
     let Listed { items, digests } = list_all(alloc, tree, order)?;
     let list = put_list(alloc, volume, order, &items)?;
@@ -113,30 +117,34 @@ pub fn put_items<T: HostTree>(
 }
 
 /// Puts the sources on the volume of an image of `len` bytes, opened by this path. Faults, in this order: those of
-/// [`mount_image`], then those of [`put_items`].
-pub fn put_on<'a, S: BlockSource, T: HostTree>(
+/// [`mount_image`], then those of [`put_items`]. What the image is read from is handed back.
+pub fn put_on<'a, S: FailingBlocks, T: HostTree>(
     alloc: Global,
-    image: &mut S,
+    image: S,
     len: u64,
     path: &'a str,
     tree: &mut T,
     order: &PutOrder<'_>,
-) -> Result<PutItems, PutFault<'a>>
-    ensures put { IfOk result (λ put. IsPutFrom (S.Holds image.new) (T.Holds tree.new)
+) -> (Result<PutItems, PutFault<'a>>, S)
+    ensures put { IfOk result.0 (λ put. IsPutFrom (S.Holds result.1) (T.Holds tree.new)
         order.entry.now len put.items.items put.list.blocks put.list.sums) }
-    ensures small { OnOk result (len ≤ 2147483648) }
-    ensures within { IfOk result (λ put. AreWithin (changes put.list.blocks.patch) (len / 512)) }
-    ensures fault { IfErr result (IsUnputFrom path.entry (S.Holds image.new) (T.Holds tree.new)
+    ensures small { OnOk result.0 (len ≤ 2147483648) }
+    ensures within { IfOk result.0 (λ put. AreWithin (changes put.list.blocks.patch) (len / 512)) }
+    ensures fault { IfErr result.0 (IsUnputFrom path.entry (S.Holds result.1) (T.Holds tree.new)
         order.entry.now len) }
-    ensures narrows { OfEach (S.Holds image.new) (S.Holds image.old) }
+    ensures failed { IfErr result.0 (λ fault. fault ≡ PutFault.Image (Fault.CannotRead path.entry)
+        → SomeFailsWithin len (S.Fails image)) }
+    ensures narrows { OfEach (S.Holds result.1) (S.Holds image) }
+    ensures held { OfEachTree (T.Holds tree.new) (T.Holds tree.old) }
 {
-    let mut volume = match mount_image(alloc, image, len, path) {
+    let (mounted, image) = mount_image(alloc, image, len, path);
+    let mut volume = match mounted {
         Ok(volume) => volume,
-        Err(fault) => return Err(PutFault::Image(fault)),
+        Err(fault) => return (Err(PutFault::Image(fault)), image),
     };
     match put_items(alloc, &mut volume, tree, order) {
-        Ok(put) => Ok(put),
-        Err(fault) => Err(fault),
+        Ok(put) => (Ok(put), image),
+        Err(fault) => (Err(fault), image),
     }
 }
 
@@ -194,8 +202,8 @@ pub fn put_image<'a, 'w, S: WatchedBytes + Drop, H: PlacedFiles + Drop, W: Watch
 }
 
 /// Puts the sources on the volume of an image in a file, opened by this path, and returns what the file is to hold. The bytes of
-/// forks are read while it is written, and reported to a watch. Faults: those of [`put_on`]; `CannotRead` of the path, if the
-/// forks don't lie in the file, or the image's range isn't as long as it was (which no source of bytes lets happen).
+/// forks are read while it is written, and reported to a watch. Faults: those of [`put_on`]. Out of memory
+/// if the forks don't lie in the file, or the image's range isn't as long as it was: no source of bytes lets that happen.
 pub fn put_sources<'a, 'w, S: WatchedBytes + Drop, T: HostTree + Drop, W: Watch>(
     alloc: Global,
     image: WatchedRange<S>,
@@ -205,20 +213,26 @@ pub fn put_sources<'a, 'w, S: WatchedBytes + Drop, T: HostTree + Drop, W: Watch>
     order: &PutOrder<'_>,
     watch: &'w W,
 ) -> Result<PutImage<'w, S, HostFiles<T>, W>, PutFault<'a>>
-    ensures { IfOk result (IsPutFile S.Holds (IsReadOf T.Holds T.File.Holds)
+    ensures file { IfOk result (IsPutFile S.Holds (IsReadOf T.Holds T.File.Holds)
         order.entry.now image.bytes.len sum_at) }
+    ensures fault { IfErr result (IsUnputSources S.Holds T.Holds image tree path.entry order.entry.now) }
+    ensures failed { IfErr result (λ fault. fault ≡ PutFault.Image (Fault.CannotRead path.entry)
+        → SomeFailsWithin image.bytes.len (range_failures S.Fails image)) }
 {
-    let mut image = image;
     let mut tree = tree;
     let len = image.bytes.len;
-    let put = put_on(alloc, &mut image, len, path, &mut tree, order)?;
+    let (put, image) = put_on(alloc, image, len, path, &mut tree, order);
+    let put = match put {
+        Ok(put) => put,
+        Err(fault) => return Err(fault),
+    };
     if image.bytes.len != len {
-        return Err(PutFault::Image(Fault::CannotRead(path)));
+        return Err(PutFault::Image(Fault::NoMemory));
     }
     let files = HostFiles::new(alloc, tree);
     match put_image(alloc, image, len, sum_at, path, files, put, watch) {
         Ok(made) => Ok(made),
-        Err(fault) => Err(PutFault::Image(fault)),
+        Err(_) => Err(PutFault::Image(Fault::NoMemory)),
     }
 }
 

@@ -4,6 +4,7 @@
 mod keeping;
 mod laws;
 mod mounting;
+mod noted;
 mod opening;
 
 pub use crate::keeping::kept_to;
@@ -11,4 +12,5 @@ pub use crate::laws::{
     changes_carry_over, copies_answer, kept_changes_carry_over, kept_forks_are_alike,
 };
 pub use crate::mounting::mount_read;
-pub use crate::opening::{WorkingVolume, open_working};
+pub use crate::noted::FailingBlocks;
+pub use crate::opening::{WorkingVolume, open_source, open_working};

@@ -5,17 +5,20 @@ ghost use Rattle.hfs_blocks.specs.Blocks.{run_of};
 ghost use Rattle.hfs_blocks.specs.Layers.{KeepsWithin};
 ghost use Rattle.hfs_check.specs.declared.mount_fault.MountFault.{MountFault};
 ghost use Rattle.hfs_check.specs.Sound.{IsSound};
+ghost use Rattle.hfs_needed.specs.Failing.{SomeFailsWithin};
 ghost use Rattle.hfs_needed.specs.Opened.{AreRefusedFor, IsRefusedFor};
-ghost use Rattle.hfs_source.specs.Images.{OfEach};
+ghost use Rattle.hfs_source.specs.Images.{FailsWhere, OfEach};
 ghost use Rattle.hfs_sparse.specs.Seen.{EachKnown, IsSeen, SeesMore};
 ghost use Rattle.hfs_sparse.specs.Sparse.{HasEach, HasGrown, StaysOf};
 ghost use Rattle.hfs_volume.specs.Image.{copy_of};
 ghost use Rattle.hfs_working.specs.Opened.{IsCopyOf, IsWorkingOf, LieWithin};
 
+use crate::noted::{FailingBlocks, NotedSource};
 use hfs_check::{MountFault, SoundVolume, VolumeTrees, check_blocks};
-use hfs_needed::{NeededFault, gather_needed};
+use hfs_needed::{NeededFault, PickedFailures, gather_needed};
 use hfs_sparse::{BlockSource, SparseBlocks, SparseFault, fetch_runs};
 use std::alloc::Global;
+use std::marker::Brand;
 
 /// The working blocks of a sound volume, and what its checks found.
 #[derive(Drop)]
@@ -116,4 +119,57 @@ pub fn open_working<S: BlockSource>(
         return Err(NeededFault::Refused(MountFault::Short));
     }
     open_blocks(alloc, source, (len / 512) as u32)
+}
+
+/// Opens an image of `len` bytes as [`open_source`] does, where the reads that may fail are picked.
+fn open_noted<K: PickedFailures, S: FailingBlocks>(
+    alloc: Global,
+    source: S,
+    len: u64,
+) -> (Result<WorkingVolume, NeededFault>, S)
+    requires fails { FailsWhere (S.Fails source) K.fails }
+    requires len { len ≡ K.len }
+    ensures opened { IfOk result.0 (IsWorkingOf (S.image source) (len / 512)) }
+    ensures mountable { IfOk result.0 (IsWorkingOf None (len / 512)) }
+    ensures sound { IfOk result.0 (λ volume. IsSound (copy_of volume.read len)) }
+    ensures copy { IfOk result.0 (IsCopyOf (S.image source) len) }
+    ensures refused { IfErr result.0 (λ fault. IsRefusedFor (S.image source) len fault) }
+    ensures failed { IfErr result.0 (λ fault. fault ≡ NeededFault.ReadFailed
+        → SomeFailsWithin len K.fails) }
+    ensures image { S.image result.1 ≡ S.image source }
+    ensures seen { IfOk result.0 (λ volume. IsSeen (S.Holds result.1) volume.read) }
+    ensures each_refused { IfErr result.0 (λ fault. EachKnown (S.Holds result.1)
+        (λ known. IsRefusedFor known len fault)) }
+    ensures narrows { OfEach (S.Holds result.1) (S.Holds source) }
+{
+    let mut noted = NotedSource::<S, K>::new(source, len);
+    let opened = open_working(alloc, &mut noted, len);
+    let (source, failed) = noted.into_source();
+    match opened {
+        Ok(volume) => (Ok(volume), source),
+        Err(why) => (Err(why.noted(failed)), source),
+    }
+}
+
+/// Opens an image of `len` bytes as [`open_working`] does, over a source that says where its reads may fail, and hands the source
+/// back. Errors: a read of bytes that it has failed, memory was refused, or the image is refused.
+pub fn open_source<S: FailingBlocks>(
+    alloc: Global,
+    source: S,
+    len: u64,
+) -> (Result<WorkingVolume, NeededFault>, S)
+    ensures opened { IfOk result.0 (IsWorkingOf (S.image source) (len / 512)) }
+    ensures mountable { IfOk result.0 (IsWorkingOf None (len / 512)) }
+    ensures sound { IfOk result.0 (λ volume. IsSound (copy_of volume.read len)) }
+    ensures copy { IfOk result.0 (IsCopyOf (S.image source) len) }
+    ensures refused { IfErr result.0 (λ fault. IsRefusedFor (S.image source) len fault) }
+    ensures failed { IfErr result.0 (λ fault. fault ≡ NeededFault.ReadFailed
+        → SomeFailsWithin len (S.Fails source)) }
+    ensures image { S.image result.1 ≡ S.image source }
+    ensures seen { IfOk result.0 (λ volume. IsSeen (S.Holds result.1) volume.read) }
+    ensures each_refused { IfErr result.0 (λ fault. EachKnown (S.Holds result.1)
+        (λ known. IsRefusedFor known len fault)) }
+    ensures narrows { OfEach (S.Holds result.1) (S.Holds source) }
+{
+    open_noted::<Brand, S>(alloc, source, len)
 }

@@ -1,7 +1,7 @@
 -- A block's place is its number times 512.
 use Rattle.std.proofs.Common.{◌≡◌, ℕ, ◌*◌, OnOk, subst, arith}
 use Rattle.hfs_source.specs.Images.{HasAt, IsRangeOf, OfEach}
-use Rattle.hfs_commands.proofs.watched_range.WatchedRangeBlockSource.read_blocks.Goals as goal
+use Rattle.hfs_commands.proofs.watched_range.WatchedRangeFailingBlocks.read_told.Goals as goal
 
 pub returns-clause-seen : goal.returns-clause-seen
 returns-clause-seen g c =
