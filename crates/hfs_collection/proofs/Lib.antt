@@ -1,4 +1,3 @@
-mod Pieces
 mod Going
 mod VolumeGiving
 mod VolumesGoing

@@ -11,12 +11,13 @@ use Rattle.hfs_containers.specs.declared.ranges.Layout.{Layout}
 use Rattle.hfs_containers.specs.declared.ranges.Layout.TheVariants.{Plain, Raw}
 use Rattle.hfs_containers.specs.Found.{found_in, found_raw_in}
 use Rattle.hfs_containers.specs.Ranges.{bytes_in, range_of}
+use Rattle.hfs_containers.specs.Sums.{sum_told}
 use Rattle.hfs_raw.specs.Sectors.{other_count, user_data_of}
 use Rattle.hfs_table.specs.Columns.{moment_cell}
 use Rattle.hfs_model.specs.Children.{entries_of}
 use Rattle.hfs_check.specs.VolumeOf.{volume_of}
 use Rattle.hfs_refusals.specs.Refusals.{refusal_text}
-use Rattle.hfs_commands.specs.Volumes.{container_text, name_text, sum_told}
+use Rattle.hfs_commands.specs.Volumes.{container_text, name_text}
 use Rattle.hfs_containers.specs.declared.ranges.Container.{Container}
 use Rattle.hfs_finds.specs.Finds.{found_directory}
 use Rattle.hfs_rows.specs.declared.value.RowValue.{RowValue}

@@ -4,7 +4,6 @@ ghost use Rattle.hfs_model.specs.Children.{entries_of};
 ghost use Rattle.hfs_check.specs.Faults.{fault_of};
 ghost use Rattle.hfs_check.specs.VolumeOf.{volume_of};
 ghost use Rattle.hfs_contents.specs.Parts.{content_of};
-ghost use Rattle.hfs_commands.specs.Volumes.{sum_told};
 ghost use Rattle.hfs_containers.specs.Ranges.{bytes_in};
 ghost use Rattle.hfs_inventory.specs.Told.{told_rows};
 ghost use Rattle.hfs_rows.specs.declared.value.Table.TheVariants as table;
@@ -21,14 +20,14 @@ use crate::giving::give_items;
 use crate::giving_remains::{give_refused, give_volume_row, give_where_found};
 use crate::places::VolumePlace;
 use crate::source::ImageFile;
-use hfs_containers::{Container, FoundRange, Layout};
-use hfs_contents::{ImagePart, PickedImage, range_sum};
+use hfs_containers::{FoundRange, Layout, sum_told};
+use hfs_contents::{ImagePart, PickedImage};
 use hfs_fields::Mdb;
 use hfs_finds::look;
 use hfs_needed::SeenImage;
 use hfs_rows::RowTaker;
 use hfs_source::{BlocksOf, PlacedBlocks, PlacedBytes};
-use hfs_sparse::{SeenBlocks, SparseFault};
+use hfs_sparse::SeenBlocks;
 use std::alloc::Global;
 
 /// Gives the row of a sound volume and those of its items, and returns how many files are among them.
@@ -114,22 +113,6 @@ fn give_volume<S: PlacedBytes + Drop, K: PickedImage, F: ImageFile<S, K>, T: Row
             file.note(image.source.blocks.bytes.source());
             given
         }
-    }
-}
-
-/// Whether the sum in a disk copy's header is that of its data; None if there is no such header.
-fn sum_told<S: PlacedBytes>(source: &mut S, found: &FoundRange) -> Result<Option<bool>, SparseFault>
-    ensures told { IfOk result (λ sum. OfEach (S.Holds source.new)
-        (λ file. sum ≡ sum_told found.now.container (bytes_in found.now.range file))) }
-    ensures held { OfEach (S.Holds source.new) (S.Holds source.old) }
-{
-    match found.container {
-        Container::DiskCopy { sum } => {
-            let own = range_sum(source, found.range)?;
-            Ok(Some(own == sum))
-        }
-        Container::Bare | Container::MacBinary | Container::Partition => Ok(None),
-        Container::RawBare | Container::RawPartition => Ok(None),
     }
 }
 

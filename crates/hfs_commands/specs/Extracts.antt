@@ -6,7 +6,6 @@ use Rattle.std.specs.Option.{is_some}
 use Rattle.std.specs.Io.KnownBytes.{Appends}
 use Rattle.hfs_containers.specs.declared.ranges.ByteRange.{ByteRange}
 use Rattle.hfs_containers.specs.Ranges.{volume_name_in}
-use Rattle.hfs_containers.specs.Reading.{IsTold}
 use Rattle.hfs_source.specs.Images.{OfEach}
 use Rattle.hfs_texts.specs.Lines.{line}
 use Rattle.hfs_texts.specs.Writing.{AppendsFront}
@@ -41,9 +40,9 @@ IsSized Holds len image = Holds image × (length image ≡ len)
 abbrev pub holds_volume : ByteRange → List ℕ → Bool
 holds_volume range file = is_some (volume_name_in range file)
 
--- nothing is written: there is no volume, where the file's bytes are known; or they can't be read
-abbrev pub IsNoVolume : Option (List ℕ) → ByteRange → Bor (List ℕ) → Fault → Type 0
-IsNoVolume known range path why = ((why ≡ NoVolumes) × IsTold known (holds_volume range) false) ⊎ ((why ≡ CannotRead path) ⊎ (why ≡ NoMemory))
+-- nothing is written: there is no volume, in each file that has the bytes which were read; or they can't be read
+abbrev pub IsNoVolume : (List ℕ → Type 0) → ByteRange → Bor (List ℕ) → Fault → Type 0
+IsNoVolume Holds range path why = ((why ≡ NoVolumes) × OfEach Holds (λ file. false ≡ holds_volume range file)) ⊎ ((why ≡ CannotRead path) ⊎ (why ≡ NoMemory))
 
 -- what is printed of a volume of so many bytes
 unfoldable pub extracted_text : ℕ → List ℕ

@@ -1,29 +1,32 @@
 -- What is known of a file that was opened.
-use Rattle.std.specs.Prelude.{◌≡◌, ⊤, ℕ, ◌+◌, ◌*◌, ◌/◌, ◌<◌, List, length, Option, None, Some}
+use Rattle.std.specs.Prelude.{◌≡◌, ⊤, ℕ, ◌+◌, ◌*◌, ◌/◌, ◌<◌, List, length, IfSome, Option, None, Some}
 use Rattle.std.specs.Arc.{arc_value}
+use Rattle.hfs_source.specs.Images.{OfEach}
 use Rattle.hfs_source.specs.Steps.{IsReadFrom}
 use Rattle.hfs_raw.specs.Reading.{FailsInData, IsDataOfOne}
-use Rattle.hfs_raw.specs.Sectors.{other_count}
+use Rattle.hfs_raw.specs.Sectors.{other_count, sector_count}
 use Rattle.hfs_containers.specs.declared.ranges.ByteRange.{ByteRange}
 use Rattle.hfs_containers.specs.declared.ranges.Layout.{Layout}
 use Rattle.hfs_containers.specs.declared.ranges.Layout.TheVariants as layout
 use Rattle.hfs_containers.specs.Ranges.{range_of}
-use Rattle.hfs_containers.specs.Raw.{known_data}
-use Rattle.hfs_containers.specs.Reading.{IsToldOf}
 use Rattle.hfs_commands.specs.declared.opened_file.OpenedFile.{OpenedFile}
 use Rattle.hfs_commands.specs.declared.opened_file.OpenedFile.TheVariants.{Plain, Raw}
 use Rattle.hfs_commands.specs.declared.opened_file.StoredFile.{StoredFile}
 use Rattle.hfs_commands.specs.declared.opened_file.StoredFile.TheVariants.{Seekable, Whole}
 
--- the bytes of a file, where all were read
+-- the bytes of a file, where all are held
 abbrev pub stored_bytes : {F : Type 0} → StoredFile F → Option (List ℕ)
 stored_bytes (Seekable file) = None
 stored_bytes (Whole bytes) = Some (arc_value bytes).items
 
--- the bytes in which volumes are looked for, where all of the file were read
-abbrev pub known_bytes : {F : Type 0} → OpenedFile F → Option (List ℕ)
-known_bytes (Plain file) = stored_bytes file
-known_bytes (Raw file) = known_data file.len (stored_bytes file.data.bytes)
+-- the same of a file in which volumes are looked for
+abbrev pub held_bytes : {F : Type 0} → OpenedFile F → Option (List ℕ)
+held_bytes (Plain file) = stored_bytes file
+held_bytes (Raw user) = stored_bytes user.bytes
+
+-- bytes that were held are held
+abbrev pub StaysHeld : Option (List ℕ) → Option (List ℕ) → Type 0
+StaysHeld old new = IfSome old (λ bytes. new ≡ Some bytes)
 
 -- the files that have the bytes which were read: of what is held as a whole there is one
 abbrev pub stored_images : {F : Type 0} → StoredFile F → List ℕ → Type 0
@@ -38,27 +41,37 @@ stored_failures (Whole bytes) place count = length (arc_value bytes).items < pla
 -- the bytes in which volumes are looked for, of each file that has the bytes which were read
 abbrev pub images_of : {F : Type 0} → OpenedFile F → List ℕ → Type 0
 images_of (Plain file) image = stored_images file image
-images_of (Raw file) image = IsDataOfOne (stored_images file.data.bytes) file.data.sectors image
+images_of (Raw user) image = IsDataOfOne (stored_images user.bytes) user.sectors image
+
+-- the files themselves
+abbrev pub files_of : {F : Type 0} → OpenedFile F → List ℕ → Type 0
+files_of (Plain file) image = stored_images file image
+files_of (Raw user) image = stored_images user.bytes image
 
 -- where a read of these may fail
 abbrev pub failures_of : {F : Type 0} → OpenedFile F → ℕ → ℕ → Type 0
 failures_of (Plain file) place count = stored_failures file place count
-failures_of (Raw file) place count = FailsInData (stored_failures file.data.bytes) file.data.sectors place count
+failures_of (Raw user) place count = FailsInData (stored_failures user.bytes) user.sectors place count
 
 -- what the file's bytes are
 abbrev pub opened_layout : {F : Type 0} → OpenedFile F → Layout
 opened_layout (Plain file) = layout.Plain
-opened_layout (Raw file) = layout.Raw
+opened_layout (Raw user) = layout.Raw
 
--- so many of its raw sectors have no user data, where all of the file were read; none where it has no such sectors
+-- the user data is that of as many sectors as this file has
+abbrev pub HasSectorsOf : {F : Type 0} → OpenedFile F → List ℕ → Type 0
+HasSectorsOf (Plain file) bytes = ⊤
+HasSectorsOf (Raw user) bytes = user.sectors ≡ sector_count bytes
+
+-- so many of its raw sectors have no user data, of each file that has the bytes which were read; none where it has no such sectors
 abbrev pub AreOthersOf : {F : Type 0} → OpenedFile F → ℕ → Type 0
 AreOthersOf (Plain file) others = others ≡ 0
-AreOthersOf (Raw file) others = IsToldOf (stored_bytes file.data.bytes) file.len other_count others
+AreOthersOf (Raw user) others = OfEach (stored_images user.bytes) (λ file. others ≡ other_count file)
 
--- the bytes in which volumes are looked for, by what the file's bytes are
-abbrev pub bytes_by : Layout → ℕ → Option (List ℕ) → Option (List ℕ)
-bytes_by layout.Plain len known = known
-bytes_by layout.Raw len known = known_data len known
+-- the same where all bytes of the file are held
+abbrev pub AreHeldOthers : {F : Type 0} → OpenedFile F → ℕ → Type 0
+AreHeldOthers (Plain file) others = others ≡ 0
+AreHeldOthers (Raw user) others = IfSome (stored_bytes user.bytes) (λ file. others ≡ other_count file)
 
 -- all user data of so many bytes of raw sectors
 abbrev pub raw_range : ℕ → ByteRange

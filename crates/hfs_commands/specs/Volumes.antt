@@ -8,7 +8,7 @@ use Rattle.hfs_containers.specs.declared.ranges.FoundRange.{FoundRange}
 use Rattle.hfs_containers.specs.Ranges.{bytes_in, volume_name_in}
 use Rattle.hfs_containers.specs.declared.ranges.Layout.{Layout}
 use Rattle.hfs_containers.specs.Found.{found_by}
-use Rattle.hfs_containers.specs.Sums.{sum_of}
+use Rattle.hfs_containers.specs.Sums.{sum_told}
 
 -- how a range lies in the file
 abbrev pub container_text : Container → List ℕ
@@ -28,15 +28,6 @@ name_text (len ∷ characters) = plain_text (take len characters)
 abbrev pub name_field : Option (List ℕ) → List ℕ
 name_field None = []
 name_field (Some name) = name_text name
-
--- whether the sum that a disk copy's header tells is that of its data; None of what has no header
-abbrev pub sum_told : Container → List ℕ → Option Bool
-sum_told Bare bytes = None
-sum_told MacBinary bytes = None
-sum_told (DiskCopy sum) bytes = Some (sum_of bytes == sum)
-sum_told Partition bytes = None
-sum_told RawBare bytes = None
-sum_told RawPartition bytes = None
 
 abbrev pub sum_field : Option Bool → List ℕ
 sum_field None = []

@@ -5,10 +5,10 @@ use Rattle.hfs_containers.specs.declared.asking.NumberedRange.{NumberedRange}
 use Rattle.hfs_containers.specs.declared.ranges.ByteRange.{ByteRange}
 use Rattle.hfs_containers.specs.declared.ranges.FoundRange.{FoundRange}
 use Rattle.hfs_containers.specs.Ranges.{bytes_in, range_of}
-use Rattle.hfs_containers.specs.Reading.{IsTold}
+use Rattle.hfs_containers.specs.Sums.{sum_told}
 use Rattle.hfs_patched.specs.InFile.{sum_place}
+use Rattle.hfs_source.specs.Images.{OfEach}
 use Rattle.hfs_source.specs.declared.range.RangeBytes.{RangeBytes}
-use Rattle.hfs_commands.specs.Volumes.{sum_told}
 use Rattle.hfs_commands.specs.declared.fault.Fault.{Fault}
 use Rattle.hfs_commands.specs.declared.fault.Fault.TheVariants.{CannotRead, NoMemory, SumWrong}
 
@@ -26,9 +26,9 @@ abbrev pub has_wrong_sum_at : Option NumberedRange → List ℕ → Bool
 has_wrong_sum_at None file = false
 has_wrong_sum_at (Some place) file = has_wrong_sum place.found file
 
--- a range isn't changed: its sum is wrong, where the file's bytes are known; or they can't be read
-abbrev pub IsWrongSum : Option (List ℕ) → FoundRange → Bor (List ℕ) → Fault → Type 0
-IsWrongSum known found path why = ((why ≡ SumWrong) × IsTold known (has_wrong_sum found) true) ⊎ ((why ≡ CannotRead path) ⊎ (why ≡ NoMemory))
+-- a range isn't changed: its sum is wrong, of each file that has the bytes which were read; or they can't be read
+abbrev pub IsWrongSum : (List ℕ → Type 0) → FoundRange → Bor (List ℕ) → Fault → Type 0
+IsWrongSum Holds found path why = ((why ≡ SumWrong) × OfEach Holds (λ file. true ≡ has_wrong_sum found file)) ⊎ ((why ≡ CannotRead path) ⊎ (why ≡ NoMemory))
 
 -- where these bytes lie in their file
 abbrev pub lies_in : {S : Type 0} → RangeBytes S → ByteRange

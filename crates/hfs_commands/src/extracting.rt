@@ -1,12 +1,12 @@
 //! The bytes of a volume as a file of its own.
 ghost use Rattle.std.specs.Prelude.{◌≡◌, ◌≢◌, ◌*◌, true, Err, IfErr, IfOk, IsOk, OnErr, OnOk, length, string_bytes};
-ghost use Rattle.hfs_containers.specs.Reading.{IsTold};
-ghost use Rattle.hfs_source.specs.Images.{OfEach};
+ghost use Rattle.hfs_source.specs.Images.{FailsWhere, OfEach};
 ghost use Rattle.hfs_commands.specs.Extracts.{IsNoVolume, WritesAll, WritesAt, WritesFront, WritesFrontAt, IsSized, extracted_text, holds_volume};
 
 use crate::contents::{ReadContents, UnwrittenFault};
 use crate::fault::Fault;
-use hfs_containers::{ByteRange, ReadAt, volume_name};
+use hfs_containers::{ByteRange, volume_name};
+use hfs_source::PlacedBytes;
 use hfs_sparse::BlockSource;
 use hfs_texts::{push_line, put};
 use std::alloc::{AllocError, Global};
@@ -132,14 +132,16 @@ impl<S: BlockSource> ReadContents for ImageContents<S> {
 }
 
 /// Checks that a range of a file holds a volume. Faults: `NoVolumes` if it doesn't; a read failed.
-pub fn need_volume<'a, S: ReadAt>(
+pub fn need_volume<'a, S: PlacedBytes>(
     source: &mut S,
     range: ByteRange,
     path: &'a str,
 ) -> Result<(), Fault<'a>>
-    ensures volume { OnOk result (IsTold (S.known source.old) (holds_volume range) true) }
-    ensures fault { IfErr result (IsNoVolume (S.known source.old) range path.entry) }
-    ensures known { S.known source.new ≡ S.known source.old }
+    ensures volume { OnOk result (OfEach (S.Holds source.new)
+        (λ file. true ≡ holds_volume range file)) }
+    ensures fault { IfErr result (IsNoVolume (S.Holds source.new) range path.entry) }
+    ensures held { OfEach (S.Holds source.new) (S.Holds source.old) }
+    ensures later { FailsWhere (S.Fails source.new) (S.Fails source.old) }
 {
     match volume_name(source, range) {
         Ok(Some(_)) => Ok(()),

@@ -1,12 +1,14 @@
 //! A file that was opened, whatever kind it is.
 ghost use Rattle.std.specs.Prelude.{◌≡◌, IfErr, IfOk, IfNone, IfSome, None};
-ghost use Rattle.hfs_containers.specs.Reading.{IsToldOf};
-ghost use Rattle.hfs_containers.specs.Raw.{known_data, layout_of};
+ghost use Rattle.hfs_containers.specs.Raw.{layout_of};
+ghost use Rattle.hfs_raw.specs.Sectors.{other_count};
+ghost use Rattle.hfs_source.specs.Images.{OfEach};
 ghost use Rattle.hfs_commands.specs.Faults.{IsUnreadFile};
-ghost use Rattle.hfs_commands.specs.OpenedFiles.{AreOthersOf, bytes_by, failures_of, images_of, known_bytes, opened_layout, range_by, raw_range, stored_bytes, stored_failures, stored_images};
+ghost use Rattle.hfs_commands.specs.OpenedFiles.{AreHeldOthers, AreOthersOf, HasSectorsOf, StaysHeld, failures_of, files_of, held_bytes, images_of, opened_layout, range_by, raw_range, stored_bytes, stored_failures, stored_images};
 
 use crate::fault::Fault;
-use hfs_containers::{ByteRange, Layout, RawFile, ReadAt, Window, find_layout, others_in};
+use hfs_containers::{ByteRange, Layout, Window, layout_in};
+use hfs_raw::{UserData, count_others};
 use hfs_source::{MemoryBytes, PlacedBytes, SeekableBytes, TrustedFile};
 use hfs_sparse::SparseFault;
 use std::alloc::AllocError;
@@ -70,27 +72,13 @@ impl<F: Read + Seek> PlacedBytes for StoredFile<F> {
     }
 }
 
-impl<F: Read + Seek> ReadAt for StoredFile<F> {
-    ghost known = { λ file. stored_bytes file };
-
-    fn read_at(&mut self, place: u64, into: &mut [u8]) -> io::Result<()> {
-        match self {
-            StoredFile::Seekable(file) => file.read_at(place, into),
-            StoredFile::Whole(bytes) => {
-                let bytes = bytes.as_slice();
-                MemoryBytes { bytes }.read_at(place, into)
-            }
-        }
-    }
-}
-
 /// The bytes in which volumes are looked for.
 #[derive(Drop)]
 pub enum OpenedFile<F: Read + Seek> {
     /// Those of the file itself.
     Plain(StoredFile<F>),
     /// The user data of its raw CD sectors.
-    Raw(RawFile<StoredFile<F>>),
+    Raw(UserData<StoredFile<F>>),
 }
 
 impl<F: Read + Seek> PlacedBytes for OpenedFile<F> {
@@ -101,26 +89,31 @@ impl<F: Read + Seek> PlacedBytes for OpenedFile<F> {
     fn len(&self) -> u64 {
         match self {
             OpenedFile::Plain(file) => file.len(),
-            OpenedFile::Raw(file) => file.data.len(),
+            OpenedFile::Raw(user) => user.len(),
         }
     }
 
     fn read_at(&mut self, place: u64, into: &mut [u8]) -> io::Result<()> {
         match self {
-            OpenedFile::Plain(file) => PlacedBytes::read_at(file, place, into),
-            OpenedFile::Raw(file) => file.data.read_at(place, into),
+            OpenedFile::Plain(file) => file.read_at(place, into),
+            OpenedFile::Raw(user) => user.read_at(place, into),
         }
     }
 }
 
-impl<F: Read + Seek> ReadAt for OpenedFile<F> {
-    ghost known = { λ file. known_bytes file };
-
-    fn read_at(&mut self, place: u64, into: &mut [u8]) -> io::Result<()> {
-        match self {
-            OpenedFile::Plain(file) => ReadAt::read_at(file, place, into),
-            OpenedFile::Raw(file) => file.read_at(place, into),
-        }
+/// How many raw sectors of a file have no user data: each is looked at. Error: a read failed.
+#[tactic(auto, using(crate::proofs::HeldBytes::stays_held))]
+fn others_of<F: Read + Seek>(file: &mut StoredFile<F>) -> Result<u64, SparseFault>
+    ensures others { IfOk result (λ others. OfEach (stored_images file.new)
+        (λ bytes. others ≡ other_count bytes)) }
+    ensures known { IfOk result (λ others. IfSome (stored_bytes file.old)
+        (λ bytes. others ≡ other_count bytes)) }
+    ensures held { OfEach (stored_images file.new) (stored_images file.old) }
+    ensures stays { StaysHeld (stored_bytes file.old) (stored_bytes file.new) }
+{
+    match count_others(file) {
+        Ok(others) => Ok(others),
+        Err(_) => Err(SparseFault::ReadFailed),
     }
 }
 
@@ -137,51 +130,62 @@ impl<F: Read + Seek> OpenedFile<F> {
 
     /// How many of its raw sectors have no user data; each sector is read. 0 if it has no raw sectors. Error: a read failed.
     pub fn others(&mut self) -> Result<u64, SparseFault>
-        ensures others { IfOk result (AreOthersOf self.old) }
-        ensures known { known_bytes self.new ≡ known_bytes self.old }
+        ensures others { IfOk result (AreOthersOf self.new) }
+        ensures known { IfOk result (AreHeldOthers self.old) }
+        ensures files { OfEach (files_of self.new) (files_of self.old) }
+        ensures held { OfEach (images_of self.new) (images_of self.old) }
+        ensures stays { StaysHeld (held_bytes self.old) (held_bytes self.new) }
     {
         match self {
             OpenedFile::Plain(_) => Ok(0),
-            OpenedFile::Raw(file) => others_in(&mut file.data.bytes, file.len),
+            OpenedFile::Raw(user) => others_of(&mut user.bytes),
         }
     }
 }
 
-/// The user data of raw sectors.
+/// The user data of raw sectors, of a file of `len` bytes.
 fn raw_content<F: Read + Seek>(source: StoredFile<F>, len: u64) -> Window<OpenedFile<F>>
     ensures layout { opened_layout result.source ≡ Layout.Raw }
-    ensures known { known_bytes result.source ≡ known_data len (stored_bytes source) }
+    ensures files { OfEach (files_of result.source) (stored_images source) }
+    ensures sectors { OfEach (files_of result.source) (HasSectorsOf result.source) }
+    ensures held { held_bytes result.source ≡ stored_bytes source }
     ensures range { result.range ≡ raw_range len }
 {
-    let file = RawFile::new(source, len);
-    let len = file.len();
     Window {
-        source: OpenedFile::Raw(file),
-        range: ByteRange { start: 0, len },
+        source: OpenedFile::Raw(UserData::new(source)),
+        range: ByteRange {
+            start: 0,
+            len: len / 2_352 * 2_048,
+        },
     }
 }
 
 /// The bytes in which volumes are looked for: the user data of a file of raw sectors, or any other file as it is. Faults: a read
 /// failed.
+#[tactic(auto, using(crate::proofs::HeldBytes::stays_held))]
 pub fn content_of<'a, F: Read + Seek + Drop>(
     file: Window<StoredFile<F>>,
     path: &'a str,
 ) -> Result<Window<OpenedFile<F>>, Fault<'a>>
-    ensures layout { IfOk result (λ content. IsToldOf (stored_bytes file.source) file.range.len
-        layout_of (opened_layout content.source)) }
-    ensures known { IfOk result (λ content. known_bytes content.source
-        ≡ bytes_by (opened_layout content.source) file.range.len (stored_bytes file.source)) }
+    ensures layout { IfOk result (λ content. OfEach (files_of content.source)
+        (λ bytes. opened_layout content.source ≡ layout_of bytes)) }
+    ensures sectors { IfOk result (λ content. OfEach (files_of content.source)
+        (HasSectorsOf content.source)) }
+    ensures held { IfOk result (λ content. OfEach (files_of content.source)
+        (stored_images file.source)) }
+    ensures stays { IfOk result (λ content. StaysHeld (stored_bytes file.source)
+        (held_bytes content.source)) }
     ensures range { IfOk result (λ content. content.range
         ≡ range_by (opened_layout content.source) file.range) }
     ensures fault { IfErr result (IsUnreadFile path.entry) }
 {
     let Window { mut source, range } = file;
-    match find_layout(&mut source, range.len) {
+    match layout_in(&mut source) {
         Ok(Layout::Plain) => Ok(Window {
             source: OpenedFile::Plain(source),
             range,
         }),
         Ok(Layout::Raw) => Ok(raw_content(source, range.len)),
-        Err(fault) => Err(Fault::of_sparse(fault, path)),
+        Err(_) => Err(Fault::CannotRead(path)),
     }
 }

@@ -2,18 +2,15 @@
 ghost use Rattle.std.specs.Prelude.{◌≡◌, IfErr, IfOk, IfSome, None, Some};
 ghost use Rattle.std.specs.Option.{is_some};
 ghost use Rattle.hfs_containers.specs.Asking.{IsAnswerTo, asked_in};
-ghost use Rattle.hfs_containers.specs.Reading.{IsToldOf};
 ghost use Rattle.hfs_commands.specs.Faults.{IsUnopened, IsUnreadFile};
-ghost use Rattle.hfs_commands.specs.OpenedFiles.{known_bytes, opened_layout, stored_bytes, stored_images};
+ghost use Rattle.hfs_commands.specs.OpenedFiles.{held_bytes, images_of, opened_layout, stored_bytes, stored_images};
 ghost use Rattle.hfs_commands.specs.Parts.{IsRangeAt, asked_at};
-ghost use Rattle.hfs_source.specs.Images.{HasLength, OfEach};
+ghost use Rattle.hfs_source.specs.Images.{FailsWhere, HasLength, OfEach};
 
 use crate::fault::Fault;
 use crate::files::{load_opened, regular_len};
 use crate::opened_file::{OpenedFile, StoredFile, content_of};
-use hfs_containers::{
-    Asked, ByteRange, Counted, Layout, NumberedRange, ReadAt, Window, find_asked,
-};
+use hfs_containers::{Asked, ByteRange, Counted, Layout, NumberedRange, Window, find_asked};
 use hfs_source::PlacedBytes;
 use std::alloc::Global;
 use std::fs::{File, OpenFile};
@@ -126,7 +123,7 @@ fn whole_part<F: Read + Seek>(bytes: Window<OpenedFile<F>>) -> FilePart<F>
 
 /// A file as it is.
 fn stored_part<F: Read + Seek>(file: Window<StoredFile<F>>) -> FilePart<F>
-    ensures known { known_bytes result.bytes.source ≡ stored_bytes file.source }
+    ensures held { held_bytes result.bytes.source ≡ stored_bytes file.source }
     ensures range { result.bytes.range ≡ file.range }
     ensures place { result.place ≡ None }
 {
@@ -137,25 +134,25 @@ fn stored_part<F: Read + Seek>(file: Window<StoredFile<F>>) -> FilePart<F>
     })
 }
 
-/// Where the range that is asked for lies in a file of `len` bytes, or in its user data, given its number or none, as
+/// Where the range that is asked for lies in a file, or in its user data, given its number or none, as
 /// [`find_asked`] says; `None` is the file as it is. Faults: as for [`part_of`].
 #[tactic(auto, using(crate::proofs::PartLemmas::several_unnamed, crate::proofs::PartLemmas::missing_unnamed))]
-pub(crate) fn place_asked<'a, S: ReadAt>(
+pub(crate) fn place_asked<'a, S: PlacedBytes>(
     alloc: Global,
     source: &mut S,
-    len: u64,
     layout: Layout,
     path: &'a str,
     counted: Counted,
     volume: Option<u64>,
 ) -> Result<Option<NumberedRange>, Fault<'a>>
-    ensures asked { IfOk result (λ place. IsToldOf (S.known source.old) len
-        (asked_in layout counted volume) (asked_at place)) }
+    ensures asked { IfOk result (λ place. OfEach (S.Holds source.new)
+        (λ file. asked_at place ≡ asked_in layout counted volume file)) }
     ensures answer { IfOk result (λ place. IsAnswerTo volume (asked_at place)) }
-    ensures known { S.known source.new ≡ S.known source.old }
+    ensures held { OfEach (S.Holds source.new) (S.Holds source.old) }
+    ensures later { FailsWhere (S.Fails source.new) (S.Fails source.old) }
     ensures fault { IfErr result (IsUnopened path.entry volume) }
 {
-    match find_asked(alloc, source, len, layout, counted, volume) {
+    match find_asked(alloc, source, layout, counted, volume) {
         Ok(Asked::WholeFile) => Ok(None),
         Ok(Asked::Inside(place)) => Ok(Some(place)),
         Ok(Asked::Several(n)) => Err(Fault::SeveralVolumes(n)),
@@ -174,17 +171,18 @@ pub fn part_of<'a, F: Read + Seek + Drop>(
     counted: Counted,
     volume: Option<u64>,
 ) -> Result<FilePart<F>, Fault<'a>>
-    ensures asked { IfOk result (λ part. IsToldOf (known_bytes file.source) file.range.len
-        (asked_in (opened_layout file.source) counted volume) (asked_at part.place)) }
+    ensures asked { IfOk result (λ part. OfEach (images_of part.bytes.source) (λ bytes.
+        asked_at part.place ≡ asked_in (opened_layout file.source) counted volume bytes)) }
     ensures answer { IfOk result (λ part. IsAnswerTo volume (asked_at part.place)) }
     ensures range { IfOk result (λ part. IsRangeAt part.place part.bytes.range) }
     ensures whole { IfOk result (λ part. part.place ≡ None → part.bytes.range ≡ file.range) }
-    ensures known { IfOk result (λ part. known_bytes part.bytes.source ≡ known_bytes file.source) }
+    ensures held { IfOk result (λ part. OfEach (images_of part.bytes.source)
+        (images_of file.source)) }
     ensures fault { IfErr result (IsUnopened path.entry volume) }
 {
     let Window { mut source, range } = file;
     let layout = source.layout();
-    let place = place_asked(alloc, &mut source, range.len, layout, path, counted, volume)?;
+    let place = place_asked(alloc, &mut source, layout, path, counted, volume)?;
     match place {
         None => Ok(whole_part(Window { source, range })),
         Some(place) => Ok(FilePart {

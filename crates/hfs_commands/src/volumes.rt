@@ -1,15 +1,13 @@
 //! What is printed about the volumes in a file.
 ghost use Rattle.std.specs.Prelude.{◌≡◌, ◌++◌, IfOk, OnOk, string_bytes};
 ghost use Rattle.std.specs.Option.{option_map};
-ghost use Rattle.hfs_containers.specs.Ranges.{bytes_in};
-ghost use Rattle.hfs_containers.specs.Reading.{IsTold, IsToldOf};
+ghost use Rattle.hfs_source.specs.Images.{FailsWhere, OfEach};
 ghost use Rattle.hfs_texts.specs.Texts.{Gains};
-ghost use Rattle.hfs_commands.specs.Volumes.{container_text, line_of, lines_from, missing_field, name_field, name_text, others_field, place_fields, sum_field, sum_told, volume_line, volume_lines};
+ghost use Rattle.hfs_commands.specs.Volumes.{container_text, line_of, lines_from, missing_field, name_field, name_text, others_field, place_fields, sum_field, volume_line, volume_lines};
 
-use hfs_containers::{
-    Container, FoundRange, Layout, ReadAt, data_sum, find_in_layout, volume_name,
-};
+use hfs_containers::{Container, FoundRange, Layout, find_in_layout, sum_told, volume_name};
 use hfs_names::push_plain_text;
+use hfs_source::PlacedBytes;
 use hfs_sparse::SparseFault;
 use std::alloc::{AllocError, Global};
 
@@ -120,37 +118,18 @@ fn push_volume_line(
     text.push('\n')
 }
 
-/// Whether the sum in a disk copy's header is that of its data, which is read. None for another range. Errors: the read failed,
-/// or the file ends before the range does.
-pub(crate) fn sum_told<S: ReadAt>(
-    source: &mut S,
-    found: &FoundRange,
-) -> Result<Option<bool>, SparseFault>
-    ensures told { IfOk result (IsTold (S.known source.old)
-        (λ file. sum_told found.now.container (bytes_in found.now.range file))) }
-    ensures known { S.known source.new ≡ S.known source.old }
-{
-    match found.container {
-        Container::DiskCopy { sum } => {
-            let own = data_sum(source, found.range)?;
-            Ok(Some(own == sum))
-        }
-        Container::Bare | Container::MacBinary | Container::Partition => Ok(None),
-        Container::RawBare | Container::RawPartition => Ok(None),
-    }
-}
-
 /// Appends the line of a range of a file.
-fn push_line_of<S: ReadAt>(
+fn push_line_of<S: PlacedBytes>(
     text: &mut String,
     source: &mut S,
     others: u64,
     number: u64,
     found: &FoundRange,
 ) -> Result<(), SparseFault>
-    ensures line { OnOk result (IsTold (S.known source.old)
-        (λ file. string_bytes text.old ++ line_of others number found.now file) (string_bytes text.new)) }
-    ensures known { S.known source.new ≡ S.known source.old }
+    ensures line { OnOk result (OfEach (S.Holds source.new)
+        (λ file. Gains text.old text.new (line_of others number found.now file))) }
+    ensures held { OfEach (S.Holds source.new) (S.Holds source.old) }
+    ensures later { FailsWhere (S.Fails source.new) (S.Fails source.old) }
 {
     let name = volume_name(source, found.range)?;
     let sum = sum_told(source, found)?;
@@ -161,15 +140,16 @@ fn push_line_of<S: ReadAt>(
 }
 
 /// Appends the lines of these ranges, with numbers from 1 on.
-fn push_lines<S: ReadAt>(
+fn push_lines<S: PlacedBytes>(
     text: &mut String,
     source: &mut S,
     others: u64,
     ranges: &[FoundRange],
 ) -> Result<(), SparseFault>
-    ensures lines { OnOk result (IsTold (S.known source.old)
-        (λ file. string_bytes text.old ++ lines_from others 1 ranges.now file) (string_bytes text.new)) }
-    ensures known { S.known source.new ≡ S.known source.old }
+    ensures lines { OnOk result (OfEach (S.Holds source.new)
+        (λ file. Gains text.old text.new (lines_from others 1 ranges.now file))) }
+    ensures held { OfEach (S.Holds source.new) (S.Holds source.old) }
+    ensures later { FailsWhere (S.Fails source.new) (S.Fails source.old) }
 {
     for i in 0..ranges.len() {
         push_line_of(text, source, others, i as u64 + 1, &ranges[i])?;
@@ -177,21 +157,22 @@ fn push_lines<S: ReadAt>(
     Ok(())
 }
 
-/// The lines of the volumes in a file of `len` bytes, or in that many bytes of user data, counted from 1. Each has the number,
+/// The lines of the volumes in a file, or in its user data, counted from 1. Each has the number,
 /// how the volume lies in the file, its first byte, its length in bytes and the plain text of its name, separated by tabs; then,
 /// if they apply, whether a disk copy's sum is right, that there is no volume in the range, and how many raw sectors have no user
 /// data. None if there is no line. Errors: a read failed, memory was refused.
-pub fn volume_lines<S: ReadAt>(
+pub fn volume_lines<S: PlacedBytes>(
     alloc: Global,
     source: &mut S,
-    len: u64,
     layout: Layout,
     others: u64,
 ) -> Result<Option<String>, SparseFault>
-    ensures { IfOk result (λ told. IsToldOf (S.known source.old) len (volume_lines layout others)
-        (option_map string_bytes told)) }
+    ensures told { IfOk result (λ told. OfEach (S.Holds source.new)
+        (λ file. option_map string_bytes told ≡ volume_lines layout others file)) }
+    ensures held { OfEach (S.Holds source.new) (S.Holds source.old) }
+    ensures later { FailsWhere (S.Fails source.new) (S.Fails source.old) }
 {
-    let ranges = find_in_layout(alloc, source, len, layout)?;
+    let ranges = find_in_layout(alloc, source, layout)?;
     if ranges.is_empty() {
         return Ok(None);
     }

@@ -1,26 +1,24 @@
 //! A volume in a file that was opened to be changed.
 ghost use Rattle.std.specs.Prelude.{◌≡◌, false, IfErr, IfOk, OnOk, Some};
 ghost use Rattle.hfs_containers.specs.Asking.{IsAnswerTo, asked_in};
-ghost use Rattle.hfs_containers.specs.Reading.{IsTold, IsToldOf};
 ghost use Rattle.hfs_containers.specs.declared.asking.Counted.TheVariants.{Ranges};
 ghost use Rattle.hfs_containers.specs.declared.ranges.Layout.TheVariants.{Plain};
 ghost use Rattle.hfs_commands.specs.Faults.{IsUnopenedVolume};
-ghost use Rattle.hfs_commands.specs.OpenedFiles.{stored_bytes};
+ghost use Rattle.hfs_source.specs.Images.{FailsWhere, OfEach};
+ghost use Rattle.hfs_commands.specs.OpenedFiles.{StaysHeld, stored_bytes, stored_images};
 ghost use Rattle.hfs_commands.specs.Parts.{asked_at};
 ghost use Rattle.hfs_commands.specs.WatchedVolumes.{has_wrong_sum, has_wrong_sum_at, lies_in, range_at, sum_at_of, IsWrongSum};
 
 use crate::fault::Fault;
 use crate::opened_file::{OpenedFile, StoredFile, content_of};
 use crate::volume_files::place_asked;
-use crate::volumes::sum_told;
 use crate::watched_image::{LookedFile, WatchedImage, open_looked};
 use crate::watched_range::WatchedRange;
-use hfs_containers::{
-    ByteRange, Counted, FoundRange, Layout, NumberedRange, RawFile, ReadAt, Window,
-};
+use hfs_containers::{Counted, FoundRange, Layout, NumberedRange, Window, sum_told};
 use hfs_files::TrustedLooks;
 use hfs_patched::sum_place;
-use hfs_source::RangeBytes;
+use hfs_raw::UserData;
+use hfs_source::{PlacedBytes, RangeBytes};
 use std::alloc::Global;
 use std::io::{Read, Seek};
 use std::rt::Files;
@@ -47,14 +45,16 @@ impl<F: Read + Seek> WatchedVolume<F> {
 
 /// Checks that the sum in a disk copy's header is that of its data; a range that is no disk copy has none. Faults: `SumWrong`; a
 /// read failed.
-fn need_right_sum<'a, S: ReadAt>(
+fn need_right_sum<'a, S: PlacedBytes>(
     source: &mut S,
     found: &FoundRange,
     path: &'a str,
 ) -> Result<(), Fault<'a>>
-    ensures right { OnOk result (IsTold (S.known source.old) (has_wrong_sum found.now) false) }
-    ensures fault { IfErr result (IsWrongSum (S.known source.old) found.now path.entry) }
-    ensures known { S.known source.new ≡ S.known source.old }
+    ensures right { OnOk result (OfEach (S.Holds source.new)
+        (λ file. false ≡ has_wrong_sum found.now file)) }
+    ensures fault { IfErr result (IsWrongSum (S.Holds source.new) found.now path.entry) }
+    ensures held { OfEach (S.Holds source.new) (S.Holds source.old) }
+    ensures later { FailsWhere (S.Fails source.new) (S.Fails source.old) }
 {
     match sum_told(source, found) {
         Ok(Some(false)) => Err(Fault::SumWrong),
@@ -64,6 +64,7 @@ fn need_right_sum<'a, S: ReadAt>(
 }
 
 /// The volume with this number in a file's bytes.
+#[tactic(auto, using(crate::proofs::HeldBytes::stays_held))]
 fn volume_in<'a, F: Read + Seek + Drop>(
     alloc: Global,
     file: Window<StoredFile<F>>,
@@ -71,21 +72,23 @@ fn volume_in<'a, F: Read + Seek + Drop>(
     path: &'a str,
     number: u64,
 ) -> Result<WatchedVolume<F>, Fault<'a>>
-    ensures asked { IfOk result (λ volume. IsToldOf (stored_bytes file.source) file.range.len
-        (asked_in Plain Ranges (Some number)) (asked_at volume.place)) }
+    ensures asked { IfOk result (λ volume. OfEach (stored_images volume.blocks.bytes.bytes.file)
+        (λ bytes. asked_at volume.place ≡ asked_in Plain Ranges (Some number) bytes)) }
     ensures answer { IfOk result (λ volume. IsAnswerTo (Some number) (asked_at volume.place)) }
     ensures lies { IfOk result (λ volume. lies_in volume.blocks.bytes
         ≡ range_at volume.place file.range) }
     ensures sum_at { IfOk result (λ volume. volume.sum_at ≡ sum_at_of volume.place) }
-    ensures right { IfOk result (λ volume. IsTold (stored_bytes file.source)
-        (has_wrong_sum_at volume.place) false) }
-    ensures known { IfOk result (λ volume. stored_bytes volume.blocks.bytes.bytes.file
-        ≡ stored_bytes file.source) }
+    ensures right { IfOk result (λ volume. OfEach (stored_images volume.blocks.bytes.bytes.file)
+        (λ bytes. false ≡ has_wrong_sum_at volume.place bytes)) }
+    ensures held { IfOk result (λ volume. OfEach (stored_images volume.blocks.bytes.bytes.file)
+        (stored_images file.source)) }
+    ensures stays { IfOk result (λ volume. StaysHeld (stored_bytes file.source)
+        (stored_bytes volume.blocks.bytes.bytes.file)) }
     ensures fault { IfErr result (IsUnopenedVolume path.entry number) }
 {
     let Window { mut source, range } = file;
     let (layout, ranges, volume) = (Layout::Plain, Counted::Ranges, Some(number));
-    let place = place_asked(alloc, &mut source, range.len, layout, path, ranges, volume)?;
+    let place = place_asked(alloc, &mut source, layout, path, ranges, volume)?;
     let (range, sum_at) = match place {
         None => (range, None),
         Some(place) => {
@@ -111,16 +114,15 @@ fn volume_in<'a, F: Read + Seek + Drop>(
 /// written.
 fn raw_fault<'a, F: Read + Seek + Drop>(
     alloc: Global,
-    file: RawFile<StoredFile<F>>,
-    len: u64,
+    user: UserData<StoredFile<F>>,
     path: &'a str,
     number: u64,
 ) -> Fault<'a>
     ensures { IsUnopenedVolume path.entry number result }
 {
-    let mut file = file;
+    let mut user = user;
     let (layout, ranges) = (Layout::Raw, Counted::Ranges);
-    match place_asked(alloc, &mut file, len, layout, path, ranges, Some(number)) {
+    match place_asked(alloc, &mut user, layout, path, ranges, Some(number)) {
         Ok(_) => Fault::NotWritten,
         Err(fault) => fault,
     }
@@ -144,6 +146,6 @@ pub fn open_volume<'a, R: Files + AllocGlobal>(
         OpenedFile::Plain(source) => {
             volume_in(rt.alloc(), Window { source, range }, looks, path, number)
         }
-        OpenedFile::Raw(file) => Err(raw_fault(rt.alloc(), file, range.len, path, number)),
+        OpenedFile::Raw(user) => Err(raw_fault(rt.alloc(), user, path, number)),
     }
 }

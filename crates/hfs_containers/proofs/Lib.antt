@@ -1,6 +1,6 @@
-pub mod Told
 pub mod Shorter
 mod Entries
 mod Counting
 mod SumLemmas
 mod RawLemmas
+mod Handed

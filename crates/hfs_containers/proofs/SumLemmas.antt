@@ -1,12 +1,10 @@
 -- The sum of bytes that are read in pieces.
-use Rattle.std.proofs.Common.{◌≡◌, ◌∙◌, ℕ, zero, suc, ◌+◌, ◌-◌, ◌*◌, ◌<◌, ◌≤◌, ◌⊎◌, inl, inr, min, Bool, true, false, leb, List, [], ◌∷◌, ◌++◌, length, take, drop, get_or, Option, Some, None, refl, ap, sym, subst, arith}
-use Rattle.std.specs.Prelude.{IfSome}
+use Rattle.std.proofs.Common.{◌≡◌, ◌∙◌, ℕ, zero, suc, ◌+◌, ◌-◌, ◌*◌, ◌<◌, ◌≤◌, ◌⊎◌, inl, inr, min, Bool, true, false, leb, List, [], ◌∷◌, ◌++◌, length, take, drop, get_or, refl, ap, sym, arith}
 use Rattle.std.proofs.lemmas.List.{take_all, drop_all, drop-drop, drop_more, length-take, length-drop, append-nil}
 use Rattle.std.proofs.lemmas.Bool.{leb-true, leb-false}
 use Rattle.std.proofs.Math.Seq.{take-add}
 use Rattle.hfs_fields.specs.Mdb.{bytes_at}
 use Rattle.hfs_containers.specs.declared.ranges.ByteRange.{ByteRange}
-use Rattle.hfs_containers.specs.Reading.{IsTold}
 use Rattle.hfs_containers.specs.Ranges.{bytes_in}
 use Rattle.hfs_containers.specs.Sums.{sum_from, sum_of, with_word}
 
@@ -68,38 +66,35 @@ sum-pieces sum place n m file (inl none) =
 sum-pieces sum place n m file (inr full) =
     ap (λ l. sum_from (sum_from sum (bytes_at place n file)) (take m l)) (sym (drop-drop n place file)) ∙ two-pieces sum n m (drop place file) full
 
--- the sum so far, and the bytes that are still to come, make the sum of the range
-abbrev pub GoesOn : Option (List ℕ) → ByteRange → ℕ → ℕ → Type 0
-GoesOn known range sum done =
-    IfSome known (λ file. sum_from sum (bytes_at (range.start + done) (range.len - done) file) ≡ sum_of (bytes_in range file))
+module _ (range : ByteRange) (file : List ℕ) where
+  -- the sum so far, and the bytes that are still to come, make the sum of the range
+  abbrev pub GoesOn : ℕ → ℕ → Type 0
+  GoesOn sum done = sum_from sum (bytes_at (range.start + done) (range.len - done) file) ≡ sum_of (bytes_in range file)
 
-pub goes-on : (known now : Option (List ℕ)) → now ≡ known → (range : ByteRange) (sum more done count place : ℕ) → place ≡ range.start + done → done < range.len
-    → count ≡ min (range.len - done) 16384 → IsTold now (λ file. sum_from sum (bytes_at place count file)) more
-    → GoesOn known range sum done → GoesOn known range more (done + count)
-goes-on None now same range sum more done count place at lt size own all = tt
-goes-on (Some file) now same range sum more done count place at lt size own all =
-    let here : more ≡ sum_from sum (bytes_at place count file) = subst (λ o. IsTold o (λ f. sum_from sum (bytes_at place count f)) more) same own in
-    let left : ℕ = range.len - (done + count) in
-    let cases : (left ≡ 0) ⊎ (count ≡ 16384) = ends (range.len - done) count left size (omega (arith, lt, size)) in
-    let total : count + left ≡ range.len - done = omega (arith, lt, size) in
-    let next : range.start + (done + count) ≡ range.start + done + count = omega arith in
-    ap (λ s. sum_from s (bytes_at (range.start + (done + count)) left file)) (here ∙ ap (λ k. sum_from sum (bytes_at k count file)) at)
-    ∙ ap (λ k. sum_from (sum_from sum (bytes_at (range.start + done) count file)) (bytes_at k left file)) next
-    ∙ sum-pieces sum (range.start + done) count left file cases
-    ∙ ap (λ k. sum_from sum (bytes_at (range.start + done) k file)) total
-    ∙ all
-  where
-    ends : (room n left : ℕ) → n ≡ min room 16384 → n + left ≡ room → (left ≡ 0) ⊎ (n ≡ 16384)
-    ends room n left e f = by (leb room 16384) refl
-      where
-        by : (t : Bool) → leb room 16384 ≡ t → (left ≡ 0) ⊎ (n ≡ 16384)
-        by true g = inl (omega (arith, leb-true room 16384 g, e, f))
-        by false g = inr (omega (arith, leb-false room 16384 g, e, f))
+  -- with a piece more
+  pub goes_on : (sum more done count place : ℕ) → place ≡ range.start + done → done < range.len → count ≡ min (range.len - done) 16384 → more ≡ sum_from sum (bytes_at place count file)
+      → GoesOn sum done → GoesOn more (done + count)
+  goes_on sum more done count place at lt size own all =
+      let left : ℕ = range.len - (done + count) in
+      let cases : (left ≡ 0) ⊎ (count ≡ 16384) = ends (range.len - done) count left size (omega (arith, lt, size)) in
+      let total : count + left ≡ range.len - done = omega (arith, lt, size) in
+      let next : range.start + (done + count) ≡ range.start + done + count = omega arith in
+      ap (λ s. sum_from s (bytes_at (range.start + (done + count)) left file)) (own ∙ ap (λ k. sum_from sum (bytes_at k count file)) at)
+      ∙ ap (λ k. sum_from (sum_from sum (bytes_at (range.start + done) count file)) (bytes_at k left file)) next
+      ∙ sum-pieces sum (range.start + done) count left file cases
+      ∙ ap (λ k. sum_from sum (bytes_at (range.start + done) k file)) total
+      ∙ all
+    where
+      ends : (room n left : ℕ) → n ≡ min room 16384 → n + left ≡ room → (left ≡ 0) ⊎ (n ≡ 16384)
+      ends room n left e f = by (leb room 16384) refl
+        where
+          by : (t : Bool) → leb room 16384 ≡ t → (left ≡ 0) ⊎ (n ≡ 16384)
+          by true g = inl (omega (arith, leb-true room 16384 g, e, f))
+          by false g = inr (omega (arith, leb-false room 16384 g, e, f))
 
-pub goes-whole : (known : Option (List ℕ)) (range : ByteRange) (sum done : ℕ) → range.len ≤ done → GoesOn known range sum done
-    → IsTold known (λ file. sum_of (bytes_in range file)) sum
-unfolding sum_from
-goes-whole None range sum done end all = tt
-goes-whole (Some file) range sum done end all =
-    let none : range.len - done ≡ 0 = omega (arith, end) in
-    ap (λ k. sum_from sum (bytes_at (range.start + done) k file)) (sym none) ∙ all
+  -- with all of them
+  pub goes_whole : (sum done : ℕ) → range.len ≤ done → GoesOn sum done → sum ≡ sum_of (bytes_in range file)
+  unfolding sum_from
+  goes_whole sum done end all =
+      let none : range.len - done ≡ 0 = omega (arith, end) in
+      ap (λ k. sum_from sum (bytes_at (range.start + done) k file)) (sym none) ∙ all

@@ -1,4 +1,3 @@
-pub mod Reading
 pub mod Ranges
 pub mod MacBinary
 pub mod DiskCopy
@@ -7,3 +6,4 @@ pub mod Raw
 pub mod Found
 pub mod Asking
 pub mod Sums
+pub mod Memory

@@ -1,5 +1,7 @@
 -- The sum of Disk Copy 4.2.
-use Rattle.std.specs.Prelude.{ℕ, ◌+◌, ◌*◌, ◌/◌, ◌%◌, ◌^◌, List, [], ◌∷◌}
+use Rattle.std.specs.Prelude.{ℕ, ◌+◌, ◌*◌, ◌/◌, ◌%◌, ◌^◌, Bool, ◌==◌, List, [], ◌∷◌, Option, None, Some}
+use Rattle.hfs_containers.specs.declared.ranges.Container.{Container}
+use Rattle.hfs_containers.specs.declared.ranges.Container.TheVariants.{Bare, MacBinary, DiskCopy, Partition, RawBare, RawPartition}
 
 -- a number of 32 bits turned right by one bit
 abbrev pub turned : ℕ → ℕ
@@ -17,3 +19,12 @@ sum_from sum (high ∷ low ∷ bytes) = sum_from (with_word sum (high * 256 + lo
 
 abbrev pub sum_of : List ℕ → ℕ
 sum_of bytes = sum_from 0 bytes
+
+-- whether the sum that a disk copy's header tells is that of its data; None of what has no header
+abbrev pub sum_told : Container → List ℕ → Option Bool
+sum_told Bare bytes = None
+sum_told MacBinary bytes = None
+sum_told (DiskCopy sum) bytes = Some (sum_of bytes == sum)
+sum_told Partition bytes = None
+sum_told RawBare bytes = None
+sum_told RawPartition bytes = None

@@ -1,13 +1,13 @@
 //! Which volume of a file is taken.
 ghost use Rattle.std.specs.Prelude.{◌≡◌, ◌++◌, IfOk, None, OnOk};
 ghost use Rattle.std.specs.Option.{option_to_list};
-ghost use Rattle.hfs_containers.specs.Reading.{IsTold, IsToldOf};
 ghost use Rattle.hfs_containers.specs.Asking.{IsAnswerTo, asked_in, chosen_of, counted_at, counted_from, is_bare, is_counted, is_whole_file, only_one};
+ghost use Rattle.hfs_source.specs.Images.{FailsWhere, OfEach};
 
 use crate::finding::{find_in_layout, nth_range};
 use crate::ranges::{Container, FoundRange, Layout};
-use crate::source::ReadAt;
 use crate::volumes::volume_name;
+use hfs_source::PlacedBytes;
 use hfs_sparse::SparseFault;
 use std::alloc::Global;
 
@@ -41,13 +41,15 @@ pub enum Asked {
 }
 
 /// Whether a range of a file is a candidate.
-fn is_counted<S: ReadAt>(
+fn is_counted<S: PlacedBytes>(
     source: &mut S,
     counted: Counted,
     found: &FoundRange,
 ) -> Result<bool, SparseFault>
-    ensures is { IfOk result (IsTold (S.known source.old) (is_counted counted found.now)) }
-    ensures known { S.known source.new ≡ S.known source.old }
+    ensures is { IfOk result (λ is. OfEach (S.Holds source.new)
+        (λ file. is ≡ is_counted counted found.now file)) }
+    ensures held { OfEach (S.Holds source.new) (S.Holds source.old) }
+    ensures later { FailsWhere (S.Fails source.new) (S.Fails source.old) }
 {
     match counted {
         Counted::Volumes => {
@@ -60,16 +62,17 @@ fn is_counted<S: ReadAt>(
 
 /// Appends a range of a file with its number, if it is a candidate.
 #[tactic(auto, unfolding(crate::specs::Asking::counted_at))]
-fn push_counted<S: ReadAt>(
+fn push_counted<S: PlacedBytes>(
     inside: &mut Vec<NumberedRange>,
     source: &mut S,
     counted: Counted,
     number: u64,
     found: &FoundRange,
 ) -> Result<(), SparseFault>
-    ensures pushed { OnOk result (IsTold (S.known source.old)
-        (λ file. inside.old.items ++ option_to_list (counted_at counted number found.now file)) inside.new.items) }
-    ensures known { S.known source.new ≡ S.known source.old }
+    ensures pushed { OnOk result (OfEach (S.Holds source.new) (λ file. inside.new.items
+        ≡ inside.old.items ++ option_to_list (counted_at counted number found.now file))) }
+    ensures held { OfEach (S.Holds source.new) (S.Holds source.old) }
+    ensures later { FailsWhere (S.Fails source.new) (S.Fails source.old) }
 {
     if !is_counted(source, counted, found)? {
         return Ok(());
@@ -84,14 +87,16 @@ fn push_counted<S: ReadAt>(
 }
 
 /// The candidates among these ranges of a file, with their numbers.
-fn counted_among<S: ReadAt>(
+fn counted_among<S: PlacedBytes>(
     alloc: Global,
     source: &mut S,
     counted: Counted,
     ranges: &[FoundRange],
 ) -> Result<Vec<NumberedRange>, SparseFault>
-    ensures inside { IfOk result (λ inside. IsTold (S.known source.old) (counted_from counted 1 ranges.now) inside.items) }
-    ensures known { S.known source.new ≡ S.known source.old }
+    ensures inside { IfOk result (λ inside. OfEach (S.Holds source.new)
+        (λ file. inside.items ≡ counted_from counted 1 ranges.now file)) }
+    ensures held { OfEach (S.Holds source.new) (S.Holds source.old) }
+    ensures later { FailsWhere (S.Fails source.new) (S.Fails source.old) }
 {
     let mut inside = Vec::new(alloc);
     for i in 0..ranges.len() {
@@ -128,15 +133,17 @@ fn only_one(inside: &[NumberedRange]) -> Asked
 
 /// What is taken of a file without a number, given the ranges that are found in it.
 #[tactic(auto, unfolding(crate::specs::Asking::chosen_of))]
-fn chosen_of<S: ReadAt>(
+fn chosen_of<S: PlacedBytes>(
     alloc: Global,
     source: &mut S,
     counted: Counted,
     ranges: &[FoundRange],
 ) -> Result<Asked, SparseFault>
-    ensures chosen { IfOk result (IsTold (S.known source.old) (chosen_of counted ranges.now)) }
+    ensures chosen { IfOk result (λ asked. OfEach (S.Holds source.new)
+        (λ file. asked ≡ chosen_of counted ranges.now file)) }
     ensures answers { IfOk result (IsAnswerTo None) }
-    ensures known { S.known source.new ≡ S.known source.old }
+    ensures held { OfEach (S.Holds source.new) (S.Holds source.old) }
+    ensures later { FailsWhere (S.Fails source.new) (S.Fails source.old) }
 {
     if is_bare(ranges) {
         return Ok(Asked::WholeFile);
@@ -145,29 +152,29 @@ fn chosen_of<S: ReadAt>(
     Ok(only_one(&inside))
 }
 
-/// What is taken of a file of `len` bytes, or of its user data, given the number of a range in it or none; 0 is the file as it
-/// is. Without a number, a bare volume is taken as it is; otherwise the only candidate inside it, the file as it is if there is
+/// What is taken of a file, or of its user data, given the number of a range in it or none; 0 is the file as it is. Without a number, a bare volume is taken as it is; otherwise the only candidate inside it, the file as it is if there is
 /// none, and nothing if there are several. Errors: as for [`find_ranges`].
 #[tactic(auto, unfolding(crate::specs::Asking::asked_in))]
-pub fn find_asked<S: ReadAt>(
+pub fn find_asked<S: PlacedBytes>(
     alloc: Global,
     source: &mut S,
-    len: u64,
     layout: Layout,
     counted: Counted,
     number: Option<u64>,
 ) -> Result<Asked, SparseFault>
-    ensures asked { IfOk result (IsToldOf (S.known source.old) len (asked_in layout counted number)) }
+    ensures asked { IfOk result (λ asked. OfEach (S.Holds source.new)
+        (λ file. asked ≡ asked_in layout counted number file)) }
     ensures answers { IfOk result (IsAnswerTo number) }
-    ensures known { S.known source.new ≡ S.known source.old }
+    ensures held { OfEach (S.Holds source.new) (S.Holds source.old) }
+    ensures later { FailsWhere (S.Fails source.new) (S.Fails source.old) }
 {
     match number {
         None => {
-            let ranges = find_in_layout(alloc, source, len, layout)?;
+            let ranges = find_in_layout(alloc, source, layout)?;
             chosen_of(alloc, source, counted, &ranges)
         }
         Some(0) => Ok(Asked::WholeFile),
-        Some(n) => match nth_range(alloc, source, len, layout, n)? {
+        Some(n) => match nth_range(alloc, source, layout, n)? {
             Some(found) => Ok(Asked::Inside(NumberedRange { number: n, found })),
             None => Ok(Asked::Missing(n)),
         },

@@ -1,12 +1,12 @@
 //! Disk Copy 4.2. Source: Apple's File Type Note $E0/0005.
 ghost use Rattle.std.specs.Prelude.{◌≡◌, ◌+◌, ◌^◌, ◌<◌, IfOk};
-ghost use Rattle.hfs_containers.specs.Reading.{IsTold};
 ghost use Rattle.hfs_containers.specs.DiskCopy.{disk_copy_in, disk_copy_of, is_data_length, is_disk_copy_head};
+ghost use Rattle.hfs_source.specs.Images.{FailsWhere, OfEach};
 
 use crate::pieces::piece_at;
 use crate::ranges::{ByteRange, Container, FoundRange};
-use crate::source::ReadAt;
 use hfs_fields::{u16_at, u32_at};
+use hfs_source::PlacedBytes;
 use hfs_sparse::SparseFault;
 
 /// How many bytes the header has.
@@ -56,13 +56,15 @@ fn disk_copy_of(range: ByteRange, head: &[u8; 84]) -> Option<FoundRange>
 }
 
 /// The data of the disk copy in a range, if the range is one.
-pub fn disk_copy_in<S: ReadAt>(
+pub fn disk_copy_in<S: PlacedBytes>(
     source: &mut S,
     range: ByteRange,
 ) -> Result<Option<FoundRange>, SparseFault>
     requires { range.start + 84 < 2 ^ 64 }
-    ensures found { IfOk result (IsTold (S.known source.old) (disk_copy_in range)) }
-    ensures known { S.known source.new ≡ S.known source.old }
+    ensures found { IfOk result (λ found. OfEach (S.Holds source.new)
+        (λ file. found ≡ disk_copy_in range file)) }
+    ensures held { OfEach (S.Holds source.new) (S.Holds source.old) }
+    ensures later { FailsWhere (S.Fails source.new) (S.Fails source.old) }
 {
     if range.len < HEAD {
         return Ok(None);

@@ -1,27 +1,29 @@
 //! Everything that is found in a file.
 ghost use Rattle.std.specs.Prelude.{◌≡◌, IfOk, OnOk, map};
 ghost use Rattle.std.specs.List.{list_any};
-ghost use Rattle.hfs_containers.specs.Reading.{IsTold, IsToldOf};
 ghost use Rattle.hfs_containers.specs.Found.{as_raw, each_once, found_by, found_in, found_raw_in, is_same_range, looked_for, looked_for_raw, nth_found_by, raw_container, with_new};
+ghost use Rattle.hfs_source.specs.Images.{FailsWhere, OfEach};
 
 use crate::disk_copy::disk_copy_in;
 use crate::macbinary::macbinary_in;
 use crate::partition_map::push_partitions;
 use crate::ranges::{ByteRange, Container, FoundRange, Layout, push_found};
-use crate::source::ReadAt;
 use crate::volumes::volume_as;
+use hfs_source::PlacedBytes;
 use hfs_sparse::SparseFault;
 use std::alloc::Global;
 
 /// The ranges in a file of `len` bytes, as they are looked for.
 #[tactic(auto, unfolding(crate::specs::Found::looked_for))]
-fn looked_for<S: ReadAt>(
+fn looked_for<S: PlacedBytes>(
     alloc: Global,
     source: &mut S,
     len: u64,
 ) -> Result<Vec<FoundRange>, SparseFault>
-    ensures found { IfOk result (λ found. IsTold (S.known source.old) (looked_for len) found.items) }
-    ensures known { S.known source.new ≡ S.known source.old }
+    ensures found { IfOk result (λ found. OfEach (S.Holds source.new)
+        (λ file. found.items ≡ looked_for len file)) }
+    ensures held { OfEach (S.Holds source.new) (S.Holds source.old) }
+    ensures later { FailsWhere (S.Fails source.new) (S.Fails source.old) }
 {
     let file = ByteRange { start: 0, len };
     let mut found = Vec::new(alloc);
@@ -75,30 +77,34 @@ fn each_once(alloc: Global, ranges: &[FoundRange]) -> Result<Vec<FoundRange>, Sp
     Ok(found)
 }
 
-/// The ranges that are found in a file of `len` bytes, each once, in the order in which they are looked for: the whole file and
+/// The ranges that are found in a file, each once, in the order in which they are looked for: the whole file and
 /// the data fork of a MacBinary file if they hold a volume, the data of a disk copy (also in that fork), and the partitions of
 /// type Apple_HFS. Errors: a read failed, memory was refused.
-pub fn find_ranges<S: ReadAt>(
+pub fn find_ranges<S: PlacedBytes>(
     alloc: Global,
     source: &mut S,
-    len: u64,
 ) -> Result<Vec<FoundRange>, SparseFault>
-    ensures found { IfOk result (λ found. IsToldOf (S.known source.old) len found_in found.items) }
-    ensures known { S.known source.new ≡ S.known source.old }
+    ensures found { IfOk result (λ found. OfEach (S.Holds source.new)
+        (λ file. found.items ≡ found_in file)) }
+    ensures held { OfEach (S.Holds source.new) (S.Holds source.old) }
+    ensures later { FailsWhere (S.Fails source.new) (S.Fails source.old) }
 {
+    let len = source.len();
     let ranges = looked_for(alloc, source, len)?;
     each_once(alloc, &ranges)
 }
 
 /// The ranges in `len` bytes of user data, as they are looked for.
 #[tactic(auto, unfolding(crate::specs::Found::looked_for_raw))]
-fn looked_for_raw<S: ReadAt>(
+fn looked_for_raw<S: PlacedBytes>(
     alloc: Global,
     source: &mut S,
     len: u64,
 ) -> Result<Vec<FoundRange>, SparseFault>
-    ensures found { IfOk result (λ found. IsTold (S.known source.old) (looked_for_raw len) found.items) }
-    ensures known { S.known source.new ≡ S.known source.old }
+    ensures found { IfOk result (λ found. OfEach (S.Holds source.new)
+        (λ file. found.items ≡ looked_for_raw len file)) }
+    ensures held { OfEach (S.Holds source.new) (S.Holds source.old) }
+    ensures later { FailsWhere (S.Fails source.new) (S.Fails source.old) }
 {
     let mut found = Vec::new(alloc);
     let bare = volume_as(source, Container::Bare, ByteRange { start: 0, len })?;
@@ -134,53 +140,57 @@ fn as_raw(alloc: Global, ranges: &[FoundRange]) -> Result<Vec<FoundRange>, Spars
     Ok(found)
 }
 
-/// The ranges in `len` bytes of user data of raw sectors: all of it if it holds a volume, and the partitions of type Apple_HFS,
+/// The ranges in the user data of raw sectors: all of it if it holds a volume, and the partitions of type Apple_HFS,
 /// each range once. Errors: a read failed, memory was refused.
-pub fn find_raw_ranges<S: ReadAt>(
+pub fn find_raw_ranges<S: PlacedBytes>(
     alloc: Global,
     source: &mut S,
-    len: u64,
 ) -> Result<Vec<FoundRange>, SparseFault>
-    ensures found { IfOk result (λ found. IsToldOf (S.known source.old) len found_raw_in found.items) }
-    ensures known { S.known source.new ≡ S.known source.old }
+    ensures found { IfOk result (λ found. OfEach (S.Holds source.new)
+        (λ file. found.items ≡ found_raw_in file)) }
+    ensures held { OfEach (S.Holds source.new) (S.Holds source.old) }
+    ensures later { FailsWhere (S.Fails source.new) (S.Fails source.old) }
 {
+    let len = source.len();
     let ranges = looked_for_raw(alloc, source, len)?;
     let found = each_once(alloc, &ranges)?;
     as_raw(alloc, &found)
 }
 
-/// The ranges in a file of `len` bytes, or in that many bytes of user data. Errors: a read failed, memory was refused.
-pub fn find_in_layout<S: ReadAt>(
+/// The ranges in a file, or in its user data. Errors: a read failed, memory was refused.
+pub fn find_in_layout<S: PlacedBytes>(
     alloc: Global,
     source: &mut S,
-    len: u64,
     layout: Layout,
 ) -> Result<Vec<FoundRange>, SparseFault>
-    ensures found { IfOk result (λ found. IsToldOf (S.known source.old) len (found_by layout) found.items) }
-    ensures known { S.known source.new ≡ S.known source.old }
+    ensures found { IfOk result (λ found. OfEach (S.Holds source.new)
+        (λ file. found.items ≡ found_by layout file)) }
+    ensures held { OfEach (S.Holds source.new) (S.Holds source.old) }
+    ensures later { FailsWhere (S.Fails source.new) (S.Fails source.old) }
 {
     match layout {
-        Layout::Plain => find_ranges(alloc, source, len),
-        Layout::Raw => find_raw_ranges(alloc, source, len),
+        Layout::Plain => find_ranges(alloc, source),
+        Layout::Raw => find_raw_ranges(alloc, source),
     }
 }
 
-/// The `n`-th range that is found in a file of `len` bytes, or in that many bytes of user data, counted from 1. None if there are
+/// The `n`-th range that is found in a file, or in its user data, counted from 1. None if there are
 /// fewer, and for 0. Errors: as for [`find_ranges`].
 #[tactic(auto, unfolding(crate::specs::Found::nth_found_by))]
-pub fn nth_range<S: ReadAt>(
+pub fn nth_range<S: PlacedBytes>(
     alloc: Global,
     source: &mut S,
-    len: u64,
     layout: Layout,
     n: u64,
 ) -> Result<Option<FoundRange>, SparseFault>
-    ensures nth { IfOk result (IsToldOf (S.known source.old) len (nth_found_by layout n)) }
-    ensures known { S.known source.new ≡ S.known source.old }
+    ensures nth { IfOk result (λ nth. OfEach (S.Holds source.new)
+        (λ file. nth ≡ nth_found_by layout n file)) }
+    ensures held { OfEach (S.Holds source.new) (S.Holds source.old) }
+    ensures later { FailsWhere (S.Fails source.new) (S.Fails source.old) }
 {
     if n == 0 {
         return Ok(None);
     }
-    let found = find_in_layout(alloc, source, len, layout)?;
+    let found = find_in_layout(alloc, source, layout)?;
     Ok(found.get(n as usize - 1).copied())
 }

@@ -1,14 +1,14 @@
 //! MacBinary files, up to their data fork. Source: MacBinary II Standard Proposal (1987).
 ghost use Rattle.std.specs.Prelude.{◌≡◌, ◌+◌, ◌^◌, ◌<◌, IfOk, IfSome};
-ghost use Rattle.hfs_containers.specs.Reading.{IsTold};
 ghost use Rattle.hfs_containers.specs.MacBinary.{data_fork_in, data_fork_of, filled, found_in_fork, is_macbinary_head, macbinary_in};
+ghost use Rattle.hfs_source.specs.Images.{FailsWhere, OfEach};
 
 use crate::disk_copy::disk_copy_in;
 use crate::pieces::piece_at;
 use crate::ranges::{ByteRange, Container, FoundRange};
-use crate::source::ReadAt;
 use crate::volumes::volume_as;
 use hfs_fields::{u16_at, u32_at};
+use hfs_source::PlacedBytes;
 use hfs_sparse::SparseFault;
 
 /// How many bytes the header has.
@@ -45,10 +45,12 @@ fn data_fork_of(len: u64, head: &[u8; 128]) -> Option<ByteRange>
 }
 
 /// The data fork of a MacBinary file of `len` bytes.
-fn data_fork_in<S: ReadAt>(source: &mut S, len: u64) -> Result<Option<ByteRange>, SparseFault>
-    ensures fork { IfOk result (IsTold (S.known source.old) (data_fork_in len)) }
+fn data_fork_in<S: PlacedBytes>(source: &mut S, len: u64) -> Result<Option<ByteRange>, SparseFault>
+    ensures fork { IfOk result (λ fork. OfEach (S.Holds source.new)
+        (λ file. fork ≡ data_fork_in len file)) }
     ensures small { IfOk result (λ fork. IfSome fork (λ fork. fork.start < 2 ^ 18)) }
-    ensures known { S.known source.new ≡ S.known source.old }
+    ensures held { OfEach (S.Holds source.new) (S.Holds source.old) }
+    ensures later { FailsWhere (S.Fails source.new) (S.Fails source.old) }
 {
     if len < HEAD {
         return Ok(None);
@@ -58,13 +60,15 @@ fn data_fork_in<S: ReadAt>(source: &mut S, len: u64) -> Result<Option<ByteRange>
 }
 
 /// The disk copy in a data fork, or else the volume.
-fn found_in_fork<S: ReadAt>(
+fn found_in_fork<S: PlacedBytes>(
     source: &mut S,
     fork: ByteRange,
 ) -> Result<Option<FoundRange>, SparseFault>
     requires { fork.start < 2 ^ 18 }
-    ensures found { IfOk result (IsTold (S.known source.old) (found_in_fork fork)) }
-    ensures known { S.known source.new ≡ S.known source.old }
+    ensures found { IfOk result (λ found. OfEach (S.Holds source.new)
+        (λ file. found ≡ found_in_fork fork file)) }
+    ensures held { OfEach (S.Holds source.new) (S.Holds source.old) }
+    ensures later { FailsWhere (S.Fails source.new) (S.Fails source.old) }
 {
     match disk_copy_in(source, fork)? {
         Some(found) => Ok(Some(found)),
@@ -73,9 +77,14 @@ fn found_in_fork<S: ReadAt>(
 }
 
 /// What lies in the data fork of a MacBinary file of `len` bytes.
-pub fn macbinary_in<S: ReadAt>(source: &mut S, len: u64) -> Result<Option<FoundRange>, SparseFault>
-    ensures found { IfOk result (IsTold (S.known source.old) (macbinary_in len)) }
-    ensures known { S.known source.new ≡ S.known source.old }
+pub fn macbinary_in<S: PlacedBytes>(
+    source: &mut S,
+    len: u64,
+) -> Result<Option<FoundRange>, SparseFault>
+    ensures found { IfOk result (λ found. OfEach (S.Holds source.new)
+        (λ file. found ≡ macbinary_in len file)) }
+    ensures held { OfEach (S.Holds source.new) (S.Holds source.old) }
+    ensures later { FailsWhere (S.Fails source.new) (S.Fails source.old) }
 {
     match data_fork_in(source, len)? {
         Some(fork) => found_in_fork(source, fork),

@@ -2,13 +2,13 @@
 ghost use Rattle.std.specs.Prelude.{◌≡◌, ◌++◌, ◌+◌, ◌-◌, ◌*◌, ◌/◌, ◌≤◌, ◌<◌, List, ℕ, IfOk, OnOk, IfSome, length};
 ghost use Rattle.std.specs.List.{range_with_len};
 ghost use Rattle.std.specs.Option.{option_to_list};
-ghost use Rattle.hfs_containers.specs.Reading.{IsTold};
 ghost use Rattle.hfs_containers.specs.PartitionMap.{begins_pm, cut_at, entry_at, entry_count, has_map_at, is_hfs_entry, map_block_in, partition_of, partitions_among, partitions_in};
+ghost use Rattle.hfs_source.specs.Images.{FailsWhere, OfEach};
 
 use crate::pieces::piece_at;
 use crate::ranges::{ByteRange, Container, FoundRange, push_found};
-use crate::source::ReadAt;
 use hfs_fields::{u16_at, u32_at};
+use hfs_source::PlacedBytes;
 use hfs_sparse::SparseFault;
 
 /// The letters PM, with which each entry begins.
@@ -22,10 +22,12 @@ const MOST_ENTRIES: u64 = 63;
 
 /// Whether a map with blocks of this many bytes begins at block 1, in a file of `len` bytes.
 #[tactic(auto, unfolding(crate::specs::PartitionMap::has_map_at, crate::specs::PartitionMap::begins_pm))]
-fn has_map_at<S: ReadAt>(source: &mut S, place: u64, len: u64) -> Result<bool, SparseFault>
+fn has_map_at<S: PlacedBytes>(source: &mut S, place: u64, len: u64) -> Result<bool, SparseFault>
     requires { place ≤ 2048 }
-    ensures has { IfOk result (IsTold (S.known source.old) (has_map_at place len)) }
-    ensures known { S.known source.new ≡ S.known source.old }
+    ensures has { IfOk result (λ has. OfEach (S.Holds source.new)
+        (λ file. has ≡ has_map_at place len file)) }
+    ensures held { OfEach (S.Holds source.new) (S.Holds source.old) }
+    ensures later { FailsWhere (S.Fails source.new) (S.Fails source.old) }
 {
     if len < place + 2 {
         return Ok(false);
@@ -35,10 +37,12 @@ fn has_map_at<S: ReadAt>(source: &mut S, place: u64, len: u64) -> Result<bool, S
 }
 
 /// How many bytes the blocks of the file's map have: 512, or 2,048 as on compact discs.
-fn map_block_in<S: ReadAt>(source: &mut S, len: u64) -> Result<Option<u64>, SparseFault>
-    ensures block { IfOk result (IsTold (S.known source.old) (map_block_in len)) }
+fn map_block_in<S: PlacedBytes>(source: &mut S, len: u64) -> Result<Option<u64>, SparseFault>
+    ensures block { IfOk result (λ block. OfEach (S.Holds source.new)
+        (λ file. block ≡ map_block_in len file)) }
     ensures some { IfOk result (λ block. IfSome block (λ block. (512 ≤ block) × (block ≤ 2048))) }
-    ensures known { S.known source.new ≡ S.known source.old }
+    ensures held { OfEach (S.Holds source.new) (S.Holds source.old) }
+    ensures later { FailsWhere (S.Fails source.new) (S.Fails source.old) }
 {
     if has_map_at(source, 512, len)? {
         return Ok(Some(512));
@@ -59,11 +63,13 @@ fn begins_pm(entry: &[u8; 64]) -> bool
 
 /// How many entries are looked at: as many as the first one says, but no more than the file has room for, and at most 63.
 #[tactic(auto, unfolding(crate::specs::PartitionMap::entry_count))]
-fn entry_count<S: ReadAt>(source: &mut S, block: u64, len: u64) -> Result<u64, SparseFault>
+fn entry_count<S: PlacedBytes>(source: &mut S, block: u64, len: u64) -> Result<u64, SparseFault>
     requires { 512 ≤ block }
-    ensures count { IfOk result (IsTold (S.known source.old) (entry_count block len)) }
+    ensures count { IfOk result (λ count. OfEach (S.Holds source.new)
+        (λ file. count ≡ entry_count block len file)) }
     ensures few { IfOk result (λ count. count ≤ 63) }
-    ensures known { S.known source.new ≡ S.known source.old }
+    ensures held { OfEach (S.Holds source.new) (S.Holds source.old) }
+    ensures later { FailsWhere (S.Fails source.new) (S.Fails source.old) }
 {
     let blocks = len / block;
     if blocks < 2 {
@@ -109,7 +115,7 @@ fn partition_of(block: u64, len: u64, entry: &[u8; 64]) -> Option<FoundRange>
 }
 
 /// Appends the partitions of this many entries, up to the first block that is none.
-fn push_entries<S: ReadAt>(
+fn push_entries<S: PlacedBytes>(
     source: &mut S,
     block: u64,
     len: u64,
@@ -118,9 +124,10 @@ fn push_entries<S: ReadAt>(
 ) -> Result<(), SparseFault>
     requires block { block ≤ 2048 }
     requires count { count ≤ 63 }
-    ensures found { OnOk result (IsTold (S.known source.old)
-        (λ file. found.old.items ++ partitions_among block len (range_with_len 1 count) file) found.new.items) }
-    ensures known { S.known source.new ≡ S.known source.old }
+    ensures found { OnOk result (OfEach (S.Holds source.new) (λ file. found.new.items
+        ≡ found.old.items ++ partitions_among block len (range_with_len 1 count) file)) }
+    ensures held { OfEach (S.Holds source.new) (S.Holds source.old) }
+    ensures later { FailsWhere (S.Fails source.new) (S.Fails source.old) }
 {
     for n in 1..count + 1 {
         let entry = piece_at(source, block * n)?;
@@ -133,14 +140,15 @@ fn push_entries<S: ReadAt>(
 }
 
 /// Appends the partitions of the map of a file of `len` bytes, if it has one.
-pub fn push_partitions<S: ReadAt>(
+pub fn push_partitions<S: PlacedBytes>(
     source: &mut S,
     len: u64,
     found: &mut Vec<FoundRange>,
 ) -> Result<(), SparseFault>
-    ensures found { OnOk result (IsTold (S.known source.old)
-        (λ file. found.old.items ++ partitions_in len file) found.new.items) }
-    ensures known { S.known source.new ≡ S.known source.old }
+    ensures found { OnOk result (OfEach (S.Holds source.new)
+        (λ file. found.new.items ≡ found.old.items ++ partitions_in len file)) }
+    ensures held { OfEach (S.Holds source.new) (S.Holds source.old) }
+    ensures later { FailsWhere (S.Fails source.new) (S.Fails source.old) }
 {
     match map_block_in(source, len)? {
         Some(block) => {

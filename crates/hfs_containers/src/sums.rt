@@ -1,12 +1,12 @@
 //! The sum of Disk Copy 4.2.
 ghost use Rattle.std.specs.Prelude.{◌≡◌, ◌≤◌, ◌+◌, ◌*◌, ◌/◌, ◌%◌, ◌^◌, IfOk};
 ghost use Rattle.hfs_fields.specs.Mdb.{bytes_at};
-ghost use Rattle.hfs_containers.specs.Reading.{IsTold};
 ghost use Rattle.hfs_containers.specs.Ranges.{bytes_in};
-ghost use Rattle.hfs_containers.specs.Sums.{sum_from, sum_of, turned, with_word};
+ghost use Rattle.hfs_containers.specs.Sums.{sum_from, sum_of, sum_told, turned, with_word};
+ghost use Rattle.hfs_source.specs.Images.{FailsWhere, OfEach};
 
-use crate::ranges::ByteRange;
-use crate::source::ReadAt;
+use crate::ranges::{ByteRange, Container, FoundRange};
+use hfs_source::PlacedBytes;
 use hfs_sparse::SparseFault;
 
 /// How many bytes are read at once.
@@ -39,10 +39,17 @@ pub fn sum_from(start: u32, bytes: &[u8]) -> u32
 }
 
 /// The sum continued over `count` bytes from `place` on.
-fn sum_over<S: ReadAt>(source: &mut S, place: u64, count: u64, sum: u32) -> Result<u32, SparseFault>
+fn sum_over<S: PlacedBytes>(
+    source: &mut S,
+    place: u64,
+    count: u64,
+    sum: u32,
+) -> Result<u32, SparseFault>
     requires { count ≤ 16384 }
-    ensures sum { IfOk result (IsTold (S.known source.old) (λ file. sum_from sum (bytes_at place count file))) }
-    ensures known { S.known source.new ≡ S.known source.old }
+    ensures sum { IfOk result (λ after. OfEach (S.Holds source.new)
+        (λ file. after ≡ sum_from sum (bytes_at place count file))) }
+    ensures held { OfEach (S.Holds source.new) (S.Holds source.old) }
+    ensures later { FailsWhere (S.Fails source.new) (S.Fails source.old) }
 {
     let mut piece = [0; PIECE as usize];
     let bytes = &mut piece[..count as usize];
@@ -52,10 +59,12 @@ fn sum_over<S: ReadAt>(source: &mut S, place: u64, count: u64, sum: u32) -> Resu
     }
 }
 
-/// The sum of a range's bytes, which are read once, in pieces. Error: the read failed, or the file ends before the range does.
-pub fn data_sum<S: ReadAt>(source: &mut S, range: ByteRange) -> Result<u32, SparseFault>
-    ensures sum { IfOk result (IsTold (S.known source.old) (λ file. sum_of (bytes_in range file))) }
-    ensures known { S.known source.new ≡ S.known source.old }
+/// The sum of a range's bytes, which are read once, in pieces. Error: the read failed, or the file ends before the range.
+pub fn range_sum<S: PlacedBytes>(source: &mut S, range: ByteRange) -> Result<u32, SparseFault>
+    ensures sum { IfOk result (λ sum. OfEach (S.Holds source.new)
+        (λ file. sum ≡ sum_of (bytes_in range file))) }
+    ensures held { OfEach (S.Holds source.new) (S.Holds source.old) }
+    ensures later { FailsWhere (S.Fails source.new) (S.Fails source.old) }
 {
     let mut sum = 0;
     let mut done = 0;
@@ -68,4 +77,25 @@ pub fn data_sum<S: ReadAt>(source: &mut S, range: ByteRange) -> Result<u32, Spar
         done += count;
     }
     Ok(sum)
+}
+
+/// Whether the sum in a disk copy's header is that of its data, which is read; None if there is no such header. Errors: the read
+/// failed, or the file ends before the range does.
+pub fn sum_told<S: PlacedBytes>(
+    source: &mut S,
+    found: &FoundRange,
+) -> Result<Option<bool>, SparseFault>
+    ensures told { IfOk result (λ sum. OfEach (S.Holds source.new)
+        (λ file. sum ≡ sum_told found.now.container (bytes_in found.now.range file))) }
+    ensures held { OfEach (S.Holds source.new) (S.Holds source.old) }
+    ensures later { FailsWhere (S.Fails source.new) (S.Fails source.old) }
+{
+    match found.container {
+        Container::DiskCopy { sum } => {
+            let own = range_sum(source, found.range)?;
+            Ok(Some(own == sum))
+        }
+        Container::Bare | Container::MacBinary | Container::Partition => Ok(None),
+        Container::RawBare | Container::RawPartition => Ok(None),
+    }
 }

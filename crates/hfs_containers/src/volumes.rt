@@ -1,12 +1,12 @@
 //! Whether a range holds a volume.
 ghost use Rattle.std.specs.Prelude.{◌≡◌, IfOk};
-ghost use Rattle.hfs_containers.specs.Reading.{IsTold};
 ghost use Rattle.hfs_containers.specs.Ranges.{signed_name, volume_as, volume_name_in};
+ghost use Rattle.hfs_source.specs.Images.{FailsWhere, OfEach};
 
 use crate::pieces::piece_at;
 use crate::ranges::{ByteRange, Container, FoundRange};
-use crate::source::ReadAt;
 use hfs_fields::u16_at;
+use hfs_source::PlacedBytes;
 use hfs_sparse::SparseFault;
 
 /// The signature of an HFS volume, in drSigWord.
@@ -33,12 +33,14 @@ fn signed_name(block: &[u8; 64]) -> Option<[u8; 28]>
 
 /// The name field (drVN, a length byte and 27 characters) of the volume that a range holds. None exactly when it has fewer than
 /// 1,536 bytes or another signature. Errors: the read failed, or the file ends before the range does.
-pub fn volume_name<S: ReadAt>(
+pub fn volume_name<S: PlacedBytes>(
     source: &mut S,
     range: ByteRange,
 ) -> Result<Option<[u8; 28]>, SparseFault>
-    ensures name { IfOk result (IsTold (S.known source.old) (volume_name_in range)) }
-    ensures known { S.known source.new ≡ S.known source.old }
+    ensures name { IfOk result (λ name. OfEach (S.Holds source.new)
+        (λ file. name ≡ volume_name_in range file)) }
+    ensures held { OfEach (S.Holds source.new) (S.Holds source.old) }
+    ensures later { FailsWhere (S.Fails source.new) (S.Fails source.old) }
 {
     if range.len < SHORTEST {
         return Ok(None);
@@ -51,13 +53,15 @@ pub fn volume_name<S: ReadAt>(
 }
 
 /// The range, if it holds a volume.
-pub fn volume_as<S: ReadAt>(
+pub fn volume_as<S: PlacedBytes>(
     source: &mut S,
     container: Container,
     range: ByteRange,
 ) -> Result<Option<FoundRange>, SparseFault>
-    ensures found { IfOk result (IsTold (S.known source.old) (volume_as container range)) }
-    ensures known { S.known source.new ≡ S.known source.old }
+    ensures found { IfOk result (λ found. OfEach (S.Holds source.new)
+        (λ file. found ≡ volume_as container range file)) }
+    ensures held { OfEach (S.Holds source.new) (S.Holds source.old) }
+    ensures later { FailsWhere (S.Fails source.new) (S.Fails source.old) }
 {
     match volume_name(source, range)? {
         Some(_) => Ok(Some(FoundRange { container, range })),

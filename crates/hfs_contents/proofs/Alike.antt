@@ -18,7 +18,7 @@ use Rattle.hfs_containers.specs.DiskCopy.{disk_copy_in, disk_copy_of}
 use Rattle.hfs_containers.specs.MacBinary.{data_fork_behind, data_fork_in, data_fork_of, filled, found_in_fork, is_macbinary_head, macbinary_in}
 use Rattle.hfs_containers.specs.PartitionMap.{begins_pm, entries_in, entry_at, entry_count, has_map_at, map_block_in, partition_of, partitions_among, partitions_in, partitions_of_map}
 use Rattle.hfs_containers.specs.Found.{as_raw, each_once, found_by, found_in, found_raw_in, looked_for, looked_for_raw}
-use Rattle.hfs_containers.specs.Reading.{IsToldOf}
+use Rattle.hfs_source.specs.Images.{OfEach}
 use Rattle.hfs_contents.specs.Heads.{HasSmallHeader, IsHeadOf, with_zeros}
 
 -- bytes within the first ones
@@ -160,7 +160,7 @@ zeros-alike head file len long is = by (leb 131072 len) refl
         ap (λ n. take 131072 (head ++ replicate n 0)) none ∙ ap (take 131072) (append-nil head ∙ is ∙ take_all 131072 file (omega (arith, few, long)))
 
 pub found_by_head : (layout : Layout) (head file : List ℕ) (len : ℕ) (found : List FoundRange) → HasSmallHeader head → length file ≡ len → IsHeadOf head file
-    → IsToldOf (Some (with_zeros len head)) len (found_by layout) found → found ≡ found_by layout file
+    → found ≡ found_by layout (with_zeros len head) → found ≡ found_by layout file
 found_by_head layout head file len found small long is told =
     let all : List ℕ = with_zeros len head in
     let size : length all ≡ len = zeros-length head file len long is in
@@ -168,12 +168,13 @@ found_by_head layout head file len found small long is told =
     let own : bytes_at 0 128 all ≡ bytes_at 0 128 head =
     sym (inside 0 128 all (omega arith)) ∙ ap (bytes_at 0 128) (alike ∙ sym is) in
     let head-long : length head ≡ min 131072 (length file) = ap length is ∙ length-take 131072 file in
-    told size ∙ found_alike all file alike layout (size ∙ sym long)
+    told ∙ found_alike all file alike layout (size ∙ sym long)
     (λ enough. subst (λ (bytes : List ℕ). number_at 120 2 bytes ≤ 65535) (sym own) (small (omega (arith, enough, size, long, head-long))))
 
--- where it is handed on
-pub find_told : {E : Type 0} (r : Result (Vec FoundRange Global) E) (layout : Layout) (head : List ℕ) (len : ℕ) → HasSmallHeader head
-    → IfOk r (λ found. IsToldOf (Some (with_zeros len head)) len (found_by layout) found.items)
+-- where it is handed on, of the one image that has what was read of the head
+pub find_told : {E : Type 0} (r : Result (Vec FoundRange Global) E) (layout : Layout) (head : List ℕ) (len : ℕ) (Holds : List ℕ → Type 0) (own : List ℕ)
+    → HasSmallHeader head → Holds own → own ≡ with_zeros len head → IfOk r (λ found. OfEach Holds (λ image. found.items ≡ found_by layout image))
     → IfOk r (λ found. (file : List ℕ) → length file ≡ len → IsHeadOf head file → found.items ≡ found_by layout file)
-find_told (Err e) layout head len small told = tt
-find_told (Ok found) layout head len small told = λ file long is. found_by_head layout head file len found.items small long is told
+find_told (Err e) layout head len Holds own small holds same told = tt
+find_told (Ok found) layout head len Holds own small holds same told = λ file long is.
+    found_by_head layout head file len found.items small long is (told own holds ∙ ap (found_by layout) same)

@@ -1,13 +1,10 @@
 -- The first bytes of an image.
-use Rattle.std.proofs.Common.{◌≡◌, ◌∙◌, ℕ, zero, suc, ◌+◌, ◌-◌, ◌<◌, ◌≤◌, min, Bool, true, false, cond, leb, List, ◌++◌, length, take, drop, refl, ap, sym, subst, arith}
+use Rattle.std.proofs.Common.{◌≡◌, ◌∙◌, ℕ, zero, suc, ◌+◌, ◌-◌, ◌<◌, ◌≤◌, min, Bool, true, false, leb, List, ◌++◌, length, take, drop, refl, ap, sym, subst, arith}
 use Rattle.std.specs.Prelude.{replicate}
-use Rattle.std.proofs.lemmas.List.{take_all, length-take, length-drop, take-append-le, drop-append-le}
+use Rattle.std.proofs.lemmas.List.{take_all, length-take, length-append, length-drop, length-replicate, take-append-le, drop-append-le}
 use Rattle.std.proofs.lemmas.Bool.{leb-true, leb-false}
 use Rattle.hfs_fields.specs.Numbers.{number_at}
 use Rattle.hfs_fields.specs.Mdb.{bytes_at}
-use Rattle.hfs_raw.specs.Sectors.{is_raw}
-use Rattle.hfs_containers.specs.declared.ranges.Layout.TheVariants.{Plain, Raw}
-use Rattle.hfs_containers.specs.Raw.{layout_of}
 use Rattle.hfs_contents.specs.Heads.{HasSmallHeader, IsHeadOf, with_zeros}
 
 -- what is read of the head is read of it with zeros behind it
@@ -26,6 +23,14 @@ head_read place len head into is = by (length into) refl
         let enough : length into ≤ length (drop place head) = omega (arith, size) in
         let inside : place ≤ length head = omega (arith, enough, rest, e) in
         is ∙ sym (take-append-le (length into) (drop place head) zeros enough) ∙ ap (take (length into)) (sym (drop-append-le place head zeros inside))
+
+-- and there are as many as the image has
+pub head_long : (len : ℕ) (head image : List ℕ) → length head ≤ len → image ≡ with_zeros len head → length image ≡ len
+unfolding with_zeros
+head_long len head image few is =
+    let behind : length (replicate (len - length head) 0) ≡ len - length head = length-replicate {A = ℕ} (len - length head) 0 in
+    let own : length image ≡ length (head ++ replicate (len - length head) 0) = ap length is in
+    omega (arith, own, length-append head (replicate (len - length head) 0), behind, few)
 
 -- as many first bytes as there are, at most 131,072
 pub head_all : (len : ℕ) (head file : List ℕ) → length file ≡ len → length head ≡ min len 131072 → head ≡ take (length head) (drop 0 file) → IsHeadOf head file
@@ -48,13 +53,3 @@ short_header head short = λ enough. absurd (omega (arith, short, enough))
 
 pub small_header : (head : List ℕ) (n : ℕ) → n ≡ number_at 120 2 (take 128 head) → n ≤ 65535 → HasSmallHeader head
 small_header head n is small = λ enough. subst (λ k. k ≤ 65535) is small
-
--- ---- the layout
-
-pub raw_layout : (is : Bool) (file : List ℕ) → is ≡ is_raw file → is ≡ true → Raw ≡ layout_of file
-unfolding layout_of
-raw_layout is file told holds = ap (λ t. cond t Raw Plain) (sym holds ∙ told)
-
-pub plain_layout : (is : Bool) (file : List ℕ) → is ≡ is_raw file → is ≡ false → Plain ≡ layout_of file
-unfolding layout_of
-plain_layout is file told fails = ap (λ t. cond t Raw Plain) (sym fails ∙ told)

@@ -1,33 +1,14 @@
-//! How the bytes of an image are laid out, and where volumes lie in them.
-ghost use Rattle.std.specs.Prelude.{◌≡◌, ℕ, List, IfOk, OnErr, length};
+//! Where volumes lie in the bytes of an image.
+ghost use Rattle.std.specs.Prelude.{◌≡◌, ◌≤◌, ℕ, List, IfOk, length};
 ghost use Rattle.hfs_containers.specs.Found.{found_by};
-ghost use Rattle.hfs_containers.specs.Raw.{layout_of};
-ghost use Rattle.hfs_source.specs.Images.{FailsWhere, OfEach};
+ghost use Rattle.hfs_source.specs.Images.{OfEach};
 ghost use Rattle.hfs_contents.specs.Heads.{IsHeadOf};
 
 use crate::head::{HeadBytes, head_of, second_header};
 use hfs_containers::{FoundRange, Layout, find_in_layout};
-use hfs_raw::is_raw;
 use hfs_source::PlacedBytes;
 use hfs_sparse::SparseFault;
 use std::alloc::Global;
-use std::io;
-
-/// How the bytes of an image are laid out: as raw sectors if their number is a multiple of 2,352 and the first sector has user
-/// data. Error: the read failed.
-#[tactic(auto, using(crate::proofs::HeadLemmas::plain_layout, crate::proofs::HeadLemmas::raw_layout))]
-pub fn layout_in<S: PlacedBytes>(source: &mut S) -> io::Result<Layout>
-    ensures layout { IfOk result (λ layout. OfEach (S.Holds source.new)
-        (λ file. layout ≡ layout_of file)) }
-    ensures held { OfEach (S.Holds source.new) (S.Holds source.old) }
-    ensures fails { OnErr result (S.Fails source.old 0 24) }
-    ensures later { FailsWhere (S.Fails source.new) (S.Fails source.old) }
-{
-    if is_raw(source)? {
-        return Ok(Layout::Raw);
-    }
-    Ok(Layout::Plain)
-}
 
 /// The ranges in an image of `len` bytes that begins with these bytes.
 fn find_by_head(
@@ -36,13 +17,14 @@ fn find_by_head(
     len: u64,
     layout: Layout,
 ) -> Result<Vec<FoundRange>, SparseFault>
+    requires { length head.now ≤ len }
     ensures { IfOk result (λ found. (file : List ℕ) → length file ≡ len → IsHeadOf head.now file
         → found.items ≡ found_by layout file) }
 {
     // A second header of MacBinary has fewer than 65,536 bytes, so what it leads to is within the head.
     let _second = second_header(head);
     let mut bytes = HeadBytes { bytes: head, len };
-    find_in_layout(alloc, &mut bytes, len, layout)
+    find_in_layout(alloc, &mut bytes, layout)
 }
 
 /// The ranges in which volumes lie in an image, or in the user data of raw sectors, as [`hfs_containers::find_in_layout`] finds
@@ -57,7 +39,7 @@ pub fn find_contents<S: PlacedBytes>(
     ensures held { OfEach (S.Holds source.new) (S.Holds source.old) }
 {
     let len = source.len();
-    let head = head_of(alloc, source)?;
+    let head = head_of(alloc, source, len)?;
     let found = find_by_head(alloc, &head, len, layout)?;
     Ok(found)
 }

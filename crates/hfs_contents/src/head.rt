@@ -1,9 +1,8 @@
 //! The first bytes of an image, as if they were the image.
-ghost use Rattle.std.specs.Prelude.{◌≡◌, IfOk, Some, length};
+ghost use Rattle.std.specs.Prelude.{◌≡◌, ◌+◌, ◌<◌, ◌≤◌, IfOk, length};
 ghost use Rattle.hfs_source.specs.Images.{HasAt, OfEach};
 ghost use Rattle.hfs_contents.specs.Heads.{HasSmallHeader, IsHeadOf, with_zeros};
 
-use hfs_containers::ReadAt;
 use hfs_fields::u16_at;
 use hfs_source::{MemoryBytes, PlacedBytes};
 use hfs_sparse::SparseFault;
@@ -18,10 +17,18 @@ const HEAD: u64 = 131_072;
 pub(crate) struct HeadBytes<'a> {
     pub(crate) bytes: &'a [u8],
     pub(crate) len: u64,
+    ghost few: { length bytes.now ≤ len },
 }
 
-impl ReadAt for HeadBytes<'_> {
-    ghost known = { λ head. Some (with_zeros head.len head.bytes.now) };
+impl PlacedBytes for HeadBytes<'_> {
+    ghost Holds = { λ head image. image ≡ with_zeros head.len head.bytes.now };
+
+    ghost Fails = { λ head place count. length head.bytes.now < place + count };
+
+    #[tactic(auto, using(crate::proofs::HeadLemmas::head_long))]
+    fn len(&self) -> u64 {
+        self.len
+    }
 
     #[tactic(auto, using(crate::proofs::HeadLemmas::head_read))]
     fn read_at(&mut self, place: u64, into: &mut [u8]) -> io::Result<()> {
@@ -49,12 +56,17 @@ fn first_bytes<S: PlacedBytes>(
     }
 }
 
-/// The first bytes of an image, in which volumes are looked for. Errors: the read failed, memory was refused.
-pub(crate) fn head_of<S: PlacedBytes>(alloc: Global, source: &mut S) -> Result<Vec<u8>, SparseFault>
-    ensures head { IfOk result (λ head. OfEach (S.Holds source.new) (IsHeadOf head.items)) }
+/// The first bytes of an image of `all` bytes, in which volumes are looked for. Errors: the read failed, memory was refused.
+pub(crate) fn head_of<S: PlacedBytes>(
+    alloc: Global,
+    source: &mut S,
+    all: u64,
+) -> Result<Vec<u8>, SparseFault>
+    ensures few { IfOk result (λ head. length head.items ≤ all) }
+    ensures head { IfOk result (λ head. OfEach (S.Holds source.new)
+        (λ file. length file ≡ all → IsHeadOf head.items file)) }
     ensures held { OfEach (S.Holds source.new) (S.Holds source.old) }
 {
-    let all = source.len();
     let len = all.min(HEAD);
     let head = first_bytes(alloc, source, len)?;
     Ok(head)

@@ -5,35 +5,35 @@ use Rattle.hfs_containers.specs.Asking.{IsAnswerTo}
 use Rattle.hfs_containers.specs.declared.asking.NumberedRange.{NumberedRange}
 use Rattle.hfs_containers.specs.declared.ranges.ByteRange.{ByteRange}
 use Rattle.hfs_commands.specs.SeenFiles.{IsPartOf}
-use Rattle.hfs_commands.specs.Volumes.{sum_told}
 use Rattle.hfs_containers.specs.Ranges.{bytes_in}
+use Rattle.hfs_containers.specs.Sums.{sum_told}
 use Rattle.hfs_source.specs.Images.{HasLength, IsRangeOf, OfEach}
 use Rattle.hfs_take.specs.Opening.{IsLineAt, IsLineOf, IsLineWith, IsSumAt, IsSumIn, IsToldPart, TellsSum, TellsSumIn}
 
-at-range : (AreOthers : ℕ → Type 0) (file : Option (List ℕ)) (range : ByteRange) (place : Option NumberedRange) (line : Option (List ℕ)) (sum : Option Bool) → IsRangeAt place range
-    → IsToldPart AreOthers file place line sum → IsLineAt range place line
-at-range AreOthers file range None line sum at told = told.0
-at-range AreOthers file range (Some place) line sum at told = (told.2.name, sum, told.2.others, at, told.1 ∙ ap Some told.2.line_is)
+at-range : (AreOthers : ℕ → Type 0) (Names : List ℕ → Type 0) (range : ByteRange) (place : Option NumberedRange) (line : Option (List ℕ)) (sum : Option Bool) → IsRangeAt place range
+    → IsToldPart AreOthers Names place line sum → IsLineAt range place line
+at-range AreOthers Names range None line sum at told = told.0
+at-range AreOthers Names range (Some place) line sum at told = (told.2.name, sum, told.2.others, at, told.1 ∙ ap Some told.2.line_is)
 
-pub line_of_part : (AreOthers : ℕ → Type 0) (file : Option (List ℕ)) (volume : Option ℕ) (range found : ByteRange) (place : Option NumberedRange) (line : Option (List ℕ)) (sum : Option Bool)
-    → IsAnswerTo volume (asked_at place) → IsRangeAt place range → found ≡ range → IsToldPart AreOthers file place line sum → IsLineOf volume found line
-line_of_part AreOthers file volume range found place line sum answer at same told =
-    (place, answer, at-range AreOthers file found place line sum (subst (IsRangeAt place) (sym same) at) told)
+pub line_of_part : (AreOthers : ℕ → Type 0) (Names : List ℕ → Type 0) (volume : Option ℕ) (range found : ByteRange) (place : Option NumberedRange) (line : Option (List ℕ)) (sum : Option Bool)
+    → IsAnswerTo volume (asked_at place) → IsRangeAt place range → found ≡ range → IsToldPart AreOthers Names place line sum → IsLineOf volume found line
+line_of_part AreOthers Names volume range found place line sum answer at same told =
+    (place, answer, at-range AreOthers Names found place line sum (subst (IsRangeAt place) (sym same) at) told)
 
 -- ---- what is told of its sum
 
-with-sum : (AreOthers : ℕ → Type 0) (file : Option (List ℕ)) (range : ByteRange) (place : Option NumberedRange) (line : Option (List ℕ))
-    (sum : Option Bool) → IsRangeAt place range → IsToldPart AreOthers file place line sum → IsLineWith range place line sum
-with-sum AreOthers file range None line sum at told = told.0
-with-sum AreOthers file range (Some place) line sum at told = (told.2.name, told.2.others, at, told.1 ∙ ap Some told.2.line_is)
+with-sum : (AreOthers : ℕ → Type 0) (Names : List ℕ → Type 0) (range : ByteRange) (place : Option NumberedRange) (line : Option (List ℕ))
+    (sum : Option Bool) → IsRangeAt place range → IsToldPart AreOthers Names place line sum → IsLineWith range place line sum
+with-sum AreOthers Names range None line sum at told = told.0
+with-sum AreOthers Names range (Some place) line sum at told = (told.2.name, told.2.others, at, told.1 ∙ ap Some told.2.line_is)
 
-pub sum_of_part : (Holds : List ℕ → Type 0) (AreOthers : ℕ → Type 0) (file : Option (List ℕ)) (volume : Option ℕ) (range found : ByteRange)
+pub sum_of_part : (Holds : List ℕ → Type 0) (AreOthers : ℕ → Type 0) (Names : List ℕ → Type 0) (volume : Option ℕ) (range found : ByteRange)
     (place : Option NumberedRange) (line : Option (List ℕ)) (sum : Option Bool) → IsAnswerTo volume (asked_at place) → IsRangeAt place range
-    → found ≡ range → IsToldPart AreOthers file place line sum → IsSumAt Holds place sum → TellsSum Holds volume found line sum
-sum_of_part Holds AreOthers file volume range found place line sum answer at same told is = record {
+    → found ≡ range → IsToldPart AreOthers Names place line sum → IsSumAt Holds place sum → TellsSum Holds volume found line sum
+sum_of_part Holds AreOthers Names volume range found place line sum answer at same told is = record {
   place = place;
   answers = answer;
-  line_is = with-sum AreOthers file found place line sum (subst (IsRangeAt place) (sym same) at) told;
+  line_is = with-sum AreOthers Names found place line sum (subst (IsRangeAt place) (sym same) at) told;
   sum_is = is;
 }
 

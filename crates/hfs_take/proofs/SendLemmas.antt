@@ -7,7 +7,7 @@ use Rattle.std.specs.declared.io.traits.Read as Read
 use Rattle.std.specs.declared.io.traits.Seek as Seek
 use Rattle.hfs_commands.specs.contracts.opened_file.OpenedFile as opened
 use Rattle.hfs_commands.specs.contracts.opened_file.StoredFile as stored
-use Rattle.hfs_containers.proofs.raw.RawFile.TheSendSync as raw
+use Rattle.hfs_raw.proofs.data.UserData.TheSendSync as user
 use Rattle.hfs_source.proofs.blocks.BlocksOf.TheSendSync as blocks
 use Rattle.hfs_source.proofs.range.RangeBytes.TheSendSync as range
 use Rattle.hfs_source.specs.contracts.blocks.BlocksOf as blocks_of
@@ -20,7 +20,7 @@ stored_send F r s sent = search (crosses, sendable) depth 20
 opened_send : (F : RattleType) (r : Read.Ghosts F.Denot) (s : Seek.Ghosts F.Denot) → IsSend F → IsSend (opened.the_row F r s)
 opened_send F r s sent =
     let plain = stored_send F r s sent in
-    let user_data = raw.the_send (stored.the_row F r s) plain in
+    let user_data = user.the_send (stored.the_row F r s) plain in
     variants_send (opened.enum F r s) ((plain, tt), ((user_data, tt), tt))
 
 -- a part of it may, too

@@ -4,10 +4,9 @@ use Rattle.hfs_commands.specs.OpenedFiles.{images_of}
 use Rattle.hfs_commands.specs.Parts.{asked_at}
 use Rattle.hfs_commands.specs.SeenFiles.{IsPartOf}
 use Rattle.hfs_commands.specs.declared.opened_file.OpenedFile.{OpenedFile}
-use Rattle.hfs_commands.specs.Volumes.{sum_told}
 use Rattle.hfs_containers.specs.Asking.{IsAnswerTo}
 use Rattle.hfs_containers.specs.Ranges.{bytes_in, volume_name_in}
-use Rattle.hfs_containers.specs.Reading.{IsTold}
+use Rattle.hfs_containers.specs.Sums.{sum_told}
 use Rattle.hfs_containers.specs.declared.asking.NumberedRange.{NumberedRange}
 use Rattle.hfs_containers.specs.declared.ranges.ByteRange.{ByteRange}
 use Rattle.hfs_source.specs.Images.{OfEach}
@@ -16,19 +15,19 @@ use Rattle.hfs_source.specs.declared.range.RangeBytes.{RangeBytes}
 use Rattle.hfs_sparse.specs.declared.seen_blocks.SeenBlocks.{SeenBlocks}
 use Rattle.hfs_take.specs.Facts.{volume_text}
 
--- the line tells a range with its number, the name of its volume, which is known where the file's bytes are, whether its sum is right, and how many
--- raw sectors have no user data
-pub record IsToldLine (AreOthers : ℕ → Type 0) (file : Option (List ℕ)) (place : NumberedRange) (line : List ℕ) (sum : Option Bool) : Type 0 where
+-- the line tells a range with its number, the name of its volume in each of these files, whether its sum is right, and how many raw sectors have no
+-- user data
+pub record IsToldLine (AreOthers : ℕ → Type 0) (Holds : List ℕ → Type 0) (place : NumberedRange) (line : List ℕ) (sum : Option Bool) : Type 0 where
   pub name : Option (List ℕ)
-  pub name_is : IsTold file (volume_name_in place.found.range) name
+  pub name_is : OfEach Holds (λ file. name ≡ volume_name_in place.found.range file)
   pub others : ℕ
   pub others_is : AreOthers others
   pub line_is : line ≡ volume_text place.number place.found name sum others
 
 -- there is a line of a range inside, and none of a file as it is
-abbrev pub IsToldPart : (ℕ → Type 0) → Option (List ℕ) → Option NumberedRange → Option (List ℕ) → Option Bool → Type 0
-IsToldPart AreOthers file None line sum = (line ≡ None) × (sum ≡ None)
-IsToldPart AreOthers file (Some place) line sum = (text : List ℕ) × (line ≡ Some text) × IsToldLine AreOthers file place text sum
+abbrev pub IsToldPart : (ℕ → Type 0) → (List ℕ → Type 0) → Option NumberedRange → Option (List ℕ) → Option Bool → Type 0
+IsToldPart AreOthers Holds None line sum = (line ≡ None) × (sum ≡ None)
+IsToldPart AreOthers Holds (Some place) line sum = (text : List ℕ) × (line ≡ Some text) × IsToldLine AreOthers Holds place text sum
 
 -- the line tells this range of a file with its number, and there is none of a file as it is
 abbrev pub IsLineAt : ByteRange → Option NumberedRange → Option (List ℕ) → Type 0

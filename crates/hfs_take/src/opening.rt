@@ -2,10 +2,8 @@
 ghost use Rattle.std.specs.Prelude.{◌≡◌, IfErr, IfOk, IfSome, None, string_bytes};
 ghost use Rattle.std.specs.Option.{option_map};
 ghost use Rattle.hfs_commands.specs.Faults.{IsUnopened, IsUnreadFile};
-ghost use Rattle.hfs_commands.specs.OpenedFiles.{AreOthersOf, images_of, known_bytes, stored_bytes};
+ghost use Rattle.hfs_commands.specs.OpenedFiles.{AreHeldOthers, held_bytes, images_of, stored_bytes};
 ghost use Rattle.hfs_commands.specs.SeenFiles.{parts_of};
-ghost use Rattle.hfs_commands.specs.Volumes.{sum_told};
-ghost use Rattle.hfs_containers.specs.Ranges.{bytes_in};
 ghost use Rattle.hfs_needed.specs.Seen.{HasNoFault};
 ghost use Rattle.hfs_source.specs.Images.{OfEach};
 ghost use Rattle.hfs_take.specs.Faults.{IsImageFault};
@@ -16,14 +14,12 @@ use crate::image::TakenImage;
 use crate::words::TakeWords;
 use hfs_check::MountFault;
 use hfs_commands::{
-    Counted, Fault, FilePart, NumberedRange, OpenedFile, PartBlocks, RawFile, StoredFile, Window,
+    Counted, Fault, FilePart, NumberedRange, OpenedFile, PartBlocks, StoredFile, UserData, Window,
     open_asked, part_blocks,
 };
-use hfs_containers::{ByteRange, Container, FoundRange, volume_name};
-use hfs_contents::range_sum;
+use hfs_containers::{ByteRange, sum_told, volume_name};
 use hfs_needed::Unopened;
-use hfs_source::{BlocksOf, PlacedBlocks, PlacedBytes, RangeBytes};
-use hfs_sparse::SparseFault;
+use hfs_source::{BlocksOf, PlacedBlocks, RangeBytes};
 use std::alloc::Global;
 use std::fs::{File, Metadata, OpenFile};
 use std::io::{Read, Seek};
@@ -41,22 +37,6 @@ pub struct FoundPart<F: Read + Seek> {
     pub sum: Option<bool>,
 }
 
-/// Whether the sum in a disk copy's header is that of its data, which is read; None if there is no such header.
-fn sum_told<S: PlacedBytes>(source: &mut S, found: &FoundRange) -> Result<Option<bool>, SparseFault>
-    ensures told { IfOk result (λ sum. OfEach (S.Holds source.new)
-        (λ file. sum ≡ sum_told found.now.container (bytes_in found.now.range file))) }
-    ensures held { OfEach (S.Holds source.new) (S.Holds source.old) }
-{
-    match found.container {
-        Container::DiskCopy { sum } => {
-            let own = range_sum(source, found.range)?;
-            Ok(Some(own == sum))
-        }
-        Container::Bare | Container::MacBinary | Container::Partition => Ok(None),
-        Container::RawBare | Container::RawPartition => Ok(None),
-    }
-}
-
 /// The line of a range of a file, and whether its sum is right, if it has one, which takes reading all its bytes. Each raw sector
 /// is looked at. Faults: a read failed, memory was refused.
 fn line_of<'a, F: Read + Seek>(
@@ -65,7 +45,7 @@ fn line_of<'a, F: Read + Seek>(
     place: &NumberedRange,
     path: &'a str,
 ) -> Result<(String, Option<bool>), Fault<'a>>
-    ensures line { IfOk result (λ told. IsToldLine (AreOthersOf file.old) (known_bytes file.old) place.now (string_bytes told.0) told.1) }
+    ensures line { IfOk result (λ told. IsToldLine (AreHeldOthers file.old) (images_of file.new) place.now (string_bytes told.0) told.1) }
     ensures sum { IfOk result (λ told. IsSumAt (images_of file.new) (Some place.now) told.1) }
     ensures fault { IfErr result (IsUnreadFile path.entry) }
 {
@@ -94,7 +74,7 @@ fn told_part<'a, F: Read + Seek + Drop>(
     path: &'a str,
 ) -> Result<FoundPart<F>, Fault<'a>>
     ensures range { IfOk result (λ found. found.bytes.range ≡ part.bytes.range) }
-    ensures line { IfOk result (λ found. IsToldPart (AreOthersOf part.bytes.source) (known_bytes part.bytes.source) part.place
+    ensures line { IfOk result (λ found. IsToldPart (AreHeldOthers part.bytes.source) (images_of found.bytes.source) part.place
         (option_map string_bytes found.line) found.sum) }
     ensures sum { IfOk result (λ found. IsSumAt (images_of found.bytes.source) part.place found.sum) }
     ensures fault { IfErr result (IsUnreadFile path.entry) }
@@ -166,7 +146,7 @@ fn source_beside<R: Files>(
     was: &Metadata,
     found: &OpenedFile<R::File>,
 ) -> Option<OpenedFile<R::File>>
-    ensures { IfSome result (λ file. (known_bytes file ≡ None) × (known_bytes found.now ≡ None)) }
+    ensures { IfSome result (λ file. (held_bytes file ≡ None) × (held_bytes found.now ≡ None)) }
 {
     match found {
         OpenedFile::Plain(StoredFile::Whole(_)) => None,
@@ -174,7 +154,7 @@ fn source_beside<R: Files>(
             Some(file) => Some(OpenedFile::Plain(file)),
             None => None,
         },
-        OpenedFile::Raw(raw) => raw_beside(rt, path, was, raw),
+        OpenedFile::Raw(user) => raw_beside(rt, path, was, user),
     }
 }
 
@@ -183,15 +163,15 @@ fn raw_beside<R: Files>(
     rt: &R,
     path: &str,
     was: &Metadata,
-    raw: &RawFile<StoredFile<R::File>>,
+    user: &UserData<StoredFile<R::File>>,
 ) -> Option<OpenedFile<R::File>>
-    ensures { IfSome result (λ file. (known_bytes file ≡ None)
-        × (stored_bytes raw.now.data.bytes ≡ None)) }
+    ensures { IfSome result (λ file. (held_bytes file ≡ None)
+        × (stored_bytes user.now.bytes ≡ None)) }
 {
-    match &raw.data.bytes {
+    match &user.bytes {
         StoredFile::Whole(_) => None,
         StoredFile::Seekable(_) => match open_again(rt, path, was) {
-            Some(source) => Some(OpenedFile::Raw(RawFile::new(source, raw.len))),
+            Some(source) => Some(OpenedFile::Raw(UserData::new(source))),
             None => None,
         },
     }
@@ -205,8 +185,8 @@ fn open_beside<R: Files>(
     was: io::Result<Metadata>,
     found: &Window<OpenedFile<R::File>>,
 ) -> Option<PartBlocks<R::File>>
-    ensures known { IfSome result (λ blocks. known_bytes blocks.blocks.bytes.bytes
-        ≡ known_bytes found.now.source) }
+    ensures held { IfSome result (λ blocks. held_bytes blocks.blocks.bytes.bytes
+        ≡ held_bytes found.now.source) }
     ensures range { IfSome result (AreBlocksAt found.now.range) }
 {
     let Ok(was) = was else {

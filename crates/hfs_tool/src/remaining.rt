@@ -45,7 +45,7 @@ fn choose_range<'a>(
 ) -> Result<Chosen, Fault<'a>> {
     let Window { mut source, range } = file;
     let layout = source.layout();
-    let asked = find_asked(alloc, &mut source, range.len, layout, Counted::Ranges, None);
+    let asked = find_asked(alloc, &mut source, layout, Counted::Ranges, None);
     let (range, is_one) = match asked {
         Ok(Asked::Inside(place)) => (place.found.range, true),
         Ok(Asked::WholeFile) | Ok(Asked::Missing(_)) => (range, true),

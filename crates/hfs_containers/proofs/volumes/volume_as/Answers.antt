@@ -1,18 +1,15 @@
 -- The range, where a name was found.
 use Rattle.std.proofs.Common.{◌∙◌, ap, sym}
 use Rattle.std.specs.Option.{option_map}
-use Rattle.hfs_containers.specs.Ranges.{found_as, volume_as, volume_name_in}
-use Rattle.hfs_containers.proofs.Told.{told}
+use Rattle.hfs_containers.specs.Ranges.{found_as, volume_as}
 use Rattle.hfs_containers.proofs.volumes.volume_as.Goals as goal
 
 pub returns-in-Some-clause-found : goal.returns-in-Some-clause-found
 unfolding volume_as
-returns-in-Some-clause-found g c =
-    told (g.S.ReadAt.known c.args.source.now) (volume_name_in c.args.range) (volume_as c.args.container c.args.range) c.in_ok-volume_name.field-0 _ c.in_ok-volume_name.ensures.name
-    (λ file own. ap (option_map (λ _. found_as c.args.container c.args.range)) (sym c.in-Some.is ∙ own))
+returns-in-Some-clause-found g c = λ file h.
+    ap (option_map (λ _. found_as c.args.container c.args.range)) (sym c.in-Some.is ∙ c.in_ok-volume_name.ensures.name file h)
 
 pub returns-in-None-clause-found : goal.returns-in-None-clause-found
 unfolding volume_as
-returns-in-None-clause-found g c =
-    told (g.S.ReadAt.known c.args.source.now) (volume_name_in c.args.range) (volume_as c.args.container c.args.range) c.in_ok-volume_name.field-0 _ c.in_ok-volume_name.ensures.name
-    (λ file own. ap (option_map (λ _. found_as c.args.container c.args.range)) (sym c.in-None.is ∙ own))
+returns-in-None-clause-found g c = λ file h.
+    ap (option_map (λ _. found_as c.args.container c.args.range)) (sym c.in-None.is ∙ c.in_ok-volume_name.ensures.name file h)

@@ -4,6 +4,6 @@ use Rattle.hfs_contents.proofs.HeadLemmas.{head_all}
 use Rattle.hfs_contents.proofs.head.head_of.Goals as goal
 
 pub returns-clause-head : goal.returns-clause-head
-returns-clause-head g c = λ file h.
-    let size : c.min-len.result ≡ min c.len-all.result 131072 = search rules in
-    head_all c.len-all.result c.in_ok-head.head.items file (c.len-all.ensures file (c.in_ok-head.ensures.held file h)) (c.in_ok-head.ensures.size ∙ size) (c.in_ok-head.ensures.bytes file h)
+returns-clause-head g c = λ file h long.
+    let size : c.min-len.result ≡ min c.args.all 131072 = search rules in
+    head_all c.args.all c.in_ok-head.head.items file long (c.in_ok-head.ensures.size ∙ size) (c.in_ok-head.ensures.bytes file h)

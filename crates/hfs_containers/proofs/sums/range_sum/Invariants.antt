@@ -1,14 +1,15 @@
 -- the sum so far, and the bytes that are still to come
-use Rattle.std.specs.Prelude.{◌≡◌, ◌-◌, ◌≤◌}
-use Rattle.hfs_source.specs.Images.{OfEach}
-use Rattle.hfs_contents.proofs.SumPieces.{GoesOn}
-use Rattle.hfs_contents.proofs.sums.range_sum.Given as goal
+use Rattle.std.specs.Prelude.{◌-◌, ◌≤◌}
+use Rattle.hfs_source.specs.Images.{FailsWhere, OfEach}
+use Rattle.hfs_containers.proofs.SumLemmas.{GoesOn}
+use Rattle.hfs_containers.proofs.sums.range_sum.Given as goal
 
 abbrev pub invariant-loop-done : goal.invariant-loop-done
 invariant-loop-done g l = record {
   sum : OfEach (g.S.PlacedBytes.Holds l.source) (λ file. GoesOn l.range file l.sum l.done);
   within : l.done ≤ l.range.len;
   held : OfEach (g.S.PlacedBytes.Holds l.source) (g.S.PlacedBytes.Holds l.initial.source);
+  later : FailsWhere (g.S.PlacedBytes.Fails l.source) (g.S.PlacedBytes.Fails l.initial.source);
 }
 
 abbrev pub decreases-loop-done : goal.decreases-loop-done

@@ -1,7 +1,7 @@
 -- Piece by piece.
-use Rattle.std.proofs.Common.{◌≡◌, ◌∙◌, ◌+◌, ◌-◌, min, refl, arith, rules}
-use Rattle.hfs_contents.proofs.SumPieces.{goes_on, goes_whole}
-use Rattle.hfs_contents.proofs.sums.range_sum.Goals as goal
+use Rattle.std.proofs.Common.{◌≡◌, ◌+◌, ◌-◌, min, arith, rules}
+use Rattle.hfs_containers.proofs.SumLemmas.{goes_on, goes_whole}
+use Rattle.hfs_containers.proofs.sums.range_sum.Goals as goal
 
 pub loop-done-preserved : goal.loop-done-preserved
 loop-done-preserved g c =
@@ -12,6 +12,7 @@ loop-done-preserved g c =
           (c.in_ok-sum.ensures.sum file h) (c.loop-done.invariant.sum file (c.in_ok-sum.ensures.held file h));
       within = omega (arith, size, c.loop-done-test.true);
       held = λ file h. c.loop-done.invariant.held file (c.in_ok-sum.ensures.held file h);
+      later = λ place count fails. c.loop-done.invariant.later place count (c.in_ok-sum.ensures.later place count fails);
     }
 
 pub returns-clause-sum : goal.returns-clause-sum
