@@ -1,14 +1,14 @@
 -- Which blocks are changed, once a patch and runs of zeros were laid over those that were.
 use Rattle.std.proofs.Common.{◌≡◌, inl, inr, ⊎_elim, ℕ, Bool, true, false, List, Option, Some, None, refl, sym, ap, ◌∙◌}
-use Rattle.std.specs.Prelude.{◌⊎◌, ◌&&◌, ◌||◌, is_some}
+use Rattle.std.specs.Prelude.{◌⊎◌, ◌&&◌, ◌||◌, is_some, unwrap_or}
 use Rattle.std.specs.List.{list_any}
 use Rattle.std.specs.Option.{option_or}
 use Rattle.hfs_blocks.specs.declared.run.Run.{Run}
-use Rattle.hfs_blocks.specs.Layers.{Numbered, changes, HasJoined}
+use Rattle.hfs_blocks.specs.Layers.{Numbered, changes, over, HasJoined, IsLaid}
 use Rattle.hfs_fork_bytes.specs.Zeros.{is_of_run}
-use Rattle.hfs_changed_blocks.specs.Flags.{is_flagged, zeros_if, HasFlaggedRuns}
+use Rattle.hfs_changed_blocks.specs.Flags.{is_flagged, flagged, zeros_if, HasFlaggedRuns}
 use Rattle.hfs_changed_blocks.specs.Again.{AreAgain, is_in}
-use Rattle.hfs_changed_blocks.specs.Laying.{IsPatchOver, HasBlocks, IsFlaggedAmong}
+use Rattle.hfs_changed_blocks.specs.Laying.{IsPatchOver, IsLaidWith, HasBlocks, IsFlaggedAmong}
 
 same_bool : (a b c : Bool) → (b ≡ true → a ≡ true) → (c ≡ true → a ≡ true) → (a ≡ true → (b ≡ true) ⊎ (c ≡ true)) → a ≡ b || c
 same_bool true true c first second none_else = refl
@@ -53,3 +53,31 @@ flagged_among runs flags flags' set n is = by (list_any (is_of_run n) runs) (is_
     by : (a b : Bool) → (a || b) ≡ true → (b ≡ true) ⊎ (a ≡ true)
     by true b e = inr refl
     by false b e = inl e
+
+not_true : false ≡ true → ⊥
+not_true e = cc
+
+-- what is shown of one block, by what each of the patches has of it
+one_shown : (n p o : Option (List ℕ)) (r f : Bool) (x : List ℕ) → is_some n ≡ (is_some o || is_some (option_or p (zeros_if (r && is_some o))))
+    → unwrap_or n (unwrap_or (zeros_if f) x) ≡ unwrap_or (option_or p (zeros_if (r && is_some o))) (unwrap_or o (unwrap_or (zeros_if f) x))
+    → unwrap_or n (unwrap_or (zeros_if (r || f)) x) ≡ unwrap_or p (unwrap_or (zeros_if r) (unwrap_or o (unwrap_or (zeros_if f) x)))
+one_shown (Some c) (Some b) o r f x has laid = laid
+one_shown None (Some b) (Some d) r f x has laid = absurd (not_true has)
+one_shown None (Some b) None r f x has laid = absurd (not_true has)
+one_shown (Some c) None (Some d) true f x has laid = laid
+one_shown (Some c) None (Some d) false f x has laid = laid
+one_shown None None (Some d) r f x has laid = absurd (not_true has)
+one_shown (Some c) None None true f x has laid = absurd (not_true (sym has))
+one_shown (Some c) None None false f x has laid = absurd (not_true (sym has))
+one_shown None None None true f x has laid = refl
+one_shown None None None false f x has laid = refl
+
+pub laid_with : (patch : Numbered) (runs : List Run) (old again all new : Numbered) (flags flags' : List Bool) (below : ℕ → List ℕ) → AreAgain (is_in runs) old again → IsPatchOver again patch all
+    → HasJoined (changes old) (changes all) (changes new) → IsLaid (over (flagged flags) below) old all new → HasFlaggedRuns runs flags flags' → IsLaidWith below patch runs old flags new flags'
+laid_with patch runs old again all new flags flags' below are is joined laid set k =
+    let made : changes all k ≡ option_or (changes patch k) (zeros_if (is_in runs k && is_some (changes old k))) = is k ∙ ap (λ a. option_or (changes patch k) a) (are k) in
+    let kept : is_some (changes new k) ≡ (is_some (changes old k) || is_some (changes all k)) =
+    same_bool (is_some (changes new k)) (is_some (changes old k)) (is_some (changes all k)) (joined.of_first k) (joined.of_second k) (joined.of_none_else k) in
+    ap (λ (f : Bool). unwrap_or (changes new k) (unwrap_or (zeros_if f) (below k))) (set.are k)
+    ∙ one_shown (changes new k) (changes patch k) (changes old k) (is_in runs k) (is_flagged flags k) (below k) (kept ∙ ap (λ a. is_some (changes old k) || is_some a) made)
+    (laid k ∙ ap (λ a. unwrap_or a (unwrap_or (changes old k) (unwrap_or (zeros_if (is_flagged flags k)) (below k)))) made)
