@@ -8,7 +8,7 @@ none_there : (es : Numbered) → length (numbers es) ≡ 0 → (n : ℕ) → cha
 none_there [] none n = refl
 none_there (e ∷ es) none n = absurd (omega (arith, none))
 
-base_is : (c : goal.After-drop-self-inside-5) → c.self.inside.base ≡ c.args.self.current
+base_is : (c : goal.After-drop-self-inside-7) → c.self.inside.base ≡ c.args.self.current
 base_is c =
     let none : length (numbers c.self.inside.changed) ≡ 0 = ap (λ v. length v.changed) c.self.view_is ∙ c.requires in
     sym (laid_over-nothing (changes c.self.inside.changed) c.self.inside.base (none_there c.self.inside.changed none)) ∙ ap (λ v. v.current) c.self.view_is
