@@ -1,10 +1,10 @@
 //! What long work shows while it goes on: one line on standard error that is written over again and again, where standard error
 //! is a terminal.
 
-use hfs_commands::Gate;
 use hfs_console::Line;
 use hfs_take::Watch;
 use hfs_word_put::PutWatch;
+use hfs_word_run::Gate;
 use std::cell::Cell;
 
 /// After how many calls of one worker the line is written.
