@@ -3,4 +3,6 @@
 
 mod laws;
 
-pub use crate::laws::{laid_forks_are_arrivals, put_files_hold_put, whole_forks_come};
+pub use crate::laws::{
+    laid_forks_are_arrivals, put_files_have_directory, put_files_hold_put, whole_forks_come,
+};

@@ -9,7 +9,7 @@ use Rattle.hfs_check.specs.VolumeOf.{volume_of}
 use Rattle.hfs_commands.specs.declared.fault.Fault.{Fault}
 use Rattle.hfs_commands.specs.declared.fault.Fault.TheVariants as why
 use Rattle.hfs_check.specs.declared.mount_fault.MountFault.{MountFault}
-use Rattle.hfs_put_image.specs.PutImages.{IsPutOver}
+use Rattle.hfs_put_image.specs.PutImages.{HasDirectory, IsPutOver}
 use Rattle.hfs_put_image.specs.declared.putting.PutBlocks.{PutBlocks}
 use Rattle.hfs_source.specs.Images.{OfEach}
 use Rattle.hfs_sources.specs.Items.{PlannedItem}
@@ -44,6 +44,8 @@ pub record IsPutOn (order : PutOrder) (copy current : List ℕ) (items : List Pl
   pub list : PlacedList
   pub placed : IsPlaced (volume_of copy) order items list
   pub over : IsPutOver copy list.target order.now list.places.items put.patch put.runs.items put.ids.items
+  -- what is saved has that volume's master directory block
+  pub directory : HasDirectory copy list.places.items put.patch put.runs.items (mdb_in (block_at current))
   pub sums_are : sums ≡ put_sums list.places.items (mdb_in (block_at current)).free_blocks
 
 -- a call that puts the list was refused

@@ -1,0 +1,5 @@
+use Rattle.hfs_put_files.proofs.WholeFiles as proved
+use Rattle.hfs_put_files.proofs.laws.put_files_have_directory.Goals as goal
+
+pub returns : goal.returns
+returns c = proved.put_files_have_directory
