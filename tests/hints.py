@@ -245,12 +245,13 @@ def refused_plans(folder):
     path = str(folder / 'plan.img')
     nodes = 'NODES are at least 2, EXTENTS at least 1\n'
     want(['new', path, 'a:b', '64'], 2, 'bad name\n', 'NAME has 1 to 27 printable characters, without colon and grave accent\n')
-    want(['new', path, 'D', '7'], 2, 'bad size\n', 'BLOCKS are blocks of 512 bytes, from 8 to 4194304\n')
-    want(['new', path, 'D', '819200000'], 2, 'bad size\n', 'BLOCKS are blocks of 512 bytes, from 8 to 4194304\n')
+    want(['new', path, 'D', '7'], 2, 'bad size\n', 'BLOCKS are blocks of 512 bytes, from 8 to 4194304; SIZE is 64K to 2G in whole blocks\n')
+    want(['new', path, 'D', '819200000'], 2, 'bad size\n', 'BLOCKS are blocks of 512 bytes, from 8 to 4194304; SIZE is 64K to 2G in whole blocks\n')
+    want(['make', path, path, '--name=D', '--size=1'], 2, 'bad size\n', 'BLOCKS are blocks of 512 bytes, from 8 to 4194304; SIZE is 64K to 2G in whole blocks\n')
     want(['new', path, 'D', '64', '1'], 2, 'bad node count\n', nodes)
     want(['new', path, 'D', '64', '6', '0'], 2, 'bad node count\n', nodes)
     want(['new', path, 'D', '8', '2', '1'], 2, 'no room\n', '')
-    return 6
+    return 7
 
 
 def databases(folder):

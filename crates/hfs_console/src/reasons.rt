@@ -18,7 +18,9 @@ fn more_of(fault: &Fault<'_>) -> Option<&'static str>
         Fault::BadName => Some(
             "NAME has 1 to 27 printable characters, without colon and grave accent",
         ),
-        Fault::BadSize => Some("BLOCKS are blocks of 512 bytes, from 8 to 4194304"),
+        Fault::BadSize => Some(
+            "BLOCKS are blocks of 512 bytes, from 8 to 4194304; SIZE is 64K to 2G in whole blocks",
+        ),
         Fault::BadNodeCount => Some("NODES are at least 2, EXTENTS at least 1"),
         Fault::NoVolumes => {
             Some("hfs_tool rescue looks for what remains of a volume whose first blocks are lost")

@@ -1,2 +1,5 @@
 mod FillLemmas
+mod DoublingLemmas
+mod MadeLists
 mod MadeVolumes
+mod SoundPlans

@@ -1,5 +1,5 @@
 -- What the file of a new volume is to hold, by its parts.
-use Rattle.std.proofs.Common.{◌≡◌, ◌∙◌, ◌≤◌, ◌<◌, ◌/◌, ◌*◌, ◌^◌, ℕ, List, [], Option, None, Ok, Result, Vec, Global, false, length, refl, sym, subst, ap, arith, tt}
+use Rattle.std.proofs.Common.{◌≡◌, ◌∙◌, ◌≤◌, ◌<◌, ◌/◌, ◌*◌, ◌^◌, ℕ, List, [], Option, None, Ok, Result, Vec, Global, false, length, refl, sym, subst, ap, arith}
 use Rattle.std.proofs.lemmas.List.{take_all}
 use Rattle.hfs_blocks.specs.Layers.{changes, AreWithin}
 use Rattle.hfs_check.specs.VolumeOf.{volume_of}
@@ -23,8 +23,8 @@ use Rattle.hfs_working.specs.Working.{IsWorkingCopy}
 use Rattle.hfs_word_make.specs.declared.order.MakeOrder.{MakeOrder}
 use Rattle.hfs_word_make.specs.declared.settled_image.SettledImage.{SettledImage}
 use Rattle.hfs_word_make.specs.Filled.{IsPutIn}
-use Rattle.hfs_word_make.specs.Listed.{IsNewListed}
-use Rattle.hfs_word_make.specs.Made.{IsListedFor, IsMadeFile, IsMadeOf, IsMadeVolume, own_place}
+use Rattle.hfs_word_make.specs.Made.{IsMadeFile, IsMadeOf, IsMadeVolume, own_place}
+use Rattle.hfs_word_make.proofs.MadeLists.{listed-then}
 use Rattle.hfs_word_put.specs.declared.placing.PlacedList.{PlacedList}
 use Rattle.hfs_word_put.specs.declared.putting.PutImage.{PutImage}
 use Rattle.hfs_word_put.specs.declared.putting.PutList.{PutList}
@@ -32,25 +32,12 @@ use Rattle.hfs_word_put.specs.Files.{place_of}
 
 -- ---- fewer trees
 
-listed-narrowed : (Hosts Then : Tree → Type 0) (order : MakeOrder) (items : List PlannedItem) (planned : PlannedImage) (list : PutList)
-    → ((host : Tree) → Then host → Hosts host) → (is : IsMadeOf Hosts order items planned list) → IsListedFor Then order items is.digests is.wanted
-listed-narrowed Hosts Then order items planned list fewer is = record {
-  volume = record {
-    named = λ host h. is.listed.volume.named host (fewer host h);
-    sized = is.listed.volume.sized;
-    items_are = is.listed.volume.items_are;
-    moment_is = is.listed.volume.moment_is;
-    once = is.listed.volume.once;
-  };
-  listed = λ host h. is.listed.listed host (fewer host h);
-}
-
 narrowed : (Hosts Then : Tree → Type 0) (order : MakeOrder) (items : List PlannedItem) (planned : PlannedImage) (list : PutList)
     → ((host : Tree) → Then host → Hosts host) → IsMadeOf Hosts order items planned list → IsMadeOf Then order items planned list
 narrowed Hosts Then order items planned list fewer is = record {
   wanted = is.wanted;
   digests = is.digests;
-  listed = listed-narrowed Hosts Then order items planned list fewer is;
+  listed = listed-then Hosts Then order items is.digests is.wanted fewer is.listed;
   filled = is.filled;
   verified = λ host h. is.verified host (fewer host h);
 }
@@ -64,8 +51,8 @@ unopened Hosts Bytes files tree e host h =
 -- ---- the image
 
 -- the ID of the folder that is the root
-root-is : (target : ℕ) → Ok {E = Reply} 2 ≡ Ok target → target ≡ 2
-root-is target e = cc
+root-is : (found : Result ℕ Reply) (target : ℕ) → found ≡ Ok target → found ≡ Ok 2 → target ≡ 2
+root-is found target e root = cc
 
 module _ (Hosts : Tree → Type 0) (order : MakeOrder) (items : List PlannedItem) (planned : PlannedImage) (list : PutList) (is : IsMadeOf Hosts order items planned list)
     (within : AreWithin (changes list.blocks.patch) (length (image_bytes planned) / 512)) (moment : order.now < 2 ^ 32) where
@@ -92,7 +79,7 @@ module _ (Hosts : Tree → Type 0) (order : MakeOrder) (items : List PlannedItem
       (put_file (own_place planned) list.blocks.patch host items list.blocks.runs.items image)
   holds host =
       subst (λ (target : ℕ). IsFilePut target order.now (arrivals_of host items placed.places.items) list.blocks.ids.items (own_place planned) image
-      (put_file (own_place planned) list.blocks.patch host items list.blocks.runs.items image)) (root-is placed.target put.done.placed.target)
+      (put_file (own_place planned) list.blocks.patch host items list.blocks.runs.items image)) (root-is _ placed.target put.done.placed.target refl)
       (put_files_hold_put put.copy placed.target order.now items placed.places.items list.blocks.patch list.blocks.runs.items list.blocks.ids.items (own_place planned) image host
       is-list within is-image)
 

@@ -1,14 +1,12 @@
 -- A new volume's catalog is doubled until its nodes suffice for what comes.
-use Rattle.std.specs.Prelude.{◌≡◌, ◌⊎◌, ℕ, ◌<◌, List}
+use Rattle.std.specs.Prelude.{◌⊎◌, ℕ, ◌<◌, List}
 use Rattle.std.specs.Borrow.{Bor}
 use Rattle.hfs_format.specs.declared.planned_image.PlannedImage.{PlannedImage}
 use Rattle.hfs_format.specs.Image.{image_bytes}
 use Rattle.hfs_make.specs.declared.fault.MakeFault.{MakeFault}
-use Rattle.hfs_make.specs.declared.fault.MakeFault.TheVariants.{NoRoom}
 use Rattle.hfs_make.specs.declared.new_volume.NewVolume.{NewVolume}
 use Rattle.hfs_sources.specs.Items.{PlannedItem}
 use Rattle.hfs_word_make.specs.declared.order.MakeOrder.{MakeOrder}
-use Rattle.hfs_word_make.specs.Faults.{told_of}
 use Rattle.hfs_word_make.specs.Filled.{IsFullIn, IsPutIn, IsUnfilled}
 use Rattle.hfs_word_make.specs.Planned.{IsDoubled, IsNotDoubled}
 use Rattle.hfs_word_make.specs.Unplanned.{IsUnplanned}
@@ -53,17 +51,11 @@ AreFullBelow wanted order items doubled = (fewer : ℕ) → fewer < doubled → 
 -- the list was put on this volume, whose catalog was doubled no more than needed
 pub record IsFilled (wanted : NewVolume) (order : MakeOrder) (items : List PlannedItem) (planned : PlannedImage) (put : PutList) : Type 0 where
   pub doubled : ℕ
-  pub few : doubled < 32
   pub full : AreFullBelow wanted order items doubled
   pub filled : IsPutAt wanted order items doubled planned put
 
--- it was not put at so many doublings; or they don't suffice with any number below 32
-abbrev pub IsStopped : Bor (List ℕ) → NewVolume → MakeOrder → List PlannedItem → ℕ → PutFault → Type 0
-IsStopped path wanted order items doubled told =
-    ((doubled < 32) × IsUnfilledAt path wanted order items doubled told) ⊎ ((doubled ≡ 32) × (told ≡ told_of NoRoom))
-
--- the list was put on no volume, which is told
+-- the list was put on no volume: with so many doublings it was not, and that is told
 pub record IsNotFilled (path : Bor (List ℕ)) (wanted : NewVolume) (order : MakeOrder) (items : List PlannedItem) (told : PutFault) : Type 0 where
   pub doubled : ℕ
   pub full : AreFullBelow wanted order items doubled
-  pub why : IsStopped path wanted order items doubled told
+  pub unfilled : IsUnfilledAt path wanted order items doubled told

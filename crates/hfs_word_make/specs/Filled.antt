@@ -14,12 +14,13 @@ use Rattle.hfs_put_image.specs.PutImages.{IsPutOver}
 use Rattle.hfs_sources.specs.Items.{PlannedItem}
 use Rattle.hfs_working.specs.Working.{IsWorkingCopy}
 use Rattle.hfs_word_make.specs.declared.order.MakeOrder.{MakeOrder}
+use Rattle.hfs_word_make.specs.Mounted.{IsImageFault}
 use Rattle.hfs_word_make.specs.Orders.{put_order}
 use Rattle.hfs_word_put.specs.declared.fault.PutFault.{PutFault}
 use Rattle.hfs_word_put.specs.declared.placing.PlacedList.{PlacedList}
 use Rattle.hfs_word_put.specs.declared.putting.PutList.{PutList}
 use Rattle.hfs_word_put.specs.Placed.{IsPlaced}
-use Rattle.hfs_word_put.specs.Put.{IsImageFault, IsPutOn, IsUnputOn}
+use Rattle.hfs_word_put.specs.Put.{IsPutOn, IsUnputOn}
 use Rattle.hfs_word_put.specs.Sums.{put_sums}
 
 -- ---- nodes that don't suffice

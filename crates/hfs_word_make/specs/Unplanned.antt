@@ -10,11 +10,11 @@ use Rattle.hfs_sources.specs.Items.{PlannedItem}
 use Rattle.hfs_working.specs.Working.{IsWorkingCopy}
 use Rattle.hfs_word_make.specs.declared.order.MakeOrder.{MakeOrder}
 use Rattle.hfs_word_make.specs.Faults.{told_of}
+use Rattle.hfs_word_make.specs.Mounted.{IsImageFault}
 use Rattle.hfs_word_make.specs.Orders.{put_order}
 use Rattle.hfs_word_make.specs.Planned.{IsEmptyImage, IsNotEmptied}
 use Rattle.hfs_word_put.specs.declared.fault.PutFault.{PutFault}
 use Rattle.hfs_word_put.specs.Placed.{TellsAny, refusal}
-use Rattle.hfs_word_put.specs.Put.{IsImageFault}
 
 -- a copy of a volume of the name that is wanted, in which nothing lies
 pub record IsEmptyCopy (wanted : NewVolume) (copy : List ℕ) : Type 0 where

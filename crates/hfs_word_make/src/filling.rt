@@ -9,9 +9,8 @@ ghost use Rattle.hfs_word_make.specs.Planned.{IsDoubled, IsTimes};
 use crate::laying::lay_list;
 use crate::mounting::mount_new;
 use crate::order::MakeOrder;
-use crate::refusing::of_make;
 use crate::unplanned::unplanned;
-use hfs_make::{MakeFault, NewImage, NewVolume, plan_volume};
+use hfs_make::{NewImage, NewVolume, plan_volume};
 use hfs_sources::SourceItem;
 use hfs_word_put::{PutFault, PutList, place_all};
 use std::alloc::Global;
@@ -27,21 +26,21 @@ pub(crate) struct FilledImage {
 /// call that is refused for another reason. Or want of memory.
 fn fill<'a>(
     alloc: Global,
-    image: NewImage,
+    image: &NewImage,
     path: &'a str,
     order: &MakeOrder<'_>,
     items: &[SourceItem],
 ) -> Result<Option<PutList>, PutFault<'a>>
     ensures put { IfOk result (λ put.
-        MatchOption put (IsFullIn order.entry.now items.now (image_bytes image.planned))
-        (IsPutIn order.entry.now items.now (image_bytes image.planned))) }
+        MatchOption put (IsFullIn order.entry.now items.now (image_bytes image.now.planned))
+        (IsPutIn order.entry.now items.now (image_bytes image.now.planned))) }
     ensures within { IfOk result (λ put. IfSome put (λ put. AreWithin
-        (changes put.blocks.patch) (length (image_bytes image.planned) / 512))) }
-    ensures small { OnOk result (length (image_bytes image.planned) ≤ 2147483648) }
+        (changes put.blocks.patch) (length (image_bytes image.now.planned) / 512))) }
+    ensures small { OnOk result (length (image_bytes image.now.planned) ≤ 2147483648) }
     ensures fault { IfErr result
-        (IsUnfilled path.entry order.entry.now items.now (image_bytes image.planned)) }
+        (IsUnfilled path.entry order.entry.now items.now (image_bytes image.now.planned)) }
 {
-    let mut volume = match mount_new(alloc, image, path) {
+    let mut volume = match mount_new(alloc, *image, path) {
         Ok(volume) => volume,
         Err(fault) => return Err(PutFault::Image(fault)),
     };
@@ -52,7 +51,7 @@ fn fill<'a>(
     }
 }
 
-/// How often at most the nodes of a catalog are doubled that doesn't suffice: 2 ^ 31 times the nodes are more than any volume has.
+/// How often the nodes of a catalog are doubled at most, and once more: no volume has 2 ^ 31 times the nodes that a catalog wants.
 const MOST_DOUBLED: u32 = 32;
 
 /// The volume that is wanted, with the nodes of its catalog doubled so often.
@@ -114,10 +113,10 @@ fn filled_at<'a>(
         (IsUnfilledAt path.entry wanted.now order.entry.now items.now doubled) }
 {
     let image = planned_at(alloc, wanted, doubled, path, order, items)?;
-    match fill(alloc, image, path, order, items) {
+    match fill(alloc, &image, path, order, items) {
         Ok(Some(list)) => Ok(Some(FilledImage { image, list })),
         Ok(None) => Ok(None),
-        Err(fault) => Err(fault),
+        Err(refused) => Err(refused),
     }
 }
 
@@ -144,5 +143,5 @@ pub(crate) fn filled_image<'a>(
             return Ok(filled);
         }
     }
-    Err(of_make(MakeFault::NoRoom))
+    unreachable!()
 }

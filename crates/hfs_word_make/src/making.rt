@@ -1,5 +1,5 @@
 //! A new volume is made of files and folders.
-ghost use Rattle.std.specs.Prelude.{◌≡◌, ◌/◌, ◌≤◌, IfErr, IfOk, length};
+ghost use Rattle.std.specs.Prelude.{◌≡◌, ◌/◌, ◌<◌, ◌≤◌, ◌^◌, IfErr, IfOk, OnOk, length};
 ghost use Rattle.hfs_blocks.specs.Layers.{changes, AreWithin};
 ghost use Rattle.hfs_format.specs.Image.{image_bytes};
 ghost use Rattle.hfs_laid_forks.specs.Files.{IsReadOf};
@@ -13,7 +13,7 @@ use crate::order::MakeOrder;
 use crate::settled_image::SettledImage;
 use hfs_commands::WatchedRange;
 use hfs_laid_forks::HostFiles;
-use hfs_make::{NewImage, NewVolume};
+use hfs_make::{NewImage, NewItem, NewVolume, VolumeName, VolumeSize};
 use hfs_make_items::new_items;
 use hfs_source::{PlacedBytes, RangeBytes};
 use hfs_sources::HostTree;
@@ -25,6 +25,29 @@ use std::alloc::Global;
 struct MadeList {
     image: NewImage,
     put: PutItems,
+}
+
+/// The volume that is wanted for these items, its catalog with as many nodes as they want.
+fn wanted_volume(
+    name: VolumeName,
+    size: Option<VolumeSize>,
+    items: &[NewItem],
+    moment: u32,
+) -> NewVolume<'_>
+    ensures name { result.name ≡ name }
+    ensures size { result.size ≡ size }
+    ensures items { result.items.now ≡ items.now }
+    ensures moment { result.moment ≡ moment }
+    ensures once { result.catalog_times ≡ 1 }
+    ensures dated { moment < 2 ^ 32 }
+{
+    NewVolume {
+        name,
+        size,
+        items,
+        catalog_times: 1,
+        moment,
+    }
 }
 
 /// Puts what comes on a new volume, by all calls but those that write forks. Faults: those of [`make_volume`].
@@ -39,6 +62,7 @@ fn make_list<'a, T: HostTree>(
     ensures within { IfOk result (λ made. AreWithin (changes made.put.list.blocks.patch)
         (length (image_bytes made.image.planned) / 512)) }
     ensures held { OfEachTree (T.Holds tree.new) (T.Holds tree.old) }
+    ensures dated { OnOk result (order.entry.now.now < 2 ^ 32) }
     ensures made { IfOk result (λ made. IsMadeOf (T.Holds tree.new) order.entry.now
         made.put.items.items made.image.planned made.put.list) }
     ensures fault { IfErr result
@@ -48,17 +72,19 @@ fn make_list<'a, T: HostTree>(
     let size = made_size(order)?;
     let Listed { items, digests } = list_all_new(alloc, tree, order)?;
     let new = new_items(alloc, &items)?;
-    let wanted = NewVolume {
-        name,
-        size,
-        items: &new,
-        catalog_times: 1,
-        moment: order.now,
+    let wanted = wanted_volume(name, size, &new, order.now);
+    let filled = match filled_image(alloc, &wanted, path, order, &items) {
+        Ok(filled) => filled,
+        Err(fault) => return Err(fault),
     };
-    let FilledImage { image, list } = filled_image(alloc, &wanted, path, order, &items)?;
-    need_digests(alloc, tree, &digests, &items)?;
-    let put = PutItems { items, list };
-    Ok(MadeList { image, put })
+    let FilledImage { image, list } = filled;
+    match need_digests(alloc, tree, &digests, &items) {
+        Ok(()) => {
+            let put = PutItems { items, list };
+            Ok(MadeList { image, put })
+        }
+        Err(fault) => Err(fault),
+    }
 }
 
 /// The image of a new volume as a file that it fills.
@@ -92,7 +118,11 @@ pub fn make_volume<'a, 'w, T: HostTree + Drop, W: PutWatch>(
     ensures fault { IfErr result (IsUnmade T.Holds path.entry order.entry.now tree) }
 {
     let mut tree = tree;
-    let MadeList { image, put } = make_list(alloc, &mut tree, path, order)?;
+    let list = match make_list(alloc, &mut tree, path, order) {
+        Ok(list) => list,
+        Err(fault) => return Err(fault),
+    };
+    let MadeList { image, put } = list;
     let len = PlacedBytes::len(&image);
     let files = HostFiles::new(alloc, tree);
     match put_image(alloc, range_of(image), len, None, path, files, put, watch) {

@@ -1,7 +1,7 @@
 //! A new volume is mounted, which lies in no file yet.
 ghost use Rattle.std.specs.Prelude.{◌≡◌, ◌≤◌, IfErr, IfOk, OnOk, length};
 ghost use Rattle.hfs_format.specs.Image.{image_bytes};
-ghost use Rattle.hfs_word_put.specs.Put.{IsUnmounted};
+ghost use Rattle.hfs_word_make.specs.Mounted.{IsUnmounted};
 ghost use Rattle.hfs_working.specs.Working.{IsWorkingCopy};
 
 use hfs_commands::Fault;
@@ -12,19 +12,8 @@ use hfs_volume::Volume;
 use hfs_working::{WorkingVolume, mount_read, open_working};
 use std::alloc::Global;
 
-/// What it means that a new volume isn't opened that is to lie at this path.
-fn of_needed(fault: NeededFault, path: &str) -> Fault<'_>
-    ensures { IsUnmounted path.entry result }
-{
-    match fault {
-        NeededFault::Refused(why) => Fault::Refused(why),
-        NeededFault::ReadFailed => Fault::CannotRead(path),
-        NeededFault::Memory => Fault::NoMemory,
-    }
-}
-
 /// Makes the blocks of a new volume that calls read and write, and mounts it over them, with zeros in the place of all other blocks.
-/// The path is the one at which it is to lie.
+/// The path is the one at which it is to lie. A planned image is sound, so that it is never refused.
 pub(crate) fn mount_new<'a>(
     alloc: Global,
     image: NewImage,
@@ -40,7 +29,9 @@ pub(crate) fn mount_new<'a>(
     let len = PlacedBytes::len(&image);
     let working = match open_working(alloc, &mut image, len) {
         Ok(working) => working,
-        Err(fault) => return Err(of_needed(fault, path)),
+        Err(NeededFault::Refused(_)) => unreachable!(),
+        Err(NeededFault::ReadFailed) => return Err(Fault::CannotRead(path)),
+        Err(NeededFault::Memory) => return Err(Fault::NoMemory),
     };
     match mount_read(alloc, working, len) {
         Ok(volume) => Ok(volume),

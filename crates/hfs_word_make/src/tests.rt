@@ -95,8 +95,16 @@ fn what_lies_in_a_folder_is_listed(rt: HostRuntime) {
     assert!(rt; lists_inside(&rt));
 }
 
-/// Whether the volume of 800 KB has the folder and both files: of its 1,594 allocation blocks 8 are the extents tree's, 12 the
-/// catalog's, since the 6 nodes of its first plan don't suffice, and each file has one.
+/// Whether the volume of 800 KB has the folder and both files, and so many free blocks. By hand:
+///
+/// - of its 1,600 blocks 1 + 1 boot blocks, 1 master directory block, 1 block of bitmap and the last 2 are none of its allocation
+///   blocks: 1,600 - 6 = 1,594;
+/// - the records of the catalog, each with 2 bytes for its place: the root's (12 + 70 + 2) + (8 + 46 + 2) = 140, the one of `f`
+///   8 + 102 + 2 = 112, those of `sub` (10 + 70 + 2) + (8 + 46 + 2) = 138, the one of `xy` 10 + 102 + 2 = 114: 504 bytes;
+/// - they take 3 leaves of 248 bytes and 1 node above these; a quarter more than 4 is 5, and the header node makes 6;
+/// - of these 6, the header node and one leaf are taken at first, and 4 are free. A folder wants 2 * 1 + 3 = 5 free nodes of a tree of
+///   depth 1: so the catalog gets 12 nodes, of which 10 are free;
+/// - 8 blocks are the extents tree's, 12 the catalog's, and 1 is each file's: 1,594 - 8 - 12 - 1 - 1 = 1,572.
 fn makes_volume(rt: &HostRuntime) -> bool {
     let nodes = nodes();
     let tree = MemoryTree { nodes: &nodes };

@@ -2,7 +2,7 @@
 ghost use Rattle.std.specs.Prelude.{◌≡◌, ◌⊎◌, IfErr, IfOk, MatchResult};
 ghost use Rattle.hfs_word_make.specs.Planned.{IsEmptied};
 ghost use Rattle.hfs_word_make.specs.Unplanned.{HasPlaces, IsEmptyCopy, IsNotEmptiedAs, IsUnplaced, IsUnplanned};
-ghost use Rattle.hfs_word_put.specs.Put.{IsImageFault};
+ghost use Rattle.hfs_word_make.specs.Mounted.{IsImageFault};
 
 use crate::mounting::mount_new;
 use crate::order::MakeOrder;
