@@ -11,7 +11,7 @@ use Rattle.hfs_btree.specs.declared.key.Key.{Ghosts}
 use Rattle.hfs_btree.specs.Pairs.{Order, Pairs, Rises, IsAtMost, IsAbove}
 use Rattle.hfs_scans.specs.Each.{Each}
 use Rattle.hfs_scans.specs.Members.{In}
-use Rattle.hfs_scans.proofs.MemberLemmas.{each_in}
+use Rattle.hfs_scans.proofs.MemberLemmas.{each_in, in-left, in-right}
 use Rattle.hfs_scans.proofs.ElementLemmas.{each-at}
 use Rattle.hfs_btree.specs.Tree.{Store, node_in, records_in, records_of, children, pair_of, first_of, under, level_below}
 use Rattle.hfs_btree.specs.Header.{depth_of, root_level}
@@ -26,14 +26,6 @@ use Rattle.hfs_btree_edits.specs.LevelParts.{lift}
 use Rattle.hfs_btree_edits.proofs.LevelPartLemmas.{lift-is}
 use Rattle.hfs_btree_removal.proofs.Firsts.{level-next, at-level}
 use Rattle.hfs_btree_removal.proofs.Passed.{high}
-
-pub in-right : {X : Type 0} (m : X) (xs ys : List X) → In m ys → In m (xs ++ ys)
-in-right m [] ys i = i
-in-right m (x ∷ xs) ys i = inr (in-right m xs ys i)
-
-pub in-left : {X : Type 0} (m : X) (xs ys : List X) → In m xs → In m (xs ++ ys)
-in-left m [] ys i = absurd i
-in-left m (x ∷ xs) ys i = elim i [ inl e ↦ inl e | inr j ↦ inr (in-left m xs ys j) ]
 
 pub in-map : {X Y : Type 0} (f : X → Y) (xs : List X) (q : ℕ) (d : X) → q < length xs → In (f (get_or xs q d)) (map f xs)
 in-map f [] q d lt = absurd (omega arith)

@@ -10,7 +10,7 @@ use Rattle.hfs_node.specs.declared.node.Node.{Node}
 use Rattle.hfs_btree.specs.declared.key.Key.{Ghosts}
 use Rattle.hfs_scans.specs.Each.{Each}
 use Rattle.hfs_scans.specs.Members.{In}
-use Rattle.hfs_scans.proofs.MemberLemmas.{each_in}
+use Rattle.hfs_scans.proofs.MemberLemmas.{each_in, in-left, in-right}
 use Rattle.hfs_scans.proofs.ElementLemmas.{each-left, each-right, each-mono, each-unmap}
 use Rattle.hfs_btree_edits.specs.Edits.{without_pair}
 use Rattle.hfs_btree_removal.specs.Removal.{KeepsSound, GainsNothing}
@@ -32,14 +32,6 @@ use Rattle.hfs_btree_edits.proofs.ReheadedLemmas.{recounted-turn}
 use Rattle.hfs_btree_removal.proofs.ExactBut.{IsExactFor, KeepsFirst, WasExact, exact-moved}
 use Rattle.hfs_btree_removal.proofs.Composed.{either, not-stray, not-other, AreReleased, HasGiven, all-given}
 pub use Rattle.hfs_btree_removal.proofs.RemovalLemmas.{HasTold}
-
-in-right : (m : ℕ) (xs ys : List ℕ) → In m ys → In m (xs ++ ys)
-in-right m [] ys i = i
-in-right m (x ∷ xs) ys i = inr (in-right m xs ys i)
-
-in-left : (m : ℕ) (xs ys : List ℕ) → In m xs → In m (xs ++ ys)
-in-left m [] ys i = absurd i
-in-left m (x ∷ xs) ys i = elim i [ inl e ↦ inl e | inr j ↦ inr (in-left m xs ys j) ]
 
 in-spots : (a l : ℕ) (ns : List ℕ) (m : ℕ) → In m ns → In m (numbers (spots a l ns))
 in-spots a l [] m i = i

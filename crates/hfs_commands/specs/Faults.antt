@@ -4,8 +4,6 @@ use Rattle.std.specs.Borrow.{Bor}
 use Rattle.std.specs.Fmt.{decimal}
 use Rattle.hfs_check.specs.declared.mount_fault.MountFault.{MountFault}
 use Rattle.hfs_check.specs.declared.mount_fault.MountFault.TheVariants as mount
-use Rattle.hfs_runs.specs.declared.fault.ScriptFault.{ScriptFault}
-use Rattle.hfs_runs.specs.declared.fault.ScriptFault.TheVariants as run
 use Rattle.hfs_needed.specs.declared.opening.NeededFault.{NeededFault}
 use Rattle.hfs_needed.specs.declared.opening.NeededFault.TheVariants as needed
 use Rattle.hfs_refusals.specs.Refusals.{refusal_text}
@@ -74,14 +72,6 @@ fault_text (fault.CannotWrite file) = codes "cannot write " ++ path_text file.no
 fault_text (fault.IsThere file) = path_text file.now ++ codes " is there already"
 fault_text fault.OutputFailed = []
 fault_text fault.NoMemory = codes "out of memory"
-
--- what a fault of a script's run means for the program
-abbrev pub fault_of_run : ScriptFault → Fault
-fault_of_run run.TooLarge = fault.ScriptTooLarge
-fault_of_run (run.Line line) = fault.ScriptLine line
-fault_of_run (run.Refused why) = fault.Refused why
-fault_of_run run.NoPlace = fault.NoPlace
-fault_of_run run.Memory = fault.NoMemory
 
 -- an image has too many bytes, or more than there is memory for
 abbrev pub IsTooMuch : Fault → Type 0

@@ -1,6 +1,6 @@
 //! Why a command was not done, and how the program ends.
 ghost use Rattle.std.specs.Prelude.{◌≡◌, ◌≢◌, MatchResult, Some};
-ghost use Rattle.hfs_commands.specs.Faults.{IsRefusal, KeepsRefusal, fault_of_run, fault_text, status_number, status_of, status_of_run};
+ghost use Rattle.hfs_commands.specs.Faults.{IsRefusal, KeepsRefusal, fault_text, status_number, status_of, status_of_run};
 ghost use Rattle.hfs_commands.specs.Saving.{IsUnsaved};
 
 use crate::contents::UnwrittenFault;
@@ -9,7 +9,6 @@ use hfs_check::MountFault;
 use hfs_format::FormatFault;
 use hfs_needed::NeededFault;
 use hfs_refusals::Refusal;
-use hfs_runs::ScriptFault;
 use hfs_sparse::{CopyFault, SparseFault};
 use hfs_texts::{InfoFault, LoadFault};
 use std::{fmt, io};
@@ -227,19 +226,6 @@ impl Fault<'static> {
         match fault {
             MountFault::Memory => Fault::NoMemory,
             _ => Fault::Refused(fault),
-        }
-    }
-
-    /// The fault for a script that was not run.
-    pub fn of_run(fault: ScriptFault) -> Fault<'static>
-        ensures { result ≡ fault_of_run fault }
-    {
-        match fault {
-            ScriptFault::TooLarge => Fault::ScriptTooLarge,
-            ScriptFault::Line(line) => Fault::ScriptLine(line),
-            ScriptFault::Refused(why) => Fault::Refused(why),
-            ScriptFault::NoPlace => Fault::NoPlace,
-            ScriptFault::Memory => Fault::NoMemory,
         }
     }
 

@@ -2,7 +2,6 @@
 //! written. The words themselves, and standard input and output, are in `hfs_tool`.
 #![tactic(auto)]
 
-mod answers;
 mod beside;
 mod by_path;
 mod checking;
@@ -18,7 +17,6 @@ mod opened_file;
 mod patched_image;
 mod paths;
 mod repairing;
-mod running;
 mod saving;
 mod seen_files;
 mod volume_files;
@@ -27,7 +25,6 @@ mod watched_image;
 mod watched_range;
 mod watched_volume;
 
-pub use answers::write_answers;
 pub use beside::Leftover;
 pub use by_path::{file_path_reply, path_reply};
 pub use checking::{CheckAnswer, needed_check_answer, refused_text, report_answer};
@@ -40,7 +37,6 @@ pub use hfs_files::Watched;
 pub use hfs_needed::{NeededFault, NeededFile, SeenImage, Unopened};
 pub use hfs_raw::UserData;
 pub use hfs_refusals::{Hint, Refusal};
-pub use hfs_runs::{Answers, Gate, Ran, ScriptFault, run_script_at};
 pub use hfs_sparse::{BlockSource, CopyFault, SparseFault};
 pub use hfs_table::Format;
 pub use hfs_texts::{InfoFault, LoadFault, put, run_info};
@@ -52,7 +48,6 @@ pub use opened_file::{OpenedFile, StoredFile, content_of};
 pub use patched_image::PatchedImage;
 pub use paths::ShownPath;
 pub use repairing::{RepairAnswer, repair_answer};
-pub use running::{RanImage, RefusedRun, RunImage, script_lines};
 pub use saving::{Saved, save_file, save_new, save_read};
 pub use seen_files::{PartBlocks, PartImage, open_seen, part_blocks};
 pub use volume_files::{FilePart, open_asked, open_file, open_part, part_of};

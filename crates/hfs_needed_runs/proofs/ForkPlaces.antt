@@ -9,6 +9,7 @@ use Rattle.std.proofs.Math.Seq.{take-suc}
 use Rattle.hfs_fields.specs.declared.file_record.FileRecord.{FileRecord}
 use Rattle.hfs_fields.specs.Records.{is_dir, is_file, is_item, item_id, type_byte, dir_record_of, file_record_of}
 use Rattle.hfs_scans.specs.Members.{In}
+use Rattle.hfs_scans.proofs.MemberLemmas.{in-left, in-right}
 use Rattle.hfs_scans.proofs.ElementLemmas.{each-append, each-mono}
 use Rattle.hfs_model.specs.declared.call.Call.{Call}
 use Rattle.hfs_model.specs.declared.reply.Reply.{Reply}
@@ -23,18 +24,10 @@ use Rattle.hfs_queries.specs.Told.{file_named}
 use Rattle.hfs_queries.proofs.NamedFileLemmas.{found_file}
 use Rattle.hfs_scripts.specs.declared.lines.ScriptLine.{ScriptLine}
 use Rattle.hfs_alike.specs.Named.{named_by}
-use Rattle.hfs_needed_runs.specs.Keeping.{GainsRuns, LieIn}
+use Rattle.hfs_kept_blocks.specs.Keeping.{GainsRuns, LieIn}
 use Rattle.hfs_needed_runs.specs.NamedForks.{AreAmong, GainForks, HasMet, HaveMet, HaveNamedForks, IsFileOf, OfNamed, blocks_of_runs, file_blocks}
 
 -- ---- members
-
-pub in-left : (x : ℕ) (xs ys : List ℕ) → In x xs → In x (xs ++ ys)
-in-left x [] ys i = absurd i
-in-left x (y ∷ xs) ys i = ⊎_elim (λ (here : y ≡ x). inl here) (λ (there : In x xs). inr (in-left x xs ys there)) i
-
-pub in-right : (x : ℕ) (xs ys : List ℕ) → In x ys → In x (xs ++ ys)
-in-right x [] ys i = i
-in-right x (y ∷ xs) ys i = inr (in-right x xs ys i)
 
 pub among-left : (ns xs ys : List ℕ) → AreAmong ns xs → AreAmong ns (xs ++ ys)
 among-left ns xs ys h = each-mono (λ n. In n xs) (λ n. In n (xs ++ ys)) ns (λ n i. in-left n xs ys i) h

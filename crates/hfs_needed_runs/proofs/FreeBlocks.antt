@@ -25,8 +25,8 @@ use Rattle.hfs_volume.specs.Image.{patched}
 use Rattle.hfs_volume.proofs.Laid.{AreBlocks-over, block_at-laid}
 use Rattle.hfs_blocks.specs.Blocks.{length-block_at}
 use Rattle.hfs_blocks.specs.Layers.{AreWhole}
-use Rattle.hfs_needed_runs.specs.GivenBack.{AreFreeIn, IsFreeBlock, blocks_of_one}
-use Rattle.hfs_needed_runs.specs.Keeping.{GainsExtents, GainsRuns, LieIn}
+use Rattle.hfs_kept_blocks.specs.GivenBack.{AreFreeIn, IsFreeBlock, blocks_of_one}
+use Rattle.hfs_kept_blocks.specs.Keeping.{GainsExtents, GainsRuns, LieIn}
 
 -- ---- the logical blocks of extents are those of their allocation blocks
 

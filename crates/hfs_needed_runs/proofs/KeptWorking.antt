@@ -30,7 +30,7 @@ use Rattle.hfs_working.proofs.LawsProved.{kept_forks_are_alike}
 use Rattle.hfs_working.proofs.Carried as carried
 use Rattle.hfs_working.proofs.Copies.{is-copy, each-image}
 use Rattle.hfs_working.proofs.Kept.{each-take}
-use Rattle.hfs_needed_runs.specs.Keeping.{AreKept}
+use Rattle.hfs_kept_blocks.specs.Keeping.{AreKept}
 use Rattle.hfs_needed_runs.specs.NamedForks.{AreAmong, file_blocks}
 use Rattle.hfs_needed_runs.proofs.ForksOfLines.{same-forks}
 

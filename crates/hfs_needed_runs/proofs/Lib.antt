@@ -1,5 +1,4 @@
 pub mod ForkPlaces
-pub mod KeptBlocks
 pub mod FreeBlocks
 pub mod MoreRead
 pub mod SameNames

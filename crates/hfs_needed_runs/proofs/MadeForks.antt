@@ -33,7 +33,7 @@ use Rattle.hfs_space.specs.Forks.{HasArea, run_in}
 use Rattle.hfs_space.specs.Owners.{Fork, forks_of, forks_of_file}
 use Rattle.hfs_space.specs.Sound.{IsForkSound}
 use Rattle.hfs_volume.specs.Sharing.{file_extents}
-use Rattle.hfs_needed_runs.specs.Keeping.{GainsExtents, GainsRuns, LieIn}
+use Rattle.hfs_kept_blocks.specs.Keeping.{GainsExtents, GainsRuns, LieIn}
 use Rattle.hfs_needed_runs.specs.NamedForks.{AreAmong, AreForksOf, GainsForksOf, HasForksOf, IsForkBlock, IsForkBlockOf, file_blocks, fork_blocks}
 use Rattle.hfs_needed_runs.proofs.ForkPlaces.{among-itself, among-left, among-right, item-is, not-dir}
 

@@ -28,15 +28,15 @@ use Rattle.hfs_scripts.specs.declared.lines.ScriptLine.{ScriptLine}
 use Rattle.hfs_runs.specs.declared.fault.ScriptFault.{ScriptFault}
 use Rattle.hfs_runs.specs.declared.fault.ScriptFault.TheVariants as run
 use Rattle.hfs_runs.specs.Runs.{AreLinesRun, IsStartFault}
-use Rattle.hfs_needed_runs.specs.GivenBack.{AreChangedZeros, AreFreeIn, AreKeptOf, IsChangedZeros, IsFreeBlock, IsGivenBack}
-use Rattle.hfs_needed_runs.specs.Keeping.{AreKept, LieIn}
+use Rattle.hfs_kept_blocks.specs.GivenBack.{AreChangedZeros, AreFreeIn, AreKeptOf, IsChangedZeros, IsFreeBlock, IsGivenBack}
+use Rattle.hfs_kept_blocks.specs.Keeping.{AreKept, LieIn}
 use Rattle.hfs_needed_runs.specs.NamedForks.{AreAmong, AreForksOf, AreIdsOf, AreScriptFiles, HasForksOf, HasMet, HasNamedForks, IsForkBlock, IsScriptFile, file_blocks}
 use Rattle.hfs_needed_runs.specs.Naming.{line_calls, read_forks}
 use Rattle.hfs_needed_runs.specs.NeededRuns.{AreLinesRunOver, CarriesForks, IsOwnZeros, IsRunOver}
 use Rattle.hfs_needed_runs.specs.declared.made_files.ScriptFiles.{ScriptFiles}
 use Rattle.hfs_needed_runs.proofs.ForkPlaces.{among-left, item-id}
 use Rattle.hfs_needed_runs.proofs.ForksOfLines.{catalog-copy, keeps, keeps-named, lines-alike}
-use Rattle.hfs_needed_runs.proofs.KeptBlocks.{runs-below}
+use Rattle.hfs_kept_blocks.proofs.KeptBlocks.{runs-below}
 use Rattle.hfs_needed_runs.proofs.KeptWorking.{carries, kept-within, laid-alike}
 use Rattle.hfs_needed_runs.proofs.MadeFiles.{kept-met, script-kept}
 use Rattle.hfs_needed_runs.proofs.MadeForks.{file-given}

@@ -23,7 +23,7 @@ use Rattle.hfs_queries.specs.Told.{cat_info, file_named}
 use Rattle.hfs_sparse.specs.Sparse.{HasEach}
 use Rattle.hfs_scripts.specs.declared.lines.ScriptLine.{ScriptLine}
 use Rattle.hfs_alike.specs.Named.{named_by}
-use Rattle.hfs_needed_runs.specs.Keeping.{LieIn}
+use Rattle.hfs_kept_blocks.specs.Keeping.{LieIn}
 use Rattle.hfs_needed_runs.specs.Naming.{read_forks}
 use Rattle.hfs_needed_runs.specs.declared.made_files.ScriptFiles.{ScriptFiles}
 

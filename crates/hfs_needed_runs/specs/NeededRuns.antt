@@ -13,7 +13,7 @@ use Rattle.hfs_working.specs.Working.{CarriesOverBut}
 use Rattle.hfs_scripts.specs.declared.lines.ScriptLine.{ScriptLine}
 use Rattle.hfs_runs.specs.Pieces.{text_of_pieces}
 use Rattle.hfs_runs.specs.Runs.{AreLinesRun}
-use Rattle.hfs_needed_runs.specs.GivenBack.{IsGivenBack}
+use Rattle.hfs_kept_blocks.specs.GivenBack.{IsGivenBack}
 use Rattle.hfs_needed_runs.specs.NamedForks.{HasNamedForks, IsForkBlock}
 use Rattle.hfs_needed_runs.specs.Naming.{line_calls, read_forks}
 use Rattle.hfs_needed_runs.specs.declared.running.NeededRan.{NeededRan}

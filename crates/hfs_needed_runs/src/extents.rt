@@ -3,7 +3,7 @@ ghost use Rattle.std.specs.Prelude.{◌≡◌, ℕ, ◌+◌, ◌≤◌, OnOk};
 ghost use Rattle.hfs_blocks.specs.Blocks.{run_of};
 ghost use Rattle.hfs_space.specs.Extents.{AreExtentsWithin, IsExtentWithin};
 ghost use Rattle.hfs_space.specs.Forks.{HasArea, run_in};
-ghost use Rattle.hfs_needed_runs.specs.Keeping.{GainsExtents};
+ghost use Rattle.hfs_kept_blocks.specs.Keeping.{GainsExtents};
 
 use hfs_blocks::Run;
 use hfs_fields::{Extent, Mdb};

@@ -9,7 +9,7 @@ ghost use Rattle.hfs_sparse.specs.Seen.{SeesMore};
 ghost use Rattle.hfs_sparse.specs.Sparse.{sparse, HasEach, HasGrown, StaysOf};
 ghost use Rattle.hfs_working.specs.Opened.{IsWorkingOf};
 ghost use Rattle.hfs_needed_runs.specs.NamedForks.{AreAmong, GainForks, HaveMet, HaveNamedForks, HasNamedForks, IsFileOf, OfNamed, blocks_of_runs, file_blocks, fork_blocks};
-ghost use Rattle.hfs_needed_runs.specs.Keeping.{GainsRuns, LieIn};
+ghost use Rattle.hfs_kept_blocks.specs.Keeping.{GainsRuns, LieIn};
 ghost use Rattle.hfs_needed_runs.specs.Naming.{read_forks};
 ghost use Rattle.hfs_blocks.specs.Layers.{KeepsWithin};
 

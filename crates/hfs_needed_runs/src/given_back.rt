@@ -1,17 +1,13 @@
-//! Blocks that calls filled with zeros and that were freed again in the same run.
-ghost use Rattle.std.specs.Prelude.{◌≡◌, ◌+◌, ◌<◌, ◌≤◌, ◌∷◌, [], IfOk, IfNone, OnOk};
-ghost use Rattle.std.specs.List.{flat_map, range_with_len};
-ghost use Rattle.hfs_blocks.specs.Blocks.{block_at, block_count, run_of};
+//! The free blocks of a volume, among them those that calls filled with zeros and that were freed again in the same run.
+ghost use Rattle.std.specs.Prelude.{◌≡◌, ◌+◌, ◌≤◌, [], IfOk, IfNone};
+ghost use Rattle.hfs_blocks.specs.Blocks.{block_at, block_count};
 ghost use Rattle.hfs_space.specs.Bitmap.{bitmap_len, is_used};
 ghost use Rattle.hfs_claims.specs.FreeRuns.{AreFreeRuns};
-ghost use Rattle.hfs_needed_runs.specs.GivenBack.{AreFreeIn, GainsGivenBack};
-ghost use Rattle.hfs_needed_runs.specs.Keeping.{LieIn};
+ghost use Rattle.hfs_kept_blocks.specs.GivenBack.{AreFreeIn};
 
 use crate::extents::push_extents;
-use crate::keeping::is_zeros;
 use crate::made_files::ScriptFiles;
 use hfs_blocks::{Blocks, Run};
-use hfs_changed_blocks::ChangedBlocks;
 use hfs_claims::free_runs;
 use hfs_fields::{Extent, Mdb};
 use hfs_space::Bitmap;
@@ -62,56 +58,4 @@ pub(crate) fn free_blocks(
         Some(_) => free_blocks_in(alloc, volume),
         None => Ok(Vec::new(alloc)),
     }
-}
-
-/// Keeps block `n`, if it is changed and has only zeros.
-fn keep_changed_zeros(
-    kept: &mut ChangedBlocks,
-    changed: &ChangedBlocks,
-    n: u32,
-) -> Result<(), AllocError>
-    requires { n < 4294967295 }
-    ensures { OnOk result (GainsGivenBack changed.now (n ∷ []) kept.old kept.new) }
-{
-    let Some(block) = changed.get(n) else {
-        return Ok(());
-    };
-    if !is_zeros(block) {
-        return Ok(());
-    }
-    kept.put(n, block)
-}
-
-/// Keeps those of `count` blocks from number `first` on that are changed and have only zeros.
-fn keep_changed_zeros_of(
-    kept: &mut ChangedBlocks,
-    changed: &ChangedBlocks,
-    first: u32,
-    count: u32,
-) -> Result<(), AllocError>
-    requires { first + count ≤ 4294967295 }
-    ensures { OnOk result (GainsGivenBack changed.now (range_with_len first count)
-        kept.old kept.new) }
-{
-    for i in 0..count {
-        keep_changed_zeros(kept, changed, first + i)?;
-    }
-    Ok(())
-}
-
-/// Keeps those of the blocks of these runs that are changed and have only zeros: a block that isn't changed may not have been
-/// read.
-pub(crate) fn keep_given_back(
-    kept: &mut ChangedBlocks,
-    changed: &ChangedBlocks,
-    runs: &[Run],
-) -> Result<(), AllocError>
-    requires { LieIn 4294967295 runs.now }
-    ensures { OnOk result (GainsGivenBack changed.now (flat_map run_of runs.now)
-        kept.old kept.new) }
-{
-    for run in runs {
-        keep_changed_zeros_of(kept, changed, run.first, run.count)?;
-    }
-    Ok(())
 }

@@ -5,7 +5,6 @@
 mod extents;
 mod forks;
 mod given_back;
-mod keeping;
 mod laws;
 mod made_files;
 mod made_forks;
@@ -13,6 +12,5 @@ mod naming;
 mod running;
 
 pub use crate::forks::fetch_named_forks;
-pub use crate::keeping::kept_blocks;
 pub use crate::laws::{named_forks_are_the_images, saved_is_made, workers_read_the_image};
 pub use crate::running::{NeededRan, run_needed_at};

@@ -8,7 +8,7 @@ ghost use Rattle.hfs_check.specs.Parts.{mdb_in, catalog_in};
 ghost use Rattle.hfs_check.specs.Sound.{IsSound};
 ghost use Rattle.hfs_needed.specs.Forks.{AreForksIn};
 ghost use Rattle.hfs_volume.specs.Sharing.{file_extents};
-ghost use Rattle.hfs_needed_runs.specs.Keeping.{GainsExtents, GainsRuns};
+ghost use Rattle.hfs_kept_blocks.specs.Keeping.{GainsExtents, GainsRuns};
 ghost use Rattle.hfs_needed_runs.specs.NamedForks.{AreForksOf, GainsForksOf, IsScriptFile, file_blocks};
 
 use crate::extents::push_extents;

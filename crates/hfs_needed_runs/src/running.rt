@@ -9,10 +9,10 @@ ghost use Rattle.hfs_working.specs.Opened.{IsWorkingOf};
 ghost use Rattle.hfs_needed_runs.specs.NeededRuns.{IsRunOverAs};
 
 use crate::given_back::free_blocks;
-use crate::keeping::kept_blocks;
 use crate::made_files::script_files;
 use crate::made_forks::made_forks;
 use hfs_changed_blocks::ChangedBlocks;
+use hfs_kept_blocks::kept_blocks;
 use hfs_runs::{Answers, Gate, RanInPieces, ScriptFault, run_volume_in_pieces};
 use hfs_scripts::Script;
 use hfs_working::{WorkingVolume, mount_read};

@@ -15,7 +15,7 @@ use Rattle.hfs_model.specs.declared.call.Fork.TheVariants.{DataFork, ResFork}
 use Rattle.hfs_put_calls.specs.declared.items.PutItem.{PutItem}
 use Rattle.hfs_scans.specs.Each.{Each}
 use Rattle.hfs_scans.specs.Members.{In}
-use Rattle.hfs_scans.proofs.MemberLemmas.{each_in}
+use Rattle.hfs_scans.proofs.MemberLemmas.{each_in, in-left, in-right}
 use Rattle.hfs_scans.proofs.ElementLemmas.{each-append}
 use Rattle.hfs_sources.specs.declared.fork_run.ForkRun.{ForkRun}
 use Rattle.hfs_put.specs.ForkRuns.{AreFilePlaces, AreForkRuns, ArePlacesInOrder, HaveFileOf, IsFileAt, IsForkRun, file_runs, fork_runs_of, record_runs, runs_from}
@@ -26,14 +26,6 @@ use Rattle.hfs_put.proofs.RunsApart.{all_once, all_some, each_permutation, in_pe
 each-of : {A : Type 0} (P : A → Type 0) (xs : List A) → ((x : A) → In x xs → P x) → Each P xs
 each-of P [] f = tt
 each-of P (x ∷ xs) f = (f x (inl refl), each-of P xs (λ y i. f y (inr i)))
-
-in-left : {A : Type 0} (x : A) (xs ys : List A) → In x xs → In x (xs ++ ys)
-in-left x [] ys i = absurd i
-in-left x (y ∷ xs) ys i = ⊎_elim (λ (here : y ≡ x). inl here) (λ (there : In x xs). inr (in-left x xs ys there)) i
-
-in-right : {A : Type 0} (x : A) (xs ys : List A) → In x ys → In x (xs ++ ys)
-in-right x [] ys i = i
-in-right x (y ∷ xs) ys i = inr (in-right x xs ys i)
 
 -- ---- the runs of a fork are of that fork
 

@@ -10,7 +10,7 @@ use Rattle.hfs_fields.specs.declared.file_record.FileRecord.{FileRecord}
 use Rattle.hfs_fields.specs.declared.mdb.Mdb.{Mdb}
 use Rattle.hfs_scans.specs.Each.{Each}
 use Rattle.hfs_scans.specs.Members.{In}
-use Rattle.hfs_scans.proofs.MemberLemmas.{each_in}
+use Rattle.hfs_scans.proofs.MemberLemmas.{each_in, in-left, in-right}
 use Rattle.hfs_blocks.specs.Blocks.{block_at, run_of}
 use Rattle.hfs_btree.specs.Sound.{IsOther}
 use Rattle.hfs_model.specs.declared.call.Fork.{Fork}
@@ -54,14 +54,6 @@ apart-in-turn (run ∷ runs) apart = (
 )
 
 -- ---- members
-
-in-left : {A : Type 0} (n : A) (xs ys : List A) → In n xs → In n (xs ++ ys)
-in-left n [] ys i = absurd i
-in-left n (x ∷ xs) ys i = ⊎_elim (λ (e : x ≡ n). inl e) (λ (there : In n xs). inr (in-left n xs ys there)) i
-
-in-right : {A : Type 0} (n : A) (xs ys : List A) → In n ys → In n (xs ++ ys)
-in-right n [] ys i = i
-in-right n (x ∷ xs) ys i = inr (in-right n xs ys i)
 
 in-flat : {A B : Type 0} (f : A → List B) (xs : List A) (x : A) (y : B) → In x xs → In y (f x) → In y (flat_map f xs)
 in-flat f [] x y i j = absurd i

@@ -8,8 +8,8 @@ use Rattle.hfs_check.specs.Parts.{mdb_in}
 use Rattle.hfs_check.specs.VolumeOf.{volume_of}
 use Rattle.hfs_volume.specs.Image.{ImageValue, patched}
 use Rattle.hfs_working.specs.Working.{IsWorkingCopy}
-use Rattle.hfs_needed_runs.specs.GivenBack.{AreChangedZeros, AreKeptOf}
-use Rattle.hfs_needed_runs.specs.Keeping.{AreKept}
+use Rattle.hfs_kept_blocks.specs.GivenBack.{AreChangedZeros, AreKeptOf}
+use Rattle.hfs_kept_blocks.specs.Keeping.{AreKept}
 use Rattle.hfs_put.specs.ForkRuns.{AreForkRuns}
 use Rattle.hfs_put.specs.Laying.{item_of, AreLaid}
 use Rattle.hfs_put_calls.specs.declared.items.PutItem.{PutItem}

@@ -13,7 +13,7 @@ use Rattle.hfs_put_calls.specs.Laws.{IsWhole}
 use Rattle.hfs_put_calls.specs.Put.{Arrival}
 use Rattle.hfs_put.specs.Laying.{item_of}
 use Rattle.hfs_sources.specs.declared.fork_run.ForkRun.{ForkRun}
-use Rattle.hfs_needed_runs.specs.GivenBack.{AreKeptOf}
+use Rattle.hfs_kept_blocks.specs.GivenBack.{AreKeptOf}
 use Rattle.hfs_put_laws.specs.Saved.{IsPut}
 use Rattle.hfs_put_image.specs.Beside.{AreBeside}
 use Rattle.hfs_put_image.specs.LaidRuns.{laid}

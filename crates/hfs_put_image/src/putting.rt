@@ -11,7 +11,7 @@ ghost use Rattle.hfs_put_image.specs.PutImages.{AreGoingOut, HasDirectory, IsPut
 use crate::beside::beside_runs;
 use hfs_blocks::Blocks;
 use hfs_changed_blocks::ChangedBlocks;
-use hfs_needed_runs::kept_blocks;
+use hfs_kept_blocks::kept_blocks;
 use hfs_put::{LayFault, fork_runs, lay_items};
 use hfs_put_calls::PutItem;
 use hfs_sources::ForkRun;

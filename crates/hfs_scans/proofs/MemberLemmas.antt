@@ -1,5 +1,5 @@
 -- Lemmas about the definitions of specs/Members.antt.
-use Rattle.std.proofs.Common.{◌≡◌, ◌⊎◌, inl, inr, ⊎_elim, Bool, true, false, cond, List, [], ◌∷◌, refl, sym, ◌∙◌, ap, subst, Some}
+use Rattle.std.proofs.Common.{◌≡◌, ◌⊎◌, inl, inr, ⊎_elim, Bool, true, false, cond, List, [], ◌∷◌, ◌++◌, refl, sym, ◌∙◌, ap, subst, Some}
 use Rattle.std.specs.List.{find}
 use Rattle.std.proofs.lemmas.Option.{none-some, same_Some}
 use Rattle.hfs_scans.specs.Each.{Each}
@@ -16,3 +16,11 @@ found_in p (y ∷ ys) x is = elim (p y) as (λ (b : Bool). p y ≡ b → cond b 
   | true ↦ λ e here. (inl (same_Some y x here), sym (ap p (same_Some y x here)) ∙ e)
   | false ↦ λ e later. let rest = found_in p ys x later in (inr rest.0, rest.1)
 ] refl is
+
+pub in-left : {A : Type 0} (x : A) (xs ys : List A) → In x xs → In x (xs ++ ys)
+in-left x [] ys i = absurd i
+in-left x (y ∷ xs) ys i = ⊎_elim (λ (here : y ≡ x). inl here) (λ (there : In x xs). inr (in-left x xs ys there)) i
+
+pub in-right : {A : Type 0} (x : A) (xs ys : List A) → In x ys → In x (xs ++ ys)
+in-right x [] ys i = i
+in-right x (y ∷ xs) ys i = inr (in-right x xs ys i)

@@ -4,11 +4,13 @@ use crate::progress::RunProgress;
 use crate::saving::{save, save_as_read, tell};
 use crate::words::RunWords;
 use hfs_commands::{
-    Answers, FailingBlocks, Fault, ImageInFile, Leftover, Ran, RanImage, ReadContents, RunImage,
-    Status, Watched, WatchedVolume, load_script, open_volume, open_watched, run_script_at,
-    script_lines, write_answers,
+    FailingBlocks, Fault, ImageInFile, Leftover, ReadContents, Status, Watched, WatchedVolume,
+    load_script, open_volume, open_watched,
 };
 use hfs_console::print_lines;
+use hfs_word_run::{
+    Answers, Ran, RanImage, RunImage, run_fault, run_script_at, script_lines, write_answers,
+};
 use std::fs::File;
 use std::io::IsTerminal;
 use std::sync::Wait;
@@ -86,7 +88,7 @@ fn run_whole<'a, T: Threads + Wait + Sync>(
     progress.end(script.len());
     match ran {
         Ok(ran) => print_ran(rt, run.out, &ran),
-        Err(fault) => Err(Fault::of_run(fault)),
+        Err(fault) => Err(run_fault(fault)),
     }
 }
 

@@ -3,7 +3,7 @@ use Rattle.std.proofs.Common.{◌≡◌, ◌≤◌, ℕ, ◌/◌, List, length, 
 use Rattle.hfs_blocks.specs.Blocks.{block_count}
 use Rattle.hfs_check.specs.Sound.{IsImageLength, IsSound}
 use Rattle.hfs_sparse.specs.Seen.{IsSeen}
-use Rattle.hfs_commands.specs.Running.{IsRunnable}
+use Rattle.hfs_working.specs.Opened.{IsRunnable}
 use Rattle.hfs_sparse.specs.Sparse.{IsOf}
 use Rattle.hfs_volume.specs.Image.{copy_of}
 use Rattle.hfs_volume.proofs.CopyLemmas.{length-copy}

@@ -2,7 +2,6 @@
 ghost use Rattle.std.specs.Prelude.{◌≡◌, ◌/◌, None, IfErr, IfOk};
 ghost use Rattle.hfs_check.specs.Sound.{IsSound};
 ghost use Rattle.hfs_check.specs.declared.mount_fault.MountFault.{MountFault};
-ghost use Rattle.hfs_commands.specs.Running.{IsRunnable};
 ghost use Rattle.hfs_needed.specs.Failing.{SomeFailsWithin};
 ghost use Rattle.hfs_source.specs.Images.{OfEach};
 ghost use Rattle.hfs_volume.specs.Image.{copy_of};

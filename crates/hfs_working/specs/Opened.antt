@@ -1,14 +1,15 @@
 -- Volumes of which the working blocks were read.
-use Rattle.std.specs.Prelude.{◌≡◌, ℕ, List, Option}
+use Rattle.std.specs.Prelude.{◌≡◌, ◌≤◌, ◌/◌, ℕ, List, Option, None}
 use Rattle.hfs_fields.specs.declared.mdb.Mdb.{Mdb}
 use Rattle.hfs_blocks.specs.Blocks.{AreRunsWithin}
 use Rattle.hfs_blocks.specs.Layers.{Numbered, changes, AreWithin}
 use Rattle.hfs_check.specs.declared.trees.VolumeTrees.{VolumeTrees}
 use Rattle.hfs_check.specs.Parts.{mdb_in}
-use Rattle.hfs_check.specs.Sound.{AreBlocksSound}
+use Rattle.hfs_check.specs.Sound.{AreBlocksSound, IsSound}
 use Rattle.hfs_check.specs.Trees.{HasTrees}
 use Rattle.hfs_needed.specs.Gathered.{IsOfKnown}
 use Rattle.hfs_needed.specs.Known.{OfKnown}
+use Rattle.hfs_sparse.specs.Seen.{IsSeen}
 use Rattle.hfs_sparse.specs.Sparse.{sparse}
 use Rattle.hfs_working.specs.declared.opening.WorkingVolume.{WorkingVolume}
 use Rattle.hfs_volume.specs.Image.{copy_of}
@@ -37,3 +38,10 @@ IsWorkingOf known total = λ volume. IsWorking known total volume.read volume.co
 -- where the image's bytes are known, and are so many, what was read of it is a copy over which calls can be made
 abbrev pub IsCopyOf : Option (List ℕ) → ℕ → WorkingVolume → Type 0
 IsCopyOf known len = λ volume. OfKnown known len (IsWorkingCopy (copy_of volume.read len))
+
+-- the working blocks of an image of so many bytes were read, and what was read is of each of these images
+pub record IsRunnable (Holds : List ℕ → Type 0) (len : ℕ) (working : WorkingVolume) : Type 0 where
+  pub is : IsWorkingOf None (len / 512) working
+  pub seen : IsSeen Holds working.read
+  pub sound : IsSound (copy_of working.read len)
+  pub small : len ≤ 2147483648

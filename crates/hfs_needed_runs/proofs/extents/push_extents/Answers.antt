@@ -1,7 +1,7 @@
 -- Extent by extent.
 use Rattle.std.proofs.Common.{refl, subst, List, arith}
 use Rattle.hfs_fields.specs.declared.extent.Extent.{Extent}
-use Rattle.hfs_needed_runs.specs.Keeping.{GainsExtents}
+use Rattle.hfs_kept_blocks.specs.Keeping.{GainsExtents}
 use Rattle.hfs_needed_runs.proofs.MadeForks.{next-runs, no-runs, take-all}
 use Rattle.hfs_needed_runs.proofs.extents.push_extents.Goals as goal
 

@@ -1,7 +1,7 @@
 -- The forks that the first lines name.
 use Rattle.std.specs.Prelude.{take}
 use Rattle.hfs_sparse.specs.Sparse.{sparse}
-use Rattle.hfs_needed_runs.specs.Keeping.{LieIn}
+use Rattle.hfs_kept_blocks.specs.Keeping.{LieIn}
 use Rattle.hfs_needed_runs.specs.NamedForks.{HaveMet, HaveNamedForks, blocks_of_runs}
 use Rattle.hfs_needed_runs.proofs.forks.named_forks.Given as goal
 

@@ -10,7 +10,7 @@ use Rattle.hfs_space.specs.Forks.{HasArea}
 use Rattle.hfs_check.specs.Parts.{overflow_in}
 use Rattle.hfs_sparse.specs.Sparse.{sparse}
 use Rattle.hfs_needed.proofs.ForkBytes.{extents-by}
-use Rattle.hfs_needed_runs.specs.Keeping.{GainsExtents, GainsRuns}
+use Rattle.hfs_kept_blocks.specs.Keeping.{GainsExtents, GainsRuns}
 use Rattle.hfs_needed_runs.specs.NamedForks.{fork_blocks}
 use Rattle.hfs_needed_runs.proofs.forks.push_fork.Goals as goal
 

@@ -10,7 +10,7 @@ use Rattle.hfs_space.specs.Forks.{HasArea}
 use Rattle.hfs_check.specs.Parts.{mdb_in}
 use Rattle.hfs_volume.specs.declared.base.BaseBlocks.{BaseBlocks}
 use Rattle.hfs_volume.specs.Image.{patched}
-use Rattle.hfs_needed_runs.specs.Keeping.{GainsExtents}
+use Rattle.hfs_kept_blocks.specs.Keeping.{GainsExtents}
 use Rattle.hfs_needed_runs.proofs.FreeBlocks.{bitmap-fits, extents-within, free-in}
 use Rattle.hfs_needed_runs.proofs.MadeForks.{area-few}
 use Rattle.hfs_needed_runs.proofs.given_back.free_blocks_in.Goals as goal

@@ -4,7 +4,7 @@ use Rattle.hfs_fields.specs.declared.extent.Extent.{Extent}
 use Rattle.hfs_fields.specs.declared.mdb.Mdb.{Mdb}
 use Rattle.hfs_space.specs.Extents.{AreExtentsWithin}
 use Rattle.hfs_space.specs.Forks.{HasArea}
-use Rattle.hfs_needed_runs.specs.Keeping.{GainsExtents}
+use Rattle.hfs_kept_blocks.specs.Keeping.{GainsExtents}
 use Rattle.hfs_needed_runs.proofs.made_forks.push_fork.Goals as goal
 
 pub push_extents-requires-clause-area : goal.push_extents-requires-clause-area

@@ -6,7 +6,7 @@ use Rattle.hfs_fields.proofs.OutcomeLemmas.{on_ok}
 use Rattle.hfs_blocks.specs.Blocks.{block_at, block_count}
 use Rattle.hfs_catalog.specs.Lookups.{catalog_item}
 use Rattle.hfs_needed.specs.Forks.{AreForksIn}
-use Rattle.hfs_needed_runs.specs.Keeping.{GainsRuns}
+use Rattle.hfs_kept_blocks.specs.Keeping.{GainsRuns}
 use Rattle.hfs_needed_runs.specs.NamedForks.{GainsForksOf, IsScriptFile, file_blocks}
 use Rattle.hfs_needed_runs.proofs.MadeForks.{entry-file, folder-no-file, forks-in, gains-forks, gains-none, no-item, none-is, some-item}
 use Rattle.hfs_needed_runs.proofs.made_forks.push_record.Goals as goal

@@ -10,8 +10,8 @@ use Rattle.hfs_scripts.specs.declared.lines.ScriptLine.{ScriptLine}
 use Rattle.hfs_sparse.specs.Sparse.{sparse}
 use Rattle.hfs_needed_runs.specs.NamedForks.{AreScriptFiles}
 use Rattle.hfs_needed_runs.specs.Naming.{read_forks}
-use Rattle.hfs_needed_runs.specs.GivenBack.{AreKeptOf}
-use Rattle.hfs_needed_runs.specs.Keeping.{LieIn}
+use Rattle.hfs_kept_blocks.specs.GivenBack.{AreKeptOf}
+use Rattle.hfs_kept_blocks.specs.Keeping.{LieIn}
 use Rattle.hfs_needed_runs.proofs.RunOver.{among-base, lie-in, passed-on, run-over}
 use Rattle.hfs_needed_runs.proofs.running.run_needed_at.Goals as goal
 

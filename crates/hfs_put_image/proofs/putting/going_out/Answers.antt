@@ -2,7 +2,7 @@
 use Rattle.std.proofs.Common.{◌≡◌, ℕ, List, [], sym, ap, subst, ◌∙◌}
 use Rattle.hfs_blocks.specs.Blocks.{block_count}
 use Rattle.hfs_blocks.specs.Layers.{Numbered, changes, AreWithin}
-use Rattle.hfs_needed_runs.specs.GivenBack.{AreKeptOf}
+use Rattle.hfs_kept_blocks.specs.GivenBack.{AreKeptOf}
 use Rattle.hfs_put_image.specs.Beside.{AreBeside}
 use Rattle.hfs_put_image.specs.PutImages.{AreGoingOut}
 use Rattle.hfs_put_image.proofs.PutOver.{if-ok, patch-within}
