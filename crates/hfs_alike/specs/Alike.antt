@@ -1,4 +1,4 @@
--- Volumes that are the same but for the bytes of forks. Each law is what a function of src/laws.rt ensures.
+-- Volumes that are the same except for the bytes of forks. Each law is what a function of src/laws.rt ensures.
 use Rattle.std.specs.Prelude.{◌≡◌, ℕ, Bool, true, false, List, length, map, replicate, Option, Some}
 use Rattle.std.specs.FinMap as fin
 use Rattle.hfs_model.specs.declared.call.Call.{Call}
@@ -41,7 +41,7 @@ bare_items keep items = fin.from_sorted (map (bare keep) (fin.entries items))
 abbrev pub bare_volume : (ℕ → Bool) → Volume → Volume
 bare_volume keep v = record v { items = bare_items keep v.items }
 
--- two volumes are the same but for the bytes of forks, which are as long; those of files with these IDs are the same, too
+-- two volumes are the same except for the bytes of forks, which are as long; those of files with these IDs are the same, too
 abbrev pub AreAlike : (ℕ → Bool) → Volume → Volume → Type 0
 AreAlike keep v w = bare_volume keep v ≡ bare_volume keep w
 
@@ -71,7 +71,7 @@ reads_fork (call.ResolveFileId id) = false
 reads_fork (call.SetEof dir name fork length now) = false
 reads_fork (call.WriteFork dir name fork offset bytes now) = false
 
--- two outcomes of a call are the same but for the bytes of forks
+-- two outcomes of a call are the same except for the bytes of forks
 pub record EndAlike (keep : ℕ → Bool) (c : Call) (a b : Outcome) : Type 0 where
   pub code : b.1.code ≡ a.1.code
   pub reply : reads_fork c ≡ false → b.1 ≡ a.1
@@ -96,7 +96,7 @@ abbrev pub AlikeWanting : Type 0
 AlikeWanting =
     (keep : ℕ → Bool) (wanting : Option Want) (v w : Volume) (c : Call) → AreAlike keep v w → EndAlike keep c (step_wanting wanting v c) (step_wanting wanting w c)
 
--- and behind the entries of a journal
+-- and after the entries of a journal
 abbrev pub AlikeAfter : Type 0
 AlikeAfter = (keep : ℕ → Bool) (v w : Volume) (journal : List JournalEntry) → AreAlike keep v w → AreAlike keep (after v journal) (after w journal)
 

@@ -36,7 +36,7 @@ named_by (call.ResolveFileId id) = None
 named_by (call.SetEof dir name fork length now) = Some (dir, name)
 named_by (call.WriteFork dir name fork offset bytes now) = Some (dir, name)
 
--- the item stands in that folder under that name
+-- the item is in that folder under that name
 abbrev pub StandsAt : ℕ → List ℕ → Item → Type 0
 StandsAt dir name item = (item.parent ≡ dir) × IsTrue (same_name item.name name)
 
@@ -52,13 +52,13 @@ AreOf calls journal = Each (λ (e : JournalEntry). In e.call calls) journal
 
 -- ---- the laws
 
--- it is so behind entries of these calls: what none of them names by its place stays there
+-- it is so after entries of these calls: what none of them names by its place stays there
 abbrev pub NamedStayKept : Type 0
 NamedStayKept =
     (keep : ℕ → Bool) (calls : List Call) (v : Volume) (journal : List JournalEntry) → KeepsNamed keep calls v → AreOf calls journal
     → KeepsNamed keep calls (after v journal)
 
--- behind such entries each of these calls is answered the same in volumes that are alike, reads of forks too, where the forks of these items
+-- after such entries each of these calls is answered the same in volumes that are alike, reads of forks too, where the forks of these items
 -- are the same
 abbrev pub AskedAnswerAlike : Type 0
 AskedAnswerAlike =

@@ -1,4 +1,4 @@
--- The digests that bags tell of their files, and files that have others.
+-- The digests that bags give for their files, and files that have others.
 use Rattle.std.specs.Prelude.{◌≡◌, ℕ, Bool, false, not, if◌then◌else◌, List, [], ◌∷◌, ◌++◌, Option, Some, None, codes, bytes_eq}
 use Rattle.std.specs.Option.{option_or}
 use Rattle.sha2.specs.Sha256.{sha256}
@@ -11,23 +11,23 @@ use Rattle.hfs_sources.specs.Trees.{Tree}
 use Rattle.hfs_bag_facts.specs.Later.{Entries, last_told, told_at}
 use Rattle.hfs_bag_facts.specs.Tags.{tag_text, without_return}
 
--- the digest that a line of a manifest tells of a path, where this stands before its own
+-- the digest that a line of a manifest gives for a path, where this precedes its own
 abbrev pub digest_by_line : List ℕ → List ℕ → List ℕ → Option (List ℕ)
 digest_by_line front path line = if bytes_eq (front ++ path_in (without_return line)) path then digest_in (without_return line) else None
 
--- that its lines tell
+-- that its lines give
 abbrev pub digest_by_lines : List ℕ → List ℕ → List ℕ → Option (List ℕ)
 digest_by_lines front text path = last_told (digest_by_line front path) (lines text)
 
--- that the manifest of a source tells
+-- that the manifest of a source gives
 abbrev pub digest_by_source : Tree → List ℕ → List ℕ → Option (List ℕ)
 digest_by_source host path source = digest_by_lines (entry_path source []) (tag_text host source (codes "manifest-sha256.txt")) path
 
--- that those of all sources tell
+-- that those of all sources give
 abbrev pub digest_by : Tree → List (List ℕ) → List ℕ → Option (List ℕ)
 digest_by host sources path = last_told (digest_by_source host path) sources
 
--- these are the digests that the sources tell of any path
+-- these are the digests that the sources give for any path
 abbrev pub AreDigestsOf : List (List ℕ) → Entries (List ℕ) → Tree → Type 0
 AreDigestsOf sources digests host = (path : List ℕ) → told_at digests path ≡ digest_by host sources path
 
@@ -37,7 +37,7 @@ abbrev pub differs : Option (List ℕ) → List ℕ → Bool
 differs (Some told) found = not (bytes_eq told found)
 differs None found = false
 
--- the bytes of the file at a path have another digest than the one that is told
+-- the bytes of the file at a path have another digest than the one that is given
 abbrev pub is_wrong : Tree → Option (List ℕ) → List ℕ → Bool
 is_wrong host told path = differs told (sha256 (host.bytes path))
 

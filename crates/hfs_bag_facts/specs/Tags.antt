@@ -17,11 +17,11 @@ abbrev pub tag_text : Tree → List ℕ → List ℕ → List ℕ
 tag_text host source name =
     if leads_to_bag host source (host.target source) && is_file (host.look (entry_path source name)) then host.bytes (entry_path source name) else []
 
--- a line without the return that stands at its end where a program ends lines by two characters
+-- a line without the return that is at its end where a program ends lines by two characters
 abbrev pub without_return : List ℕ → List ℕ
 without_return line = if nat_le 1 (length line) && (slice_index line (length line - 1) == 13) then take (length line - 1) line else line
 
--- the plain text of the name of the disk that a source was taken of, where it is a bag and tells it
+-- the plain text of the name of the disk that a source was taken of, where it is a bag and says it
 abbrev pub name_told : Tree → List ℕ → Option (List ℕ)
 name_told host source =
     option_map without_return (first_value (codes "External-Identifier: ") (lines (tag_text host source (codes "bag-info.txt"))))

@@ -1,4 +1,4 @@
--- What bags tell of lock and dates of what lies in them, by paths on the host.
+-- What bags say about lock and dates of what lies in them, by paths on the host.
 use Rattle.std.specs.Prelude.{◌≡◌, ℕ, if◌then◌else◌, List, [], ◌++◌, Option, None, codes, bytes_eq, option_map, unwrap_or}
 use Rattle.csv.specs.Reading.{default_config, records, strip_bom}
 use Rattle.csv.specs.Records.{field_at}
@@ -17,22 +17,22 @@ facts_of row = record { locked = row.locked; dates = row.dates }
 abbrev pub path_field : List (List ℕ) → List ℕ
 path_field row = unwrap_or (field_at row 16) []
 
--- what a row tells of a path, where this stands before its own
+-- what a row says about a path, where this precedes its own
 abbrev pub told_by_row : List ℕ → List ℕ → List (List ℕ) → Option ToldFacts
 told_by_row front path row = if bytes_eq (front ++ path_field row) path then option_map facts_of (item_row row) else None
 
--- what a table tells of it, of which each record is a row, of however many fields
+-- what a table says about it, of which each record is a row, of however many fields
 abbrev pub told_by_table : List ℕ → List ℕ → List ℕ → Option ToldFacts
 told_by_table front text path = last_told (told_by_row front path) (records default_config (strip_bom text))
 
--- what the table of a source tells of it
+-- what the table of a source says of it
 abbrev pub told_by_source : Tree → List ℕ → List ℕ → Option ToldFacts
 told_by_source host path source = told_by_table (entry_path source (codes "data/")) (tag_text host source (codes "items.csv")) path
 
--- what those of all sources tell of it
+-- what those of all sources say of it
 abbrev pub told_by : Tree → List (List ℕ) → List ℕ → Option ToldFacts
 told_by host sources path = last_told (told_by_source host path) sources
 
--- these are the facts that the sources tell of any path
+-- these are the facts that the sources say about any path
 abbrev pub AreFactsOf : List (List ℕ) → Entries ToldFacts → Tree → Type 0
 AreFactsOf sources facts host = (path : List ℕ) → told_at facts path ≡ told_by host sources path

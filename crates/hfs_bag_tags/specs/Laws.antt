@@ -33,7 +33,7 @@ abbrev pub is_locked : ItemKind → Bool → Bool
 is_locked Folder locked = false
 is_locked File locked = locked
 
--- what is told of it
+-- what is said of it
 abbrev pub row_told : Info → ItemRow
 row_told info = record {
   kind = info.kind;
@@ -43,9 +43,9 @@ row_told info = record {
 
 -- the line of an item comes back
 pub record IsRowReadBack (names : List (List ℕ)) (info : Info) : Type 0 where
-  -- a reader of CSV parts it into these fields, whatever comes behind it
+  -- a reader of CSV parts it into these fields, whatever follows it
   pub parted : (rest : List ℕ) → next_record default_config state.StartRecord [] [] (bag_line names info ++ rest) ≡ Some (row_fields names info, state.AfterCr, 10 ∷ rest)
-  -- and goes on behind the line's end
+  -- and goes on after the line's end
   pub goes_on : (rest : List ℕ) → next_record default_config state.AfterCr [] [] (10 ∷ rest) ≡ next_record default_config state.StartRecord [] [] rest
   pub told : item_row (row_fields names info) ≡ Some (row_told info)
 
@@ -55,11 +55,11 @@ pub record IsRowReadBack (names : List (List ℕ)) (info : Info) : Type 0 where
 abbrev pub is_line : List ℕ → Bool
 is_line bytes = list_all (λ c. not (c == 10)) bytes
 
--- the plain text of a name, which a bag's description tells of the root, comes back from that
+-- the plain text of a name, which a bag's description says about the root, comes back from that
 abbrev pub IsNameReadBack : List ℕ → BagFacts → ℕ → ℕ → Type 0
 IsNameReadBack name facts bytes files = first_value (codes "External-Identifier: ") (lines (info_text facts bytes files)) ≡ Some (plain_text name)
 
--- digest and path of a file, whatever comes behind its line in the manifest
+-- digest and path of a file, whatever follows its line in the manifest
 pub record IsDigestReadBack (digest path rest : List ℕ) : Type 0 where
   pub line : List ℕ
   pub parted : lines (digest_line digest path ++ rest) ≡ line ∷ lines rest

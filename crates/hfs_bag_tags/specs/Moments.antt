@@ -1,4 +1,4 @@
--- Moments read back: the date that a text of the form YYYY-MM-DDThh:mm:ss tells, in seconds since midnight of 1 January 1904.
+-- Moments read back: the date that a text of the form YYYY-MM-DDThh:mm:ss says, in seconds since midnight of 1 January 1904.
 use Rattle.std.specs.Prelude.{ℕ, ◌+◌, ◌*◌, ◌-◌, Bool, ◌&&◌, ◌==◌, nat_le, nat_lt, if◌then◌else◌, List, [], ◌∷◌, length, slice_index, Option, Some, None}
 use Rattle.hfs_names.specs.Calendar.{days_before, is_leap_year, month_lengths}
 
@@ -7,12 +7,12 @@ use Rattle.hfs_names.specs.Calendar.{days_before, is_leap_year, month_lengths}
 abbrev pub is_digit : ℕ → Bool
 is_digit c = nat_le 48 c && nat_le c 57
 
--- the number that two decimal digits say, which stand at a place of a text; 100 where one of them is none
+-- the number that two decimal digits say, which are at a place of a text; 100 where one of them is none
 unfoldable pub two_at : ℕ → List ℕ → ℕ
 two_at place text =
     if is_digit (slice_index text place) && is_digit (slice_index text (place + 1)) then (slice_index text place - 48) * 10 + (slice_index text (place + 1) - 48) else 100
 
--- what stands between the digits: two hyphens, `T` and two colons
+-- what is between the digits: two hyphens, `T` and two colons
 unfoldable pub has_marks : List ℕ → Bool
 has_marks text =
     (slice_index text 4 == 45) && (slice_index text 7 == 45) && (slice_index text 10 == 84) && (slice_index text 13 == 58) && (slice_index text 16 == 58)
@@ -39,7 +39,7 @@ seconds_in text = two_at 11 text * 3600 + two_at 14 text * 60 + two_at 17 text
 unfoldable pub within : ℕ → Option ℕ
 within date = if nat_lt date 4294967296 then Some date else None
 
--- on a day, at the time that a text tells
+-- on a day, at the time that a text says
 abbrev pub date_on : List ℕ → Option ℕ → Option ℕ
 date_on text None = None
 date_on text (Some days) = within (days * 86400 + seconds_in text)

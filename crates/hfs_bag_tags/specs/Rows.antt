@@ -1,4 +1,4 @@
--- Rows of a bag's table of items, by their fields: what is told of an item.
+-- Rows of a bag's table of items, by their fields: what is said about an item.
 use Rattle.std.specs.Prelude.{ℕ, Bool, true, false, ◌==◌, if◌then◌else◌, List, length, Option, Some, None, codes, bytes_eq}
 use Rattle.std.specs.Option.{option_and_then, option_map, option_zip}
 use Rattle.csv.specs.Records.{field_at}
@@ -38,6 +38,6 @@ abbrev pub row_of : ItemKind → List (List ℕ) → Option ItemRow
 row_of kind fields =
     option_map (λ (found : Bool × FileDates). record { kind = kind; locked = found.0; dates = found.1 }) (option_zip (lock_at kind fields) (dates_at fields))
 
--- what 17 fields tell of their item; nothing where one that is read isn't as such a field is
+-- what 17 fields say about their item; nothing where one that is read isn't as such a field is
 unfoldable pub item_row : List (List ℕ) → Option ItemRow
 item_row fields = if length fields == 17 then option_and_then (λ kind. row_of kind fields) (kind_at fields) else None

@@ -17,6 +17,6 @@ leaf_after g bytes key = after g.compare key (pairs_of g bytes)
 abbrev pub leaf_first : {K : Type 0} → Ghosts K → List ℕ → Option (K × List ℕ)
 leaf_first g bytes = first_pair (pairs_of g bytes)
 
--- from this place on stand the pairs whose keys aren't below the key
+-- from this place on are the pairs whose keys aren't below the key
 abbrev pub IsPlaceFrom : {K : Type 0} → Ghosts K → List ℕ → K → ℕ → Type 0
 IsPlaceFrom g bytes key place = drop place (pairs_of g bytes) ≡ pairs_from g.compare key (pairs_of g bytes)

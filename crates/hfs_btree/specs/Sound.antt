@@ -12,7 +12,7 @@ use Rattle.hfs_btree.specs.Header.{header_in, record_in, map_nodes, own_nodes, m
 abbrev pub IsOther : ℕ → ℕ → Type 0
 IsOther m n = n ≢ m
 
--- no number stands twice
+-- no number is there twice
 abbrev pub IsDistinct : List ℕ → Type 0
 IsDistinct [] = ⊤
 IsDistinct (n ∷ ns) = Each (IsOther n) ns × IsDistinct ns
@@ -66,7 +66,7 @@ pub record IsRight {K : Type 0} (g : Ghosts K) (nodes : Store) (spot : Spot) : T
   pub whole : Each (λ entry. reads_at g spot.above entry ≡ true) value.records
   pub marked : IsMarked nodes spot.n
 
--- each node of the levels is right, none stands twice, and none is a header or map node
+-- each node of the levels is right, none is there twice, and none is a header or map node
 pub record HasLevels {K : Type 0} (g : Ghosts K) (nodes : Store) : Type 0 where
   pub each : Each (IsRight g nodes) (tree_turn g nodes)
   pub different : IsDistinct (own_nodes nodes ++ tree_nodes g nodes)
@@ -77,7 +77,7 @@ pub record HasEnds {K : Type 0} (g : Ghosts K) (nodes : Store) : Type 0 where
   pub last : (header_in nodes).last_leaf ≡ last_of (leaves g nodes)
   pub empty : depth_of nodes ≡ 0 → (header_in nodes).root ≡ 0
 
--- a tree's shape, but for the two numbers that `HasCounts` is about
+-- a tree's shape, except for the two numbers that `HasCounts` is about
 pub record HasStructure {K : Type 0} (g : Ghosts K) (nodes : Store) : Type 0 where
   pub header : HasHeader g nodes
   pub map : HasMap nodes

@@ -45,7 +45,7 @@ pairs g nodes n = map (pair_of g) (records_in nodes n)
 abbrev pub children : {K : Type 0} → Ghosts K → Store → ℕ → List ℕ
 children g nodes n = map g.child (records_in nodes n)
 
--- the level that stands k below this one: each next level is the children of the one above it, in order
+-- the level that is k below this one: each next level is the children of the one above it, in order
 abbrev pub level_below : {K : Type 0} → Ghosts K → Store → ℕ → List ℕ → List ℕ
 level_below g nodes zero ns = ns
 level_below g nodes (suc k) ns = level_below g nodes k (flat_map (children g nodes) ns)
@@ -71,7 +71,7 @@ last_of [] = 0
 last_of (n ∷ []) = n
 last_of (n ∷ m ∷ ns) = last_of (m ∷ ns)
 
--- the nodes of a level in turn, where `left` stands before them
+-- the nodes of a level in turn, where `left` precedes them
 abbrev pub spots : ℕ → ℕ → List ℕ → List Spot
 spots above left [] = []
 spots above left (n ∷ ns) = record { left = left; n = n; right = first_of ns; above = above } ∷ spots above n ns
@@ -81,7 +81,7 @@ abbrev pub turn : {K : Type 0} → Ghosts K → Store → ℕ → List ℕ → L
 turn g nodes zero ns = []
 turn g nodes (suc k) ns = spots k 0 ns ++ turn g nodes k (flat_map (children g nodes) ns)
 
--- the pairs under a node that stands so many levels above the leaves
+-- the pairs under a node that is so many levels above the leaves
 abbrev pub under : {K : Type 0} → Ghosts K → Store → ℕ → ℕ → Pairs K
 under g nodes zero n = pairs g nodes n
 under g nodes (suc k) n = flat_map (under g nodes k) (children g nodes n)

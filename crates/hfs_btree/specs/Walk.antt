@@ -12,11 +12,11 @@ abbrev pub pairs_along : {K : Type 0} → Ghosts K → Store → ℕ → ℕ →
 pairs_along g nodes zero n = []
 pairs_along g nodes (suc most) n = if n == 0 then [] else pairs g nodes n ++ pairs_along g nodes most (forward_of (node_in nodes n))
 
--- the pairs of a leaf from a place on, and those of the leaves behind it
+-- the pairs of a leaf from a place on, and those of the leaves after it
 abbrev pub rest_at : {K : Type 0} → Ghosts K → Store → List ℕ → ℕ → ℕ → Pairs K
 rest_at g nodes bytes place most = drop place (map (pair_of g) (records_of (node_of bytes))) ++ pairs_along g nodes most (forward_of (node_of bytes))
 
--- the bytes are those of a leaf, the place is one of its records or behind its last, and at most so many leaves are behind it
+-- the bytes are those of a leaf, the place is one of its records or after its last, and at most so many leaves are after it
 pub record IsAtLeaf {K : Type 0} (g : Ghosts K) (nodes : Store) (bytes : List ℕ) (place most : ℕ) : Type 0 where
   pub n : ℕ
   pub before : List ℕ
@@ -26,7 +26,7 @@ pub record IsAtLeaf {K : Type 0} (g : Ghosts K) (nodes : Store) (bytes : List �
   pub within : place ≤ length (records_of (node_of bytes))
   pub few : length behind ≤ most
 
--- there is no record from the place on, and no leaf behind
+-- there is no record from the place on, and no leaf after
 pub record IsPastEnd (bytes : List ℕ) (place : ℕ) : Type 0 where
   pub past : length (records_of (node_of bytes)) ≤ place
   pub last : forward_of (node_of bytes) ≡ 0

@@ -36,7 +36,7 @@ AddsAllKeys g nodes level old new = new.items ≡ old.items ++ flat_map (λ n. m
 abbrev pub AddsChildren : {K : Type 0} → Ghosts K → Store → ℕ → Vec ℕ Global → Vec ℕ Global → Type 0
 AddsChildren g nodes n old new = new.items ≡ old.items ++ children g nodes n
 
--- the children of node n are added, if it stands above the leaves
+-- the children of node n are added, if it is above the leaves
 abbrev pub AddsBelow : {K : Type 0} → Ghosts K → Store → ℕ → ℕ → Vec ℕ Global → Vec ℕ Global → Type 0
 AddsBelow g nodes above n old new = 0 < above → new.items ≡ old.items ++ children g nodes n
 
@@ -44,6 +44,6 @@ AddsBelow g nodes above n old new = 0 < above → new.items ≡ old.items ++ chi
 abbrev pub IsNextLevel : {K : Type 0} → Ghosts K → Store → List ℕ → Vec ℕ Global → Type 0
 IsNextLevel g nodes level = λ next. next.items ≡ flat_map (children g nodes) level
 
--- the level below one that stands above the leaves
+-- the level below one that is above the leaves
 abbrev pub IsLevelBelow : {K : Type 0} → Ghosts K → Store → ℕ → List ℕ → Vec ℕ Global → Type 0
 IsLevelBelow g nodes above level = λ next. 0 < above → next.items ≡ flat_map (children g nodes) level

@@ -1,4 +1,4 @@
--- What it says of a tree that it has no fault.
+-- What it says about a tree that it has no fault.
 use Rattle.std.specs.Prelude.{◌≡◌, ℕ, ◌↔◌, None}
 use Rattle.hfs_btree.specs.declared.key.Key.{Ghosts}
 use Rattle.hfs_btree.specs.Tree.{Store}

@@ -58,14 +58,14 @@ is_keyed g nodes spot = are_keys_in_order g nodes spot.above spot.n
 unfoldable pub index_order_fault : {K : Type 0} → Ghosts K → Store → Option ℕ
 index_order_fault g nodes = first_node (is_keyed g nodes) (tree_turn g nodes)
 
--- the first node of the level that index keys of node n lead to, whose own are not in order: n stands so many levels
--- above the leaves, and that level stands `at` levels above them
+-- the first node of the level that index keys of node n lead to, whose own are not in order: n is so many levels
+-- above the leaves, and that level is `at` levels above them
 abbrev pub first_unkeyed : {K : Type 0} → Ghosts K → Store → ℕ → ℕ → ℕ → Option ℕ
 first_unkeyed g nodes n above at = first_node (is_keyed g nodes) (spots at 0 (level_below g nodes (above - at) (n ∷ [])))
 
 -- ---- order
 
--- the first node of the levels, in their turn, whose keys are not in order: the index nodes stand before all leaves
+-- the first node of the levels, in their turn, whose keys are not in order: the index nodes precede all leaves
 unfoldable pub order_fault : {K : Type 0} → Ghosts K → Store → Option ℕ
 order_fault g nodes = index_order_fault g nodes or_else leaf_order_fault g nodes
 

@@ -144,7 +144,7 @@ has_counts g nodes = ((header_in nodes).records == length (tree_content g nodes)
 
 -- ---- the first fault
 
--- the first fault of a tree in a file of so many bytes, but for the two counts
+-- the first fault of a tree in a file of so many bytes, except for the two counts
 unfoldable pub structure_fault : {K : Type 0} → Ghosts K → ℕ → Store → Option ℕ
 structure_fault g size nodes = unless (has_header g size nodes) or_else unless (has_map nodes) or_else levels_fault g nodes or_else unless (has_ends g nodes)
 

@@ -93,11 +93,11 @@ record_count nodes n = length (records_in nodes n)
 abbrev pub count_within : Store → List ℕ → ℕ
 count_within nodes ns = min (sum_by (λ n. length (records_in nodes n)) ns) (2 ^ 64 - 1)
 
--- the answer names the first fault of a level, whatever is behind it, or memory was refused
+-- the answer names the first fault of a level, whatever is after it, or memory was refused
 abbrev pub IsLevelFault : {K : Type 0} → Ghosts K → Store → Vec Bool Global → ℕ → List ℕ → TreeFault → Type 0
 IsLevelFault g nodes met above level = λ e. (rest : List Spot) → IsFault (turn_fault g nodes (is_met met.items) (spots above 0 level ++ rest)) e
 
--- a level has no fault: what is behind it has the first one, with the level's nodes met
+-- a level has no fault: what is after it has the first one, with the level's nodes met
 abbrev pub PassesLevel : {K : Type 0} → Ghosts K → Store → ℕ → List ℕ → Vec Bool Global → Vec Bool Global → Type 0
 PassesLevel g nodes above level old new =
     (rest : List Spot) → turn_fault g nodes (is_met old.items) (spots above 0 level ++ rest) ≡ turn_fault g nodes (is_met new.items) rest

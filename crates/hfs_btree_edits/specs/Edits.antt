@@ -45,8 +45,8 @@ IsAboveFirst cmp key (p ∷ ps) = cmp p.0 key ≡ Less
 
 -- ---- what all edits keep
 
--- A sound tree, exact where it was, with its frame; a node that comes is taken from the free ones, and one that goes is given back to
--- them. Beside the header node, the map nodes and the nodes of the old and the new levels, no node of the file has changed.
+-- A sound tree, exact where it was, with its frame; a node that is added is taken from the free ones, and one that is removed is given back to
+-- them. Besides the header node, the map nodes and the nodes of the old and the new levels, no node of the file has changed.
 pub record KeepsTree {K : Type 0} (g : Ghosts K) (old new : Store) : Type 0 where
   pub sound : IsSound g new
   pub exact : IsExact g old → IsExact g new
@@ -56,11 +56,11 @@ pub record KeepsTree {K : Type 0} (g : Ghosts K) (old new : Store) : Type 0 wher
 
 -- ---- levels, counted from the leaves
 
--- the nodes that stand k levels above the leaves
+-- the nodes that are k levels above the leaves
 abbrev pub level_above : {K : Type 0} → Ghosts K → Store → ℕ → List ℕ
 level_above g nodes k = level_below g nodes (depth_of nodes - 1 - k) (root_level nodes)
 
--- that one of them where the search for a key comes by
+-- that one of them where the search for a key passes
 abbrev pub node_for : {K : Type 0} → Ghosts K → Store → K → ℕ → ℕ
 node_for g nodes key k = leaf_under g nodes key (depth_of nodes - 1 - k) (header_in nodes).root
 
@@ -75,11 +75,11 @@ IsFullFor nodes len n = 496 < size_of (records_in nodes n) + (len + 2)
 
 -- ---- insertion
 
--- the level that stands so many levels above the leaves has got a node
+-- the level that is so many levels above the leaves has got a node
 abbrev pub GetsNode : {K : Type 0} → Ghosts K → Store → Store → ℕ → Type 0
 GetsNode g old new k = length (level_above g old k) < length (level_above g new k)
 
--- A level of the old tree has as many nodes as before, or one more where its node on the way to the key had no room for what came to
+-- A level of the old tree has as many nodes as before, or one more where its node on the way to the key had no room for what was added to
 -- it: in the leaves the pair, above them the index record of a node that the level below has got.
 pub record HasGrown {K : Type 0} (g : Ghosts K) (key : K) (body : List ℕ) (old new : Store) (k : ℕ) : Type 0 where
   pub least : length (level_above g old k) ≤ length (level_above g new k)
@@ -116,7 +116,7 @@ pub record HasRemoved {K : Type 0} (g : Ghosts K) (key : K) (old new : Store) : 
 
 -- ---- replacement
 
--- The pair stands in the place of the one with its key; the tree has as many nodes and levels as before. The leaf where the search
+-- The pair takes the place of the one with its key; the tree has as many nodes and levels as before. The leaf where the search
 -- for the key ends was written, with zeros where it has nothing, and no other node.
 pub record HasReplaced {K : Type 0} (g : Ghosts K) (key : K) (body : List ℕ) (old new : Store) : Type 0 where
   pub keeps : KeepsTree g old new

@@ -4,7 +4,7 @@ use Rattle.hfs_blocks.specs.Layers.{Changes}
 use Rattle.hfs_scans.specs.Each.{Each}
 use Rattle.hfs_btree.specs.Sound.{IsOther, IsDistinct}
 
--- ---- that no number stands twice is a proposition
+-- ---- that no number is there twice is a proposition
 
 other-prop : (m k : ℕ) (x y : IsOther m k) → x ≡ y
 other-prop m k x y i e = none (x e) (y e) i
@@ -20,14 +20,14 @@ pub distinct-prop : (ns : List ℕ) (x y : IsDistinct ns) → x ≡ y
 distinct-prop [] x y i = tt
 distinct-prop (n ∷ ns) x y i = (each-prop n ns x.0 y.0 i, distinct-prop ns x.1 y.1 i)
 
--- ---- blocks beside
+-- ---- blocks besides
 
 -- whether the number is one of these
 abbrev pub is_one_of : List ℕ → ℕ → Bool
 is_one_of [] n = false
 is_one_of (m ∷ ms) n = nat_eq m n || is_one_of ms n
 
--- the blocks, but for those of these numbers
+-- the blocks, except for those of these numbers
 abbrev pub beside : List ℕ → (ℕ → List ℕ) → ℕ → List ℕ
 beside numbers blocks n = if is_one_of numbers n then [] else blocks n
 

@@ -14,7 +14,7 @@ InsertionsTakeFewNodes K g =
     (key : K) (body : List ℕ) (old new : Store) → HasInserted g key body old new
     → (free_nodes old ≤ free_nodes new + depth_of old + 1) × (depth_of new ≡ depth_of old → free_nodes old ≤ free_nodes new + depth_of old)
 
--- an edit leaves alone what stands in the file behind the tree's nodes
+-- an edit leaves alone what is in the file after the tree's nodes
 abbrev pub EditsKeepTheRest : (K : Type 0) → Ghosts K → Type 0
 EditsKeepTheRest K g = (old new : Store) → IsSound g old → KeepsTree g old new → (n : ℕ) → (header_in old).nodes ≤ n → bytes_in new n ≡ bytes_in old n
 

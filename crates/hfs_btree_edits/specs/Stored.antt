@@ -66,9 +66,9 @@ pub record KeepsHead (old new : Store) : Type 0 where
   pub map : map_nodes new ≡ map_nodes old
   pub bytes : map_bytes new ≡ map_bytes old
 
--- ---- nodes that come and go
+-- ---- nodes that are added and freed
 
--- a free node was marked as in use, so that it is a stray one; the tree is the same, and beside header and map nothing has changed
+-- a free node was marked as in use, so that it is a stray one; the tree is the same, and besides header and map nothing has changed
 pub record HasClaimed {K : Type 0} (g : Ghosts K) (n : ℕ) (old new : Store) : Type 0 where
   pub sound : IsSound g new
   pub exact : IsExact g old → IsExact g new
@@ -85,7 +85,7 @@ pub record HasClaimed {K : Type 0} (g : Ghosts K) (n : ℕ) (old new : Store) : 
   pub strays : (m : ℕ) → m ≢ n → IsStray g new m ↔ IsStray g old m
   pub bytes : (m : ℕ) → Each (IsOther m) (own_nodes old) → bytes_in new m ≡ bytes_in old m
 
--- node n was a stray one; its mark is clear, its bytes are zeros, and one more node is counted as free; beside header, map and
+-- node n was a stray one; its mark is clear, its bytes are zeros, and one more node is counted as free; besides header, map and
 -- node n nothing has changed
 pub record IsReleased {K : Type 0} (g : Ghosts K) (n : ℕ) (old new : Store) : Type 0 where
   pub len : length new ≡ length old

@@ -22,7 +22,7 @@ pub record IsBehindLeaf {K : Type 0} (g : Ghosts K) (nodes : Store) (key : K) (l
   pub above : IsAboveLeaf g nodes key
   pub full : IsLeafFull g nodes key len
 
--- leaf m, which stands behind leaf n, has this one record
+-- leaf m, which follows leaf n, has this one record
 pub record HasBehind (n m : ℕ) (entry : List ℕ) (old new : Store) : Type 0 where
   pub node : Node
   pub was : node_in old n ≡ Ok node
@@ -32,7 +32,7 @@ pub record HasBehind (n m : ℕ) (entry : List ℕ) (old new : Store) : Type 0 w
   pub second : HasStored m (record node { backward = n; records = entry ∷ [] }) cut both
   pub linked : HasLinked node.forward m true both new
 
--- so it does behind the leaf that record q of node p names; a record with the key behind that one names it, and one more is counted
+-- so it does after the leaf that record q of node p names; a record with the key after that one names it, and one more is counted
 pub record HasBegunAt {K : Type 0} (g : Ghosts K) (key : K) (entry : List ℕ) (p q m : ℕ) (old new : Store) : Type 0 where
   pub i : ℕ
   pub parts : IsParted g old new i 0 p (child_at g old p q) m q (records_in old (child_at g old p q)) (entry ∷ [])
@@ -41,7 +41,7 @@ pub record HasBegunAt {K : Type 0} (g : Ghosts K) (key : K) (entry : List ℕ) (
   pub header : HasHeader g new
   pub map : HasMap new
 
--- the pair stands in a leaf that is new; the levels above the leaves are the same
+-- the pair is in a leaf that is new; the levels above the leaves are the same
 pub record HasLeafBegun {K : Type 0} (g : Ghosts K) (key : K) (body : List ℕ) (old new : Store) : Type 0 where
   pub keeps : KeepsTree g old new
   pub others : NodesStay g old new
@@ -51,6 +51,6 @@ pub record HasLeafBegun {K : Type 0} (g : Ghosts K) (key : K) (body : List ℕ) 
   pub levels : (k : ℕ) → 0 < k → k < depth_of old → level_above g new k ≡ level_above g old k
   pub grown : length (level_above g new 0) ≡ length (level_above g old 0) + 1
 
--- the pair of this leaf record stands in a leaf that is new
+-- the pair of this leaf record is in a leaf that is new
 abbrev pub HasEntryBegun : {K : Type 0} → Ghosts K → K → List ℕ → Store → Store → Type 0
 HasEntryBegun g key entry old new = HasLeafBegun g key (drop (g.body_start entry) entry) old new

@@ -11,7 +11,7 @@ use Rattle.hfs_btree.specs.Sound.{IsStray, IsSound}
 use Rattle.hfs_btree_edits.specs.Stored.{KeepsHead, bytes_in}
 use Rattle.hfs_btree_edits.specs.LevelParts.{lift, entry_key}
 
--- Node p, which stands suc k levels above the leaves, names node n in its record q, and m is a stray node that is to stand behind n.
+-- Node p, which is suc k levels above the leaves, names node n in its record q, and m is a stray node that is to follow n.
 pub record IsCut {K : Type 0} (g : Ghosts K) (old : Store) (i k p n m q : ℕ) : Type 0 where
   pub deep : depth_of old ≡ suc (lift i (suc k))
   pub before : List ℕ
@@ -25,8 +25,8 @@ pub record IsCut {K : Type 0} (g : Ghosts K) (old : Store) (i k p n m q : ℕ) :
   pub was_above : node_in old p ≡ Ok above
   pub was_node : node_in old n ≡ Ok node
 
--- Node n has the records xs, and node m, which stands behind it, the records ys; above the leaves these are those that n had. A record
--- behind the one that names n names m. What the header record tells of the levels is right.
+-- Node n has the records xs, and node m, which follows it, the records ys; above the leaves these are those that n had. A record
+-- after the one that names n names m. What the header record says about the levels is right.
 pub record IsParted {K : Type 0} (g : Ghosts K) (old new : Store) (i k p n m q : ℕ) (xs ys : List (List ℕ)) : Type 0 where
   pub cut : IsCut g old i k p n m q
   pub entry : List ℕ
@@ -51,7 +51,7 @@ pub record IsParted {K : Type 0} (g : Ghosts K) (old new : Store) (i k p n m q :
   pub free : (header_in new).free_nodes ≡ (header_in old).free_nodes
   pub head : KeepsHead old new
 
--- The records of node n from place c on went to node m, and a record behind the one that names n names m, with the key of record c.
+-- The records of node n from place c on went to node m, and a record after the one that names n names m, with the key of record c.
 pub record IsSplit {K : Type 0} (g : Ghosts K) (old new : Store) (i k p n m q c : ℕ) : Type 0 where
   pub parts : IsParted g old new i k p n m q (take c (records_in old n)) (drop c (records_in old n))
   pub some : 0 < c
@@ -59,7 +59,7 @@ pub record IsSplit {K : Type 0} (g : Ghosts K) (old new : Store) (i k p n m q c 
   pub keyed : g.index_key parts.entry ≡ entry_key g k (slice_index_or (records_in old n) c [])
   pub records : (header_in new).records ≡ (header_in old).records
 
--- node p stands suc k levels above the leaves, and has a record q
+-- node p is suc k levels above the leaves, and has a record q
 pub record IsBranch {K : Type 0} (g : Ghosts K) (nodes : Store) (k p q : ℕ) : Type 0 where
   pub i : ℕ
   pub deep : depth_of nodes ≡ suc (lift i (suc k))
@@ -76,7 +76,7 @@ child_at g nodes p q = g.child (slice_index_or (records_in nodes p) q [])
 abbrev pub LeaveRoom : List (List ℕ) → ℕ → Type 0
 LeaveRoom records len = size_of records + (len + 2) ≤ 496
 
--- Node n, which stands k levels above the leaves, is cut at its record c so that the part on the way to the key has room for one more
+-- Node n, which is k levels above the leaves, is cut at its record c so that the part on the way to the key has room for one more
 -- record of so many bytes: the second part has, and where record c's key is above the key, the first.
 pub record IsRoomyCut {K : Type 0} (g : Ghosts K) (nodes : Store) (key : K) (k n c len : ℕ) : Type 0 where
   pub first : is_gt (g.compare (entry_key g k (record_in nodes n c)) key) ≡ true → LeaveRoom (take c (records_in nodes n)) len

@@ -15,7 +15,7 @@ use Rattle.hfs_btree_edits.specs.KeptKeys.{tree_keys, EachKey}
 
 -- ---- room
 
--- how many bytes a record has that comes to a level: in a leaf so many, above the leaves an index record's
+-- how many bytes a record has that is added to a level: in a leaf so many, above the leaves an index record's
 abbrev pub len_at : {K : Type 0} → Ghosts K → ℕ → ℕ → ℕ
 len_at g len zero = len
 len_at g len (suc k) = g.INDEX_KEY_LEN + 5
@@ -36,7 +36,7 @@ IsLow g nodes key = (j : ℕ) → suc j < depth_of nodes → 0 < prefix_len (is_
 
 -- ---- levels
 
--- counted from the leaves the levels are the same, and the way to any key comes by the same nodes, with the same records
+-- counted from the leaves the levels are the same, and the way to any key goes by the same nodes, with the same records
 pub record KeepsLevels {K : Type 0} (g : Ghosts K) (old new : Store) : Type 0 where
   pub levels : (k : ℕ) → k < depth_of old → level_above g new k ≡ level_above g old k
   pub way : (key : K) (k : ℕ) → k < depth_of old → node_for g new key k ≡ node_for g old key k
@@ -53,7 +53,7 @@ KeysStay g old new = EachKey g (λ k. In k (tree_keys g old)) new
 
 -- ---- the steps
 
--- a new root with one record stands above the levels, which are the same
+-- a new root with one record is above the levels, which are the same
 pub record HasRaised {K : Type 0} (g : Ghosts K) (old new : Store) : Type 0 where
   pub keeps : KeepsTree g old new
   pub others : NodesStay g old new

@@ -27,7 +27,7 @@ pub record HasLowFirst {K : Type 0} (g : Ghosts K) (n : ℕ) (key : K) (old new 
   pub lowered : is_gt (g.compare (g.index_key (record_in old n 0)) key) ≡ true → HasFirstKey g n key old new
   pub same : is_gt (g.compare (g.index_key (record_in old n 0)) key) ≡ false → new ≡ old
 
--- No index node on the way to the key that stands higher above the leaves than so many levels has all of its keys above the key:
+-- No index node on the way to the key that is higher above the leaves than so many levels has all of its keys above the key:
 -- where that was so, the node's first key is the key. Content, levels and the way are the same.
 pub record HasLowered {K : Type 0} (g : Ghosts K) (key : K) (above : ℕ) (old new : Store) : Type 0 where
   pub keeps : KeepsTree g old new

@@ -21,7 +21,7 @@ pub record IsRootAbove {K : Type 0} (g : Ghosts K) (nodes : Store) (node : Node)
   pub height : node.height ≡ depth_of nodes + 1
   pub one : node.records ≡ entry ∷ []
 
--- node m, which was a stray one, is the root, and its one record names the old root, which stands d levels above the leaves
+-- node m, which was a stray one, is the root, and its one record names the old root, which is d levels above the leaves
 pub record IsRaised {K : Type 0} (g : Ghosts K) (old new : Store) (d m : ℕ) : Type 0 where
   pub deep : depth_of old ≡ suc d
   pub stray : IsStray g old m

@@ -16,8 +16,8 @@ pub record HasGrownFor {K : Type 0} (g : Ghosts K) (key : K) (len a : ℕ) (old 
   pub full : GetsNode g old new k → IsFullFor old (len_at g len k) (node_for g old key k)
   pub below : (j : ℕ) → a ≤ j → suc j ≡ k → GetsNode g old new k → GetsNode g old new j
 
--- The node on the way to the key that stands a levels above the leaves has room for what comes to it, where a record of so many bytes
--- comes to the leaf; the levels below it, and the content, are the same.
+-- The node on the way to the key that is a levels above the leaves has room for what is added to it, where a record of so many bytes
+-- is added to the leaf; the levels below it, and the content, are the same.
 pub record HasMadeRoom {K : Type 0} (g : Ghosts K) (key : K) (len a : ℕ) (old new : Store) : Type 0 where
   pub keeps : KeepsTree g old new
   pub others : NodesStay g old new
@@ -34,7 +34,7 @@ pub record HasMadeRoom {K : Type 0} (g : Ghosts K) (key : K) (len a : ℕ) (old 
   pub room : HasRoom new (len_at g len a) (node_for g new key a)
   pub records : (k : ℕ) → k < a → k < depth_of old → records_in new (node_for g new key k) ≡ records_in old (node_for g old key k)
 
--- no index node on the way to the key that stands higher above the leaves than so many levels has all of its keys above the key
+-- no index node on the way to the key that is higher above the leaves than so many levels has all of its keys above the key
 abbrev pub IsLowAbove : {K : Type 0} → Ghosts K → Store → K → ℕ → Type 0
 IsLowAbove g nodes key above = (k : ℕ) → above < k → k < depth_of nodes → 0 < prefix_len (is_not_above g key) (records_in nodes (node_for g nodes key k))
 

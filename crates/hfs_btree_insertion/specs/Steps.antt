@@ -15,7 +15,7 @@ pub record AreCuttable {K : Type 0} (g : Ghosts K) (nodes : Store) (key : K) (fu
   pub room : 0 < full → HasRoom nodes (g.INDEX_KEY_LEN + 5) (node_for g nodes key full)
 
 -- On each level from a on below full the node on the way to the key was cut in two, and the last of these on the way has room for
--- what comes to it; the others are the same.
+-- what is added to it; the others are the same.
 pub record HasCutDown {K : Type 0} (g : Ghosts K) (key : K) (len a full : ℕ) (old new : Store) : Type 0 where
   pub keeps : KeepsTree g old new
   pub others : NodesStay g old new

@@ -10,7 +10,7 @@ use Rattle.hfs_btree.specs.Sound.{IsOther, IsSound, IsExact, KeepsFrame}
 use Rattle.hfs_btree_edits.specs.KeptKeys.{EachKey, IsKeyOr}
 use Rattle.hfs_btree_edits.specs.Stored.{HasStored, HasHeaderPut, HasBackward, KeepsHead, bytes_in}
 
--- What stands behind a new node n of a level is linked back to it; where that is nothing, and the level is that of the leaves,
+-- What follows a new node n of a level is linked back to it; where that is nothing, and the level is that of the leaves,
 -- the header record names n as the last leaf.
 pub record HasLinked (right n : ℕ) (leaves : Bool) (old new : Store) : Type 0 where
   pub next : right ≢ 0 → HasBackward right n old new
@@ -24,7 +24,7 @@ pub record HasRecordPut (n place : ℕ) (entry : List ℕ) (old new : Store) : T
   pub stored : HasStored n (record node { records = insert node.records place entry }) old new
 
 -- The pair was put in its place, and no node was taken for it; each key of the new tree is its key or one of the old tree. An exact
--- tree stays exact where the key is above the least. Beside the header node, the map nodes and those of the levels no node has changed.
+-- tree stays exact where the key is above the least. Besides the header node, the map nodes and those of the levels no node has changed.
 pub record HasPut {K : Type 0} (g : Ghosts K) (key : K) (body : List ℕ) (old new : Store) : Type 0 where
   pub sound : IsSound g new
   pub exact : IsAboveFirst g.compare key (tree_content g old) → IsExact g old → IsExact g new

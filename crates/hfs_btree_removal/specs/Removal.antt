@@ -27,7 +27,7 @@ pub record KeepsSound {K : Type 0} (g : Ghosts K) (old new : Store) : Type 0 whe
   pub frame : KeepsFrame g old new
   pub free : free_nodes new + length (tree_nodes g new) ≡ free_nodes old + length (tree_nodes g old)
 
--- The tree has got no key and no node. Nodes that have left its levels are zeros, and beside header node, map nodes and levels no
+-- The tree has got no key and no node. Nodes that have left its levels are zeros, and besides header node, map nodes and levels no
 -- node of the file has changed.
 pub record GainsNothing {K : Type 0} (g : Ghosts K) (old new : Store) : Type 0 where
   pub keys : EachKey g (λ k. In k (tree_keys g old)) new
@@ -167,7 +167,7 @@ pub record IsPassedUp {K : Type 0} (g : Ghosts K) (t : K) (steps : List Step) (o
   pub firsts : AreBehindFirst told
   pub ended : IsEnded above told
 
--- a first key that has changed was told to these steps, and one that hasn't was not
+-- a first key that has changed was given to these steps, and one that hasn't was not
 abbrev pub HasToldAbove : {K : Type 0} → Ghosts K → Option K → List Step → Store → Store → Type 0
 HasToldAbove g None steps old new = new ≡ old
 HasToldAbove g (Some t) steps old new = IsPassedUp g t steps old new
@@ -283,7 +283,7 @@ HasStepKey g s t old new = HasKeySet g s.node s.place t old new
 abbrev pub root_count : Store → ℕ
 root_count nodes = length (records_in nodes (header_in nodes).root)
 
--- a root that stands above the leaves has more than one child
+-- a root that is above the leaves has more than one child
 abbrev pub RootBranches : Store → Type 0
 RootBranches nodes = 2 ≤ depth_of nodes → 2 ≤ root_count nodes
 

@@ -8,7 +8,7 @@ use Rattle.hfs_btree.specs.Tree.{Store, records_in, records_of}
 use Rattle.hfs_node.specs.Node.{node_of}
 use Rattle.hfs_btree.specs.Header.{header_in, depth_of}
 
--- the step is at this node, and tells how many records it has and one of them
+-- the step is at this node, and says how many records it has and one of them
 pub record IsStep (nodes : Store) (n : ℕ) (s : Step) : Type 0 where
   pub node : s.node ≡ n
   pub count : s.count ≡ length (records_in nodes n)

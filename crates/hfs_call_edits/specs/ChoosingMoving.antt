@@ -26,7 +26,7 @@ use Rattle.hfs_catalog.specs.Tree.{catalog_of}
 
 -- ---- offspring, upwards
 
--- whether up stands at most n parents above the folder id
+-- whether up is at most n parents above the folder id
 abbrev pub up_by_folders : Catalog → ℕ → ℕ → ℕ → Bool
 up_by_folders catalog zero id up = id == up
 up_by_folders catalog (suc n) id up = (id == up) || option_map_or (λ (r : Record). up_by_folders catalog n r.0.parent up) (folder_with catalog id) false
@@ -37,7 +37,7 @@ most_steps mdb = mdb.files + mdb.folders + 1
 
 -- ---- the choice by records
 
--- where a folder stands, and the number of its children
+-- where a folder is, and the number of its children
 abbrev pub place_of : Record → FolderPlace
 place_of r = record { key = r.0; valence = (dir_record_of r.1).valence }
 

@@ -71,13 +71,13 @@ pub record IsRenameRefused (old : Blocks) (dir : ℕ) (name new_name : List ℕ)
 abbrev pub ChoosesRenaming : Blocks → ℕ → List ℕ → List ℕ → Result Rekeying ℤ → Type 0
 ChoosesRenaming old dir name new_name result = MatchResult result (λ item. IsRenaming old dir name new_name item) (λ code. IsRenameRefused old dir name new_name code)
 
--- ---- want of nodes
+-- ---- lack of nodes
 
--- to another case of its name an item comes without any
+-- the nodes that a new name may need: none where only the case of letters differs
 abbrev pub nodes_for_name : List ℕ → List ℕ → ℕ → ℕ
 nodes_for_name name new_name depth = if same_name name new_name then 0 else one_record depth
 
--- to a name that differs in more than case it comes where these nodes have room for one more record
+-- if the new name differs in more than case, these nodes have room for one more record
 abbrev pub HasRoomForName : List ℕ → List ℕ → Store → Type 0
 HasRoomForName name new_name nodes = same_name name new_name ≡ false → HasRoom nodes
 
@@ -85,7 +85,7 @@ HasRoomForName name new_name nodes = same_name name new_name ≡ false → HasRo
 abbrev pub chosen_renaming : Mdb → Store → ℕ → List ℕ → List ℕ → Result Rekeying ℤ
 chosen_renaming mdb nodes dir name new_name = map_ok (renaming new_name) (item_to_rename mdb (catalog_of nodes) dir name new_name)
 
--- what refuses a new name in a volume of these blocks for want of nodes
+-- what refuses a new name in a volume of these blocks for lack of nodes
 abbrev pub lacking_for_name : List ℕ → List ℕ → Blocks → Option Refusal
 lacking_for_name name new_name blocks = lacking (nodes_for_name name new_name) (catalog_nodes blocks)
 

@@ -63,13 +63,13 @@ IsThreadlessIn blocks file = IsThreadless (catalog_in blocks) file.0 file.1
 
 -- ---- choices
 
--- a call chooses the file with this key and this record, which stands there under an item name
+-- a call chooses the file with this key and this record, which is there under an item name
 pub record IsChosenFile (old : Blocks) (chosen : Result Entry ℤ) (key : CatKey) (file : FileRecord) : Type 0 where
   pub choice : IsFileChoice old chosen key file
   pub name : IsTrue (is_item_name key.name)
   pub there : IsFileUnder key (catalog_in old)
 
--- a call chooses the folder with this key and this record, which stands there under an item name
+-- a call chooses the folder with this key and this record, which is there under an item name
 pub record IsChosenFolder (old : Blocks) (chosen : Result Entry ℤ) (key : CatKey) (folder : DirRecord) : Type 0 where
   pub choice : IsFolderChoice old chosen key folder
   pub name : IsTrue (is_item_name key.name)
@@ -115,16 +115,16 @@ FindsParent old dir result = MatchOption result (is_folder (catalog_in old) dir 
 abbrev pub change_at : ℕ → Blocks → Numbered → Value → Change
 change_at now old patch answer = record { patch = patch; counts = at_time now (mdb_in old); written = None; value = answer }
 
--- whether the call meets want of nodes in the volume's catalog
+-- whether the call runs out of nodes in the volume's catalog
 abbrev pub wants_nodes : Call → Blocks → Bool
 wants_nodes c old = meets_want_of_nodes (free_nodes (catalog_nodes old)) (depth_of (catalog_nodes old)) (volume_in old) c
 
--- the catalog has the nodes that the call needs, and what it comes to
+-- the catalog has the nodes that the call needs, and its outcome
 pub record HasNodes (c : Call) (old : Blocks) (Comes : Type 0) : Type 0 where
   pub enough : wants_nodes c old ≡ false
   pub comes : Comes
 
--- the call meets want of nodes, and these are the free nodes and the depth
+-- the call runs out of nodes, and these are the free nodes and the depth
 pub record IsFull (c : Call) (old : Blocks) (free depth : ℕ) : Type 0 where
   pub wanting : wants_nodes c old ≡ true
   pub free_is : free ≡ free_nodes (catalog_nodes old)
@@ -147,7 +147,7 @@ IsEditOf c total old (Ok change) = HasNodes c old (IsChangeOf c total old change
 IsEditOf c total old (Err (refusal.Code code)) = HasNodes c old (step (volume_in old) c ≡ refused (volume_in old) code)
 IsEditOf c total old (Err (refusal.Want wanting)) = IsWantOf c old wanting
 
--- where the call is done, nothing was wanting; of a call that writes a fork a code is none that stands for done
+-- where the call is done, nothing was lacking; of a call that writes a fork a code is none that means done
 abbrev pub HasForkRoom : Call → ℕ → Blocks → Result Change Refusal → Type 0
 HasForkRoom c total old (Ok change) = MeetsForkWant c old None
 HasForkRoom c total old (Err (refusal.Code code)) = is_writing c ≡ true → is_accepted (step (volume_in old) c).1 ≡ false

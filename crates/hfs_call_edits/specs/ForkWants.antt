@@ -1,4 +1,4 @@
--- What a call that writes a fork wants of a volume.
+-- What a call that writes a fork needs of a volume.
 use Rattle.std.specs.Prelude.{◌≡◌, ℕ, ◌+◌, ℤ, max, List, length, Option, None, IfSome, Result, Ok, Err}
 use Rattle.hfs_fields.specs.declared.key.CatKey.{CatKey}
 use Rattle.hfs_fields.specs.declared.file_record.FileRecord.{FileRecord}
@@ -29,7 +29,7 @@ pub record MeetsWantOf (fork : Fork) (chosen : Result Entry ℤ) (len : FileReco
   pub meets : MeetsWant fork file (len file) old want
   pub told : IfSome want (IsForkWant (blocks (mdb_in old).allocation_block_size (len file)))
 
--- the length of a fork, or where bytes in it end, if that is behind it
+-- the length of a fork, or where bytes in it end, if that is after it
 abbrev pub length_with : Fork → ℕ → List ℕ → FileRecord → ℕ
 length_with fork offset bytes file = max (fork_of fork file).length (offset + length bytes)
 

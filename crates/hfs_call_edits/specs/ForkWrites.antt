@@ -21,8 +21,8 @@ use Rattle.hfs_fork_changes.specs.CallEdits.{HasLaid}
 use Rattle.hfs_call_edits.specs.ForkWants.{length_with}
 
 -- The file that a call chooses had one record and has the other now, and these blocks of its fork were written, which has `len` bytes then.
--- Each of them is the fork's. Byte by byte of all its blocks, the given bytes stand from `offset` on; of the others no byte of a block that
--- came is one of before, but a zero; and what lies in the blocks that the fork had stays, but for zeros between its old end and its new one.
+-- Each of them is the fork's. Byte by byte of all its blocks, the given bytes are from `offset` on; of the others no byte of a block that
+-- was added is one of before, but a zero; and what lies in the blocks that the fork had stays, except for zeros between its old end and its new one.
 pub record WritesForkOf (fork : Fork) (chosen : Result Entry ℤ) (len : FileRecord → ℕ) (offset : ℕ) (part written : List ℕ) (old new : Blocks) : Type 0 where
   pub key : CatKey
   pub was : FileRecord

@@ -47,7 +47,7 @@ new_place mdb catalog dir name = unless_code (lock_code mdb) (
     if not (is_item_name name) then Err BAD_NAME
     else option_map_or (place_in mdb catalog dir name) (folder_with catalog dir) (Err NOT_A_FOLDER))
 
--- ---- and where the record of its folder stands
+-- ---- and where the record of its folder is
 
 -- without it
 abbrev pub place_found : Result FoundPlace ℤ → Result NewPlace ℤ

@@ -22,7 +22,7 @@ item_chosen chosen = map_ok (λ p. p.item) chosen
 abbrev pub file_chosen : Result PlacedFile ℤ → Result (CatKey × FileRecord) ℤ
 file_chosen chosen = map_ok (λ p. (p.key, p.file)) chosen
 
--- ---- the place is where the item's record stands in these nodes of a catalog
+-- ---- the place is where the item's record is in these nodes of a catalog
 
 abbrev pub IsItemPlaced : Store → PlacedItem → Type 0
 IsItemPlaced nodes p = IsPlaceOf cat_keys nodes p.item.key p.place

@@ -37,7 +37,7 @@ pub record HasCatalog (counts : Mdb) (records : Catalog) (old new : Blocks) : Ty
 
 -- ---- of nodes in these runs, over a patch: b and qs are what they lie in, below what a volume's blocks are
 
--- the patch stands over the same blocks
+-- the patch is over the same blocks
 abbrev pub LiesOver : {B : Type 0} → (B → Blocks) → B → List Run → B → List Run → Numbered → Type 0
 LiesOver blocks below runs b qs patch = StandsOver blocks below runs b qs (changes patch)
 
@@ -54,6 +54,6 @@ abbrev pub PutsCatalog : {B : Type 0} → Mdb → (B → Blocks) → B → B →
 PutsCatalog counts blocks below b qs patch made =
     Patches (blocks below) (HasCatalog counts (catalog_of (patched_nodes (blocks b) patch qs))) made
 
--- in them the item came under its other key
+-- in them the item was put under its other key
 abbrev pub RekeysOver : {B : Type 0} → Rekeying → (B → Blocks) → B → B → List Run → Numbered → Type 0
 RekeysOver item blocks below b qs patch = Rekeys item (catalog_nodes (blocks below)) (patched_nodes (blocks b) patch qs)

@@ -35,7 +35,7 @@ pub record IsParent (catalog : Catalog) (dir : ℕ) (key : CatKey) (valence : �
 
 -- ---- the catalog's nodes
 
--- a folder's record stands under this key when the item under the other, with the thread of its ID, went
+-- a folder's record is under this key when the item under the other, with the thread of its ID, went
 abbrev pub StaysFolder : CatKey → ℕ → CatKey → Store → Type 0
 StaysFolder key id folder old = (middle : Store) → ItemWent key id old middle → IfBody (λ body. is_dir body ≡ true) (lookup cat_cmp folder (catalog_of middle))
 
@@ -45,7 +45,7 @@ pub record ItemDropped (key : CatKey) (id : ℕ) (folder : CatKey) (n now : ℕ)
   pub went : ItemWent key id old middle
   pub set : HasValenceSet folder n now middle new
 
--- the record of an item stands under the key
+-- the record of an item is under the key
 abbrev pub IsItemUnder : CatKey → Catalog → Type 0
 IsItemUnder key catalog = IfBody (λ body. is_item body ≡ true) (lookup cat_cmp key catalog)
 

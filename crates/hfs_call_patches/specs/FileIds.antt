@@ -29,7 +29,7 @@ pub record IsThreadless (catalog : Catalog) (key : CatKey) (file : FileRecord) :
   pub id : 2 ≤ file.id
   pub unthreaded : thread_of catalog file.id ≡ None
 
--- no record stands where the thread of this ID would
+-- no record is where the thread of this ID would
 abbrev pub LacksThread : ℕ → Catalog → Type 0
 LacksThread id catalog = lookup cat_cmp (first_key id) catalog ≡ None
 
@@ -39,11 +39,11 @@ LacksThread id catalog = lookup cat_cmp (first_key id) catalog ≡ None
 abbrev pub flagged_file : Bool → CatKey → FileRecord → Record
 flagged_file there key file = (key, file_record_bytes (with_thread_flag there file))
 
--- the thread of a file that stands under the key
+-- the thread of a file that is under the key
 abbrev pub file_thread : CatKey → FileRecord → Record
 file_thread key file = thread_record file.id (new_thread kind.File key.parent key.name)
 
--- the file's record with the flag stands in its place, and then came its thread's
+-- the file's record with the flag takes its place, and then its thread's was added
 pub record FileIdCame (key : CatKey) (file : FileRecord) (old new : Store) : Type 0 where
   pub keeps : KeepsNamed old new
   pub between : Catalog
@@ -52,7 +52,7 @@ pub record FileIdCame (key : CatKey) (file : FileRecord) (old new : Store) : Typ
   pub value : IsFileRecordValue (with_thread_flag true file)
   pub thread_value : IsThreadRecordValue (new_thread kind.File key.parent key.name)
 
--- the file's record without the flag stands in its place, and then its thread's went
+-- the file's record without the flag takes its place, and then its thread's went
 pub record FileIdWent (key : CatKey) (file : FileRecord) (old new : Store) : Type 0 where
   pub keeps : KeepsNamed old new
   pub between : Catalog

@@ -17,7 +17,7 @@ use Rattle.hfs_call_patches.specs.Rekeyings.{CanRekey, IsRekeyChoice}
 
 -- ---- the item that CatMove chooses
 
--- a folder's record stands in this place
+-- a folder's record is in this place
 pub record IsPlaceOf (old : Blocks) (dir : ℕ) (place : FolderPlace) (r : Record) : Type 0 where
   pub folder : IsFolderWith (catalog_in old) dir r
   pub key : r.0 ≡ place.key

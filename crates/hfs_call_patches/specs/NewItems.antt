@@ -26,7 +26,7 @@ pub record IsOwnFolder (place : NewPlace) (catalog : Catalog) (r : Record) : Typ
   pub own_key : r.0 ≡ place.folder
   pub folder : is_dir r.1 ≡ true
 
--- the place's folder stands in the catalog, and no item of its own name
+-- the place's folder is in the catalog, and no item of its own name
 pub record TakesItem (dir : ℕ) (place : NewPlace) (nodes : Store) : Type 0 where
   pub root : HasRoot (catalog_of nodes)
   pub low : 2 ≤ dir
@@ -44,7 +44,7 @@ pub record TakesFolder (id dir : ℕ) (place : NewPlace) (nodes : Store) : Type 
 
 -- ---- afterwards
 
--- the file's record came, and then its folder's with one more child
+-- the file's record was added, and then its folder's with one more child
 pub record HasPutFile (id dir : ℕ) (place : NewPlace) (now : ℕ) (r : Record) (old new : Store) : Type 0 where
   pub keeps : KeepsCatalog (place.folder ∷ (file_record_in id dir place.name now).0 ∷ []) old new
   pub first : Catalog
@@ -57,7 +57,7 @@ pub record HasPutFile (id dir : ℕ) (place : NewPlace) (now : ℕ) (r : Record)
 abbrev pub PutsFile : ℕ → ℕ → NewPlace → ℕ → Store → Store → Type 0
 PutsFile id dir place now old new = (r : Record) → IsOwnFolder place (catalog_of old) r → HasPutFile id dir place now r old new
 
--- the folder's record came, then its thread's, and then that of the folder which holds it
+-- the folder's record was added, then its thread's, and then that of the folder which holds it
 pub record HasPutFolder (id dir : ℕ) (place : NewPlace) (now : ℕ) (r : Record) (old new : Store) : Type 0 where
   pub keeps : KeepsCatalog (place.folder ∷ first_key id ∷ (folder_record_in id dir place.name now).0 ∷ []) old new
   pub first : Catalog

@@ -17,7 +17,7 @@ use Rattle.hfs_space_edits.specs.Released.{HasReleased}
 use Rattle.hfs_check.specs.Parts.{Blocks, mdb_in, extents_nodes, catalog_nodes}
 use Rattle.hfs_call_patches.specs.Deleting.{ItemDropped, MakesFileDeletion, MakesFolderDeletion}
 
--- ---- the blocks and the nodes behind it
+-- ---- the blocks and the nodes after it
 
 -- the blocks with the patch laid over them
 abbrev pub patched : Blocks → Numbered → Blocks
@@ -45,7 +45,7 @@ LeavesExtents blocks runs patch = patched_nodes blocks patch runs ≡ extents_no
 abbrev pub LeavesCatalog : Blocks → List Run → Numbered → Type 0
 LeavesCatalog blocks runs patch = patched_nodes blocks patch runs ≡ catalog_nodes blocks
 
--- beside the blocks of these runs, new shows the same over these blocks as old
+-- outside the blocks of these runs, new shows the same over these blocks as old
 abbrev pub ShowsSameBeside : List Run → Blocks → Numbered → Numbered → Type 0
 ShowsSameBeside runs blocks old new = beside (flat_map run_of runs) (patched blocks new) ≡ beside (flat_map run_of runs) (patched blocks old)
 
@@ -63,7 +63,7 @@ DropsOverflow file runs old new = HasDroppedOverflow file (extents_nodes old) (n
 abbrev pub DropsItem : CatKey → ℕ → CatKey → ℕ → ℕ → List Run → Blocks → Blocks → Type 0
 DropsItem key id folder n now runs old new = ItemDropped key id folder n now (catalog_nodes old) (nodes_in new runs)
 
--- a patch and the counts behind it make the step of a Delete, wherever one chooses this file
+-- a patch and the counts after it make the step of a Delete, wherever one chooses this file
 abbrev pub DeletesFile : ℕ → CatKey → FileRecord → ℕ → ℕ → Blocks → Numbered × Mdb → Type 0
 DeletesFile dir key file now total blocks made = MakesFileDeletion dir key file now total blocks made.1 (patched blocks made.0)
 

@@ -25,7 +25,7 @@ pub record IsPlace (old : Blocks) (chosen : Result ℕ ℤ) (dir : ℕ) (name : 
   pub own_name : place.name ≡ name
   pub named : is_item_name name ≡ true
 
--- the volume is sound, its catalog's file lies in these runs, and a new item comes to this place
+-- the volume is sound, its catalog's file lies in these runs, and a new item is to get this place
 pub record IsReady (total : ℕ) (old : Blocks) (runs : List Run) (mdb : Mdb) (dir : ℕ) (place : NewPlace) : Type 0 where
   pub sound : AreBlocksSound total old
   pub file : IsCatalogFile runs total old

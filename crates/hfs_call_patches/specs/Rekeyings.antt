@@ -1,4 +1,4 @@
--- Items that come under another key: what their edit asks of the catalog, and how a call chooses them.
+-- Items that are put under another key: what their edit asks of the catalog, and how a call chooses them.
 use Rattle.std.specs.Prelude.{◌≡◌, ℤ, ◌≤◌, true, false, IsTrue, None, Result}
 use Rattle.std.specs.Ordering.{is_eq}
 use Rattle.hfs_fields.specs.Keys.{cat_cmp}
@@ -19,7 +19,7 @@ use Rattle.hfs_changes.specs.SettingLaws.{IsChoice}
 use Rattle.hfs_call_patches.specs.declared.rekeying.Rekeying.{Rekeying}
 use Rattle.hfs_catalog_edits.specs.ItemEdits.{ItemRekeyed}
 
--- in these nodes of a sound catalog the item stands, and may come under its other key: where the keys are not equal in order, that
+-- in these nodes of a sound catalog the item is there, and may be put under its other key: where the keys are not equal in order, that
 -- key is free, and there are nodes for one more record
 pub record CanRekey (item : Rekeying) (nodes : Store) : Type 0 where
   pub tree : IsCatalogTree nodes
@@ -35,7 +35,7 @@ pub record CanRekey (item : Rekeying) (nodes : Store) : Type 0 where
   pub inside : IsInFile nodes
   pub room : is_eq (cat_cmp item.from item.to) ≡ false → HasRoom nodes
 
--- the item came under its other key
+-- the item was put under its other key
 abbrev pub Rekeys : Rekeying → Store → Store → Type 0
 Rekeys item old new = ItemRekeyed item.id item.from item.to old new
 

@@ -29,15 +29,15 @@ abbrev pub IsBody : (List ℕ → Bool) → Option (List ℕ) → Type 0
 IsBody test None = ⊥
 IsBody test (Some body) = test body ≡ true
 
--- a file's record stands under the key
+-- a file's record is under the key
 abbrev pub IsFileUnder : CatKey → Catalog → Type 0
 IsFileUnder key catalog = IsBody is_file (lookup cat_cmp key catalog)
 
--- a folder's record stands under the key
+-- a folder's record is under the key
 abbrev pub IsFolderUnder : CatKey → Catalog → Type 0
 IsFolderUnder key catalog = IsBody is_dir (lookup cat_cmp key catalog)
 
--- a record of the item's kind stands under the key
+-- a record of the item's kind is under the key
 abbrev pub IsOfKindUnder : CatKey → ItemRecord → Catalog → Type 0
 IsOfKindUnder key item catalog = IfBody (IsOfKind item) (lookup cat_cmp key catalog)
 
@@ -53,7 +53,7 @@ pub record PutsCounts (counts : Mdb) (own : List ℕ) (old new : Changes) : Type
 abbrev pub PutsCountsOver : {T E : Type 0} → Result T E → Mdb → Blocks → Numbered → Numbered → Type 0
 PutsCountsOver result counts blocks old new = OnOk result (PutsCounts counts (blocks 2) (changes old) (changes new))
 
--- the body stands in the place of the one under the key, and the volume has these counts
+-- the body takes the place of the one under the key, and the volume has these counts
 pub record HasSetRecord (key : CatKey) (body : List ℕ) (counts : Mdb) (old new : Blocks) : Type 0 where
   pub tree : HasTree counts old new
   pub content : catalog_in new ≡ with_replaced cat_cmp key body (catalog_in old)

@@ -11,7 +11,7 @@ use Rattle.hfs_changes.specs.Changes.{with_children, folder_with}
 use Rattle.hfs_changes.specs.PlaceLaws.{BothStand}
 use Rattle.hfs_call_patches.specs.declared.valences.FolderPlace.{FolderPlace}
 
--- the records of two folders stand in these places
+-- the records of two folders are in these places
 pub record StandAt (left entered : FolderPlace) (catalog : Catalog) : Type 0 where
   pub first : Record
   pub second : Record
@@ -29,7 +29,7 @@ pub record FoldersSet (r1 r2 : Record) (fewer more now : ℕ) (old new : Catalog
   pub first_value : IsDirRecordValue (with_children fewer now (dir_record_of r1.1))
   pub second_value : IsDirRecordValue (with_children more now (dir_record_of r2.1))
 
--- whatever records stand there
+-- whatever records are there
 pub record ValencesSet (left entered : FolderPlace) (now : ℕ) (old new : Store) : Type 0 where
   pub keeps : KeepsCatalog (entered.key ∷ left.key ∷ []) old new
   pub set : (r1 r2 : Record) → BothStand r1 r2 (catalog_of old) → r1.0 ≡ left.key → r2.0 ≡ entered.key

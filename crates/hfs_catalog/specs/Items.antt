@@ -65,7 +65,7 @@ folder_of key r = record {
   kind = kind.Folder (folder_kept r);
 }
 
--- whether a file has a thread is told by the thread's record
+-- whether a file has a thread is known by the thread's record
 unfoldable pub file_of : Bool → List ℕ × List ℕ → CatKey → FileRecord → Item
 file_of has_thread forks key r = record {
   parent = key.parent;

@@ -83,6 +83,6 @@ thread_in catalog id = option_map (λ r. thread_record_of r.1) (thread_of catalo
 abbrev pub IsReadableThread : List ℕ → Type 0
 IsReadableThread body = IsTrue (is_thread body && begins_thread body)
 
--- the item of the first record, if that is one's, came behind the others
+-- the item of the first record, if that is one's, was added after the others
 abbrev pub AddsFirstItem : Catalog → List CatalogItem → List CatalogItem → Type 0
 AddsFirstItem records old new = new ≡ old ++ option_to_list (item_at (first_pair records))

@@ -65,11 +65,11 @@ SetsNumber id n old new = number_of new ≡ with_number (number_of old) id n
 abbrev pub NotesFirst : Numbered → Numbered → ℕ → ℕ → Type 0
 NotesFirst old new id n = (k : ℕ) → number_of new k ≡ option_or (number_of old k) (only_if (nat_eq id k) n)
 
--- this number is one of them now, beside the old ones
+-- this number is one of them now, besides the old ones
 abbrev pub AddsNumber : ℕ → List ℕ → List ℕ → Type 0
 AddsNumber n old new = (k : ℕ) → has_number new k ≡ (has_number old k || nat_eq n k)
 
--- the ID of the record's key is one of them now, if it is a thread's, beside the old ones
+-- the ID of the record's key is one of them now, if it is a thread's, besides the old ones
 abbrev pub AddsThread : Record → List ℕ → List ℕ → Type 0
 AddsThread r old new = (id : ℕ) → has_number new id ≡ (has_number old id || is_thread_of id r)
 

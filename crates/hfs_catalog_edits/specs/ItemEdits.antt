@@ -1,4 +1,4 @@
--- What the edits of items and threads make of the catalog: its records as a row of swaps, each of one that goes out and one that comes in.
+-- What the edits of items and threads make of the catalog: its records as a row of swaps, each of one that is removed and one that is put in.
 use Rattle.std.specs.Prelude.{◌≡◌, ℕ, ◌+◌, ◌*◌, ◌≤◌, ◌⊎◌, true, false, List, [], ◌∷◌, Option, Some, None}
 use Rattle.std.specs.Option.{option_map}
 use Rattle.std.specs.Ordering.{is_eq}
@@ -49,7 +49,7 @@ folder_record dir name folder = (record { parent = dir; name = name }, dir_recor
 abbrev pub folder_thread : ℕ → List ℕ → DirRecord → Record
 folder_thread dir name folder = thread_record folder.id (new_thread kind.Folder dir name)
 
--- the folder's record came, and then its thread's
+-- the folder's record was added, and then its thread's
 pub record FolderCame (dir : ℕ) (name : List ℕ) (folder : DirRecord) (old new : Store) : Type 0 where
   pub keeps : KeepsCatalog ((folder_thread dir name folder).0 ∷ (folder_record dir name folder).0 ∷ []) old new
   pub between : Catalog
@@ -72,7 +72,7 @@ pub record ItemWent (key : CatKey) (id : ℕ) (old new : Store) : Type 0 where
 
 -- ---- an item under another key
 
--- the record went and came under another key; or, where the keys are equal in order, in its place
+-- the record was taken out and put under another key; or, where the keys are equal in order, in its place
 abbrev pub Rekeyed : Option Record → Option Record → Catalog → Catalog → Type 0
 Rekeyed r s old new = Swaps r s old new ⊎ ((between : Catalog) × Swaps r None old between × Swaps None s between new)
 
@@ -80,7 +80,7 @@ Rekeyed r s old new = Swaps r s old new ⊎ ((between : Catalog) × Swaps r None
 abbrev pub with_key : CatKey → Record → Record
 with_key key r = (key, r.1)
 
--- the record under the one key stands under the other
+-- the record under the one key is under the other
 pub record RecordMoved (here there : CatKey) (old new : Store) : Type 0 where
   pub keeps : KeepsCatalog (there ∷ []) old new
   pub moved : Rekeyed (record_at here (catalog_of old)) (option_map (with_key there) (record_at here (catalog_of old))) (catalog_of old) (catalog_of new)
@@ -88,7 +88,7 @@ pub record RecordMoved (here there : CatKey) (old new : Store) : Type 0 where
   pub most_depth : depth_of new ≤ depth_of old + 1
   pub in_place : is_eq (cat_cmp here there) ≡ true → free_nodes new ≡ free_nodes old
 
--- the thread of this ID, if there is one, leads to this key; no node came or went
+-- the thread of this ID, if there is one, leads to this key; no node was added or freed
 pub record ThreadTurned (id : ℕ) (key : CatKey) (old new : Store) : Type 0 where
   pub keeps : KeepsCatalog (first_key id ∷ []) old new
   pub swap : Swaps (thread_of (catalog_of old) id) (option_map (turned_record id key) (thread_of (catalog_of old) id)) (catalog_of old) (catalog_of new)
@@ -96,7 +96,7 @@ pub record ThreadTurned (id : ℕ) (key : CatKey) (old new : Store) : Type 0 whe
   pub free : free_nodes new ≡ free_nodes old
   pub depth : depth_of new ≡ depth_of old
 
--- the item's record stands under another key, and then its thread, if it has one, leads there
+-- the item's record is under another key, and then its thread, if it has one, leads there
 pub record ItemRekeyed (id : ℕ) (here there : CatKey) (old new : Store) : Type 0 where
   pub keeps : KeepsCatalog (first_key id ∷ there ∷ []) old new
   pub between : Catalog
@@ -109,19 +109,19 @@ pub record ItemRekeyed (id : ℕ) (here there : CatKey) (old new : Store) : Type
 
 -- ---- words of the edits' contracts
 
--- under the key stands the record of a file or folder
+-- under the key is the record of a file or folder
 abbrev pub IsItemAt : Store → CatKey → Type 0
 IsItemAt nodes key = IfBody (λ body. is_item body ≡ true) (lookup cat_cmp key (catalog_of nodes))
 
--- under the key stands an item's record with this ID
+-- under the key is an item's record with this ID
 abbrev pub HasIdAt : Store → CatKey → ℕ → Type 0
 HasIdAt nodes key id = IfBody (λ body. item_id body ≡ id) (lookup cat_cmp key (catalog_of nodes))
 
--- under the key stands the record of a folder
+-- under the key is the record of a folder
 abbrev pub IsFolderAt : Store → CatKey → Type 0
 IsFolderAt nodes key = IfBody (λ body. is_dir body ≡ true) (lookup cat_cmp key (catalog_of nodes))
 
--- under the key stands an item's record of the kind of this one
+-- under the key is an item's record of the kind of this one
 abbrev pub IsSameKindAt : Store → CatKey → ItemRecord → Type 0
 IsSameKindAt nodes key item = IfBody (IsOfKind item) (lookup cat_cmp key (catalog_of nodes))
 
@@ -137,11 +137,11 @@ IsThreadKeyFree nodes id = lookup cat_cmp (first_key id) (catalog_of nodes) ≡ 
 abbrev pub IsFreeUnlessSame : Store → CatKey → CatKey → Type 0
 IsFreeUnlessSame nodes here there = is_eq (cat_cmp here there) ≡ false → lookup cat_cmp there (catalog_of nodes) ≡ None
 
--- the record of a file in this folder came
+-- the record of a file in this folder was added
 abbrev pub FileCame : ℕ → List ℕ → FileRecord → Store → Store → Type 0
 FileCame dir name file old new = RecordCame (file_record dir name file) old new
 
--- the record of a folder in this one came, without its thread
+-- the record of a folder in this one was added, without its thread
 abbrev pub FolderAdded : ℕ → List ℕ → DirRecord → Store → Store → Type 0
 FolderAdded dir name folder old new = RecordCame (folder_record dir name folder) old new
 
@@ -153,7 +153,7 @@ RecordAtWent key old new = RecordWent (record_at key (catalog_of old)) old new
 abbrev pub ThreadWent : ℕ → Store → Store → Type 0
 ThreadWent id old new = RecordWent (thread_of (catalog_of old) id) old new
 
--- a new thread of the ID came
+-- a new thread of the ID was added
 abbrev pub ThreadCame : ℕ → ThreadKind → ℕ → List ℕ → Store → Store → Type 0
 ThreadCame id kind dir name old new = RecordCame (thread_record id (new_thread kind dir name)) old new
 

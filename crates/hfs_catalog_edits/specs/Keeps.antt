@@ -9,8 +9,8 @@ use Rattle.hfs_btree_edits.specs.Stored.{bytes_in}
 use Rattle.hfs_btree_edits.specs.KeptKeys.{tree_keys, EachKey}
 use Rattle.hfs_catalog.specs.Tree.{cat_keys, IsCatalogTree}
 
--- A sound tree over the same nodes, exact where it was; a node that comes is taken from the free ones, and one that goes is given back
--- to them. Behind the tree's own nodes no node of its file has changed. Each key, in index nodes too, is one of these or of the old tree.
+-- A sound tree over the same nodes, exact where it was; a node that is added is taken from the free ones, and one that is removed is given back
+-- to them. After the tree's own nodes no node of its file has changed. Each key, in index nodes too, is one of these or of the old tree.
 pub record KeepsCatalog (given : List CatKey) (old new : Store) : Type 0 where
   pub sound : IsCatalogTree new
   pub exact : IsExact cat_keys old → IsExact cat_keys new

@@ -1,4 +1,4 @@
--- One record that comes, goes, or stands in the place of another: what an edit of the tree makes of the catalog.
+-- One record that is added, is removed, or takes the place of another: what an edit of the tree makes of the catalog.
 use Rattle.std.proofs.Common.{◌≡◌, [], ◌∷◌, Option, Some, None}
 use Rattle.hfs_fields.specs.Keys.{cat_cmp}
 use Rattle.hfs_btree.specs.Tree.{Store}
@@ -11,7 +11,7 @@ use Rattle.hfs_catalog_edits.specs.Keeps.{KeepsCatalog}
 use Rattle.hfs_catalog_edits.specs.Rooms.{TakesFewNodes, TakesNoNodes}
 use Rattle.hfs_catalog_edits.specs.Finds.{record_at}
 
--- a record came; it takes a few of the free nodes
+-- a record was added; it takes a few of the free nodes
 pub record RecordCame (r : Record) (old new : Store) : Type 0 where
   pub keeps : KeepsCatalog (r.0 ∷ []) old new
   pub swap : Swaps None (Some r) (catalog_of old) (catalog_of new)
@@ -23,7 +23,7 @@ pub record RecordWent (went : Option Record) (old new : Store) : Type 0 where
   pub swap : Swaps went None (catalog_of old) (catalog_of new)
   pub took : TakesNoNodes old new
 
--- a record stands in the place of the one under its key; no node came or went
+-- a record takes the place of the one under its key; no node was added or freed
 pub record RecordSet (r : Record) (old new : Store) : Type 0 where
   pub keeps : KeepsCatalog (r.0 ∷ []) old new
   pub swap : Swaps (record_at r.0 (catalog_of old)) (Some r) (catalog_of old) (catalog_of new)

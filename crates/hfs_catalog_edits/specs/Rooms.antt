@@ -8,12 +8,12 @@ pub record IsInFile (nodes : Store) : Type 0 where
   pub small : 512 * (header_in nodes).nodes < 2 ^ 32
   pub file : (header_in nodes).nodes ≤ length nodes
 
--- a record can come: each level and a new root may take a node
+-- a record can be added: each level and a new root may take a node
 pub record HasRoom (nodes : Store) : Type 0 where
   pub shallow : depth_of nodes ≤ 15
   pub free : depth_of nodes + 1 ≤ free_nodes nodes
 
--- a record can come, and then another one
+-- a record can be added, and then another one
 pub record HasRoomForTwo (nodes : Store) : Type 0 where
   pub shallow : depth_of nodes ≤ 14
   pub free : 2 * depth_of nodes + 3 ≤ free_nodes nodes
@@ -25,7 +25,7 @@ pub record TakesFewNodes (old new : Store) : Type 0 where
   pub least_depth : depth_of old ≤ depth_of new
   pub most_depth : depth_of new ≤ depth_of old + 1
 
--- no node of the free ones is taken, and no level comes
+-- no node of the free ones is taken, and no level is added
 pub record TakesNoNodes (old new : Store) : Type 0 where
   pub free : free_nodes old ≤ free_nodes new
   pub depth : depth_of new ≤ depth_of old

@@ -1,4 +1,4 @@
--- The root folder's record, which comes first, and so keys that are above the first.
+-- The root folder's record, which is first, and so keys that are above the first.
 use Rattle.std.proofs.Common.{◌≡◌}
 use Rattle.hfs_scans.specs.Members.{In}
 use Rattle.hfs_catalog.specs.Records.{Record, Catalog}

@@ -1,4 +1,4 @@
--- One element that goes out of a list, comes into it, or stands in place of another.
+-- One element that is taken out of a list, is put into it, or takes the place of another.
 use Rattle.std.proofs.Common.{◌≡◌, ℕ, Bool, cond, List, [], ◌∷◌, ◌++◌, Option, Some, None}
 
 -- an element, or none
@@ -6,7 +6,7 @@ abbrev pub list_of : {X : Type 0} → Option X → List X
 list_of None = []
 list_of (Some x) = x ∷ []
 
--- at one place of the list the one stood and the other stands
+-- at one place of the list the one was and the other is
 pub record Swaps {X : Type 0} (went come : Option X) (old new : List X) : Type 0 where
   pub before : List X
   pub behind : List X

@@ -14,6 +14,6 @@ AreAgain passes kept again = (n : ℕ) → changes again n ≡ zeros_if (passes 
 abbrev pub is_in : List Run → ℕ → Bool
 is_in runs n = list_any (is_of_run n) runs
 
--- the blocks of the run came, whichever passed before
+-- the blocks of the run were added, whichever passed before
 abbrev pub GainsRun : Run → Numbered → Numbered → Numbered → Type 0
 GainsRun run kept old new = (passes : ℕ → Bool) → AreAgain passes kept old → AreAgain (λ n. passes n || is_of_run n run) kept new

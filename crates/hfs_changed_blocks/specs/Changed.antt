@@ -15,7 +15,7 @@ blank_block = zeros 512
 abbrev pub is_zeros : Numbered → List Bool → ℕ → Bool
 is_zeros kept flags n = is_flagged flags n && not (is_some (changes kept n))
 
--- the kept blocks, and behind them those of zeros among the first so many
+-- the kept blocks, and after them those of zeros among the first so many
 unfoldable pub blocks_below : Numbered → List Bool → ℕ → Numbered
 blocks_below kept flags zero = kept
 blocks_below kept flags (suc n) = if is_zeros kept flags n then blocks_below kept flags n ++ (n, zeros 512) ∷ [] else blocks_below kept flags n

@@ -38,7 +38,7 @@ pub record MakesStep (c : Call) (counts : Mdb) (old new : Blocks) : Type 0 where
   pub forks : AreForksSound (with_counts counts (mdb_in old)) (overflow_in old) (catalog_in new)
   pub owned : (b : ℕ) → owners (owned_blocks (with_counts counts (mdb_in old)) (overflow_in old) (catalog_in new)) b ≡ owners (owned_in old) b
 
--- the volume is sound, keeps what calls keep but for these blocks, which the call wrote, and is the one that the step makes
+-- the volume is sound, keeps what calls keep except for these blocks, which the call wrote, and is the one that the step makes
 pub record IsSteppedBut (written : List ℕ) (c : Call) (total : ℕ) (old new : Blocks) : Type 0 where
   pub sound : AreBlocksSound total new
   pub kept : KeepsBut written old new

@@ -1,4 +1,4 @@
--- What stands once in a list, and what a search so finds.
+-- What is there once in a list, and what a search so finds.
 use Rattle.std.proofs.Common.{ℕ, ◌≤◌, count_by}
 use Rattle.hfs_catalog.specs.Records.{Catalog, has_id}
 

@@ -1,4 +1,4 @@
--- What the edits of calls ask of the catalog: that a key is free, and that a folder's record still stands. Each statement is what a
+-- What the edits of calls ask of the catalog: that a key is free, and that a folder's record is still there. Each statement is what a
 -- function of src/places.rt ensures.
 use Rattle.std.specs.Prelude.{◌≡◌}
 use Rattle.hfs_scans.specs.Members.{In}

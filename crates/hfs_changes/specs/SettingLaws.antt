@@ -1,4 +1,4 @@
--- What holds of the calls that set what is told of an item, and its name. Each statement is what a function of src/settings.rt ensures.
+-- What holds of the calls that set what is said about an item, and its name. Each statement is what a function of src/settings.rt ensures.
 use Rattle.std.specs.Prelude.{◌≡◌, ℕ, ℤ, Bool, true, false, List, Some, Result, Ok}
 use Rattle.hfs_catalog.specs.Items.{item_of}
 use Rattle.hfs_catalog.specs.Records.{Record, item_with}

@@ -38,7 +38,7 @@ IsBeside blocks n = Each (IsOther n) (changing_blocks blocks)
 
 -- ---- what stays in them
 
--- bit i of the bitmap's blocks stands for no allocation block
+-- bit i of the bitmap's blocks is of no allocation block
 pub record IsSpareBit (mdb : Mdb) (i : ℕ) : Type 0 where
   pub past : mdb.allocation_blocks ≤ i
   pub within : i < 4096 * bitmap_len mdb.allocation_blocks
@@ -53,7 +53,7 @@ is_stray_in blocks b = is_stray_block blocks (mdb_in blocks) (owned_in blocks) b
 abbrev pub IsBesideAll : List ℕ → Blocks → ℕ → Type 0
 IsBesideAll written blocks n = Each (IsOther n) (written ++ changing_blocks blocks)
 
--- all stays that calls leave, but for these blocks, which calls wrote
+-- all stays that calls leave, except for these blocks, which calls wrote
 pub record KeepsBut (written : List ℕ) (old new : Blocks) : Type 0 where
   -- of the master directory block all but the counts
   pub mdb : SameBesideCounts (old 2) (new 2)
@@ -64,7 +64,7 @@ pub record KeepsBut (written : List ℕ) (old new : Blocks) : Type 0 where
   pub catalog_file : catalog_extents new ≡ catalog_extents old
   pub stray : (b : ℕ) → b < (mdb_in old).allocation_blocks → is_stray_in new b ≡ is_stray_in old b
 
--- trees, bitmap, counts and valences agree, and the rest is the base's, but for these blocks. What follows the last whole block counts
+-- trees, bitmap, counts and valences agree, and the rest is the base's, except for these blocks. What follows the last whole block counts
 -- as a shorter block, so `others` says that it stays, too.
 pub record AgreesBut (written : List ℕ) (base image : List ℕ) : Type 0 where
   pub sound : IsSound image

@@ -63,7 +63,7 @@ both_trees_fault blocks = trees_fault (extents_counts blocks) (catalog_counts bl
 abbrev pub numbered_file : ℕ → List ℕ → Option CatalogFile
 numbered_file number body = if is_file body then Some (record { number = number; file = file_record_of body }) else None
 
--- the files, and behind them that of a record with this number, where the body is a file's
+-- the files, and after them that of a record with this number, where the body is a file's
 abbrev pub with_file : List CatalogFile → ℕ → List ℕ → List CatalogFile
 with_file files number body = files ++ option_to_list (numbered_file number body)
 
@@ -91,7 +91,7 @@ AreOwned mdb overflow catalog owned = extent_blocks owned ≡ owned_blocks mdb o
 abbrev pub AreAllOwned : Blocks → List Extent → Type 0
 AreAllOwned blocks owned = extent_blocks owned ≡ owned_in blocks
 
--- the first fault behind the checks of the two trees
+-- the first fault after the checks of the two trees
 abbrev pub behind_trees_fault : Blocks → Option MountFault
 behind_trees_fault blocks = records_fault blocks or_fault numbers_fault blocks
 

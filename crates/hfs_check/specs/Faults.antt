@@ -47,7 +47,7 @@ length_fault bytes = ◌or_fault◌ (fault_unless TooLarge (nat_le bytes 2147483
 abbrev pub is_block_size : Mdb → Bool
 is_block_size mdb = nat_le 512 mdb.allocation_block_size && (mdb.allocation_block_size % 512 == 0)
 
--- the bitmap lies behind the master directory block and before the allocation blocks
+-- the bitmap lies after the master directory block and before the allocation blocks
 abbrev pub is_bitmap_placed : Mdb → Bool
 is_bitmap_placed mdb = nat_le 3 mdb.bitmap_start && nat_le (mdb.bitmap_start + bitmap_len mdb.allocation_blocks) mdb.allocation_start
 
@@ -66,7 +66,7 @@ mdb_fault total mdb =
 
 -- ---- the two trees: the number of a node
 
--- the first fault of a tree's shape, where it is told whether its header counts records and free nodes right
+-- the first fault of a tree's shape, where it is said whether its header counts records and free nodes right
 abbrev pub counted_shape_fault : {K : Type 0} → Ghosts K → Bool → ℕ → Store → Option ℕ
 counted_shape_fault g counts size nodes = structure_fault g size nodes or_else unless counts
 
@@ -93,7 +93,7 @@ extents_counts blocks = has_counts ext_keys (extents_nodes blocks)
 abbrev pub catalog_counts : Blocks → Bool
 catalog_counts blocks = has_counts cat_keys (catalog_nodes blocks)
 
--- the first fault of the two, where it is told of each whether its header counts right
+-- the first fault of the two, where it is said of each whether its header counts right
 unfoldable pub trees_fault : Bool → Bool → Blocks → Option MountFault
 trees_fault extents_right catalog_right blocks =
     check_fault 3 (extents_fault extents_right (mdb_in blocks) (extents_nodes blocks))

@@ -15,14 +15,14 @@ NoImageFault = (image : List ℕ) → (fault_of image ≡ None) ↔ IsSound imag
 abbrev pub SoundImagesAreLawful : Type 0
 SoundImagesAreLawful = (image : List ℕ) → IsSound image → IsLawful (volume_of image)
 
--- a byte of the image in no block that calls change is the base's, and so is each byte behind the last whole block
+-- a byte of the image in no block that calls change is the base's, and so is each byte after the last whole block
 abbrev pub BytesStay : Type 0
 BytesStay = (base image : List ℕ) → Agrees base image → (k : ℕ) → IsBeside (block_at base) (k / 512) → slice_index image k ≡ slice_index base k
 
--- so is one beside the blocks that calls wrote, too, of an image that agrees but for these
+-- so is one outside the blocks that calls wrote, too, of an image that agrees except for these
 abbrev pub BytesStayBut : Type 0
 BytesStayBut = (written base image : List ℕ) → AgreesBut written base image → (k : ℕ) → IsBesideAll written (block_at base) (k / 512) → slice_index image k ≡ slice_index base k
 
--- what agrees but for some blocks with an image that agrees with a base but for others agrees with the base but for both
+-- what agrees except for some blocks with an image that agrees with a base except for others agrees with the base except for both
 abbrev pub AgreementsJoin : Type 0
 AgreementsJoin = (xs ys base middle image : List ℕ) → AgreesBut xs base middle → AgreesBut ys middle image → AgreesBut (xs ++ ys) base image

@@ -1,4 +1,4 @@
--- What a report tells of an image.
+-- What a report says about an image.
 use Rattle.std.specs.Prelude.{ℕ, ◌-◌, ◌&&◌, ◌==◌, Bool, if◌then◌else◌, List, Option, Some, None, take, ◌≡◌}
 use Rattle.std.specs.Str.{bytes_eq}
 use Rattle.hfs_fields.specs.declared.mdb.Mdb.{Mdb}
@@ -25,7 +25,7 @@ places_the_same a b =
 abbrev pub compare_mdbs : Mdb → Mdb → Alternate
 compare_mdbs mdb other = if other.signature == 0x4244 then (if places_the_same mdb other then Same else Differs) else Missing
 
--- the alternate stands in the last of so many blocks but one
+-- the alternate is in the last of so many blocks but one
 unfoldable pub alternate_in : ℕ → Blocks → Alternate
 alternate_in total blocks = compare_mdbs (mdb_in blocks) (mdb_of (take 162 (blocks (total - 2))))
 
@@ -53,7 +53,7 @@ report_with image (Some fault) = refused_report fault
 unfoldable pub report_of : List ℕ → Report
 report_of image = report_with image (fault_of image)
 
--- ---- of blocks, but for the check of the image's length
+-- ---- of blocks, except for the check of the image's length
 
 -- of so many blocks with this first fault
 abbrev pub report_by : ℕ → Blocks → Option MountFault → Report

@@ -38,7 +38,7 @@ pub record IsMdbSound (total : ℕ) (mdb : Mdb) : Type 0 where
   -- an allocation block is one or more whole blocks
   pub least_size : 512 ≤ mdb.allocation_block_size
   pub whole_size : mdb.allocation_block_size % 512 ≡ 0
-  -- the bitmap lies behind this block and before the allocation blocks
+  -- the bitmap lies after this block and before the allocation blocks
   pub bitmap_behind : 3 ≤ mdb.bitmap_start
   pub bitmap_before : mdb.bitmap_start + bitmap_len mdb.allocation_blocks ≤ mdb.allocation_start
   -- the allocation blocks lie in the volume
@@ -84,7 +84,7 @@ pub record AreCatalogPlacesSound (nodes : Store) (catalog : Catalog) : Type 0 wh
 
 -- ---- the whole
 
--- so many blocks are those of a sound volume: the checks behind that of the image's length, in their order
+-- so many blocks are those of a sound volume: the checks after that of the image's length, in their order
 pub record AreBlocksSound (total : ℕ) (blocks : Blocks) : Type 0 where
   pub mdb : IsMdbSound total (mdb_in blocks)
   pub extents : IsExtentsSound (mdb_in blocks) (extents_nodes blocks)
@@ -98,7 +98,7 @@ pub record AreBlocksSound (total : ℕ) (blocks : Blocks) : Type 0 where
   pub forks : AreForksSound (mdb_in blocks) (overflow_in blocks) (catalog_in blocks)
   pub space : IsSpaceSound blocks (mdb_in blocks) (owned_in blocks)
 
--- the image of a sound volume; bytes behind its last whole block belong to no block
+-- the image of a sound volume; bytes after its last whole block belong to no block
 pub record IsSound (image : List ℕ) : Type 0 where
   pub len : IsImageLength (length image)
   pub blocks : AreBlocksSound (block_count image) (block_at image)

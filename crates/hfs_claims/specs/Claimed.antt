@@ -14,12 +14,12 @@ AreSet blocks start first count = (n : ℕ) → first ≤ n → n < first + coun
 abbrev pub AreSetIn : Numbered → (ℕ → List ℕ) → ℕ → ℕ → ℕ → Type 0
 AreSetIn patch below start first count = AreSet (over (changes patch) below) start first count
 
--- none of these blocks stands twice, and none is marked
+-- none of these blocks is there twice, and none is marked
 pub record AreFree (blocks : ℕ → List ℕ) (start : ℕ) (claimed : List ℕ) : Type 0 where
   pub once : (b : ℕ) → owners claimed b ≤ 1
   pub free : (b : ℕ) → 0 < owners claimed b → is_used blocks start b ≡ false
 
--- The bits of these allocation blocks are set. No other bit of the bitmap has changed, nor any block beside it. Where the blocks
+-- The bits of these allocation blocks are set. No other bit of the bitmap has changed, nor any block outside it. Where the blocks
 -- were free, so many fewer bits are clear.
 pub record HasClaimed (start total : ℕ) (claimed : List ℕ) (old new : ℕ → List ℕ) : Type 0 where
   pub set : (b : ℕ) → 0 < owners claimed b → is_used new start b ≡ true

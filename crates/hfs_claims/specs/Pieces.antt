@@ -9,7 +9,7 @@ use Rattle.hfs_fields.specs.declared.extent.Extent.{Extent}
 abbrev pub first_of : ℕ → Extent → Extent
 first_of k run = record { first = run.first; count = min k run.count }
 
--- the first k blocks of these runs: each whole, and of the last one its first as many as are wanted
+-- the first k blocks of these runs: each whole, and of the last one its first as many as are needed
 abbrev pub first_blocks : ℕ → List Extent → List Extent
 first_blocks k [] = []
 first_blocks k (run ∷ runs) = if k == 0 then [] else first_of k run ∷ first_blocks (k - run.count) runs

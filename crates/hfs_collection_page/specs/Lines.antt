@@ -20,7 +20,7 @@ text_of (Blob bytes) = []
 abbrev pub cell_text : Row → ℕ → List ℕ
 cell_text row at = escaped (text_of (column row at))
 
--- a column beside the first one
+-- a column besides the first one
 unfoldable pub span_text : Row → ℕ → List ℕ
 span_text row at = codes "<span>" ++ cell_text row at ++ codes "</span>"
 
@@ -43,7 +43,7 @@ volume_text base row = volume_head base row ++ counts_text row ++ dates_text row
 unfoldable pub break_text : ℕ → List ℕ
 break_text place = if place % 100 == 0 then (if place == 0 then [] else codes "</ul>\n<ul>\n") else []
 
--- lines, of which the first stands at this place
+-- lines, of which the first is at this place
 abbrev pub volumes_text : Option (Bor (List ℕ)) → ℕ → List Row → List ℕ
 volumes_text base place [] = []
 volumes_text base place (row ∷ rows) = (break_text place ++ volume_text base row) ++ volumes_text base (place + 1) rows

@@ -5,7 +5,7 @@ use Rattle.hfs_page.specs.Markup.{IsNested, Leads}
 use Rattle.hfs_collection_page.specs.declared.collection_texts.CollectionTexts.{CollectionTexts}
 use Rattle.hfs_collection_page.specs.Pages.{collection_page}
 
--- what stands before the volumes begins a list in a section, and what stands between goes on in another one
+-- what precedes the volumes begins a list in a section, and what is between goes on in another one
 pub record IsCollectionDress (texts : CollectionTexts) : Type 0 where
   pub shared_style : Leads [] [] texts.shared_style.now
   pub style : Leads [] [] texts.style.now

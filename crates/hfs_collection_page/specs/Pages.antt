@@ -14,7 +14,7 @@ style_text texts = texts.shared_style.now ++ texts.style.now
 unfoldable pub front_text : CollectionTexts → List ℕ
 front_text texts = head_text (style_text texts) (escaped texts.name.now) ++ texts.columns.now
 
--- behind the lines of contents: the version, the script, and the end
+-- after the lines of contents: the version, the script, and the end
 unfoldable pub end_text : CollectionTexts → List ℕ
 end_text texts =
     codes "</ul>\n</section>\n<footer>Printed by hfs_collect " ++ escaped texts.version.now ++ codes "</footer>\n" ++ texts.script.now ++ codes "</main>\n</body>\n</html>\n"

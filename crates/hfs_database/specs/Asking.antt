@@ -23,17 +23,17 @@ abbrev pub text_or_null : {Z : Type 0} → Option (String Z) → Value
 text_or_null (Some text) = Text (string_bytes text)
 text_or_null None = Null
 
--- what a row tells of an image
+-- what a row says about an image
 pub record TellsImage (row : List Value) (known : KnownImage) : Type 0 where
   pub bytes : column row 0 ≡ Int (pos known.bytes)
   pub digest : column row 1 ≡ text_or_null known.digest
 
--- what the database tells of the image of this path, where it has a row of it
+-- what the database says about the image of this path, where it has a row of it
 abbrev pub IsKnown : State → State → List ℕ → Option KnownImage → Type 0
 IsKnown old new path (Some known) = HasCleanDisk new → (row : List Value) × QueriesRow known_image_text (Text path ∷ []) old new (Ok row) × TellsImage row known
 IsKnown old new path None = HasCleanDisk new → QueriesRow known_image_text (Text path ∷ []) old new (Err QueryReturnedNoRows)
 
--- the path behind the last one, where there is one
+-- the path after the last one, where there is one
 abbrev pub IsNext : {Z Y : Type 0} → State → State → Option (String Z) → Option (String Y) → Type 0
 IsNext old new last (Some path) = HasCleanDisk new → (row : List Value) × QueriesRow next_path_text (text_or_null last ∷ []) old new (Ok row) × (column row 0 ≡ Text (string_bytes path))
 IsNext old new last None = HasCleanDisk new → QueriesRow next_path_text (text_or_null last ∷ []) old new (Err QueryReturnedNoRows)

@@ -1,4 +1,4 @@
--- How an image stands to what a collection has of it.
+-- How an image compares with what a collection has of it.
 use Rattle.std.specs.Prelude.{ℕ, ◌==◌, ◌&&◌, if◌then◌else◌, Bool, true, false, nat_eq, List, codes, String, string_bytes, Option, Some, None, is_some}
 use Rattle.std.specs.Cmp.Lexicographic.{pointwise}
 use Rattle.hfs_database.specs.declared.comparing.Comparison.{Comparison}

@@ -20,7 +20,7 @@ abbrev pub is_memory : Error → Bool
 is_memory (SqliteFailure code.OutOfMemory) = true
 is_memory _ = false
 
--- what stands in the way where a database isn't opened for this reason
+-- what is in the way where a database isn't opened for this reason
 abbrev pub obstacle_of : ErrorCode → Obstacle
 obstacle_of code.DatabaseBusy = obstacle.Busy
 obstacle_of code.DatabaseCorrupt = obstacle.Damaged

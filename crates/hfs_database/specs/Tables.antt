@@ -70,12 +70,12 @@ both found.Other _ = found.Other
 abbrev pub FindsPart : State → State → Part → Found → Type 0
 FindsPart old new part found = HasCleanDisk new → (row : List Value) × QueriesRow find_part_text (Text part.name ∷ Text part.text ∷ []) old new (Ok row) × Tells row found
 
--- it was asked for each of these, one behind the other, and this is what there is of each of them
+-- it was asked for each of these, one after the other, and this is what there is of each of them
 abbrev pub FindsParts : {S : Type 0} → Ghosts S → List Part → Found → Held S → Held S → Type 0
 FindsParts g [] found old new = new ≡ old
 FindsParts {S} g (part ∷ parts) found old new = (next : Held S) × FindsPart (state g old) (state g next) part found × FindsParts g parts found next new
 
--- it was asked for each of these, one behind the other, and of each there is what stands at its place
+-- it was asked for each of these, one after the other, and of each there is what is at its place
 abbrev pub FindsEach : {S : Type 0} → Ghosts S → List Part → List Found → Held S → Held S → Type 0
 FindsEach g [] founds old new = (founds ≡ []) × (new ≡ old)
 FindsEach g (part ∷ parts) [] old new = ⊥
@@ -101,7 +101,7 @@ FindsTables g found.Other old new = FindsOthers g old new
 
 -- ---- how they are made
 
--- their texts were run, one behind the other
+-- their texts were run, one after the other
 abbrev pub MakesParts : {S : Type 0} → Ghosts S → List Part → Held S → Held S → Type 0
 MakesParts g [] old new = new ≡ old
 MakesParts {S} g (part ∷ parts) old new = (next : Held S) × HasRun (state g old) (state g next) part.text [] × MakesParts g parts next new
@@ -130,13 +130,13 @@ HasTables g makes old new = FindsParts g all_parts found.All old new ⊎ (IsTrue
 
 -- ---- a collection that is refused
 
--- the fault tells nothing of which tables are there
+-- the fault says nothing of which tables are there
 abbrev pub TellsNoTables : DatabaseFault → Type 0
 TellsNoTables (CannotOpen NoTables) = ⊥
 TellsNoTables (CannotOpen OtherTables) = ⊥
 TellsNoTables _ = ⊤
 
--- a collection is refused for other tables where something is there that isn't its own, and for want of tables where there is none, and none are to be made
+-- a collection is refused for other tables where something is there that isn't its own, and for lack of tables where there is none, and none are to be made
 abbrev pub IsRefusedFor : {S : Type 0} → Ghosts S → Bool → Held S → Held S → DatabaseFault → Type 0
 IsRefusedFor g makes old new (CannotOpen NoTables) = (makes ≡ false) × FindsParts g all_parts found.Nothing old new
 IsRefusedFor g makes old new (CannotOpen OtherTables) = FindsOthers g old new

@@ -55,21 +55,21 @@ LeavesAsBefore g start new = ∥ IsAsBefore g start new ∥₁
 
 -- ---- rows that are put in one
 
--- before the first row none came
+-- before the first row none was put
 abbrev pub no_rows : LastRows
 no_rows = record { image = pos 0; volume = pos 0 }
 
--- these rows were put, one behind the other, behind the rows that came last
+-- these rows were put, one after the other, after the rows that were put last
 abbrev pub PutsRows : {S : Type 0} → Ghosts S → List TakenRow → Held S → Held S → LastRows → LastRows → Type 0
 PutsRows g [] old new before after = (new ≡ old) × (after ≡ before)
 PutsRows {S} g (row ∷ rows) old new before after =
     (next : Held S) × (last : LastRows) × PutsRow g row.table (map sql_value row.values) old next before last × PutsRows g rows next new last after
 
--- since the database was like this these rows were put, of which these came last
+-- since the database was like this these rows were put, of which these were put last
 abbrev pub HasPutSince : {S : Type 0} → Ghosts S → Held S → List TakenRow → Held S → LastRows → Type 0
 HasPutSince g start rows now last = PutsRows g rows start now no_rows last
 
--- all rows of a source were put, one behind the other, and no others
+-- all rows of a source were put, one after the other, and no others
 abbrev pub PutsAll : {S : Type 0} → Ghosts S → (List TakenRow → Type 0) → Held S → Held S → Type 0
 PutsAll g AreRows old new = ∥ ((rows : List TakenRow) × AreRows rows × (last : LastRows) × HasPutSince g old rows new last) ∥₁
 

@@ -1,11 +1,11 @@
--- AppleDouble files: what a file system without resource forks keeps of an item beside its data fork.
+-- AppleDouble files: what a file system without resource forks keeps of an item next to its data fork.
 use Rattle.std.specs.Prelude.{◌≡◌, ℕ, ◌≤◌, List, [], ◌∷◌, ◌++◌, length, take, replicate}
 use Rattle.byteorder.specs.Endian.{big_bytes}
 use Rattle.hfs_fields.specs.Numbers.{number_at}
 use Rattle.hfs_fields.specs.Mdb.{bytes_at}
 use Rattle.hfs_encodings.specs.declared.apple_double.AppleDoubleHead.{AppleDoubleHead}
 
--- what tells of one part of the file: what it is, the byte where it begins, how many bytes it has
+-- what describes one part of the file: what it is, the byte where it begins, how many bytes it has
 abbrev pub apple_double_entry : ℕ → ℕ → ℕ → List ℕ
 apple_double_entry what start len = big_bytes 4 what ++ big_bytes 4 start ++ big_bytes 4 len
 
@@ -27,7 +27,7 @@ BeginsAppleDouble file = (82 ≤ length file) × (take 46 file ≡ apple_double_
 unfoldable pub apple_double_head_of : List ℕ → AppleDoubleHead
 apple_double_head_of file = record { finder = bytes_at 50 32 file; resource_length = number_at 46 4 file }
 
--- the resource fork behind a head that tells of so many bytes
+-- the resource fork after a head that gives it so many bytes
 abbrev pub resource_fork_at : ℕ → List ℕ → List ℕ
 resource_fork_at len file = bytes_at 82 len file
 

@@ -20,7 +20,7 @@ pub record IsMacBinaryHeadValue (head : MacBinaryHead) : Type 0 where
 abbrev pub lock_byte : Bool → ℕ
 lock_byte locked = if locked then 1 else 0
 
--- the header's first 124 bytes, of which the check is made. The Finder's flags, bytes 8 and 9 of what it keeps, are parted: the high byte stands at 73, the low one at 101
+-- the header's first 124 bytes, of which the check is made. The Finder's flags, bytes 8 and 9 of what it keeps, are parted: the high byte is at 73, the low one at 101
 unfoldable pub macbinary_fields : MacBinaryHead → List ℕ
 macbinary_fields head =
     0 ∷ length head.name ∷ [] ++ head.name ++ replicate (63 - length head.name) 0
@@ -46,7 +46,7 @@ macbinary_bytes head data_fork resource_fork = macbinary_head_bytes head ++ fill
 
 -- ---- what is read
 
--- whether the file begins with a header of this form: its zeros, a name that HFS can have, no second header, a version that wants no more, and the check
+-- whether the file begins with a header of this form: its zeros, a name that HFS can have, no second header, a version that needs no more, and the check
 unfoldable pub begins_macbinary : List ℕ → Bool
 begins_macbinary file =
     nat_le 128 (length file) && (slice_index file 0 == 0) && nat_le 1 (slice_index file 1) && nat_le (slice_index file 1) 31 && (slice_index file 74 == 0)

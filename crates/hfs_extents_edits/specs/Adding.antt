@@ -29,7 +29,7 @@ pub record HasAdded (key : ExtKey) (body : List ℕ) (old new : Store) : Type 0 
   pub free : free_nodes old ≤ free_nodes new + depth_of new
   pub leaf : depth_of old ≤ 1 → length (overflow_of old) < 22 → TakesOneLeaf old new
 
--- where there are nodes enough for several records, there are for the others when the first has come
+-- where there are nodes enough for several records, there are for the others when the first is added
 abbrev pub AdditionsLeaveEnough : Type 0
 AdditionsLeaveEnough =
     (key : ExtKey) (body : List ℕ) (old new : Store) (n : ℕ) → HasAdded key body old new → free_nodes old < 4294967296 → HasNodesFor (suc n) old → HasNodesFor n new

@@ -1,4 +1,4 @@
--- The left edge of a tree, and its least pair in the place of which another one stands.
+-- The left edge of a tree, and its least pair, whose place another one takes.
 use Rattle.std.specs.Prelude.{◌≡◌, ◌≢◌, true, Bool, ℕ, ◌<◌, List, [], ◌∷◌, Ok, length, drop, slice_index_or, slice_set}
 use Rattle.std.specs.declared.cmp.Ordering.TheVariants.{Less}
 use Rattle.hfs_node.specs.declared.node.Node.{Node}
@@ -12,7 +12,7 @@ use Rattle.hfs_btree_edits.specs.Stored.{HasStored, bytes_in}
 use Rattle.hfs_btree_edits.specs.Edits.{KeepsTree, level_above}
 use Rattle.hfs_btree_edits.specs.KeptKeys.{EachKey, IsKeyOr}
 
--- the first node of the level that stands so many levels above the leaves
+-- the first node of the level that is so many levels above the leaves
 abbrev pub edge : {K : Type 0} → Ghosts K → Store → ℕ → ℕ
 edge g nodes k = first_of (level_above g nodes k)
 
@@ -41,7 +41,7 @@ pub record HasSetFirst {K : Type 0} (g : Ghosts K) (n : ℕ) (key : K) (old new 
   pub stored : HasStored n (record node { records = records }) old new
   pub first : child ≡ g.child (slice_index_or node.records 0 [])
 
--- So it is of each first node of a level that stands higher above the leaves than so many levels. Levels, header and map are the
+-- So it is of each first node of a level that is higher above the leaves than so many levels. Levels, header and map are the
 -- same, and so is each other node.
 pub record HasSetEdge {K : Type 0} (g : Ghosts K) (key : K) (above : ℕ) (old new : Store) : Type 0 where
   pub structure : HasStructure g new
@@ -55,7 +55,7 @@ pub record HasSetEdge {K : Type 0} (g : Ghosts K) (key : K) (above : ℕ) (old n
   pub others : (n : ℕ) → ((k : ℕ) → above < k → k < depth_of old → n ≢ edge g old k) → records_in new n ≡ records_in old n
   pub bytes : (n : ℕ) → Each (IsOther n) (tree_nodes g old) → bytes_in new n ≡ bytes_in old n
 
--- The pair stands in the place of the least one; its key is that of the first records of the left edge. The levels are the same.
+-- The pair takes the place of the least one; its key is that of the first records of the left edge. The levels are the same.
 pub record HasLowerLeast {K : Type 0} (g : Ghosts K) (key : K) (body : List ℕ) (old new : Store) : Type 0 where
   pub keeps : KeepsTree g old new
   pub content : tree_content g new ≡ (key, body) ∷ drop 1 (tree_content g old)

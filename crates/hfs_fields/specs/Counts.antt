@@ -13,7 +13,7 @@ pub record HasCounts (mdb : Mdb) (block : List ℕ) : Type 0 where
   pub files : number_at 84 4 block ≡ mdb.files
   pub folders : number_at 88 4 block ≡ mdb.folders
 
--- place k is none of the n places from i: where it is not before them, it is behind them
+-- place k is none of the n places from i: where it is not before them, it is after them
 abbrev pub IsOutside : ℕ → ℕ → ℕ → Type 0
 IsOutside i n k = i ≤ k → i + n ≤ k
 
@@ -27,7 +27,7 @@ pub record IsBesideCounts (k : ℕ) : Type 0 where
   pub files : IsOutside 84 4 k
   pub folders : IsOutside 88 4 k
 
--- every byte beside the counts is as it was
+-- every byte outside the counts is as it was
 abbrev pub SameBesideCounts : List ℕ → List ℕ → Type 0
 SameBesideCounts old new = (k : ℕ) → IsBesideCounts k → slice_index new k ≡ slice_index old k
 

@@ -1,4 +1,4 @@
--- The keys of the two trees, as they stand at the head of a record.
+-- The keys of the two trees, as they are at the head of a record.
 use Rattle.std.specs.Prelude.{◌≡◌, ℕ, ◌+◌, ◌*◌, ◌/◌, Bool, ◌&&◌, ◌||◌, ◌==◌, nat_le, ◌↔◌, List, length, take, drop, slice_index, ◌≤◌}
 use Rattle.std.specs.declared.cmp.Ordering.{Ordering}
 use Rattle.std.specs.declared.cmp.Ordering.TheVariants.{Equal}
@@ -39,7 +39,7 @@ is_cat_key bytes =
 unfoldable pub cat_key_of : List ℕ → CatKey
 cat_key_of bytes = record { parent = number_at 2 4 bytes; name = name_at 6 bytes }
 
--- where the body begins: the next even place behind the key, counted from the record's beginning
+-- where the body begins: the next even place after the key, counted from the record's beginning
 unfoldable pub cat_body_start : List ℕ → ℕ
 cat_body_start bytes = (key_len bytes + 2) / 2 * 2
 

@@ -1,4 +1,4 @@
--- Pieces laid one behind the other, and what is read where one of them stands.
+-- Pieces laid one after the other, and what is read where one of them is.
 use Rattle.std.proofs.Common.{ℕ, ◌+◌, List, ◌++◌, length, drop}
 
 -- bytes with these in place of their first ones, as many

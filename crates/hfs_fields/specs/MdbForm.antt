@@ -21,7 +21,7 @@ pub record IsMdbHeadValue (mdb : Mdb) : Type 0 where
   pub free_blocks : mdb.free_blocks < 2 ^ 16
   pub volume_name : length mdb.volume_name ≡ 28
 
--- and behind it
+-- and after it
 pub record IsMdbTailValue (mdb : Mdb) : Type 0 where
   pub backup : mdb.backup < 2 ^ 32
   pub backup_sequence : mdb.backup_sequence < 2 ^ 16
@@ -52,7 +52,7 @@ mdb_head_bytes mdb =
     ++ big_bytes 4 mdb.allocation_block_size ++ big_bytes 4 mdb.clump_size ++ big_bytes 2 mdb.allocation_start ++ big_bytes 4 mdb.next_id
     ++ big_bytes 2 mdb.free_blocks ++ mdb.volume_name
 
--- the fields behind the volume's name, 98 bytes
+-- the fields after the volume's name, 98 bytes
 unfoldable pub mdb_tail_bytes : Mdb → List ℕ
 mdb_tail_bytes mdb =
     big_bytes 4 mdb.backup ++ big_bytes 2 mdb.backup_sequence ++ big_bytes 4 mdb.write_count ++ big_bytes 4 mdb.extents_clump_size

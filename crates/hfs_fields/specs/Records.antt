@@ -160,6 +160,6 @@ new_file id now = record {
   reserved_area = replicate 4 0;
 }
 
--- a new thread says where an item stands, and has zeros
+-- a new thread says where an item is, and has zeros
 unfoldable pub new_thread : ThreadKind → ℕ → List ℕ → ThreadRecord
 new_thread kind parent name = record { kind = kind; reserved = 0; reserved_area = replicate 8 0; parent = parent; name = name }

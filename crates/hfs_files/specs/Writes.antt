@@ -2,7 +2,7 @@
 use Rattle.std.specs.Prelude.{ℕ, ◌+◌, ◌-◌, List, [], ◌∷◌, ◌++◌, length, take, drop, replicate, Option, Some, None}
 use Rattle.std.specs.Option.{option_map}
 
--- it went to a place; these bytes were written where it stood; it got this length; a step failed that changed no byte; or one that may have
+-- it went to a place; these bytes were written where it was; it got this length; a step failed that changed no byte; or one that may have
 pub data WriteStep : Type 0 where
   went : ℕ → WriteStep
   wrote : List ℕ → WriteStep
@@ -10,11 +10,11 @@ pub data WriteStep : Type 0 where
   strayed : WriteStep
   spoiled : WriteStep
 
--- bytes with as many zeros behind them as make them so many, where they are fewer
+-- bytes with as many zeros after them as make them so many, where they are fewer
 abbrev pub filled_to : ℕ → List ℕ → List ℕ
 filled_to len bytes = bytes ++ replicate (len - length bytes) 0
 
--- so many bytes: cut, or with zeros behind them
+-- so many bytes: cut, or with zeros after them
 abbrev pub sized_to : ℕ → List ℕ → List ℕ
 sized_to len bytes = take len (filled_to len bytes)
 
@@ -28,7 +28,7 @@ abbrev pub laid : Option ℕ → List ℕ → Option (List ℕ) → Option (List
 laid None piece known = None
 laid (Some place) piece known = option_map (laid_at place piece) known
 
--- where a new file stands after these steps, of which the last comes first
+-- where a new file is after these steps, of which the last is first
 abbrev pub place_after : List WriteStep → Option ℕ
 place_after [] = Some 0
 place_after (went place ∷ before) = Some place

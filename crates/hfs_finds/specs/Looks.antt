@@ -1,4 +1,4 @@
--- What comes of a look at an image.
+-- What a look at an image finds.
 use Rattle.std.specs.Prelude.{◌≡◌, ℕ, List, Option, Some}
 use Rattle.hfs_check.specs.declared.mount_fault.MountFault.{MountFault}
 use Rattle.hfs_check.specs.declared.reported.Report.{Report}

@@ -20,15 +20,15 @@ use Rattle.hfs_finds.specs.Finds.{AreFindsBy}
 abbrev pub listed : Option ℕ → List ℕ
 listed place = option_map_or (λ n. n ∷ []) place []
 
--- those that tell whether a directory with these fields has its trees: the blocks in which they begin
+-- those that say whether a directory with these fields has its trees: the blocks in which they begin
 abbrev pub needed_of_trees : ℕ → Mdb → List ℕ
 needed_of_trees total mdb = listed (beginning_of total mdb mdb.extents_file) ++ listed (beginning_of total mdb mdb.catalog_file)
 
--- those that tell whether block n serves
+-- those that say whether block n serves
 abbrev pub needed_at : ℕ → Blocks → ℕ → List ℕ
 needed_at total blocks n = n ∷ needed_of_trees total (mdb_at blocks n)
 
--- those that tell which of the two blocks serves in which a directory belongs
+-- those that say which of the two blocks serves in which a directory belongs
 abbrev pub needed_of_places : ℕ → Blocks → List ℕ
 needed_of_places total blocks = needed_at total blocks 2 ++ needed_at total blocks (total - 2)
 
@@ -73,7 +73,7 @@ pub record AreFound (total : ℕ) (blocks : Blocks) (finds : Finds) : Type 0 whe
   pub mdb : option_map (mdb_at blocks) (directory_in total blocks) ≡ Some finds.mdb
   pub are : AreFindsBy (directory_in total blocks) total blocks finds
 
--- both want other blocks or none does, and then the same is found in both
+-- both need other blocks or none does, and then the same is found in both
 pub record FindSame (total : ℕ) (old new : Blocks) : Type 0 where
   pub all : wants_all total new ≡ wants_all total old
   pub found : wants_all total old ≡ false → (finds : Finds) → AreFound total old finds → AreFound total new finds

@@ -12,13 +12,13 @@ use Rattle.hfs_finds.specs.Finds.{IsFoundIn}
 use Rattle.hfs_finds.specs.Needed.{needed_of_finds, wants_all}
 
 -- the needed blocks of so many of an image whose bytes may be known, and the directory by which what there is of it is found in them; none
--- where others are wanted
+-- where others are needed
 pub record IsGathered (known : Option (List ℕ)) (total : ℕ) (gathered : Gathered) : Type 0 where
   pub needed : HasEach gathered.read (needed_of_finds total (sparse gathered.read))
   pub of : IsOfKnown known gathered.read
   pub directory : gathered.directory ≡ (if wants_all total (sparse gathered.read) then None else usual_directory total (sparse gathered.read))
 
--- where the image's bytes are known, and are so many: what is found of it, or that other blocks than the needed ones are wanted
+-- where the image's bytes are known, and are so many: what is found of it, or that other blocks than the needed ones are needed
 abbrev pub IsNeededOf : Option (List ℕ) → ℕ → NeededFinds → Type 0
 IsNeededOf known len (Found found) = OfKnown known len (λ image. IsFoundIn image found)
 IsNeededOf known len Whole = OfKnown known len (λ image. wants_all (block_count image) (block_at image) ≡ true)

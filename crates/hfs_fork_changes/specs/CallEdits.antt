@@ -27,7 +27,7 @@ pub record SetsCounts (now free : ℕ) (old new : Blocks) : Type 0 where
   pub beside : SameBesideCounts (old 2) (new 2)
 
 -- The edits of a call by which the fork of the file with this record has `len` bytes, the given ones of them from `offset` on: it gets as
--- many blocks as they take, and its record; the counts follow; zeros and the bytes are laid over its blocks, and beside that no block has
+-- many blocks as they take, and its record; the counts follow; zeros and the bytes are laid over its blocks, and and no other block has
 -- changed but those that every call may change.
 pub record SetsFork (fork : Fork) (r : Record) (len now offset : ℕ) (part written : List ℕ) (old new : Blocks) : Type 0 where
   pub was : is_file r.1 ≡ true
@@ -69,7 +69,7 @@ EditsAreWriteFork =
     → SetsFork fork r (max (fork_of fork (file_record_of r.1)).length (offset + length bytes)) now offset bytes written old new
     → HasBecome written (write_fork (mdb_in old).allocation_block_size (volume_in old) dir name fork offset bytes now).0 total old new
 
--- and no byte of a block that came is one of before: each is given, or a zero; the others of the fork's blocks stay where they must
+-- and no byte of a block that was added is one of before: each is given, or a zero; the others of the fork's blocks stay where they must
 abbrev pub EditsLeaveNoOldByte : Type 0
 EditsLeaveNoOldByte =
     (total : ℕ) (chosen : Result Entry ℤ) (fork : Fork) (r : Record) (len now offset : ℕ) (part written : List ℕ) (old new : Blocks) → AreBlocksSound total old → AreFull total old

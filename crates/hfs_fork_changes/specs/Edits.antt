@@ -54,7 +54,7 @@ pub record SetsRecord (r : Record) (file : FileRecord) (old new : Blocks) : Type
   pub frame : KeepsFrame cat_keys (catalog_nodes old) (catalog_nodes new)
   pub index : Each IsIndexKeyName (index_keys cat_keys (catalog_nodes new))
 
--- the first of the fork's blocks stay; behind them these come, which were free, each once, and of the others these go
+-- the first of the fork's blocks stay; after them these are added, which were free, each once, and of the others these are freed
 pub record MovesBlocks (fork : Fork) (was now : FileRecord) (come go : List ℕ) (old new : Blocks) : Type 0 where
   pub stay : List ℕ
   pub before : blocks_of old fork was ≡ stay ++ go
@@ -68,7 +68,7 @@ pub record SetsExtents (fork : Fork) (file : FileRecord) (old new : Blocks) : Ty
   pub edits : EditsFork file.id (byte_of fork) (extents_nodes old) (extents_nodes new)
   pub whole : IsWhole file.id (byte_of fork) (fork_of fork file).extents (extents_nodes new)
 
--- the bits of the blocks that come are set, those of the blocks that go are clear, and no other bit in the bitmap's blocks has changed
+-- the bits of the blocks that are added are set, those of the blocks that are freed are clear, and no other bit in the bitmap's blocks has changed
 pub record SetsBits (come go : List ℕ) (old new : Blocks) : Type 0 where
   pub set : (b : ℕ) → 0 < owners come b → is_used new (mdb_in old).bitmap_start b ≡ true
   pub clear : (b : ℕ) → 0 < owners go b → is_used new (mdb_in old).bitmap_start b ≡ false
@@ -87,7 +87,7 @@ pub record SetsVolume (now : ℕ) (written : List ℕ) (old new : Blocks) : Type
 -- ---- the whole
 
 -- The fork of the file with this record has these bytes now, in exactly as many blocks as they take. Of its blocks some were written, and
--- beside them nothing has changed in the volume but what must.
+-- besides them nothing has changed in the volume but what must.
 pub record ChangesFork (fork : Fork) (r : Record) (bytes : List ℕ) (now : ℕ) (written : List ℕ) (old new : Blocks) : Type 0 where
   pub was : is_file r.1 ≡ true
   pub first : List Extent

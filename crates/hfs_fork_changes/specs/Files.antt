@@ -1,4 +1,4 @@
--- A file's record behind a change of one of its forks.
+-- A file's record after a change of one of its forks.
 use Rattle.std.specs.Prelude.{ℕ, List}
 use Rattle.hfs_fields.specs.declared.extent.Extent.{Extent}
 use Rattle.hfs_fields.specs.declared.file_record.FileRecord.{FileRecord}

@@ -18,12 +18,12 @@ AreFull total blocks = (n : ℕ) → n < total → length (blocks n) ≡ 512
 
 -- ---- what is edited
 
--- zeros stand in the place of `count` bytes of the extents' blocks from `from` on, and no other block has changed
+-- zeros take the place of `count` bytes of the extents' blocks from `from` on, and no other block has changed
 pub record LaysZeros (mdb : Mdb) (extents : List Extent) (from count : ℕ) (old new : Blocks) : Type 0 where
   pub zeros : HaveZeros mdb extents from count old new
   pub beside : KeepOthers mdb extents from count old new
 
--- these bytes stand in the place of those from `offset` on, and no other block has changed
+-- these bytes take the place of those from `offset` on, and no other block has changed
 pub record LaysBytes (mdb : Mdb) (extents : List Extent) (offset : ℕ) (part : List ℕ) (old new : Blocks) : Type 0 where
   pub given : all_bytes new mdb extents ≡ with_part offset part (all_bytes old mdb extents)
   pub beside : KeepsBeside (block_numbers mdb extents) offset (length part) old new
@@ -32,7 +32,7 @@ pub record LaysBytes (mdb : Mdb) (extents : List Extent) (offset : ℕ) (part : 
 abbrev pub ChangesAsCallsDo : Blocks → Blocks → Blocks → Type 0
 ChangesAsCallsDo volume old new = (n : ℕ) → IsBeside volume n → new n ≡ old n
 
--- First the zeros are laid over these extents of a volume, and then the bytes. Before them, between them and behind them every block may
+-- First the zeros are laid over these extents of a volume, and then the bytes. Before them, between them and after them every block may
 -- change that every call may change.
 pub record Lays (extents : List Extent) (from count offset : ℕ) (part : List ℕ) (old new : Blocks) : Type 0 where
   pub before : Blocks
@@ -45,9 +45,9 @@ pub record Lays (extents : List Extent) (from count offset : ℕ) (part : List �
   pub bytes : LaysBytes (mdb_in old) extents offset part between laid
   pub ends : ChangesAsCallsDo old laid new
 
--- Which zeros a fork wants that had `was` bytes in `had` blocks of `size` bytes, and gets `len` in n blocks, so many of them given from
+-- Which zeros a fork needs that had `was` bytes in `had` blocks of `size` bytes, and gets `len` in n blocks, so many of them given from
 -- `offset` on: none before its old end, all from there to where the given ones begin or from where they end; to the end of its last block,
--- where blocks come, else to its new end.
+-- where blocks are added, else to its new end.
 pub record AreZeros (size was had len n offset given from count : ℕ) : Type 0 where
   pub behind : was ≤ from
   pub begins : from ≤ max was (offset + given)
@@ -70,8 +70,8 @@ pub record AreWritten (numbers : List ℕ) (from count offset given : ℕ) (writ
 
 -- ---- what the bytes are then
 
--- Byte by byte of a fork's blocks, which had `was` bytes in blocks of `had` bytes, and has `len`: the given bytes stand from `offset` on. Of
--- the others those are zeros that lie in blocks which came, or between the old end and the new one. All others are as they were.
+-- Byte by byte of a fork's blocks, which had `was` bytes in blocks of `had` bytes, and has `len`: the given bytes are from `offset` on. Of
+-- the others those are zeros that lie in blocks which were added, or between the old end and the new one. All others are as they were.
 pub record AreLaid (was had len offset : ℕ) (part old new : List ℕ) : Type 0 where
   pub given : (j : ℕ) → j < length part → slice_index new (offset + j) ≡ slice_index part j
   pub zeros : (j : ℕ) → j < length new → (j < offset) ⊎ (offset + length part ≤ j) → (had ≤ j) ⊎ ((was ≤ j) × (j < len)) → slice_index new j ≡ 0

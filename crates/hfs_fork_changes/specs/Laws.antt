@@ -13,7 +13,7 @@ use Rattle.hfs_model.specs.Forks.{resized, written}
 use Rattle.hfs_model.specs.ForkCalls.{to_set_eof, to_write_fork, set_eof, write_fork}
 use Rattle.hfs_fork_changes.specs.Edits.{bytes_of, ChangesFork}
 
--- the volume is sound, keeps what calls keep but for these blocks, which the call wrote, and is this one
+-- the volume is sound, keeps what calls keep except for these blocks, which the call wrote, and is this one
 pub record HasBecome (blocks : List ℕ) (v : Volume) (total : ℕ) (old new : Blocks) : Type 0 where
   pub sound : AreBlocksSound total new
   pub kept : KeepsBut blocks old new

@@ -21,7 +21,7 @@ HasBitmapOf old bits new = (k : ℕ) → (mdb_in old).bitmap_start ≤ k → k <
 
 -- ---- what is edited: the fork has n blocks then, and `first` are its first three extents
 
--- pieces that were free came to the fork, and their bits were set
+-- pieces that were free were added to the fork, and their bits were set
 pub record Gains (fork : Fork) (was : FileRecord) (first : List Extent) (n : ℕ) (old new : Blocks) : Type 0 where
   pub wanted : ℕ
   pub count : length (blocks_of old fork was) + wanted ≡ n

@@ -50,8 +50,8 @@ IsForkVolumeIn total blocks b mdb extents catalog = IsForkVolume (total b) (bloc
 
 -- ---- the change
 
--- The change makes the volume of the call's outcome, sound, and has changed nothing beside the blocks that it wrote but what every call
--- may. The file's record is `file` then. The blocks that it wrote are the fork's, and no byte of a block that came is one of before: each of
+-- The change makes the volume of the call's outcome, sound, and has changed nothing besides the blocks that it wrote but what every call
+-- may. The file's record is `file` then. The blocks that it wrote are the fork's, and no byte of a block that was added is one of before: each of
 -- the fork's bytes is a given one, a zero, or stays.
 pub record IsForkChangeOf (made : Outcome) (fork : Fork) (f : FoundFile) (len offset : ℕ) (part : List ℕ) (total : ℕ) (old : Blocks) (c : Change) : Type 0 where
   pub within : AreWithin (changes c.patch) total
@@ -65,7 +65,7 @@ pub record IsForkChangeOf (made : Outcome) (fork : Fork) (f : FoundFile) (len of
   pub own : Each (λ n. In n (block_numbers (mdb_in old) (extents_of (changed old c) fork file))) (written_blocks c.written)
   pub laid : HasLaid fork f.file file len offset part old (changed old c)
 
--- the file with this key and this record is one of the volume's, and stands at this place
+-- the file with this key and this record is one of the volume's, and is at this place
 pub record IsFoundIn (old : Blocks) (f : FoundFile) : Type 0 where
   pub chosen : Result Entry ℤ
   pub is : IsFoundFile old chosen f
@@ -74,7 +74,7 @@ pub record IsFoundIn (old : Blocks) (f : FoundFile) : Type 0 where
 abbrev pub AreFoundIn : Blocks → Result FoundFile ℤ → Type 0
 AreFoundIn old found = IfOk found (IsFoundIn old)
 
--- The zeros that a fork gets, which had this record, begin where it ended, or where the given bytes end, if that is behind it. These lie within its
+-- The zeros that a fork gets, which had this record, begin where it ended, or where the given bytes end, if that is after it. These lie within its
 -- new length.
 pub record HasPlaces (fork : Fork) (was : FileRecord) (len from offset given : ℕ) : Type 0 where
   pub behind : (fork_of fork was).length ≤ from
@@ -99,9 +99,9 @@ abbrev pub IsResized : FoundFile → Fork → ℕ → ℕ → List ℕ → ℕ �
 IsResized f fork len offset part now total old (Ok c) = HasResized f fork len offset part now total old c
 IsResized f fork len offset part now total old (Err want) = IsWanting fork f.file len old want
 
--- ---- what a call comes to
+-- ---- the outcome of a call
 
--- the change of a file that was found, with nothing wanting; or the want, of a call that would be done otherwise; or a code that
+-- the change of a file that was found, with nothing lacking; or the want, of a call that would be done otherwise; or a code that
 -- refuses it
 abbrev pub IsForkEdit : Outcome → Result FoundFile ℤ → Fork → (FoundFile → ℕ) → ℕ → List ℕ → ℕ → Blocks → Result Change ForkRefusal → Type 0
 IsForkEdit made found fork len offset part total old (Ok c) =

@@ -17,7 +17,7 @@ use Rattle.hfs_fork_edits.specs.declared.choosing.FoundFile.{FoundFile}
 
 -- ---- the file
 
--- a call chooses the file with this key and this record, which stands at this place of the catalog
+-- a call chooses the file with this key and this record, which is at this place of the catalog
 pub record IsFoundFile (old : Blocks) (chosen : Result Entry ℤ) (f : FoundFile) : Type 0 where
   pub choice : IsFileChoice old chosen f.key f.file
   pub place : IsPlaceOf cat_keys (catalog_nodes old) f.key f.place
@@ -36,7 +36,7 @@ if_short length found = if nat_lt 2147483647 length then Err PARAMETER else foun
 abbrev pub unless_past : Fork → ℕ → FoundFile → Result FoundFile ℤ
 unless_past fork offset f = if nat_lt (fork_of fork f.file).length offset then Err END_OF_FILE else Ok f
 
--- -50 of too many bytes, and where they would end too far behind; then -39
+-- -50 of too many bytes, and where they would end too far on; then -39
 abbrev pub if_writable : Fork → ℕ → List ℕ → Result FoundFile ℤ → Result FoundFile ℤ
 if_writable fork offset bytes found =
     if nat_lt 65536 (length bytes) || nat_lt 2147483647 (offset + length bytes) then Err PARAMETER

@@ -28,11 +28,11 @@ use Rattle.hfs_fork_edits.specs.declared.volume.Settled.{Settled}
 
 -- ---- what was laid
 
--- beside these blocks, none has changed
+-- besides these blocks, none has changed
 abbrev pub KeepsBesideBlocks : List ℕ → Blocks → Blocks → Type 0
 KeepsBesideBlocks numbers old new = (n : ℕ) → Each (IsOther n) numbers → new n ≡ old n
 
--- zeros and bytes were laid over these extents, as the fork wants that had this record and gets `len` bytes; these blocks were written
+-- zeros and bytes were laid over these extents, as the fork needs that had this record and gets `len` bytes; these blocks were written
 pub record IsLaidFor (fork : Fork) (was : FileRecord) (len : ℕ) (all : List Extent) (from count offset : ℕ) (part written : List ℕ) (old laid : Blocks) : Type 0 where
   pub are_zeros : AreZeros (mdb_in old).allocation_block_size (fork_of fork was).length (length (blocks_of old fork was)) len (blocks (mdb_in old).allocation_block_size len) offset (length part) from count
   pub lays : LaysBoth (mdb_in old) all from count offset part old laid
@@ -52,12 +52,12 @@ pub record HasSettled (f : FoundFile) (fork : Fork) (len now : ℕ) (all : List 
   pub directory : mdb_in (patched below made.patch) ≡ with_counts made.counts (mdb_in old)
   pub sets : SetsLaid f fork len now all old (patched below laid) (patched below made.patch)
 
--- the pieces came to the fork, and the extents tree had nodes enough for the records that came
+-- the pieces were added to the fork, and the extents tree had nodes enough for the records that were added
 pub record HasGained (f : FoundFile) (fork : Fork) (len now : ℕ) (pieces : List Extent) (total : ℕ) (old below : Blocks) (laid : Numbered) (made : Settled) : Type 0 where
   pub settled : HasSettled f fork len now (grown (extents_of old fork f.file) pieces) total old below laid made
   pub enough : HasNodesFor (records_coming (extents_of old fork f.file) pieces) (extents_nodes old)
 
--- the tree has too few free nodes for that, and it is told how many
+-- the tree has too few free nodes for that, and it is said how many
 pub record IsNodesWanted (f : FoundFile) (fork : Fork) (pieces : List Extent) (old : Blocks) (told : Want) : Type 0 where
   pub nodes : NodesWanted
   pub is : IsWantOfNodes (records_coming (extents_of old fork f.file) pieces) (extents_nodes old) nodes

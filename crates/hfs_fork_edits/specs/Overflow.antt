@@ -17,11 +17,11 @@ use Rattle.hfs_call_patches.specs.Patches.{patched, patched_nodes}
 use Rattle.hfs_fork_edits.specs.declared.overflow.Lengthened.{Lengthened}
 use Rattle.hfs_fork_edits.specs.declared.overflow.Shortened.{Shortened}
 
--- beside the blocks of these runs, new shows the same over these blocks as old
+-- outside the blocks of these runs, new shows the same over these blocks as old
 abbrev pub KeepsBesideRuns : List Run → (ℕ → List ℕ) → Numbered → Numbered → Type 0
 KeepsBesideRuns runs blocks old new = beside (flat_map run_of runs) (patched blocks new) ≡ beside (flat_map run_of runs) (patched blocks old)
 
--- the pieces came to the fork; or, exactly where the tree has too few free nodes, how many it has
+-- the pieces were added to the fork; or, exactly where the tree has too few free nodes, how many it has
 abbrev pub GivesGrownOver : ℕ → ForkKind → List Extent → List Extent → (ℕ → List ℕ) → List Run → Numbered → Result Lengthened NodesWanted → Type 0
 GivesGrownOver file fork first pieces blocks runs patch answer =
     MatchResult answer

@@ -11,10 +11,10 @@ use Rattle.hfs_catalog_edits.specs.ItemEdits.{IsSameKindAt}
 use Rattle.hfs_catalog_edits.specs.RecordEdits.{RecordSet}
 use Rattle.hfs_call_patches.specs.Patches.{patched_nodes}
 
--- a file's record stands under the key
+-- a file's record is under the key
 abbrev pub IsFileAt : Store → CatKey → FileRecord → Type 0
 IsFileAt nodes key file = IsSameKindAt nodes key (File file)
 
--- this one stands in its place
+-- this one takes its place
 abbrev pub SetsFileOver : CatKey → FileRecord → (ℕ → List ℕ) → List Run → Numbered → Numbered → Type 0
 SetsFileOver key file blocks runs old new = RecordSet (key, file_record_bytes file) (patched_nodes blocks old runs) (patched_nodes blocks new runs)

@@ -1,4 +1,4 @@
--- The free blocks that come to a fork.
+-- The free blocks that are added to a fork.
 use Rattle.std.specs.Prelude.{◌≡◌, ℕ, ◌+◌, ◌≤◌, ◌==◌, if◌then◌else◌, List, [], ◌∷◌, ◌++◌, Option, Some, None, Result}
 use Rattle.std.specs.Result.{MatchResult}
 use Rattle.std.specs.Option.{option_or}
@@ -19,11 +19,11 @@ abbrev pub block_after : List Extent → Option ℕ
 block_after [] = None
 block_after (e ∷ es) = option_or (block_after es) (if e.count == 0 then None else Some (e.first + e.count))
 
--- the blocks that come to a fork with these extents, or, exactly where there are too few, how many are free
+-- the blocks that are added to a fork with these extents, or, exactly where there are too few, how many are free
 abbrev pub GivesPieces : (ℕ → List ℕ) → Mdb → List Extent → ℕ → Result (Vec Extent Global) Room → Type 0
 GivesPieces blocks mdb extents wanted answer = GivesChoice (is_used blocks mdb.bitmap_start) mdb.allocation_blocks (block_after extents) wanted answer
 
--- they are free, each once, and as many as are wanted
+-- they are free, each once, and as many as are needed
 abbrev pub GivesFree : (ℕ → List ℕ) → Mdb → ℕ → Result (Vec Extent Global) Room → Type 0
 GivesFree blocks mdb wanted answer = GivesFreeOnce (is_used blocks mdb.bitmap_start) mdb.allocation_blocks wanted answer
 
@@ -35,12 +35,12 @@ pub record IsGrowing (blocks : ℕ → List ℕ) (mdb : Mdb) (extents : List Ext
   pub all : g.extents.items ≡ grown extents g.pieces.items
   pub made : extent_blocks g.extents.items ≡ extent_blocks extents ++ extent_blocks g.pieces.items
 
--- too few blocks are free, and that is told
+-- too few blocks are free, and that is reported
 pub record IsRoomWanted (blocks : ℕ → List ℕ) (mdb : Mdb) (wanted : ℕ) (told : Want) : Type 0 where
   pub room : Room
   pub is : IsRoom (is_used blocks mdb.bitmap_start) mdb.allocation_blocks wanted room
   pub same : told ≡ want.Room room.free room.wanted
 
--- the pieces and the extents; or the want of blocks, exactly where there are too few
+-- the pieces and the extents; or the lack of blocks, exactly where there are too few
 abbrev pub GivesGrowing : (ℕ → List ℕ) → Mdb → List Extent → ℕ → Result Growing Want → Type 0
 GivesGrowing blocks mdb extents wanted answer = MatchResult answer (λ g. IsGrowing blocks mdb extents wanted g) (λ told. IsRoomWanted blocks mdb wanted told)

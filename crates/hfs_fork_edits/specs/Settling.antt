@@ -10,7 +10,7 @@ use Rattle.hfs_call_patches.specs.Settings.{PutsCounts}
 use Rattle.hfs_fork_edits.specs.Overflow.{KeepsBesideRuns}
 use Rattle.hfs_fork_edits.specs.Recorded.{SetsFileOver}
 
--- the file's record stands in the catalog, in these runs over the blocks below; then the counts stand in the volume's block 2
+-- the file's record is in the catalog, in these runs over the blocks below; then the counts are in the volume's block 2
 pub record Settles (key : CatKey) (file : FileRecord) (counts : Mdb) (volume below : ℕ → List ℕ) (runs : List Run) (old new : Numbered) : Type 0 where
   pub middle : Numbered
   pub set : SetsFileOver key file below runs old middle

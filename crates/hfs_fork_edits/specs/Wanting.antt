@@ -1,4 +1,4 @@
--- What SetEof and WriteFork want of a volume, and what is told where that is wanting.
+-- What SetEof and WriteFork need of a volume, and what is reported where that is lacking.
 use Rattle.std.specs.Prelude.{◌≡◌, ℕ, ◌≤◌, List, length, Option, Some}
 use Rattle.hfs_fields.specs.declared.extent.Extent.{Extent}
 use Rattle.hfs_fields.specs.declared.file_record.FileRecord.{FileRecord}
@@ -20,11 +20,11 @@ use Rattle.hfs_fork_edits.specs.Room.{block_after}
 abbrev pub supply_in : Blocks → Supply
 supply_in old = record { blocks = (mdb_in old).free_blocks; nodes = free_nodes (extents_nodes old); depth = depth_of (extents_nodes old); records = length (overflow_in old) }
 
--- what comes to a fork with these extents: so many blocks, and the records that these pieces want
+-- what is added to a fork with these extents: so many blocks, and the records that these pieces need
 abbrev pub growth_of : ℕ → List Extent → List Extent → Growth
 growth_of wanted extents pieces = record { blocks = wanted; records = records_coming extents pieces }
 
--- What is wanting, if something is, where the fork of the file gets so many bytes. Where as many blocks are free as it wants more, the
+-- What is lacking, if something is, where the fork of the file gets so many bytes. Where as many blocks are free as it needs more, the
 -- pieces are those that are chosen of them.
 pub record MeetsWant (fork : Fork) (file : FileRecord) (len : ℕ) (old : Blocks) (want : Option Want) : Type 0 where
   pub wanted : ℕ

@@ -5,6 +5,6 @@ use Rattle.std.specs.Prelude.{ℕ, ◌+◌, min, max, nat_lt, if◌then◌else�
 abbrev pub first_written : ℕ → ℕ → ℕ → ℕ → ℕ
 first_written from end offset count = min (if nat_lt from end then from else 4294967295) (if nat_lt 0 count then offset else 4294967295)
 
--- the place behind the last of these; where there are none, 0
+-- the place after the last of these; where there are none, 0
 abbrev pub last_written : ℕ → ℕ → ℕ → ℕ → ℕ
 last_written from end offset count = max (if nat_lt from end then end else 0) (if nat_lt 0 count then offset + count else 0)

@@ -11,7 +11,7 @@ abbrev pub cut : ℕ → List Extent → List Extent
 cut n [] = []
 cut n (e ∷ es) = cut_extent n e ∷ cut (n - e.count) es
 
--- the blocks behind the first n, as extents
+-- the blocks after the first n, as extents
 abbrev pub surplus : ℕ → List Extent → List Extent
 surplus n [] = []
 surplus n (e ∷ es) = if nat_le e.count n then surplus (n - e.count) es else record { first = e.first + n; count = e.count - n } ∷ surplus 0 es

@@ -1,4 +1,4 @@
--- Extents to which blocks come.
+-- Extents to which blocks are added.
 use Rattle.std.specs.Prelude.{ℕ, ◌+◌, ◌-◌, Bool, ◌&&◌, ◌==◌, nat_lt, if◌then◌else◌, List, [], ◌∷◌, ◌++◌, length, slice_index_or, slice_set}
 use Rattle.hfs_fields.specs.declared.extent.Extent.{Extent}
 
@@ -27,7 +27,7 @@ longer e piece = record { first = e.first; count = e.count + piece.count }
 abbrev pub with_place : List Extent → ℕ → Extent → List Extent
 with_place extents place piece = if nat_lt place (length extents) then slice_set extents place piece else extents ++ piece ∷ none ∷ none ∷ []
 
--- The piece lengthens the last extent that has blocks, where it begins directly after it, and comes to the next place else. The
+-- The piece lengthens the last extent that has blocks, where it begins directly after it, and otherwise gets the next place. The
 -- first `used` places are those up to that extent.
 abbrev pub with_piece : List Extent → ℕ → Extent → List Extent
 with_piece extents used piece =

@@ -9,7 +9,7 @@ use Rattle.hfs_fork_extents.specs.Cuts.{cut, surplus}
 use Rattle.hfs_fork_extents.specs.Whole.{IsWhole, EditsFork}
 use Rattle.hfs_fork_extents.specs.declared.shortening.ShortFork.{ShortFork}
 
--- they are the first n blocks of these extents, but for places at the end that have none
+-- they are the first n blocks of these extents, except for places at the end that have none
 pub record IsCutTo (n : ℕ) (was now : List Extent) : Type 0 where
   pub rest : List Extent
   pub is : now ++ rest ≡ cut n was

@@ -10,7 +10,7 @@ AreThrees (a ∷ []) = ⊥
 AreThrees (a ∷ b ∷ []) = ⊥
 AreThrees (a ∷ b ∷ c ∷ es) = (0 < block_total (a ∷ b ∷ c ∷ [])) × AreThrees es
 
--- of the threes behind the first, so many begin before the fork's block n, and no other one does
+-- of the threes after the first, so many begin before the fork's block n, and no other one does
 pub record AreLeft (n : ℕ) (extents : List Extent) (threes : ℕ) : Type 0 where
   pub within : 3 * threes + 3 ≤ length extents
   pub before : 0 < threes → block_total (take (3 * threes) extents) < n

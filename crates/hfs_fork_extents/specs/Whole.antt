@@ -39,7 +39,7 @@ KeepsOtherRecords file fork old new = (f k : ℕ) → (f ≡ file → k ≡ fork
 abbrev pub IsKeyOfOr : ℕ → ℕ → Store → ExtKey → Type 0
 IsKeyOfOr file fork nodes k = ((k.file ≡ file) × (k.fork ≡ fork)) ⊎ In k (tree_keys ext_keys nodes)
 
--- A sound tree, exact where it was, with its frame, and no key that it didn't have but the fork's. A node that comes is taken from the
+-- A sound tree, exact where it was, with its frame, and no key that it didn't have but the fork's. A node that is added is taken from the
 -- free ones, and one that goes is given back to them. The stray nodes, and those of the file that aren't the tree's, have their
 -- bytes. Every other fork has its records and its extents.
 pub record EditsFork (file fork : ℕ) (old new : Store) : Type 0 where
@@ -69,7 +69,7 @@ key_at file fork block = record { fork = fork; file = file; block = block }
 abbrev pub AreBefore : ℕ → ℕ → ℕ → Store → Type 0
 AreBefore file fork block nodes = Each (λ r. r.0.block < block) (of_fork file fork (overflow_of nodes))
 
--- behind the fork's records stands one that begins at this block of it, with these extents
+-- after the fork's records is one that begins at this block of it, with these extents
 pub record HasRecordBehind (file fork block : ℕ) (extents : List Extent) (old new : Store) : Type 0 where
   pub body : List ℕ
   pub holds : record_extents body ≡ extents
@@ -85,7 +85,7 @@ pub record HasRecordSet (file fork block : ℕ) (extents : List Extent) (old new
   pub holds : record_extents body ≡ extents
   pub is : of_fork file fork (overflow_of new) ≡ with_replaced ext_cmp (key_at file fork block) body (of_fork file fork (overflow_of old))
 
--- The fork has as many extents as `places`, and but for the last three they are the first of these. The new last three have a block, and
+-- The fork has as many extents as `places`, and except for the last three they are the first of these. The new last three have a block, and
 -- there are few enough before them that a key has their number.
 pub record LastMayChange (file fork : ℕ) (first extents : List Extent) (places : ℕ) (nodes : Store) : Type 0 where
   pub all : List Extent

@@ -8,7 +8,7 @@ use Rattle.hfs_fork_pieces.specs.Pieces.{skipped, end_of, ArePieces, fork_length
 
 -- ---- pieces by their places
 
--- the first of these pieces ends behind the place, if there is one
+-- the first of these pieces ends after the place, if there is one
 abbrev pub EndsBehind : ℕ → List Piece → Type 0
 EndsBehind place [] = ⊤
 EndsBehind place (p ∷ ps) = place < p.end
@@ -29,7 +29,7 @@ abbrev pub MaySkipTo : ℕ → ℕ → List Piece → Type 0
 MaySkipTo start place [] = ⊤
 MaySkipTo start place (p ∷ ps) = MaySkip (place - start) p.source
 
--- ---- pieces that come
+-- ---- pieces that are added
 
 -- what the first piece, which begins at `start`, has before the place
 abbrev pub front_of : ℕ → ℕ → List Piece → List Piece

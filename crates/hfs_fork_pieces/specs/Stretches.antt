@@ -1,4 +1,4 @@
--- Bytes of a fork side by side that come of one source.
+-- Neighbouring bytes of a fork from one source.
 use Rattle.std.specs.Prelude.{⊤, ◌≡◌, ℕ, ◌+◌, ◌≤◌, ◌<◌, ◌^◌, List, length, take, drop, replicate}
 use Rattle.hfs_fork_pieces.specs.declared.piece.Source.{Source}
 use Rattle.hfs_fork_pieces.specs.declared.piece.Source.TheVariants.{Base, Zeros, Given}

@@ -1,4 +1,4 @@
--- What a call that writes a fork wants of a volume, and what is told where that is wanting.
+-- What a call that writes a fork needs of a volume, and what is reported where that is lacking.
 use Rattle.std.specs.Prelude.{◌≡◌, ℕ, ◌+◌, ◌-◌, ◌<◌, ◌≤◌, max, nat_lt, if◌then◌else◌, IsTrue, List, length, Option, Some, None, IfSome}
 use Rattle.std.specs.Int.{div_ceil}
 use Rattle.hfs_model.specs.declared.call.Fork.{Fork}
@@ -13,22 +13,22 @@ use Rattle.hfs_fork_calls.specs.Laws.{fork_named}
 use Rattle.hfs_fork_wants.specs.declared.room.Supply.{Supply}
 use Rattle.hfs_fork_wants.specs.declared.room.Growth.{Growth}
 
--- ---- what is there, and what comes
+-- ---- what is there, and what is added
 
--- the allocation blocks that come to a fork which has so many, and gets so many bytes
+-- the allocation blocks that are added to a fork which has so many, and gets so many bytes
 abbrev pub blocks_wanted : ℕ → ℕ → ℕ → ℕ
 blocks_wanted size have length = blocks size length - have
 
--- what is wanting, if something is: allocation blocks first, then nodes of the extents tree for the records that come to it
+-- what is lacking, if something is: allocation blocks first, then nodes of the extents tree for the records that are added to it
 abbrev pub want_of : Supply → Growth → Option Want
 want_of s g =
     if nat_lt s.blocks g.blocks then Some (want.Room s.blocks g.blocks)
     else if nat_lt s.nodes (extents_need g.records s.depth s.records) then Some (want.ExtentNodes s.nodes s.depth)
     else None
 
--- ---- which want may be told
+-- ---- which want may be reported
 
--- there are fewer nodes than n more records want: at least one, and no more than there are threes of `most` blocks. An empty tree has
+-- there are fewer nodes than n more records need: at least one, and no more than there are threes of `most` blocks. An empty tree has
 -- no records.
 pub record IsWantOfNodes (most free depth n records : ℕ) : Type 0 where
   pub some : 1 ≤ n
@@ -36,14 +36,14 @@ pub record IsWantOfNodes (most free depth n records : ℕ) : Type 0 where
   pub empty : depth ≡ 0 → records ≡ 0
   pub wanting : free < extents_need n depth records
 
--- of a fork that gets so many allocation blocks at most: no nodes of the catalog, fewer blocks than are wanted, which are no more than
+-- of a fork that gets so many allocation blocks at most: no nodes of the catalog, fewer blocks than are needed, which are no more than
 -- all, or fewer nodes of the extents tree
 abbrev pub IsForkWant : ℕ → Want → Type 0
 IsForkWant most (want.Nodes free depth) = ⊥
 IsForkWant most (want.Room free wanted) = (free < wanted) × (wanted ≤ most)
 IsForkWant most (want.ExtentNodes free depth) = (n : ℕ) × (records : ℕ) × IsWantOfNodes most free depth n records
 
--- where blocks and records that come are of a fork with so many blocks, what is told is such a want
+-- where blocks and records that are added are of a fork with so many blocks, what is reported is such a want
 pub record IsGrowthOf (most : ℕ) (s : Supply) (g : Growth) : Type 0 where
   pub blocks : g.blocks ≤ most
   pub records : g.records ≤ div_ceil most 3
@@ -65,7 +65,7 @@ abbrev pub IsWriteForkWant : ℕ → Volume → ℕ → List ℕ → Fork → �
 IsWriteForkWant size v dir name fork offset bytes now want =
     IsTrue (is_accepted (write_fork size v dir name fork offset bytes now).1) × IsForkWant (blocks size (length_written v dir name fork offset bytes)) want
 
--- of an accepted call, and of what comes to a fork of that length, what is wanting is such a want
+-- of an accepted call, and of what is added to a fork of that length, what is lacking is such a want
 abbrev pub SetEofWantsAreTold : Type 0
 SetEofWantsAreTold = (size : ℕ) (v : Volume) (dir : ℕ) (name : List ℕ) (fork : Fork) (length now : ℕ) (s : Supply) (g : Growth) →
     IsTrue (is_accepted (set_eof size v dir name fork length now).1) → IsGrowthOf (blocks size length) s g →

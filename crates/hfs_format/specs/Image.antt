@@ -33,7 +33,7 @@ catalog_tree volume = one_leaf_tree 37 volume.catalog.nodes 2
 abbrev pub catalog_block : Layout → ℕ → List ℕ
 catalog_block volume j = if j == (catalog_tree volume).root then node_bytes (root_leaf volume) else tree_block (catalog_tree volume) j
 
--- block k of the volume: behind two boot blocks and the master directory block, the bitmap begins at block 3
+-- block k of the volume: after two boot blocks and the master directory block, the bitmap begins at block 3
 unfoldable pub new_block : Layout → ℕ → List ℕ
 new_block volume k =
     if is_mdb_block volume k then new_mdb_block volume
@@ -42,7 +42,7 @@ new_block volume k =
     else (if nat_lt k (catalog_start volume) then tree_block (extents_tree volume) (k - extents_start volume)
     else catalog_block volume (k - catalog_start volume))))
 
--- the blocks one behind the other
+-- the blocks one after the other
 unfoldable pub volume_image : Layout → List ℕ
 volume_image volume = flat_map (new_block volume) (range_with_len 0 volume.blocks)
 

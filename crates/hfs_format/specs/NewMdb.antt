@@ -52,6 +52,6 @@ new_mdb volume = record {
   catalog_file = one_run volume.extents.blocks volume.catalog.blocks;
 }
 
--- the block: its fields, and zeros behind them
+-- the block: its fields, and zeros after them
 unfoldable pub new_mdb_block : Layout → List ℕ
 new_mdb_block volume = mdb_bytes (new_mdb volume) ++ replicate 350 0

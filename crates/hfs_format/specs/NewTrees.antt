@@ -35,7 +35,7 @@ offsets_down records (suc k) = big_bytes 2 (start_of records (suc k)) ++ offsets
 abbrev pub offset_bytes : List (List ℕ) → List ℕ
 offset_bytes records = offsets_down records (length records)
 
--- a node that fits, in 512 bytes: its descriptor, the records one behind the other, zeros, and the offsets
+-- a node that fits, in 512 bytes: its descriptor, the records one after the other, zeros, and the offsets
 unfoldable pub node_bytes : Node → List ℕ
 node_bytes node =
     descriptor_bytes node ++ flat_map (λ r. r) node.records ++ replicate (496 - size_of node.records) 0 ++ offset_bytes node.records
@@ -84,7 +84,7 @@ header_record tree =
 abbrev pub node_map : TreeHeader → ℕ → ℕ → List ℕ
 node_map tree first count = bit_row (tree.nodes - tree.free_nodes) first count
 
--- the node behind node j of those that hold the map, from 0 for the header node on; 0 behind the last
+-- the node after node j of those that hold the map, from 0 for the header node on; 0 after the last
 unfoldable pub next_map_node : TreeHeader → ℕ → ℕ
 next_map_node tree j = if nat_lt j (map_node_count tree.nodes) then j + 1 else 0
 
@@ -113,7 +113,7 @@ pub record IsNewTree (tree : TreeHeader) : Type 0 where
   pub few : tree.nodes ≤ 4194304
   pub free : tree.free_nodes + map_node_count tree.nodes + 1 ≤ tree.nodes
 
--- node j of a new tree, in 512 bytes: the header node, the map nodes, and zeros behind them
+-- node j of a new tree, in 512 bytes: the header node, the map nodes, and zeros after them
 unfoldable pub tree_block : TreeHeader → ℕ → List ℕ
 tree_block tree j =
     if nat_lt (map_node_count tree.nodes) j then replicate 512 0

@@ -19,7 +19,7 @@ block_factor blocks = blocks / 65536 + 1
 unfoldable pub bitmap_blocks : ℕ → ℕ
 bitmap_blocks blocks = (blocks / block_factor blocks + 4095) / 4096
 
--- the block where allocation block 0 begins: behind two boot blocks, the master directory block and the bitmap
+-- the block where allocation block 0 begins: after two boot blocks, the master directory block and the bitmap
 unfoldable pub allocation_start : ℕ → ℕ
 allocation_start blocks = 3 + bitmap_blocks blocks
 

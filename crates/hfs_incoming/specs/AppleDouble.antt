@@ -11,7 +11,7 @@ use Rattle.hfs_incoming.specs.Dates.{mac_date}
 
 -- ---- the entries
 
--- where the part lies that an entry tells of
+-- where the part lies that an entry describes
 abbrev pub entry_place : List ℕ → ForkPlace
 entry_place entry = record { start = number_at 4 4 entry; len = number_at 8 4 entry }
 
@@ -49,7 +49,7 @@ parts_in len file = if nat_le 26 len then parts_with len (bytes_at 0 26 file) fi
 
 -- ---- the parts
 
--- the first 32 bytes of what the Finder keeps, with zeros behind where there are fewer
+-- the first 32 bytes of what the Finder keeps, with zeros at the end where there are fewer
 unfoldable pub finder_in : Option ForkPlace → List ℕ → List ℕ
 finder_in None file = replicate 32 0
 finder_in (Some place) file = bytes_at place.start (min place.len 32) file ++ replicate (32 - min place.len 32) 0

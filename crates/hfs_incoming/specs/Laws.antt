@@ -21,7 +21,7 @@ pub record AreHostNamesRead (host_name : List ℕ → List ℕ) : Type 0 where
   pub back : (name : List ℕ) → IsTrue (is_bytes name) → name ≢ [] → host_letters (chars (host_name name)) ≡ name
   -- so an item name comes back
   pub item : (name : List ℕ) → IsTrue (is_item_name name) → given_name (host_letters (chars (host_name name))) ≡ Item name
-  -- and what stands in the place of other letters is an item name
+  -- and what takes the place of other letters is an item name
   pub other : (letters : List ℕ) → IsTrue (is_item_name (renamed letters))
 
 -- the laws of plain text that is read back
@@ -31,7 +31,7 @@ pub record IsPlainTextRead (plain_text : List ℕ → List ℕ) : Type 0 where
   -- so an item name comes back
   pub item : (name : List ℕ) → IsTrue (is_item_name name) → given_name (plain_letters (chars (plain_text name))) ≡ Item name
 
--- what is told of a file with this header and both forks
+-- what is said about a file with this header and both forks
 abbrev pub macbinary_file_of : MacBinaryHead → MacBinaryFile
 macbinary_file_of head = record {
   name = given_name head.name;
@@ -49,7 +49,7 @@ pub record IsReadBack (head : MacBinaryHead) (data_fork resource_fork : List ℕ
   pub data_is : fork_in (macbinary_file_of head).data_fork (macbinary_bytes head data_fork resource_fork) ≡ data_fork
   pub resource_is : fork_in (macbinary_file_of head).resource_fork (macbinary_bytes head data_fork resource_fork) ≡ resource_fork
 
--- what is told of a file with this head
+-- what is said about a file with this head
 abbrev pub apple_double_file_of : AppleDoubleHead → AppleDoubleFile
 apple_double_file_of head = record { finder = head.finder; dates = None; resource_fork = record { start = 82; len = head.resource_length } }
 

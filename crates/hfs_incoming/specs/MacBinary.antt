@@ -23,11 +23,11 @@ is_macbinary_head head =
 abbrev pub filled_length : ℕ → ℕ
 filled_length len = len + padding len
 
--- the data fork stands behind both headers; of the second the length is told
+-- the data fork follows both headers; of the second header the length is given
 unfoldable pub data_place : List ℕ → ForkPlace
 data_place head = record { start = 128 + filled_length (number_at 120 2 head); len = number_at 83 4 head }
 
--- the resource fork stands behind the data fork
+-- the resource fork follows the data fork
 unfoldable pub resource_place : List ℕ → ForkPlace
 resource_place head = record { start = (data_place head).start + filled_length (data_place head).len; len = number_at 87 4 head }
 
@@ -46,7 +46,7 @@ macbinary_of head = record {
   resource_fork = resource_place head;
 }
 
--- what the header tells of a file of so many bytes, where they are header and forks and nothing else
+-- what the header says about a file of so many bytes, where they are header and forks and nothing else
 unfoldable pub macbinary_with : ℕ → List ℕ → Option MacBinaryFile
 macbinary_with len head = if is_macbinary_head head && (len == macbinary_end head) then Some (macbinary_of head) else None
 

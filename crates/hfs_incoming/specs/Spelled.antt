@@ -5,7 +5,7 @@ use Rattle.hfs_names.specs.MacRoman.{high_characters}
 use Rattle.hfs_incoming.specs.declared.spelled.Spelling.{Spelling}
 use Rattle.hfs_incoming.specs.declared.spelled.Spelling.TheVariants.{HostName, PlainText}
 
--- the byte that stands at this place of the table of characters; 0 where there is none
+-- the byte that is at this place of the table of characters; 0 where there is none
 abbrev pub high_byte : Option ℕ → ℕ
 high_byte None = 0
 high_byte (Some place) = 0x80 + place
@@ -62,7 +62,7 @@ seen_letter letter = if nat_lt letter 128 then letter else 0
 abbrev pub seen_letters : Spelling → List ℕ → List ℕ
 seen_letters spelling characters = map seen_letter (letters_in spelling characters)
 
--- the byte that two digits say where characters begin with them, and what stands behind these
+-- the byte that two digits give where characters begin with them, and what follows these
 unfoldable pub digits_in : Spelling → List ℕ → Option (ℕ × List ℕ)
 digits_in spelling [] = None
 digits_in spelling (b ∷ []) = None

@@ -1,4 +1,4 @@
--- What is told of an item by its record and by whether it has a thread.
+-- What is said about an item by its record and by whether it has a thread.
 use Rattle.std.specs.Prelude.{Bool}
 use Rattle.hfs_fields.specs.declared.key.CatKey.{CatKey}
 use Rattle.hfs_model.specs.declared.reply.Info.{Info}

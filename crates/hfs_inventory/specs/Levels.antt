@@ -1,4 +1,4 @@
--- The rows that a catalog's records tell, and those of them that are still to come.
+-- The rows that a catalog's records give, and those of them that are left.
 use Rattle.std.specs.Prelude.{◌≡◌, ℕ, zero, suc, ◌+◌, ◌-◌, ◌≤◌, ◌<◌, ◌==◌, if◌then◌else◌, IsTrue, List, [], ◌∷◌, ◌++◌, length, take, drop, filter, flat_map, slice_index_or, Option, Some, None}
 use Rattle.hfs_fields.specs.Keys.{cat_cmp}
 use Rattle.hfs_fields.specs.Records.{is_item, item_id}
@@ -12,7 +12,7 @@ use Rattle.hfs_inventory.specs.declared.levels.Level.{Level}
 
 -- ---- the rows of a catalog
 
--- what is told of a record's item, behind the path of its folder
+-- what is said about a record's item, after the path of its folder
 abbrev pub told_below : Catalog → List (List ℕ) → Record → ToldRow
 told_below catalog above r = record { path = above ++ r.0.name ∷ []; info = told catalog r }
 
@@ -26,18 +26,18 @@ rows_from catalog (suc depth) above items =
 abbrev pub catalog_rows : Catalog → List ToldRow
 catalog_rows catalog = rows_from catalog (length catalog) [] (children_of catalog 1)
 
--- ---- the rows still to come
+-- ---- the rows that are left
 
--- the first of these records, as long as they stand under this ID
+-- the first of these records, as long as they are under this ID
 abbrev pub first_under : ℕ → Catalog → Catalog
 first_under id [] = []
 first_under id (r ∷ rest) = if r.0.parent == id then r ∷ first_under id rest else []
 
--- the items of a folder whose rows are still to come
+-- the items of a folder whose rows are left
 abbrev pub level_items : Catalog → Level → Catalog
 level_items catalog level = filter (λ (r : Record). is_item r.1) (first_under level.folder (drop level.next catalog))
 
--- the rows that these levels have still to give, of which so many lie above: those of the innermost come first
+-- the rows that these levels have still to give, of which so many lie above: those of the innermost are first
 abbrev pub rows_left : Catalog → ℕ → List (List ℕ) → List Level → List ToldRow
 rows_left catalog above path [] = []
 rows_left catalog above path (level ∷ levels) =
@@ -45,7 +45,7 @@ rows_left catalog above path (level ∷ levels) =
 
 -- ---- what is seen of an inventory
 
--- the path of the row that was last given, and the rows that are still to come
+-- the path of the row that was last given, and the rows that are left
 pub record Going : Type 0 where
   pub path : List (List ℕ)
   pub left : List ToldRow
@@ -58,7 +58,7 @@ pub record CanGoOn (catalog : Catalog) (path : List (List ℕ)) (levels : List L
   pub rises : Rises cat_cmp catalog
   pub named : length levels ≤ length path + 1
 
--- what is told of the next row's item, whose path is the new one; or nothing where no row is left
+-- what is said about the next row's item, whose path is the new one; or nothing where no row is left
 abbrev pub GivesRow : Going → Going → Option Info → Type 0
 GivesRow old new None = (old.left ≡ []) × (new.left ≡ [])
 GivesRow old new (Some info) = old.left ≡ record { path = new.path; info = info } ∷ new.left
@@ -75,7 +75,7 @@ abbrev pub FindsItem : Catalog → Level → Option ℕ → Type 0
 FindsItem catalog level None = level_items catalog level ≡ []
 FindsItem catalog level (Some place) = IsFirstItem catalog level place
 
--- the rows of these levels, whatever the path, begin with that of the record at this place, and behind it come those of what lies in it
+-- the rows of these levels, whatever the path, begin with that of the record at this place, followed by those of what lies in it
 pub record BeginsAt (catalog : Catalog) (old new : List Level) (place : ℕ) : Type 0 where
   pub within : place < length catalog
   pub item : (none : Record) → IsTrue (is_item (slice_index_or catalog place none).1)
@@ -88,7 +88,7 @@ abbrev pub FindsRow : Catalog → List Level → List Level → Option ℕ → T
 FindsRow catalog old new None = ((path : List (List ℕ)) → rows_left catalog 0 path old ≡ []) × (new ≡ [])
 FindsRow catalog old new (Some place) = BeginsAt catalog old new place
 
--- the item at this place came to the path of its folder, and the level of what lies in it; this is told of it
+-- the name of the item at this place was added to the path of its folder, and the level of what lies in it; this is said of it
 abbrev pub HasEntered : Catalog → List (List ℕ) → List (List ℕ) → List Level → List Level → ℕ → Info → Type 0
 HasEntered catalog old_path new_path old new place info =
     (none : Record) → rows_from catalog (suc (length catalog - length old)) (take (length old - 1) old_path) (slice_index_or catalog place none ∷ []) ++ rows_left catalog 0 old_path old

@@ -15,7 +15,7 @@ path_below above e = above ++ e.1.name ∷ []
 abbrev pub row_below : List (List ℕ) → Entry → Row
 row_below above e = record { path = path_below above e; entry = e }
 
--- the rows of all that lies in a folder, at most so many folders deep: for each child in name order its row, and behind it those of
+-- the rows of all that lies in a folder, at most so many folders deep: for each child in name order its row, followed by those of
 -- what lies in it
 abbrev pub rows_in : List Entry → ℕ → List (List ℕ) → ℕ → List Row
 rows_in es zero above dir = []

@@ -95,7 +95,7 @@ AddsRow kind dir name now old new = Adds (kind_of old.base old.mdb kind) dir nam
 abbrev pub Renames : ℕ → List ℕ → List ℕ → ℕ → Table → Table → Type 0
 Renames dir name new_name now old new = Leaves new (rename (volume_of old) dir name new_name now).0
 
--- the folder's item of that name comes to the new folder
+-- the folder's item of that name is put into the new folder
 abbrev pub MovesItem : ℕ → List ℕ → ℕ → ℕ → Table → Table → Type 0
 MovesItem dir name new_dir now old new = Leaves new (cat_move (volume_of old) dir name new_dir now).0
 
@@ -129,7 +129,7 @@ new_row kind dir name now = record { parent = dir; name = name; created = now; m
 abbrev pub IsNew : Mdb → RowKind → Type 0
 IsNew mdb kind = (a : Items) (id : ℕ) → valence (finite.entries a) id ≡ 0 → IsKindOf a mdb id kind
 
--- ---- items that go, or stand elsewhere
+-- ---- items that are deleted, or are elsewhere
 
 abbrev pub kind_less_child : RowKind → RowKind
 kind_less_child (Folder kept children) = Folder kept (children - 1)
@@ -145,12 +145,12 @@ with_name name r = record r { name = name }
 abbrev pub with_parent : ℕ → Row → Row
 with_parent parent r = record r { parent = parent }
 
--- the ID stands at the one place in place of the other
+-- the ID is at the one place and not at the other
 pub record Moves (from to : Place) (id : ℕ) (m n : tree.BTreeMap Place ℕ) : Type 0 where
   pub sorted : tree.IsOrdered place_cmp n
   pub moves : (q : Place) → tree.get place_cmp n q ≡ (if is_eq (place_cmp to q) then Some id else if is_eq (place_cmp from q) then None else tree.get place_cmp m q)
 
--- the same IDs stand at the same places
+-- the same IDs are at the same places
 pub record IsAsBefore (m n : tree.BTreeMap Place ℕ) : Type 0 where
   pub sorted : tree.IsOrdered place_cmp n
   pub same : (q : Place) → tree.get place_cmp n q ≡ tree.get place_cmp m q

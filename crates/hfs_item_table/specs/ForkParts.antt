@@ -7,7 +7,7 @@ use Rattle.hfs_item_table.specs.declared.table.Table.{Table}
 use Rattle.hfs_item_table.specs.declared.table.Found.{Found}
 use Rattle.hfs_item_table.specs.Tables.{kind_of}
 
--- n bytes of these, from a place on, come after the old ones: at least one, and at most so many
+-- n bytes of these, from a place on, are put after the old ones: at least one, and at most so many
 pub record IsPushed (all : List ℕ) (place most : ℕ) (old new : List ℕ) (n : ℕ) : Type 0 where
   pub some : 0 < n
   pub few : n ≤ most

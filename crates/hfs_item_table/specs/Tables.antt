@@ -1,4 +1,4 @@
--- The items that rows stand for.
+-- The items that rows represent.
 use Rattle.std.specs.Prelude.{◌≡◌, ℕ, ◌*◌, ◌≤◌, Bool, IsTrue, List, map, Option, Some}
 use Rattle.std.specs.Borrow.{Bor}
 use Rattle.std.specs.Ordering.{nat_cmp}
@@ -114,7 +114,7 @@ IsKindIn t id kind = IsKindOf (items_of t) t.mdb id kind
 abbrev pub HasItemOf : Table → ℕ → Row → Type 0
 HasItemOf t id r = Has (items_of t) id (item_of t.base t.mdb r)
 
--- each item stands at its place, and nothing else
+-- each item is at its place, and nothing else
 pub record AreNames (items : Items) (names : tree.BTreeMap Place ℕ) : Type 0 where
   pub sorted : tree.IsOrdered place_cmp names
   pub has : (id : ℕ) (i : Item) → Has items id i → tree.get place_cmp names (place i.parent i.name) ≡ Some id

@@ -54,7 +54,7 @@ pub record AreFreeIn (blocks : Blocks) (total : ℕ) (runs : List Run) : Type 0 
   pub within : LieIn total runs
   pub free : Each (IsFreeBlock blocks) (flat_map run_of runs)
 
--- of these blocks those came that are changed and of zeros
+-- of these blocks those were added that are changed and of zeros
 pub record GainsGivenBack (changed : Numbered) (numbers : List ℕ) (old kept : Numbered) : Type 0 where
   pub came : List ℕ
   pub each : Each (λ n. In n numbers × (changes changed n ≡ Some zero_block)) came

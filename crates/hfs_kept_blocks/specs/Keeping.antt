@@ -16,14 +16,14 @@ use Rattle.hfs_sparse.specs.Sparse.{zero_block}
 abbrev pub LieIn : ℕ → List Run → Type 0
 LieIn total runs = Each (λ (run : Run). run.first + run.count ≤ total) runs
 
--- runs of these blocks came, which lie among so many
+-- runs of these blocks were added, which lie among so many
 pub record GainsRuns (numbers : List ℕ) (total : ℕ) (old new : List Run) : Type 0 where
   pub more : List Run
   pub are : new ≡ old ++ more
   pub numbers_are : flat_map run_of more ≡ numbers
   pub within : LieIn total more
 
--- the runs of these extents' blocks came, which lie among as many as the allocation blocks do
+-- the runs of these extents' blocks were added, which lie among as many as the allocation blocks do
 abbrev pub GainsExtents : Mdb → List Extent → List Run → List Run → Type 0
 GainsExtents mdb extents old new = (total : ℕ) → HasArea mdb total → GainsRuns (block_numbers mdb extents) total old new
 
@@ -37,16 +37,16 @@ pub record AreKept (total : ℕ) (among : List ℕ) (old new : ℕ → List ℕ)
 
 -- ---- on the way
 
--- of these blocks each came that goes, as it is now, and no other; the others stay
+-- of these blocks each was added that is removed, as it is now, and no other; the others stay
 pub record GainsBlocks (new : ℕ → List ℕ) (Goes Stays : ℕ → Type 0) (numbers : List ℕ) (old kept : Numbered) : Type 0 where
   pub all : Each (λ n. (changes kept n ≡ Some (new n)) ⊎ Stays n) numbers
   pub only : (n : ℕ) → (changes kept n ≡ changes old n) ⊎ (In n numbers × Goes n × (changes kept n ≡ Some (new n)))
 
--- those came that are changed and other than the ones below
+-- those were added that are changed and other than the ones below
 abbrev pub GainsChanged : Numbered → (ℕ → List ℕ) → List ℕ → Numbered → Numbered → Type 0
 GainsChanged changed below numbers old kept =
     GainsBlocks (over (changes changed) below) (λ n. over (changes changed) below n ≢ below n) (λ n. over (changes changed) below n ≡ below n) numbers old kept
 
--- those of zeros came
+-- those of zeros were added
 abbrev pub GainsZeros : (ℕ → List ℕ) → List ℕ → Numbered → Numbered → Type 0
 GainsZeros new numbers old kept = GainsBlocks new (λ n. new n ≡ zero_block) (λ n. new n ≢ zero_block) numbers old kept

@@ -33,7 +33,7 @@ packed_kind first =
     if begins (137 ∷ 80 ∷ 78 ∷ 71 ∷ 13 ∷ 10 ∷ 26 ∷ 10 ∷ []) first || begins (255 ∷ 216 ∷ 255 ∷ []) first then Some kind.Picture
     else (if begins (codes "GIF87a") first || begins (codes "GIF89a") first then Some kind.Picture else archive_kind first)
 
--- at 69 of a MacBinary file, or among the Finder's bytes in the AppleDouble file beside it
+-- at 69 of a MacBinary file, or among the Finder's bytes in the AppleDouble file next to it
 unfoldable pub creator_kind : List ℕ → Option Kind
 creator_kind creator =
     if begins (codes "DART") creator then Some kind.Dart
@@ -52,11 +52,11 @@ fork_kind glance =
 unfoldable pub beginning_kind : Glance → Option Kind
 beginning_kind glance = option_or (packed_kind glance.first) (fork_kind glance)
 
--- by what it says itself, or by the creator beside it
+-- by what it says itself, or by the creator next to it
 unfoldable pub told_kind : Glance → Option Kind
 told_kind glance = option_or (beginning_kind glance) (creator_kind glance.beside.creator)
 
--- none where an HFS volume begins; else the trailer of a disk image, a resource `bcem` in the file or beside it, and then what stands at the beginning
+-- none where an HFS volume begins; else the trailer of a disk image, a resource `bcem` in the file or next to it, and then what is at the beginning
 unfoldable pub kind_of : Glance → Option Kind
 kind_of glance =
     if begins (codes "BD") glance.directory then None

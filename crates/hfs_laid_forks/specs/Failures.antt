@@ -12,14 +12,14 @@ pub record FailsWithin (Fails : ℕ → ℕ → Type 0) (place count : ℕ) : Ty
   pub before : at + few ≤ place + count
   pub fails : Fails at few
 
--- some of them stand in a run, where files of the host are read
+-- some of them are in a run, where files of the host are read
 pub record MeetsRun (start : ℕ) (runs : List ForkRun) (place count : ℕ) : Type 0 where
   pub run : ForkRun
   pub is_one : Contains runs run
   pub behind : place < start + end_of run
   pub before : start + run.place < place + count
 
--- a read of the file's own bytes fails, or the read meets a run, or leads behind all places that there are
+-- a read of the file's own bytes fails, or the read meets a run, or leads past all places that there are
 abbrev pub FailsLaid : (ℕ → ℕ → Type 0) → ℕ → List ForkRun → ℕ → ℕ → Type 0
 FailsLaid Fails start runs place count = FailsWithin Fails place count ⊎ (MeetsRun start runs place count ⊎ (2 ^ 64 ≤ place + count))
 

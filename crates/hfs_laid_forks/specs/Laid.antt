@@ -7,9 +7,9 @@ use Rattle.hfs_sources.specs.Trees.{Tree}
 use Rattle.hfs_sources.specs.declared.fork_run.ForkRun.{ForkRun}
 use Rattle.hfs_laid_forks.specs.Runs.{lie_in}
 
--- ---- what stands in a run
+-- ---- what is in a run
 
--- the first so many of some bytes, with zeros behind their end
+-- the first so many of some bytes, with zeros after their end
 abbrev pub filled : ℕ → List ℕ → List ℕ
 filled len bytes = take len (bytes ++ replicate len 0)
 
@@ -18,7 +18,7 @@ abbrev pub bytes_of : Tree → Option PlannedItem → Fork → List ℕ
 bytes_of host (Some item) fork = fork_bytes host item fork
 bytes_of host None fork = []
 
--- the fork's bytes from the one that stands at the run's beginning, with zeros behind the fork's end
+-- the fork's bytes from the one that is at the run's beginning, with zeros after the fork's end
 abbrev pub run_bytes : Tree → List PlannedItem → ForkRun → List ℕ
 run_bytes host items run = filled run.len (drop run.offset (bytes_of host (slice_get items run.item) run.fork))
 

@@ -6,7 +6,7 @@ use Rattle.hfs_sources.specs.declared.fork_run.ForkRun.{ForkRun}
 use Rattle.hfs_laid_forks.specs.Laid.{laid}
 use Rattle.hfs_laid_forks.specs.Runs.{are_apart, last_end}
 
--- the file with the forks laid in it is as it was before the image and behind it, and the image is the image with them laid in it
+-- the file with the forks laid in it is as it was before the image and after it, and the image is the image with them laid in it
 pub record IsLaidInImage (start len : ℕ) (host : Tree) (items : List PlannedItem) (runs : List ForkRun) (file : List ℕ) : Type 0 where
   pub before : take start (laid start host items runs file) ≡ take start file
   pub image : take len (drop start (laid start host items runs file)) ≡ laid 0 host items runs (take len (drop start file))

@@ -11,7 +11,7 @@ use Rattle.hfs_make.specs.declared.items.NewItem.TheVariants.{Folder, File}
 unfoldable pub key_bytes : ℕ → ℕ
 key_bytes name_len = (name_len + 8) / 2 * 2
 
--- a record with the two bytes that tell its place in the node
+-- a record with the two bytes that give its place in the node
 abbrev pub placed : ℕ → ℕ
 placed bytes = bytes + 2
 
@@ -46,14 +46,14 @@ index_nodes (suc levels) below = if nat_le below 1 then 0 else (below + 4) / 5 +
 unfoldable pub record_nodes : ℕ → ℕ
 record_nodes bytes = (5 * (leaves bytes + index_nodes 32 (leaves bytes)) + 3) / 4
 
--- whether of so many nodes so many are left beside the header node and the map nodes
+-- whether of so many nodes so many are left besides the header node and the map nodes
 abbrev pub has_left : ℕ → ℕ → Bool
 has_left left nodes = nat_le (1 + left + map_node_count nodes) nodes
 
--- these nodes with the header node and the map nodes: the header node's map is of 2,048 nodes, and each map node's is of 3,935 beside itself
+-- these nodes with the header node and the map nodes: the header node's map is of 2,048 nodes, and each map node's is of 3,935 besides itself
 unfoldable pub with_map_nodes : ℕ → ℕ
 with_map_nodes left = 1 + left + (1 + left - 2048 + 3934) / 3935
 
--- so many times the nodes that the catalog of these items wants
+-- so many times the nodes that the catalog of these items needs
 abbrev pub catalog_nodes : ℕ → List NewItem → ℕ → ℕ
 catalog_nodes name_len items times = with_map_nodes (record_nodes (records_bytes name_len items)) * times

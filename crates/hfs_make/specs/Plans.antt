@@ -51,7 +51,7 @@ abbrev pub HasNoRoom : Option VolumeSize → ℕ → List NewItem → Type 0
 HasNoRoom (Some size) nodes items = allocation_blocks size.blocks < tree_blocks (block_factor size.blocks) nodes
 HasNoRoom None nodes items = HasNoSize nodes items
 
--- a plan's own want of room
+-- a plan's own lack of room
 abbrev pub IsFormatFault : FormatPlan → MakeFault → Type 0
 IsFormatFault plan fault = (fault ≡ NoRoom) × HasFault plan format.NoRoom
 

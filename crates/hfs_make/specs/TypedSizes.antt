@@ -10,7 +10,7 @@ use Rattle.hfs_make.specs.declared.volume_size.VolumeSize.{VolumeSize}
 abbrev pub last_of : List ℕ → ℕ
 last_of text = slice_index text (length text - 1)
 
--- how many bytes `K`, `M` and `G` stand for
+-- how many bytes `K`, `M` and `G` mean
 abbrev pub letter_bytes : ℕ → Option ℕ
 letter_bytes letter =
     if letter == 75 then Some 1024
@@ -21,11 +21,11 @@ letter_bytes letter =
 unfoldable pub unit_in : List ℕ → ℕ
 unit_in text = unwrap_or (letter_bytes (last_of text)) 1
 
--- what stands before the letter, or all where there is none
+-- what precedes the letter, or all where there is none
 unfoldable pub digits_in : List ℕ → List ℕ
 digits_in text = if is_some (letter_bytes (last_of text)) then take (length text - 1) text else text
 
--- decimal digits, and a plus may stand first
+-- decimal digits, and there may be a plus first
 abbrev pub numeral_in : List ℕ → List ℕ
 numeral_in digits = without_leading_plus digits
 

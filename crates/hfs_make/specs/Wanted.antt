@@ -1,4 +1,4 @@
--- What a new volume is wanted to hold. Blocks are logical blocks of 512 bytes where they are not said to be allocation blocks.
+-- What a new volume is to hold. Blocks are logical blocks of 512 bytes where they are not said to be allocation blocks.
 use Rattle.std.specs.Prelude.{ℕ, ◌+◌, ◌*◌, Bool, ◌&&◌, nat_le, List}
 use Rattle.std.specs.Int.{div_ceil}
 use Rattle.std.specs.List.{sum_by}

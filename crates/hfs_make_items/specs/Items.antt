@@ -1,4 +1,4 @@
--- What is to come into a new volume, as far as its size depends on it.
+-- What is to be put on a new volume, as far as its size depends on it.
 use Rattle.std.specs.Prelude.{ℕ, if◌then◌else◌, List, length, Option, Some, None}
 use Rattle.hfs_sources.specs.Items.{PlannedItem}
 use Rattle.hfs_sources.specs.Plans.{is_folder}
@@ -10,7 +10,7 @@ abbrev pub name_len : Option (List ℕ) → ℕ
 name_len None = 0
 name_len (Some name) = length name
 
--- what isn't a folder comes as a file
+-- what isn't a folder is put as a file
 abbrev pub new_item : ItemPlan → NewItem
 new_item plan =
     if is_folder plan.own then Folder (name_len plan.name)

@@ -1,4 +1,4 @@
--- The list of what comes into a new volume.
+-- The list of what is put on a new volume.
 use Rattle.std.specs.Prelude.{ℕ, Bool, true, false, ◌&&◌, not, List, [], ◌∷◌, Option, Some, None}
 use Rattle.hfs_put_plan.specs.declared.entries.EntryKind.{EntryKind}
 use Rattle.hfs_put_plan.specs.declared.entries.EntryKind.TheVariants.{File, Folder, Other}

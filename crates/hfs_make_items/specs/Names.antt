@@ -1,4 +1,4 @@
--- The name that a new volume gets by what comes.
+-- The name that a new volume gets by what is put on it.
 use Rattle.std.specs.Prelude.{◌≡◌, ℕ, IsTrue, if◌then◌else◌, List, [], ◌∷◌, Option, Some, None, Result, MatchResult, chars}
 use Rattle.std.specs.Path.{path_file_name}
 use Rattle.std.specs.Str.{is_utf8}
@@ -39,7 +39,7 @@ abbrev pub target_name : Option Look → List ℕ → Option (List ℕ)
 target_name (Some look) source = look_name look.kind source
 target_name None source = None
 
--- what a bag tells of its disk goes before its own name
+-- what a bag says about its disk counts before its own name
 abbrev pub source_name : Option (List ℕ) → Tree → List ℕ → Option (List ℕ)
 source_name (Some text) host source = plain_name text
 source_name None host source = target_name (host.target source) source

@@ -1,4 +1,4 @@
--- Where the catalog of a volume lies that is right but for its counts.
+-- Where the catalog of a volume lies that is right except for its counts.
 use Rattle.std.specs.Prelude.{ℕ, Bool, ◌&&◌, Option}
 use Rattle.std.proofs.Common.{Vec, Global}
 use Rattle.hfs_fields.specs.declared.mdb.Mdb.{Mdb}
@@ -9,7 +9,7 @@ use Rattle.hfs_check.specs.Parts.{Blocks}
 use Rattle.hfs_needed.specs.Finding.{FindsWhere}
 use Rattle.hfs_repair.specs.Opened.{is_extents_right, catalog_file_of}
 
--- the extents tree is right but for its two counts, and the catalog file is right
+-- the extents tree is right except for its two counts, and the catalog file is right
 abbrev pub has_catalog : Blocks → Mdb → Bool
 has_catalog blocks mdb = is_extents_right blocks mdb && is_tree_file mdb (catalog_file_of blocks mdb) mdb.catalog_file_size
 

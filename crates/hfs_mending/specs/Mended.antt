@@ -44,13 +44,13 @@ PutsBytes read total puts old new =
 
 -- ---- the answer
 
--- with these changed blocks the image is the repaired one; these tell the numbers that were wrong, and this is the first fault that is left
+-- with these changed blocks the image is the repaired one; these are the numbers that were wrong, and this is the first fault that is left
 pub record IsMendedBy (image : List ℕ) (patch : Numbered) (told : List Fix) (left : Option MountFault) : Type 0 where
   pub mended : patched patch image ≡ repair image
   pub fixes : AreFixes (wrong_in image) told
   pub fault : left ≡ fault_of (repair image)
 
--- with these changed blocks an image of so many blocks has each wrong number as it is counted; these tell the numbers, and this is the first
+-- with these changed blocks an image of so many blocks has each wrong number as it is counted; these are the numbers, and this is the first
 -- fault of its blocks then
 pub record MendsBlocks (total : ℕ) (image : List ℕ) (patch : Numbered) (told : List Fix) (left : Option MountFault) : Type 0 where
   pub puts : patched patch image ≡ put_all (puts_of (wrong_in_blocks total (block_at image))) image
@@ -66,6 +66,6 @@ abbrev pub MendsBlocksOf : (List ℕ → Type 0) → ℕ → Mended → Type 0
 MendsBlocksOf Holds total = λ mended.
     OfEach Holds (λ image. block_count image ≡ total → MendsBlocks total image mended.patch mended.fixes.items mended.fault)
 
--- of each image that holds, and has so many bytes, this is what a repair makes and tells
+-- of each image that holds, and has so many bytes, this is what a repair makes and prints
 abbrev pub IsMendedOf : (List ℕ → Type 0) → ℕ → Mended → Type 0
 IsMendedOf Holds len = λ mended. OfEach Holds (λ image. length image ≡ len → IsMendedBy image mended.patch mended.fixes.items mended.fault)

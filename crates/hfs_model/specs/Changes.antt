@@ -36,7 +36,7 @@ with_lock locked (kind.File file) = kind.File (record file { locked = locked })
 
 -- ---- new items
 
--- a new folder's record is zeros beside what the model has of it
+-- a new folder's record is zeros except for what the model has of it
 abbrev pub new_folder : Kind
 new_folder = kind.Folder (replicate 70 0)
 

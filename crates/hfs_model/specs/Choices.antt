@@ -41,7 +41,7 @@ is_other_named dir name id e = is_child_named dir name e && not (e.0 == id)
 unfoldable pub is_taken : List Entry → ℕ → List ℕ → ℕ → Bool
 is_taken es dir name id = is_some (find (is_other_named dir name id) es)
 
--- whether up stands at most n parents above id
+-- whether up is at most n parents above id
 unfoldable pub lies_in : List Entry → ℕ → ℕ → ℕ → Bool
 lies_in es zero id up = id == up
 lies_in es (suc n) id up = (id == up) || option_map_or (λ (e : Entry). lies_in es n e.1.parent up) (entry_at es id) false

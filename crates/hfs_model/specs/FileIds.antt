@@ -67,7 +67,7 @@ create_file_id v dir name now = change_to_id v (to_create_file_id v dir name) (s
 unfoldable pub delete_file_id : Volume → ℕ → ℕ → Outcome
 delete_file_id v id now = change v (to_delete_file_id v id) (set_thread false) now
 
--- where the chosen item stands, or the code that refused it
+-- where the chosen item is, or the code that refused it
 abbrev pub place_reply : Result Entry ℤ → Reply
 place_reply (Ok e) = success (value.Place e.1.parent e.1.name)
 place_reply (Err code) = refusal code

@@ -25,7 +25,7 @@ to_set_eof v dir name length =
 abbrev pub unless_past_end : Fork → ℕ → Entry → Result Entry ℤ
 unless_past_end fork offset e = if nat_lt (length (fork_bytes fork e.1.kind)) offset then Err END_OF_FILE else Ok e
 
--- -50 of more than 65,536 bytes, and where the last would stand past 2,147,483,647 of them; then the codes of file_to_write, and -39
+-- -50 of more than 65,536 bytes, and where the last would be past 2,147,483,647 of them; then the codes of file_to_write, and -39
 unfoldable pub to_write_fork : Volume → ℕ → List ℕ → Fork → ℕ → List ℕ → Result Entry ℤ
 to_write_fork v dir name fork offset bytes =
     if nat_lt 65536 (length bytes) || nat_lt 2147483647 (offset + length bytes) then Err PARAMETER

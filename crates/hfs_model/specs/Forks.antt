@@ -40,7 +40,7 @@ written offset new bytes = laid_over offset new (resized (max (length bytes) (of
 
 -- ---- a file's fork
 
--- where the physical length of a fork stands in a file's record: filPyLen, filRPyLen
+-- where the physical length of a fork is in a file's record: filPyLen, filRPyLen
 abbrev pub physical_place : Fork → ℕ
 physical_place DataFork = 30
 physical_place ResFork = 40

@@ -24,7 +24,7 @@ success value = record { code = pos 0; value = value }
 abbrev pub is_accepted : Reply → Bool
 is_accepted r = int_eq r.code (pos 0)
 
--- ---- what is told of an item
+-- ---- what is said about an item
 
 abbrev pub item_kind_of : Kind → ItemKind
 item_kind_of (kind.Folder kept) = item_kind.Folder
@@ -35,7 +35,7 @@ abbrev pub is_locked_file : Kind → Bool
 is_locked_file (kind.Folder kept) = false
 is_locked_file (kind.File file) = file.locked
 
--- only a file's thread is told
+-- only a file's thread is reported
 abbrev pub has_thread : Kind → Bool
 has_thread (kind.Folder kept) = false
 has_thread (kind.File file) = file.has_thread
@@ -49,7 +49,7 @@ abbrev pub resource_of : Kind → List ℕ
 resource_of (kind.Folder kept) = []
 resource_of (kind.File file) = file.resource
 
--- all that is told of the item of an entry; a file has valence 0
+-- all that is said about the item of an entry; a file has valence 0
 unfoldable pub info_of : List Entry → Entry → Info
 info_of es e = record {
   id = e.0;

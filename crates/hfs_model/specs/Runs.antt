@@ -12,7 +12,7 @@ abbrev pub run : Volume → List Call → Volume × List Reply
 run v [] = (v, [])
 run v (c ∷ cs) = ((run (step v c).0 cs).0, (step v c).1 ∷ (run (step v c).0 cs).1)
 
--- what a journal's entry makes of a volume: one that met want leaves it
+-- what a journal's entry makes of a volume: one that ran out leaves it
 abbrev pub after_entry : Volume → Entry → Volume
 after_entry v e = option_map_or (λ _. v) e.want (step v e.call).0
 

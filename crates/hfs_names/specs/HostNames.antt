@@ -6,7 +6,7 @@ use Rattle.hfs_names.specs.Digits.{upper_byte}
 use Rattle.hfs_names.specs.MacRoman.{character_text}
 use Rattle.hfs_names.specs.PlainTexts.{is_control}
 
--- the characters that mean something to some host, and `=`, which stands before the digits of an escaped one
+-- the characters that mean something to some host, and `=`, which precedes the digits of an escaped one
 abbrev pub reserved_characters : List ℕ
 reserved_characters = codes "%=/\\:*?\"<>|"
 
@@ -34,7 +34,7 @@ is_device_name name = let stem = before_first (λ c. c == 46) name in list_any (
 unfoldable pub host_character : Bool → ℕ → List ℕ
 host_character is_escaped c = if is_escaped then 61 ∷ upper_byte c else character_text c
 
--- the characters behind the first: the last one is escaped also where it would be dropped
+-- the characters after the first: the last one is escaped also where it would be dropped
 unfoldable pub host_rest : List ℕ → List ℕ
 host_rest [] = []
 host_rest (c ∷ behind) = host_character (is_reserved c || length behind == 0 && is_dropped_at_end c) c ++ host_rest behind
@@ -43,7 +43,7 @@ host_rest (c ∷ behind) = host_character (is_reserved c || length behind == 0 &
 abbrev pub is_first_escaped : ℕ → List ℕ → Bool
 is_first_escaped c behind = is_reserved c || c == 46 || is_device_name (c ∷ behind) || length behind == 0 && is_dropped_at_end c
 
--- the host name of an item's name; `=` stands for the empty one
+-- the host name of an item's name; `=` is that of the empty one
 unfoldable pub host_name : List ℕ → List ℕ
 host_name [] = codes "="
 host_name (c ∷ behind) = host_character (is_first_escaped c behind) c ++ host_rest behind

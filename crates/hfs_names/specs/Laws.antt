@@ -24,7 +24,7 @@ pub record AreHostNames (host_name : List ℕ → List ℕ) : Type 0 where
   pub one_name : (a b : List ℕ) → IsTrue (is_bytes a) → IsTrue (is_bytes b) → host_name a ≡ host_name b → a ≡ b
   pub safe : (a : List ℕ) → IsTrue (is_bytes a) → IsSafe (host_name a)
   pub short : (a : List ℕ) → IsTrue (is_bytes a) → length a ≤ 31 → length (host_name a) ≤ 93
-  -- names whose host names are the same but for the case of letters are the same in name order
+  -- names whose host names are the same except for the case of letters are the same in name order
   pub one_in_case : (a b : List ℕ) → IsTrue (is_bytes a) → IsTrue (is_bytes b) → folded (host_name a) ≡ folded (host_name b) → name_cmp a b ≡ Equal
   -- and for an item's name no other letters have a case than those from a to z
   pub ascii : (a : List ℕ) → IsTrue (is_item_name a) → (k : ℕ) → k < length (host_name a) → slice_index (host_name a) k < 128
@@ -37,7 +37,7 @@ pub record AreHostPaths (host_path : List (List ℕ) → List ℕ) : Type 0 wher
   pub one_in_case : (a b : List (List ℕ)) → IsTrue (list_all is_bytes a) → IsTrue (list_all is_bytes b) → folded (host_path a) ≡ folded (host_path b)
       → map folded a ≡ map folded b
 
--- the law of days: the day of each date of 32 bits is one of the calendar, and as many days behind 1 January 1904 as are asked for
+-- the law of days: the day of each date of 32 bits is one of the calendar, and as many days after 1 January 1904 as are asked for
 pub record AreDays (day_since_1904 : ℕ → Day) : Type 0 where
   pub is_day : (date : ℕ) → date < 2 ^ 32 → IsDay (day_since_1904 (date / 86400))
   pub counted : (date : ℕ) → date < 2 ^ 32 → days_before (day_since_1904 (date / 86400)) ≡ date / 86400

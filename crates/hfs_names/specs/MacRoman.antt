@@ -1,4 +1,4 @@
--- Mac OS Roman: which character each byte stands for. The bytes below $80 are ASCII.
+-- Mac OS Roman: which character each byte means. The bytes below $80 are ASCII.
 -- Source: Apple's mapping table ROMAN.TXT, with the euro sign at $DB.
 use Rattle.std.specs.Prelude.{ℕ, ◌-◌, nat_lt, if◌then◌else◌, List, [], ◌∷◌, slice_index, encode_utf8, flat_map}
 

@@ -1,4 +1,4 @@
--- Moments: dates of a Macintosh, which are seconds since midnight of 1 January 1904 in no zone that is told.
+-- Moments: dates of a Macintosh, which are seconds since midnight of 1 January 1904 in no stated zone.
 use Rattle.std.specs.Prelude.{ℕ, ◌/◌, ◌%◌, ◌==◌, if◌then◌else◌, List, [], ◌++◌, codes}
 use Rattle.hfs_names.specs.declared.calendar.Day.{Day}
 use Rattle.hfs_names.specs.Calendar.{day_since_1904}
@@ -8,7 +8,7 @@ use Rattle.hfs_names.specs.Digits.{two_digits, four_digits}
 unfoldable pub day_text : Day → List ℕ
 day_text day = four_digits day.year ++ codes "-" ++ two_digits day.month ++ codes "-" ++ two_digits day.day
 
--- hh:mm:ss, of so many seconds behind midnight
+-- hh:mm:ss, of so many seconds after midnight
 unfoldable pub time_text : ℕ → List ℕ
 time_text seconds = two_digits (seconds / 3600) ++ codes ":" ++ two_digits (seconds / 60 % 60) ++ codes ":" ++ two_digits (seconds % 60)
 

@@ -1,4 +1,4 @@
--- Plain text: bytes of a Macintosh as they stand in tables.
+-- Plain text: bytes of a Macintosh as they are in tables.
 use Rattle.std.specs.Prelude.{◌≡◌, ℕ, Bool, not, ◌&&◌, ◌||◌, ◌==◌, nat_lt, if◌then◌else◌, List, ◌∷◌, flat_map, IsAscii}
 use Rattle.hfs_names.specs.Digits.{hex_byte}
 use Rattle.hfs_names.specs.MacRoman.{character_text}

@@ -29,7 +29,7 @@ use Rattle.hfs_needed_runs.specs.declared.made_files.ScriptFiles.{ScriptFiles}
 
 -- ---- where forks lie
 
--- the blocks of a fork of a file, those behind its end, too
+-- the blocks of a fork of a file, those after its end, too
 abbrev pub fork_blocks : Blocks → ℕ → ForkKind → ForkRecord → List ℕ
 fork_blocks blocks file kind fork = block_numbers (mdb_in blocks) (fork_extents (overflow_in blocks) file (fork_byte kind) fork.extents)
 
@@ -79,13 +79,13 @@ abbrev pub HaveMet : {A : Type 0} → Blocks → List (ℕ × A) → List Run �
 HaveMet blocks ids runs =
     (file : FileRecord) → IsFileOf (catalog_in blocks) file → HasMet ids file.id → AreAmong (file_blocks blocks file) (blocks_of_runs runs)
 
--- more runs came, and none went
+-- more runs were added, and none was removed
 abbrev pub GainForks : List Run → List Run → Type 0
 GainForks old new = (more : List Run) × (new ≡ old ++ more)
 
 -- ---- the forks that files have after a run
 
--- the ID that a value tells of an item
+-- the ID that a value gives of an item
 abbrev pub id_told : Value → Option ℕ
 id_told value.Nothing = None
 id_told (value.Id id) = None
@@ -125,7 +125,7 @@ pub record AreIdsOf {A : Type 0} (catalog : Catalog) (ids : List (ℕ × A)) (li
   pub have : HaveIdsOf catalog ids lines
   pub only : (id : ℕ) → HasMet ids id → IsIdOfLine catalog lines id
 
--- the ID of the item that a call names came, if it names one, and no other; none went
+-- the ID of the item that a call names was added, if it names one, and no other; none was removed
 pub record GainsIdOf {A : Type 0} (catalog : Catalog) (call : Call) (old new : List (ℕ × A)) : Type 0 where
   pub has : HasIdOf catalog new call
   pub more : (id : ℕ) → HasMet old id → HasMet new id
@@ -161,7 +161,7 @@ pub record AreForksOf (blocks : Blocks) (Kept : ℕ → Type 0) (total : ℕ) (r
   pub has : Each (HasForksOf blocks Kept (flat_map run_of runs)) records
   pub only : Each (IsForkBlock blocks Kept) (flat_map run_of runs)
 
--- the forks of a record's file came, if it is one of the files
+-- the forks of a record's file were added, if it is one of the files
 pub record GainsForksOf (blocks : Blocks) (Kept : ℕ → Type 0) (total : ℕ) (r : Record) (old new : List Run) : Type 0 where
   pub more : List Run
   pub are : new ≡ old ++ more

@@ -24,7 +24,7 @@ pub record AreLinesRunOver (copy : List ℕ) (lines : List ScriptLine) (patch : 
   pub ran : AreLinesRun copy lines volume text whole shown
   pub makes : volume.current ≡ patched patch copy
 
--- copy and image hold the same, before these blocks are laid over both and then, but for the bytes of forks of files whose IDs are not kept
+-- copy and image hold the same, before these blocks are laid over both and then, except for the bytes of forks of files whose IDs are not kept
 pub record CarriesForks (keep : ℕ → Bool) (calls : List Call) (patch : Numbered) (copy image : List ℕ) : Type 0 where
   pub named : KeepsNamed keep calls (volume_of copy)
   pub alike : AreAlike keep (volume_of copy) (volume_of image)
@@ -35,7 +35,7 @@ abbrev pub IsOwnZeros : (ℕ → Bool) → ImageValue → ℕ → Type 0
 IsOwnZeros keep volume n = IsForkBlock (block_at volume.current) (λ id. keep id ≡ true) n ⊎ IsGivenBack volume n
 
 -- Lines were run on what was read of an image of so many bytes, and these blocks go out. Laid over each image that has what was read they agree with it
--- but for the blocks of forks that calls wrote, and for blocks of zeros, of which there are none where no line reads or writes a fork: those of forks of
+-- except for the blocks of forks that calls wrote, and for blocks of zeros, of which there are none where no line reads or writes a fork: those of forks of
 -- some files, and those that no file has and that the volume keeps as changed. Where the forks were read that the lines name, the forks of these same
 -- files are the image's before the run, and then what the run made of the copy; the lines' files and those that were made are among them.
 pub record IsRunOver (read : Numbered) (len : ℕ) (lines : List ScriptLine) (patch : Numbered) (text : List ℕ) (whole shown : Bool) : Type 0 where

@@ -31,7 +31,7 @@ use Rattle.hfs_needed_runs.specs.NamedForks.{HasNamedForks}
 use Rattle.hfs_needed_runs.specs.NeededRuns.{AreLinesRunOver, CarriesForks}
 use Rattle.hfs_needed_runs.specs.Naming.{line_calls, read_forks}
 
--- copy and image hold the same, but for the bytes of forks of files that none of these calls names by its place; such files
+-- copy and image hold the same, except for the bytes of forks of files that none of these calls names by its place; such files
 -- have IDs that are not kept, and no item that will be made is among them
 pub record ShareForks (calls : List Call) (copy image : List ℕ) : Type 0 where
   pub keep : ℕ → Bool
@@ -59,17 +59,17 @@ pub record IsReplyIn (image : List ℕ) (v : Volume) (call : Call) (reply : Repl
   pub other : is_writing call ≡ false → reply ≡ (step_within (free_in image) (depth_in image) v call).1
   pub fork : is_writing call ≡ true → IsForkReplyIn image v call reply
 
--- the copy's reply to a call behind some entries is the image's behind the same ones, where as much is wanting as in the copy there; of a call
+-- the copy's reply to a call after some entries is the image's after the same ones, where as much is lacking as in the copy there; of a call
 -- that reads a fork, where the entries are of these calls alone
 pub record IsReplyOnImage (calls : List Call) (copy image : List ℕ) (before : List Entry) (call : Call) (reply : Reply) : Type 0 where
   pub on_copy : IsReplyOf copy (after (volume_of copy) before) call reply
   pub on_image : AreOfWhereRead calls before call → IsReplyIn on_copy.image (after (volume_of image) before) call reply
 
--- so is the reply behind some entries
+-- so is the reply after some entries
 abbrev pub IsSomeReplyOnImage : List Call → List ℕ → List ℕ → Call → Reply → Type 0
 IsSomeReplyOnImage calls copy image call reply = (before : List Entry) × IsReplyOnImage calls copy image before call reply
 
--- so it is behind the first entries of a journal
+-- so it is after the first entries of a journal
 abbrev pub StandsOnImage : List Call → List ℕ → List ℕ → List Entry → Call → Reply → Type 0
 StandsOnImage calls copy image journal call reply =
     (before : List Entry) × (behind : List Entry) × (before ++ behind ≡ journal) × IsReplyOnImage calls copy image before call reply
@@ -78,8 +78,8 @@ StandsOnImage calls copy image journal call reply =
 abbrev pub OfReplies : (Call → Reply → Type 0) → List Call → List Reply → Type 0
 OfReplies Fact calls replies = (k : ℕ) (call : Call) (reply : Reply) → k < length replies → Fact (get_or calls k call) (get_or replies k reply)
 
--- what workers were answered in a run over a copy is what the image answers: each reply behind some entries, and where each change was
--- shown at once, behind those that the run's journal begins with
+-- what workers were answered in a run over a copy is what the image answers: each reply after some entries, and where each change was
+-- shown at once, after those that the run's journal begins with
 pub record AreWorkersOnImage (lines : List ScriptLine) (copy image : List ℕ) (shown : Bool) (journal : List Entry) (worker : ℕ) (replies : List Reply) : Type 0 where
   pub each : OfReplies (IsSomeReplyOnImage (line_calls lines) copy image) (calls_of (Worker worker) lines) replies
   pub stand : shown ≡ true → OfReplies (StandsOnImage (line_calls lines) copy image journal) (calls_of (Worker worker) lines) replies
@@ -89,7 +89,7 @@ abbrev pub AreAllOnImage : (lines : List ScriptLine) (copy image : List ℕ) (vo
 AreAllOnImage lines copy image volume text whole shown ran =
     (place : ℕ) → place < workers lines → AreWorkersOnImage lines copy image shown ran.journal (place + 1) (ran.replies (Worker (place + 1)))
 
--- these bytes hold what entries make of an image's volume, but for the bytes of forks of files that none of these calls names by its place, of which
+-- these bytes hold what entries make of an image's volume, except for the bytes of forks of files that none of these calls names by its place, of which
 -- those that there are in the copy have IDs that are not kept
 pub record HoldsMade (calls : List Call) (journal : List Entry) (copy image saved : List ℕ) : Type 0 where
   pub keep : ℕ → Bool

@@ -5,7 +5,7 @@ use Rattle.hfs_node.specs.Kind.{kind_of}
 use Rattle.hfs_node.specs.Node.{count_of, offset_of, start_of}
 use Rattle.hfs_node.specs.declared.node.Node.{Node}
 
--- the descriptor tells these fields and this number of records
+-- the descriptor says these fields and this number of records
 pub record HasHead (n : Node) (bytes : List ℕ) : Type 0 where
   pub forward : number_at 0 4 bytes ≡ n.forward
   pub backward : number_at 4 4 bytes ≡ n.backward

@@ -9,11 +9,11 @@ use Rattle.hfs_node.specs.declared.fault.NodeFault.TheVariants.{Kind, Outside, N
 use Rattle.hfs_node.specs.declared.node.Node.{Node}
 use Rattle.hfs_node.specs.declared.node.Descriptor.{Descriptor}
 
--- how many records the descriptor tells
+-- how many records the descriptor says
 unfoldable pub count_of : List ℕ → ℕ
 count_of bytes = number_at 10 2 bytes
 
--- the place of record i, or behind the last the place of the free space
+-- the place of record i, or after the last the place of the free space
 unfoldable pub offset_of : List ℕ → ℕ → ℕ
 offset_of bytes i = number_at (510 - 2 * i) 2 bytes
 
@@ -46,7 +46,7 @@ node_with kind bytes =
       records = map (record_of bytes) (range_with_len 0 (count_of bytes));
     }
 
--- the node of this kind in the bytes, or the first fault behind the type's
+-- the node of this kind in the bytes, or the first fault after the type's
 unfoldable pub node_of_kind : Option NodeKind → List ℕ → Result Node NodeFault
 node_of_kind None bytes = Err Kind
 node_of_kind (Some kind) bytes =
@@ -78,10 +78,10 @@ size_of records = sum_by (λ r. length r + 2) records
 abbrev pub Fits : Node → Type 0
 Fits n = size_of n.records ≤ 496
 
--- where record k begins, and behind the last where the free space begins
+-- where record k begins, and after the last where the free space begins
 unfoldable pub start_of : List (List ℕ) → ℕ → ℕ
 start_of records k = 14 + sum_by (λ r. length r) (take k records)
 
--- a copy that can't be made: the bytes' own fault, or want of memory where they are a node
+-- a copy that can't be made: the bytes' own fault, or lack of memory where they are a node
 abbrev pub IsFaultOfCopy : NodeFault → Result Node NodeFault → Type 0
 IsFaultOfCopy fault node = ((fault ≡ Memory) × IsOk node) ⊎ (node ≡ Err fault)

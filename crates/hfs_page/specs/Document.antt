@@ -28,7 +28,7 @@ version_text version = codes "<footer>Printed by hfs_tool " ++ escaped version +
 unfoldable pub end_text : PageTexts → List ℕ
 end_text texts = version_text texts.version.now ++ texts.script.now ++ codes "</main>\n</body>\n</html>\n"
 
--- behind the items: the picture, the extents of the files, the legend, and the end
+-- after the items: the picture, the extents of the files, the legend, and the end
 unfoldable pub back_text : PageTexts → Catalog → List Holding → List Cell → List ℕ
 back_text texts catalog holdings cells =
     codes "</ul>\n</section>\n" ++ picture_text catalog cells ++ extents_text holdings ++ texts.legend.now ++ end_text texts

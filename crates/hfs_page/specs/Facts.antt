@@ -1,4 +1,4 @@
--- What a page says of a volume before its picture.
+-- What a page says about a volume before its picture.
 use Rattle.std.specs.Prelude.{ℕ, ◌*◌, List, [], ◌++◌, codes, Option, Some, None}
 use Rattle.std.specs.Borrow.{Bor}
 use Rattle.std.specs.Fmt.{decimal}

@@ -25,7 +25,7 @@ all_held part extents = map (λ (e : Extent). record { extent = e; used = record
 abbrev pub held_by : Part → FileFork → Extent → Holding
 held_by part fork e = record { extent = e; used = record { part = part; fork = Some fork } }
 
--- the part of the extents behind one of so many blocks: behind the first that has a block all are later ones
+-- the part of the extents after one of so many blocks: after the first that has a block all are later ones
 abbrev pub part_behind : Part → ℕ → Part
 part_behind part count = if count == 0 then part else LaterExtents
 
@@ -54,6 +54,6 @@ volume_holdings mdb overflow catalog =
     all_held BadBlocks (bad_extents overflow) ++ all_held ExtentsTree mdb.extents_file ++ all_held Catalog (extents_in overflow (catalog_fork mdb))
     ++ flat_map (file_holdings overflow) (files_in 0 catalog)
 
--- behind the old ones come these
+-- after the old ones these were added
 abbrev pub AddsHoldings : Vec Holding Global → Vec Holding Global → List Holding → Type 0
 AddsHoldings old new more = new.items ≡ old.items ++ more

@@ -9,7 +9,7 @@ use Rattle.hfs_page.specs.Links.{bag_path, link_end, link_start}
 use Rattle.hfs_page.specs.Sizes.{told_size}
 use Rattle.hfs_page.specs.Texts.{shown, told_date, told_number, told_text}
 
--- ---- what is told of an item
+-- ---- what is said about an item
 
 unfoldable pub name_tagged : Info → List ℕ
 name_tagged info = codes "<b>" ++ shown info.name ++ codes "</b>"
@@ -66,7 +66,7 @@ abbrev pub item_by : ItemKind → Option (Bor (List ℕ)) → List (List ℕ) �
 item_by Folder base path depth info = if nat_lt depth 100 then nested_text depth info else flat_text info
 item_by File base path depth info = leaf_text base path info
 
--- all of a file, and of a folder what stands before its children
+-- all of a file, and of a folder what precedes its children
 unfoldable pub item_text : Option (Bor (List ℕ)) → List (List ℕ) → ℕ → Info → List ℕ
 item_text base path depth info = item_by info.kind base path depth info
 
@@ -79,19 +79,19 @@ abbrev pub open_by : ItemKind → ℕ → ℕ
 open_by Folder depth = if nat_lt depth 100 then depth + 1 else depth
 open_by File depth = depth
 
--- how many folders stand open behind an item
+-- how many folders are open after an item
 abbrev pub open_behind : ℕ → Info → ℕ
 open_behind depth info = open_by info.kind depth
 
--- in how many of the folders that stand open an item lies
+-- in how many of the folders that are open an item lies
 abbrev pub depth_in : ℕ → List (List ℕ) → ℕ
 depth_in opened path = min opened (length path - 1)
 
--- the row of an item where so many folders stand open: the ends of those in which it doesn't lie, and the item
+-- the row of an item where so many folders are open: the ends of those in which it doesn't lie, and the item
 unfoldable pub row_text : Option (Bor (List ℕ)) → ℕ → List (List ℕ) → Info → List ℕ
 row_text base opened path info = closings (opened - depth_in opened path) ++ item_text base path (depth_in opened path) info
 
--- the rows of a table, where so many folders stand open
+-- the rows of a table, where so many folders are open
 abbrev pub rows_text : Option (Bor (List ℕ)) → ℕ → List ToldRow → List ℕ
 rows_text base opened [] = closings opened
 rows_text base opened (row ∷ rows) = row_text base opened row.path row.info ++ rows_text base (open_behind (depth_in opened row.path) row.info) rows

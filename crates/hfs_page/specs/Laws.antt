@@ -3,7 +3,7 @@ use Rattle.std.specs.Prelude.{◌≡◌, ℕ, zero, suc, Bool, true, ◌&&◌, �
 use Rattle.std.specs.List.{list_any, list_all}
 use Rattle.std.specs.Str.{bytes_eq}
 
--- the names of the references, each with its semicolon, and the character that each stands for
+-- the names of the references, each with its semicolon, and the character that each means
 abbrev pub references : List (List ℕ × ℕ)
 references = (codes "amp;", 0x26) ∷ (codes "lt;", 0x3C) ∷ (codes "gt;", 0x3E) ∷ (codes "quot;", 0x22) ∷ (codes "#39;", 0x27) ∷ []
 
@@ -16,7 +16,7 @@ abbrev pub reference_at : List ℕ → List (List ℕ × ℕ) → Option (List �
 reference_at bytes [] = None
 reference_at bytes (r ∷ rs) = if begins_with bytes r then Some r else reference_at bytes rs
 
--- what is read where an `&` stands before this reference, or before none, and how many bytes behind the `&` are read with it
+-- what is read where an `&` precedes this reference, or before none, and how many bytes after the `&` are read with it
 abbrev pub character_of : Option (List ℕ × ℕ) → ℕ
 character_of None = 0x26
 character_of (Some r) = r.1

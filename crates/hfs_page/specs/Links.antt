@@ -21,7 +21,7 @@ percent_byte b = if is_kept b then b ∷ [] else 37 ∷ upper_digit (b / 16) ∷
 unfoldable pub percent_text : List ℕ → List ℕ
 percent_text path = flat_map percent_byte path
 
--- what comes between a URL and a path below it: a slash, but where there is one, or an empty URL
+-- what is between a URL and a path below it: a slash, but where there is one, or an empty URL
 abbrev pub slash_by : Option ℕ → List ℕ
 slash_by None = []
 slash_by (Some last) = if last == 0x2F then [] else codes "/"

@@ -50,7 +50,7 @@ unfoldable pub blocks_text : ℕ → ℕ → List ℕ
 blocks_text first last =
     if first == last then told_number (codes "Block ") first else told_number (codes "Blocks ") first ++ told_number (codes " to ") last
 
--- a cell's square: 64 stand in a row
+-- a cell's square: 64 are in a row
 unfoldable pub rect_head : ℕ → Part → List ℕ
 rect_head place part =
     told_number (codes "<rect x=\"") (place % 64) ++ told_number (codes "\" y=\"") (place / 64)
@@ -60,7 +60,7 @@ unfoldable pub cell_text : Catalog → ℕ → Cell → List ℕ
 cell_text catalog place cell =
     rect_head place cell.used.part ++ blocks_text cell.first cell.last ++ use_text catalog cell.used ++ codes "</title></rect>\n"
 
--- cells, of which the first stands at this place
+-- cells, of which the first is at this place
 abbrev pub cells_text : Catalog → ℕ → List Cell → List ℕ
 cells_text catalog place [] = []
 cells_text catalog place (cell ∷ cells) = cell_text catalog place cell ++ cells_text catalog (place + 1) cells

@@ -14,6 +14,6 @@ size_text bytes =
     else if nat_lt bytes 1048576 then tenths_text ((bytes * 10 + 512) / 1024) ++ codes " KB"
     else tenths_text ((bytes * 10 + 524288) / 1048576) ++ codes " MB"
 
--- behind what says what it is
+-- after what says what it is
 unfoldable pub told_size : List ℕ → ℕ → List ℕ
 told_size label bytes = label ++ size_text bytes

@@ -13,7 +13,7 @@ shown bytes = escaped (plain_text bytes)
 unfoldable pub date_text : ℕ → List ℕ
 date_text date = if date == 0 then [] else escaped (take 10 (moment date)) ++ codes " " ++ escaped (drop 11 (moment date))
 
--- texts, dates and numbers behind what says what they are
+-- texts, dates and numbers after what says what they are
 unfoldable pub told_text : List ℕ → List ℕ → List ℕ
 told_text label bytes = label ++ shown bytes
 

@@ -16,7 +16,7 @@ use Rattle.hfs_volume.specs.Image.{patched}
 use Rattle.hfs_patched.specs.Patched.{OfPatched, OfPiece}
 use Rattle.hfs_patched.specs.declared.in_file.ImagePlace.{ImagePlace}
 
--- where the sum of a range's bytes stands: that of a disk copy is 12 bytes before its data, at byte 72 of the header's 84
+-- where the sum of a range's bytes is: that of a disk copy is 12 bytes before its data, at byte 72 of the header's 84
 abbrev pub sum_place_by : Container → ℕ → Option ℕ
 sum_place_by Bare start = None
 sum_place_by MacBinary start = None
@@ -62,7 +62,7 @@ LiesIn range file = range.start + range.len ≤ length file
 abbrev pub OfHead : (List ℕ → Type 0) → ImagePlace → Numbered → (List ℕ → Type 0) → Type 0
 OfHead Holds place changed Fact = OfEach Holds (λ file. LiesIn place.range file → Fact (changed_head place changed file))
 
--- the same where the sum stands among them
+-- the same where the sum is among them
 abbrev pub OfSumHead : (List ℕ → Type 0) → ByteRange → ℕ → Numbered → (List ℕ → Type 0) → Type 0
 OfSumHead Holds range sum_at changed Fact =
     OfEach Holds (λ file. LiesIn range file → Fact (head_with (Some sum_at) (changed_in range changed file) (take range.start file)))

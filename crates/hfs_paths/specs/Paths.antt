@@ -1,4 +1,4 @@
--- The names that the text of a Mac path tells: names with `:` between, in which a backslash and two hexadecimal digits stand for
+-- The names that the text of a Mac path gives: names with `:` between, in which a backslash and two hexadecimal digits mean
 -- the byte of this value, and any other byte for itself.
 use Rattle.std.specs.Prelude.{ℕ, ◌+◌, ◌-◌, ◌*◌, ◌&&◌, ◌==◌, nat_le, if◌then◌else◌, List, [], ◌∷◌, ◌++◌, length, Option, Some, None, codes}
 use Rattle.std.specs.List.{fold}

@@ -18,11 +18,11 @@ unfoldable pub steps : List (Option ℕ) → ℕ → ℕ → Option ℕ
 steps ups zero i = Some i
 steps ups (suc k) i = option_and_then (steps ups k) (place_at ups i)
 
--- a chain has no end where it is not left after as many steps as there are numbers of folders: it comes to one of its folders a second time
+-- a chain has no end where it is not left after as many steps as there are numbers of folders: it gets to one of its folders a second time
 unfoldable pub is_endless : List (Option ℕ) → ℕ → Bool
 is_endless ups i = is_some (steps ups (2 ^ 32) i)
 
--- a chain comes to one of its places again
+-- a chain gets to one of its places again
 pub record ComesAgain (ups : List (Option ℕ)) (i : ℕ) : Type 0 where
   pub place : ℕ
   pub first : ℕ

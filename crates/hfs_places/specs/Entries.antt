@@ -18,15 +18,15 @@ entry_row thing = map to_ascii_lowercase (decimal thing.parent ++ (codes "/" ++ 
 abbrev pub has_entry_row : List Thing → List ℕ → Bool
 has_entry_row things row = list_any (λ thing. bytes_eq (entry_row thing) row) things
 
--- what tells a thing from one that is called the same: the number of an item, or that of a named folder
+-- what distinguishes a thing from one that is called the same: the number of an item, or that of a named folder
 unfoldable pub suffix : ℕ → Thing → List ℕ
 suffix place thing = if thing.named then codes "=t" ++ decimal (unwrap_or thing.folder 0) else codes "=r" ++ decimal place
 
--- the entry of a thing behind these: its host name, and where one of them has that in the same folder, but for case, the suffix behind it
+-- the entry of a thing after these: its host name, and where one of them has that in the same folder, except for case, the suffix after it
 abbrev pub entry_behind : List Thing → Thing → List ℕ
 entry_behind before thing = if has_entry_row before (entry_row thing) then host_name thing.name ++ suffix (length before) thing else host_name thing.name
 
--- the entries of things behind others
+-- the entries of things after others
 abbrev pub entries_behind : List Thing → List Thing → List (List ℕ)
 entries_behind before [] = []
 entries_behind before (t ∷ ts) = entry_behind before t ∷ entries_behind (before ++ t ∷ []) ts

@@ -42,7 +42,7 @@ AreItems items = (i : ℕ) → i < length items → (thing_at items i).named ≡
 abbrev pub HaveOwnPlaces : List Thing → Type 0
 HaveOwnPlaces things = (i j : ℕ) → i < length things → j < length things → folded (payload_path things i) ≡ folded (payload_path things j) → i ≡ j
 
--- a thing whose path stands before another's is a folder
+-- a thing whose path precedes another's is a folder
 abbrev pub LieInFolders : List Thing → Type 0
 LieInFolders things =
     (i j : ℕ) (below : List ℕ) → i < length things → j < length things → folded (payload_path things i) ≡ folded (payload_path things j ++ (codes "/" ++ below)) → is_folder_at things j ≡ true
@@ -73,7 +73,7 @@ HaveOwnDoubles things =
     (i j : ℕ) (a : LeadsDown (payload_path things i)) (b : LeadsDown (payload_path things j)) → i < length things → j < length things
     → IsOwnDouble i j (double_of a) (double_of b) (payload_path things j)
 
--- a text ends where a part of a path does: nothing is behind it, or a slash
+-- a text ends where a part of a path does: nothing is after it, or a slash
 abbrev pub EndsThere : List ℕ → Type 0
 EndsThere [] = ⊤
 EndsThere (byte ∷ rest) = byte ≡ 47
@@ -160,7 +160,7 @@ pub record LiesByNames (things : List Thing) (volume : List ℕ) (i : ℕ) (name
   pub path_is : payload_path things i ≡ host_path (reverse names)
   pub names_are : names_to things volume i ≡ root_name things volume ∷ reverse names
 
--- where nothing is lost and no two things are called the same, the path below the payload and the names that lead there tell the same way
+-- where nothing is lost and no two things are called the same, the path below the payload and the names that lead there give the same way
 abbrev pub PathsTellNames : Type 0
 PathsTellNames =
     (things : List Thing) (volume : List ℕ) → AreThings things → HaveOwnNames things → AreWaysShort things
@@ -169,6 +169,6 @@ PathsTellNames =
 
 -- ---- chains
 
--- a chain has no end exactly where it comes to one of its places again
+-- a chain has no end exactly where it gets to one of its places again
 abbrev pub EndlessChainsTurn : Type 0
 EndlessChainsTurn = (things : List Thing) → AreThings things → (i : ℕ) → (is_endless (ups_of things) i ≡ true) ↔ ComesAgain (ups_of things) i

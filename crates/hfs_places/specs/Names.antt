@@ -16,7 +16,7 @@ lies_apart path = starts_with ◌==◌ path (codes "=old/") || starts_with ◌==
 abbrev pub root_name : List Thing → List ℕ → List ℕ
 root_name things volume = option_map_or (λ root. (thing_at things root).name) (root_of things) volume
 
--- the name of the thing at a place, and behind it those of the folders above it, in so many steps up
+-- the name of the thing at a place, and after it those of the folders above it, in so many steps up
 unfoldable pub names_up : List Thing → ℕ → Option ℕ → List (List ℕ)
 names_up things zero at = []
 names_up things (suc k) None = []

@@ -12,7 +12,7 @@ abbrev pub with_numbered : List Thing → Thing → Option ℕ → List Thing
 with_numbered things thing None = things
 with_numbered things thing (Some number) = if is_taken things number then things else things ++ thing ∷ []
 
--- a named folder comes behind the things where there is no folder of its number
+-- a named folder follows the things where there is no folder of its number
 abbrev pub with_named : List Thing → Thing → List Thing
 with_named things thing = with_numbered things thing thing.folder
 
@@ -20,7 +20,7 @@ abbrev pub named_behind : List Thing → List Thing → List Thing
 named_behind things [] = things
 named_behind things (t ∷ ts) = named_behind (with_named things t) ts
 
--- the items, and behind them the named folders
+-- the items, and after them the named folders
 abbrev pub things_of : List Thing → List Thing → List Thing
 things_of items namings = named_behind items namings
 

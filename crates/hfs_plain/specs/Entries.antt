@@ -1,4 +1,4 @@
--- The items that the rows of a table stand for, as a list.
+-- The items that the rows of a table represent, as a list.
 use Rattle.std.specs.Prelude.{List}
 use Rattle.hfs_model.specs.Volume.{Entry}
 use Rattle.hfs_item_table.specs.declared.table.Table.{Table}

@@ -18,7 +18,7 @@ abbrev pub answers_text : ℕ → List Reply → List ℕ
 answers_text number [] = []
 answers_text number (reply ∷ replies) = reply_text (codes "1") number reply ++ answers_text (number + 1) replies
 
--- a field of a line, and the tab behind it
+-- a field of a line, and the tab after it
 unfoldable pub field : List ℕ → List ℕ
 field shown = shown ++ codes "\t"
 
@@ -55,7 +55,7 @@ unfoldable pub lock_text : List ℕ → Bool → List ℕ
 lock_text word true = word
 lock_text word false = codes "-"
 
--- what calls change of a volume beside its items, and its locks
+-- what calls change of a volume besides its items, and its locks
 unfoldable pub own_line : Volume → List ℕ
 own_line v =
     codes "volume\t" ++ field (decimal v.next_id) ++ field (decimal v.changed) ++ field (lock_text (codes "hardware") v.hardware_locked)
@@ -67,6 +67,6 @@ item_lines es = flat_map item_line es
 abbrev pub volume_text : Volume → List ℕ
 volume_text v = own_line v ++ item_lines (entries_of v)
 
--- the answers of a run, and the volume behind it
+-- the answers of a run, and the volume after it
 abbrev pub all_text : Volume × List Reply → List ℕ
 all_text ran = answers_text 1 ran.1 ++ volume_text ran.0

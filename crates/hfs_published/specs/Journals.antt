@@ -50,17 +50,17 @@ IsWantOf v c (want.Nodes free depth) = free < need c depth
 IsWantOf v c (want.Room free wanted) = IsForkWantOf v c (want.Room free wanted)
 IsWantOf v c (want.ExtentNodes free depth) = IsForkWantOf v c (want.ExtentNodes free depth)
 
--- the code is that of the step; or it is -34 where the step's is 0 and the call wants more than there is
+-- the code is that of the step; or it is -34 where the step's is 0 and the call needs more than there is
 abbrev pub IsAnswered : Volume → Entry → Option Want → Type 0
 IsAnswered v e None = e.code ≡ (step v e.call).1.code
 IsAnswered v e (Some wanting) = ((step v e.call).1.code ≡ pos 0) × IsWantOf v e.call wanting × (e.code ≡ DISK_FULL)
 
--- the entry may stand behind these
+-- the entry may follow these
 pub record IsLegalAt (v : Volume) (before : List Entry) (e : Entry) : Type 0 where
   pub stamped : e.stamp ≡ made_by e.worker before + 1
   pub answered : IsAnswered (after v before) e e.want
 
--- each entry may stand behind those before it
+-- each entry may follow those before it
 abbrev pub IsLegal : Volume → List Entry → Type 0
 IsLegal v journal = (before : List Entry) (e : Entry) (rest : List Entry) → journal ≡ before ++ e ∷ rest → IsLegalAt v before e
 

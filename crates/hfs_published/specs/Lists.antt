@@ -1,4 +1,4 @@
--- What a published list stands for, and the rule of the pair of copies.
+-- What a published list represents, and the rule of the pair of copies.
 use Rattle.std.specs.Prelude.{◌≡◌, ℕ, ◌<◌, List, [], fold, length, Option, Some, Result, IfOk}
 use mathlib.Core.Option.{some}
 use mathlib.Core.List.{IsPrefix}

@@ -24,15 +24,15 @@ pub record PairState : Type 0 where
 abbrev pub pair : Book → List Item → List Item → PairState
 pair b a s = record { book = b; all = a; shown = s }
 
--- the pair with these members behind all that were added
+-- the pair with these members after all that were added
 abbrev pub with_added : PairState → List Item → PairState
 with_added p items = pair p.book (p.all ++ items) p.shown
 
--- the pair with this change behind all that were added
+-- the pair with this change after all that were added
 abbrev pub with_call : PairState → Call → PairState
 with_call p c = with_added p (Change c ∷ [])
 
--- the pair with the entry's change behind all that were added, if that is an accepted one
+-- the pair with the entry's change after all that were added, if that is an accepted one
 abbrev pub with_entry : PairState → Entry → PairState
 with_entry p e = with_added p (changes (e ∷ []))
 

@@ -1,4 +1,4 @@
--- What a caller is told, as plain data.
+-- What a caller is given, as plain data.
 use Rattle.std.specs.Prelude.{ℕ, List}
 use Rattle.logbook.specs.Pages.{Book}
 use Rattle.hfs_published.specs.declared.item.Item.{Item}

@@ -1,4 +1,4 @@
--- What is said of the writer of the pair of copies.
+-- What is said about the writer of the pair of copies.
 use Rattle.std.specs.Prelude.{◌≡◌, Bool, MatchBool, List, ◌++◌, drop, Option}
 use Rattle.logbook.specs.Pages.{Book}
 use Rattle.left_right.specs.declared.Absorb.{Ghosts}

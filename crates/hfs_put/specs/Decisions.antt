@@ -1,4 +1,4 @@
--- What becomes of one item that is to come into a folder, by what stands there in its place.
+-- What becomes of one item that is to be put into a folder, by what is there in its place.
 use Rattle.std.specs.Prelude.{ℕ, Bool, true, false, not, ◌&&◌, if◌then◌else◌, List, Option, Some, None, is_some}
 use Rattle.hfs_model.specs.declared.reply.Info.{Info}
 use Rattle.hfs_model.specs.declared.reply.ItemKind.{ItemKind}
@@ -26,9 +26,9 @@ use Rattle.hfs_put.specs.declared.decisions.Decision.TheVariants as decided
 use Rattle.hfs_put.specs.declared.decisions.Destination.{Destination}
 use Rattle.hfs_put.specs.declared.decisions.Destination.TheVariants as destination
 
--- ---- what stands on the disk
+-- ---- what is on the disk
 
--- what a value tells of one item
+-- what a value says about one item
 abbrev pub info_in : Value → Option Info
 info_in (value.One info) = Some info
 info_in value.Nothing = None
@@ -40,7 +40,7 @@ info_in (value.Room free wanted) = None
 info_in (value.ExtentNodes free depth) = None
 info_in (value.Place dir name) = None
 
--- what GetCatInfo tells of the folder's item of that name
+-- what GetCatInfo says about the folder's item of that name
 abbrev pub info_named : Volume → ℕ → Option (List ℕ) → Option Info
 info_named v dir (Some name) = info_in (get_cat_info (entries_of v) dir name).value
 info_named v dir None = None
@@ -92,7 +92,7 @@ abbrev pub inside_kept : Option Info → Destination
 inside_kept (Some info) = destination.OnDisk info.id
 inside_kept None = destination.Made
 
--- into a folder that stays comes what lies in it; in what is new nothing stands
+-- what lies in a folder that stays is put into it; in what is new nothing is there
 abbrev pub inside_of : Placing → Option Info → Destination
 inside_of placing.Kept there = inside_kept there
 inside_of placing.New there = destination.Made
@@ -111,20 +111,20 @@ decision_by None None placing inside item = decided.Refused NoName
 abbrev pub placed_by : Placing → Destination → PlannedItem → Decision
 placed_by placing folder item = decision_by (why_not (findings_with placing item.plan)) item.plan.name placing folder item
 
--- how it gets its place where this stands there
+-- how it gets its place where this is there
 abbrev pub placing_over : Bool → Option Info → PlannedItem → Placing
 placing_over replace there item = how_placed (standing_of there) (item_kind item.plan.own) replace
 
 abbrev pub judged : Bool → Option Info → PlannedItem → Decision
 judged replace there item = placed_by (placing_over replace there item) (inside_of (placing_over replace there item) there) item
 
--- of an item that comes into that folder, where files may be replaced or may not
+-- of an item that is put into that folder, where files may be replaced or may not
 abbrev pub decision : Volume → Bool → Destination → PlannedItem → Decision
 decision v replace (destination.OnDisk dir) item = judged replace (info_named v dir item.plan.name) item
 decision v replace destination.Made item = judged replace None item
 decision v replace destination.Refused item = decided.Untold
 
--- the folder into which comes what lies in it
+-- the folder into which what lies in it is put
 abbrev pub inside : Decision → Destination
 inside (decided.Put item folder) = folder
 inside (decided.Refused why) = destination.Refused

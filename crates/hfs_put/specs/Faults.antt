@@ -13,14 +13,14 @@ use Rattle.hfs_put.specs.declared.faults.CallFault.TheVariants as call_fault
 use Rattle.hfs_put.specs.declared.faults.LayFault.{LayFault}
 use Rattle.hfs_put.specs.declared.faults.LayFault.TheVariants as lay_fault
 
--- the reply of a call that would be done otherwise: the image wants room for it, or nodes
+-- the reply of a call that would be done otherwise: the image needs room for it, or nodes
 pub record IsWanting (image : List ℕ) (reply : Reply) : Type 0 where
   pub call : Call
   pub done : IsTrue (is_accepted (step (volume_of image) call).1)
   pub outcome : IsOutcomeIn image call (volume_of image, reply)
   pub full : reply.code ≡ DISK_FULL
 
--- the fault of calls that come to this, and leave this image
+-- the fault of calls that end so, and leave this image
 abbrev pub IsCallFault : {A : Type 0} → Result A Reply → List ℕ → CallFault → Type 0
 IsCallFault r image call_fault.NoMemory = ⊤
 IsCallFault r image (call_fault.Refused reply) = (r ≡ Err reply) ⊎ IsWanting image reply
@@ -31,13 +31,13 @@ IsLayFault r image lay_fault.NoMemory = ⊤
 IsLayFault r image (lay_fault.Absent place) = ⊤
 IsLayFault r image (lay_fault.Refused place reply) = (r ≡ Err (record { place = place; reply = reply })) ⊎ IsWanting image reply
 
--- the item at this place alone may be told as absent, where this holds
+-- the item at this place alone may be reported as absent, where this holds
 abbrev pub IsAbsentAt : ℕ → Type 0 → LayFault → Type 0
 IsAbsentAt place Fact lay_fault.NoMemory = ⊤
 IsAbsentAt place Fact (lay_fault.Absent at) = (at ≡ place) × Fact
 IsAbsentAt place Fact (lay_fault.Refused at reply) = ⊤
 
--- no item is told as absent
+-- no item is reported as absent
 abbrev pub IsNoAbsence : LayFault → Type 0
 IsNoAbsence fault = IsAbsentAt 0 ⊥ fault
 

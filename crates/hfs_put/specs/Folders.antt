@@ -13,7 +13,7 @@ open_of now f = record { place = f.place; id = f.id; ending = somes (ending f.di
 abbrev pub opens : ℕ → List OpenFolder → List Open
 opens now folders = reverse (map (open_of now) folders)
 
--- the volume behind what leaves it
+-- the volume after what leaves it
 abbrev pub one_left : ℕ → OpenFolder → Volume → Result Volume Refused
 one_left now f v = at_place f.place (all_accepted v (somes (ending f.dir f.item now)))
 

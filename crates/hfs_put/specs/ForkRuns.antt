@@ -33,12 +33,12 @@ run_at mdb item fork before e =
       offset = 512 * (before * blocks_each mdb);
     })
 
--- the runs of extents that stand behind so many allocation blocks of the fork
+-- the runs of extents that follow so many allocation blocks of the fork
 unfoldable pub runs_from : Mdb → ℕ → Fork → ℕ → List Extent → List ForkRun
 runs_from mdb item fork before [] = []
 runs_from mdb item fork before (e ∷ es) = cons_option (run_at mdb item fork before e) (runs_from mdb item fork (before + e.count) es)
 
--- all runs of a fork of a file, which stands at this place of the list
+-- all runs of a fork of a file, which is at this place of the list
 abbrev pub fork_runs_of : Blocks → ℕ → Fork → FileRecord → List ForkRun
 fork_runs_of blocks item fork file = runs_from (mdb_in blocks) item fork 0 (file_extents blocks fork file)
 
@@ -93,7 +93,7 @@ pub record AreFilePlaces (items : List PutItem) (ids : List ℕ) (place_of : ℕ
   pub only : (id place : ℕ) → place_of id ≡ Some place → IsFileAt items ids place id
   pub some : (id place : ℕ) → IsFileAt items ids place id → IsSome (place_of id)
 
--- a file's place came, if this is its ID
+-- a file's place was added, if this is its ID
 abbrev pub NotesPlace : Option ℕ → ℕ → (ℕ → Option ℕ) → (ℕ → Option ℕ) → Type 0
 NotesPlace (Some id) place old new = (q : ℕ) → new q ≡ (if id == q then Some place else old q)
 NotesPlace None place old new = (q : ℕ) → new q ≡ old q

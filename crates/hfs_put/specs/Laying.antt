@@ -20,7 +20,7 @@ bare item = record { item = item; data_fork = []; resource_fork = [] }
 
 -- ---- one item
 
--- the ID that a value tells of one item
+-- the ID that a value gives of one item
 abbrev pub id_in : Value → Option ℕ
 id_in (value.One info) = Some info.id
 id_in value.Nothing = None
@@ -38,11 +38,11 @@ standing now dir item v =
     next (all_accepted v (somes (making dir item now))) (λ made.
     next (all_accepted made (filling item.kind dir (bare item) now)) (λ done. Ok (done, id_named made dir item.name)))
 
--- the ID that GetCatInfo tells of the folder's item of that name
+-- the ID that GetCatInfo gives of the folder's item of that name
 abbrev pub id_told : Volume → ℕ → List ℕ → Option ℕ
 id_told v dir name = id_in (get_cat_info (entries_of v) dir name).value
 
--- the calls that make the item were accepted, and yet nothing is told of its name: it was to be kept, and isn't there
+-- the calls that make the item were accepted, and yet nothing is said about its name: it was to be kept, and isn't there
 abbrev pub LacksName : ℕ → ℕ → PutItem → Volume → Volume → Type 0
 LacksName now dir item v w = (all_accepted v (somes (making dir item now)) ≡ Ok w) × (id_told w dir item.name ≡ None)
 
@@ -63,7 +63,7 @@ one_laid target now place item v folders = next (left item.parent v folders) (λ
 abbrev pub IsOneLaid : ℕ → ℕ → ℕ → PutItem → Volume → List Open → Volume → List Open → ℕ → Type 0
 IsOneLaid target now place item v folders w opens id = one_laid target now place item v folders ≡ Ok (record { volume = w; id = id; folders = opens })
 
--- where they are left, it is made in the innermost one that is open then, and nothing is told of its name
+-- where they are left, it is made in the innermost one that is open then, and nothing is said about its name
 pub record LacksOne (target now : ℕ) (item : PutItem) (v : Volume) (folders : List Open) (w : Volume) : Type 0 where
   pub behind : Volume × List Open
   pub left_is : left item.parent v folders ≡ Ok behind
@@ -71,7 +71,7 @@ pub record LacksOne (target now : ℕ) (item : PutItem) (v : Volume) (folders : 
 
 -- ---- the list
 
--- the volume behind the first items of the list, and the folders that are open then
+-- the volume after the first items of the list, and the folders that are open then
 abbrev pub front_laid : ℕ → ℕ → ℕ → Volume → List Open → List PutItem → Result (Volume × List Open) Refused
 front_laid target now place v folders [] = Ok (v, folders)
 front_laid target now place v folders (item ∷ items) =
@@ -85,7 +85,7 @@ pub record LacksItem (target now : ℕ) (items : List PutItem) (v w : Volume) (p
   pub there : slice_get items place ≡ Some item
   pub lacks : LacksOne target now item front.0 front.1 w
 
--- an item is told as absent only where it is lacking
+-- an item is reported as absent only where it is lacking
 abbrev pub IsAbsence : ℕ → ℕ → List PutItem → Volume → Volume → LayFault → Type 0
 IsAbsence target now items v w fault.NoMemory = ⊤
 IsAbsence target now items v w (fault.Absent place) = LacksItem target now items v w place
@@ -94,7 +94,7 @@ IsAbsence target now items v w (fault.Refused place reply) = ⊤
 abbrev pub item_of : Arrival → PutItem
 item_of a = a.item
 
--- whatever bytes come for the items, all calls but those that write forks are accepted, and make this volume, with these IDs
+-- whatever bytes are given for the items, all calls but those that write forks are accepted, and make this volume, with these IDs
 abbrev pub AreLaid : ℕ → ℕ → List PutItem → Volume → Volume → List ℕ → Type 0
 AreLaid target now items v w ids =
     (arrivals : List Arrival) → map item_of arrivals ≡ items → laid_volume v target now arrivals ≡ Ok (record { volume = w; ids = ids })

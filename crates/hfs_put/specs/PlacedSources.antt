@@ -1,4 +1,4 @@
--- What becomes of a list of items that is to come into a folder of a volume.
+-- What becomes of a list of items that is to be put into a folder of a volume.
 use Rattle.std.specs.Prelude.{◌≡◌, ◌≢◌, ℕ, ◌+◌, ℤ, Bool, if◌then◌else◌, List, [], ◌∷◌, ◌++◌, map, get_or, Option, Some, None}
 use Rattle.std.specs.List.{cons_option}
 use Rattle.hfs_fields.specs.declared.mdb.Mdb.{Mdb}
@@ -25,12 +25,12 @@ lock_code v = if choices.is_locked v then Some (choices.lock_code v) else None
 abbrev pub directory_lock_code : Mdb → Option ℤ
 directory_lock_code mdb = if is_bit_set 7 mdb.attributes.0 then Some HARDWARE_LOCKED else if is_bit_set 15 mdb.attributes.0 then Some SOFTWARE_LOCKED else None
 
--- the folder into which an item comes: the target, or where that comes which lies in its parent
+-- the folder into which an item is put: the target, or where what lies in its parent is put
 abbrev pub destination : ℕ → List Destination → Option ℕ → Destination
 destination target insides None = into.OnDisk target
 destination target insides (Some parent) = get_or insides parent into.Made
 
--- of each item behind others of the list, of which it is known where that comes which lies in them
+-- of each item after others of the list, of which it is known where what lies in them is put
 unfoldable pub decisions_behind : Volume → ℕ → Bool → List Destination → List PlannedItem → List Decision
 decisions_behind v target replace insides [] = []
 decisions_behind v target replace insides (item ∷ more) =
@@ -58,7 +58,7 @@ unfoldable pub refused_from : ℕ → List Decision → List RefusedItem
 refused_from place [] = []
 refused_from place (d ∷ ds) = cons_option (refused_at place d) (refused_from (place + 1) ds)
 
--- each is put, or those are told that can't be, of which there are some then
+-- each is put, or those are reported that can't be, of which there are some then
 abbrev pub ArePlaced : List Decision → PlacedSources → Type 0
 ArePlaced ds (placed.All items) = map item_put ds ≡ map Some items.items
 ArePlaced ds (placed.Refused refused) = (refused.items ≡ refused_from 0 ds) × (refused.items ≢ [])

@@ -60,7 +60,7 @@ abbrev pub making_of : ItemKind → ℕ → PutItem → ℕ → List (Option Cal
 making_of Folder dir item now = folder_making dir item now
 making_of File dir item now = file_making dir item now
 
--- the calls by which the item stands there, its forks as long as they will be
+-- the calls by which the item is there, its forks as long as they will be
 abbrev pub making : ℕ → PutItem → ℕ → List (Option Call)
 making dir item now = making_of item.kind dir item now
 
@@ -99,6 +99,6 @@ abbrev pub ending_of : ItemKind → ℕ → PutItem → ℕ → List (Option Cal
 ending_of Folder dir item now = folder_ending dir item item.placing now
 ending_of File dir item now = file_ending dir item now
 
--- the calls that come behind the bytes of a file, and behind all that lies in a folder
+-- the calls that follow the bytes of a file, and all that lies in a folder
 abbrev pub ending : ℕ → PutItem → ℕ → List (Option Call)
 ending dir item now = ending_of item.kind dir item now

@@ -28,12 +28,12 @@ pub record AreNewItemsNamed : Type 0 where
 abbrev pub IsWhole : Arrival → Type 0
 IsWhole a = (length a.data_fork ≡ a.item.data_len) × (length a.resource_fork ≡ a.item.resource_len)
 
--- with the bytes of the forks that came in the volume
+-- with the bytes of the new forks in the volume
 abbrev pub with_bytes : List Arrival → Result Put Refused → Result Put Refused
 with_bytes arrivals (Ok put) = Ok (record put { volume = with_forks (came arrivals put.ids []) put.volume })
 with_bytes arrivals (Err refused) = Err refused
 
--- all calls make of a volume what those make that write no fork, with the bytes of the forks that came; and the same call is refused, if one is
+-- all calls make of a volume what those make that write no fork, with the bytes of the new forks; and the same call is refused, if one is
 abbrev pub PutIsLaid : Type 0
 PutIsLaid = (v : Volume) (target now : ℕ) (arrivals : List Arrival) → Each IsWhole arrivals
     → put_volume v target now arrivals ≡ with_bytes arrivals (laid_volume v target now arrivals)
@@ -42,7 +42,7 @@ PutIsLaid = (v : Volume) (target now : ℕ) (arrivals : List Arrival) → Each I
 abbrev pub with_zeros : Arrival → Arrival
 with_zeros a = record { item = a.item; data_fork = replicate (length a.data_fork) 0; resource_fork = replicate (length a.resource_fork) 0 }
 
--- without the calls that write forks, the files that came have zeros in their forks, as many as bytes come
+-- without the calls that write forks, the new files have zeros in their forks, as many as they will have bytes
 abbrev pub LaidForksAreZeros : Type 0
 LaidForksAreZeros = (v : Volume) (target now : ℕ) (arrivals : List Arrival) (put : Put) → Each IsWhole arrivals → laid_volume v target now arrivals ≡ Ok put
     → with_forks (came (map with_zeros arrivals) put.ids []) put.volume ≡ put.volume
@@ -53,7 +53,7 @@ AreTheirs forks [] ids = ⊤
 AreTheirs forks (a ∷ more) [] = ⊤
 AreTheirs forks (a ∷ more) (id ∷ ids) = IfSome (file_forks a.item.kind a id) (λ (own : FileForks). forks_of forks id ≡ Some own) × AreTheirs forks more ids
 
--- among the bytes that came each file of the list has its own, since no two files have one ID
+-- among the bytes that were added each file of the list has its own, since no two files have one ID
 abbrev pub ForksAreTheirs : Type 0
 ForksAreTheirs = (v : Volume) (target now : ℕ) (arrivals : List Arrival) (put : Put) → laid_volume v target now arrivals ≡ Ok put
     → AreTheirs (came arrivals put.ids []) arrivals put.ids

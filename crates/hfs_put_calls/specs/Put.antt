@@ -20,12 +20,12 @@ pub record Arrival : Type 0 where
   pub data_fork : List ℕ
   pub resource_fork : List ℕ
 
--- a folder of the list that is open: what comes may lie in it
+-- a folder of the list that is open: what is put may lie in it
 pub record Open : Type 0 where
   -- its place in the list
   pub place : ℕ
   pub id : ℕ
-  -- the calls that come behind all that lies in it
+  -- the calls that follow all that lies in it
   pub ending : List Call
 
 -- the first call that was refused: the place of its item in the list, and the reply
@@ -33,7 +33,7 @@ pub record Refused : Type 0 where
   pub place : ℕ
   pub reply : Reply
 
--- the volume behind all calls, and the IDs of the items in the order of the list
+-- the volume after all calls, and the IDs of the items in the order of the list
 pub record Put : Type 0 where
   pub volume : Volume
   pub ids : List ℕ
@@ -70,7 +70,7 @@ id_named v dir name = option_map_or (λ (e : Entry). e.0) (child_named (entries_
 abbrev pub writing : ℕ → Arrival → ℕ → List Call
 writing dir a now = write_calls dir a.item.name DataFork a.data_fork now ++ write_calls dir a.item.name ResFork a.resource_fork now
 
--- behind a file's making come its bytes and its ending
+-- a file's making is followed by its bytes and its ending
 abbrev pub filling : ItemKind → ℕ → Arrival → ℕ → List Call
 filling Folder dir a now = []
 filling File dir a now = writing dir a now ++ somes (ending_of File dir a.item now)
@@ -103,7 +103,7 @@ placed now place dir a v folders =
       }) folders;
     }))))
 
--- each item lies in one of the folders that are open where it comes, or in the target
+-- each item lies in one of the folders that are open at its turn, or in the target
 abbrev pub put_from : ℕ → ℕ → ℕ → Volume → List Open → List Arrival → Result Put Refused
 put_from target now place v folders [] = next (left None v folders) (λ (s : Volume × List Open). Ok (record { volume = s.0; ids = [] }))
 put_from target now place v folders (a ∷ more) =
@@ -125,7 +125,7 @@ without_bytes a = record { item = a.item; data_fork = []; resource_fork = [] }
 abbrev pub laid_volume : Volume → ℕ → ℕ → List Arrival → Result Put Refused
 laid_volume v target now arrivals = put_volume v target now (map without_bytes arrivals)
 
--- ---- the bytes that come
+-- ---- the bytes that are put
 
 abbrev pub file_forks : ItemKind → Arrival → ℕ → Option FileForks
 file_forks Folder a id = None

@@ -23,6 +23,6 @@ kind_with_forks (Some forks) (kind.File file) = kind.File (record file { «data�
 abbrev pub entry_with_forks : List FileForks → Entry → Entry
 entry_with_forks forks e = (e.0, record e.1 { kind = kind_with_forks (forks_of forks e.0) e.1.kind })
 
--- the same items, but for the bytes of these files' forks
+-- the same items, except for the bytes of these files' forks
 abbrev pub with_forks : List FileForks → Volume → Volume
 with_forks forks v = record v { items = fin.from_sorted (map (entry_with_forks forks) (fin.entries v.items)) }

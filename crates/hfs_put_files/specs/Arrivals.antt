@@ -1,4 +1,4 @@
--- What comes of a host's tree for a list. Each law is what a function of src/laws.rt ensures.
+-- What a host's tree gives for a list. Each law is what a function of src/laws.rt ensures.
 use Rattle.std.specs.Prelude.{◌≡◌, ℕ, List, length, map}
 use Rattle.std.specs.List.{zip}
 use Rattle.hfs_laid_forks.specs.Laid as forks
@@ -13,9 +13,9 @@ use Rattle.hfs_sources.specs.Items.{PlannedItem}
 use Rattle.hfs_sources.specs.Trees.{Tree}
 use Rattle.hfs_sources.specs.declared.fork_run.ForkRun.{ForkRun}
 
--- ---- the bytes that come
+-- ---- the bytes that are put
 
--- of a fork as many as were planned: those that the tree has, and zeros behind them where these are fewer
+-- of a fork as many as were planned: those that the tree has, and zeros after them where these are fewer
 abbrev pub coming_bytes : Tree → PlannedItem → Fork → List ℕ
 coming_bytes host item fork = filled (fork_span item.plan fork).len (fork_bytes host item fork)
 
@@ -30,13 +30,13 @@ arrivals_of host items places = map (arrival_of host) (zip items places)
 
 -- ---- the laws
 
--- what the tree has whole comes as it is there
+-- what the tree has whole is put as it is there
 abbrev pub WholeForksCome : Type 0
 WholeForksCome =
     (host : Tree) (item : PlannedItem) (fork : Fork) → length (fork_bytes host item fork) ≡ (fork_span item.plan fork).len
     → coming_bytes host item fork ≡ fork_bytes host item fork
 
--- the forks of the tree in the runs of an image are the bytes that come in these runs
+-- the forks of the tree in the runs of an image are the bytes that are put in these runs
 abbrev pub LaidForksAreArrivals : Type 0
 LaidForksAreArrivals =
     (host : Tree) (items : List PlannedItem) (places : List PutItem) (runs : List ForkRun) (bytes : List ℕ) → length places ≡ length items

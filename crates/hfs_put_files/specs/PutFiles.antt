@@ -19,14 +19,14 @@ use Rattle.hfs_put_files.specs.Arrivals.{arrivals_of}
 
 -- ---- what is put
 
--- What comes gets these places in a folder of the copy's volume, and is put there by all calls but those that write forks: these
+-- What is put gets these places in a folder of the copy's volume, and is put there by all calls but those that write forks: these
 -- blocks go out, these runs are those of the files' forks, and these are the IDs of the items.
 pub record IsPutList (copy : List ℕ) (target now : ℕ) (items : List PlannedItem) (places : List PutItem) (patch : Numbered) (runs : List ForkRun) (ids : List ℕ) : Type 0 where
   pub replace : Bool
   pub placed : map item_put (decisions (volume_of copy) target replace items) ≡ map Some places
   pub over : IsPutOver copy target now places patch runs ids
 
--- the four bytes of a sum stand before an image that begins at this byte
+-- the four bytes of a sum precede an image that begins at this byte
 abbrev pub IsSumBefore : Option ℕ → ℕ → Type 0
 IsSumBefore (Some sum_at) start = sum_at + 4 ≤ start
 IsSumBefore None start = ⊤
@@ -43,8 +43,8 @@ pub record IsImageOf (copy : List ℕ) (place : ImagePlace) (file : List ℕ) : 
 abbrev pub put_file : ImagePlace → Numbered → Tree → List PlannedItem → List ForkRun → List ℕ → List ℕ
 put_file place patch host items runs file = file_with place patch (laid place.range.start host items runs file)
 
--- In the image's place stands what the File Manager makes of the image's volume by the list, but for the bytes of forks of other
--- files. Before it stand the file's own bytes, with the sum of what stands there now, and behind it the file's own.
+-- In the image's place is what the File Manager makes of the image's volume by the list, except for the bytes of forks of other
+-- files. Before it are the file's own bytes, with the sum of what is there now, and after it the file's own.
 pub record IsFilePut (target now : ℕ) (arrivals : List Arrival) (ids : List ℕ) (place : ImagePlace) (file saved : List ℕ) : Type 0 where
   -- the blocks of forks that calls wrote
   pub written : List ℕ
@@ -54,7 +54,7 @@ pub record IsFilePut (target now : ℕ) (arrivals : List Arrival) (ids : List �
 
 -- ---- the law
 
--- so it is of each file with such an image, and of each tree of which the list comes
+-- so it is of each file with such an image, and of each tree of which the list is
 abbrev pub PutFilesHoldPut : Type 0
 PutFilesHoldPut =
     (copy : List ℕ) (target now : ℕ) (items : List PlannedItem) (places : List PutItem) (patch : Numbered) (runs : List ForkRun) (ids : List ℕ)

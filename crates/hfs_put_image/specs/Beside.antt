@@ -1,4 +1,4 @@
--- The blocks of a patch that lie beside the runs of forks.
+-- The blocks of a patch that lie outside the runs of forks.
 use Rattle.std.specs.Prelude.{◌≡◌, ◌≢◌, ℕ, ◌+◌, ◌*◌, ◌<◌, ◌≤◌, Bool, ◌&&◌, nat_le, nat_lt, if◌then◌else◌, List, length, slice_index_or, Option, None}
 use Rattle.std.specs.List.{list_any}
 use Rattle.hfs_blocks.specs.Layers.{Numbered, changes}
@@ -22,7 +22,7 @@ AreBeside runs patch kept = (n : ℕ) → changes kept n ≡ block_beside runs p
 
 -- ---- on the way
 
--- block n came, if it is one of these and wasn't there, and no other
+-- block n was added, if it is one of these and wasn't there, and no other
 pub record PutsBeside (runs : List ForkRun) (patch : Numbered) (n : ℕ) (old new : Numbered) : Type 0 where
   pub here : changes old n ≡ None → changes new n ≡ block_beside runs patch n
   pub others : (k : ℕ) → k ≢ n → changes new k ≡ changes old k

@@ -18,9 +18,9 @@ use Rattle.hfs_put_laws.specs.Saved.{IsPut}
 use Rattle.hfs_put_image.specs.Beside.{AreBeside}
 use Rattle.hfs_put_image.specs.LaidRuns.{laid}
 
--- A list was put on a copy of an image, with these IDs; these blocks go out, and these runs are those of its files' forks. Whatever bytes come for the
+-- A list was put on a copy of an image, with these IDs; these blocks are written, and these runs are those of its files' forks. Whatever bytes are given for the
 -- list, and whatever image has the copy's working blocks: the image with the bytes laid in these runs, and with these blocks over it, holds what the File
--- Manager makes of the image's volume by the list, but for the bytes of forks of other files.
+-- Manager makes of the image's volume by the list, except for the bytes of forks of other files.
 pub record IsPutOver (copy : List ℕ) (target now : ℕ) (items : List PutItem) (patch : Numbered) (runs : List ForkRun) (ids : List ℕ) : Type 0 where
   -- the blocks of forks that calls wrote
   pub written : List ℕ
@@ -33,7 +33,7 @@ HasDirectory copy items patch runs directory =
     (arrivals : List Arrival) (image : List ℕ) → map item_of arrivals ≡ items → Each IsWhole arrivals → IsWorkingCopy copy image
     → mdb_in (block_at (patched patch (laid arrivals runs image))) ≡ directory
 
--- these are the blocks of a volume that are other than they were in its base, with which it agrees, but for those that begin in one of these runs
+-- these are the blocks of a volume that are other than they were in its base, with which it agrees, except for those that begin in one of these runs
 pub record AreGoingOut (volume : ImageValue) (runs : List ForkRun) (patch : Numbered) : Type 0 where
   pub agrees : AgreesBut volume.written volume.base volume.current
   pub changed : Numbered

@@ -45,7 +45,7 @@ OfTheirFiles forks Fact catalog =
 abbrev pub AreLongAs : FileRecord → FileForks → Type 0
 AreLongAs file own = (length own.data_fork ≡ file.«data».length) × (length own.resource_fork ≡ file.resource.length)
 
--- in these blocks stand these bytes, in order, and zeros behind them
+-- in these blocks are these bytes, in order, and zeros after them
 pub record HoldBytes (blocks : Blocks) (numbers bytes : List ℕ) : Type 0 where
   pub zeros : ℕ
   pub are : joined (map blocks numbers) ≡ bytes ++ replicate zeros 0
@@ -55,7 +55,7 @@ pub record HoldForks (records blocks : Blocks) (file : FileRecord) (own : FileFo
   pub data_fork : HoldBytes blocks (blocks_of_fork records file.id Data file.«data») own.data_fork
   pub resource_fork : HoldBytes blocks (blocks_of_fork records file.id Resource file.resource) own.resource_fork
 
--- in the new bytes, which are as many as the old ones, these forks stand where these records say that their files lie, and nothing else has changed
+-- in the new bytes, which are as many as the old ones, these forks are where these records say that their files lie, and nothing else has changed
 pub record AreForksLaid (forks : List FileForks) (records : Blocks) (old new : List ℕ) : Type 0 where
   pub len : length new ≡ length old
   pub hold : OfTheirFiles forks (HoldForks records (block_at new)) (catalog_in records)
@@ -63,7 +63,7 @@ pub record AreForksLaid (forks : List FileForks) (records : Blocks) (old new : L
 
 -- ---- the law
 
--- the new image is sound, agrees with the old one but for the blocks of these files, and holds its volume with these bytes
+-- the new image is sound, agrees with the old one except for the blocks of these files, and holds its volume with these bytes
 pub record HoldsWithForks (forks : List FileForks) (old new : List ℕ) : Type 0 where
   pub agrees : AgreesBut (blocks_of_files (has_forks forks) (block_at old)) old new
   pub volume : volume_of new ≡ with_forks forks (volume_of old)

@@ -1,4 +1,4 @@
--- Lists put on volumes that are the same but for the bytes of forks. The law is what a function of src/laws.rt ensures.
+-- Lists put on volumes that are the same except for the bytes of forks. The law is what a function of src/laws.rt ensures.
 use Rattle.std.specs.Prelude.{◌≡◌, ℕ, List, [], Result, Ok, Err}
 use Rattle.hfs_scans.specs.Each.{Each}
 use Rattle.hfs_model.specs.Volume.{Volume}
@@ -7,7 +7,7 @@ use Rattle.hfs_put_calls.specs.Laws.{IsWhole}
 use Rattle.hfs_put_calls.specs.Put.{Arrival, Put, Refused, put_volume, came}
 use Rattle.hfs_put_laws.specs.Forks.{has_forks}
 
--- the items have the same IDs, and the volumes are the same but for the bytes of forks of files that aren't of the list
+-- the items have the same IDs, and the volumes are the same except for the bytes of forks of files that aren't of the list
 pub record ArePutAlike (arrivals : List Arrival) (a b : Put) : Type 0 where
   pub ids : b.ids ≡ a.ids
   pub volumes : AreAlike (has_forks (came arrivals a.ids [])) a.volume b.volume

@@ -23,8 +23,8 @@ pub record AreCallsMade (target now : ℕ) (arrivals : List Arrival) (ids writte
   pub laid : laid_volume (volume_of copy) target now arrivals ≡ Ok (record { volume = volume_of current; ids = ids })
   pub agrees : AgreesBut written copy current
 
--- The File Manager puts the list on the image's volume, with these IDs, and the saved image holds what it makes, but for the bytes of forks of files
--- that aren't of the list. It is sound, and the image's blocks stay but for these, which calls wrote, those of the files that came,
+-- The File Manager puts the list on the image's volume, with these IDs, and the saved image holds what it makes, except for the bytes of forks of files
+-- that aren't of the list. It is sound, and the image's blocks stay except for these, which calls wrote, those of the files that were added,
 -- and those in which calls keep the volume's own records.
 pub record IsPut (target now : ℕ) (arrivals : List Arrival) (ids written image saved : List ℕ) : Type 0 where
   pub put : Put

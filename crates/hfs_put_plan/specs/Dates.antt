@@ -2,7 +2,7 @@
 -- The year 1970 begins at 2,082,844,800.
 use Rattle.std.specs.Prelude.{ℕ, ◌+◌, ◌-◌, Bool, nat_le, if◌then◌else◌}
 
--- so many seconds behind the beginning of 1970
+-- so many seconds after the beginning of 1970
 unfoldable pub date_since_1970 : ℕ → ℕ
 date_since_1970 seconds = if nat_le (seconds + 2082844800) 4294967295 then seconds + 2082844800 else 4294967295
 

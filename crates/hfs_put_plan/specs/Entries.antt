@@ -8,7 +8,7 @@ use Rattle.std.specs.List.Sorted.{IsPermutation, IsSorted}
 use Rattle.hfs_put_plan.specs.declared.entries.Entry.{Entry}
 use Rattle.hfs_put_plan.specs.declared.entries.FolderItem.{FolderItem}
 
--- a name that begins with `._`: its entry belongs to the item whose name stands behind these
+-- a name that begins with `._`: its entry belongs to the item whose name follows these
 abbrev pub is_double : List ℕ → Bool
 is_double name = nat_le 2 (length name) && (slice_index name 0 == 46) && (slice_index name 1 == 95)
 
@@ -43,11 +43,11 @@ abbrev pub alone : ℕ → List ℕ → Option FolderItem
 alone place name =
     if stays_behind name then None else if is_double name then Some (record { own = None; double = Some place }) else Some (record { own = Some place; double = None })
 
--- an entry and the one behind it
+-- an entry and the one after it
 abbrev pub both : ℕ → List ℕ → Option FolderItem
 both place name = if stays_behind name then None else Some (record { own = Some place; double = Some (place + 1) })
 
--- the items of entries that stand from a place on
+-- the items of entries that are from a place on
 unfoldable pub items_from : ℕ → List Entry → List FolderItem
 items_from place [] = []
 items_from place (first ∷ []) = cons_option (alone place first.name.now) []

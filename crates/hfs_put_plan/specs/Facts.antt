@@ -1,4 +1,4 @@
--- What is kept of an item beside its forks: what the Finder keeps, the lock, and dates.
+-- What is kept of an item besides its forks: what the Finder keeps, the lock, and dates.
 use Rattle.std.specs.Prelude.{ℕ, Bool, false, List, ◌++◌, replicate, Option, Some, None}
 use Rattle.hfs_incoming.specs.declared.apple_double.AppleDoubleFile.{AppleDoubleFile}
 use Rattle.hfs_incoming.specs.declared.apple_double.FileDates.{FileDates}
@@ -10,7 +10,7 @@ use Rattle.hfs_put_plan.specs.declared.facts.ToldFacts.{ToldFacts}
 abbrev pub file_time : ℕ → FileDates
 file_time modified = record { created = modified; modified = modified; backup = 0 }
 
--- ---- what a bag tells goes before all else
+-- ---- what a bag says counts before all else
 
 abbrev pub told_dates : Option ToldFacts → FileDates → FileDates
 told_dates (Some told) dates = told.dates
@@ -27,7 +27,7 @@ abbrev pub double_finder : Option AppleDoubleFile → List ℕ
 double_finder (Some double) = double.finder
 double_finder None = replicate 32 0
 
--- the dates that were told, or those of this time
+-- the dates that were given, or those of this time
 abbrev pub double_told : Option FileDates → ℕ → FileDates
 double_told (Some dates) modified = dates
 double_told None modified = file_time modified

@@ -1,4 +1,4 @@
--- How an item that comes gets its place, where another of the same name may stand.
+-- How an item that is put gets its place, where another of the same name may be.
 use Rattle.std.specs.Prelude.{Bool, if◌then◌else◌, Option, Some, None}
 use Rattle.hfs_model.specs.declared.reply.ItemKind.{ItemKind}
 use Rattle.hfs_model.specs.declared.reply.ItemKind.TheVariants.{Folder, File}
@@ -10,7 +10,7 @@ use Rattle.hfs_put_plan.specs.declared.over.Standing.{Standing}
 abbrev pub over_file : Bool → Bool → Placing
 over_file locked replace = if replace then Replaced locked else Taken
 
--- by the kind of what stands there: a folder takes what comes into it, and nothing of the other kind
+-- by the kind of what is there: a folder takes what is put into it, and nothing of the other kind
 abbrev pub over : ItemKind → Bool → ItemKind → Bool → Placing
 over Folder locked Folder replace = Kept
 over File locked Folder replace = Taken

@@ -10,15 +10,15 @@ use Rattle.hfs_put_plan.specs.declared.steps.ForkPiece.{ForkPiece}
 abbrev pub end_step : Fork → ℕ → Option FileStep
 end_step fork len = if len == 0 then None else Some (SetEnd fork len)
 
--- a file is locked behind all else
+-- a file is locked after all else
 abbrev pub lock_step : Bool → Option FileStep
 lock_step locked = if locked then Some Lock else None
 
--- it is made, and each fork with bytes gets its end; then come their bytes, and behind these the facts, since writing a fork sets the moment of the file's change
+-- it is made, and each fork with bytes gets its end; then its bytes are written, and after these the facts are set, since writing a fork sets the moment of the file's change
 abbrev pub file_steps : ℕ → ℕ → Bool → List (Option FileStep)
 file_steps data_len resource_len locked = Some Make ∷ end_step DataFork data_len ∷ end_step ResFork resource_len ∷ Some SetFacts ∷ lock_step locked ∷ []
 
--- the piece that comes behind so many others: 65,536 bytes, or what is left
+-- the piece that follows so many others: 65,536 bytes, or what is left
 unfoldable pub fork_piece : ℕ → ℕ → Option ForkPiece
 fork_piece len before =
     if nat_le len (before * 65536) then None

@@ -7,7 +7,7 @@ use Rattle.hfs_fields.specs.Order.{same_name}
 abbrev pub is_twin : List (List ℕ) → List ℕ → Bool
 is_twin before name = list_any (λ other. same_name other name) before
 
--- of names behind others, whether each is that of one before it
+-- of names after others, whether each is that of one before it
 abbrev pub twins_behind : List (List ℕ) → List (List ℕ) → List Bool
 twins_behind before [] = []
 twins_behind before (name ∷ names) = is_twin before name ∷ twins_behind (before ++ name ∷ []) names

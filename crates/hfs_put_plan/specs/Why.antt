@@ -1,4 +1,4 @@
--- Why an item can't be put: the first reason that holds is told.
+-- Why an item can't be put: the first reason that holds is given.
 use Rattle.std.specs.Prelude.{ℕ, Bool, not, nat_lt, if◌then◌else◌, Option, Some, None}
 use Rattle.hfs_put_plan.specs.declared.reasons.Findings.{Findings}
 use Rattle.hfs_put_plan.specs.declared.reasons.Why.{Why}

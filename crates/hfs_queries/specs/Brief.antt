@@ -1,4 +1,4 @@
--- What is told of items where nobody asks whether a file has a thread.
+-- What is said about items where nobody asks whether a file has a thread.
 use Rattle.std.specs.Prelude.{ℕ, false, not, if◌then◌else◌, List, map}
 use Rattle.hfs_model.specs.declared.codes.TheConstants.{NOT_A_FOLDER}
 use Rattle.hfs_model.specs.declared.reply.Info.{Info}
@@ -44,17 +44,17 @@ value_without_ids (value.Place dir name) = value.Place dir name
 abbrev pub without_ids : Reply → Reply
 without_ids reply = record { code = reply.code; value = value_without_ids reply.value }
 
--- so much of what is told of an item
+-- so much of what is said about an item
 abbrev pub in_detail : Detail → Info → Info
 in_detail detail.Full info = info
 in_detail detail.Brief info = without_id info
 
--- so much of what is told of a folder's children
+-- so much of what is said about a folder's children
 abbrev pub listed_in : Detail → Catalog → ℕ → Reply
 listed_in detail catalog dir =
     if not (is_folder catalog dir) then refusal NOT_A_FOLDER
     else success (value.Many (map (in_detail detail) (child_infos catalog dir)))
 
--- so much of what is told of each child of a folder
+-- so much of what is said about each child of a folder
 abbrev pub infos_in : Detail → Catalog → ℕ → List Info
 infos_in detail catalog dir = map (in_detail detail) (child_infos catalog dir)

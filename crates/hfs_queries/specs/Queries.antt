@@ -17,5 +17,5 @@ pub record AreEntries (contents : Contents) (catalog : Catalog) (es : List Entry
   pub by_id : (id : ℕ) → entry_at es id ≡ option_map (entry_of contents catalog) (item_with catalog id)
   pub named : (dir : ℕ) (name : List ℕ) → model.child_named es dir name ≡ option_map (entry_of contents catalog) (child_named catalog dir name)
   pub children : (dir : ℕ) → model.children es dir ≡ map (entry_of contents catalog) (children_of catalog dir)
-  -- what is told of an item is told by its record
+  -- what is said about an item is said by its record
   pub told : Each (λ r. IsTrue (is_item r.1) → info_of es (entry_of contents catalog r) ≡ told catalog r) catalog

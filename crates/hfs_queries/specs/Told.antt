@@ -29,7 +29,7 @@ pub record IsCatalog (nodes : Store) : Type 0 where
   pub next : ℕ
   pub catalog : IsSoundCatalog next (catalog_of nodes)
 
--- ---- what is told of an item
+-- ---- what is said about an item
 
 unfoldable pub folder_info : CatKey → DirRecord → Info
 folder_info key r = record {
@@ -48,7 +48,7 @@ folder_info key r = record {
   res_len = 0;
 }
 
--- the lengths are those that the record has; whether the file has a thread is told by the thread's record
+-- the lengths are those that the record has; whether the file has a thread is known by the thread's record
 unfoldable pub file_info : Bool → CatKey → FileRecord → Info
 file_info has_thread key r = record {
   id = r.id;
@@ -118,7 +118,7 @@ indexed catalog dir index =
 
 -- ---- file IDs
 
--- where a file with a thread stands: -1302 of a folder, -1300 of a file without one
+-- where a file with a thread is: -1302 of a folder, -1300 of a file without one
 abbrev pub placed : Catalog → Record → Reply
 placed catalog r =
     if is_dir r.1 then refusal NOT_A_FILE

@@ -8,7 +8,7 @@ use Rattle.hfs_fields.specs.Mdb.{bytes_at}
 unfoldable pub has_pattern : List ℕ → Bool
 has_pattern head = (number_at 0 4 head == 16777215) && (number_at 4 4 head == 4294967295) && (number_at 8 4 head == 4294967040)
 
--- behind the pattern stand three bytes of an address, and the mode; behind mode 2 a subheader, whose third byte tells the form: bit 5 is 0 in form 1
+-- after the pattern are three bytes of an address, and the mode; after mode 2 a subheader, whose third byte says the form: bit 5 is 0 in form 1
 unfoldable pub is_mode_2_form_1 : List ℕ → Bool
 is_mode_2_form_1 head = (slice_index head 15 == 2) && (slice_index head 18 / 32 % 2 == 0)
 

@@ -63,7 +63,7 @@ AreBelow most sums = (i : ℕ) → number_at sums i ≤ most
 abbrev pub summed : List ℕ → List (Option ℕ) → ℕ → ℕ
 summed sums jumps i = number_at sums i + option_map_or (number_at sums) (slice_index_or jumps i None) 0
 
--- no more than are wanted
+-- no more than are needed
 abbrev pub at_most : ℕ → ℕ → ℕ
 at_most wanted n = if nat_le wanted n then wanted else n
 

@@ -28,7 +28,7 @@ both_forks body =
 abbrev pub blocks_for : Mdb → ℕ → ℕ
 blocks_for mdb len = div_ceil len mdb.allocation_block_size
 
--- the blocks of a fork: the first of its extents, as many as its length wants
+-- the blocks of a fork: the first of its extents, as many as its length needs
 unfoldable pub fork_blocks : Overflow → Mdb → Fork → List ℕ
 fork_blocks records mdb fork = take (blocks_for mdb fork.len) (extent_blocks (fork_extents records fork.file fork.kind (blocks_for mdb fork.len) fork.first))
 

@@ -1,4 +1,4 @@
--- What is said of a fork, and its bytes, are a function of the fork's length, its extents, its blocks, and of where blocks lie.
+-- What is said about a fork, and its bytes, are a function of the fork's length, its extents, its blocks, and of where blocks lie.
 use Rattle.std.specs.Prelude.{◌≡◌, ◌≢◌, ℕ, ◌*◌, ◌<◌, ◌≤◌, Bool, true, false, List, map, take, length, reverse, Option, Some, None, IsTrue, slice_index_or}
 use Rattle.hfs_fields.specs.declared.mdb.Mdb.{Mdb}
 use Rattle.hfs_fields.specs.Records.{item_id}
@@ -66,7 +66,7 @@ pub record HasBlocks (image : List ℕ) (total : ℕ) (blocks : Blocks) : Type 0
 
 -- ---- the law of forks
 
--- the same blocks, as many bytes, and the same findings but for who else owns the blocks
+-- the same blocks, as many bytes, and the same findings except for who else owns the blocks
 pub record IsSameFork (total : ℕ) (records others : Overflow) (one other : Mdb) (fork second : Fork) : Type 0 where
   pub places : fork_places total records one fork ≡ fork_places total others other second
   pub len : fork_length records one fork ≡ fork_length others other second
@@ -82,7 +82,7 @@ ForksAreTheirBlocks =
 
 -- ---- a sound volume
 
--- all bytes of a fork are taken: its blocks are there, as many as it wants, and nothing of it is cut or missing
+-- all bytes of a fork are taken: its blocks are there, as many as it needs, and nothing of it is cut or missing
 pub record IsWholeFork (total : ℕ) (blocks : Blocks) (records : Overflow) (mdb : Mdb) (fork : Fork) : Type 0 where
   pub places : fork_places total records mdb fork ≡ map Some (take (blocks_for mdb fork.len) (extent_blocks (whole_extents records fork.file fork.kind fork.first)))
   pub len : fork_length records mdb fork ≡ fork.len

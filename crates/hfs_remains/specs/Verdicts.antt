@@ -1,4 +1,4 @@
--- What is taken of the forks, who owns which block, and what is said of each fork.
+-- What is taken of the forks, who owns which block, and what is said about each fork.
 use Rattle.std.specs.Prelude.{◌≡◌, ℕ, ◌-◌, Bool, true, false, ◌&&◌, not, nat_le, nat_lt, if◌then◌else◌, List, [], ◌∷◌, ◌++◌, take, length, slice_index_or, Option, Some, None}
 use Rattle.std.specs.List.{flat_map, list_any}
 use Rattle.std.specs.Option.{option_map, IsSomeAnd}
@@ -25,7 +25,7 @@ use Rattle.hfs_remains.specs.Owners.{is_shared, CountOwners}
 abbrev pub share_of : Overflow → Mdb → ℕ → Fork → Share
 share_of records mdb room fork = record { fork = fork; taken = nat_le (fork_length records mdb fork) room }
 
--- how many are left behind it
+-- how many are left after it
 abbrev pub room_behind : Overflow → Mdb → ℕ → Fork → ℕ
 room_behind records mdb room fork = if nat_le (fork_length records mdb fork) room then room - fork_length records mdb fork else room
 
@@ -127,7 +127,7 @@ abbrev pub FindsFork : Salvaged → ℕ → ForkKind → Option FoundFork → Ty
 FindsFork s i kind None = shares_at s i ≡ None
 FindsFork s i kind (Some found) = IsSomeAnd (shares_at s i) (IsForkOf s kind found)
 
--- what is said of both forks
+-- what is said about both forks
 abbrev pub verdicts_of : Salvaged → FileShares → Verdict × Verdict
 verdicts_of s file =
     (verdict_of s.trees.total s.trees.overflow.now s.trees.mdb.now (used_for s file) file.«data», verdict_of s.trees.total s.trees.overflow.now s.trees.mdb.now (used_for s file) file.resource)

@@ -3,7 +3,7 @@ use Rattle.std.specs.Prelude.{[], ◌∷◌, codes}
 use Rattle.hfs_page.specs.Markup.{Leads}
 use Rattle.hfs_remains_page.specs.declared.remains_texts.RemainsTexts.{RemainsTexts}
 
--- what stands before the items begins a section, and what stands behind the picture ends one; styles and script begin nothing that they don't end
+-- what precedes the items begins a section, and what follows the picture ends one; styles and script begin nothing that they don't end
 pub record IsRemainsDress (texts : RemainsTexts) : Type 0 where
   pub shared_style : Leads [] [] texts.page.style.now
   pub style : Leads [] [] texts.style.now

@@ -1,4 +1,4 @@
--- What a page says of what was found before the items.
+-- What a page says about what was found before the items.
 use Rattle.std.specs.Prelude.{ℕ, ◌-◌, List, ◌++◌, codes}
 use Rattle.hfs_fields.specs.declared.mdb.Mdb.{Mdb}
 use Rattle.hfs_page.specs.declared.page_image.PageImage.{PageImage}

@@ -28,7 +28,7 @@ front_text texts refusal meaning found =
 unfoldable pub end_text : RemainsTexts → List ℕ
 end_text texts = version_text texts.page.version.now ++ texts.page.script.now ++ codes "</main>\n</body>\n</html>\n"
 
--- behind the items: the picture, the extents of the files, the legend, and the end
+-- after the items: the picture, the extents of the files, the legend, and the end
 unfoldable pub back_by : RemainsTexts → List FoundRecord → List Holding → List Cell → List ℕ
 back_by texts items holdings cells =
     codes "</ul>\n</section>\n" ++ picture_text items cells ++ extents_text holdings ++ texts.legend.now ++ end_text texts

@@ -101,7 +101,7 @@ unfoldable pub cell_text : List FoundRecord → ℕ → Cell → List ℕ
 cell_text items place cell =
     rect_head place cell.used.part ++ blocks_text cell.first cell.last ++ use_text items cell.used ++ codes "</title></rect>\n"
 
--- cells, of which the first stands at this place
+-- cells, of which the first is at this place
 abbrev pub cells_text : List FoundRecord → ℕ → List Cell → List ℕ
 cells_text items place [] = []
 cells_text items place (cell ∷ cells) = cell_text items place cell ++ cells_text items (place + 1) cells

@@ -17,7 +17,7 @@ use Rattle.hfs_remains_page.specs.declared.steps.Step.{Step}
 use Rattle.hfs_remains_page.specs.Trees.{lost_node, volume_node}
 use Rattle.hfs_remains_page.specs.Verdicts.{base_of, forks_text}
 
--- ---- what is told of an item
+-- ---- what is said about an item
 
 abbrev pub dated_text : ℕ → List ℕ
 dated_text date = codes "<span>" ++ date_text date ++ codes "\n(modified)</span>"
@@ -34,7 +34,7 @@ item_start i = told_number (codes "<li id=\"i") i ++ codes "\">"
 unfoldable pub file_name : Option (Bor (List ℕ)) → List ℕ → Info → List ℕ
 file_name base path info = codes "<b>" ++ link_start base (codes "data/" ++ path) ++ shown info.name ++ link_end base ++ codes "</b>"
 
--- a file at this path below the payload, with what is said of its forks
+-- a file at this path below the payload, with what is said about its forks
 unfoldable pub file_told : Option (Bor (List ℕ)) → List ℕ → Option (Verdict × Verdict) → Info → List ℕ
 file_told base path forks info =
     file_name (base_of base forks) path info ++ sizes_text info ++ type_text info ++ when_text info.modified ++ forks_text forks
@@ -43,13 +43,13 @@ file_told base path forks info =
 unfoldable pub folder_name : List ℕ → ℕ → List ℕ
 folder_name name inside = codes "<b>" ++ shown name ++ codes "</b>" ++ told_number (codes "<span>") inside ++ items_word inside
 
--- what is told of a folder, and a note on it
+-- what is said about a folder, and a note on it
 unfoldable pub folder_told : List ℕ → ℕ → ℕ → List ℕ → List ℕ
 folder_told name inside date note = folder_name name inside ++ codes "<span>folder</span>" ++ when_text date ++ note
 
 -- ---- rows
 
--- one that opens and closes; and one that stands flat, since too many stand open above it
+-- one that opens and closes; and one that is flat, since too many are open above it
 unfoldable pub nested_row : List ℕ → ℕ → List ℕ → ℕ → ℕ → List ℕ → List ℕ
 nested_row start depth name inside date note = start ++ opening depth inside ++ folder_told name inside date note ++ codes "</summary><ul>\n"
 
@@ -63,7 +63,7 @@ folder_row start depth name inside date note =
 unfoldable pub file_row : Option (Bor (List ℕ)) → Found → ℕ → Info → List ℕ
 file_row base found i info = item_start i ++ file_told base (path_at found.places.now i) (verdicts_at found.salvage.now i) info ++ codes "</li>\n"
 
--- what the page says of folders that are no items
+-- what the page says about folders that are no items
 abbrev pub named_note : List ℕ
 named_note = codes "<em>its own record is lost</em>"
 
@@ -107,7 +107,7 @@ node_row base found depth step =
     if nat_lt step.node (length found.items.now) then item_row base found depth step (told_at found.items.now step.node)
     else added_row found.places.now depth (field_name found.mdb.now.volume_name) step
 
--- ---- one row behind the other
+-- ---- one row after the other
 
 abbrev pub kind_told : Option Info → ItemKind
 kind_told None = File
@@ -117,11 +117,11 @@ kind_told (Some info) = info.kind
 unfoldable pub node_kind : Found → Step → ItemKind
 node_kind found step = if nat_lt step.node (length found.items.now) then kind_told (told_at found.items.now step.node) else Folder
 
--- in how many of the folders that stand open it lies
+-- in how many of the folders that are open it lies
 abbrev pub depth_at : ℕ → Step → ℕ
 depth_at opened step = min opened step.depth
 
--- how many stand open behind it
+-- how many are open after it
 abbrev pub open_behind : Found → ℕ → Step → ℕ
 open_behind found opened step = open_by (node_kind found step) (depth_at opened step)
 
@@ -129,7 +129,7 @@ open_behind found opened step = open_by (node_kind found step) (depth_at opened 
 unfoldable pub row_text : Option (Bor (List ℕ)) → Found → ℕ → Step → List ℕ
 row_text base found opened step = closings (opened - depth_at opened step) ++ node_row base found (depth_at opened step) step
 
--- all rows, where so many folders stand open
+-- all rows, where so many folders are open
 abbrev pub rows_text : Option (Bor (List ℕ)) → Found → ℕ → List Step → List ℕ
 rows_text base found opened [] = closings opened
 rows_text base found opened (step ∷ steps) = row_text base found opened step ++ rows_text base found (open_behind found opened step) steps

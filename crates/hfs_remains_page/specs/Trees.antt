@@ -1,4 +1,4 @@
--- The tree of a page: where each thing stands that was found, below a folder or below what the page itself adds.
+-- The tree of a page: where each thing is that was found, below a folder or below what the page itself adds.
 use Rattle.std.specs.Prelude.{ℕ, ◌+◌, Bool, ◌&&◌, not, ◌==◌, nat_lt, if◌then◌else◌, List, [], ◌∷◌, ◌++◌, codes, length, drop, Option, None, Some}
 use Rattle.std.specs.Option.{unwrap_or}
 use Rattle.hfs_catalog_checks.specs.Indexes.{is_place}
@@ -11,7 +11,7 @@ use Rattle.hfs_rescue_items.specs.Found.{path_at}
 use Rattle.hfs_remains_page.specs.declared.steps.Step.{Step}
 use Rattle.hfs_remains_page.specs.Walks.{below, step_at, walk}
 
--- ---- the nodes of the tree: the things by their places, and behind them what the page adds
+-- ---- the nodes of the tree: the things by their places, and after them what the page adds
 
 -- the volume, in the place of a root that is lost
 abbrev pub volume_node : List Thing → ℕ
@@ -32,7 +32,7 @@ no_node things = length things + 3
 abbrev pub top_node : List Thing → ℕ
 top_node things = unwrap_or (root_of things) (volume_node things)
 
--- ---- what each thing stands below
+-- ---- what each thing is below
 
 -- a path without what old ones lie below
 abbrev pub own_path : Bool → List ℕ → List ℕ
@@ -47,7 +47,7 @@ lies_in things i q =
 abbrev pub apart : List Thing → ℕ → ℕ
 apart things i = if (thing_at things i).old then old_node things else lost_node things
 
--- one that lies in a folder; an old one in a folder that isn't old stands apart
+-- one that lies in a folder; an old one in a folder that isn't old is apart
 abbrev pub up_in : List Thing → ℕ → ℕ → ℕ
 up_in things i q =
     if lies_in things i q then (if (thing_at things i).old && not (thing_at things q).old then old_node things else q) else apart things i
@@ -60,21 +60,21 @@ abbrev pub up_by : List Thing → ℕ → Option ℕ → ℕ
 up_by things i None = up_top things i
 up_by things i (Some q) = up_in things i q
 
--- what thing i stands below
+-- what thing i is below
 unfoldable pub up : List Thing → ℕ → ℕ
 up things i = if is_place (root_of things) i then no_node things else up_by things i (folder_of things (thing_at things i).parent)
 
 -- ---- the order of the tree
 
--- what stands below a node
+-- what is below a node
 unfoldable pub inside : List Thing → ℕ → List ℕ
 inside things node = if nat_lt node (length things + 3) then below (up things) (length things) node else []
 
--- a node that has none above it, and all that stands below it
+-- a node that has none above it, and all that is below it
 unfoldable pub walk_from : List Thing → ℕ → List Step
 walk_from things node = walk (inside things) (length things + 3) (step_at (inside things) 0 node ∷ [])
 
--- nothing, where nothing stands below it
+-- nothing, where nothing is below it
 abbrev pub walk_if : List Thing → ℕ → List Step
 walk_if things node = if length (inside things node) == 0 then [] else walk_from things node
 

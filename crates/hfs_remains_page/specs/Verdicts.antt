@@ -1,4 +1,4 @@
--- What is said of forks.
+-- What is said about forks.
 use Rattle.std.specs.Prelude.{ℕ, Bool, ◌&&◌, if◌then◌else◌, List, [], ◌++◌, codes, Option, Some, None}
 use Rattle.std.specs.Borrow.{Bor}
 use Rattle.hfs_page.specs.Escapes.{escaped}

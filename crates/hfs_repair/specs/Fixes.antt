@@ -1,4 +1,4 @@
--- What a repair tells.
+-- What a repair reports.
 use Rattle.std.specs.Prelude.{ℕ, ◌+◌, List, map}
 use Rattle.std.specs.List.Sorted.{IsPermutation, IsNonDecreasingBy}
 use Rattle.hfs_repair.specs.declared.fixed.Fix.{Fix}
@@ -10,7 +10,7 @@ use Rattle.hfs_repair.specs.Fields.{PlacedNumber}
 abbrev pub fix_of : PlacedNumber → Fix
 fix_of n = record { place = n.0; was = n.1.was; now = n.1.now }
 
--- the order in which a repair tells the numbers, valences by their folders' IDs
+-- the order in which a repair reports the numbers, valences by their folders' IDs
 unfoldable pub rank : FixPlace → ℕ
 rank RootFiles = 0
 rank FreeBlocks = 1
@@ -23,7 +23,7 @@ rank CatalogRecords = 7
 rank CatalogFree = 8
 rank (Valence id) = 9 + id
 
--- each of these numbers is told once, in this order
+-- each of these numbers is reported once, in this order
 pub record AreFixes (numbers : List PlacedNumber) (fixes : List Fix) : Type 0 where
   pub each : IsPermutation (map fix_of numbers) fixes
   pub order : IsNonDecreasingBy (λ fix. rank fix.place) fixes

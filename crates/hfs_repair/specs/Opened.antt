@@ -1,4 +1,4 @@
--- A tree that is right but for the two numbers of its header record, and where it lies.
+-- A tree that is right except for the two numbers of its header record, and where it lies.
 use Rattle.std.specs.Prelude.{◌≡◌, ℕ, ◌*◌, ◌≤◌, Bool, true, false, ◌&&◌, List, Option, None, MatchOption, length}
 use Rattle.std.specs.Option.{is_none}
 use Rattle.std.proofs.Common.{Vec, Global}
@@ -26,7 +26,7 @@ use Rattle.hfs_repair.specs.declared.right_counts.RightCounts.{RightCounts}
 use Rattle.hfs_repair.specs.declared.tree_file.TreeFile.{TreeFile}
 use Rattle.hfs_repair.specs.Recounted.{with_head, IsRecountOf}
 
--- the tree in these nodes has its shape but for two counts, which are these, and with the other header node they are right
+-- the tree in these nodes has its shape except for two counts, which are these, and with the other header node they are right
 pub record AreRightCounts {K : Type 0} (g : Ghosts K) (size : ℕ) (nodes : Store) (right : RightCounts) : Type 0 where
   pub bytes : size ≤ 512 * length nodes
   pub fault : structure_fault g size nodes ≡ None
@@ -37,7 +37,7 @@ pub record AreRightCounts {K : Type 0} (g : Ghosts K) (size : ℕ) (nodes : Stor
   pub free : right.free_nodes ≡ free_nodes nodes
   pub recount : IsRecountOf g nodes (with_head nodes right.head)
 
--- the file of a tree, of so many bytes in these extents, lies in the volume, and the tree has its shape but for two counts
+-- the file of a tree, of so many bytes in these extents, lies in the volume, and the tree has its shape except for two counts
 abbrev pub is_tree_right : {K : Type 0} → Ghosts K → Blocks → Mdb → List Extent → ℕ → Bool
 is_tree_right g blocks mdb file size = is_tree_file mdb file size && is_none (structure_fault g size (tree_nodes blocks mdb file size))
 
@@ -51,7 +51,7 @@ pub record IsTreeIn {K : Type 0} (g : Ghosts K) (total : ℕ) (blocks : Blocks) 
 abbrev pub IsRight : Option MountFault → Bool → Type 0
 IsRight found right = right ≡ is_none found
 
--- what is told of a tree's two numbers: these are right, or none where the tree hasn't its shape but for them
+-- what is said about a tree's two numbers: these are right, or none where the tree hasn't its shape except for them
 abbrev pub IsCountsAnswer : {K : Type 0} → Ghosts K → ℕ → Store → Option RightCounts → Type 0
 IsCountsAnswer g size nodes found = MatchOption found (is_none (structure_fault g size nodes) ≡ false) (AreRightCounts g size nodes)
 
@@ -67,7 +67,7 @@ HasRightCounts g blocks tree = AreCountsOf g (nodes_in blocks tree.runs.items) t
 abbrev pub IsRightHead : {K : Type 0} → Ghosts K → Store → List ℕ → Type 0
 IsRightHead g nodes head = IsRecountOf g nodes (with_head nodes head)
 
--- what is told of a tree's file: this is the tree, or none where it isn't right
+-- what is said about a tree's file: this is the tree, or none where it isn't right
 abbrev pub IsTreeAnswer : {K : Type 0} → Ghosts K → ℕ → Blocks → Mdb → List Extent → ℕ → Option TreeFile → Type 0
 IsTreeAnswer g total blocks mdb file size found = MatchOption found (is_tree_right g blocks mdb file size ≡ false) (IsTreeIn g total blocks mdb file size)
 
@@ -79,7 +79,7 @@ are_extents_in_order nodes = is_none (key_fault ext_keys nodes is_fork_key) && i
 abbrev pub extents_of : Blocks → Mdb → Store
 extents_of blocks mdb = tree_nodes blocks mdb mdb.extents_file mdb.extents_file_size
 
--- the extents tree is right but for its two counts
+-- the extents tree is right except for its two counts
 unfoldable pub is_extents_right : Blocks → Mdb → Bool
 is_extents_right blocks mdb = is_tree_right ext_keys blocks mdb mdb.extents_file mdb.extents_file_size && are_extents_in_order (extents_of blocks mdb)
 
@@ -87,7 +87,7 @@ is_extents_right blocks mdb = is_tree_right ext_keys blocks mdb mdb.extents_file
 abbrev pub IsExtentsTree : ℕ → Blocks → Mdb → TreeFile → Type 0
 IsExtentsTree total blocks mdb tree = IsTreeIn ext_keys total blocks mdb mdb.extents_file mdb.extents_file_size tree
 
--- what is told of the extents tree: it is right but for its two counts, and this is it; or none
+-- what is said about the extents tree: it is right except for its two counts, and this is it; or none
 abbrev pub IsExtentsAnswer : ℕ → Blocks → Mdb → Option TreeFile → Type 0
 IsExtentsAnswer total blocks mdb found =
     MatchOption found (is_extents_right blocks mdb ≡ false) (λ tree. (is_extents_right blocks mdb ≡ true) × IsExtentsTree total blocks mdb tree)
@@ -100,12 +100,12 @@ catalog_extents_in nodes mdb = fork_extents (overflow_of nodes) 4 0 mdb.catalog_
 unfoldable pub catalog_file_of : Blocks → Mdb → List Extent
 catalog_file_of blocks mdb = fork_extents (overflow_of (extents_of blocks mdb)) 4 0 mdb.catalog_file
 
--- what is told of the catalog file: these are its extents, behind an extents tree that is right but for its two counts, or none
+-- what is said about the catalog file: these are its extents, after an extents tree that is right except for its two counts, or none
 abbrev pub FindsCatalogFile : Blocks → Mdb → Option (Vec Extent Global) → Type 0
 FindsCatalogFile blocks mdb found =
     MatchOption found (is_extents_right blocks mdb ≡ false) (λ file. (is_extents_right blocks mdb ≡ true) × (file.items ≡ catalog_file_of blocks mdb))
 
--- the catalog tree has its shape but for its two counts
+-- the catalog tree has its shape except for its two counts
 unfoldable pub is_catalog_right : Blocks → Mdb → Bool
 is_catalog_right blocks mdb = is_tree_right cat_keys blocks mdb (catalog_file_of blocks mdb) mdb.catalog_file_size
 
@@ -113,7 +113,7 @@ is_catalog_right blocks mdb = is_tree_right cat_keys blocks mdb (catalog_file_of
 abbrev pub IsCatalogTree : ℕ → Blocks → Mdb → TreeFile → Type 0
 IsCatalogTree total blocks mdb tree = IsTreeIn cat_keys total blocks mdb (catalog_file_of blocks mdb) mdb.catalog_file_size tree
 
--- what is told of the catalog tree
+-- what is said about the catalog tree
 abbrev pub IsCatalogAnswer : ℕ → Blocks → Mdb → Option TreeFile → Type 0
 IsCatalogAnswer total blocks mdb found =
     MatchOption found (is_catalog_right blocks mdb ≡ false) (λ tree. (is_catalog_right blocks mdb ≡ true) × IsCatalogTree total blocks mdb tree)

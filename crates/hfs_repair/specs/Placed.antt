@@ -1,4 +1,4 @@
--- The counted numbers of a volume, each with its place in what a repair tells.
+-- The counted numbers of a volume, each with its place in what a repair reports.
 use Rattle.std.specs.Prelude.{◌≡◌, ℕ, suc, ◌+◌, ◌*◌, ◌^◌, Bool, not, ◌&&◌, ◌==◌, nat_lt, if◌then◌else◌, List, [], ◌∷◌, ◌++◌, filter, length, slice_index, slice_index_or}
 use Rattle.std.specs.List.{flat_map}
 use Rattle.hfs_fields.specs.Keys.{cat_body_start, cat_body_of}
@@ -29,11 +29,11 @@ two_bytes place was now at = (place, record { was = was; now = now; at = at; wid
 abbrev pub four_bytes : FixPlace → ℕ → ℕ → ℕ → PlacedNumber
 four_bytes place was now at = (place, record { was = was; now = now; at = at; width = 4 })
 
--- the number isn't as it is counted, and its field can tell the counted one
+-- the number isn't as it is counted, and its field can hold the counted one
 unfoldable pub is_wrong : PlacedNumber → Bool
 is_wrong n = not (n.1.was == n.1.now) && nat_lt n.1.now (256 ^ n.1.width)
 
--- to a row of numbers come those of these that are wrong
+-- to a row of numbers those of these are added that are wrong
 abbrev pub AddsWrong : List PlacedNumber → List PlacedNumber → List PlacedNumber → Type 0
 AddsWrong old new placed = new ≡ old ++ filter is_wrong placed
 

@@ -7,7 +7,7 @@ use Rattle.hfs_repair.specs.declared.byte_put.BytePut.{BytePut}
 use Rattle.hfs_repair.specs.Fields.{CountedNumber, PlacedNumber}
 use Rattle.hfs_repair.specs.Repair.{repair}
 
--- bytes that stand one behind the other from a place on
+-- bytes that are one after the other from a place on
 abbrev pub puts_from : ℕ → List ℕ → List BytePut
 puts_from at [] = []
 puts_from at (b ∷ bytes) = record { at = at; byte = b } ∷ puts_from (suc at) bytes
@@ -19,7 +19,7 @@ number_puts n = puts_from n.at (big_bytes n.width n.now)
 unfoldable pub puts_of : List PlacedNumber → List BytePut
 puts_of numbers = flat_map (λ n. number_puts n.1) numbers
 
--- each of these bytes stands in one of so many blocks
+-- each of these bytes is in one of so many blocks
 abbrev pub AreInBlocks : ℕ → List BytePut → Type 0
 AreInBlocks total puts = Each (λ put. put.at < 512 * total) puts
 

@@ -10,7 +10,7 @@ use Rattle.hfs_check.specs.Faults.{◌or_fault◌, length_fault, mdb_fault, tree
 use Rattle.hfs_repair.specs.Fields.{PlacedNumber}
 use Rattle.hfs_repair.specs.Placed.{is_wrong, placed_in}
 
--- what the checks before those of numbers find, where the trees' header records may tell their two numbers as they like: of
+-- what the checks before those of numbers find, where the trees' header records may have any two numbers: of
 -- the length, the master directory block, the two trees, the catalog's records, IDs, names, order, parents and threads
 unfoldable pub is_mendable : List ℕ → Bool
 is_mendable image =

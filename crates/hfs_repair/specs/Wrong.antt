@@ -19,6 +19,6 @@ wrong_in_blocks total blocks = if are_blocks_mendable total blocks then filter i
 unfoldable pub placed_of : Blocks → Mdb → List PlacedNumber
 placed_of blocks mdb = all_placed blocks mdb (extents_of blocks mdb) (catalog_file_of blocks mdb) (catalog_nodes_of blocks mdb) (catalog_in_of blocks mdb)
 
--- the wrong ones of a volume's numbers, where the trees are right but for their counts; none where the catalog's records aren't
+-- the wrong ones of a volume's numbers, where the trees are right except for their counts; none where the catalog's records aren't
 abbrev pub wrong_behind_trees : Blocks → Mdb → List PlacedNumber
 wrong_behind_trees blocks mdb = if are_records_right blocks mdb then filter is_wrong (placed_of blocks mdb) else []

@@ -19,7 +19,7 @@ use Rattle.hfs_rescue.specs.declared.directory.Beginning.TheVariants.{Both, Cata
 abbrev pub mdb_at : Blocks → ℕ → Mdb
 mdb_at blocks n = mdb_in_block (blocks n)
 
--- they will do where they tell what an allocation block is, and that there is one
+-- they serve if they say what an allocation block is, and that there is one
 abbrev pub will_do : Mdb → Bool
 will_do mdb = (mdb.signature == 0x4244) && nat_le 1 mdb.allocation_blocks && is_block_size mdb
 
@@ -43,7 +43,7 @@ abbrev pub beginning_in : ℕ → Mdb → Option Extent → Option ℕ
 beginning_in total mdb None = None
 beginning_in total mdb (Some e) = if is_there total mdb e.first then Some (start_of mdb e.first) else None
 
--- the block that tells whether a tree begins whose file has these extents, where the fields will do
+-- the block that says whether a tree begins whose file has these extents, if the fields serve
 abbrev pub beginning_of : ℕ → Mdb → List Extent → Option ℕ
 beginning_of total mdb extents = if will_do mdb then beginning_in total mdb (first_extent extents) else None
 
@@ -90,6 +90,6 @@ directory_in total blocks =
 unfoldable pub directory_of : List ℕ → Option ℕ
 directory_of image = if is_none (length_fault (length image)) then directory_in (block_count image) (block_at image) else None
 
--- block n is one of so many, and tells what an allocation block is
+-- block n is one of so many, and says what an allocation block is
 abbrev pub IsDirectory : ℕ → Blocks → ℕ → Type 0
 IsDirectory total blocks n = (n < total) × (512 ≤ (mdb_at blocks n).allocation_block_size)

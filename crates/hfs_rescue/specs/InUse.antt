@@ -33,7 +33,7 @@ chain_bytes nodes met most n = flat_map (λ n. record_in nodes n 0) (map_chain n
 unfoldable pub map_of : Store → List ℕ
 map_of nodes = record_in nodes 0 2 ++ chain_bytes nodes (λ n. false) (length nodes) (forward_of (node_in nodes 0))
 
--- the number of the last leaf, as the header record tells it
+-- the number of the last leaf, as the header record gives it
 abbrev pub last_leaf : Store → ℕ
 last_leaf nodes = number_at 14 4 (record_in nodes 0 0)
 
@@ -58,12 +58,12 @@ is_marked_by (Some map) n = bit_of map.items n
 abbrev pub TellsUse : Store → Option (Vec ℕ Global) → Type 0
 TellsUse nodes map = (n : ℕ) → is_marked_by map n ≡ is_in_use nodes n
 
--- node n is a map node, this is the one behind it, and its part of the map is added
+-- node n is a map node, this is the one after it, and its part of the map is added
 pub record IsMapLink (nodes : Store) (n : ℕ) (old new : List ℕ) (later : ℕ) : Type 0 where
   pub right : is_map_result (node_in nodes n) ≡ true
   pub forward : later ≡ forward_of (node_in nodes n)
   pub part : new ≡ old ++ record_in nodes n 0
 
--- what is told of a map node; of any other none, and nothing is added
+-- what is said about a map node; of any other none, and nothing is added
 abbrev pub FindsMapNode : Store → ℕ → List ℕ → List ℕ → Option ℕ → Type 0
 FindsMapNode nodes n old new found = MatchOption found ((is_map_result (node_in nodes n) ≡ false) × (new ≡ old)) (IsMapLink nodes n old new)

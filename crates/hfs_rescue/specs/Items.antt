@@ -24,14 +24,14 @@ is_written items bytes = list_any (λ item. bytes_eq (written item) bytes) items
 abbrev pub has_item : List FoundRecord → ℕ → Bool
 has_item items id = list_any (λ item. item_id item.entry.1 == id) items
 
--- a record is one more item behind these: none of them is written alike, and where it is old none has its ID
+-- a record is one more item after these: none of them is written alike, and where it is old none has its ID
 unfoldable pub is_next_item : List FoundRecord → FoundRecord → Bool
 is_next_item items r = is_named_item r && not (is_written items (written r) || (r.old && has_item items (item_id r.entry.1)))
 
 abbrev pub with_next : List FoundRecord → FoundRecord → List FoundRecord
 with_next items r = if is_next_item items r then items ++ r ∷ [] else items
 
--- the items among records, behind these
+-- the items among records, after these
 abbrev pub items_behind : List FoundRecord → List FoundRecord → List FoundRecord
 items_behind items [] = items
 items_behind items (r ∷ rs) = items_behind (with_next items r) rs
@@ -51,6 +51,6 @@ pub record KnowItems (rows : List (Vec ℕ Global)) (ids : List ℕ) (items : Li
   pub rows_are : (row : Vec ℕ Global) → has_row rows row ≡ is_written items row.items
   pub ids_are : (id : ℕ) → has_number ids id ≡ has_item items id
 
--- this row is one of them now, beside the old ones
+-- this row is one of them now, besides the old ones
 abbrev pub AddsRow : Vec ℕ Global → List (Vec ℕ Global) → List (Vec ℕ Global) → Type 0
 AddsRow row old new = (other : Vec ℕ Global) → has_row new other ≡ (has_row old other || bytes_eq row.items other.items)

@@ -26,7 +26,7 @@ items_among records = count_by is_named_item records
 abbrev pub BlocksHaveFewItems : Type 0
 BlocksHaveFewItems = (old : Bool) (bytes : List ℕ) → items_among (found_in_leaves (with_age old (leaf_records (node_of bytes)))) ≤ 6
 
--- the blocks that are looked at beside the nodes of the catalog's file
+-- the blocks that are looked at besides the nodes of the catalog's file
 abbrev pub others : ℕ → Mdb → FileBlocks → ℕ
 others total mdb file = count_by (λ k. not (is_node_block mdb file k)) (range_with_len 3 (total - 3))
 

@@ -37,6 +37,6 @@ all_leaf_records nodes = records_of_age nodes false ++ records_of_age nodes true
 
 -- ---- what is added to records that were read
 
--- these records come behind the old ones
+-- these records follow the old ones
 abbrev pub Adds : List LeafRecord → Vec LeafRecord Global → Vec LeafRecord Global → Type 0
 Adds more old new = new.items ≡ old.items ++ more

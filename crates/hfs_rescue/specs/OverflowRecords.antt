@@ -52,14 +52,14 @@ abbrev pub record_at : Overflow → ℕ → ℕ → ℕ → Option (ExtKey × Li
 record_at records file fork block = if nat_lt block 65536 then find (has_key file fork block) records else None
 
 -- what goes on with a fork from this block of it on, as long as there is a record that has a block and the fork has fewer blocks than are
--- wanted, in at most so many records
+-- needed, in at most so many records
 unfoldable pub further : Overflow → ℕ → ℕ → ℕ → ℕ → ℕ → List Extent
 further records file fork wanted zero block = []
 further records file fork wanted (suc most) block =
     if nat_lt block wanted then option_map_or (λ r. if block_total (record_extents r.1) == 0 then [] else record_extents r.1 ++ further records file fork wanted most (block + block_total (record_extents r.1))) (record_at records file fork block) []
     else []
 
--- the extents of a fork with these first ones, that wants so many blocks. It goes on in fewer records than there are numbers of two bytes.
+-- the extents of a fork with these first ones, that needs so many blocks. It goes on in fewer records than there are numbers of two bytes.
 unfoldable pub fork_extents : Overflow → ℕ → ℕ → ℕ → List Extent → List Extent
 fork_extents records file fork wanted first = first ++ further records file fork wanted 65536 (block_total first)
 

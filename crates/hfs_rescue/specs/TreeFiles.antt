@@ -13,7 +13,7 @@ use Rattle.hfs_rescue.specs.Allocation.{start_of, is_there}
 abbrev pub FileBlocks : Type 0
 FileBlocks = List (Option ℕ)
 
--- of these blocks, those that are there; one that comes again is missing from then on
+-- of these blocks, those that are there; one that is named again is missing from then on
 abbrev pub first_there : (ℕ → Bool) → List ℕ → FileBlocks
 first_there there [] = []
 first_there there (b ∷ bs) = if there b then Some b ∷ first_there (λ k. there k && not (k == b)) bs else None ∷ first_there there bs
@@ -53,7 +53,7 @@ mark_of marks b = slice_index_or marks b false
 abbrev pub AreThere : ℕ → Mdb → FileBlocks → Type 0
 AreThere total mdb file = (i b : ℕ) → slice_index_or file i None ≡ Some b → is_there total mdb b ≡ true
 
--- behind the old blocks of a file come those of an extent's that are there, as the marks tell them, and the marks tell those behind
+-- the old blocks of a file are followed by those of an extent's that are there, as the marks give them, and the marks give those after
 abbrev pub TakesBlocks : List ℕ → List Bool → List Bool → FileBlocks → FileBlocks → Type 0
 TakesBlocks bs old_marks new_marks old new =
     (behind : List ℕ) → new ++ first_there (mark_of new_marks) behind ≡ old ++ first_there (mark_of old_marks) (bs ++ behind)
@@ -63,6 +63,6 @@ abbrev pub TakesBlock : ℕ → List Bool → List Bool → Option ℕ → Type 
 TakesBlock b old_marks new_marks taken =
     (behind : List ℕ) → taken ∷ first_there (mark_of new_marks) behind ≡ first_there (mark_of old_marks) (b ∷ behind)
 
--- the marks tell which blocks are there
+-- the marks say which blocks are there
 abbrev pub MarkThere : ℕ → Mdb → List Bool → Type 0
 MarkThere total mdb marks = (b : ℕ) → mark_of marks b ≡ is_there total mdb b

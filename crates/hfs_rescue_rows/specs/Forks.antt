@@ -8,7 +8,7 @@ use Rattle.hfs_space.specs.declared.fork_kind.ForkKind.{ForkKind}
 use Rattle.hfs_verdicts.specs.declared.verdict.Verdict.{Verdict}
 use Rattle.hfs_verdicts.specs.Verdicts.{is_whole}
 
--- what is said of a file's fork
+-- what is said about a file's fork
 abbrev pub fork_verdict : Salvaged → ForkKind → FileShares → Verdict
 fork_verdict s kind file = verdict_of s.trees.total s.trees.overflow.now s.trees.mdb.now (used_for s file) (fork_share kind file)
 

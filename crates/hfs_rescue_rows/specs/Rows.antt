@@ -19,13 +19,13 @@ abbrev pub row_told : Format → Found → ℕ → Option Info → List ℕ
 row_told format found i None = []
 row_told format found i (Some info) = own_row_text format (names_of found i) info
 
--- the row of item i: its path by the names that lead to it, and what its own record tells
+-- the row of item i: its path by the names that lead to it, and what its own record says
 unfoldable pub found_row : Format → Found → ℕ → FoundRecord → List ℕ
 found_row format found i item = row_told format found i (told item)
 
 -- ---- those in a folder
 
--- an item that tells this, and to which these names lead, lies in the folder of this number: it has that parent, and names lead down to it from the root
+-- an item that says this, and to which these names lead, lies in the folder of this number: it has that parent, and names lead down to it from the root
 abbrev pub lies_in : Option ℕ → List (List ℕ) → Info → Bool
 lies_in None names info = false
 lies_in (Some number) names info = (info.parent == number) && nat_le 2 (length names)

@@ -3,7 +3,7 @@ use Rattle.std.specs.Prelude.{◌≡◌, List, [], ◌∷◌, ◌++◌}
 use Rattle.hfs_rows.specs.declared.value.Table.{Table}
 use Rattle.hfs_rows.specs.declared.value.RowValue.{RowValue}
 
--- a row: of which table it is, and what stands in its columns
+-- a row: of which table it is, and what is in its columns
 pub record TakenRow : Type 0 where
   pub table : Table
   pub values : List RowValue

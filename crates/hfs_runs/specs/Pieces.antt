@@ -29,15 +29,15 @@ abbrev pub bytes_in : Option Reply → List ℕ
 bytes_in None = []
 bytes_in (Some reply) = value_bytes reply.value
 
--- what stands before the digits in the lines of a reply with bytes
+-- what precedes the digits in the lines of a reply with bytes
 unfoldable pub digits_head : List ℕ → ℕ → ℤ → List ℕ
 digits_head who number code = who ++ codes "\t" ++ decimal number ++ codes "\t" ++ signed_decimal code ++ codes "\tbytes "
 
--- a text, and behind it the digits of the bytes that the reply to a call has
+-- a text, and after it the digits of the bytes that the reply to a call has
 abbrev pub piece_text : Replies → Piece → List ℕ
 piece_text replies piece = string_bytes piece.text ++ hex_text (bytes_in (reply_to (kept_replies replies) piece.asked))
 
--- those of some pieces, one behind the other, and a text
+-- those of some pieces, one after the other, and a text
 abbrev pub pieces_text : Replies → List Piece → List ℕ → List ℕ
 pieces_text replies pieces last = flat_map (piece_text replies) pieces ++ last
 
@@ -48,6 +48,6 @@ pub record HasPieceMore (old : List Piece) (text : List ℕ) (asked : Asked) (ne
   pub text_is : string_bytes piece.text ≡ text
   pub asked_is : piece.asked ≡ asked
 
--- the text of answers that stand in pieces
+-- the text of answers that are in pieces
 abbrev pub text_of_pieces : Answers → List ℕ
 text_of_pieces answers = pieces_text answers.replies answers.pieces.items (string_bytes answers.last)

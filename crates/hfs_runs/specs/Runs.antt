@@ -67,7 +67,7 @@ IsRunFault now script image run.Memory = Unit {0}
 
 -- ---- runs
 
--- these are the replies to the first of a worker's calls on what this image became, each that of the call behind some entries of a
+-- these are the replies to the first of a worker's calls on what this image became, each that of the call after some entries of a
 -- legal journal
 abbrev pub IsWorked : Book → List ℕ → ℕ → List Call → List Reply → Type 0
 IsWorked book image worker calls replies =
@@ -79,7 +79,7 @@ abbrev pub IsViewedFrom : Book → Volume → List Call → List Reply → Type 
 IsViewedFrom book opening calls replies = (seen : Known) × AreReads calls (known book (opened opening)) replies seen
 
 -- a shared volume was closed with the passes of workers that had ended, and handed out; the viewer that it was closed by had
--- learned all that they were told
+-- learned all that they were given
 pub record IsHandedOut (base : List ℕ) (volume : ImageValue) (dones : List Done) : Type 0 where
   pub journal : List Entry
   pub shown : ℕ
@@ -89,9 +89,9 @@ pub record IsHandedOut (base : List ℕ) (volume : ImageValue) (dones : List Don
   pub learned : OfEach (AllBegin before.list) dones
 
 -- what a run of these lines on an image made: the volume afterwards, the text of the answers, whether all lines were answered, and
--- whether each change was shown at once. The volume's image agrees with the given one, but for the blocks of forks that calls of a legal
+-- whether each change was shown at once. The volume's image agrees with the given one, except for the blocks of forks that calls of a legal
 -- journal wrote, which made it one after the other, and its volume is the one after that journal, which has as many entries of each worker
--- as it got replies, and none of anybody else. Where each change was shown at once, each reply to a worker stands in that journal.
+-- as it got replies, and none of anybody else. Where each change was shown at once, each reply to a worker is in that journal.
 pub record AreLinesRun (image : List ℕ) (lines : List ScriptLine) (volume : ImageValue) (text : List ℕ) (whole shown : Bool) : Type 0 where
   pub book : Book
   pub journal : List Entry
@@ -115,7 +115,7 @@ pub record AreLinesRun (image : List ℕ) (lines : List ScriptLine) (volume : Im
 abbrev pub AreLinesRunAs : List ℕ → List ScriptLine → Ran → Type 0
 AreLinesRunAs image lines ran = AreLinesRun image lines ran.volume (string_bytes ran.text) ran.whole ran.shown
 
--- the same, where the answers stand in pieces
+-- the same, where the answers are in pieces
 abbrev pub AreLinesRunInPieces : List ℕ → List ScriptLine → RanInPieces → Type 0
 AreLinesRunInPieces image lines ran = AreLinesRun image lines ran.volume (text_of_pieces ran.answers) ran.whole ran.shown
 

@@ -1,4 +1,4 @@
--- What the workers of a run were told.
+-- What the workers of a run were given.
 use Rattle.std.specs.Prelude.{◌≡◌, List, All}
 use mathlib.Core.List.{IsPrefix}
 use Rattle.logbook.specs.Pages.{Book}

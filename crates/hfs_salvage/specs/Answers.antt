@@ -1,4 +1,4 @@
--- What is told of an image of which something remains.
+-- What is said about an image of which something remains.
 use Rattle.std.specs.Prelude.{◌≡◌, ℕ, ◌-◌, ◌^◌, Bool, true, false, ◌&&◌, ◌==◌, if◌then◌else◌, List, [], ◌++◌, codes, min, Option, Some, None, Result, Ok, Err, string_bytes}
 use Rattle.std.specs.Fmt.{decimal}
 use Rattle.hfs_bag.specs.declared.fault.BagFault.{BagFault}
@@ -61,20 +61,20 @@ found_sums found = record {
   whole = of_all found (whole_at found);
 }
 
--- this is told of an image of which this was found
+-- this is said about an image of which this was found
 pub record IsAnswerBy (image : List ℕ) (answer : RescueAnswer) (found : Found) : Type 0 where
   pub status_is : answer.status ≡ answer_status (is_found_right image found.mdb.now) (found_sums found)
   pub lines_are : string_bytes answer.lines ≡ answer_text (report_of image).fault (directory_of image) (is_unsure image found.mdb.now) (found_sums found)
 
--- this is told of an image, where forks of so many bytes are taken at most
+-- this is said about an image, where forks of so many bytes are taken at most
 abbrev pub IsAnswerOf : List ℕ → ℕ → RescueAnswer → Type 0
 IsAnswerOf image limit answer = OfFound image limit (IsAnswerBy image answer)
 
--- this is told of an image whose bag was given, or the fault
+-- this is said about an image whose bag was given, or the fault
 abbrev pub told_after : Result BagSums BagFault → RescueAnswer → Result RescueAnswer BagFault
 told_after (Ok sums) answer = Ok answer
 told_after (Err fault) answer = Err fault
 
--- where the image's bytes are known, and are so many, this is told of it, as these words ask for it
+-- where the image's bytes are known, and are so many, this is said about it, as these words ask for it
 abbrev pub IsKnownAnswer : Option (List ℕ) → ℕ → RescueWords → RescueAnswer → Type 0
 IsKnownAnswer known len words answer = OfKnown known len (λ image. IsAnswerOf image (limit_of words image) answer)

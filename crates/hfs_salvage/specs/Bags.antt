@@ -39,11 +39,11 @@ abbrev pub directory_text : ℕ → Bool → Option (List ℕ)
 directory_text block true = Some (decimal block ++ codes " unsure")
 directory_text block false = if block == 2 then None else Some (decimal block)
 
--- what is told of the block of an image that is taken for this directory
+-- what is said about the block of an image that is taken for this directory
 abbrev pub told_directory : List ℕ → Mdb → Option (List ℕ)
 told_directory image mdb = option_and_then (λ n. directory_text n (is_unsure image mdb)) (directory_of image)
 
--- a bag tells this of an image with these bytes and this directory, for these words; `line` is where the volume lies in its file, where it was looked for there
+-- a bag says this of an image with these bytes and this directory, for these words; `line` is where the volume lies in its file, where it was looked for there
 pub record TellsOf (image : List ℕ) (mdb : Mdb) (line : Option (List ℕ)) (words : BagWords) (facts : BagFacts) : Type 0 where
   pub identifier_is : facts.identifier.now ≡ plain_text (field_name mdb.volume_name)
   pub program_is : facts.program.now ≡ words.program.now
@@ -58,7 +58,7 @@ pub record TellsOf (image : List ℕ) (mdb : Mdb) (line : Option (List ℕ)) (wo
 abbrev pub rescued_items : List ℕ → Found → List BagItem
 rescued_items image found = map (planned_item image found) (whole_plan found)
 
--- the bag of it, which tells this
+-- the bag of it, which says this
 abbrev pub rescued_bag : List ℕ → Found → BagFacts → List ShelfEntry
 rescued_bag image found facts = bag_of (rescued_items image found) (rescued_tables found) facts
 
@@ -71,7 +71,7 @@ OfBag image line words Fact =
 abbrev pub OfKnownBag : Option (List ℕ) → ℕ → Option (List ℕ) → BagWords → (List ShelfEntry → Type 0) → Type 0
 OfKnownBag known len line words Fact = OfKnown known len (λ image. OfBag image line words Fact)
 
--- a fault of a shelf, want of memory, or a read that failed; or the bag of what remains of each of these images has too many bytes
+-- a fault of a shelf, lack of memory, or a read that failed; or the bag of what remains of each of these images has too many bytes
 abbrev pub IsUnfilled : (ShelfFault → Type 0) → (List ℕ → Type 0) → ℕ → Option (List ℕ) → BagWords → BagFault → Type 0
 IsUnfilled ShelfGave Holds len line words =
     IsBagFault (λ _. ⊤) ShelfGave (EachKnown Holds (λ known. OfKnownBag known len line words (λ bag. AreTooMany (bytes_in bag))))
@@ -82,11 +82,11 @@ IsUnfilled ShelfGave Holds len line words =
 abbrev pub IsReportTold : Option (List ℕ) → ℕ → Mdb → List ℕ → Type 0
 IsReportTold known len mdb text = OfKnown known len (λ image. text ≡ report_text image mdb)
 
--- where the image's bytes are known, and are so many, this is told of the block of this directory
+-- where the image's bytes are known, and are so many, this is said about the block of this directory
 abbrev pub IsDirectoryTold : Option (List ℕ) → ℕ → Mdb → Option (List ℕ) → Type 0
 IsDirectoryTold known len mdb told = OfKnown known len (λ image. told ≡ told_directory image mdb)
 
--- this is told of an image with this directory
+-- this is said about an image with this directory
 pub record IsToldOf (known : Option (List ℕ)) (len : ℕ) (mdb : Mdb) (words : BagWords) (told : Told) : Type 0 where
   pub identifier_is : string_bytes told.identifier ≡ plain_text (field_name mdb.volume_name)
   pub name_is : string_bytes told.name ≡ image_name words.words.image.now

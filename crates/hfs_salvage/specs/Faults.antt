@@ -12,7 +12,7 @@ use Rattle.hfs_salvage.specs.declared.image.HoldFault.{HoldFault}
 use Rattle.hfs_salvage.specs.declared.image.HoldFault.TheVariants as hold
 use Rattle.hfs_salvage.specs.declared.words.RescueWords.{RescueWords}
 
--- there is no directory in an image, and its check tells this fault; or a read failed, or memory was refused
+-- there is no directory in an image, and its check finds this fault; or a read failed, or memory was refused
 abbrev pub IsUnheld : HoldFault → List ℕ → Type 0
 IsUnheld (hold.NoDirectory fault) image = (found_directory image ≡ None) × (fault ≡ (report_of image).fault)
 IsUnheld hold.ReadFailed image = ⊤
@@ -26,7 +26,7 @@ IsUnread words why = IsUnopened words.image words.volume why ⊎ ((refusal : Mou
 abbrev pub IsUnlisted : RescueWords → Fault → Type 0
 IsUnlisted words why = IsUnread words why ⊎ IsUnprinted why
 
--- ---- which fault is told
+-- ---- which fault is reported
 
 -- what it means for the file at this path that nothing is found of an image
 abbrev pub told_fault : Bor (List ℕ) → HoldFault → Fault
@@ -35,6 +35,6 @@ told_fault path (hold.NoDirectory (Some why)) = Refused why
 told_fault path hold.ReadFailed = CannotRead path
 told_fault path hold.NoMemory = NoMemory
 
--- nothing is found of each of these images, for a reason that it has, and this is told of that
+-- nothing is found of each of these images, for a reason that it has, and this is said about that
 abbrev pub IsUnfound : Bor (List ℕ) → (List ℕ → Type 0) → Fault → Type 0
 IsUnfound path Holds why = (fault : HoldFault) × OfEach Holds (IsUnheld fault) × (why ≡ told_fault path fault)

@@ -45,10 +45,10 @@ SoundPayloadsAreVolumes =
     → IsFoundOf image limit found → AreWaysShort (things_in (catalog_in (block_at image)))
     → (entry : ShelfEntry) → In entry (payload (rescued_items image found)) ↔ In entry (payload (bag_items (entries_in image)))
 
--- ---- what is told, and what is found
+-- ---- what is given, and what is found
 
--- as many files, folders and whole files are told as the plan of the bag has, an AppleDouble file is there for each of the files and folders, and as many
--- bytes are told as its payload has, as far as a number of 64 bits holds them
+-- as many files, folders and whole files are reported as the plan of the bag has, an AppleDouble file is there for each of the files and folders, and as many
+-- bytes are reported as its payload has, as far as a number of 64 bits holds them
 pub record AreSumsOfBag (image : List ℕ) (found : Found) (sums : FoundSums) : Type 0 where
   pub files_are : sums.files ≡ of_plan found (files_at found)
   pub folders_are : sums.folders ≡ of_plan found (folders_at found)
@@ -56,11 +56,11 @@ pub record AreSumsOfBag (image : List ℕ) (found : Found) (sums : FoundSums) : 
   pub doubles_are : doubles_told (map item_digests (rescued_items image found)) ≡ sums.files + sums.folders
   pub bytes_are : sums.bytes ≡ min (bytes_in (payload (rescued_items image found))) (2 ^ 64 - 1)
 
--- what is told of an image of bytes is in its bag
+-- what is said about an image of bytes is in its bag
 abbrev pub SumsAreOfBags : Type 0
 SumsAreOfBags =
     (image : List ℕ) (limit : ℕ) (found : Found) → IsTrue (is_bytes image) → IsFoundOf image limit found → AreSumsOfBag image found (found_sums found)
 
--- something is found of each image of bytes that has a directory, so what holds of all that is found is said of something
+-- something is found of each image of bytes that has a directory, so what holds of all that is found is said about something
 abbrev pub RemainsAreFound : Type 0
 RemainsAreFound = (image : List ℕ) (limit : ℕ) (mdb : Mdb) → AreBytes image → found_directory image ≡ Some mdb → (found : Found) × IsFoundOf image limit found

@@ -16,7 +16,7 @@ TellsRemains known len words old new = OfKnown known len (λ image. OfFound imag
 abbrev pub TellsRemainsFront : Option (List ℕ) → ℕ → RescueWords → Option (List ℕ) → Option (List ℕ) → Type 0
 TellsRemainsFront known len words old new = OfKnown known len (λ image. OfFound image (limit_of words image) (λ found. AppendsFront old new (remains_text found)))
 
--- of a text that is gathered and a line that comes behind it some bytes went out, and the others are gathered
+-- of a text that is gathered and a line that follows it some bytes were written, and the others are gathered
 pub record Gathers (line old_text new_text : List ℕ) (old new : Option (List ℕ)) : Type 0 where
   pub out : List ℕ
   pub written : Appends old new out

@@ -51,7 +51,7 @@ end_rows found end.Nothing = []
 end_rows found (end.File k) = []
 end_rows found (end.Folder k) = selected_text (selection.InFolder (home_number found.places.now k)) found
 
--- the exit status behind them, or the code where there is no such item, or it is a file
+-- the exit status after them, or the code where there is no such item, or it is a file
 abbrev pub folder_told : List ℕ → Found → PathEnd → Result ℕ Reply
 folder_told image found end.Nothing = Err (refusal NOT_FOUND)
 folder_told image found (end.File k) = Err (refusal NOT_A_FOLDER)
@@ -75,7 +75,7 @@ abbrev pub whole_status : Bool → ℕ
 whole_status true = status_number Done
 whole_status false = status_number CallRefused
 
--- the exit status behind them: whether the fork is whole; or the code where there is no fork
+-- the exit status after them: whether the fork is whole; or the code where there is no fork
 abbrev pub told_whole : Option Bool → Result ℕ Reply
 told_whole None = Err (refusal NOT_FOUND)
 told_whole (Some whole) = Ok (whole_status whole)

@@ -1,7 +1,7 @@
 -- The first element of a list that fails a test, where the test knows the elements before it.
 use Rattle.std.specs.Prelude.{◌≡◌, ℕ, ◌<◌, Bool, true, false, if◌then◌else◌, List, [], ◌∷◌, ◌++◌, length, take, slice_index_or, Option, Some, None}
 
--- its place from 0 on, where these elements stand before the list
+-- its place from 0 on, where these elements precede the list
 abbrev pub first_failing : {X : Type 0} → (List X → X → Bool) → List X → List X → Option ℕ
 first_failing test before [] = None
 first_failing test before (x ∷ xs) = if test before x then first_failing test (before ++ x ∷ []) xs else Some (length before)

@@ -1,4 +1,4 @@
--- The call that a line's word and the fields behind it make, at a moment.
+-- The call that a line's word and the fields after it make, at a moment.
 use Rattle.std.specs.Prelude.{ℕ, List, [], ◌∷◌, Option, Some, None}
 use Rattle.std.specs.Option.{option_map}
 use Rattle.hfs_model.specs.declared.call.Call.{Call}
@@ -104,7 +104,7 @@ write_of now (dir ∷ name ∷ fork ∷ offset ∷ bytes ∷ []) = do
   written_of now dir name fork offset bytes
 write_of now _ = None
 
--- the call of a word that has DIR NAME alone behind it
+-- the call of a word that has DIR NAME alone after it
 abbrev pub target_call : ℕ → Word → Target → Option Call
 target_call now word.Info item = Some (call.GetCatInfo item.dir item.name)
 target_call now word.Create item = Some (call.Create item.dir item.name now)

@@ -1,4 +1,4 @@
--- A step behind a step that may give nothing.
+-- A step after a step that may give nothing.
 use Rattle.std.specs.Prelude.{Option, Some, None}
 
 -- the second step on what the first gave, if it gave anything

@@ -17,7 +17,7 @@ without_empty_end (piece ∷ next ∷ more) = piece ∷ without_empty_end (next 
 unfoldable pub lines_of : List ℕ → List (List ℕ)
 lines_of bytes = without_empty_end (slice_split (λ byte. byte == 10) bytes)
 
--- a line with those behind it; their places count from the line behind
+-- a line with those after it; their places count from the line after
 abbrev pub before_lines : ScriptLine → Result (List ScriptLine) ℕ → Result (List ScriptLine) ℕ
 before_lines line (Ok lines) = Ok (line ∷ lines)
 before_lines line (Err place) = Err (place + 1)

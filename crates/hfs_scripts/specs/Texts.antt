@@ -1,4 +1,4 @@
--- The text of a script: numbers without leading zeros, hexadecimal digits in lower case, a line feed behind each line.
+-- The text of a script: numbers without leading zeros, hexadecimal digits in lower case, a line feed after each line.
 use Rattle.std.specs.Prelude.{◌≡◌, length, ◌<◌, ℕ, ◌+◌, ◌==◌, ◌&&◌, not, nat_le, Bool, true, List, [], ◌∷◌, ◌++◌, codes, position, Option, Some}
 use Rattle.std.specs.Option.{option_map}
 use Rattle.std.specs.List.{flat_map, list_all}
@@ -73,11 +73,11 @@ fork_text ResFork = codes "res"
 abbrev pub fork_fields : ℕ → List ℕ → Fork → ℕ → List (List ℕ)
 fork_fields dir name fork number = decimal dir ∷ name ∷ fork_text fork ∷ decimal number ∷ []
 
--- the fields behind the word of a read of a fork
+-- the fields after the word of a read of a fork
 abbrev pub read_fields : ℕ → List ℕ → Fork → ℕ → ℕ → List (List ℕ)
 read_fields dir name fork offset count = decimal dir ∷ name ∷ fork_text fork ∷ decimal offset ∷ decimal count ∷ []
 
--- the fields behind the word of a write into a fork
+-- the fields after the word of a write into a fork
 abbrev pub write_fields : ℕ → List ℕ → Fork → ℕ → List ℕ → List (List ℕ)
 write_fields dir name fork offset bytes = decimal dir ∷ name ∷ fork_text fork ∷ decimal offset ∷ encode_lower bytes ∷ []
 
@@ -85,7 +85,7 @@ write_fields dir name fork offset bytes = decimal dir ∷ name ∷ fork_text for
 abbrev pub info_fields : ℕ → ℕ → ℕ → List ℕ → List (List ℕ)
 info_fields created modified backup info = decimal created ∷ decimal modified ∷ decimal backup ∷ encode_lower info ∷ []
 
--- the fields behind a call's word
+-- the fields after a call's word
 abbrev pub arguments : Call → List (List ℕ)
 arguments (call.GetDirInfo dir) = decimal dir ∷ []
 arguments (call.GetCatInfo dir name) = decimal dir ∷ name ∷ []
@@ -108,7 +108,7 @@ arguments (call.ResolveFileId id) = decimal id ∷ []
 arguments (call.SetEof dir name fork length now) = decimal dir ∷ name ∷ fork_text fork ∷ decimal length ∷ []
 arguments (call.WriteFork dir name fork offset bytes now) = decimal dir ∷ name ∷ fork_text fork ∷ decimal offset ∷ encode_lower bytes ∷ []
 
--- a field behind a tab
+-- a field after a tab
 abbrev pub tabbed : List ℕ → List ℕ
 tabbed field = 9 ∷ field
 
@@ -126,11 +126,11 @@ script_text lines = flat_map fed lines
 
 -- ---- what has a line
 
--- whether a name stands in a field: no tab and no line feed is in it
+-- whether a name is in a field: no tab and no line feed is in it
 unfoldable pub is_field : List ℕ → Bool
 is_field name = list_all (λ byte. not (byte == 9) && not (byte == 10)) name
 
--- whether a call's names stand in fields, and the bytes that it writes are few enough for one
+-- whether a call's names are in fields, and the bytes that it writes are few enough for one
 abbrev pub has_fields : Call → Bool
 has_fields (call.GetDirInfo dir) = true
 has_fields (call.GetCatInfo dir name) = is_field name
@@ -179,7 +179,7 @@ abbrev pub is_caller : Caller → Bool
 is_caller (Worker number) = nat_le 1 number && nat_le number 8
 is_caller (Viewer number) = nat_le 1 number && nat_le number 8
 
--- whether a line has a text: its caller may make the call, at the moment that a reader is given, and its names and bytes stand in fields
+-- whether a line has a text: its caller may make the call, at the moment that a reader is given, and its names and bytes are in fields
 unfoldable pub is_writable : ℕ → ScriptLine → Bool
 is_writable now line = is_caller line.caller && may_ask line.caller (word_for line.call) && has_fields line.call && is_made_at now line.call
 

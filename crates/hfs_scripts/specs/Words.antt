@@ -32,7 +32,7 @@ changing_words =
     ∷ (codes "write", word.Write)
     ∷ []
 
--- what stands beside a text in a table
+-- what is next to a text in a table
 abbrev pub beside : List ℕ → List (List ℕ × Word) → Option Word
 beside text [] = None
 beside text ((name, word) ∷ others) = if bytes_eq text name then Some word else beside text others

@@ -35,7 +35,7 @@ abbrev pub AreTheirPasses : List PassState → LockedState → Type 0
 AreTheirPasses passes l = AreAllPasses passes l.workers l.journal
 
 -- what closing gives for these passes, and the lent viewer's list before and after it. The volume's image agrees with the
--- one that was shared, this base, but for the blocks of forks that calls of the journal wrote, which made it one after the other, and its
+-- one that was shared, this base, except for the blocks of forks that calls of the journal wrote, which made it one after the other, and its
 -- volume is the one after the journal; each worker has as many entries as its pass says,
 -- and nobody else has any; the viewer has then seen what is published, which begins with what it had seen.
 pub record IsClosed (base : List ℕ) (volume : ImageValue) (journal : List Entry) (shown : ℕ) (passes : List PassState) (before afterwards : Known) : Type 0 where

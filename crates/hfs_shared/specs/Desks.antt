@@ -29,7 +29,7 @@ pub record DeskState : Type 0 where
 abbrev pub desk_state : List ℕ → List ℕ → List ℕ → List Entry → ℕ → DeskState
 desk_state b c w j n = record { base = b; current = c; written = w; journal = j; workers = n }
 
--- the headline: the image agrees with the one that was mounted, but for the blocks of forks that calls of the journal wrote, which made it
+-- the headline: the image agrees with the one that was mounted, except for the blocks of forks that calls of the journal wrote, which made it
 -- one after the other; the journal is legal over the mounted volume, and the volume now is the one after it
 pub record IsHeadline (base current written : List ℕ) (journal : List Entry) : Type 0 where
   pub agrees : AgreesBut written base current
@@ -60,7 +60,7 @@ wanted workers journal w = cond (leb 1 w && leb w workers) (made_by w journal + 
 
 -- ---- one call
 
--- the want that a value tells
+-- the want that a value reports
 abbrev pub want_in : Value → Option Want
 want_in value.Nothing = None
 want_in (value.Id id) = None
@@ -72,7 +72,7 @@ want_in (value.Room free wanted) = Some (want.Room free wanted)
 want_in (value.ExtentNodes free depth) = Some (want.ExtentNodes free depth)
 want_in (value.Place dir name) = None
 
--- what a reply says of want
+-- what a reply reports as wanting
 abbrev pub want_of : Reply → Option Want
 want_of r = if int_eq r.code DISK_FULL then want_in r.value else None
 

@@ -4,7 +4,7 @@ use Rattle.hfs_shared.specs.Desks.{DeskState, PassState, wanted}
 use Rattle.hfs_shared.specs.declared.desk.CallFault.{CallFault}
 use Rattle.hfs_shared.specs.declared.desk.CallFault.TheVariants.{Stamp, Memory}
 
--- the stamp is the fault exactly where the number given is not the one wanted
+-- the stamp is the fault exactly where the number given is not the expected one
 abbrev pub IsFaultAt : ℕ → ℕ → CallFault → Type 0
 IsFaultAt wanted given (Stamp w g) = (w ≡ wanted) × (g ≡ given) × (given ≢ wanted)
 IsFaultAt wanted given Memory = given ≡ wanted
@@ -13,7 +13,7 @@ IsFaultAt wanted given Memory = given ≡ wanted
 abbrev pub IsCallFault : DeskState → PassState → CallFault → Type 0
 IsCallFault s p f = IsFaultAt (wanted s.workers s.journal p.worker) p.number f
 
--- of a refused call with this number: a stamp gives it, and wanted another
+-- of a refused call with this number: a stamp gives it, and expected another
 abbrev pub IsFaultUnder : ℕ → CallFault → Type 0
 IsFaultUnder number (Stamp wanted given) = (given ≡ number) × (given ≢ wanted)
 IsFaultUnder number Memory = ⊤

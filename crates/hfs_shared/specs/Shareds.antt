@@ -63,23 +63,23 @@ pub record IsReplyOf (base : List ℕ) (v : Volume) (c : Call) (r : Reply) : Typ
   pub left : Volume
   pub outcome : IsOutcomeIn image c (left, r)
 
--- what is told of a journal: the published list that covers so many of its entries, and how many there are
+-- what is said about a journal: the published list that covers so many of its entries, and how many there are
 abbrev pub told_of : Book → Volume → List Entry → ℕ → ToldState
 told_of book opening journal n = told (known book (published opening journal n)) n (length journal)
 
--- what is told is that, for the number that it says, which is at most the number of entries
+-- what is given is that, for the number that it has, which is at most the number of entries
 pub record IsToldOf (book : Book) (opening : Volume) (journal : List Entry) (t : ToldState) : Type 0 where
   pub tells : t ≡ told_of book opening journal t.shown
   pub within : t.shown ≤ length journal
 
--- one call, behind these entries: its own stands last in a legal journal over the base's volume, its reply is the one there, and
--- what is told is published of that journal
+-- one call, after these entries: its own is last in a legal journal over the base's volume, its reply is the one there, and
+-- what is given is published of that journal
 pub record IsCall (book : Book) (base : List ℕ) (before : List Entry) (p : PassState) (c : Call) (r : Reply) (t : ToldState) (q : PassState) : Type 0 where
   pub pass : q ≡ pass_state p.worker (p.number + 1)
   pub legal : IsLegal (volume_of base) (before ++ entry_of p c r ∷ [])
   pub reply : IsReplyOf base (after (volume_of base) before) c r
   pub told_is : IsToldOf book (volume_of base) (before ++ entry_of p c r ∷ []) t
 
--- one call behind some entries
+-- one call after some entries
 abbrev pub IsSomeCall : Book → List ℕ → PassState → Call → Reply → ToldState → PassState → Type 0
 IsSomeCall book base p c r t q = (before : List Entry) × IsCall book base before p c r t q

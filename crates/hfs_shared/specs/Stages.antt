@@ -19,7 +19,7 @@ stage bytes written = record { bytes = bytes; written = written }
 abbrev pub stage_of : ImageValue → Stage
 stage_of image = stage image.current image.written
 
--- the entry's call made the one of the other: its volume is the one after the entry, and behind the blocks that were written stand those
+-- the entry's call made the one of the other: its volume is the one after the entry, and the blocks that were written are followed by those
 -- that this call wrote; one with another code than 0 made nothing
 pub record HasMade (e : Entry) (old new : Stage) : Type 0 where
   pub before : ImageValue

@@ -13,7 +13,7 @@ use Rattle.hfs_shared.specs.Shareds.{IsSomeCall}
 abbrev pub later : PassState → ℕ → PassState
 later p n = pass_state p.worker (p.number + n)
 
--- these are the replies to the first calls, with what was told of each, under the pass's next numbers
+-- these are the replies to the first calls, with what was said about each, under the pass's next numbers
 pub record IsWork (book : Book) (base : List ℕ) (p : PassState) (calls : List Call) (q : PassState) (replies : List (Reply × ToldState)) : Type 0 where
   pub pass : q ≡ later p (length replies)
   pub few : length replies ≤ length calls

@@ -2,12 +2,12 @@
 use Rattle.std.specs.Prelude.{◌≡◌, ℕ, List, [], ◌∷◌, ◌++◌, ◌⊎◌, ⊤, Option, Some}
 
 -- a folder by its path; or a file by its path, the time that it is to have, in seconds since the beginning of 1970, where it is to have
--- one, and its bytes as far as they came
+-- one, and its bytes as far as they were given
 pub data ShelfEntry : Type 0 where
   folder : List ℕ → ShelfEntry
   file : List ℕ → Option ℕ → List ℕ → ShelfEntry
 
--- the bytes of a piece lie behind those of the last entry, where that is a file
+-- the bytes of a piece lie after those of the last entry, where that is a file
 abbrev pub longer : ShelfEntry → List ℕ → ShelfEntry
 longer (folder path) piece = folder path
 longer (file path time bytes) piece = file path time (bytes ++ piece)

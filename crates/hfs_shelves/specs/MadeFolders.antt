@@ -7,7 +7,7 @@ use Rattle.hfs_shelves.specs.SystemSteps.{Asked, SystemStep, made_folder, opened
 abbrev pub slash : ℕ
 slash = 47
 
--- what stands behind a folder's path and a slash, where a path begins so
+-- what follows a folder's path and a slash, where a path begins so
 abbrev pub path_in : List ℕ → List ℕ → Option (List ℕ)
 path_in [] [] = None
 path_in [] (c ∷ path) = if eqb c slash then Some path else None

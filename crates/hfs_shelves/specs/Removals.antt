@@ -11,7 +11,7 @@ abbrev pub AreSteps : (SystemStep → Type 0) → List SystemStep → Type 0
 AreSteps Fact [] = ⊤
 AreSteps Fact (step ∷ rest) = Fact step × AreSteps Fact rest
 
--- the new steps are the old ones and behind them only such steps
+-- the new steps are the old ones and after them only such steps
 pub record HasSince (Fact : SystemStep → Type 0) (old new : List SystemStep) : Type 0 where
   pub since : List SystemStep
   pub whole : new ≡ since ++ old
@@ -57,7 +57,7 @@ pub record HasLast (Last : SystemStep → Type 0) (folder : List ℕ) (old new :
 abbrev pub IsTakenAway : List ℕ → List SystemStep → List SystemStep → Type 0
 IsTakenAway folder old new = HasLast (EndsRemoval folder) folder old new
 
--- the file that was opened last was let go of, and got this time before, in seconds since the beginning of 1970, where one is told and
+-- the file that was opened last was closed, and got this time before, in seconds since the beginning of 1970, where one is given and
 -- the system set it
 abbrev pub IsClosed : Option ℕ → List SystemStep → List SystemStep → Type 0
 IsClosed None old new = new ≡ done closed ∷ old

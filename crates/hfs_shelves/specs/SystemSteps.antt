@@ -1,9 +1,9 @@
--- What was asked of the system, and what came of it.
+-- What was asked of the system, and what it did.
 use Rattle.std.specs.Prelude.{◌≡◌, ℕ, Bool, List, ◌∷◌, ◌&&◌, Result, MatchResult}
 use Rattle.std.specs.Fs.{asks_create_new, asks_write}
 use Rattle.std.specs.declared.fs.options.OpenOptions.{OpenOptions}
 
--- that a folder is made where nothing is; a file is opened, or, if so, made where nothing is, to be written; bytes are laid behind those of
+-- that a folder is made where nothing is; a file is opened, or, if so, made where nothing is, to be written; bytes are laid after those of
 -- the file that was opened last, that one gets a time, in nanoseconds since the beginning of 1970, and is let go of; what has the first path
 -- gets the second; what is no folder is removed, or, for there is one, it stays; an empty folder is removed; whether anything has a path
 pub data Asked : Type 0 where
@@ -27,6 +27,6 @@ pub data SystemStep : Type 0 where
 abbrev pub makes_file : OpenOptions → Bool
 makes_file how = asks_create_new how && asks_write how
 
--- this was asked, and done where the answer is Ok; the last step comes first
+-- this was asked, and done where the answer is Ok; the last step is first
 abbrev pub Does : {T E : Type 0} → Result T E → Asked → List SystemStep → List SystemStep → Type 0
 Does result asked old new = MatchResult result (λ _. new ≡ done asked ∷ old) (λ _. new ≡ failed asked ∷ old)

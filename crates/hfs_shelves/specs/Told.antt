@@ -1,10 +1,10 @@
--- Which path a fault of the shelf of files tells.
+-- Which path a fault of the shelf of files names.
 use Rattle.std.specs.Prelude.{◌≡◌, ℕ, List, ◌⊎◌, ⊤, string_bytes}
 use Rattle.hfs_shelves.specs.ShelfPaths.{IsNewFolder, path_within}
 use Rattle.hfs_shelves.specs.declared.fault.ShelfFault.{ShelfFault}
 use Rattle.hfs_shelves.specs.declared.fault.ShelfFault.TheVariants as fault
 
--- this path, where it tells one
+-- this path, where it names one
 abbrev pub Tells : List ℕ → ShelfFault → Type 0
 Tells path (fault.CannotWrite told) = string_bytes told ≡ path
 Tells path fault.NoMemory = ⊤
@@ -18,7 +18,7 @@ TellsNewFolder path fault.NoMemory = ⊤
 abbrev pub IsFolderOrIn : List ℕ → List ℕ → Type 0
 IsFolderOrIn folder told = (told ≡ folder) ⊎ ((path : List ℕ) × (told ≡ path_within folder path))
 
--- one of these, where it tells a path
+-- one of these, where it names a path
 abbrev pub TellsWithin : List ℕ → ShelfFault → Type 0
 TellsWithin folder (fault.CannotWrite told) = IsFolderOrIn folder (string_bytes told)
 TellsWithin folder fault.NoMemory = ⊤

@@ -1,4 +1,4 @@
--- What came of removing what lies in a folder.
+-- What removing what lies in a folder did.
 use Rattle.std.specs.Prelude.{ℕ, List, Bool, true, false, Result, Ok, Err, MatchResult, Option, Some, None}
 use Rattle.std.specs.Global.{Global}
 use Rattle.hfs_shelves.specs.SystemSteps.{SystemStep}

@@ -4,7 +4,7 @@ use Rattle.std.specs.Option.{SomeIff}
 use Rattle.std.specs.Str.Parse.{IsNumeral, digits_value, without_leading_plus}
 use Rattle.hfs_format.specs.Plan.{allocation_blocks}
 
--- decimal digits, and a plus may stand first
+-- decimal digits, and there may be a plus first
 abbrev pub numeral_in : List ℕ → List ℕ
 numeral_in text = without_leading_plus text
 

@@ -1,4 +1,4 @@
--- What is said of each image that has the bytes which were read.
+-- What is said about each image that has the bytes which were read.
 use Rattle.std.specs.Prelude.{◌≡◌, ℕ, ◌+◌, ◌<◌, ◌≤◌, ◌⊎◌, List, length, take, drop}
 
 -- this holds of each image of these

@@ -44,7 +44,7 @@ abbrev pub name_of : Option Listed → List ℕ
 name_of (Some entry) = entry.name
 name_of None = []
 
--- the name of its own entry, or else of the one that belongs to it what stands behind `._`
+-- the name of its own entry, or else, of the one that belongs to it, what follows `._`
 abbrev pub item_name_by : Option Listed → List ℕ → List ℕ
 item_name_by (Some own) double = own.name
 item_name_by None double = unwrap_or (behind_mark double) []
@@ -64,7 +64,7 @@ item_in host told how folder parent entries item =
 
 -- ---- all of them
 
--- the items of a folder, whose place in the list is told: of its entries in order
+-- the items of a folder, whose place in the list is given: of its entries in order
 pub record AreItemsIn (host : Tree) (told : Told) (how : PutOptions) (folder : List ℕ) (parent : Option ℕ) (items : List PlannedItem) : Type 0 where
   pub entries : List Listed
   pub order : AreInOrder (host.entries folder) entries

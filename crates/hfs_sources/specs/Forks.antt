@@ -1,4 +1,4 @@
--- Forks of items that are to come, and their bytes in a tree.
+-- Forks of items that are to be put, and their bytes in a tree.
 use Rattle.std.specs.Prelude.{ℕ, if◌then◌else◌, List, [], take, drop, Option, Some, None}
 use Rattle.hfs_model.specs.declared.call.Fork.{Fork}
 use Rattle.hfs_model.specs.declared.call.Fork.TheVariants.{DataFork, ResFork}

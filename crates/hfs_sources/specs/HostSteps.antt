@@ -1,4 +1,4 @@
--- What was asked of the system, and what that says of the tree.
+-- What was asked of the system, and what that says about the tree.
 use Rattle.std.specs.Prelude.{◌≡◌, ℕ, List, [], ◌∷◌, ⊤, Option}
 use Rattle.hfs_source.specs.Steps.{IsReadFrom, ReadStep}
 use Rattle.hfs_sources.specs.declared.entry.Look.{Look}
@@ -11,7 +11,7 @@ pub data HostStep : Type 0 where
   followed : List ℕ → Option Look → HostStep
   read_so : List ℕ → List ReadStep → HostStep
 
--- the tree has what came of each of these steps, of which the last comes first
+-- the tree has what each of these steps gave, of which the last is first
 abbrev pub IsSeenBy : List HostStep → Tree → Type 0
 IsSeenBy [] host = ⊤
 IsSeenBy (listed folder entries ∷ before) host = (entries ≡ host.entries folder) × IsSeenBy before host

@@ -1,4 +1,4 @@
--- Items that are to come.
+-- Items that are to be put.
 use Rattle.std.specs.Prelude.{ℕ, List, Option, option_map}
 use Rattle.hfs_put_plan.specs.declared.facts.ToldFacts.{ToldFacts}
 use Rattle.hfs_sources.specs.declared.entry.Look.{Look}
@@ -18,6 +18,6 @@ abbrev pub planned_item : List ℕ → List ℕ → Option ℕ → ItemPlan → 
 planned_item path double_path parent plan =
     record { path = path; double = option_map (λ (look : Look). double_path) plan.double; parent = parent; plan = plan }
 
--- what is told of items by their paths on the host
+-- what is said about items by their paths on the host
 abbrev pub Told : Type 0
 Told = List ℕ → Option ToldFacts

@@ -1,11 +1,11 @@
--- What lies in an item comes directly behind it.
+-- What lies in an item follows it directly.
 use Rattle.std.specs.Prelude.{◌≡◌, ℕ, ◌+◌, List, ◌++◌, length}
 use Rattle.hfs_sources.specs.declared.plan.PutOptions.{PutOptions}
 use Rattle.hfs_sources.specs.Items.{PlannedItem, Told}
 use Rattle.hfs_sources.specs.Trees.{Tree}
 use Rattle.hfs_sources.specs.Walks.{IsWalk}
 
--- the list is the walk of the first items, and behind it that of the others
+-- the list is the walk of the first items, and after it that of the others
 pub record IsInParts (host : Tree) (told : Told) (how : PutOptions) (place : ℕ) (firsts others items : List PlannedItem) : Type 0 where
   pub front : List PlannedItem
   pub back : List PlannedItem
@@ -13,7 +13,7 @@ pub record IsInParts (host : Tree) (told : Told) (how : PutOptions) (place : ℕ
   pub first_walked : IsWalk host told how place firsts front
   pub others_walked : IsWalk host told how (place + length front) others back
 
--- so the walk of an item and of those behind it is the item, the walk of what lies in it, and the walk of the others
+-- so the walk of an item and of those after it is the item, the walk of what lies in it, and the walk of the others
 abbrev pub AreWalksParted : Type 0
 AreWalksParted =
     (host : Tree) (told : Told) (how : PutOptions) (place : ℕ) (firsts others items : List PlannedItem)

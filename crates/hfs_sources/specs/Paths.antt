@@ -12,6 +12,6 @@ entry_path folder name = if ends_in_slash folder then folder ++ name else folder
 unfoldable pub double_path : List ℕ → List ℕ → List ℕ
 double_path folder name = if ends_in_slash folder then folder ++ (codes "._" ++ name) else folder ++ (codes "/._" ++ name)
 
--- what stands behind `._` in a name that begins so
+-- what follows `._` in a name that begins so
 abbrev pub behind_mark : List ℕ → Option (List ℕ)
 behind_mark name = if bytes_eq (take 2 name) (codes "._") then Some (drop 2 name) else None

@@ -82,7 +82,7 @@ modified_date (Some own) double = host_date own.modified
 modified_date None (Some double) = host_date double.modified
 modified_date None None = 0
 
--- what was found, as far as one item tells: none before it has its name, and no call has refused it
+-- what was found, as far as one item shows: none before it has its name, and no call has refused it
 abbrev pub findings : Bool → Bool → Bool → Bool → Findings
 findings is_item fits is_double is_named =
     record { is_item = is_item; fits = fits; is_double = is_double; is_named = is_named; is_first = true; is_accepted = true }

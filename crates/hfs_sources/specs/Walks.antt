@@ -1,4 +1,4 @@
--- The items that are to come, in the order of the walk.
+-- The items that are to be put, in the order of the walk.
 use Rattle.std.specs.Prelude.{◌≡◌, ℕ, ◌+◌, Bool, true, false, not, ◌&&◌, List, [], ◌∷◌, ◌++◌, map, get_or, drop, unwrap_or, is_none, ⊤, Some}
 use Rattle.hfs_put_plan.specs.Twins.{later_twins}
 use Rattle.hfs_put_plan.specs.Why.{why_not}

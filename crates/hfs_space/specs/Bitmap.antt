@@ -29,7 +29,7 @@ bitmap_len n = (n + 4095) / 4096
 abbrev pub AreClear : (ℕ → List ℕ) → ℕ → ℕ → ℕ → Type 0
 AreClear blocks start first count = (n : ℕ) → first ≤ n → n < first + count → is_used blocks start n ≡ false
 
--- beside the bits of `count` allocation blocks from `first` on nothing has changed: no other bit of the bitmap, and no block
+-- besides the bits of `count` allocation blocks from `first` on nothing has changed: no other bit of the bitmap, and no block
 -- that has none of these bits
 pub record KeepsOthers (old new : ℕ → List ℕ) (start first count : ℕ) : Type 0 where
   pub bits : (n : ℕ) → (n < first) ⊎ (first + count ≤ n) → is_used new start n ≡ is_used old start n
@@ -39,7 +39,7 @@ pub record KeepsOthers (old new : ℕ → List ℕ) (start first count : ℕ) : 
 abbrev pub AreClearIn : Numbered → (ℕ → List ℕ) → ℕ → ℕ → ℕ → Type 0
 AreClearIn patch below start first count = AreClear (over (changes patch) below) start first count
 
--- and beside these bits shows what the other patch showed
+-- and besides these bits shows what the other patch showed
 abbrev pub KeepsOthersIn : Numbered → Numbered → (ℕ → List ℕ) → ℕ → ℕ → ℕ → Type 0
 KeepsOthersIn old new below start first count = KeepsOthers (over (changes old) below) (over (changes new) below) start first count
 

@@ -5,7 +5,7 @@ use Rattle.hfs_space.specs.declared.owners.Edge.{Edge}
 use Rattle.hfs_space.specs.declared.owners.Edge.TheVariants.{First, Behind}
 use Rattle.std.specs.List.{range_with_len}
 
--- the first block of an extent, or the one behind its last
+-- the first block of an extent, or the one after its last
 abbrev pub block_at : Edge → Extent → ℕ
 block_at First e = e.first
 block_at Behind e = e.first + e.count

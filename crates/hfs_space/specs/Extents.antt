@@ -44,7 +44,7 @@ abbrev pub goes_on : ℕ → ℕ → ℕ → ExtKey × List ℕ → Bool
 goes_on file fork block r = (r.0.file == file) && (r.0.fork == fork) && (r.0.block == block) && nat_lt block 65536 && nat_lt 0 (block_total (record_extents r.1))
 
 -- the records that go on with a fork from this block of it on, each from where the one before it ends. In a tree's order
--- a record that goes on comes later than the one before it, so one walk finds them all.
+-- a record that goes on is later than the one before it, so one walk finds them all.
 abbrev pub run_on : ℕ → ℕ → ℕ → Overflow → Overflow
 run_on file fork block [] = []
 run_on file fork block (r ∷ rs) =
@@ -59,7 +59,7 @@ unfoldable pub fork_extents : Overflow → ℕ → ℕ → List Extent → List 
 fork_extents overflow file fork first = first ++ extents_from overflow file fork (block_total first)
 
 -- what a look-up finds that goes on with a fork from this block of it on: nothing, where nothing goes on, or extents that
--- have a block, and then what goes on behind them
+-- have a block, and then what goes on after them
 abbrev pub GoesOnWith : Overflow → ℕ → ℕ → ℕ → Option (List Extent) → Type 0
 GoesOnWith overflow file fork block None = extents_from overflow file fork block ≡ []
 GoesOnWith overflow file fork block (Some found) =

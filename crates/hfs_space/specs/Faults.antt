@@ -29,7 +29,7 @@ have_room mdb extents bytes = nat_le bytes (block_total extents * mdb.allocation
 unfoldable pub is_tree_file : Mdb → List Extent → ℕ → Bool
 is_tree_file mdb extents size = are_extents_within mdb.allocation_blocks extents && have_room mdb extents size && nat_le 512 size
 
--- ---- extents: the number of a record of the catalog, or behind those of a record of the extents tree
+-- ---- extents: the number of a record of the catalog, or after those of a record of the extents tree
 
 unfoldable pub is_fork_right : Mdb → Overflow → Fork → Bool
 is_fork_right mdb overflow f =

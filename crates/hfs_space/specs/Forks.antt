@@ -51,11 +51,11 @@ read_of blocks mdb extents len offset count = read_from (fork_bytes blocks mdb e
 abbrev pub run_part : (ℕ → List ℕ) → Run → ℕ → ℕ → List ℕ
 run_part blocks run from end = take (end - from) (drop from (run_bytes blocks run.first run.count))
 
--- what succeeds adds, behind the old bytes, `count` bytes of an extent from `from` on
+-- what succeeds adds, after the old bytes, `count` bytes of an extent from `from` on
 abbrev pub Gains : {T E : Type 0} → Result T E → (ℕ → List ℕ) → Mdb → Extent → ℕ → ℕ → Vec ℕ Global → Vec ℕ Global → Type 0
 Gains result blocks mdb e from count old new = OnOk result (new.items ≡ old.items ++ take count (drop from (extent_bytes blocks mdb e)))
 
--- behind the old bytes, those of a run of blocks from `from` up to `end`
+-- after the old bytes, those of a run of blocks from `from` up to `end`
 abbrev pub AddsPart : (ℕ → List ℕ) → Run → ℕ → ℕ → Vec ℕ Global → Vec ℕ Global → Type 0
 AddsPart blocks run from end old new = new.items ≡ old.items ++ run_part blocks run from end
 

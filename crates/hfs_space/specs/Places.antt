@@ -24,6 +24,6 @@ bytes_from blocks mdb extents place count = take count (bytes_behind blocks mdb 
 abbrev pub HasRead : (ℕ → List ℕ) → Mdb → List Extent → ForkPlace → ℕ → Vec ℕ Global × ForkPlace → Type 0
 HasRead blocks mdb extents place count = λ read. read.0.items ≡ bytes_from blocks mdb extents place count
 
--- behind what is read stands what stood behind the place, but for so many bytes
+-- what is read is followed by what was after the place, except for so many bytes
 abbrev pub HasPassed : (ℕ → List ℕ) → Mdb → List Extent → ForkPlace → ℕ → Vec ℕ Global × ForkPlace → Type 0
 HasPassed blocks mdb extents place count = λ read. bytes_behind blocks mdb extents read.1 ≡ drop count (bytes_behind blocks mdb extents place)

@@ -24,7 +24,7 @@ use Rattle.hfs_fields.specs.declared.file_record.FileRecord.{FileRecord}
 abbrev pub is_of_fork : ℕ → ℕ → ExtKey × List ℕ → Bool
 is_of_fork file fork r = (r.0.file == file) && (r.0.fork == fork)
 
--- the record stands before those of this fork
+-- the record precedes those of this fork
 abbrev pub is_before_fork : ℕ → ℕ → ExtKey × List ℕ → Bool
 is_before_fork file fork r = nat_lt r.0.file file || ((r.0.file == file) && nat_lt r.0.fork fork)
 
@@ -66,7 +66,7 @@ abbrev pub AddsUses : Overflow → List Fork → List Bool → List Bool → Typ
 AddsUses overflow forks old new =
     (k : ℕ) (d : ExtKey × List ℕ) (b : Bool) → k < length overflow → slice_index_or new k b ≡ (slice_index_or old k b || goes_on_with overflow forks (slice_index_or overflow k d))
 
--- the marks say of each record of the extents tree whether one of these forks goes on with it
+-- the marks say about each record of the extents tree whether one of these forks goes on with it
 abbrev pub AreMarks : Overflow → List Fork → List Bool → Type 0
 AreMarks overflow forks marks =
     (k : ℕ) (d : ExtKey × List ℕ) (b : Bool) → k < length overflow → slice_index_or marks k b ≡ goes_on_with overflow forks (slice_index_or overflow k d)
@@ -83,7 +83,7 @@ extents_of_files overflow files = flat_map (extents_in overflow) (forks_in files
 abbrev pub file_at : ℕ → List ℕ → CatalogFile
 file_at number body = record { number = number; file = file_record_of body }
 
--- the first n records stand before those of this fork
+-- the first n records precede those of this fork
 abbrev pub StandBefore : Overflow → ℕ → ℕ → ℕ → Type 0
 StandBefore overflow file fork n = (k : ℕ) (d : ExtKey × List ℕ) → k < n → is_of_fork file fork (slice_index_or overflow k d) ≡ false
 
@@ -96,7 +96,7 @@ StandBehind overflow file fork n =
 abbrev pub AddsRun : Overflow → ℕ → ForkKind → List Extent → List Bool → List Bool → Type 0
 AddsRun overflow file kind first old new = AddsMarks overflow (run_of_fork file (fork_byte kind) first overflow) old new
 
--- behind the old extents, those of a fork whose record has these first ones
+-- after the old extents, those of a fork whose record has these first ones
 abbrev pub AddsFork : Overflow → ℕ → ForkKind → List Extent → Vec Extent Global → Vec Extent Global → Type 0
 AddsFork overflow file kind first old new = new.items ≡ old.items ++ fork_extents overflow file (fork_byte kind) first
 

@@ -6,13 +6,13 @@ use Rattle.hfs_space.specs.Bitmap.{bitmap_len, is_used, clear_count}
 use Rattle.hfs_space.specs.Extents.{extent_blocks}
 use Rattle.hfs_space.specs.Owners.{owners}
 
--- none of these blocks stands twice, and each is marked
+-- none of these blocks is there twice, and each is marked
 pub record AreAlone (blocks : ℕ → List ℕ) (start : ℕ) (freed : List ℕ) : Type 0 where
   pub once : (b : ℕ) → owners freed b ≤ 1
   pub used : (b : ℕ) → 0 < owners freed b → is_used blocks start b ≡ true
 
--- The bits of these allocation blocks are clear. No other bit of the bitmap has changed, nor any block beside it. Where the blocks
--- stood alone, so many more bits are clear.
+-- The bits of these allocation blocks are clear. No other bit of the bitmap has changed, nor any block outside it. Where the blocks
+-- are alone (`AreAlone`), so many more bits are clear.
 pub record HasReleased (start total : ℕ) (freed : List ℕ) (old new : ℕ → List ℕ) : Type 0 where
   pub clear : (b : ℕ) → 0 < owners freed b → is_used new start b ≡ false
   pub others : (b : ℕ) → owners freed b ≡ 0 → is_used new start b ≡ is_used old start b

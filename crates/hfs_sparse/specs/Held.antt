@@ -32,7 +32,7 @@ pub record AreHeld (held : Held) : Type 0 where
 abbrev pub SameBehind : ℕ → List ℕ → List ℕ → Type 0
 SameBehind place old new = (k : ℕ) → place ≤ k → block_at new k ≡ block_at old k
 
--- block n is one of so many from a number on, and was put in from its place behind another
+-- block n is one of so many from a number on, and was put in from its place after another
 pub record IsPutIn (first count place : ℕ) (raw : List ℕ) (new : Numbered) (n : ℕ) : Type 0 where
   pub k : ℕ
   pub few : k < count
@@ -55,6 +55,6 @@ HasNone first count read = (k : ℕ) → k < count → changes read (first + k) 
 abbrev pub HasSame : Numbered → Numbered → Type 0
 HasSame old new = changes new ≡ changes old
 
--- where the image's bytes are known, so many of its blocks from a number on stand from this place on
+-- where the image's bytes are known, so many of its blocks from a number on are from this place on
 abbrev pub HoldsBlocks : Option (List ℕ) → ℕ → ℕ → ℕ → List ℕ → Type 0
 HoldsBlocks known first count place bytes = IfSome known (λ image. (k : ℕ) → k < count → block_at bytes (place + k) ≡ block_at image (first + k))

@@ -1,4 +1,4 @@
--- What is said of each image that has the bytes which were read.
+-- What is said about each image that has the bytes which were read.
 use Rattle.std.specs.Prelude.{ℕ, List, Option, Some}
 use Rattle.hfs_source.specs.Images.{OfEach}
 use Rattle.hfs_blocks.specs.Layers.{Numbered}
@@ -18,6 +18,6 @@ EachKnown Holds Fact = OfEach Holds (λ image. Fact (Some image))
 abbrev pub IsSeen : (List ℕ → Type 0) → Numbered → Type 0
 IsSeen Holds read = OfEach Holds (λ image. IsOf image read)
 
--- so many blocks from a number on of each image that holds stand from this place on
+-- so many blocks from a number on of each image that holds are from this place on
 abbrev pub SeesBlocks : (List ℕ → Type 0) → ℕ → ℕ → ℕ → List ℕ → Type 0
 SeesBlocks Holds first count place bytes = EachKnown Holds (λ known. HoldsBlocks known first count place bytes)

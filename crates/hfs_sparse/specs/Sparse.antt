@@ -24,7 +24,7 @@ sparse read = over (changes read) (λ _. zero_block)
 abbrev pub HasEach : Numbered → List ℕ → Type 0
 HasEach read numbers = Each (λ n. IsSome (changes read n)) numbers
 
--- so many blocks from a number on were read, at least one and at most as many as were wanted
+-- so many blocks from a number on were read, at least one and at most as many as were needed
 abbrev pub HasSome : Numbered → ℕ → ℕ → ℕ → Type 0
 HasSome read first most count = (1 ≤ count) × (count ≤ most) × HasEach read (range_with_len first count)
 
@@ -48,6 +48,6 @@ HoldsFrom known place bytes = IfSome known (λ all. bytes ≡ take (length bytes
 abbrev pub HoldsRuns : Option (List ℕ) → List Run → Vec ℕ Global → Type 0
 HoldsRuns known runs = λ bytes. IfSome known (λ image. bytes.items ≡ flat_map (block_at image) (flat_map run_of runs))
 
--- where the image's bytes are known, behind the old bytes those of `count` blocks from `first` on
+-- where the image's bytes are known, after the old bytes those of `count` blocks from `first` on
 abbrev pub AddsRange : Option (List ℕ) → ℕ → ℕ → Vec ℕ Global → Vec ℕ Global → Type 0
 AddsRange known first count old new = IfSome known (λ image. new.items ≡ old.items ++ flat_map (block_at image) (range_with_len first count))

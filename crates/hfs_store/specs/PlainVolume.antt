@@ -1,4 +1,4 @@
--- The volume that a `PlainVolume` stands for.
+-- The volume that a `PlainVolume` represents.
 use Rattle.std.specs.Prelude.{◌≡◌, ℕ, ◌+◌, ◌≤◌, List, [], ◌∷◌, length, slice_index_or, take, Bool, false, ◌++◌, drop, Result, IfOk}
 use Rattle.std.specs.FinMap as map
 use Rattle.hfs_store.specs.declared.plain_volume.PlainVolume.TheInside.{Inside}

@@ -3,7 +3,7 @@ use Rattle.std.specs.Prelude.{Bool, true, false}
 use Rattle.hfs_model.specs.declared.call.Call.{Call}
 use Rattle.hfs_model.specs.declared.call.Call.TheVariants as call
 
--- whether the call sets what is told of an item: its Finder bytes, its dates or its lock
+-- whether the call sets what is said about an item: its Finder bytes, its dates or its lock
 abbrev pub is_setting : Call → Bool
 is_setting (call.GetDirInfo dir) = false
 is_setting (call.GetCatInfo dir name) = false

@@ -1,4 +1,4 @@
--- What stands in a field of the table, and how it is written.
+-- What is in a field of the table, and how it is written.
 use Rattle.std.specs.Prelude.{ℕ, Bool, true, false, List, [], codes}
 use Rattle.std.specs.Fmt.{decimal}
 use Rattle.json.specs.Token as json
@@ -10,7 +10,7 @@ pub data Cell : Type 0 where
   empty : Cell
   -- the names that lead to an item, from the root's down
   path : List (List ℕ) → Cell
-  -- bytes that stand for characters
+  -- bytes that mean characters
   characters : List ℕ → Cell
   -- a text that is written as it is
   word : List ℕ → Cell

@@ -1,4 +1,4 @@
--- The columns of the table, and what stands in them of an item.
+-- The columns of the table, and what is in them of an item.
 use Rattle.std.specs.Prelude.{ℕ, ◌==◌, if◌then◌else◌, List, [], ◌∷◌, take, drop, codes}
 use Rattle.hfs_model.specs.declared.reply.Info.{Info}
 use Rattle.hfs_model.specs.declared.reply.ItemKind.{ItemKind}
@@ -37,7 +37,7 @@ abbrev pub kind_word : ItemKind → List ℕ
 kind_word Folder = codes "folder"
 kind_word File = codes "file"
 
--- what stands of a file alone
+-- what only a file has
 abbrev pub of_file : ItemKind → Cell → Cell
 of_file Folder cell = empty
 of_file File cell = cell
@@ -50,7 +50,7 @@ of_folder File cell = empty
 abbrev pub moment_cell : ℕ → Cell
 moment_cell date = if date == 0 then empty else word (moment date)
 
--- what stands in a column of an item, to which these names lead. Of the Finder's bytes the first four are a file's type, the next
+-- what is in a column of an item, to which these names lead. Of the Finder's bytes the first four are a file's type, the next
 -- its creator, and bytes 8 and 9 flags.
 abbrev pub cell : Column → List (List ℕ) → Info → Cell
 cell column.Path names info = path names

@@ -62,7 +62,7 @@ bag_end path = codes "," ++ csv_field path ++ codes "\r\n"
 abbrev pub bag_line : List (List ℕ) → Info → List ℕ
 bag_line names info = csv_fields names info ++ bag_end (bag_path names)
 
--- the fields of columns, each behind a comma
+-- the fields of columns, each after a comma
 abbrev fields_behind : List Column → List (List ℕ) → Info → List ℕ
 fields_behind columns names info = flat_map (λ column. codes "," ++ csv_field (field_text names info column)) columns
 
@@ -96,7 +96,7 @@ json_line names info = print (object names info) ++ codes "\n"
 
 -- ---- any format
 
--- what stands before the first row
+-- what precedes the first row
 abbrev pub head_text : Format → List ℕ
 head_text format.Tab = []
 head_text format.Csv = csv_head

@@ -12,7 +12,7 @@ use Rattle.hfs_table.specs.declared.format.Format.{Format}
 use Rattle.hfs_table.specs.declared.format.Format.TheVariants as format
 use Rattle.hfs_table.specs.Lines.{field_text, member, own_fields}
 
--- ---- the columns that it tells
+-- ---- the columns that it has
 
 -- those before the column of a file's ID
 abbrev pub before_file_id : List Column
@@ -22,13 +22,13 @@ before_file_id = variant.Kind ∷ variant.Id ∷ variant.Parent ∷ variant.Type
 abbrev pub dates : List Column
 dates = variant.Created ∷ variant.Modified ∷ variant.Backup ∷ []
 
--- those behind that
+-- those after that
 abbrev pub behind_items : List Column
 behind_items = variant.DataBytes ∷ variant.ResourceBytes ∷ variant.Finder ∷ []
 
 -- ---- with tabs
 
--- the fields of columns, each behind a tab
+-- the fields of columns, each after a tab
 abbrev pub tabbed_fields : List Column → List (List ℕ) → Info → List ℕ
 tabbed_fields columns names info = flat_map (λ (column : Column). codes "\t" ++ field_text names info column) columns
 
@@ -52,14 +52,14 @@ path_value (name ∷ names) = cell_value (path (name ∷ names))
 abbrev pub path_member : List (List ℕ) → List json.Token
 path_member names = json.key (column_name variant.Path) ∷ path_value names ∷ []
 
--- the member of a column of which nothing is told
+-- the member of a column of which nothing is said
 abbrev pub null_member : Column → List json.Token
 null_member column = json.key (column_name column) ∷ json.null ∷ []
 
 abbrev pub members : List Column → List (List ℕ) → Info → List json.Token
 members columns names info = flat_map (member names info) columns
 
--- the members behind that of the path, in the order of the columns
+-- the members after that of the path, in the order of the columns
 unfoldable pub own_members : List (List ℕ) → Info → List json.Token
 own_members names info =
     members before_file_id names info ++ null_member variant.FileId ++ members dates names info ++ null_member variant.Items ++ members behind_items names info

@@ -1,4 +1,4 @@
--- The columns of a collection's tables as text: their names, and where their values come from.
+-- The columns of a collection's tables as text: their names, and where their values are from.
 use Rattle.std.specs.Prelude.{ℕ, List, [], ◌∷◌, codes}
 use Rattle.hfs_rows.specs.declared.value.Table.{Table}
 use Rattle.hfs_rows.specs.declared.value.Table.TheVariants as table
@@ -8,7 +8,7 @@ use Rattle.hfs_text_rows.specs.declared.column.Label.TheVariants as label
 use Rattle.hfs_text_rows.specs.declared.column.Origin.{Origin}
 use Rattle.hfs_text_rows.specs.declared.column.Origin.TheVariants.{ImagePath, ImageDigest, VolumeNumber, Row}
 
--- a column: its name, and where its value comes from
+-- a column: its name, and where its value is from
 pub record Named : Type 0 where
   pub name : List ℕ
   pub origin : Origin
@@ -43,7 +43,7 @@ item_columns =
     column (codes "resource_bytes") (Row 16) ∷ column (codes "finder") (Row 17) ∷ column (codes "data_sha256") (Row 18) ∷ column (codes "resource_sha256") (Row 19) ∷
     column (codes "data_verdict") (Row 20) ∷ column (codes "resource_verdict") (Row 21) ∷ []
 
--- the keys of the image, and whether all its rows came
+-- the keys of the image, and whether all its rows were given
 unfoldable pub end_columns : List Named
 end_columns =
     column (codes "image_path") ImagePath ∷ column (codes "image_sha256") ImageDigest ∷ column (codes "whole") (Row 0) ∷ []

@@ -14,7 +14,7 @@ use Rattle.hfs_text_rows.specs.Keys.{cell}
 
 -- ---- JSON
 
--- nothing is null, a number stands bare
+-- nothing is null, a number is bare
 abbrev pub value_token : RowValue → json.Token
 value_token Empty = json.null
 value_token (Number n) = json.number (decimal n)
@@ -24,7 +24,7 @@ value_token (Text text) = json.string text
 abbrev pub member : Keys → List RowValue → Named → List json.Token
 member keys values column = json.key column.name ∷ value_token (cell keys values column.origin) ∷ []
 
--- the member that says of which table a line is, where it is asked for
+-- the member that says about which table a line is, where it is asked for
 abbrev pub table_member : Option Label → List json.Token
 table_member None = []
 table_member (Some label) = json.key (codes "table") ∷ json.string (label_name label) ∷ []
@@ -39,7 +39,7 @@ json_line label columns keys values = print (object label columns keys values) +
 
 -- ---- CSV
 
--- a field: nothing is empty, a number stands bare, a text between quotation marks, with those that it holds twice
+-- a field: nothing is empty, a number is bare, a text between quotation marks, with those that it holds twice
 abbrev pub field : RowValue → List ℕ
 field Empty = []
 field (Number n) = decimal n

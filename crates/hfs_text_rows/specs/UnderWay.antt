@@ -8,7 +8,7 @@ use Rattle.hfs_text_rows.specs.declared.keys.Keys.{Keys}
 use Rattle.hfs_text_rows.specs.Keys.{keys_behind, no_keys}
 use Rattle.hfs_text_rows.specs.Texts.{rows_text}
 
--- since a writer had the first of these bytes it was given a beginning of the rows' text, and has the second; unless a fault came, this
+-- since a writer had the first of these bytes it was given a beginning of the rows' text, and has the second; unless there was a fault, this
 -- text is the rest, and the keys are those of the rows
 pub record IsUnderWay (start now : Option (List ℕ)) (text : List ℕ) (form : Form) (keys : Keys) (rows : List TakenRow) (failed : Bool) : Type 0 where
   pub front : List ℕ
@@ -28,7 +28,7 @@ pub record Moves (old new : Option (List ℕ)) (text left : List ℕ) : Type 0 w
   pub text_is : text ≡ piece ++ left
   pub written : Appends old new piece
 
--- a first part of a text went out, and behind the rest of it came a line
+-- a first part of a text was written, and the rest of it was followed by a line
 pub record PutsLine (old new : Option (List ℕ)) (text left line : List ℕ) : Type 0 where
   pub piece : List ℕ
   pub kept : List ℕ

@@ -1,4 +1,4 @@
--- The text of an answer: what a worker or viewer is told of one of its calls.
+-- The text of an answer: what a worker or viewer is answered to one of its calls.
 use Rattle.std.specs.Prelude.{ℕ, Bool, true, false, List, [], ◌∷◌, ◌++◌, length, codes}
 use Rattle.std.specs.List.{flat_map}
 use Rattle.std.specs.Fmt.{decimal, signed_decimal}
@@ -39,7 +39,7 @@ unfoldable pub item_text : Info → List ℕ
 item_text info = kind_text info.kind ++ place_text info ++ spaced (flag_text info.locked) ++ spaced (flag_text info.has_id)
     ++ size_text info.kind info ++ spaced (hex_text info.finder) ++ spaced (item_name_text info.name)
 
--- an item on a line of its own, behind a tab
+-- an item on a line of its own, after a tab
 unfoldable pub listed_item : Info → List ℕ
 listed_item info = codes "\n\t" ++ item_text info
 
@@ -51,7 +51,7 @@ unfoldable pub bytes_text : List ℕ → List ℕ
 bytes_text [] = []
 bytes_text (byte ∷ bytes) = spaced (hex_text (byte ∷ bytes))
 
--- a value, and behind a list its items; nodes of either tree are told alike
+-- a value, and after a list its items; nodes of either tree are written alike
 unfoldable pub value_text : Value → List ℕ
 value_text Nothing = codes "-"
 value_text (Id id) = codes "id" ++ spaced (decimal id)

@@ -1,4 +1,4 @@
--- What is said of a fork, and the line that the table has for an item.
+-- What is said about a fork, and the line that the table has for an item.
 use Rattle.std.specs.Prelude.{ℕ, Bool, false, ◌&&◌, ◌==◌, not, if◌then◌else◌, List, [], ◌∷◌, ◌++◌, codes, Option, Some, None}
 use Rattle.std.specs.Fmt.{decimal}
 use Rattle.std.specs.List.{join_by}
@@ -42,11 +42,11 @@ is_whole (Taken finding) = finds_nothing finding
 
 -- ---- lines
 
--- what is said of the data fork and of the resource fork; a folder has none
+-- what is said about the data fork and of the resource fork; a folder has none
 abbrev pub forks_text : Option (Verdict × Verdict) → List ℕ
 forks_text None = codes "-\t-"
 forks_text (Some forks) = verdict_text forks.0 ++ codes "\t" ++ verdict_text forks.1
 
--- the path below the payload, the item's number, its ID, and what is said of its forks
+-- the path below the payload, the item's number, its ID, and what is said about its forks
 abbrev pub row_text : List ℕ → ℕ → ℕ → Option (Verdict × Verdict) → List ℕ
 row_text path number id forks = path ++ codes "\t" ++ decimal number ++ codes "\t" ++ decimal id ++ codes "\t" ++ forks_text forks ++ codes "\n"

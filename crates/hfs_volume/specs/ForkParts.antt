@@ -28,7 +28,7 @@ IsForkOf mdb extents file kind fork = IsForkSound mdb (overflow_of extents) (for
 abbrev pub bytes_of_fork : Blocks → Mdb → Store → ℕ → ForkKind → ForkRecord → List ℕ
 bytes_of_fork blocks mdb extents file kind fork = fork_bytes blocks mdb (fork_extents (overflow_of extents) file (fork_byte kind) fork.extents) fork.length
 
--- the reply of these bytes of a fork of len bytes, which were read from an offset on: -39 where count of them end behind it
+-- the reply of these bytes of a fork of len bytes, which were read from an offset on: -39 where count of them end past its end
 abbrev pub part_reply : List ℕ → ℕ → ℕ → ℕ → Reply
 part_reply bytes len offset count = record { code = if nat_lt len (offset + count) then END_OF_FILE else pos 0; value = value.Bytes bytes }
 

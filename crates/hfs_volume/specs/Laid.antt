@@ -3,7 +3,7 @@ use Rattle.std.specs.Prelude.{ℕ, zero, suc, List, ◌++◌, drop}
 use Rattle.hfs_blocks.specs.Blocks.{block_at, block_count}
 use Rattle.hfs_blocks.specs.Layers.{Changes, over}
 
--- c blocks, the first of number n, and then what the bytes have behind as many
+-- c blocks, the first of number n, and then what the bytes have after as many
 unfoldable pub laid_from : (ℕ → List ℕ) → ℕ → ℕ → List ℕ → List ℕ
 laid_from blocks zero n bytes = bytes
 laid_from blocks (suc c) n bytes = blocks n ++ laid_from blocks c (suc n) (drop 512 bytes)

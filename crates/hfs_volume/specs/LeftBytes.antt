@@ -13,7 +13,7 @@ use Rattle.hfs_volume.specs.Image.{ImageValue}
 abbrev pub left_bytes : ImageValue → Mdb → List Extent → ForkPlace → ℕ → List ℕ
 left_bytes image mdb extents place left = take left (bytes_behind (block_at image.current) mdb extents place)
 
--- its extents lie in the image, and there are so many bytes behind the place
+-- its extents lie in the image, and there are so many bytes after the place
 pub record IsOpenFork (image : ImageValue) (mdb : Mdb) (extents : List Extent) (place : ForkPlace) (left : ℕ) : Type 0 where
   pub area : HasArea mdb (block_count image.current)
   pub within : AreExtentsWithin mdb.allocation_blocks extents

@@ -18,7 +18,7 @@ use Rattle.hfs_check.specs.Agree.{AgreesBut}
 use Rattle.hfs_check.specs.Sound.{IsSound}
 use Rattle.hfs_volume.specs.Image.{ImageValue}
 
--- the base is sound, and the current image agrees with it but for the blocks of forks that were written, and so is sound, too; this is its master directory block, and in these runs of blocks, which are those
+-- the base is sound, and the current image agrees with it except for the blocks of forks that were written, and so is sound, too; this is its master directory block, and in these runs of blocks, which are those
 -- with the right numbers, lie the nodes of its extents tree and of its catalog
 pub record IsMounted (image : ImageValue) (mdb : Mdb) (extents catalog : List Run) : Type 0 where
   pub base : IsSound image.base
@@ -35,7 +35,7 @@ pub record IsMounted (image : ImageValue) (mdb : Mdb) (extents catalog : List Ru
 abbrev pub AreForksIn : Blocks → FileRecord → Type 0
 AreForksIn blocks file = Each (IsForkSound (mdb_in blocks) (overflow_in blocks)) (forks_of_file file)
 
--- what a file's record says of one of its forks
+-- what a file's record says about one of its forks
 abbrev pub fork_record : Fork → FileRecord → ForkKind × ForkRecord
 fork_record DataFork file = (Data, file.«data»)
 fork_record ResFork file = (Resource, file.resource)

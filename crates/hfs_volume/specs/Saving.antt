@@ -19,7 +19,7 @@ WritesFirst contents old new bytes n = HasWritten (contents old) (contents new) 
 abbrev pub BreaksOff : {T W : Type 0} → Result T SaveFault → (W → Option (List ℕ)) → W → W → List ℕ → Type 0
 BreaksOff result contents old new bytes = IfErr result (λ fault. WritesFirst contents old new bytes fault.written)
 
--- what fails behind so many blocks has written the first of these bytes, and its fault counts those blocks, too
+-- what fails after so many blocks has written the first of these bytes, and its fault counts those blocks, too
 abbrev pub BreaksOffBehind : {T W : Type 0} → ℕ → Result T SaveFault → (W → Option (List ℕ)) → W → W → List ℕ → Type 0
 BreaksOffBehind n result contents old new bytes =
     IfErr result (λ fault. (512 * n ≤ fault.written) × WritesFirst contents old new bytes (fault.written - 512 * n))

@@ -1,4 +1,4 @@
--- What those who read beside the writer take from a mounted volume.
+-- What those who read next to the writer take from a mounted volume.
 use Rattle.std.specs.Prelude.{◌≡◌, ℕ, IsTrue, List, length, take, Some}
 use Rattle.std.proofs.Common.{Vec, Global}
 use Rattle.hfs_fields.specs.declared.extent.Extent.{Extent}

@@ -58,7 +58,7 @@ abbrev pub written_runs : Option ForkBlocks → List Run
 written_runs None = []
 written_runs (Some fork) = fork.runs.items
 
--- the blocks that an edit wrote are behind those that were written before
+-- the blocks that an edit wrote are after those that were written before
 abbrev pub AreWrittenBy : Result Change Refusal → ImageValue → ImageValue → Type 0
 AreWrittenBy (Ok change) old new = new.written ≡ old.written ++ written_blocks change.written
 AreWrittenBy (Err refusal) old new = new.written ≡ old.written
@@ -116,7 +116,7 @@ AreServed image (c ∷ cs) [] last = ⊥
 AreServed image (c ∷ cs) (reply ∷ replies) last =
     (next : ImageValue) × IsMade image.current c reply next.current × HasWrittenBlocks c image next × AreServed next cs replies last
 
--- so it is of the first of the calls, so many, and the new image is the one that they leave, but for the blocks that it keeps as changed
+-- so it is of the first of the calls, so many, and the new image is the one that they leave, except for the blocks that it keeps as changed
 pub record AreFirstServed (cs : List Call) (old new : ImageValue) : Type 0 where
   pub count : ℕ
   pub within : count ≤ length cs

@@ -1,4 +1,4 @@
--- Images beside what a collection has of them.
+-- Images compared with what a collection has of them.
 use Rattle.std.specs.Prelude.{◌≡◌, ◌≢◌, ◌⊎◌, ℕ, List, [], ◌∷◌, length, Option, Some, None}
 use Rattle.hex.specs.Hex.{encode_lower}
 use Rattle.sha2.specs.Sha256.{sha256}
@@ -16,29 +16,29 @@ use Rattle.hfs_word_collect.specs.Answers.{database_fault}
 use Rattle.hfs_word_collect.specs.declared.fault.RunFault.{RunFault}
 use Rattle.hfs_word_collect.specs.declared.fault.RunFault.TheVariants as run
 
--- a file with these bytes is told of by its length and its digest, unless it could not be read
+-- a file with these bytes is described by its length and its digest, unless it could not be read
 abbrev pub IsCompared : KnownImage → Comparison → List ℕ → Type 0
 IsCompared known found file = found ≢ Missing → found ≡ comparison known (length file) (encode_lower (sha256 file))
 
--- it is told by some length and some digest, unless the file could not be read
+-- it is described by some length and some digest, unless the file could not be read
 abbrev pub IsComparison : KnownImage → Comparison → Type 0
 IsComparison known found = found ≢ Missing → ∥ ((len : ℕ) × (digits : List ℕ) × (found ≡ comparison known len digits)) ∥₁
 
--- what the database has of the image decides which words are told of a file
+-- what the database has of the image decides which words are printed of a file
 abbrev pub IsComparisonTo : Option KnownImage → Comparison → Type 0
 IsComparisonTo (Some known) found = IsComparison known found
 IsComparisonTo None found = found ≡ New
 
--- the database was asked for the image of this path, and that decides which words are told, unless the file could not be read
+-- the database was asked for the image of this path, and that decides which words are printed, unless the file could not be read
 abbrev pub IsAsked : State → State → List ℕ → Comparison → Type 0
 IsAsked old new path found = found ≢ Missing → ∥ ((known : Option KnownImage) × IsKnown old new path known × IsComparisonTo known found) ∥₁
 
--- a file with these bytes stands so to what the database has of the image
+-- a file with these bytes compares so with what the database has of the image
 abbrev pub IsComparedTo : Option KnownImage → Comparison → List ℕ → Type 0
 IsComparedTo (Some known) found file = IsCompared known found file
 IsComparedTo None found file = found ≡ New
 
--- the database was asked for the image of this path, and a file with these bytes stands so to what it has
+-- the database was asked for the image of this path, and a file with these bytes compares so with what it has
 abbrev pub IsComparedIn : State → State → List ℕ → Comparison → List ℕ → Type 0
 IsComparedIn old new path found file = found ≢ Missing → ∥ ((known : Option KnownImage) × IsKnown old new path known × IsComparedTo known found file) ∥₁
 

@@ -1,4 +1,4 @@
--- Files that are lent, as those that came out of pipes.
+-- Files that are lent, such as those from pipes.
 use Rattle.std.specs.Prelude.{◌≡◌, ⊤, Option, None, Some, IfSome, IsSomeAnd}
 use Rattle.hfs_commands.specs.declared.opened_file.StoredFile.{StoredFile}
 use Rattle.hfs_commands.specs.OpenedFiles.{stored_bytes}

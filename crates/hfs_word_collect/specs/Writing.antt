@@ -6,11 +6,11 @@ use Rattle.hfs_texts.specs.Writing.{AppendsFront}
 use Rattle.hfs_text_rows.specs.declared.form.Form.{Form}
 use Rattle.hfs_text_rows.specs.Texts.{image_text}
 
--- the lines of these rows were written, and behind them that the image is whole
+-- the lines of these rows were written, and after them that the image is whole
 abbrev pub WritesWhole : Option (List ℕ) → Option (List ℕ) → Form → List TakenRow → Type 0
 WritesWhole old new form rows = Appends old new (image_text form rows true)
 
--- the lines of some of these rows, from the first on, and behind them that the image isn't whole
+-- the lines of some of these rows, from the first on, and after them that the image isn't whole
 abbrev pub WritesSome : Option (List ℕ) → Option (List ℕ) → Form → List TakenRow → Type 0
 WritesSome old new form rows = ∥ ((some : List TakenRow) × IsBeginning some rows × Appends old new (image_text form some false)) ∥₁
 
