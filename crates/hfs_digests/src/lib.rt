@@ -5,4 +5,4 @@ mod writer;
 mod written;
 
 pub use crate::writer::DigestWriter;
-pub use crate::written::{Piece, Written};
+pub use crate::written::{WrittenPiece, Written};

@@ -2,7 +2,7 @@
 ghost use Rattle.std.specs.Prelude.{◌≡◌, ◌++◌, [], Some};
 ghost use Rattle.sha2.specs.Sha256.{sha256};
 
-use crate::written::{Piece, Written};
+use crate::written::{WrittenPiece, Written};
 use sha2::{Digest, Sha256};
 use std::io;
 use std::io::Write;
@@ -43,7 +43,7 @@ impl DigestWriter {
         ensures { self.new ≡ self.old ++ bytes.now }
     {
         self.digest.update(bytes);
-        self.written = self.written.then(&Piece { bytes });
+        self.written = self.written.then(&WrittenPiece { bytes });
     }
 
     /// The digest of everything that it was given.

@@ -16,7 +16,7 @@ impl Model for Written {
 
 /// Bytes, as one call gives them.
 #[derive(Clone, Copy, Drop)]
-pub struct Piece<'a> {
+pub struct WrittenPiece<'a> {
     pub bytes: &'a [u8],
 }
 
@@ -31,7 +31,7 @@ impl Written {
     }
 
     /// The list with these bytes appended.
-    pub fn then(&self, _piece: &Piece<'_>) -> Written
+    pub fn then(&self, _piece: &WrittenPiece<'_>) -> Written
         ensures { result.bytes ≡ with_piece self.now.bytes _piece.now }
     {
         Written {}
