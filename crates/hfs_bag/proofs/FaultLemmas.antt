@@ -1,8 +1,8 @@
 -- Faults that are passed on.
 use Rattle.std.proofs.Common.{◌≡◌, ◌+◌, ℕ, List, [], ap, ◌∙◌, inl, inr, arith}
 use Rattle.std.specs.Prelude.{⊤}
-use Rattle.hfs_shelves.specs.declared.fault.ShelfFault.{ShelfFault}
-use Rattle.hfs_shelves.specs.Entries.{ShelfEntry}
+use Rattle.hfs_bag.specs.declared.shelf_fault.ShelfFault.{ShelfFault}
+use Rattle.hfs_bag.specs.Entries.{ShelfEntry}
 use Rattle.hfs_bag.specs.declared.facts.BagFacts.{BagFacts}
 use Rattle.hfs_bag.specs.declared.fault.BagFault.{BagFault}
 use Rattle.hfs_bag.specs.declared.fault.BagFault.TheVariants as bag

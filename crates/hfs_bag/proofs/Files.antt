@@ -1,7 +1,7 @@
 -- Files that are made of a head and a stream.
 use Rattle.std.proofs.Common.{◌≡◌, ℕ, List, [], ◌++◌, Option, ap, ◌∙◌, subst}
-use Rattle.hfs_shelves.specs.Entries.{ShelfEntry, with_file, with_piece, IsBeginning}
-use Rattle.hfs_shelves.proofs.Beginnings.{begins_longer, with_piece-last}
+use Rattle.hfs_bag.specs.Entries.{ShelfEntry, with_file, with_piece, IsBeginning}
+use Rattle.hfs_bag.proofs.Beginnings.{begins_longer, with_piece-last}
 use Rattle.hfs_bag.specs.Filling.{with_dated_file}
 
 -- the file was not made

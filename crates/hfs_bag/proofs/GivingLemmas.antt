@@ -2,7 +2,7 @@
 use Rattle.std.proofs.Common.{◌≡◌, ℕ, ◌+◌, List, [], ◌∷◌, ◌++◌, length, map, refl, sym, ap, ◌∙◌, subst, append_assoc, append-nil, add_assoc, add-zero, zero-add}
 use Rattle.std.proofs.lemmas.List.{map-append}
 use Rattle.std.proofs.lemmas.List.Concat.{flat_map-append}
-use Rattle.hfs_shelves.specs.Entries.{ShelfEntry, folder, file, IsBeginning}
+use Rattle.hfs_bag.specs.Entries.{ShelfEntry, folder, file, IsBeginning}
 use Rattle.hfs_bag.specs.declared.item.BagHead.{BagHead}
 use Rattle.hfs_bag.specs.declared.item.ItemDigests.{ItemDigests}
 use Rattle.hfs_bag.specs.Items.{BagItem, item_digests, item_entries}

@@ -1,7 +1,7 @@
 -- Lists that a shelf was given by one call behind another.
 use Rattle.std.proofs.Common.{◌≡◌, ℕ, List, ◌++◌, sym, ap, ◌∙◌, subst, append_assoc, Result, Ok, Err, OnErr}
-use Rattle.hfs_shelves.specs.Entries.{ShelfEntry, IsBeginning}
-use Rattle.hfs_shelves.proofs.Beginnings.{begins_appended, begins_before}
+use Rattle.hfs_bag.specs.Entries.{ShelfEntry, IsBeginning}
+use Rattle.hfs_bag.proofs.Beginnings.{begins_appended, begins_before}
 use Rattle.hfs_source.specs.Images.{OfEach}
 
 -- nothing of what is to come was given

@@ -1,6 +1,6 @@
 -- Bags by their halves: the payload, and the tag files behind it.
 use Rattle.std.proofs.Common.{◌≡◌, List, ◌++◌, ap, subst, ◌∙◌}
-use Rattle.hfs_shelves.specs.Entries.{ShelfEntry, IsBeginning}
+use Rattle.hfs_bag.specs.Entries.{ShelfEntry, IsBeginning}
 use Rattle.hfs_bag.specs.declared.facts.BagFacts.{BagFacts}
 use Rattle.hfs_bag.specs.Items.{BagItem}
 use Rattle.hfs_bag.specs.Bags.{payload}

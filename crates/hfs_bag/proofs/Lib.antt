@@ -1,3 +1,9 @@
+pub mod Walks
+pub mod Beginnings
+pub mod FolderLemmas
+pub mod RemovalLemmas
+pub mod PlacingLemmas
+mod StoredLemmas
 pub mod Moves
 pub mod Files
 pub mod Growing
@@ -8,3 +14,9 @@ pub mod HalfLemmas
 pub mod FaultLemmas
 pub mod PathLemmas
 pub mod ForkLemmas
+mod Digests
+pub mod FailLemmas
+mod HeadLemmas
+mod Alike
+mod PartLemmas
+pub mod Picking

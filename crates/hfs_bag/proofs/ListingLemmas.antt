@@ -1,8 +1,8 @@
 -- Lines of manifests that go to a shelf one behind another.
 use Rattle.std.proofs.Common.{◌≡◌, ℕ, List, [], ◌∷◌, ◌++◌, Option, Some, None, map, refl, sym, ap, ◌∙◌, subst, append_assoc, append-nil}
 use Rattle.std.proofs.lemmas.List.Concat.{flat_map-append}
-use Rattle.hfs_shelves.specs.Entries.{ShelfEntry, with_piece, IsBeginning}
-use Rattle.hfs_shelves.proofs.Beginnings.{with_piece-none, with_piece-twice, begins_longer_piece}
+use Rattle.hfs_bag.specs.Entries.{ShelfEntry, with_piece, IsBeginning}
+use Rattle.hfs_bag.proofs.Beginnings.{with_piece-none, with_piece-twice, begins_longer_piece}
 use Rattle.hfs_bag.specs.declared.item.BagHead.{BagHead}
 use Rattle.hfs_bag.specs.declared.item.BagKind.{BagKind}
 use Rattle.hfs_bag.specs.declared.item.BagKind.TheVariants as kind

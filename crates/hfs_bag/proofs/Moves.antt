@@ -1,7 +1,7 @@
 -- Pieces of a stream that go to a shelf and to a digest.
 use Rattle.std.proofs.Common.{◌≡◌, ℕ, List, [], ◌++◌, refl, sym, ap, ◌∙◌, subst, append_assoc, append-nil}
-use Rattle.hfs_shelves.specs.Entries.{ShelfEntry, with_piece, IsBeginning}
-use Rattle.hfs_shelves.proofs.Beginnings.{with_piece-none, with_piece-twice, begins_longer_piece}
+use Rattle.hfs_bag.specs.Entries.{ShelfEntry, with_piece, IsBeginning}
+use Rattle.hfs_bag.proofs.Beginnings.{with_piece-none, with_piece-twice, begins_longer_piece}
 use Rattle.hfs_bag.specs.Sources.{SourceState, SameItems, HasRead}
 use Rattle.hfs_bag.specs.Filling.{HoldsMore, HasMoved}
 

@@ -4,7 +4,7 @@ use Rattle.std.specs.Prelude.{⊤}
 use Rattle.std.proofs.lemmas.List.{map-append}
 use Rattle.std.proofs.lemmas.Bool.{and_parts, eq-eqb, leb-true}
 use Rattle.hfs_fields.specs.Order.{fold_letter, folded}
-use Rattle.hfs_shelves.specs.Entries.{ShelfEntry}
+use Rattle.hfs_bag.specs.Entries.{ShelfEntry}
 use Rattle.hfs_bag.specs.declared.facts.BagFacts.{BagFacts}
 use Rattle.hfs_bag.specs.declared.item.BagKind.{BagKind}
 use Rattle.hfs_bag.specs.declared.item.BagKind.TheVariants as kind

@@ -5,7 +5,7 @@ use Rattle.hfs_bag.specs.declared.facts.BagFacts.{BagFacts}
 use Rattle.hfs_bag.specs.declared.item.BagKind.{BagKind}
 use Rattle.hfs_bag.specs.declared.item.BagKind.TheVariants as kind
 use Rattle.hfs_bag.specs.declared.item.ItemDigests.{ItemDigests}
-use Rattle.hfs_shelves.specs.Entries.{ShelfEntry, file, folder}
+use Rattle.hfs_bag.specs.Entries.{ShelfEntry, file, folder}
 use Rattle.hfs_bag.specs.declared.tags.TagDigests.{TagDigests}
 use Rattle.hfs_bag.specs.Items.{BagItem, digests_of_kind, entries_of_kind, item_digests, item_entries}
 use Rattle.hfs_bag.specs.Bags.{digest_line, double_number, doubles_told, file_number, files_in, files_told, items_entries, manifest, payload}

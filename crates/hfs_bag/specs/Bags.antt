@@ -3,7 +3,7 @@ use Rattle.std.specs.Prelude.{ℕ, suc, ◌+◌, List, [], ◌∷◌, ◌++◌, 
 use Rattle.std.specs.List.{flat_map}
 use Rattle.hex.specs.Hex.{encode_lower}
 use Rattle.sha2.specs.Sha256.{sha256}
-use Rattle.hfs_shelves.specs.Entries.{ShelfEntry, folder, file}
+use Rattle.hfs_bag.specs.Entries.{ShelfEntry, folder, file}
 use Rattle.hfs_bag.specs.declared.item.ItemDigests.{ItemDigests}
 use Rattle.hfs_bag.specs.declared.item.ItemDigests.TheVariants as digests
 use Rattle.hfs_bag.specs.Items.{BagItem, item_digests, item_entries}

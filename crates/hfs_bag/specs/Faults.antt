@@ -1,7 +1,7 @@
 -- Why a bag was not filled.
 use Rattle.std.specs.Prelude.{◌≡◌, ◌^◌, ◌≤◌, ◌⊎◌, ℕ, List}
 use Rattle.hfs_source.specs.Images.{OfEach}
-use Rattle.hfs_shelves.specs.declared.fault.ShelfFault.{ShelfFault}
+use Rattle.hfs_bag.specs.declared.shelf_fault.ShelfFault.{ShelfFault}
 use Rattle.hfs_bag.specs.declared.fault.BagFault.{BagFault}
 use Rattle.hfs_bag.specs.declared.fault.BagFault.TheVariants as bag
 use Rattle.hfs_bag.specs.declared.source.SourceFault.{SourceFault}

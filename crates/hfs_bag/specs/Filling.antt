@@ -1,6 +1,6 @@
 -- Streams that go to a shelf and to a digest.
 use Rattle.std.specs.Prelude.{◌≡◌, ℕ, ◌<◌, List, [], ◌∷◌, ◌++◌, Bool, true, false, Option, None}
-use Rattle.hfs_shelves.specs.Entries.{ShelfEntry, file, with_piece}
+use Rattle.hfs_bag.specs.Entries.{ShelfEntry, file, with_piece}
 use Rattle.hfs_bag.specs.Sources.{SourceState, SameItems}
 
 -- a digest that held a message holds these bytes behind it

@@ -1,6 +1,6 @@
 -- Items that go to a shelf one behind another.
 use Rattle.std.specs.Prelude.{◌≡◌, ℕ, ◌+◌, List, ◌∷◌, ◌++◌, map}
-use Rattle.hfs_shelves.specs.Entries.{ShelfEntry, with_piece}
+use Rattle.hfs_bag.specs.Entries.{ShelfEntry, with_piece}
 use Rattle.hfs_bag.specs.declared.item.ItemDigests.{ItemDigests}
 use Rattle.hfs_bag.specs.Items.{BagItem, item_digests, item_entries}
 use Rattle.hfs_bag.specs.Sources.{SourceState}

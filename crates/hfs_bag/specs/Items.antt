@@ -3,7 +3,7 @@ use Rattle.std.specs.Prelude.{◌≡◌, ℕ, List, [], ◌∷◌, ◌++◌, len
 use Rattle.sha2.specs.Sha256.{sha256}
 use Rattle.hfs_encodings.specs.AppleDouble.{apple_double_head_bytes}
 use Rattle.hfs_encodings.specs.declared.apple_double.AppleDoubleHead.{AppleDoubleHead}
-use Rattle.hfs_shelves.specs.Entries.{ShelfEntry, folder, file}
+use Rattle.hfs_bag.specs.Entries.{ShelfEntry, folder, file}
 use Rattle.hfs_bag.specs.declared.item.BagKind.{BagKind}
 use Rattle.hfs_bag.specs.declared.item.BagKind.TheVariants as kind
 use Rattle.hfs_bag.specs.declared.item.BagHead.{BagHead}

@@ -2,7 +2,7 @@
 use Rattle.std.specs.Prelude.{◌≡◌, ◌≢◌, ℕ, List, [], ◌∷◌, ◌++◌, codes, ⊤}
 use Rattle.std.specs.List.{flat_map}
 use Rattle.hfs_fields.specs.Order.{folded}
-use Rattle.hfs_shelves.specs.Entries.{ShelfEntry, folder, file}
+use Rattle.hfs_bag.specs.Entries.{ShelfEntry, folder, file}
 use Rattle.hfs_bag.specs.declared.facts.BagFacts.{BagFacts}
 use Rattle.hfs_bag.specs.declared.item.BagKind.{BagKind}
 use Rattle.hfs_bag.specs.declared.item.BagKind.TheVariants as kind

@@ -1,3 +1,15 @@
+pub mod Entries
+pub mod ShelfPaths
+pub mod Told
+pub mod StoredEntries
+pub mod SystemSteps
+pub mod LoggedSteps
+pub mod MadeFolders
+pub mod Removals
+pub mod FileRemovals
+pub mod Tries
+pub mod Left
+pub mod Pieces
 pub mod Times
 pub mod Items
 pub mod Sources
@@ -11,3 +23,6 @@ pub mod TagParts
 pub mod Sums
 pub mod Laws
 pub mod Forks
+pub mod Failing
+pub mod Heads
+pub mod Parts

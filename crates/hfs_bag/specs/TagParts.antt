@@ -1,6 +1,6 @@
 -- The tag files of a bag by parts.
 use Rattle.std.specs.Prelude.{ℕ, List, [], ◌∷◌, ◌++◌, codes, Option, Some, None}
-use Rattle.hfs_shelves.specs.Entries.{ShelfEntry, file}
+use Rattle.hfs_bag.specs.Entries.{ShelfEntry, file}
 use Rattle.hfs_bag.specs.declared.facts.BagFacts.{BagFacts}
 use Rattle.hfs_bag.specs.declared.tags.TagDigests.{TagDigests}
 use Rattle.hfs_bag.specs.Items.{BagItem}

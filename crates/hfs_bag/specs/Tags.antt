@@ -4,7 +4,7 @@ use Rattle.std.specs.Borrow.{Bor}
 use Rattle.std.specs.Fmt.{decimal}
 use Rattle.hex.specs.Hex.{encode_lower}
 use Rattle.hfs_texts.specs.Lines.{line}
-use Rattle.hfs_shelves.specs.Entries.{ShelfEntry, file}
+use Rattle.hfs_bag.specs.Entries.{ShelfEntry, file}
 use Rattle.hfs_bag.specs.declared.facts.BagFacts.{BagFacts}
 use Rattle.hfs_bag.specs.Items.{BagItem}
 use Rattle.hfs_bag.specs.Bags.{bytes_in, files_in, manifest, payload}

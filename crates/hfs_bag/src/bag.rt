@@ -1,6 +1,6 @@
 //! The whole of a bag, and its halves: the payload, and the tag files after it.
 ghost use Rattle.std.specs.Prelude.{◌≡◌, ◌++◌, IfErr, IfOk, OnErr, OnOk};
-ghost use Rattle.hfs_shelves.specs.Entries.{IsBeginning};
+ghost use Rattle.hfs_bag.specs.Entries.{IsBeginning};
 ghost use Rattle.hfs_source.specs.Images.{OfEach};
 ghost use Rattle.hfs_bag.specs.Sources.{KeepsItems};
 ghost use Rattle.hfs_bag.specs.Bags.{payload};
@@ -9,13 +9,13 @@ ghost use Rattle.hfs_bag.specs.Payloads.{IsPayloadOf};
 ghost use Rattle.hfs_bag.specs.Sums.{IsSumOf};
 ghost use Rattle.hfs_bag.specs.Tags.{bag_of, tag_files};
 
+use crate::Shelf;
 use crate::facts::BagFacts;
 use crate::fault::BagFault;
 use crate::giving::{GivenPayload, give_items};
 use crate::source::BagSource;
 use crate::sums::{BagSums, count_files, count_streams};
 use crate::tags::give_tags;
-use hfs_shelves::Shelf;
 use std::alloc::Global;
 
 /// Gives a shelf the payload of a bag, in the order of the source's items, and returns what the tag files need of it;

@@ -1,8 +1,8 @@
 //! Why a bag was not filled.
 ghost use Rattle.std.specs.Prelude.{◌≡◌};
 
+use crate::ShelfFault;
 use crate::source::SourceFault;
-use hfs_shelves::ShelfFault;
 use std::alloc::AllocError;
 
 /// Why a bag was not filled.

@@ -2,15 +2,15 @@
 ghost use Rattle.std.specs.Prelude.{◌≡◌, ◌++◌, [], IfErr, IfOk, OnErr, OnOk};
 ghost use Rattle.sha2.specs.Hashers.{Holds256};
 ghost use Rattle.sha2.specs.Sha256.{sha256};
-ghost use Rattle.hfs_shelves.specs.Entries.{IsBeginning, with_piece};
+ghost use Rattle.hfs_bag.specs.Entries.{IsBeginning, with_piece};
 ghost use Rattle.hfs_source.specs.Images.{OfEach};
 ghost use Rattle.hfs_bag.specs.Sources.{SameItems, stream_bytes};
 ghost use Rattle.hfs_bag.specs.Faults.{IsOfShelf, IsPassedOn};
 ghost use Rattle.hfs_bag.specs.Filling.{HasMoved, HoldsMore, IsMore, with_dated_file, with_whole_file};
 
+use crate::Shelf;
 use crate::fault::BagFault;
 use crate::source::{BagSource, Stream};
-use hfs_shelves::Shelf;
 use sha2::{Digest, Sha256};
 use std::alloc::Global;
 

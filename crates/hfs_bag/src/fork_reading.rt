@@ -5,7 +5,7 @@ ghost use Rattle.hfs_bag.specs.Forks.{BeginsIn, ReadsOn, fork_rest};
 
 use crate::piece::Piece;
 use crate::source::SourceFault;
-use hfs_sparse::BlockSource;
+use hfs_source::BlockSource;
 use std::alloc::Global;
 
 /// Where reading a fork stands: the first so many bytes of its pieces that were not read are left.

@@ -1,6 +1,6 @@
 //! The payload of a bag.
 ghost use Rattle.std.specs.Prelude.{◌≡◌, ◌+◌, ◌++◌, [], ◌∷◌, map, IfErr, IfOk, OnErr, OnOk};
-ghost use Rattle.hfs_shelves.specs.Entries.{IsBeginning};
+ghost use Rattle.hfs_bag.specs.Entries.{IsBeginning};
 ghost use Rattle.hfs_bag.specs.Items.{item_digests};
 ghost use Rattle.hfs_source.specs.Images.{OfEach};
 ghost use Rattle.hfs_bag.specs.Bags.{bytes_in, items_entries};
@@ -8,12 +8,12 @@ ghost use Rattle.hfs_bag.specs.Faults.{AreTooMany, IsBagFault};
 ghost use Rattle.hfs_bag.specs.Filling.{IsMore};
 ghost use Rattle.hfs_bag.specs.Giving.{HasGiven};
 
+use crate::Shelf;
 use crate::fault::BagFault;
 use crate::item::ItemDigests;
 use crate::items::give_item;
 use crate::source::{BagSource, SourceFault};
 use crate::sums::item_bytes;
-use hfs_shelves::Shelf;
 use std::alloc::Global;
 
 /// What is kept of a payload that was given, until its tag files are given.

@@ -2,19 +2,19 @@
 ghost use Rattle.std.specs.Prelude.{◌≡◌, ◌++◌, [], ◌∷◌, codes, IfErr, IfOk, OnErr, OnOk, string_bytes};
 ghost use Rattle.sha2.specs.Sha256.{sha256};
 ghost use Rattle.hfs_encodings.specs.AppleDouble.{apple_double_head_bytes};
-ghost use Rattle.hfs_shelves.specs.Entries.{IsBeginning};
+ghost use Rattle.hfs_bag.specs.Entries.{IsBeginning};
 ghost use Rattle.hfs_bag.specs.declared.item.BagKind.TheVariants as kind;
 ghost use Rattle.hfs_bag.specs.Faults.{IsOfShelf, IsPassedOn};
 ghost use Rattle.hfs_bag.specs.Items.{BagItem, IsHead, folder_entry, double_head, double_bytes, double_entry, entries_of_kind, item_digests, item_entries, digests_of_kind};
 ghost use Rattle.hfs_source.specs.Images.{OfEach};
 ghost use Rattle.hfs_bag.specs.Sources.{SameItems};
 
+use crate::Shelf;
 use crate::fault::BagFault;
 use crate::filling::put_file;
 use crate::item::{BagHead, BagKind, ItemDigests};
 use crate::source::{BagSource, Stream};
 use hfs_encodings::AppleDoubleHead;
-use hfs_shelves::Shelf;
 use std::alloc::{AllocError, Global};
 
 /// The prefix of an item's name in that of its AppleDouble file.

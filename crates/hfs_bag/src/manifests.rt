@@ -3,7 +3,7 @@ ghost use Rattle.std.specs.Prelude.{◌≡◌, codes, map, IfErr, IfOk, OnErr, O
 ghost use Rattle.sha2.specs.Hashers.{Holds256};
 ghost use Rattle.sha2.specs.Sha256.{sha256};
 ghost use Rattle.hfs_texts.specs.Texts.{Gains};
-ghost use Rattle.hfs_shelves.specs.Entries.{IsBeginning, with_piece};
+ghost use Rattle.hfs_bag.specs.Entries.{IsBeginning, with_piece};
 ghost use Rattle.hfs_bag.specs.Items.{double_path, item_digests, item_entries, item_path};
 ghost use Rattle.hfs_source.specs.Images.{OfEach};
 ghost use Rattle.hfs_bag.specs.Bags.{digest_line, items_entries, manifest};
@@ -11,11 +11,11 @@ ghost use Rattle.hfs_bag.specs.Faults.{HasFailed, IsPassedOn};
 ghost use Rattle.hfs_bag.specs.Filling.{HoldsMore, with_whole_file};
 ghost use Rattle.hfs_bag.specs.Giving.{HasListed, IsNextOf};
 
+use crate::Shelf;
 use crate::fault::BagFault;
 use crate::item::ItemDigests;
 use crate::items::{DOUBLE, marked_path};
 use crate::source::{BagSource, SourceFault};
-use hfs_shelves::Shelf;
 use sha2::{Digest, Sha256};
 use std::alloc::{AllocError, Global};
 

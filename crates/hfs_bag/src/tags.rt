@@ -4,7 +4,7 @@ ghost use Rattle.sha2.specs.Sha256.{sha256};
 ghost use Rattle.std.specs.Fmt.{decimal};
 ghost use Rattle.hfs_texts.specs.Lines.{line};
 ghost use Rattle.hfs_texts.specs.Texts.{Gains};
-ghost use Rattle.hfs_shelves.specs.Entries.{IsBeginning};
+ghost use Rattle.hfs_bag.specs.Entries.{IsBeginning};
 ghost use Rattle.hfs_bag.specs.Items.{item_digests};
 ghost use Rattle.hfs_source.specs.Images.{OfEach};
 ghost use Rattle.hfs_bag.specs.Bags.{bytes_in, files_in, manifest, payload};
@@ -13,13 +13,13 @@ ghost use Rattle.hfs_bag.specs.Filling.{with_whole_file};
 ghost use Rattle.hfs_bag.specs.TagParts.{first_tags, remains_line, second_tags, tag_lines};
 ghost use Rattle.hfs_bag.specs.Tags.{bytes_key, declaration_text, directory_line, info_text, oxum_text, remains_files, source_digest_line, tag_files, volume_line};
 
+use crate::Shelf;
 use crate::facts::BagFacts;
 use crate::fault::BagFault;
 use crate::filling::{put_file, put_text};
 use crate::giving::GivenPayload;
 use crate::manifests::{give_manifest, push_digest_line};
 use crate::source::{BagSource, Stream};
-use hfs_shelves::Shelf;
 use hfs_texts::{Show, push_line};
 use std::alloc::{AllocError, Global};
 

@@ -4,11 +4,11 @@ use Rattle.std.specs.Prelude.{Ok, Err, Result}
 use Rattle.std.proofs.lemmas.Bool.{cases_lt}
 use Rattle.std.proofs.lemmas.List.{get_or_past}
 use Rattle.hfs_fields.specs.Numbers.{number_at}
-use Rattle.hfs_node.specs.declared.node.Node.{Node}
-use Rattle.hfs_node.specs.declared.fault.NodeFault.{NodeFault}
-use Rattle.hfs_node.specs.declared.fault.NodeFault.TheVariants.{Outside}
-use Rattle.hfs_node.specs.Kind.{kind_of}
-use Rattle.hfs_node.specs.Node.{node_of, node_of_kind, are_inside, count_of, offset_of}
+use Rattle.hfs_btree.specs.declared.node.Node.{Node}
+use Rattle.hfs_btree.specs.declared.fault.NodeFault.{NodeFault}
+use Rattle.hfs_btree.specs.declared.fault.NodeFault.TheVariants.{Outside}
+use Rattle.hfs_btree.specs.Kind.{kind_of}
+use Rattle.hfs_btree.specs.Node.{node_of, node_of_kind, are_inside, count_of, offset_of}
 use Rattle.hfs_btree.specs.Tree.{Store, node_in, records_in, records_of}
 
 -- no bytes are no node

@@ -9,10 +9,10 @@ use Rattle.std.proofs.lemmas.List.Sums.{prefix_len-le-length}
 use Rattle.hfs_btree.specs.declared.key.Key.{Ghosts}
 use Rattle.hfs_btree.specs.Pairs.{Pairs, IsAbove}
 use Rattle.hfs_btree.proofs.PairLemmas.{IsBelow}
-use Rattle.hfs_scans.specs.Each.{Each}
-use Rattle.hfs_scans.proofs.ElementLemmas.{each-left, each-right, each-unmap, each-append, each-both}
-use Rattle.hfs_node.specs.declared.node.Node.{Node}
-use Rattle.hfs_node.specs.declared.fault.NodeFault.{NodeFault}
+use Rattle.hfs_fields.specs.Each.{Each}
+use Rattle.hfs_fields.proofs.ElementLemmas.{each-left, each-right, each-unmap, each-append, each-both}
+use Rattle.hfs_btree.specs.declared.node.Node.{Node}
+use Rattle.hfs_btree.specs.declared.fault.NodeFault.{NodeFault}
 use Rattle.hfs_btree.specs.Tree.{Store, Spot, records_in, records_of, children, pairs, spots, first_of, turn, under, level_below, last_level}
 use Rattle.hfs_btree.specs.Header.{header_in, depth_of, root_level, leaves, tree_turn, tree_content}
 use Rattle.hfs_btree.specs.Sound.{IsRight, AreKeysInOrder, HasStructure, IsSound}

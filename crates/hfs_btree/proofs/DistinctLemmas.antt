@@ -1,8 +1,8 @@
 -- Lists without a number twice.
 use Rattle.std.proofs.Common.{[], List, ℕ, ◌++◌, ◌∷◌}
 use Rattle.hfs_btree.specs.Sound.{IsDistinct, IsOther}
-use Rattle.hfs_scans.specs.Each.{Each}
-use Rattle.hfs_scans.proofs.ElementLemmas.{each-right, each-append}
+use Rattle.hfs_fields.specs.Each.{Each}
+use Rattle.hfs_fields.proofs.ElementLemmas.{each-right, each-append}
 
 pub cross : (xs ys : List ℕ) → IsDistinct (xs ++ ys) → Each (λ x. Each (IsOther x) ys) xs
 cross [] ys h = tt

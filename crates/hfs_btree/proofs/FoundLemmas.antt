@@ -5,11 +5,11 @@ use Rattle.std.specs.Option.{option_or}
 use Rattle.std.specs.List.{flat_map}
 use Rattle.std.specs.Cmp.{IsTotalOrder}
 use Rattle.std.proofs.lemmas.List.{length-map}
-use Rattle.hfs_node.specs.Node.{node_of}
+use Rattle.hfs_btree.specs.Node.{node_of}
 use Rattle.hfs_btree.specs.declared.header.Header.{Header}
 use Rattle.hfs_btree.specs.declared.key.Key.{Ghosts}
 use Rattle.hfs_btree.specs.Pairs.{Pairs, Rises, lookup, after}
-use Rattle.hfs_scans.specs.Each.{Each}
+use Rattle.hfs_fields.specs.Each.{Each}
 use Rattle.hfs_btree.specs.Tree.{Store, first_of, forward_of, pair_of, pairs, records_of}
 use Rattle.hfs_btree.specs.Header.{header_in, depth_of, leaves, tree_content}
 use Rattle.hfs_btree.specs.Lookups.{first_pair}

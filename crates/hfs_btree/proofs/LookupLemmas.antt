@@ -9,8 +9,8 @@ use Rattle.std.specs.Cmp.{IsTotalOrder}
 use Rattle.std.proofs.lemmas.Option.{none-some}
 use Rattle.hfs_btree.specs.Pairs.{Order, Pairs, Rises, lookup, after, pairs_from, IsAbove}
 use Rattle.hfs_btree.proofs.PairLemmas.{IsBelow}
-use Rattle.hfs_scans.specs.Each.{Each}
-use Rattle.hfs_scans.proofs.ElementLemmas.{each-mono}
+use Rattle.hfs_fields.specs.Each.{Each}
+use Rattle.hfs_fields.proofs.ElementLemmas.{each-mono}
 use Rattle.hfs_btree.specs.Lookups.{first_pair}
 
 module _ {K : Type 0} (cmp : Order K) (total : IsTotalOrder cmp) where

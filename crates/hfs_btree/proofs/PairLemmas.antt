@@ -1,7 +1,7 @@
 -- Lemmas about the definitions of specs/Pairs.antt.
 use Rattle.std.specs.Prelude.{◌≡◌}
 use Rattle.std.specs.declared.cmp.Ordering.TheVariants.{Less}
-use Rattle.hfs_scans.specs.Each.{Each}
+use Rattle.hfs_fields.specs.Each.{Each}
 use Rattle.hfs_btree.specs.Pairs.{Order, Pairs}
 
 -- the key is below each key of the pairs

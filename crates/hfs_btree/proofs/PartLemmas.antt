@@ -8,9 +8,9 @@ use Rattle.std.specs.List.{flat_map, prefix_len}
 use Rattle.std.proofs.lemmas.Bool.{cases_Bool, cond-true, cond-false}
 use Rattle.hfs_btree.specs.Pairs.{Order, Pairs, IsAbove, IsAtMost}
 use Rattle.hfs_btree.proofs.PairLemmas.{IsBelow}
-use Rattle.hfs_scans.specs.Each.{Each}
+use Rattle.hfs_fields.specs.Each.{Each}
 use Rattle.hfs_btree.specs.Sound.{ArePartsInOrder}
-use Rattle.hfs_scans.proofs.ElementLemmas.{each-mono, each-append, each-right}
+use Rattle.hfs_fields.proofs.ElementLemmas.{each-mono, each-append, each-right}
 use Rattle.hfs_btree.proofs.LookupLemmas.{above-below, lt-le, le-lt, flipped}
 
 module _ {K : Type 0} (cmp : Order K) (total : IsTotalOrder cmp) (t : K) (key : List ℕ → K) (own : List ℕ → Pairs K) where

@@ -2,15 +2,15 @@
 use Rattle.std.proofs.Common.{◌≡◌, ℕ, zero, suc, ◌-◌, ◌<◌, List, [], ◌∷◌, ◌++◌, length, get_or, sym, ap, ◌∙◌, subst, arith}
 use Rattle.std.specs.Cmp.{IsTotalOrder}
 use Rattle.std.specs.List.{flat_map}
-use Rattle.hfs_node.specs.Node.{node_of}
+use Rattle.hfs_btree.specs.Node.{node_of}
 use Rattle.hfs_btree.specs.declared.key.Key.{Ghosts}
 use Rattle.hfs_btree.specs.Tree.{Store, records_in, records_of, children, spots, turn, under}
 use Rattle.hfs_btree.specs.Header.{header_in, depth_of, root_level, tree_turn}
 use Rattle.hfs_btree.specs.Pairs.{Pairs}
 use Rattle.hfs_btree.specs.Search.{child_for, IsRisingFor}
 use Rattle.hfs_btree.specs.Sound.{AreKeysInOrder, IsRight, IsSound}
-use Rattle.hfs_scans.specs.Each.{Each}
-use Rattle.hfs_scans.proofs.ElementLemmas.{each-both, each-mono, each-right}
+use Rattle.hfs_fields.specs.Each.{Each}
+use Rattle.hfs_fields.proofs.ElementLemmas.{each-both, each-mono, each-right}
 use Rattle.hfs_btree.proofs.DecodedLemmas.{records-read}
 use Rattle.hfs_btree.proofs.DescentLemmas.{IsOnWay, IsRightInOrder, fact, next-split, parts-some, place-within, way-some}
 use Rattle.hfs_btree.proofs.PartLemmas.{earlier-fit}

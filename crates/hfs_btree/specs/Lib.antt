@@ -1,3 +1,7 @@
+pub mod Kind
+pub mod Fault
+pub mod Node
+pub mod Laid
 pub mod Pairs
 pub mod Tree
 pub mod Header

@@ -1,7 +1,7 @@
 -- The leaf where the last search for a key ended.
 use Rattle.std.specs.Prelude.{◌≡◌, ℕ, true, ◌<◌, [], slice_index_or}
-use Rattle.hfs_node.specs.Node.{node_of}
-use Rattle.hfs_scans.specs.Each.{Each}
+use Rattle.hfs_btree.specs.Node.{node_of}
+use Rattle.hfs_fields.specs.Each.{Each}
 use Rattle.hfs_btree.specs.declared.key.Key.{Ghosts}
 use Rattle.hfs_btree.specs.declared.near.LastLeaf.{LastLeaf}
 use Rattle.hfs_btree.specs.Tree.{Store, records_of}

@@ -1,11 +1,11 @@
 -- A tree over numbered nodes: its levels, and its content.
 use Rattle.std.specs.Prelude.{ℕ, zero, suc, Bool, List, [], ◌∷◌, ◌++◌, map, drop, slice_index_or, Result, Ok, Err}
 use Rattle.std.specs.List.{flat_map}
-use Rattle.hfs_node.specs.declared.kind.NodeKind.{NodeKind}
-use Rattle.hfs_node.specs.declared.kind.NodeKind.TheVariants.{Index, Leaf}
-use Rattle.hfs_node.specs.declared.fault.NodeFault.{NodeFault}
-use Rattle.hfs_node.specs.declared.node.Node.{Node}
-use Rattle.hfs_node.specs.Node.{node_of}
+use Rattle.hfs_btree.specs.declared.kind.NodeKind.{NodeKind}
+use Rattle.hfs_btree.specs.declared.kind.NodeKind.TheVariants.{Index, Leaf}
+use Rattle.hfs_btree.specs.declared.fault.NodeFault.{NodeFault}
+use Rattle.hfs_btree.specs.declared.node.Node.{Node}
+use Rattle.hfs_btree.specs.Node.{node_of}
 use Rattle.hfs_btree.specs.declared.key.Key.{Ghosts}
 use Rattle.hfs_btree.specs.Pairs.{Pairs}
 

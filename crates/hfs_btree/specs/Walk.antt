@@ -1,6 +1,6 @@
 -- Going through the leaves of a tree in their order.
 use Rattle.std.specs.Prelude.{◌≡◌, ℕ, zero, suc, ◌<◌, ◌≤◌, ◌⊎◌, ◌==◌, List, [], ◌∷◌, ◌++◌, length, map, drop, slice_index_or, if◌then◌else◌}
-use Rattle.hfs_node.specs.Node.{node_of}
+use Rattle.hfs_btree.specs.Node.{node_of}
 use Rattle.hfs_btree.specs.declared.key.Key.{Ghosts}
 use Rattle.hfs_btree.specs.Pairs.{Pairs}
 use Rattle.hfs_btree.specs.Tree.{Store, node_in, records_of, forward_of, pair_of, pairs}

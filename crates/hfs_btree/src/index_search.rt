@@ -2,14 +2,14 @@
 
 ghost use Rattle.std.specs.Prelude.{◌≡◌, ℕ, ◌<◌, ◌≤◌, true, length};
 ghost use Rattle.std.specs.List.{prefix_len};
-ghost use Rattle.hfs_node.specs.Node.{node_of};
-ghost use Rattle.hfs_scans.specs.Each.{Each};
+ghost use Rattle.hfs_btree.specs.Node.{node_of};
+ghost use Rattle.hfs_fields.specs.Each.{Each};
 ghost use Rattle.hfs_btree.specs.Tree.{records_of};
 ghost use Rattle.hfs_btree.specs.Search.{is_not_above, child_for, IsRisingFor};
 
 use crate::entry::{child_of, is_above};
 use crate::key::Key;
-use hfs_node::{NodeView, view};
+use crate::{NodeView, view};
 
 /// The middle of a range of places.
 fn middle(from: usize, to: usize) -> usize

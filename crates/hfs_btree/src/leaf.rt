@@ -1,8 +1,8 @@
 //! Places in a leaf.
 
 ghost use Rattle.std.specs.Prelude.{◌≡◌, ℕ, ◌<◌, ◌≤◌, true, List, [], IfSome, MatchOption, length, map, slice_index_or};
-ghost use Rattle.hfs_node.specs.Node.{node_of};
-ghost use Rattle.hfs_scans.specs.Each.{Each};
+ghost use Rattle.hfs_btree.specs.Node.{node_of};
+ghost use Rattle.hfs_fields.specs.Each.{Each};
 ghost use Rattle.hfs_btree.specs.LeafPairs.{IsPlaceFrom};
 ghost use Rattle.hfs_btree.specs.Tree.{records_of, forward_of, pair_of};
 ghost use Rattle.hfs_btree.specs.Sound.{HasStructure};
@@ -10,7 +10,7 @@ ghost use Rattle.hfs_btree.specs.Walk.{rest_at, IsAtLeaf, IsWalk, GoesOnSame};
 
 use crate::key::Key;
 use crate::nodes::Nodes;
-use hfs_node::view;
+use crate::view;
 
 /// Bytes that are no node.
 pub(crate) fn no_leaf() -> [u8; 512]

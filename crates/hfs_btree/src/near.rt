@@ -1,8 +1,8 @@
 //! Looking up keys that mostly stand in one leaf with the one before.
 
 ghost use Rattle.std.specs.Prelude.{◌≡◌, ◌<◌, true, false, Some, IfOk, IfSome, IsTrue};
-ghost use Rattle.hfs_node.specs.Node.{node_of};
-ghost use Rattle.hfs_scans.specs.Each.{Each};
+ghost use Rattle.hfs_btree.specs.Node.{node_of};
+ghost use Rattle.hfs_fields.specs.Each.{Each};
 ghost use Rattle.hfs_btree.specs.Tree.{records_of};
 ghost use Rattle.hfs_btree.specs.Header.{IsBodyUnder};
 ghost use Rattle.hfs_btree.specs.LeafPairs.{leaf_body};

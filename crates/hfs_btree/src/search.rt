@@ -2,8 +2,8 @@
 
 ghost use Rattle.std.specs.Prelude.{◌≡◌, ℕ, ◌<◌, ◌≤◌, true, List, [], Ok, IfOk, IfSome, length, map, option_map, slice_index_or};
 ghost use Rattle.std.specs.List.{prefix_len};
-ghost use Rattle.hfs_node.specs.Node.{node_of};
-ghost use Rattle.hfs_scans.specs.Each.{Each};
+ghost use Rattle.hfs_btree.specs.Node.{node_of};
+ghost use Rattle.hfs_fields.specs.Each.{Each};
 ghost use Rattle.hfs_btree.specs.Tree.{records_of, pair_of};
 ghost use Rattle.hfs_btree.specs.Header.{header_in, record_in, depth_of, tree_content, IsBodyUnder, IsNextAfter};
 ghost use Rattle.hfs_btree.specs.LeafPairs.{leaf_body, leaf_after, leaf_first};
@@ -16,7 +16,7 @@ use crate::index_search::child_by_halves;
 use crate::key::Key;
 use crate::leaf::forward_in;
 use crate::nodes::Nodes;
-use hfs_node::{NodeView, view};
+use crate::{NodeView, view};
 use std::alloc::{AllocError, Global};
 
 /// The header record of a tree whose node 0 has one.

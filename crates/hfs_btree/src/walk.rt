@@ -1,7 +1,7 @@
 //! Going through the pairs of a tree in order.
 
 ghost use Rattle.std.specs.Prelude.{◌≡◌, ◌<◌, ◌≤◌, true, [], length, drop, option_map};
-ghost use Rattle.hfs_node.specs.Node.{node_of};
+ghost use Rattle.hfs_btree.specs.Node.{node_of};
 ghost use Rattle.hfs_btree.specs.Pairs.{pairs_from};
 ghost use Rattle.hfs_btree.specs.Tree.{records_of};
 ghost use Rattle.hfs_btree.specs.Header.{tree_content};

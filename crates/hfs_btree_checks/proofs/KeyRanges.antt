@@ -8,7 +8,7 @@ use Rattle.std.specs.Ordering.{is_gt, is_lt}
 use Rattle.std.proofs.lemmas.Bool.{and_parts, and_from, cases_Bool, cond-true, cond-false, not-true}
 use Rattle.hfs_btree_checks.specs.declared.key_range.KeyRange.{KeyRange}
 use Rattle.hfs_btree.specs.Pairs.{Order, Pairs}
-use Rattle.hfs_scans.proofs.ElementLemmas.{each-append, each-left, each-right}
+use Rattle.hfs_fields.proofs.ElementLemmas.{each-append, each-left, each-right}
 use Rattle.hfs_btree.proofs.LookupLemmas.{flipped, above-below, lt-le, le-lt}
 use Rattle.hfs_fields.proofs.OrderLemmas.{less-by}
 use Rattle.hfs_btree_checks.specs.Subtree.{is_at_most, is_above, HasRange}

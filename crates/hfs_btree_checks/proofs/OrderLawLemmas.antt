@@ -10,12 +10,12 @@ use Rattle.std.specs.Ordering.{is_gt, is_lt}
 use Rattle.std.proofs.lemmas.Bool.{and_parts, and_from, cases_Bool, not-true, not_from_false}
 use Rattle.hfs_btree.specs.declared.key.Key.{Ghosts}
 use Rattle.hfs_btree.specs.Pairs.{Order, Pairs, Rises, IsAtMost, IsAbove}
-use Rattle.hfs_scans.specs.Each.{Each}
+use Rattle.hfs_fields.specs.Each.{Each}
 use Rattle.hfs_btree.specs.Tree.{Store, Spot, records_in, under}
 use Rattle.hfs_btree.specs.Header.{tree_content, tree_turn}
 use Rattle.hfs_btree_checks.specs.Shape.{shape_fault}
 use Rattle.hfs_btree_checks.proofs.ShapeLawLemmas.{shape-law, first-none, both-none}
-use Rattle.hfs_scans.proofs.ScanLemmas.{Later, passes_from_none, none_from_passes, later_from_passes, passes_from_later, all_decides}
+use Rattle.hfs_fields.proofs.ScanLemmas.{Later, passes_from_none, none_from_passes, later_from_passes, passes_from_later, all_decides}
 use Rattle.hfs_btree.specs.Sound.{HasStructure, HasCounts, IsWithinFile, IsShaped, part_of, ArePartsInOrder, AreKeysInOrder, IsOrdered, IsSound}
 use Rattle.hfs_btree_checks.specs.Order.{first_node, is_above_all, rise_fault, leaf_order_fault, are_parts_in_order, are_keys_in_order, is_keyed, index_order_fault, order_fault, tree_fault}
 use Rattle.hfs_fields.proofs.OrderLemmas.{less-by}

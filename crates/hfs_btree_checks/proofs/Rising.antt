@@ -8,8 +8,8 @@ use Rattle.std.specs.Cmp.{IsTotalOrder}
 use Rattle.std.proofs.lemmas.Bool.{cases_Bool, cond-true, cond-false, and_from}
 use Rattle.std.proofs.lemmas.List.Folds.{list_all-append}
 use Rattle.hfs_btree.specs.Pairs.{Order, Pairs, IsAbove}
-use Rattle.hfs_scans.proofs.ElementLemmas.{each-append, each-mono}
-use Rattle.hfs_scans.specs.First.{first_failing}
+use Rattle.hfs_fields.proofs.ElementLemmas.{each-append, each-mono}
+use Rattle.hfs_fields.specs.First.{first_failing}
 use Rattle.hfs_btree_checks.specs.Order.{is_above_all, rise_fault}
 use Rattle.hfs_btree_checks.specs.Rises.{is_past, fall_from, last_key}
 use Rattle.hfs_btree_checks.proofs.KeyRanges.{is-less}

@@ -4,13 +4,13 @@ use Rattle.std.specs.Prelude.{◌&&◌, ◌||◌, ◌==◌, ◌↔◌, nat_lt, n
 use Rattle.std.specs.List.{list_all, list_any}
 use Rattle.std.specs.Option.{is_none}
 use Rattle.std.proofs.lemmas.Bool.{and_parts, and_from, or_parts, or_from, or_cases, or_left, eqb-true, eq-eqb, eqb-false, ne_eqb, leb-true, le-leb, ltb-true, lt-ltb, cases_Bool, not-true, not_from_false}
-use Rattle.hfs_node.specs.declared.kind.NodeKind.{NodeKind}
-use Rattle.hfs_node.specs.declared.kind.NodeKind.TheVariants.{Index, Header, Map, Leaf}
-use Rattle.hfs_node.specs.declared.fault.NodeFault.{NodeFault}
-use Rattle.hfs_node.specs.declared.node.Node.{Node}
+use Rattle.hfs_btree.specs.declared.kind.NodeKind.{NodeKind}
+use Rattle.hfs_btree.specs.declared.kind.NodeKind.TheVariants.{Index, Header, Map, Leaf}
+use Rattle.hfs_btree.specs.declared.fault.NodeFault.{NodeFault}
+use Rattle.hfs_btree.specs.declared.node.Node.{Node}
 use Rattle.hfs_btree.specs.declared.key.Key.{Ghosts}
-use Rattle.hfs_scans.specs.Each.{Each}
-use Rattle.hfs_scans.proofs.ElementLemmas.{each-mono, each-left, each-right, each-append}
+use Rattle.hfs_fields.specs.Each.{Each}
+use Rattle.hfs_fields.proofs.ElementLemmas.{each-mono, each-left, each-right, each-append}
 use Rattle.hfs_btree.specs.Tree.{Store, node_in, records_of, Spot, kind_at, reads_at, first_of, last_of}
 use Rattle.hfs_btree.specs.Header.{header_in, record_in, map_nodes, own_nodes, map_bytes, is_marked, free_nodes, depth_of, leaves, tree_content, tree_turn, tree_nodes}
 use Rattle.hfs_btree.specs.Sound.{IsOther, IsDistinct, HasHeader, IsWithin, IsMapNode, IsMarked, HasMap, IsRight, HasLevels, HasEnds, HasStructure, HasCounts, IsWithinFile, IsShaped}

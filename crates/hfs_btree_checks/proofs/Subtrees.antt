@@ -9,8 +9,8 @@ use Rattle.std.proofs.lemmas.List.Folds.{flat_map-map}
 use Rattle.hfs_btree.specs.declared.key.Key.{Ghosts}
 use Rattle.hfs_btree_checks.specs.declared.key_range.KeyRange.{KeyRange}
 use Rattle.hfs_btree.specs.Pairs.{Pairs}
-use Rattle.hfs_scans.specs.Each.{Each}
-use Rattle.hfs_scans.proofs.ElementLemmas.{each-at, each-unmap}
+use Rattle.hfs_fields.specs.Each.{Each}
+use Rattle.hfs_fields.proofs.ElementLemmas.{each-at, each-unmap}
 use Rattle.hfs_btree.specs.Tree.{Store, records_in, pair_of, under}
 use Rattle.hfs_btree.specs.Sound.{part_of}
 use Rattle.hfs_btree_checks.specs.Order.{are_parts_in_order, are_keys_in_order}

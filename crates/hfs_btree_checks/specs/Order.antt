@@ -4,7 +4,7 @@ use Rattle.std.specs.List.{list_all, flat_map}
 use Rattle.std.specs.Option.{option_map}
 use Rattle.std.specs.Ordering.{is_gt, is_lt}
 use Rattle.hfs_btree.specs.declared.key.Key.{Ghosts}
-use Rattle.hfs_scans.specs.First.{first_failing}
+use Rattle.hfs_fields.specs.First.{first_failing}
 use Rattle.hfs_btree.specs.Pairs.{Order, Pairs}
 use Rattle.hfs_btree.specs.Tree.{Store, records_in, under, Spot, spots, level_below, key_at}
 use Rattle.hfs_btree.specs.Header.{leaves, tree_content, tree_turn}

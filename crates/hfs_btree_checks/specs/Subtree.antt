@@ -6,7 +6,7 @@ use Rattle.std.specs.Ordering.{is_gt, is_lt}
 use Rattle.hfs_btree.specs.declared.key.Key.{Ghosts}
 use Rattle.hfs_btree_checks.specs.declared.key_range.KeyRange.{KeyRange}
 use Rattle.hfs_btree.specs.Pairs.{Order, Pairs, IsAtMost, IsAbove}
-use Rattle.hfs_scans.specs.Each.{Each}
+use Rattle.hfs_fields.specs.Each.{Each}
 use Rattle.hfs_btree.specs.Tree.{Store, pair_of, records_in, children}
 use Rattle.hfs_btree_checks.specs.Order.{are_keys_in_order}
 

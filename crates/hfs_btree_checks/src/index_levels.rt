@@ -2,14 +2,13 @@
 
 ghost use Rattle.std.specs.Prelude.{◌≡◌, ◌++◌, true, IfOk, OnOk, map};
 ghost use Rattle.std.specs.List.{list_all};
-ghost use Rattle.hfs_scans.specs.Each.{Each};
+ghost use Rattle.hfs_fields.specs.Each.{Each};
 ghost use Rattle.hfs_btree.specs.Sound.{HasStructure};
 ghost use Rattle.hfs_btree_checks.specs.Order.{index_keys};
 ghost use Rattle.hfs_btree_checks.specs.KeySteps.{IsKeyNode, AddsKeys, AddsAllKeys, AddsChildren, IsNextLevel};
 
 use crate::shape_node::push_children;
-use hfs_btree::{Key, Nodes, index_key_of, read_header};
-use hfs_node::{NodeView, view};
+use hfs_btree::{Key, NodeView, Nodes, index_key_of, read_header, view};
 use std::alloc::{AllocError, Global};
 
 /// Adds the keys of an index node.

@@ -2,7 +2,7 @@
 
 ghost use Rattle.std.specs.Prelude.{◌≡◌, true, None, IfOk, OnOk, IfErr};
 ghost use Rattle.std.specs.List.{list_all};
-ghost use Rattle.hfs_scans.specs.Each.{Each};
+ghost use Rattle.hfs_fields.specs.Each.{Each};
 ghost use Rattle.hfs_btree.specs.Tree.{reads_at, key_at};
 ghost use Rattle.hfs_btree.specs.Sound.{HasStructure};
 ghost use Rattle.hfs_btree_checks.specs.Order.{key_fault};
@@ -12,8 +12,7 @@ ghost use Rattle.hfs_btree_checks.specs.KeySteps.{IsKeyNode, level_key_fault, al
 use crate::fault::TreeFault;
 use crate::key_test::KeyTest;
 use crate::shape_node::push_children;
-use hfs_btree::{Key, Nodes, index_key_of, key_of, read_header};
-use hfs_node::{NodeView, view};
+use hfs_btree::{Key, NodeView, Nodes, index_key_of, key_of, read_header, view};
 use std::alloc::{AllocError, Global};
 
 /// The key of a record of a node `above` levels above the leaves.

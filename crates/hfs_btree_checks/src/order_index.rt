@@ -2,15 +2,14 @@
 
 ghost use Rattle.std.specs.Prelude.{◌≡◌, ◌≤◌, true, map};
 ghost use Rattle.std.specs.Option.{is_none};
-ghost use Rattle.hfs_scans.specs.Each.{Each};
+ghost use Rattle.hfs_fields.specs.Each.{Each};
 ghost use Rattle.hfs_btree.specs.Tree.{pair_of, under};
 ghost use Rattle.hfs_btree.specs.Sound.{HasStructure};
 ghost use Rattle.hfs_btree_checks.specs.Order.{first_unkeyed, are_keys_in_order, index_order_fault};
 ghost use Rattle.hfs_btree_checks.specs.Subtree.{HasRange, IsSubtree, is_subtree_keyed};
 
 use crate::key_range::{KeyRange, is_between, joined, widened};
-use hfs_btree::{Key, Nodes, child_of, read_header};
-use hfs_node::{NodeView, view};
+use hfs_btree::{Key, NodeView, Nodes, child_of, read_header, view};
 
 /// What the keys of a node and of those below it show.
 #[derive(Clone, Copy)]

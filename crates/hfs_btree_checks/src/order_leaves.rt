@@ -1,16 +1,15 @@
 //! The order of a tree's leaf keys.
 
 ghost use Rattle.std.specs.Prelude.{◌≡◌, true, None};
-ghost use Rattle.hfs_node.specs.Node.{node_of};
-ghost use Rattle.hfs_scans.specs.Each.{Each};
+ghost use Rattle.hfs_btree.specs.Node.{node_of};
+ghost use Rattle.hfs_fields.specs.Each.{Each};
 ghost use Rattle.hfs_btree.specs.Tree.{records_of, pairs_of};
 ghost use Rattle.hfs_btree.specs.Header.{tree_content};
 ghost use Rattle.hfs_btree.specs.Sound.{HasStructure, HasCounts};
 ghost use Rattle.hfs_btree_checks.specs.Order.{rise_fault, pair_order_fault, leaf_order_fault};
 ghost use Rattle.hfs_btree_checks.specs.Rises.{is_past, fall_from, last_key, fall_number, fall_leaf};
 
-use hfs_btree::{Key, Nodes, count_in, forward_in, key_of, read_header};
-use hfs_node::view;
+use hfs_btree::{Key, Nodes, count_in, forward_in, key_of, read_header, view};
 
 /// Whether a key is above the one before it, if there is one.
 fn is_past<K: Key>(last: Option<K>, key: &K) -> bool

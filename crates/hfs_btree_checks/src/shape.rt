@@ -15,8 +15,7 @@ use crate::shape_header::checked_header;
 use crate::shape_levels::{Leaves, check_levels};
 use crate::shape_map::MappedNodes;
 use crate::tree_counts::{TreeCounts, in_field, tells_right};
-use hfs_btree::{Header, Key, Nodes};
-use hfs_node::view;
+use hfs_btree::{Header, Key, Nodes, view};
 use std::alloc::Global;
 
 /// Whether the header record names the ends of the last level, and no root in an empty tree.

@@ -10,8 +10,7 @@ ghost use Rattle.hfs_btree_checks.specs.ShapeSteps.{IsWrongAt, is_new_map_node, 
 
 use crate::fault::TreeFault;
 use crate::shape_map::MappedNodes;
-use hfs_btree::Nodes;
-use hfs_node::{NodeKind, NodeView, view};
+use hfs_btree::{NodeKind, NodeView, Nodes, view};
 use std::alloc::Global;
 
 /// Checks node `n` of the chain of map nodes; `met` has a mark for each node that was met before. If it is right, marks it as

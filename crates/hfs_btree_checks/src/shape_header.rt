@@ -3,8 +3,7 @@
 ghost use Rattle.std.specs.Prelude.{◌≡◌, true, false, MatchOption};
 ghost use Rattle.hfs_btree_checks.specs.Shape.{is_header_value, is_header_record, is_header_with, own_header};
 
-use hfs_btree::{Header, Key};
-use hfs_node::{NodeKind, NodeView};
+use hfs_btree::{Header, Key, NodeKind, NodeView};
 
 /// Whether a node is a header node with three records, the first of at least 106 bytes.
 fn is_header(node: &NodeView) -> bool

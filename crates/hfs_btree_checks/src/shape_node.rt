@@ -10,8 +10,7 @@ ghost use Rattle.hfs_btree_checks.specs.ShapeSteps.{IsWrongAt, is_new_and_right,
 
 use crate::fault::TreeFault;
 use crate::shape_map::MappedNodes;
-use hfs_btree::{Key, Nodes, child_of};
-use hfs_node::{NodeKind, NodeView, view};
+use hfs_btree::{Key, NodeKind, NodeView, Nodes, child_of, view};
 use std::alloc::{AllocError, Global};
 
 /// Whether bytes are a record of a node `above` levels above the leaves.

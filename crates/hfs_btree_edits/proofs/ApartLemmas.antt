@@ -7,10 +7,10 @@ use Rattle.std.proofs.lemmas.Bool.{cases_lt}
 use Rattle.std.proofs.lemmas.List.{get_or_past}
 use Rattle.std.proofs.lemmas.List.FromFn.{length-map-range_with_len}
 use Rattle.hfs_btree.specs.Header.{marks, is_marked, header_in, map_bytes, bit_of}
-use Rattle.hfs_scans.specs.Each.{Each}
+use Rattle.hfs_fields.specs.Each.{Each}
 use Rattle.hfs_btree.specs.Tree.{Store, first_of}
 use Rattle.hfs_btree.specs.Sound.{IsOther, IsDistinct}
-use Rattle.hfs_scans.proofs.ElementLemmas.{each-append, each-left, each-right}
+use Rattle.hfs_fields.proofs.ElementLemmas.{each-append, each-left, each-right}
 
 -- the numbers about one of them are others
 pub apart-at : (xs ys : List ℕ) (x : ℕ) → IsDistinct (xs ++ x ∷ ys) → Each (IsOther x) xs × Each (IsOther x) ys

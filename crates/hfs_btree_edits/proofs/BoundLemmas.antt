@@ -5,8 +5,8 @@ use Rattle.std.specs.declared.cmp.Ordering.TheVariants.{Less, Equal}
 use Rattle.std.specs.Ordering.{is_gt}
 use Rattle.std.specs.Cmp.{IsTotalOrder}
 use Rattle.hfs_btree.specs.Pairs.{Order, Pairs, IsAbove, IsAtMost}
-use Rattle.hfs_scans.specs.Each.{Each}
-use Rattle.hfs_scans.proofs.ElementLemmas.{each-left, each-right, each-append}
+use Rattle.hfs_fields.specs.Each.{Each}
+use Rattle.hfs_fields.proofs.ElementLemmas.{each-left, each-right, each-append}
 use Rattle.hfs_btree.specs.Sound.{ArePartsInOrder}
 
 -- bounds on the keys of `ps` hold of those of `qs`

@@ -8,7 +8,7 @@ use Rattle.hfs_btree.specs.Header.{header_in, record_in, bit_of, free_nodes}
 use Rattle.hfs_btree.specs.Sound.{IsSound, IsStray}
 use Rattle.hfs_btree_edits.specs.Stored.{HasHeaderPut, HasClaimed, IsReleased}
 use Rattle.hfs_btree_edits.specs.MapPlaces.{IsPlaced, HasBitPut}
-use Rattle.hfs_node.specs.Laid.{IsZeroFrom}
+use Rattle.hfs_btree.specs.Laid.{IsZeroFrom}
 use Rattle.hfs_btree.proofs.DecodedLemmas.{decoded-within}
 use Rattle.hfs_btree_edits.proofs.RemarkedLemmas.{remarked}
 use Rattle.hfs_btree_edits.proofs.ClaimedLemmas.{claimed}

@@ -2,8 +2,8 @@
 use Rattle.std.proofs.Common.{◌≡◌, ℕ, ◌<◌, length, refl, sym, subst, arith, inl, inr}
 use Rattle.std.specs.Prelude.{Ok, Err, Result, IsOk}
 use Rattle.std.proofs.lemmas.Bool.{cases_eq, true≢false}
-use Rattle.hfs_node.specs.declared.node.Node.{Node}
-use Rattle.hfs_node.specs.declared.fault.NodeFault.{NodeFault}
+use Rattle.hfs_btree.specs.declared.node.Node.{Node}
+use Rattle.hfs_btree.specs.declared.fault.NodeFault.{NodeFault}
 use Rattle.hfs_btree.specs.Tree.{Store, node_in, records_in, records_of}
 use Rattle.hfs_btree.proofs.DecodedLemmas.{decoded-within}
 use Rattle.hfs_btree_edits.specs.Stored.{Decodes, HasStored}

@@ -2,14 +2,14 @@
 use Rattle.std.proofs.Common.{◌≡◌, ◌≢◌, ℕ, zero, suc, ◌+◌, ◌<◌, ◌≤◌, true, List, [], ◌∷◌, ◌++◌, length, map, get_or, sym, ap, ◌∙◌, subst, arith, inl, inr}
 use Rattle.std.specs.Prelude.{Ok, Err, Result}
 use Rattle.std.proofs.lemmas.Bool.{cases_eq}
-use Rattle.hfs_node.specs.declared.node.Node.{Node}
-use Rattle.hfs_node.specs.declared.kind.NodeKind.{NodeKind}
-use Rattle.hfs_node.specs.declared.kind.NodeKind.TheVariants.{Header, Map, Leaf}
-use Rattle.hfs_node.specs.declared.fault.NodeFault.{NodeFault}
+use Rattle.hfs_btree.specs.declared.node.Node.{Node}
+use Rattle.hfs_btree.specs.declared.kind.NodeKind.{NodeKind}
+use Rattle.hfs_btree.specs.declared.kind.NodeKind.TheVariants.{Header, Map, Leaf}
+use Rattle.hfs_btree.specs.declared.fault.NodeFault.{NodeFault}
 use Rattle.hfs_btree.specs.declared.key.Key.{Ghosts}
 use Rattle.hfs_btree.specs.declared.header.Header.{Header as HeaderRecord}
-use Rattle.hfs_scans.specs.Each.{Each}
-use Rattle.hfs_scans.proofs.ElementLemmas.{each-mono}
+use Rattle.hfs_fields.specs.Each.{Each}
+use Rattle.hfs_fields.proofs.ElementLemmas.{each-mono}
 use Rattle.hfs_btree.specs.Tree.{Store, Spot, node_in, records_of, children, first_of, last_of, turn, last_level, kind_at, reads_at}
 use Rattle.hfs_btree.specs.Header.{header_in, map_nodes, own_nodes, depth_of, root_level, leaves, tree_turn, tree_nodes}
 use Rattle.hfs_btree.specs.Sound.{IsDistinct, IsOther, IsMapNode, IsMarked, IsRight, HasStructure, KeepsFrame}

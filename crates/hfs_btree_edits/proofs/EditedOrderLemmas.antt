@@ -3,8 +3,8 @@ use Rattle.std.proofs.Common.{◌≡◌, ℕ, zero, suc, ◌<◌, List, [], ◌�
 use Rattle.std.specs.List.{flat_map}
 use Rattle.std.specs.Cmp.{IsTotalOrder}
 use Rattle.hfs_btree.specs.declared.key.Key.{Ghosts}
-use Rattle.hfs_scans.specs.Each.{Each}
-use Rattle.hfs_scans.proofs.ElementLemmas.{each-left, each-right, each-append, each-unmap}
+use Rattle.hfs_fields.specs.Each.{Each}
+use Rattle.hfs_fields.proofs.ElementLemmas.{each-left, each-right, each-append, each-unmap}
 use Rattle.hfs_btree.specs.Tree.{Store, Spot, records_in, children, pairs, spots, turn, under, first_of}
 use Rattle.hfs_btree.specs.Sound.{AreKeysInOrder, ArePartsInOrder, part_of}
 use Rattle.hfs_btree.proofs.LevelLemmas.{each-spots}

@@ -6,7 +6,7 @@ use Rattle.std.specs.Cmp.{IsTotalOrder}
 use Rattle.std.proofs.lemmas.Bool.{cond-true, cond-false}
 use Rattle.hfs_btree.specs.Pairs.{Order, Pairs, Rises, IsAbove}
 use Rattle.hfs_btree.proofs.PairLemmas.{IsBelow}
-use Rattle.hfs_scans.proofs.ElementLemmas.{each-mono, each-left, each-right, each-append}
+use Rattle.hfs_fields.proofs.ElementLemmas.{each-mono, each-left, each-right, each-append}
 use Rattle.hfs_btree_edits.specs.Edits.{with_replaced, without_pair}
 use Rattle.hfs_btree.proofs.LookupLemmas.{flipped}
 

@@ -4,13 +4,13 @@ use Rattle.std.specs.Prelude.{Ok, Err, Result}
 use Rattle.std.specs.List.{flat_map}
 use Rattle.std.proofs.lemmas.Bool.{cases_eq}
 use Rattle.std.proofs.lemmas.List.{length-map}
-use Rattle.hfs_node.specs.declared.node.Node.{Node}
-use Rattle.hfs_node.specs.declared.fault.NodeFault.{NodeFault}
-use Rattle.hfs_node.specs.Node.{node_of}
-use Rattle.hfs_node.proofs.DecodingLemmas.{node_of-is, length-records, count-inside}
+use Rattle.hfs_btree.specs.declared.node.Node.{Node}
+use Rattle.hfs_btree.specs.declared.fault.NodeFault.{NodeFault}
+use Rattle.hfs_btree.specs.Node.{node_of}
+use Rattle.hfs_btree.proofs.DecodingLemmas.{node_of-is, length-records, count-inside}
 use Rattle.hfs_btree.specs.declared.key.Key.{Ghosts}
-use Rattle.hfs_scans.specs.Each.{Each}
-use Rattle.hfs_scans.proofs.ElementLemmas.{each-append, each-left, each-right}
+use Rattle.hfs_fields.specs.Each.{Each}
+use Rattle.hfs_fields.proofs.ElementLemmas.{each-append, each-left, each-right}
 use Rattle.hfs_btree.specs.Tree.{Store, node_in, records_in, records_of, pair_of, pairs}
 use Rattle.hfs_btree.specs.Header.{header_in, depth_of, root_level, leaves, own_nodes, tree_nodes, tree_content}
 use Rattle.hfs_btree.specs.Sound.{HasStructure, IsOther, IsDistinct, IsRight, IsSound}

@@ -3,10 +3,10 @@ use Rattle.std.proofs.Common.{sym, subst, inl, inr}
 use Rattle.std.specs.Prelude.{List, [], ◌∷◌, refl}
 use Rattle.std.specs.List.{flat_map}
 use Rattle.hfs_btree.specs.declared.key.Key.{Ghosts}
-use Rattle.hfs_scans.specs.Each.{Each}
-use Rattle.hfs_scans.specs.Members.{In}
-use Rattle.hfs_scans.proofs.MemberLemmas.{each_in}
-use Rattle.hfs_scans.proofs.ElementLemmas.{each-append, each-left, each-right, each-mono, each-map, each-unmap}
+use Rattle.hfs_fields.specs.Each.{Each}
+use Rattle.hfs_fields.specs.Members.{In}
+use Rattle.hfs_fields.proofs.MemberLemmas.{each_in}
+use Rattle.hfs_fields.proofs.ElementLemmas.{each-append, each-left, each-right, each-mono, each-map, each-unmap}
 use Rattle.hfs_btree.specs.Tree.{Store, Spot, records_in}
 use Rattle.hfs_btree.specs.Header.{tree_turn}
 use Rattle.hfs_btree.specs.Tree.{key_at}

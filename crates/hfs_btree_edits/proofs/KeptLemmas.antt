@@ -5,14 +5,14 @@ use Rattle.std.specs.List.{flat_map, range_with_len, count_by}
 use Rattle.std.proofs.lemmas.Bool.{cases_Bool, cond-true, cond-false}
 use Rattle.hfs_btree.specs.declared.header.Header.{Header}
 use Rattle.hfs_btree.specs.declared.key.Key.{Ghosts}
-use Rattle.hfs_scans.specs.Each.{Each}
-use Rattle.hfs_scans.proofs.ElementLemmas.{each-mono}
+use Rattle.hfs_fields.specs.Each.{Each}
+use Rattle.hfs_fields.proofs.ElementLemmas.{each-mono}
 use Rattle.hfs_btree.specs.Tree.{Store, node_in, records_in, records_of, forward_of}
 use Rattle.hfs_btree.specs.Header.{header_of, header_in, record_in, chain_from, map_nodes, own_nodes, map_bytes, bit_of, marks, free_nodes}
 use Rattle.hfs_btree.specs.Sound.{HasHeader, HasMap, IsMapNode, IsMarked}
 use Rattle.hfs_btree_edits.specs.Stored.{IsSame}
 use Rattle.hfs_btree_edits.specs.Stored.{IsOnward}
-use Rattle.hfs_scans.proofs.PartLemmas.{flat_map-same}
+use Rattle.hfs_fields.proofs.PartLemmas.{flat_map-same}
 
 module _ (old new : Store) where
   pub same-records : (n : ℕ) → IsSame old new n → records_in new n ≡ records_in old n

@@ -3,8 +3,8 @@ use Rattle.std.proofs.Common.{◌≡◌, ℕ, zero, suc, ◌+◌, List, [], ◌�
 use Rattle.std.specs.List.{flat_map}
 use Rattle.hfs_btree.specs.declared.key.Key.{Ghosts}
 use Rattle.hfs_btree.specs.Pairs.{Pairs}
-use Rattle.hfs_scans.specs.Each.{Each}
-use Rattle.hfs_scans.proofs.ElementLemmas.{each-append, each-left, each-right}
+use Rattle.hfs_fields.specs.Each.{Each}
+use Rattle.hfs_fields.proofs.ElementLemmas.{each-append, each-left, each-right}
 use Rattle.hfs_btree.specs.Tree.{Store, Spot, records_in, children, pair_of, spots, turn, under, level_below}
 use Rattle.hfs_btree.specs.Sound.{ArePartsInOrder, AreKeysInOrder, part_of}
 use Rattle.hfs_btree_edits.specs.LevelParts.{lift}

@@ -8,8 +8,8 @@ use Rattle.std.proofs.lemmas.List.{get_or-set_same, get_or-set_other, get_or_pas
 use Rattle.hfs_btree.specs.declared.header.Header.{Header as HeaderRecord}
 use Rattle.hfs_btree.specs.declared.key.Key.{Ghosts}
 use Rattle.hfs_btree.specs.Pairs.{Pairs, Rises}
-use Rattle.hfs_scans.specs.Each.{Each}
-use Rattle.hfs_scans.proofs.ElementLemmas.{each-left, each-right, each-unmap}
+use Rattle.hfs_fields.specs.Each.{Each}
+use Rattle.hfs_fields.proofs.ElementLemmas.{each-left, each-right, each-unmap}
 use Rattle.hfs_btree.specs.Tree.{Store, Spot, first_of, last_of, turn, last_level, pairs}
 use Rattle.hfs_btree.specs.Header.{header_in, depth_of, root_level, map_nodes, own_nodes, marks, free_nodes, leaves, tree_content, tree_turn, tree_nodes}
 use Rattle.hfs_btree.specs.Sound.{IsOther, IsDistinct, IsRight, IsMapNode, IsMarked, IsSound, IsExact, IsStray, HasHeader, HasMap, AreKeysInOrder, AreKeysExact}

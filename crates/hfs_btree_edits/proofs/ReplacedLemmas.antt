@@ -7,13 +7,13 @@ use Rattle.std.specs.declared.cmp.Ordering.TheVariants.{Equal}
 use Rattle.std.proofs.lemmas.Bool.{cases_eq}
 use Rattle.std.proofs.lemmas.List.{length-set, get_or-set_same, get_or-set_other}
 use Rattle.std.proofs.lemmas.List.Concat.{flat_map-append}
-use Rattle.hfs_node.specs.declared.node.Node.{Node}
-use Rattle.hfs_node.specs.declared.kind.NodeKind.TheVariants.{Leaf}
+use Rattle.hfs_btree.specs.declared.node.Node.{Node}
+use Rattle.hfs_btree.specs.declared.kind.NodeKind.TheVariants.{Leaf}
 use Rattle.hfs_btree.specs.declared.header.Header.{Header}
 use Rattle.hfs_btree.specs.declared.key.Key.{Ghosts}
 use Rattle.hfs_btree.specs.Pairs.{Pairs, Rises, IsAbove, lookup}
-use Rattle.hfs_scans.specs.Each.{Each}
-use Rattle.hfs_scans.proofs.ElementLemmas.{each-at, each-mono, each-both, each-unmap, each-left, each-right}
+use Rattle.hfs_fields.specs.Each.{Each}
+use Rattle.hfs_fields.proofs.ElementLemmas.{each-at, each-mono, each-both, each-unmap, each-left, each-right}
 use Rattle.hfs_btree.specs.Tree.{Store, Spot, level_below, last_level, node_in, records_in, records_of, children, pair_of, pairs, first_of, spots, turn}
 use Rattle.hfs_btree.specs.Header.{header_in, depth_of, root_level, tree_content, tree_turn, tree_nodes, own_nodes, free_nodes}
 use Rattle.hfs_btree.specs.Sound.{IsDistinct, IsOther, IsRight, IsSound, IsExact, HasCounts, AreKeysExact, AreKeysInOrder, first_key}
@@ -22,18 +22,18 @@ use Rattle.hfs_btree.proofs.SearchLemmas.{IsLeafFor}
 use Rattle.hfs_btree_edits.specs.Edits.{HasReplaced, with_replaced}
 use Rattle.hfs_btree_edits.specs.Conditions.{IsNoLonger, IsThere}
 use Rattle.hfs_btree_edits.proofs.ConditionLemmas.{no_longer-there}
-use Rattle.hfs_node.specs.Laid.{IsClear}
+use Rattle.hfs_btree.specs.Laid.{IsClear}
 use Rattle.hfs_btree.specs.Tree.{key_at}
 use Rattle.hfs_btree_edits.specs.KeptKeys.{EachKey}
 use Rattle.hfs_btree_edits.proofs.KeptKeyLemmas.{hold-keys_with}
 use Rattle.hfs_btree_edits.specs.Stored.{HasStored, bytes_in}
-use Rattle.hfs_node.specs.Node.{node_of, size_of, Fits}
-use Rattle.hfs_node.proofs.SizeLemmas.{size_of-set}
+use Rattle.hfs_btree.specs.Node.{node_of, size_of, Fits}
+use Rattle.hfs_btree.proofs.SizeLemmas.{size_of-set}
 use Rattle.hfs_btree.proofs.DecodedLemmas.{read-in}
 use Rattle.hfs_btree.proofs.FoundLemmas.{found-entries, found-body}
 use Rattle.hfs_btree.proofs.LevelLemmas.{each-spots, map-split, at-spot}
 use Rattle.hfs_btree.proofs.DescentLemmas.{leaf-found, leaf-node, content-about, content-none}
-use Rattle.hfs_scans.proofs.PartLemmas.{flat_map-same}
+use Rattle.hfs_fields.proofs.PartLemmas.{flat_map-same}
 use Rattle.hfs_btree_edits.proofs.KeptLemmas.{header-kept, marks-kept, free-same}
 use Rattle.hfs_btree_edits.proofs.EditedLemmas.{IsEdited, at-height, height-in, head-stays, map-stays, turn-stays, leaves-stay, nodes-stay, frame-stays, structure-stays}
 use Rattle.hfs_btree_edits.proofs.EditedPairLemmas.{rises-before, rises-with, replaced-at, above-equal, swap-equal}

@@ -2,10 +2,10 @@
 use Rattle.std.proofs.Common.{◌≡◌, ℕ, ◌<◌, ◌≤◌, arith, List, [], ◌∷◌, length, get_or, set, sym, ap, ◌∙◌, subst, get_or-set_same, get_or-set_other}
 use Rattle.std.specs.Prelude.{Ok, Err, Result, OnOk}
 use Rattle.std.proofs.Math.ListN.{length-set}
-use Rattle.hfs_node.specs.declared.node.Node.{Node}
-use Rattle.hfs_node.specs.Node.{node_of, size_of}
-use Rattle.hfs_node.specs.Laid.{IsClear}
-use Rattle.hfs_node.proofs.SizeLemmas.{size_of-set}
+use Rattle.hfs_btree.specs.declared.node.Node.{Node}
+use Rattle.hfs_btree.specs.Node.{node_of, size_of}
+use Rattle.hfs_btree.specs.Laid.{IsClear}
+use Rattle.hfs_btree.proofs.SizeLemmas.{size_of-set}
 use Rattle.hfs_btree.specs.Tree.{Store, node_in, records_of}
 use Rattle.hfs_btree.specs.Header.{header_of}
 use Rattle.hfs_btree.specs.declared.header.Header.{Header}

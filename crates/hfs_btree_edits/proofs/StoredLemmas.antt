@@ -1,9 +1,9 @@
 -- Lemmas about the definitions of specs/Stored.antt.
 use Rattle.std.specs.Prelude.{◌≡◌, ◌≢◌, ℕ, ◌≤◌, Ok, length}
-use Rattle.hfs_node.specs.declared.kind.NodeKind.TheVariants.{Header as HeaderKind}
-use Rattle.hfs_node.specs.declared.node.Node.{Node}
+use Rattle.hfs_btree.specs.declared.kind.NodeKind.TheVariants.{Header as HeaderKind}
+use Rattle.hfs_btree.specs.declared.node.Node.{Node}
 use Rattle.hfs_btree.specs.declared.key.Key.{Ghosts}
-use Rattle.hfs_scans.specs.Each.{Each}
+use Rattle.hfs_fields.specs.Each.{Each}
 use Rattle.hfs_btree.specs.Tree.{Store, node_in}
 use Rattle.hfs_btree.specs.Header.{header_in, record_in, depth_of, map_nodes}
 use Rattle.hfs_btree_edits.specs.Stored.{IsSame, IsOnward}

@@ -3,13 +3,13 @@ use Rattle.std.proofs.Common.{◌≡◌, ℕ, zero, suc, List, [], ◌∷◌, ma
 use Rattle.std.specs.List.{flat_map}
 use Rattle.std.specs.declared.cmp.Ordering.TheVariants.{Equal}
 use Rattle.hfs_btree.specs.declared.key.Key.{Ghosts}
-use Rattle.hfs_scans.specs.Each.{Each}
-use Rattle.hfs_scans.proofs.ElementLemmas.{each-mono, each-left}
+use Rattle.hfs_fields.specs.Each.{Each}
+use Rattle.hfs_fields.proofs.ElementLemmas.{each-mono, each-left}
 use Rattle.hfs_btree.specs.Tree.{Store, Spot, node_in, records_in, records_of, children, pair_of, pairs, spots, turn, last_level}
 use Rattle.hfs_btree.specs.Header.{header_in}
 use Rattle.hfs_btree.specs.Sound.{IsMarked, IsRight, AreKeysInOrder, AreKeysExact, first_key}
 use Rattle.hfs_btree.proofs.LevelLemmas.{each-spots}
-use Rattle.hfs_scans.proofs.PartLemmas.{flat_map-same}
+use Rattle.hfs_fields.proofs.PartLemmas.{flat_map-same}
 use Rattle.hfs_btree_edits.proofs.TurnLemmas.{HasSameChildren, last-same}
 use Rattle.hfs_btree_edits.proofs.EditedOrderLemmas.{turn-step}
 use Rattle.hfs_btree_edits.proofs.LevelPartLemmas.{KeepsAt, KeepsRecords, turn-kept, turn-keyed}
@@ -96,7 +96,7 @@ module _ {K : Type 0} (g : Ghosts K) (old new : Store) where
   last-records : (k : ℕ) (ns : List ℕ) → Each (IsUnchanged old new) (turn g old (suc k) ns) → Each (KeepsRecords g old new) (Rattle.hfs_btree.specs.Tree.level_below g old k ns)
   last-records zero ns h = each-spots (IsUnchanged old new) (KeepsRecords g old new) zero (λ l n r u. ap records_of u.same) 0 ns (each-left (IsUnchanged old new) (spots zero 0 ns) [] h)
   last-records (suc k) ns h =
-      last-records k (flat_map (children g old) ns) (Rattle.hfs_scans.proofs.ElementLemmas.each-right (IsUnchanged old new) (spots (suc k) 0 ns) (turn g old (suc k) (flat_map (children g old) ns)) h)
+      last-records k (flat_map (children g old) ns) (Rattle.hfs_fields.proofs.ElementLemmas.each-right (IsUnchanged old new) (spots (suc k) 0 ns) (turn g old (suc k) (flat_map (children g old) ns)) h)
 
   pub content-unchanged : (d : ℕ) (ns : List ℕ) → Each (IsUnchanged old new) (turn g old d ns) → flat_map (pairs g new) (last_level g new d ns) ≡ flat_map (pairs g old) (last_level g old d ns)
   content-unchanged zero ns h = refl

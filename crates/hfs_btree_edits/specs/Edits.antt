@@ -2,12 +2,12 @@
 use Rattle.std.specs.Prelude.{◌≡◌, ◌≢◌, false, ℕ, zero, suc, ◌+◌, ◌-◌, ◌<◌, ◌≤◌, List, [], ◌∷◌, ◌++◌, length, if◌then◌else◌, Result, OnOk}
 use Rattle.std.specs.declared.cmp.Ordering.TheVariants.{Less}
 use Rattle.std.specs.Ordering.{is_eq, is_gt}
-use Rattle.hfs_node.specs.Node.{size_of}
-use Rattle.hfs_node.specs.Laid.{IsClear, IsZeroFrom}
+use Rattle.hfs_btree.specs.Node.{size_of}
+use Rattle.hfs_btree.specs.Laid.{IsClear, IsZeroFrom}
 use Rattle.hfs_btree.specs.declared.key.Key.{Ghosts}
 use Rattle.hfs_btree.specs.Pairs.{Order, Pairs}
-use Rattle.hfs_scans.specs.Each.{Each}
-use Rattle.hfs_scans.specs.Members.{In}
+use Rattle.hfs_fields.specs.Each.{Each}
+use Rattle.hfs_fields.specs.Members.{In}
 use Rattle.hfs_btree.specs.Tree.{Store, records_in, level_below}
 use Rattle.hfs_btree.specs.Header.{header_in, depth_of, root_level, own_nodes, is_marked, free_nodes, tree_content, tree_nodes}
 use Rattle.hfs_btree.specs.Search.{leaf_under, leaf_for}

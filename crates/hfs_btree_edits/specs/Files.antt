@@ -1,7 +1,7 @@
 -- Files whose nodes lie in runs of blocks, with a patch over the blocks.
 use Rattle.std.specs.Prelude.{◌≡◌, ◌<◌, length, Some, ℕ, Bool, false, ◌||◌, nat_eq, if◌then◌else◌, List, [], ◌∷◌}
 use Rattle.hfs_blocks.specs.Layers.{Changes}
-use Rattle.hfs_scans.specs.Each.{Each}
+use Rattle.hfs_fields.specs.Each.{Each}
 use Rattle.hfs_btree.specs.Sound.{IsOther, IsDistinct}
 
 -- ---- that no number is there twice is a proposition

@@ -2,8 +2,8 @@
 use Rattle.std.specs.Prelude.{◌≡◌, ◌⊎◌, List, map}
 use Rattle.std.specs.List.{flat_map}
 use Rattle.hfs_btree.specs.declared.key.Key.{Ghosts}
-use Rattle.hfs_scans.specs.Each.{Each}
-use Rattle.hfs_scans.specs.Members.{In}
+use Rattle.hfs_fields.specs.Each.{Each}
+use Rattle.hfs_fields.specs.Members.{In}
 use Rattle.hfs_btree.specs.Tree.{Store, Spot, records_in}
 use Rattle.hfs_btree.specs.Header.{tree_turn}
 use Rattle.hfs_btree.specs.Tree.{key_at}

@@ -1,7 +1,7 @@
 -- Where the bit of a node is in the node map, and what writing it makes of the nodes.
 use Rattle.std.specs.Prelude.{◌≡◌, ℕ, zero, suc, ◌+◌, ◌*◌, ◌<◌, ◌⊎◌, Bool, true, false, List, [], ◌∷◌, ◌++◌, Ok, length, slice_set, slice_index_or}
 use Rattle.std.specs.List.{flat_map}
-use Rattle.hfs_node.specs.declared.node.Node.{Node}
+use Rattle.hfs_btree.specs.declared.node.Node.{Node}
 use Rattle.hfs_btree.specs.Tree.{Store, node_in}
 use Rattle.hfs_btree.specs.Header.{record_in, own_nodes, bit_of}
 use Rattle.hfs_btree_edits.specs.declared.map_bit.MapBit.{MapBit}

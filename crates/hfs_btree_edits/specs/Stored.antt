@@ -1,11 +1,11 @@
 -- What writes of nodes make of a tree's file.
 use Rattle.std.specs.Prelude.{◌≡◌, ◌≢◌, ℕ, ◌+◌, ◌-◌, ◌≤◌, List, [], Ok, length, slice_set, slice_index_or, false, ◌↔◌, IsOk}
-use Rattle.hfs_node.specs.Laid.{IsClear, IsZeroFrom}
-use Rattle.hfs_node.specs.declared.kind.NodeKind.TheVariants.{Header as HeaderKind}
-use Rattle.hfs_node.specs.declared.node.Node.{Node}
+use Rattle.hfs_btree.specs.Laid.{IsClear, IsZeroFrom}
+use Rattle.hfs_btree.specs.declared.kind.NodeKind.TheVariants.{Header as HeaderKind}
+use Rattle.hfs_btree.specs.declared.node.Node.{Node}
 use Rattle.hfs_btree.specs.declared.header.Header.{Header}
 use Rattle.hfs_btree.specs.declared.key.Key.{Ghosts}
-use Rattle.hfs_scans.specs.Each.{Each}
+use Rattle.hfs_fields.specs.Each.{Each}
 use Rattle.hfs_btree.specs.Tree.{Store, Spot, node_in, forward_of}
 use Rattle.hfs_btree.specs.Header.{header_of, header_in, record_in, free_nodes, tree_turn, tree_content, map_nodes, own_nodes, map_bytes, marks}
 use Rattle.hfs_btree.specs.Sound.{IsOther, IsMapNode, IsSound, IsExact, IsStray}

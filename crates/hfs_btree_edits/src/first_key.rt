@@ -1,11 +1,10 @@
 //! The first key of a node.
 
 ghost use Rattle.std.specs.Prelude.{◌≡◌, ◌≢◌, ◌<◌, true, length};
-ghost use Rattle.hfs_node.specs.declared.kind.NodeKind.TheVariants.{Leaf};
+ghost use Rattle.hfs_btree.specs.declared.kind.NodeKind.TheVariants.{Leaf};
 ghost use Rattle.hfs_btree_edits.specs.Entries.{first_record};
 
-use hfs_btree::{Key, index_key_of, key_of};
-use hfs_node::{Node, NodeKind};
+use hfs_btree::{Key, Node, NodeKind, index_key_of, key_of};
 
 /// The first key of a leaf or an index node.
 pub fn first_key_of<K: Key>(node: &Node) -> K

@@ -1,7 +1,7 @@
 //! The bit of a node in the node map.
 
 ghost use Rattle.std.specs.Prelude.{◌≡◌, ◌*◌, ◌<◌, ◌≤◌, [], false, IfNone, IfOk, IfSome, OnOk, MatchOption, length, slice_index_or};
-ghost use Rattle.hfs_node.specs.Node.{node_of};
+ghost use Rattle.hfs_btree.specs.Node.{node_of};
 ghost use Rattle.hfs_btree.specs.Tree.{records_of};
 ghost use Rattle.hfs_btree.specs.Header.{header_in, record_in, bit_of, free_nodes};
 ghost use Rattle.hfs_btree.specs.Sound.{HasMap};
@@ -9,8 +9,7 @@ ghost use Rattle.hfs_btree_edits.specs.MapPlaces.{IsPlaceOfNode, IsClearAt, HasW
 
 use crate::nodes_mut::NodesMut;
 use crate::stored::{store_replaced, viewed};
-use hfs_btree::{Nodes, bit_at, forward_in};
-use hfs_node::view;
+use hfs_btree::{Nodes, bit_at, forward_in, view};
 use std::alloc::{AllocError, Global};
 
 /// Where a node's bit is.

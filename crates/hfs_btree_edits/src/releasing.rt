@@ -7,8 +7,7 @@ ghost use Rattle.hfs_btree.specs.Sound.{IsSound, IsStray};
 use crate::header_store::put_header;
 use crate::map_bit::{bit_of_node, put_bit};
 use crate::nodes_mut::NodesMut;
-use hfs_btree::{Key, read_header};
-use hfs_node::BLANK_NODE;
+use hfs_btree::{BLANK_NODE, Key, read_header};
 use std::alloc::{AllocError, Global};
 
 /// Releases a stray node: it is blank and free afterwards, and the tree is the same.

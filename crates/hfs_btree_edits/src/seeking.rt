@@ -1,8 +1,8 @@
 //! Where a record is in a tree.
 
 ghost use Rattle.std.specs.Prelude.{◌≡◌, ◌<◌, true, None, IfNone, IfSome, MatchOption, length};
-ghost use Rattle.hfs_node.specs.Node.{node_of};
-ghost use Rattle.hfs_scans.specs.Each.{Each};
+ghost use Rattle.hfs_btree.specs.Node.{node_of};
+ghost use Rattle.hfs_fields.specs.Each.{Each};
 ghost use Rattle.hfs_btree.specs.Pairs.{lookup};
 ghost use Rattle.hfs_btree.specs.Tree.{records_of, pairs_of};
 ghost use Rattle.hfs_btree.specs.Header.{body_at};
@@ -10,8 +10,7 @@ ghost use Rattle.hfs_btree.specs.Sound.{IsSound};
 ghost use Rattle.hfs_btree_edits.specs.Entries.{HasBodyAt, HasKeyAt, IsPlaceOf};
 ghost use Rattle.hfs_btree_edits.specs.Conditions.{IsThere};
 
-use hfs_btree::{Key, Nodes, descend, read_header};
-use hfs_node::view;
+use hfs_btree::{Key, Nodes, descend, read_header, view};
 
 /// Where a record is in a tree.
 #[derive(Clone, Copy)]

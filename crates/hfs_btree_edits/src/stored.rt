@@ -1,15 +1,14 @@
 //! Nodes that are read into memory and written back.
 
 ghost use Rattle.std.specs.Prelude.{◌≡◌, ◌<◌, ◌≤◌, [], Ok, IfOk, OnOk, insert, length, slice_index_or, slice_set};
-ghost use Rattle.hfs_node.specs.Node.{Fits, node_from, node_of, size_of};
+ghost use Rattle.hfs_btree.specs.Node.{Fits, node_from, node_of, size_of};
 ghost use Rattle.hfs_btree.specs.Tree.{node_in};
 ghost use Rattle.hfs_btree_edits.specs.Stored.{Decodes, HasStored};
 
 use crate::nodes_mut::NodesMut;
-use hfs_btree::Nodes;
-use hfs_node::{
-    BLANK_NODE, Descriptor, InsertedRow, Node, NodeView, RecordRow, Records, ReplacedRow, encode,
-    encode_row, view,
+use hfs_btree::{
+    BLANK_NODE, Descriptor, InsertedRow, Node, NodeView, Nodes, RecordRow, Records, ReplacedRow,
+    encode, encode_row, view,
 };
 use std::alloc::{AllocError, Global};
 

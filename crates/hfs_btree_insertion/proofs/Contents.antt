@@ -10,8 +10,8 @@ use Rattle.std.specs.Prelude.{⊤}
 use Rattle.std.proofs.lemmas.List.Folds.{flat_map-map}
 use Rattle.hfs_btree_insertion.proofs.PartLists.{parts-left, parts-right, rises-before, rises-right, rises-least, above-front, first-most}
 use Rattle.hfs_btree.specs.Pairs.{Pairs, Rises, IsAbove, IsAtMost}
-use Rattle.hfs_scans.specs.Each.{Each}
-use Rattle.hfs_scans.proofs.ElementLemmas.{each-append, each-left, each-right, each-mono, each-unmap}
+use Rattle.hfs_fields.specs.Each.{Each}
+use Rattle.hfs_fields.proofs.ElementLemmas.{each-append, each-left, each-right, each-mono, each-unmap}
 use Rattle.hfs_btree.specs.Tree.{Store, Spot, records_in, children, pair_of, pairs, spots, turn, under, level_below, last_level}
 use Rattle.hfs_btree.specs.Header.{depth_of, root_level, tree_content}
 use Rattle.hfs_btree.specs.Sound.{AreKeysInOrder, ArePartsInOrder, IsRight, part_of}

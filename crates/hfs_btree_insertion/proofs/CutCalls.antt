@@ -3,13 +3,13 @@ use Rattle.std.proofs.Common.{◌≡◌, ◌≢◌, ℕ, suc, ◌+◌, ◌<◌, 
 use Rattle.std.specs.Prelude.{true, false, All, Ok, Result, insert}
 use Rattle.std.specs.Cmp.{IsTotalOrder}
 use Rattle.std.proofs.lemmas.Bool.{eq-eqb}
-use Rattle.hfs_node.specs.declared.node.Node.{Node}
-use Rattle.hfs_node.specs.declared.fault.NodeFault.{NodeFault}
-use Rattle.hfs_node.proofs.DecodingLemmas.{node_of-fits}
-use Rattle.hfs_node.proofs.ReadBackLemmas.{few-records}
+use Rattle.hfs_btree.specs.declared.node.Node.{Node}
+use Rattle.hfs_btree.specs.declared.fault.NodeFault.{NodeFault}
+use Rattle.hfs_btree.proofs.DecodingLemmas.{node_of-fits}
+use Rattle.hfs_btree.proofs.ReadBackLemmas.{few-records}
 use Rattle.hfs_btree.specs.declared.key.Key.{Ghosts}
-use Rattle.hfs_scans.specs.Each.{Each}
-use Rattle.hfs_scans.proofs.ElementLemmas.{each-at}
+use Rattle.hfs_fields.specs.Each.{Each}
+use Rattle.hfs_fields.proofs.ElementLemmas.{each-at}
 use Rattle.hfs_btree.specs.Tree.{Store, node_in, records_in, records_of, reads_at, forward_of, first_of}
 use Rattle.hfs_btree.specs.Sound.{IsRight, IsSound, IsStray}
 use Rattle.hfs_btree.proofs.DescentLemmas.{IsOnWay, way-node, index-entries}

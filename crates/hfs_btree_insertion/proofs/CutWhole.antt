@@ -4,7 +4,7 @@ use Rattle.std.specs.Prelude.{Ok, Result}
 use Rattle.std.specs.Cmp.{IsTotalOrder}
 use Rattle.std.specs.List.{flat_map, prefix_len}
 use Rattle.std.proofs.lemmas.Bool.{cases_eq, cases_lt}
-use Rattle.hfs_node.specs.Node.{size_of}
+use Rattle.hfs_btree.specs.Node.{size_of}
 use Rattle.hfs_btree.specs.declared.key.Key.{Ghosts}
 use Rattle.hfs_btree.specs.Tree.{Store, records_in, level_below, first_of}
 use Rattle.hfs_btree.specs.Header.{header_in, depth_of, root_level}
@@ -20,7 +20,7 @@ use Rattle.hfs_btree_edits.proofs.LevelPartLemmas.{lift-is}
 use Rattle.hfs_btree_insertion.proofs.LevelWays.{some-of, standing}
 use Rattle.hfs_btree.proofs.DecodedLemmas.{records-read}
 use Rattle.hfs_btree_insertion.proofs.WayTo.{IsAt, at-level, leaf-next, read-index}
-use Rattle.hfs_scans.specs.Each.{Each}
+use Rattle.hfs_fields.specs.Each.{Each}
 use Rattle.hfs_btree_insertion.proofs.Splits.{new-exact, stray-gone, stray-same, one-more, bytes-same, levels-above, level-grown, levels-below}
 use Rattle.hfs_btree_insertion.proofs.SplitWays.{way-above, way-below, way-node, records-uppers, records-below, low-above, low-half, half-room, new-at, one-down}
 use Rattle.hfs_btree_insertion.proofs.CutKeys.{claimed-stay, claimed-keys, split-stay, split-keys, stay-then, keys-then}
@@ -262,12 +262,12 @@ module _ {K : Type 0} (g : Ghosts K) (key : K) (a m : ℕ) (old mid : Store) (so
   pub mid-deep : a + 1 < depth_of mid
   mid-deep = let same = claimed-depth g m old mid mid c in omega (arith, deep, same)
 
-  pub parent-index : Rattle.hfs_scans.specs.Each.Each (λ e. g.is_index e ≡ Rattle.std.specs.Prelude.true) (Rattle.hfs_btree.specs.Tree.records_of (Rattle.hfs_node.specs.Node.node_of bytes))
+  pub parent-index : Rattle.hfs_fields.specs.Each.Each (λ e. g.is_index e ≡ Rattle.std.specs.Prelude.true) (Rattle.hfs_btree.specs.Tree.records_of (Rattle.hfs_btree.specs.Node.node_of bytes))
   parent-index =
       let P : ℕ → Type 0 = λ x. IsAt g mid key (a + 1) x in
       read-index g mid key (a + 1) p bytes (omega arith) (subst P (sym at) (at-level g mid key (a + 1) c.sound.structure mid-deep)) read
 
-  module _ (place : q ≡ prefix_len (is_not_above g key) (Rattle.hfs_btree.specs.Tree.records_of (Rattle.hfs_node.specs.Node.node_of bytes)) - 1) where
+  module _ (place : q ≡ prefix_len (is_not_above g key) (Rattle.hfs_btree.specs.Tree.records_of (Rattle.hfs_btree.specs.Node.node_of bytes)) - 1) where
     place-is : q ≡ prefix_len (is_not_above g key) (records_in mid (node_for g mid key (a + 1))) - 1
     place-is = place ∙ ap (λ (es : List (List ℕ)). prefix_len (is_not_above g key) es - 1) (records-read mid p bytes read ∙ ap (records_in mid) at)
 

@@ -4,13 +4,13 @@ use Rattle.std.specs.Prelude.{true, false, Bool, All, Ok, Result, insert}
 use Rattle.std.specs.Cmp.{IsTotalOrder}
 use Rattle.std.proofs.lemmas.List.{get_or-drop, length-drop}
 use Rattle.std.proofs.lemmas.List.Elements.{All-nil, All-cons}
-use Rattle.hfs_node.specs.declared.node.Node.{Node}
-use Rattle.hfs_node.specs.declared.fault.NodeFault.{NodeFault}
-use Rattle.hfs_node.specs.Node.{size_of}
-use Rattle.hfs_node.proofs.SizeLemmas.{size_of-insert}
+use Rattle.hfs_btree.specs.declared.node.Node.{Node}
+use Rattle.hfs_btree.specs.declared.fault.NodeFault.{NodeFault}
+use Rattle.hfs_btree.specs.Node.{size_of}
+use Rattle.hfs_btree.proofs.SizeLemmas.{size_of-insert}
 use Rattle.hfs_btree.specs.declared.key.Key.{Ghosts}
-use Rattle.hfs_scans.specs.Each.{Each}
-use Rattle.hfs_scans.proofs.ElementLemmas.{each-at, each-right}
+use Rattle.hfs_fields.specs.Each.{Each}
+use Rattle.hfs_fields.proofs.ElementLemmas.{each-at, each-right}
 use Rattle.hfs_btree.specs.Tree.{Store, Spot, node_in, records_in, records_of, reads_at, spots, first_of, turn}
 use Rattle.hfs_btree.specs.Header.{root_level}
 use Rattle.hfs_btree.specs.Sound.{IsSound, IsRight, IsStray}
@@ -135,13 +135,13 @@ module _ {K : Type 0} (g : Ghosts K) (old : Store) (sound : IsSound g old) (k p 
     right-link =
         let P : ℕ → Type 0 = λ x. IsLink old x in
         subst P (sym right-is) (behind-link g old k 0 child-way.before n child-way.behind
-        (Rattle.hfs_scans.proofs.ElementLemmas.each-left (IsRight g old) (spots k 0 (child-way.before ++ n ∷ child-way.behind)) _ child-way.right))
+        (Rattle.hfs_fields.proofs.ElementLemmas.each-left (IsRight g old) (spots k 0 (child-way.before ++ n ∷ child-way.behind)) _ child-way.right))
 
     right-within : node.forward < length old
     right-within =
         let P : ℕ → Type 0 = λ x. x < length old in
         subst P (sym right-is) (behind-within g old k 0 child-way.before n child-way.behind some-nodes
-        (Rattle.hfs_scans.proofs.ElementLemmas.each-left (IsRight g old) (spots k 0 (child-way.before ++ n ∷ child-way.behind)) _ child-way.right))
+        (Rattle.hfs_fields.proofs.ElementLemmas.each-left (IsRight g old) (spots k 0 (child-way.before ++ n ∷ child-way.behind)) _ child-way.right))
 
     pub node-size : size_of node.records ≡ size_of (records_in old n)
     node-size = ap size_of node-records

@@ -8,8 +8,8 @@ use Rattle.std.specs.declared.cmp.Ordering.TheVariants.{Equal}
 use Rattle.std.proofs.lemmas.Bool.{not-true, cases_Bool, cond-true, cond-false}
 use Rattle.hfs_btree.specs.declared.key.Key.{Ghosts}
 use Rattle.hfs_btree.specs.Pairs.{Pairs, Rises, IsAtMost}
-use Rattle.hfs_scans.specs.Each.{Each}
-use Rattle.hfs_scans.proofs.ElementLemmas.{each-at, each-left, each-right, each-mono, each-both}
+use Rattle.hfs_fields.specs.Each.{Each}
+use Rattle.hfs_fields.proofs.ElementLemmas.{each-at, each-left, each-right, each-mono, each-both}
 use Rattle.hfs_btree.proofs.LookupLemmas.{le-lt}
 use Rattle.hfs_btree.specs.Tree.{Store, Spot, records_in, children, spots, first_of, turn, under}
 use Rattle.hfs_btree.specs.Header.{header_in, depth_of, root_level, tree_turn, tree_content}

@@ -8,15 +8,15 @@ use Rattle.std.specs.declared.cmp.Ordering.TheVariants.{Less}
 use Rattle.std.proofs.lemmas.Bool.{cases_eq, cond-true, cond-false}
 use Rattle.std.proofs.lemmas.List.{length-set}
 use Rattle.std.proofs.Math.Seq.{map-set_same}
-use Rattle.hfs_node.specs.declared.node.Node.{Node}
-use Rattle.hfs_node.specs.declared.fault.NodeFault.{NodeFault}
-use Rattle.hfs_node.specs.Node.{size_of}
-use Rattle.hfs_node.proofs.SizeLemmas.{size_of-set}
+use Rattle.hfs_btree.specs.declared.node.Node.{Node}
+use Rattle.hfs_btree.specs.declared.fault.NodeFault.{NodeFault}
+use Rattle.hfs_btree.specs.Node.{size_of}
+use Rattle.hfs_btree.proofs.SizeLemmas.{size_of-set}
 use Rattle.hfs_btree.specs.declared.header.Header.{Header}
 use Rattle.hfs_btree.specs.declared.key.Key.{Ghosts}
 use Rattle.hfs_btree.specs.Pairs.{Order, Pairs, IsAtMost, IsAbove}
-use Rattle.hfs_scans.specs.Each.{Each}
-use Rattle.hfs_scans.proofs.ElementLemmas.{each-at, each-left, each-right, each-mono, each-both}
+use Rattle.hfs_fields.specs.Each.{Each}
+use Rattle.hfs_fields.proofs.ElementLemmas.{each-at, each-left, each-right, each-mono, each-both}
 use Rattle.hfs_btree.proofs.LookupLemmas.{above-below, lt-le, flipped}
 use Rattle.hfs_btree.specs.Tree.{Store, Spot, node_in, records_in, records_of, children, spots, first_of, turn, under, level_below, key_at}
 use Rattle.hfs_btree.specs.Header.{header_in, record_in, depth_of, root_level, own_nodes, free_nodes, tree_turn, tree_nodes, tree_content}
@@ -27,7 +27,7 @@ use Rattle.hfs_btree_edits.proofs.EditedLemmas.{IsEdited, height-in}
 use Rattle.hfs_btree_edits.specs.Edits.{IsAboveFirst, KeepsTree, level_above, node_for}
 use Rattle.hfs_btree_edits.specs.KeptKeys.{EachKey, IsKeyOr}
 use Rattle.hfs_btree_edits.proofs.KeptKeyLemmas.{hold-keys_with}
-use Rattle.hfs_scans.proofs.PartLemmas.{flat_map-same}
+use Rattle.hfs_fields.proofs.PartLemmas.{flat_map-same}
 use Rattle.hfs_btree_edits.proofs.ReplacedLemmas.{each-set}
 use Rattle.hfs_btree_insertion.specs.Lowering.{HasFirstKey}
 use Rattle.hfs_btree_insertion.proofs.PartLists.{same-key}

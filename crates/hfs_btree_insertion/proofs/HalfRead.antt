@@ -1,10 +1,10 @@
 -- The parts of a node that was read, and the sizes of its halves.
 use Rattle.std.proofs.Common.{◌≡◌, ℕ, ◌<◌, ◌≤◌, List, [], ◌∷◌, length, get_or, take, drop, sym, ap, ◌∙◌, subst, arith}
 use Rattle.std.specs.Prelude.{Ok, Err, true}
-use Rattle.hfs_node.specs.declared.node.Node.{Node}
-use Rattle.hfs_node.specs.declared.fault.NodeFault.{NodeFault}
-use Rattle.hfs_node.specs.Node.{node_of, size_of}
-use Rattle.hfs_node.proofs.SizeLemmas.{size_of-nil, size_of-take-le, size_of-take-drop}
+use Rattle.hfs_btree.specs.declared.node.Node.{Node}
+use Rattle.hfs_btree.specs.declared.fault.NodeFault.{NodeFault}
+use Rattle.hfs_btree.specs.Node.{node_of, size_of}
+use Rattle.hfs_btree.proofs.SizeLemmas.{size_of-nil, size_of-take-le, size_of-take-drop}
 use Rattle.hfs_btree.specs.declared.key.Key.{Ghosts}
 use Rattle.hfs_btree.specs.Tree.{Store, records_in, records_of}
 use Rattle.hfs_btree.proofs.DecodedLemmas.{records-read, error-empty}

@@ -2,11 +2,11 @@
 use Rattle.std.proofs.Common.{◌≡◌, ℕ, zero, suc, ◌+◌, ◌-◌, ◌*◌, ◌<◌, ◌≤◌, List, ◌++◌, length, map, refl, sym, ap, ◌∙◌, subst, arith, inl, inr, None}
 use Rattle.std.proofs.lemmas.Bool.{cases_lt}
 use Rattle.std.specs.List.{prefix_len}
-use Rattle.hfs_node.specs.Node.{size_of}
+use Rattle.hfs_btree.specs.Node.{size_of}
 use Rattle.hfs_btree.specs.declared.header.Header.{Header}
 use Rattle.hfs_btree.specs.declared.key.Key.{Ghosts}
 use Rattle.hfs_btree.specs.Pairs.{Pairs, IsAbove, lookup}
-use Rattle.hfs_scans.proofs.ElementLemmas.{each-left, each-right, each-append}
+use Rattle.hfs_fields.proofs.ElementLemmas.{each-left, each-right, each-append}
 use Rattle.hfs_btree.specs.Tree.{Store, Spot, records_in, pair_of, level_below}
 use Rattle.hfs_btree.specs.Header.{header_in, depth_of, root_level, own_nodes, free_nodes, tree_nodes, tree_content}
 use Rattle.hfs_btree.specs.Sound.{IsOther, IsSound}

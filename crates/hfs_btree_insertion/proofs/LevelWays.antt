@@ -1,10 +1,10 @@
 -- Levels of a tree and the ways through it, counted from the leaves, where nodes have kept their records.
 use Rattle.std.proofs.Common.{◌≡◌, ℕ, zero, suc, ◌+◌, ◌-◌, ◌<◌, ◌≤◌, List, [], ◌∷◌, ◌++◌, length, refl, sym, ap, ◌∙◌, subst, arith}
 use Rattle.std.specs.List.{flat_map, prefix_len}
-use Rattle.hfs_node.specs.Node.{size_of}
+use Rattle.hfs_btree.specs.Node.{size_of}
 use Rattle.hfs_btree.specs.declared.key.Key.{Ghosts}
-use Rattle.hfs_scans.specs.Each.{Each}
-use Rattle.hfs_scans.proofs.ElementLemmas.{each-left, each-right, each-mono}
+use Rattle.hfs_fields.specs.Each.{Each}
+use Rattle.hfs_fields.proofs.ElementLemmas.{each-left, each-right, each-mono}
 use Rattle.hfs_btree.specs.Tree.{Store, Spot, records_in, children, spots, turn, level_below}
 use Rattle.hfs_btree.specs.Header.{header_in, depth_of, root_level, tree_turn}
 use Rattle.hfs_btree.specs.Sound.{HasStructure, IsRight}

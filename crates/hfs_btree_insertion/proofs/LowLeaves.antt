@@ -3,7 +3,7 @@ use Rattle.std.proofs.Common.{◌≡◌, ℕ, ◌+◌, ◌-◌, ◌<◌, ◌≤�
 use Rattle.std.proofs.lemmas.Bool.{cases_lt}
 use Rattle.std.specs.Cmp.{IsTotalOrder}
 use Rattle.std.specs.List.{prefix_len}
-use Rattle.hfs_node.specs.Node.{node_of, size_of}
+use Rattle.hfs_btree.specs.Node.{node_of, size_of}
 use Rattle.hfs_btree.specs.declared.key.Key.{Ghosts}
 use Rattle.hfs_btree.specs.Tree.{Store, records_in, records_of}
 use Rattle.hfs_btree.specs.Header.{header_in, depth_of, tree_content}

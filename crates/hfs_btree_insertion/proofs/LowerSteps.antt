@@ -5,11 +5,11 @@ use Rattle.std.specs.Cmp.{IsTotalOrder}
 use Rattle.std.specs.List.{prefix_len}
 use Rattle.std.specs.Prelude.{Bool}
 use Rattle.std.proofs.lemmas.Bool.{cases_Bool, cases_eq, cases_lt}
-use Rattle.hfs_node.specs.Node.{node_of}
+use Rattle.hfs_btree.specs.Node.{node_of}
 use Rattle.hfs_btree.specs.declared.header.Header.{Header}
 use Rattle.hfs_btree.specs.declared.key.Key.{Ghosts}
 use Rattle.hfs_btree.specs.Pairs.{Pairs}
-use Rattle.hfs_scans.specs.Each.{Each}
+use Rattle.hfs_fields.specs.Each.{Each}
 use Rattle.hfs_btree.specs.Tree.{Store, Spot, records_in, records_of}
 use Rattle.hfs_btree.proofs.DecodedLemmas.{records-read}
 use Rattle.hfs_btree.specs.Header.{header_in, record_in, depth_of, tree_turn, tree_content}
@@ -34,7 +34,7 @@ module _ {K : Type 0} (g : Ghosts K) where
   lowered-none key nodes above sound le = record {
     keeps = keeps-same g nodes sound;
     content = refl;
-    keys = each-key-mono g nodes nodes (λ k. Rattle.hfs_scans.specs.Members.In k (Rattle.hfs_btree_edits.specs.KeptKeys.tree_keys g nodes)) (IsKeyOr g nodes key) (λ k is. inr is) (own-keys g nodes);
+    keys = each-key-mono g nodes nodes (λ k. Rattle.hfs_fields.specs.Members.In k (Rattle.hfs_btree_edits.specs.KeptKeys.tree_keys g nodes)) (IsKeyOr g nodes key) (λ k is. inr is) (own-keys g nodes);
     header = refl;
     turn = refl;
     levels = λ k. refl;

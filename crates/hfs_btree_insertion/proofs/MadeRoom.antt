@@ -7,7 +7,7 @@ use Rattle.std.proofs.lemmas.Bool.{cases_lt}
 use Rattle.hfs_btree.specs.declared.header.Header.{Header}
 use Rattle.hfs_btree.specs.declared.key.Key.{Ghosts}
 use Rattle.hfs_btree.specs.Pairs.{Pairs}
-use Rattle.hfs_node.specs.Node.{size_of}
+use Rattle.hfs_btree.specs.Node.{size_of}
 use Rattle.hfs_btree.specs.Tree.{Store, records_in, level_below}
 use Rattle.hfs_btree.specs.Header.{header_in, depth_of, root_level, free_nodes, tree_content}
 use Rattle.hfs_btree.specs.Sound.{IsSound}

@@ -8,8 +8,8 @@ use Rattle.std.proofs.lemmas.Bool.{cases_Bool, cond-true, cond-false}
 use Rattle.std.proofs.lemmas.List.{length-drop}
 use Rattle.hfs_btree.specs.Pairs.{Order, Pairs, Rises, IsAbove, lookup, pairs_from}
 use Rattle.hfs_btree.proofs.PairLemmas.{IsBelow}
-use Rattle.hfs_scans.specs.Each.{Each}
-use Rattle.hfs_scans.proofs.ElementLemmas.{each-mono}
+use Rattle.hfs_fields.specs.Each.{Each}
+use Rattle.hfs_fields.proofs.ElementLemmas.{each-mono}
 use Rattle.hfs_btree.proofs.LookupLemmas.{flipped, above-below}
 use Rattle.hfs_btree_edits.specs.Edits.{with_pair}
 

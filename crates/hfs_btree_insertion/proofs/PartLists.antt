@@ -6,9 +6,9 @@ use Rattle.std.specs.declared.cmp.Ordering.TheVariants.{Less, Equal, Greater}
 use Rattle.std.specs.Cmp.{IsTotalOrder}
 use Rattle.std.specs.List.{flat_map}
 use Rattle.hfs_btree.specs.Pairs.{Order, Pairs, Rises, IsAtMost, IsAbove}
-use Rattle.hfs_scans.specs.Each.{Each}
+use Rattle.hfs_fields.specs.Each.{Each}
 use Rattle.hfs_btree.specs.Sound.{ArePartsInOrder}
-use Rattle.hfs_scans.proofs.ElementLemmas.{each-append, each-left, each-right, each-mono}
+use Rattle.hfs_fields.proofs.ElementLemmas.{each-append, each-left, each-right, each-mono}
 use Rattle.hfs_btree.proofs.LookupLemmas.{lt-le, le-lt}
 
 module _ {K : Type 0} (cmp : Order K) where

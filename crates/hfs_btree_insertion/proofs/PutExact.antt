@@ -4,11 +4,11 @@ use Rattle.std.specs.Prelude.{insert, Result}
 use Rattle.std.specs.Cmp.{IsTotalOrder}
 use Rattle.std.specs.List.{flat_map}
 use Rattle.std.proofs.lemmas.Bool.{cases_eq}
-use Rattle.hfs_node.specs.declared.node.Node.{Node}
-use Rattle.hfs_node.specs.declared.fault.NodeFault.{NodeFault}
+use Rattle.hfs_btree.specs.declared.node.Node.{Node}
+use Rattle.hfs_btree.specs.declared.fault.NodeFault.{NodeFault}
 use Rattle.hfs_btree.specs.declared.key.Key.{Ghosts}
-use Rattle.hfs_scans.specs.Each.{Each}
-use Rattle.hfs_scans.proofs.ElementLemmas.{each-append, each-left, each-right, each-mono}
+use Rattle.hfs_fields.specs.Each.{Each}
+use Rattle.hfs_fields.proofs.ElementLemmas.{each-append, each-left, each-right, each-mono}
 use Rattle.hfs_btree.specs.Tree.{Store, Spot, records_in, records_of, children, spots, turn}
 use Rattle.hfs_btree.specs.Header.{depth_of, root_level, tree_turn}
 use Rattle.hfs_btree.specs.Sound.{IsRight, IsSound, IsExact, AreKeysExact}

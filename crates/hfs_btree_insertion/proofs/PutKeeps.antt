@@ -7,11 +7,11 @@ use Rattle.std.specs.List.{flat_map}
 use Rattle.std.specs.declared.cmp.Ordering.{Ordering}
 use Rattle.std.specs.declared.cmp.Ordering.TheVariants.{Less, Equal, Greater}
 use Rattle.std.proofs.lemmas.Bool.{cases_Bool, cases_eq, cond-true, cond-false}
-use Rattle.hfs_node.specs.declared.kind.NodeKind.TheVariants.{Leaf, Index}
+use Rattle.hfs_btree.specs.declared.kind.NodeKind.TheVariants.{Leaf, Index}
 use Rattle.hfs_btree.specs.declared.key.Key.{Ghosts}
 use Rattle.hfs_btree.specs.Pairs.{Order, Pairs, lookup, pairs_from}
-use Rattle.hfs_scans.specs.Each.{Each}
-use Rattle.hfs_scans.proofs.ElementLemmas.{each-append, each-mono, each-both, each-unmap}
+use Rattle.hfs_fields.specs.Each.{Each}
+use Rattle.hfs_fields.proofs.ElementLemmas.{each-append, each-mono, each-both, each-unmap}
 use Rattle.hfs_btree.proofs.LookupLemmas.{lookup-between}
 use Rattle.hfs_btree.specs.Tree.{Store, Spot, records_in, records_of, pair_of, pairs, kind_at, key_at}
 use Rattle.hfs_btree.specs.Header.{header_in, depth_of, own_nodes, tree_turn, tree_nodes, tree_content}

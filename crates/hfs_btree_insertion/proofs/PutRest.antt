@@ -4,8 +4,8 @@ use Rattle.std.specs.Cmp.{IsTotalOrder}
 use Rattle.std.specs.List.{flat_map}
 use Rattle.hfs_btree.specs.declared.key.Key.{Ghosts}
 use Rattle.hfs_btree.specs.Pairs.{lookup}
-use Rattle.hfs_scans.specs.Each.{Each}
-use Rattle.hfs_scans.proofs.ElementLemmas.{each-left, each-right}
+use Rattle.hfs_fields.specs.Each.{Each}
+use Rattle.hfs_fields.proofs.ElementLemmas.{each-left, each-right}
 use Rattle.hfs_btree.specs.Tree.{Store, Spot, records_in, children, spots, turn, level_below}
 use Rattle.hfs_btree.specs.Header.{depth_of, root_level, tree_content}
 use Rattle.hfs_btree.specs.Sound.{IsSound}

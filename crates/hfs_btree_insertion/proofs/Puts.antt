@@ -10,14 +10,14 @@ use Rattle.std.proofs.lemmas.List.{map-append, length-map, take-map, drop-map}
 use Rattle.std.proofs.lemmas.List.Concat.{flat_map-append}
 use Rattle.std.proofs.lemmas.List.Edits.{length-insert}
 use Rattle.std.proofs.lemmas.List.Folds.{flat_map-map}
-use Rattle.hfs_node.specs.declared.kind.NodeKind.TheVariants.{Leaf, Index}
-use Rattle.hfs_node.specs.declared.node.Node.{Node}
-use Rattle.hfs_node.specs.declared.fault.NodeFault.{NodeFault}
+use Rattle.hfs_btree.specs.declared.kind.NodeKind.TheVariants.{Leaf, Index}
+use Rattle.hfs_btree.specs.declared.node.Node.{Node}
+use Rattle.hfs_btree.specs.declared.fault.NodeFault.{NodeFault}
 use Rattle.hfs_btree.specs.declared.key.Key.{Ghosts}
 use Rattle.hfs_btree.specs.Pairs.{Order, Pairs, Rises, IsAbove, lookup, pairs_from}
 use Rattle.hfs_btree.proofs.PairLemmas.{IsBelow}
-use Rattle.hfs_scans.specs.Each.{Each}
-use Rattle.hfs_scans.proofs.ElementLemmas.{each-append, each-left, each-right, each-mono, each-both}
+use Rattle.hfs_fields.specs.Each.{Each}
+use Rattle.hfs_fields.proofs.ElementLemmas.{each-append, each-left, each-right, each-mono, each-both}
 use Rattle.hfs_btree.specs.Tree.{Store, Spot, node_in, records_in, records_of, children, pair_of, pairs, spots, first_of, last_of, turn, under, level_below, last_level, kind_at, reads_at}
 use Rattle.hfs_btree.specs.Header.{header_in, depth_of, root_level, leaves, own_nodes, free_nodes, tree_turn, tree_nodes, tree_content}
 use Rattle.hfs_btree.specs.Sound.{IsOther, IsDistinct, IsRight, IsOrdered, IsSound, HasHeader, HasMap, ArePartsInOrder, AreKeysInOrder, part_of}

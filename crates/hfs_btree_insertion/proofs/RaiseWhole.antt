@@ -3,14 +3,14 @@ use Rattle.std.proofs.Common.{◌≡◌, ℕ, suc, ◌+◌, ◌-◌, ◌<◌, �
 use Rattle.std.specs.Prelude.{true, false, Bool, Ok, Result, slice_index_or}
 use Rattle.std.specs.Cmp.{IsTotalOrder}
 use Rattle.std.specs.List.{flat_map}
-use Rattle.hfs_node.specs.declared.node.Node.{Node}
-use Rattle.hfs_node.specs.declared.fault.NodeFault.{NodeFault}
-use Rattle.hfs_node.specs.Node.{size_of}
-use Rattle.hfs_node.proofs.SizeLemmas.{size_of-insert, size_of-nil}
+use Rattle.hfs_btree.specs.declared.node.Node.{Node}
+use Rattle.hfs_btree.specs.declared.fault.NodeFault.{NodeFault}
+use Rattle.hfs_btree.specs.Node.{size_of}
+use Rattle.hfs_btree.proofs.SizeLemmas.{size_of-insert, size_of-nil}
 use Rattle.hfs_btree.specs.declared.header.Header.{Header}
 use Rattle.hfs_btree.specs.declared.key.Key.{Ghosts}
-use Rattle.hfs_scans.specs.Each.{Each}
-use Rattle.hfs_scans.proofs.ElementLemmas.{each-at, each-left, each-right, each-append}
+use Rattle.hfs_fields.specs.Each.{Each}
+use Rattle.hfs_fields.proofs.ElementLemmas.{each-at, each-left, each-right, each-append}
 use Rattle.hfs_btree.specs.Tree.{Store, Spot, node_in, records_in, records_of, reads_at, key_at, first_of, level_below}
 use Rattle.hfs_btree_edits.specs.KeptKeys.{EachKey}
 use Rattle.hfs_btree_edits.proofs.KeptKeyLemmas.{hold-keys}
@@ -67,7 +67,7 @@ module _ {K : Type 0} (g : Ghosts K) (nodes : Store) (sound : IsSound g nodes) (
         subst Q (sym same) (subst P (sym (at ∙ ap (λ (xs : List (List ℕ)). slice_index_or xs 0 []) loaded)) (each-at (λ e'. reads_at g (depth_of nodes - 1) e' ≡ true) (records_in nodes (header_in nodes).root) 0 [] root-reads root-some))
 
     pub above-root : (root : Node) (key : K) (entry first : List ℕ) (d : ℕ) → first ≡ slice_index_or node.records 0 [] → d ≡ h.depth - 1 → key ≡ entry_key g d first → g.is_index entry ≡ true → g.index_key entry ≡ key
-        → g.child entry ≡ h.root → root.forward ≡ 0 → root.backward ≡ 0 → root.kind ≡ Rattle.hfs_node.specs.declared.kind.NodeKind.TheVariants.Index → root.height ≡ h.depth + 1 → root.records ≡ entry ∷ []
+        → g.child entry ≡ h.root → root.forward ≡ 0 → root.backward ≡ 0 → root.kind ≡ Rattle.hfs_btree.specs.declared.kind.NodeKind.TheVariants.Index → root.height ≡ h.depth + 1 → root.records ≡ entry ∷ []
         → IsRootAbove g nodes root
     above-root root key entry first d at deep key-is index keyed names f b k height one =
         let same : d ≡ depth_of nodes - 1 = deep ∙ ap (λ (x : Header). x.depth - 1) is in

@@ -12,8 +12,8 @@ use Rattle.std.proofs.lemmas.List.{get_or-take, get_or-drop, length-take}
 use Rattle.std.proofs.lemmas.List.Sums.{prefix_len-le-length}
 use Rattle.hfs_btree.specs.declared.key.Key.{Ghosts}
 use Rattle.hfs_btree.specs.Pairs.{Pairs}
-use Rattle.hfs_scans.specs.Each.{Each}
-use Rattle.hfs_scans.proofs.ElementLemmas.{each-left, each-right, each-mono}
+use Rattle.hfs_fields.specs.Each.{Each}
+use Rattle.hfs_fields.proofs.ElementLemmas.{each-left, each-right, each-mono}
 use Rattle.hfs_btree.specs.Tree.{Store, Spot, records_in, children, spots, turn, under}
 use Rattle.hfs_btree.specs.Header.{header_in, root_level}
 use Rattle.hfs_btree.specs.Sound.{HasStructure, IsOrdered, IsRight}
@@ -23,7 +23,7 @@ use Rattle.hfs_btree.proofs.DescentLemmas.{next-split, place-within}
 use Rattle.hfs_btree_edits.proofs.LevelPartLemmas.{upper, of-spots, KeepsRecords, KeepsAt}
 use Rattle.hfs_btree.proofs.LevelLemmas.{records-some}
 use Rattle.hfs_btree.proofs.PartLemmas.{earlier-fit}
-use Rattle.hfs_node.specs.Node.{size_of}
+use Rattle.hfs_btree.specs.Node.{size_of}
 use Rattle.hfs_btree_insertion.proofs.LevelWays.{at-way, at-upper}
 use Rattle.hfs_btree_insertion.proofs.Prefixes.{insert-other, insert-one, insert-before, insert-here, take-prefix, drop-prefix, drop-some}
 use Rattle.hfs_btree_insertion.proofs.Splits.{es, rs, old-level, uppers, lowers, uppers-keep, lowers-keep, records-above, records-first, records-second, right-uppers, right-lowers, node-keys, node-some}

@@ -1,6 +1,6 @@
 -- A leaf that begins with a new record.
 use Rattle.std.specs.Prelude.{◌≡◌, true, ℕ, ◌+◌, ◌<◌, List, [], ◌∷◌, drop, length, Ok}
-use Rattle.hfs_node.specs.declared.node.Node.{Node}
+use Rattle.hfs_btree.specs.declared.node.Node.{Node}
 use Rattle.hfs_btree.specs.declared.key.Key.{Ghosts}
 use Rattle.hfs_btree.specs.Pairs.{IsAbove}
 use Rattle.hfs_btree.specs.Tree.{Store, node_in, records_in, pairs}

@@ -1,10 +1,10 @@
 -- A tree with a node that is to be cut in two, and one where it was cut.
 use Rattle.std.specs.Prelude.{true, ◌≡◌, ◌≢◌, ℕ, suc, ◌+◌, ◌<◌, ◌≤◌, List, [], ◌∷◌, ◌++◌, length, take, drop, insert, slice_index_or, Ok}
 use Rattle.std.specs.Ordering.{is_gt}
-use Rattle.hfs_node.specs.declared.node.Node.{Node}
-use Rattle.hfs_node.specs.Node.{size_of}
+use Rattle.hfs_btree.specs.declared.node.Node.{Node}
+use Rattle.hfs_btree.specs.Node.{size_of}
 use Rattle.hfs_btree.specs.declared.key.Key.{Ghosts}
-use Rattle.hfs_scans.specs.Each.{Each}
+use Rattle.hfs_fields.specs.Each.{Each}
 use Rattle.hfs_btree.specs.Tree.{Store, node_in, records_in, level_below, reads_at}
 use Rattle.hfs_btree.specs.Header.{header_in, record_in, depth_of, root_level, tree_content}
 use Rattle.hfs_btree.specs.Sound.{IsStray, IsSound}

@@ -1,11 +1,11 @@
 -- What the steps of an insertion make of a tree.
 use Rattle.std.specs.Prelude.{◌≡◌, ◌≢◌, ℕ, zero, suc, ◌+◌, ◌-◌, ◌<◌, ◌≤◌, List, length}
 use Rattle.std.specs.List.{prefix_len}
-use Rattle.hfs_node.specs.Node.{node_of, size_of}
+use Rattle.hfs_btree.specs.Node.{node_of, size_of}
 use Rattle.hfs_btree.specs.declared.key.Key.{Ghosts}
 use Rattle.hfs_btree.specs.Tree.{Store, records_in, records_of}
-use Rattle.hfs_scans.specs.Each.{Each}
-use Rattle.hfs_scans.specs.Members.{In}
+use Rattle.hfs_fields.specs.Each.{Each}
+use Rattle.hfs_fields.specs.Members.{In}
 use Rattle.hfs_btree.specs.Header.{header_in, depth_of, free_nodes, tree_nodes, tree_content}
 use Rattle.hfs_btree.specs.Sound.{IsOther}
 use Rattle.hfs_btree.specs.Search.{is_not_above, child_for, leaf_for, leaf_under, IsLowWay}

@@ -1,7 +1,7 @@
 -- The two parts of a node, and the index record that names the second.
 use Rattle.std.specs.Prelude.{◌≡◌, ℕ, ◌<◌, ◌≤◌, Bool, true, false, List, [], Ok, length, take, drop, slice_index_or}
 use Rattle.std.specs.Ordering.{is_gt}
-use Rattle.hfs_node.specs.declared.node.Node.{Node}
+use Rattle.hfs_btree.specs.declared.node.Node.{Node}
 use Rattle.hfs_btree.specs.declared.key.Key.{Ghosts}
 use Rattle.hfs_btree.specs.Tree.{Store, node_in, records_in}
 use Rattle.hfs_btree_edits.specs.Stored.{HasStored}

@@ -1,7 +1,7 @@
 -- A new root that was put above the old one.
 use Rattle.std.specs.Prelude.{true, ◌≡◌, ◌≢◌, ℕ, suc, ◌+◌, ◌-◌, List, [], ◌∷◌, Ok, slice_index_or}
-use Rattle.hfs_node.specs.declared.kind.NodeKind.TheVariants.{Index}
-use Rattle.hfs_node.specs.declared.node.Node.{Node}
+use Rattle.hfs_btree.specs.declared.kind.NodeKind.TheVariants.{Index}
+use Rattle.hfs_btree.specs.declared.node.Node.{Node}
 use Rattle.hfs_btree.specs.declared.key.Key.{Ghosts}
 use Rattle.hfs_btree.specs.Tree.{Store, node_in, records_in}
 use Rattle.hfs_btree.specs.Header.{header_in, depth_of}

@@ -1,6 +1,6 @@
 -- What the cuts on the way to a key make of a tree.
 use Rattle.std.specs.Prelude.{◌≡◌, ℕ, ◌+◌, ◌<◌, ◌≤◌, length}
-use Rattle.hfs_node.specs.Node.{size_of}
+use Rattle.hfs_btree.specs.Node.{size_of}
 use Rattle.hfs_btree.specs.declared.key.Key.{Ghosts}
 use Rattle.hfs_btree.specs.Tree.{Store, records_in}
 use Rattle.hfs_btree.specs.Header.{depth_of, free_nodes, tree_content}

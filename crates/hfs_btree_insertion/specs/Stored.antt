@@ -1,10 +1,10 @@
 -- What the writes of an insertion make of a tree's file.
 use Rattle.std.specs.Prelude.{◌≡◌, ◌≢◌, ℕ, ◌+◌, ◌<◌, List, ◌++◌, Ok, drop, insert, Bool, true, false}
-use Rattle.hfs_node.specs.declared.node.Node.{Node}
+use Rattle.hfs_btree.specs.declared.node.Node.{Node}
 use Rattle.hfs_btree.specs.declared.key.Key.{Ghosts}
 use Rattle.hfs_btree_edits.specs.Edits.{with_pair, IsAboveFirst, level_above, HasInserted}
 use Rattle.hfs_btree.specs.Tree.{Store, node_in}
-use Rattle.hfs_scans.specs.Each.{Each}
+use Rattle.hfs_fields.specs.Each.{Each}
 use Rattle.hfs_btree.specs.Header.{header_in, depth_of, own_nodes, tree_turn, tree_nodes, tree_content}
 use Rattle.hfs_btree.specs.Sound.{IsOther, IsSound, IsExact, KeepsFrame}
 use Rattle.hfs_btree_edits.specs.KeptKeys.{EachKey, IsKeyOr}

@@ -1,8 +1,8 @@
 //! Where a node is cut, and the index record that names its second part.
 
 ghost use Rattle.std.specs.Prelude.{◌≡◌, ℕ, ◌+◌, ◌*◌, ◌<◌, ◌≤◌, true, false, All, IfOk, List, [], length, take, drop, slice_index_or};
-ghost use Rattle.hfs_node.specs.Node.{Fits, node_of, size_of};
-ghost use Rattle.hfs_scans.specs.Each.{Each};
+ghost use Rattle.hfs_btree.specs.Node.{Fits, node_of, size_of};
+ghost use Rattle.hfs_fields.specs.Each.{Each};
 ghost use Rattle.hfs_btree.specs.Header.{record_in};
 ghost use Rattle.hfs_btree.specs.Tree.{records_in, records_of, reads_at};
 ghost use Rattle.hfs_btree_insertion.specs.Cut.{LeaveRoom, IsRoomyCut, child_at};
@@ -10,8 +10,7 @@ ghost use Rattle.hfs_btree_insertion.specs.Halves.{NamesHalf, IsPlaceBehind};
 
 use crate::record_key::key_at;
 use crate::way::size_in;
-use hfs_btree::{Key, Nodes, child_of, place_above, place_in};
-use hfs_node::{NodeView, view};
+use hfs_btree::{Key, NodeView, Nodes, child_of, place_above, place_in, view};
 use std::alloc::{AllocError, Global};
 
 /// The number of bytes if they count, otherwise 0.
@@ -55,7 +54,7 @@ fn is_middle(before: usize, here: usize, come: usize, size: usize, len: usize) -
 
 /// The place where the records of a node, of `size` bytes, are cut when one of `len` bytes is added in front of record `at`: as
 /// near to the middle as possible while each part still has room for the new one.
-#[tactic(auto, using(hfs_node::proofs::SizeLemmas::sizes))]
+#[tactic(auto, using(hfs_btree::proofs::SizeLemmas::sizes))]
 fn half_place(node: &NodeView<'_>, size: usize, at: usize, len: usize) -> usize
     requires size { size ≡ size_of node.now.records }
     requires over { 354 < size }

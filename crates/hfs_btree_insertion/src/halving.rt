@@ -9,9 +9,8 @@ ghost use Rattle.hfs_btree_edits.specs.Edits.{Edits};
 ghost use Rattle.hfs_btree_insertion.specs.Halves.{HasHalved};
 ghost use Rattle.hfs_btree_insertion.specs.Stored.{HasLinked, HasLastLeaf};
 
-use hfs_btree::read_header;
+use hfs_btree::{Node, Records, read_header};
 use hfs_btree_edits::{NodesMut, load, put_header, store};
-use hfs_node::{Node, Records};
 use std::alloc::{AllocError, Global};
 
 /// Sets the backward link of a node.

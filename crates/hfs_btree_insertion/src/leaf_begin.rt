@@ -1,8 +1,8 @@
 //! A record that begins a new leaf.
 
 ghost use Rattle.std.specs.Prelude.{◌≡◌, ◌+◌, ◌^◌, ◌<◌, ◌≤◌, true, None, IsTrue, OnOk, length};
-ghost use Rattle.hfs_node.specs.Node.{node_of, size_of};
-ghost use Rattle.hfs_scans.specs.Each.{Each};
+ghost use Rattle.hfs_btree.specs.Node.{node_of, size_of};
+ghost use Rattle.hfs_fields.specs.Each.{Each};
 ghost use Rattle.hfs_btree.specs.Header.{header_in, depth_of, free_nodes, tree_content};
 ghost use Rattle.hfs_btree.specs.Pairs.{IsAbove, lookup};
 ghost use Rattle.hfs_btree.specs.Sound.{IsSound, IsStray};

@@ -1,7 +1,7 @@
 //! Putting a record into a leaf with room for it.
 
 ghost use Rattle.std.specs.Prelude.{◌≡◌, ◌+◌, ◌^◌, ◌<◌, ◌≤◌, None, IsTrue, OnOk, [], length, slice_index_or};
-ghost use Rattle.hfs_node.specs.Node.{size_of};
+ghost use Rattle.hfs_btree.specs.Node.{size_of};
 ghost use Rattle.hfs_btree.specs.Header.{header_in, record_in, depth_of, tree_content};
 ghost use Rattle.hfs_btree.specs.Pairs.{lookup};
 ghost use Rattle.hfs_btree.specs.Search.{leaf_for};

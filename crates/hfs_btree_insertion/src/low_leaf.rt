@@ -1,8 +1,8 @@
 //! The leaf for a new record, if no index key must be lowered for it.
 
 ghost use Rattle.std.specs.Prelude.{◌≡◌, ◌<◌, ◌≤◌, true, [], IfSome, length, slice_index_or};
-ghost use Rattle.hfs_node.specs.Node.{node_of};
-ghost use Rattle.hfs_scans.specs.Each.{Each};
+ghost use Rattle.hfs_btree.specs.Node.{node_of};
+ghost use Rattle.hfs_fields.specs.Each.{Each};
 ghost use Rattle.hfs_btree.specs.Header.{header_in, depth_of};
 ghost use Rattle.hfs_btree.specs.Search.{IsRisingFor};
 ghost use Rattle.hfs_btree.specs.Sound.{IsSound};
@@ -10,8 +10,7 @@ ghost use Rattle.hfs_btree.specs.Tree.{records_of};
 ghost use Rattle.hfs_btree_insertion.specs.Growth.{HasLowKey, IsChildFor};
 ghost use Rattle.hfs_btree_insertion.specs.Room.{IsLowLeaf};
 
-use hfs_btree::{Header, Key, Nodes, child_of, first_above};
-use hfs_node::view;
+use hfs_btree::{Header, Key, Nodes, child_of, first_above, view};
 
 /// The child where the search for a key goes on from an index node; None if all of the node's keys are above the key.
 fn low_child<K: Key>(bytes: &[u8; 512], key: &K) -> Option<u32>

@@ -8,9 +8,8 @@ ghost use Rattle.hfs_btree_insertion.specs.Raise.{IsRootAbove, HasRootPut};
 ghost use Rattle.hfs_btree.specs.Sound.{IsSound, IsStray};
 
 use crate::record_key::key_at;
-use hfs_btree::{Header, Key, Nodes, read_header};
+use hfs_btree::{Header, Key, Node, NodeKind, Nodes, Records, read_header};
 use hfs_btree_edits::{NodesMut, claim_node, load, put_header, store};
-use hfs_node::{Node, NodeKind, Records};
 use std::alloc::{AllocError, Global};
 
 /// A node with one record, which names the root.

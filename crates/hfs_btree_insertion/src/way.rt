@@ -1,15 +1,14 @@
 //! The way from the root down to the leaf where the search for a key ends.
 
 ghost use Rattle.std.specs.Prelude.{◌≡◌, ℕ, ◌+◌, ◌-◌, ◌<◌, ◌≤◌, true, [], length, slice_index_or};
-ghost use Rattle.hfs_node.specs.Node.{node_of, size_of};
+ghost use Rattle.hfs_btree.specs.Node.{node_of, size_of};
 ghost use Rattle.hfs_btree_edits.specs.Edits.{node_for};
 ghost use Rattle.hfs_btree_insertion.specs.Growth.{AreFull};
 ghost use Rattle.hfs_btree.specs.Header.{header_in, depth_of};
 ghost use Rattle.hfs_btree.specs.Sound.{IsSound};
 ghost use Rattle.hfs_btree.specs.Tree.{records_of};
 
-use hfs_btree::{Header, Key, Nodes, child_in};
-use hfs_node::view;
+use hfs_btree::{Header, Key, Nodes, child_in, view};
 
 /// The node on the way to a key that is `above` levels above the leaves, with its bytes.
 pub(crate) fn node_at<K: Key, N: Nodes>(
@@ -37,7 +36,7 @@ pub(crate) fn node_at<K: Key, N: Nodes>(
 }
 
 /// How many bytes a node's records and their offsets take.
-#[tactic(auto, using(hfs_node::proofs::SizeLemmas::sizes))]
+#[tactic(auto, using(hfs_btree::proofs::SizeLemmas::sizes))]
 pub(crate) fn size_in(bytes: &[u8; 512]) -> usize
     ensures size { result ≡ size_of (records_of (node_of bytes.now)) }
     ensures small { result ≤ 123008 }

@@ -4,15 +4,15 @@ use Rattle.std.specs.Prelude.{Ok, remove, Option, Some, None, ◌==◌, if◌the
 use Rattle.std.specs.List.{flat_map}
 use Rattle.std.specs.Cmp.{IsTotalOrder}
 use Rattle.std.specs.declared.cmp.Ordering.TheVariants.{Less, Equal}
-use Rattle.hfs_node.specs.declared.node.Node.{Node}
-use Rattle.hfs_node.specs.declared.kind.NodeKind.TheVariants.{Leaf, Index}
+use Rattle.hfs_btree.specs.declared.node.Node.{Node}
+use Rattle.hfs_btree.specs.declared.kind.NodeKind.TheVariants.{Leaf, Index}
 use Rattle.hfs_btree_removal.specs.declared.down.Step.{Step}
 use Rattle.hfs_btree.specs.declared.header.Header.{Header}
 use Rattle.hfs_btree.specs.declared.key.Key.{Ghosts}
 use Rattle.hfs_btree.specs.Pairs.{Pairs}
-use Rattle.hfs_scans.specs.Each.{Each}
-use Rattle.hfs_scans.specs.Members.{In}
-use Rattle.hfs_scans.proofs.MemberLemmas.{each_in}
+use Rattle.hfs_fields.specs.Each.{Each}
+use Rattle.hfs_fields.specs.Members.{In}
+use Rattle.hfs_fields.proofs.MemberLemmas.{each_in}
 use Rattle.hfs_btree.specs.Tree.{Store, Spot, node_in, records_in, records_of, children, pair_of, pairs, first_of, last_of, spots, under}
 use Rattle.hfs_btree.specs.Header.{header_in, record_in, depth_of, leaves, own_nodes, tree_turn, tree_nodes}
 use Rattle.hfs_btree.specs.Sound.{IsOther, IsRight, IsSound, IsExact, AreKeysInOrder, first_key}
@@ -20,7 +20,7 @@ use Rattle.hfs_btree_removal.proofs.RemovalLemmas.{HasTold}
 use Rattle.hfs_btree_removal.specs.Removal.{IsPassedUp, HasTakenOut, HasDetached, AreUnlinkable, AreStepsUnlinked, AreReleased, AreSettable, AreStray, IsWayBelow, fewer, last_left, last_right, backward_of}
 use Rattle.hfs_btree_edits.proofs.StoredLemmas.{HasNewHeader}
 use Rattle.hfs_btree_edits.specs.Stored.{bytes_in}
-use Rattle.hfs_scans.proofs.ElementLemmas.{each-left, each-right, each-unmap}
+use Rattle.hfs_fields.proofs.ElementLemmas.{each-left, each-right, each-unmap}
 use Rattle.hfs_btree_removal.specs.Ways.{IsWayTo}
 use Rattle.hfs_btree.proofs.LevelLemmas.{each-spots}
 use Rattle.hfs_btree_removal.proofs.Chains.{Cut, with_node, IsChain, bottom}

@@ -4,15 +4,15 @@ use Rattle.std.specs.Prelude.{◌↔◌, ◌⊎◌}
 use Rattle.std.proofs.lemmas.Bool.{cases_eq}
 use Rattle.hfs_btree.specs.declared.header.Header.{Header}
 use Rattle.hfs_btree.specs.declared.key.Key.{Ghosts}
-use Rattle.hfs_scans.specs.Each.{Each}
-use Rattle.hfs_scans.specs.Members.{In}
-use Rattle.hfs_scans.proofs.ElementLemmas.{each-left, each-right}
+use Rattle.hfs_fields.specs.Each.{Each}
+use Rattle.hfs_fields.specs.Members.{In}
+use Rattle.hfs_fields.proofs.ElementLemmas.{each-left, each-right}
 use Rattle.hfs_btree_removal.specs.Removal.{KeepsSound}
 use Rattle.hfs_btree.specs.Tree.{Store, Spot}
 use Rattle.hfs_btree.specs.Header.{header_in, depth_of, map_nodes, map_bytes, own_nodes, free_nodes, tree_content, tree_turn, tree_nodes}
 use Rattle.hfs_btree.specs.Sound.{IsOther, IsSound, IsExact, IsStray}
 use Rattle.hfs_btree_edits.proofs.LevelPartLemmas.{numbers}
-use Rattle.hfs_node.specs.Laid.{IsZeroFrom}
+use Rattle.hfs_btree.specs.Laid.{IsZeroFrom}
 use Rattle.hfs_btree_edits.specs.KeptKeys.{tree_keys, EachKey}
 use Rattle.hfs_btree_edits.proofs.KeptKeyLemmas.{own-keys}
 use Rattle.hfs_btree_edits.specs.Stored.{bytes_in}

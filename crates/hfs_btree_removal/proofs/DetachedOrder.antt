@@ -8,13 +8,13 @@ use Rattle.std.proofs.lemmas.List.Concat.{flat_map-append}
 use Rattle.hfs_btree.specs.declared.key.Key.{Ghosts}
 use Rattle.hfs_btree_edits.specs.Edits.{without_pair}
 use Rattle.hfs_btree.specs.Pairs.{Order, Pairs, Rises}
-use Rattle.hfs_scans.specs.Each.{Each}
-use Rattle.hfs_scans.proofs.ElementLemmas.{each-append, each-left, each-right, each-mono}
+use Rattle.hfs_fields.specs.Each.{Each}
+use Rattle.hfs_fields.proofs.ElementLemmas.{each-append, each-left, each-right, each-mono}
 use Rattle.hfs_btree.specs.Tree.{Store, Spot, node_in, records_in, records_of, children, pair_of, pairs, spots, first_of, last_of, turn, under, level_below, last_level}
 use Rattle.hfs_btree.specs.Header.{header_in, root_level, leaves, tree_content, tree_turn}
 use Rattle.hfs_btree.specs.Sound.{IsSound, IsRight, AreKeysInOrder, ArePartsInOrder, part_of}
 use Rattle.hfs_btree.proofs.LevelLemmas.{each-spots, map-split, under-some}
-use Rattle.hfs_scans.proofs.PartLemmas.{flat_map-same}
+use Rattle.hfs_fields.proofs.PartLemmas.{flat_map-same}
 use Rattle.hfs_btree.proofs.DescentLemmas.{next-split}
 use Rattle.hfs_btree_edits.proofs.EditedPairLemmas.{rises-before, rises-without, above-equal, without-at}
 use Rattle.hfs_btree_edits.proofs.EditedOrderLemmas.{each-flat, Bounded, Keyed, Keyed', join, keys-level}
@@ -26,7 +26,7 @@ use Rattle.hfs_btree_removal.proofs.Chains.{Cut, with_node, without_node, fronts
 use Rattle.hfs_btree_edits.proofs.HeadedLemmas.{free-is}
 use Rattle.hfs_btree_removal.proofs.Detached.{IsDetached, es, c, bc, hc, cs, uppers, above-level, place, old-turn, new-turn, new-below, beside, uppers-keep, right-cuts, new-es, same-root, structure-is}
 use Rattle.hfs_btree_removal.proofs.KeysKept.{spots-of}
-use Rattle.hfs_scans.proofs.PartLemmas.{flat-each}
+use Rattle.hfs_fields.proofs.PartLemmas.{flat-each}
 
 pub bounds-drop : {K : Type 0} (cmp : Order K) (xs ps ys : Pairs K) → KeepsBounds cmp (xs ++ (ps ++ ys)) (xs ++ ys)
 bounds-drop cmp xs ps ys = record {

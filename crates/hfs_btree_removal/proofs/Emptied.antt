@@ -4,15 +4,15 @@ use Rattle.std.specs.Prelude.{◌↔◌}
 use Rattle.std.specs.List.{flat_map}
 use Rattle.hfs_btree.specs.declared.key.Key.{Ghosts}
 use Rattle.hfs_btree.specs.Pairs.{Pairs, Rises}
-use Rattle.hfs_scans.specs.Each.{Each}
-use Rattle.hfs_scans.proofs.ElementLemmas.{each-left, each-append}
+use Rattle.hfs_fields.specs.Each.{Each}
+use Rattle.hfs_fields.proofs.ElementLemmas.{each-left, each-append}
 use Rattle.hfs_btree.specs.Tree.{Store, Spot, first_of, last_of, turn, last_level, pairs}
 use Rattle.hfs_btree.specs.Header.{header_in, root_level, leaves, own_nodes, tree_content, tree_turn, tree_nodes}
 use Rattle.hfs_btree.specs.Sound.{IsOther, IsDistinct, IsRight, IsSound, IsExact, IsStray, AreKeysInOrder, AreKeysExact}
 use Rattle.hfs_btree_edits.proofs.DistinctLemmas.{distinct-left, other-before}
 use Rattle.hfs_btree_edits.specs.KeptKeys.{tree_keys, EachKey}
 use Rattle.hfs_btree_removal.proofs.KeysKept.{HaveKeys}
-use Rattle.hfs_scans.specs.Members.{In}
+use Rattle.hfs_fields.specs.Members.{In}
 use Rattle.hfs_btree_edits.proofs.HeadedLemmas.{own_nodes-is, marked-on, marked-back, free-is, has_header, has_map}
 pub use Rattle.hfs_btree_removal.proofs.RemovalLemmas.{IsEmptied}
 

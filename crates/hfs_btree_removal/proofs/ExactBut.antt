@@ -4,8 +4,8 @@ use Rattle.std.specs.Prelude.{⊤}
 use Rattle.std.specs.List.{flat_map}
 use Rattle.std.specs.declared.cmp.Ordering.TheVariants.{Equal}
 use Rattle.hfs_btree.specs.declared.key.Key.{Ghosts}
-use Rattle.hfs_scans.specs.Each.{Each}
-use Rattle.hfs_scans.proofs.ElementLemmas.{each-mono, each-left, each-right, each-append}
+use Rattle.hfs_fields.specs.Each.{Each}
+use Rattle.hfs_fields.proofs.ElementLemmas.{each-mono, each-left, each-right, each-append}
 use Rattle.hfs_btree.specs.Tree.{Store, Spot, records_in, children, spots, turn}
 use Rattle.hfs_btree.specs.Header.{record_in, depth_of, root_level, tree_turn}
 use Rattle.hfs_btree.specs.Sound.{IsExact, IsSound, AreKeysExact, first_key}
@@ -16,7 +16,7 @@ use Rattle.hfs_btree_removal.proofs.PartsLess.{each-remove}
 use Rattle.hfs_btree_removal.proofs.Chains.{Cut, with_node, without_node, KeepsBeside}
 use Rattle.hfs_btree_removal.proofs.Detached.{IsDetached, es, cs, uppers, above-level, old-turn, new-turn, new-es, beside, uppers-keep}
 use Rattle.hfs_btree_removal.proofs.KeysKept.{spots-of}
-use Rattle.hfs_scans.proofs.PartLemmas.{flat-each}
+use Rattle.hfs_fields.proofs.PartLemmas.{flat-each}
 
 module _ {K : Type 0} (g : Ghosts K) (nodes : Store) (X : ℕ → Type 0) where
   -- each index key over a child that passes is equal in order to the child's first key

@@ -7,8 +7,8 @@ use Rattle.std.specs.declared.cmp.Ordering.TheVariants.{Equal}
 use Rattle.std.proofs.lemmas.List.Folds.{flat_map-map}
 use Rattle.hfs_btree.specs.declared.key.Key.{Ghosts}
 use Rattle.hfs_btree.specs.Pairs.{Order, Pairs, Rises, IsAtMost}
-use Rattle.hfs_scans.specs.Each.{Each}
-use Rattle.hfs_scans.proofs.ElementLemmas.{each-mono, each-left, each-right, each-unmap}
+use Rattle.hfs_fields.specs.Each.{Each}
+use Rattle.hfs_fields.proofs.ElementLemmas.{each-mono, each-left, each-right, each-unmap}
 use Rattle.hfs_btree.specs.Tree.{Store, Spot, records_in, children, pair_of, pairs, first_of, spots, turn, under, level_below, last_level}
 use Rattle.hfs_btree.specs.Header.{depth_of, root_level, leaves, tree_turn}
 use Rattle.hfs_btree.specs.Sound.{IsRight, IsSound, HasStructure, AreKeysInOrder, ArePartsInOrder, part_of, first_key}

@@ -1,11 +1,11 @@
 -- A tree that gains nothing by an edit, nor by two of them.
 use Rattle.std.proofs.Common.{◌≡◌, ℕ, List, ◌∷◌, ◌++◌, refl, sym, ◌∙◌, subst, true, false, inl, inr}
-use Rattle.hfs_node.specs.Laid.{IsZeroFrom}
+use Rattle.hfs_btree.specs.Laid.{IsZeroFrom}
 use Rattle.hfs_btree.specs.declared.key.Key.{Ghosts}
-use Rattle.hfs_scans.specs.Each.{Each}
-use Rattle.hfs_scans.proofs.ElementLemmas.{each-mono, each-append, each-left, each-right, each-map}
-use Rattle.hfs_scans.specs.Members.{In}
-use Rattle.hfs_scans.proofs.MemberLemmas.{each_in}
+use Rattle.hfs_fields.specs.Each.{Each}
+use Rattle.hfs_fields.proofs.ElementLemmas.{each-mono, each-append, each-left, each-right, each-map}
+use Rattle.hfs_fields.specs.Members.{In}
+use Rattle.hfs_fields.proofs.MemberLemmas.{each_in}
 use Rattle.hfs_btree.specs.Tree.{Store, Spot}
 use Rattle.hfs_btree.specs.Header.{map_nodes, own_nodes, is_marked, tree_turn, tree_nodes}
 use Rattle.hfs_btree.specs.Sound.{IsOther, IsRight, IsMarked, IsSound}

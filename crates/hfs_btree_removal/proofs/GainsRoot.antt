@@ -1,10 +1,10 @@
 -- A root that gave way to its only child, and a tree's only leaf, given back: the tree gains nothing.
 use Rattle.std.proofs.Common.{◌≡◌, ◌≢◌, ℕ, List, [], ◌∷◌, ◌++◌, sym, ap, ◌∙◌, subst, inl, inr}
-use Rattle.hfs_node.specs.Laid.{IsZeroFrom}
+use Rattle.hfs_btree.specs.Laid.{IsZeroFrom}
 use Rattle.hfs_btree.specs.declared.key.Key.{Ghosts}
-use Rattle.hfs_scans.specs.Each.{Each}
-use Rattle.hfs_scans.proofs.ElementLemmas.{each-left, each-right}
-use Rattle.hfs_scans.specs.Members.{In}
+use Rattle.hfs_fields.specs.Each.{Each}
+use Rattle.hfs_fields.proofs.ElementLemmas.{each-left, each-right}
+use Rattle.hfs_fields.specs.Members.{In}
 use Rattle.hfs_btree.specs.Tree.{Store}
 use Rattle.hfs_btree.specs.Header.{header_in, map_nodes, own_nodes, tree_nodes}
 use Rattle.hfs_btree.specs.Sound.{IsOther, IsSound}

@@ -2,11 +2,11 @@
 use Rattle.std.proofs.Common.{◌≡◌, ◌≢◌, ℕ, ◌+◌, ◌-◌, ◌<◌, ◌≤◌, List, [], ◌∷◌, length, map, get_or, set, refl, sym, ap, ◌∙◌, subst, arith}
 use Rattle.std.specs.Prelude.{Ok, Result}
 use Rattle.std.proofs.lemmas.List.{length-set, get_or-set_same, get_or-set_other}
-use Rattle.hfs_node.specs.declared.node.Node.{Node}
-use Rattle.hfs_node.specs.declared.fault.NodeFault.{NodeFault}
+use Rattle.hfs_btree.specs.declared.node.Node.{Node}
+use Rattle.hfs_btree.specs.declared.fault.NodeFault.{NodeFault}
 use Rattle.hfs_btree.specs.declared.header.Header.{Header}
 use Rattle.hfs_btree.specs.declared.key.Key.{Ghosts}
-use Rattle.hfs_scans.proofs.ElementLemmas.{each-mono}
+use Rattle.hfs_fields.proofs.ElementLemmas.{each-mono}
 use Rattle.hfs_btree_edits.specs.Stored.{HasHeaderPut}
 use Rattle.hfs_btree.specs.Tree.{Store, node_in, records_in, records_of, forward_of, first_of}
 use Rattle.hfs_btree.specs.Header.{header_of, header_in, record_in, depth_of, map_nodes, free_nodes, tree_content}
@@ -15,7 +15,7 @@ use Rattle.hfs_btree_removal.specs.Removal.{KeepsSound, GainsNothing}
 use Rattle.hfs_btree_removal.proofs.GainsRoot.{lowered-gains, emptied-gains}
 use Rattle.hfs_btree_removal.proofs.RemovalLemmas.{IsEmptied, IsLowered}
 use Rattle.hfs_btree_edits.specs.Stored.{IsReleased}
-use Rattle.hfs_node.specs.Node.{node_of}
+use Rattle.hfs_btree.specs.Node.{node_of}
 use Rattle.hfs_btree.proofs.DecodedLemmas.{records-read}
 use Rattle.hfs_btree_removal.proofs.Lowered.{lowered-sound, lowered-root}
 use Rattle.hfs_btree_removal.proofs.Composed.{given-keeps, given-content, given-depth}

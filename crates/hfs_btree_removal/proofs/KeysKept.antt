@@ -1,9 +1,9 @@
 -- Keys of nodes that keep their records, and of a node that was given back.
 use Rattle.std.proofs.Common.{◌≡◌, ℕ, zero, suc, ◌<◌, List, [], ◌∷◌, get_or, refl, sym, ap, subst, arith}
 use Rattle.hfs_btree.specs.declared.key.Key.{Ghosts}
-use Rattle.hfs_scans.specs.Each.{Each}
-use Rattle.hfs_scans.proofs.ElementLemmas.{each-mono, each-at}
-use Rattle.hfs_scans.specs.Members.{In}
+use Rattle.hfs_fields.specs.Each.{Each}
+use Rattle.hfs_fields.proofs.ElementLemmas.{each-mono, each-at}
+use Rattle.hfs_fields.specs.Members.{In}
 use Rattle.hfs_btree.specs.Tree.{Store, Spot, records_in, records_of, first_of, key_at, spots}
 use Rattle.hfs_btree.specs.Header.{tree_turn}
 use Rattle.hfs_btree.specs.Sound.{IsSound, first_key}

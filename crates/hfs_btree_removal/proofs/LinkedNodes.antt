@@ -2,7 +2,7 @@
 use Rattle.std.proofs.Common.{◌≡◌, ◌≢◌, ℕ, sym, ◌∙◌, subst, inl, inr}
 use Rattle.std.specs.Prelude.{Ok}
 use Rattle.std.proofs.lemmas.Bool.{cases_eq}
-use Rattle.hfs_node.specs.declared.node.Node.{Node}
+use Rattle.hfs_btree.specs.declared.node.Node.{Node}
 use Rattle.hfs_btree.specs.Tree.{Store, node_in}
 use Rattle.hfs_btree_edits.specs.Stored.{Decodes, IsSame}
 use Rattle.hfs_btree_edits.proofs.DecodesLemmas.{decoded, decodes-as, decodes-same}

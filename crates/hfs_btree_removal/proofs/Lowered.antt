@@ -5,8 +5,8 @@ use Rattle.std.specs.List.{flat_map}
 use Rattle.hfs_btree.specs.declared.header.Header.{Header}
 use Rattle.hfs_btree.specs.declared.key.Key.{Ghosts}
 use Rattle.hfs_btree.specs.Pairs.{Pairs, Rises}
-use Rattle.hfs_scans.specs.Each.{Each}
-use Rattle.hfs_scans.proofs.ElementLemmas.{each-mono, each-left, each-right, each-append}
+use Rattle.hfs_fields.specs.Each.{Each}
+use Rattle.hfs_fields.proofs.ElementLemmas.{each-mono, each-left, each-right, each-append}
 use Rattle.hfs_btree.specs.Tree.{Store, Spot, records_of, children, first_of, last_of, spots, turn, last_level, pairs}
 use Rattle.hfs_btree.specs.Header.{header_in, root_level, leaves, own_nodes, tree_content, tree_turn, tree_nodes}
 use Rattle.hfs_btree.specs.Sound.{IsOther, IsDistinct, IsRight, IsSound, IsExact, IsStray, AreKeysInOrder, AreKeysExact}
@@ -15,7 +15,7 @@ use Rattle.hfs_btree_removal.proofs.KeysKept.{HaveKeys, all-have}
 use Rattle.hfs_btree_edits.specs.KeptKeys.{tree_keys, EachKey}
 use Rattle.hfs_btree_edits.proofs.KeptKeyLemmas.{hold-keys}
 use Rattle.hfs_btree_edits.proofs.LevelPartLemmas.{KeepsAt}
-use Rattle.hfs_scans.specs.Members.{In}
+use Rattle.hfs_fields.specs.Members.{In}
 use Rattle.hfs_btree_edits.proofs.DistinctLemmas.{other-before, other-behind}
 use Rattle.hfs_btree_edits.proofs.HeadedLemmas.{own_nodes-is, marked-on, marked-back, free-is, has_header, has_map}
 use Rattle.hfs_btree_edits.proofs.UnchangedLemmas.{IsUnchanged, turn-unchanged, last-unchanged, rights-unchanged, keyed-unchanged, exact-unchanged, content-unchanged}

@@ -173,7 +173,7 @@ module _ (steps : List Step) (wide : ℕ) (l : IsLastWide steps wide) where
   pub way-below : {K : Type 0} (g : Ghosts K) (old : Store) (t : K) → IsWayTo g old t steps → IsWayBelow g old (take wide steps) (get_or steps wide no-step) back
   way-below g old t way =
       let P : List Step → Type 0 = λ ss. IsWayTo g old t ss in
-      let Q : List Step → Type 0 = λ ss. Rattle.hfs_scans.specs.Each.Each (λ s. s.count ≤ 1) ss in
+      let Q : List Step → Type 0 = λ ss. Rattle.hfs_fields.specs.Each.Each (λ s. s.count ≤ 1) ss in
       record {
         key = t;
         way = subst P (sym steps-are) way;

@@ -4,8 +4,8 @@ use Rattle.std.specs.Prelude.{remove}
 use Rattle.std.specs.Cmp.{IsTotalOrder}
 use Rattle.std.specs.declared.cmp.Ordering.TheVariants.{Less}
 use Rattle.hfs_btree.specs.Pairs.{Order, Pairs, IsAbove, IsAtMost}
-use Rattle.hfs_scans.specs.Each.{Each}
-use Rattle.hfs_scans.proofs.ElementLemmas.{each-mono}
+use Rattle.hfs_fields.specs.Each.{Each}
+use Rattle.hfs_fields.proofs.ElementLemmas.{each-mono}
 use Rattle.hfs_btree.proofs.LookupLemmas.{lt-le}
 use Rattle.hfs_btree.specs.Sound.{ArePartsInOrder}
 

@@ -5,12 +5,12 @@ use Rattle.std.specs.List.{flat_map}
 use Rattle.std.specs.Cmp.{IsTotalOrder}
 use Rattle.std.specs.declared.cmp.Ordering.TheVariants.{Less, Equal}
 use Rattle.std.proofs.lemmas.List.{get_or-set_same}
-use Rattle.hfs_node.specs.declared.node.Node.{Node}
-use Rattle.hfs_node.specs.declared.fault.NodeFault.{NodeFault}
+use Rattle.hfs_btree.specs.declared.node.Node.{Node}
+use Rattle.hfs_btree.specs.declared.fault.NodeFault.{NodeFault}
 use Rattle.hfs_btree_removal.specs.declared.down.Step.{Step}
 use Rattle.hfs_btree.specs.declared.key.Key.{Ghosts}
 use Rattle.hfs_btree.specs.Pairs.{IsAtMost}
-use Rattle.hfs_scans.specs.Each.{Each}
+use Rattle.hfs_fields.specs.Each.{Each}
 use Rattle.hfs_btree.specs.Tree.{Store, Spot, node_in, records_in, records_of, children, first_of, under, level_below}
 use Rattle.hfs_btree.specs.Header.{depth_of, root_level, tree_turn, tree_nodes}
 use Rattle.hfs_btree.specs.Sound.{IsOther, IsRight, IsSound, IsExact, first_key}
@@ -18,7 +18,7 @@ use Rattle.hfs_btree.proofs.DescentLemmas.{next-split}
 use Rattle.hfs_btree_removal.proofs.RemovalLemmas.{HasTold}
 use Rattle.hfs_btree_removal.specs.Removal.{HasKeySet, AreKeysSet, AreBehindFirst}
 use Rattle.hfs_btree_removal.specs.Ways.{IsStep, Leads}
-use Rattle.hfs_scans.proofs.PartLemmas.{flat_map-same}
+use Rattle.hfs_fields.proofs.PartLemmas.{flat_map-same}
 use Rattle.hfs_btree_edits.proofs.EditedLemmas.{IsEdited, height-in}
 use Rattle.hfs_btree_edits.specs.LevelParts.{lift}
 use Rattle.hfs_btree_edits.proofs.LevelPartLemmas.{lift-is, numbers}
@@ -26,8 +26,8 @@ use Rattle.hfs_btree_edits.specs.KeptKeys.{tree_keys}
 use Rattle.hfs_btree_edits.proofs.KeptKeyLemmas.{own-keys}
 use Rattle.hfs_btree_edits.specs.Stored.{bytes_in}
 use Rattle.hfs_btree_removal.proofs.KeysKept.{HaveKeys, first-has, keys-then}
-use Rattle.hfs_scans.specs.Members.{In}
-use Rattle.hfs_scans.proofs.ElementLemmas.{each-unmap}
+use Rattle.hfs_fields.specs.Members.{In}
+use Rattle.hfs_fields.proofs.ElementLemmas.{each-unmap}
 use Rattle.hfs_btree_removal.proofs.Raised.{sons-at}
 use Rattle.hfs_btree_removal.proofs.ExactBut.{IsExactBut}
 use Rattle.hfs_btree_removal.proofs.Told.{has-told, told-but, told-exact}

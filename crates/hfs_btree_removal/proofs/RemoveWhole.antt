@@ -13,8 +13,8 @@ use Rattle.hfs_btree_removal.specs.Removal.{KeepsSound, GainsNothing}
 use Rattle.hfs_btree.specs.Header.{header_in, depth_of, root_level, free_nodes, tree_content}
 use Rattle.hfs_btree.specs.Pairs.{Pairs, lookup}
 use Rattle.hfs_btree.specs.Sound.{IsSound}
-use Rattle.hfs_scans.specs.Each.{Each}
-use Rattle.hfs_scans.proofs.ElementLemmas.{each-right}
+use Rattle.hfs_fields.specs.Each.{Each}
+use Rattle.hfs_fields.proofs.ElementLemmas.{each-right}
 use Rattle.hfs_btree_removal.specs.Removal.{HasLowered, HasTakenOut}
 use Rattle.hfs_btree.specs.Tree.{Store, records_in, pair_of, pairs, last_level}
 use Rattle.hfs_btree_removal.specs.Ways.{Leads, IsWayTo}

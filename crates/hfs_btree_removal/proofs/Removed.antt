@@ -6,15 +6,15 @@ use Rattle.std.specs.Cmp.{IsTotalOrder}
 use Rattle.std.specs.declared.cmp.Ordering.TheVariants.{Equal}
 use Rattle.std.proofs.lemmas.Bool.{cases_eq}
 use Rattle.std.proofs.lemmas.List.{length-map}
-use Rattle.hfs_node.specs.declared.node.Node.{Node}
+use Rattle.hfs_btree.specs.declared.node.Node.{Node}
 use Rattle.hfs_btree.specs.declared.key.Key.{Ghosts}
-use Rattle.hfs_scans.specs.Each.{Each}
-use Rattle.hfs_scans.specs.Members.{In}
-use Rattle.hfs_scans.proofs.MemberLemmas.{each_in, in-left, in-right}
-use Rattle.hfs_scans.proofs.ElementLemmas.{each-left, each-right, each-mono, each-unmap}
+use Rattle.hfs_fields.specs.Each.{Each}
+use Rattle.hfs_fields.specs.Members.{In}
+use Rattle.hfs_fields.proofs.MemberLemmas.{each_in, in-left, in-right}
+use Rattle.hfs_fields.proofs.ElementLemmas.{each-left, each-right, each-mono, each-unmap}
 use Rattle.hfs_btree_edits.specs.Edits.{without_pair}
 use Rattle.hfs_btree_removal.specs.Removal.{KeepsSound, GainsNothing}
-use Rattle.hfs_node.specs.Laid.{IsZeroFrom}
+use Rattle.hfs_btree.specs.Laid.{IsZeroFrom}
 use Rattle.hfs_btree_edits.proofs.KeptKeyLemmas.{each-among, hold-keys}
 use Rattle.hfs_btree_edits.specs.Stored.{bytes_in}
 use Rattle.hfs_btree_removal.proofs.KeysKept.{keys-then}

@@ -4,10 +4,10 @@ use Rattle.std.specs.Prelude.{◌↔◌, remove}
 use Rattle.std.specs.Cmp.{IsTotalOrder}
 use Rattle.std.specs.declared.cmp.Ordering.TheVariants.{Equal}
 use Rattle.std.proofs.lemmas.Bool.{cases_eq}
-use Rattle.hfs_node.specs.declared.node.Node.{Node}
+use Rattle.hfs_btree.specs.declared.node.Node.{Node}
 use Rattle.hfs_btree.specs.declared.header.Header.{Header}
 use Rattle.hfs_btree.specs.declared.key.Key.{Ghosts}
-use Rattle.hfs_scans.specs.Members.{In}
+use Rattle.hfs_fields.specs.Members.{In}
 use Rattle.hfs_btree_edits.specs.Edits.{without_pair}
 use Rattle.hfs_btree_removal.specs.Removal.{KeepsSound, GainsNothing}
 use Rattle.hfs_btree_edits.specs.KeptKeys.{EachKey}
@@ -15,8 +15,8 @@ use Rattle.hfs_btree_edits.proofs.KeptKeyLemmas.{hold-keys}
 use Rattle.hfs_btree_edits.specs.Stored.{bytes_in}
 use Rattle.hfs_btree_removal.proofs.KeysKept.{HaveKeys, kept-has, keys-then}
 use Rattle.hfs_btree_removal.proofs.PartsLess.{each-remove}
-use Rattle.hfs_scans.specs.Each.{Each}
-use Rattle.hfs_scans.proofs.ElementLemmas.{each-right}
+use Rattle.hfs_fields.specs.Each.{Each}
+use Rattle.hfs_fields.proofs.ElementLemmas.{each-right}
 use Rattle.hfs_btree.specs.Tree.{Store, Spot, records_in, records_of, key_at}
 use Rattle.hfs_btree.specs.Header.{header_in, depth_of, leaves, own_nodes, tree_content, tree_turn, tree_nodes}
 use Rattle.hfs_btree.specs.Sound.{IsOther, IsRight, IsSound, IsExact, IsStray}

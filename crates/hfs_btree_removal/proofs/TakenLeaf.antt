@@ -6,21 +6,21 @@ use Rattle.std.specs.Cmp.{IsTotalOrder}
 use Rattle.std.specs.declared.cmp.Ordering.TheVariants.{Equal}
 use Rattle.std.proofs.lemmas.Bool.{cases_eq}
 use Rattle.std.proofs.lemmas.List.Concat.{flat_map-append}
-use Rattle.hfs_node.specs.declared.node.Node.{Node}
-use Rattle.hfs_node.specs.declared.fault.NodeFault.{NodeFault}
-use Rattle.hfs_node.specs.declared.kind.NodeKind.TheVariants.{Leaf}
+use Rattle.hfs_btree.specs.declared.node.Node.{Node}
+use Rattle.hfs_btree.specs.declared.fault.NodeFault.{NodeFault}
+use Rattle.hfs_btree.specs.declared.kind.NodeKind.TheVariants.{Leaf}
 use Rattle.hfs_btree.specs.declared.header.Header.{Header}
 use Rattle.hfs_btree.specs.declared.key.Key.{Ghosts}
 use Rattle.hfs_btree.specs.Pairs.{Pairs, Rises}
-use Rattle.hfs_scans.specs.Each.{Each}
-use Rattle.hfs_scans.proofs.ElementLemmas.{each-mono}
+use Rattle.hfs_fields.specs.Each.{Each}
+use Rattle.hfs_fields.proofs.ElementLemmas.{each-mono}
 use Rattle.hfs_btree_edits.specs.Edits.{without_pair}
 use Rattle.hfs_btree.specs.Tree.{Store, Spot, node_in, records_of, pair_of, pairs, first_of}
 use Rattle.hfs_btree.specs.Header.{header_in, depth_of, root_level, leaves, free_nodes, tree_content, tree_turn, tree_nodes, own_nodes}
 use Rattle.hfs_btree.specs.Sound.{IsDistinct, IsRight, IsSound, AreKeysInOrder, KeepsFrame}
 use Rattle.hfs_btree.proofs.LevelLemmas.{map-split}
 use Rattle.hfs_btree.proofs.DescentLemmas.{leaf-node, content-about}
-use Rattle.hfs_scans.proofs.PartLemmas.{flat_map-same}
+use Rattle.hfs_fields.proofs.PartLemmas.{flat_map-same}
 use Rattle.hfs_btree_edits.proofs.KeptLemmas.{header-kept, marks-kept, free-same}
 use Rattle.hfs_btree_edits.proofs.EditedLemmas.{IsEdited, height-in, head-stays, map-stays, turn-stays, leaves-stay, frame-stays, structure-stays}
 use Rattle.hfs_btree_edits.proofs.EditedPairLemmas.{rises-before, rises-without, above-equal, without-at}

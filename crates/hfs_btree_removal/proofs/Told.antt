@@ -5,12 +5,12 @@ use Rattle.std.specs.Cmp.{IsTotalOrder}
 use Rattle.std.specs.Ordering.{is_gt}
 use Rattle.std.specs.declared.cmp.Ordering.TheVariants.{Less, Equal}
 use Rattle.std.proofs.lemmas.List.{get_or-set_other}
-use Rattle.hfs_node.specs.declared.node.Node.{Node}
+use Rattle.hfs_btree.specs.declared.node.Node.{Node}
 use Rattle.hfs_btree.specs.declared.header.Header.{Header}
 use Rattle.hfs_btree.specs.declared.key.Key.{Ghosts}
 use Rattle.hfs_btree.specs.Pairs.{Order, Pairs, IsAtMost, IsAbove}
-use Rattle.hfs_scans.specs.Each.{Each}
-use Rattle.hfs_scans.proofs.ElementLemmas.{each-mono, each-append, each-unmap}
+use Rattle.hfs_fields.specs.Each.{Each}
+use Rattle.hfs_fields.proofs.ElementLemmas.{each-mono, each-append, each-unmap}
 use Rattle.hfs_btree.proofs.LookupLemmas.{lt-le}
 use Rattle.hfs_btree.specs.Tree.{Store, Spot, records_in, records_of, children, turn, under, level_below}
 use Rattle.hfs_btree.specs.Header.{header_in, depth_of, root_level, own_nodes, tree_turn, tree_nodes}
@@ -20,7 +20,7 @@ use Rattle.hfs_btree_edits.proofs.EditedLemmas.{IsEdited}
 use Rattle.hfs_btree_edits.specs.KeptKeys.{tree_keys}
 use Rattle.hfs_btree_edits.proofs.KeptKeyLemmas.{hold-keys, key-holds}
 use Rattle.hfs_btree_edits.specs.Stored.{bytes_in}
-use Rattle.hfs_scans.specs.Members.{In}
+use Rattle.hfs_fields.specs.Members.{In}
 use Rattle.hfs_btree_edits.specs.LevelParts.{lift}
 use Rattle.hfs_btree_removal.proofs.Raised.{raised-sound, raised-keys, raised-content, raised-frame, raised-turn, raised-header, raised-free, raised-height}
 use Rattle.hfs_btree_removal.proofs.ExactBut.{AreKeysExactFor, IsExactFor, IsExactBut, exact-for}

@@ -4,8 +4,8 @@ use Rattle.std.specs.Prelude.{⊤}
 use Rattle.std.specs.List.{flat_map}
 use Rattle.hfs_btree_removal.specs.declared.down.Step.{Step}
 use Rattle.hfs_btree.specs.declared.key.Key.{Ghosts}
-use Rattle.hfs_scans.specs.Each.{Each}
-use Rattle.hfs_scans.proofs.ElementLemmas.{each-right}
+use Rattle.hfs_fields.specs.Each.{Each}
+use Rattle.hfs_fields.proofs.ElementLemmas.{each-right}
 use Rattle.hfs_btree.specs.Tree.{Store, Spot, node_in, records_in, records_of, forward_of, children, first_of, spots, level_below}
 use Rattle.hfs_btree.proofs.DescentLemmas.{next-split}
 use Rattle.hfs_btree_removal.specs.Removal.{backward_of, last_left, last_right}
@@ -14,7 +14,7 @@ use Rattle.hfs_btree_removal.proofs.Chains.{IsChain, cuts, bottom, only_child}
 use Rattle.hfs_btree_removal.proofs.CutsUnlinked.{AreAt}
 use Rattle.hfs_btree_edits.proofs.LevelPartLemmas.{upper, of-spots}
 use Rattle.hfs_btree_edits.specs.LevelParts.{lift}
-use Rattle.hfs_scans.proofs.ElementLemmas.{each-left}
+use Rattle.hfs_fields.proofs.ElementLemmas.{each-left}
 use Rattle.hfs_btree_removal.proofs.Links.{IsKept}
 use Rattle.hfs_btree_removal.proofs.Passed.{high}
 

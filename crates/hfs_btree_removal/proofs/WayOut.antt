@@ -5,8 +5,8 @@ use Rattle.std.specs.Cmp.{IsTotalOrder}
 use Rattle.std.specs.declared.cmp.Ordering.TheVariants.{Less, Equal}
 use Rattle.hfs_btree_removal.specs.declared.down.Step.{Step}
 use Rattle.hfs_btree.specs.declared.key.Key.{Ghosts}
-use Rattle.hfs_scans.specs.Each.{Each}
-use Rattle.hfs_scans.specs.Members.{In}
+use Rattle.hfs_fields.specs.Each.{Each}
+use Rattle.hfs_fields.specs.Members.{In}
 use Rattle.hfs_btree.proofs.LookupLemmas.{le-lt}
 use Rattle.hfs_btree.specs.Tree.{Store, Spot, records_in, records_of, under}
 use Rattle.hfs_btree.specs.Header.{header_in, depth_of, root_level}

@@ -1,17 +1,17 @@
 -- What the steps of a removal make of a tree's nodes.
 use Rattle.std.specs.Prelude.{◌≡◌, ◌≢◌, ℕ, zero, suc, ◌+◌, ◌-◌, ◌<◌, ◌≤◌, ◌==◌, if◌then◌else◌, true, List, [], ◌∷◌, ◌++◌, ⊤, Ok, Err, Result, Option, Some, None, IsOk, length, map, slice_set, slice_index_or, remove}
-use Rattle.hfs_node.specs.declared.fault.NodeFault.{NodeFault}
-use Rattle.hfs_node.specs.declared.node.Node.{Node}
-use Rattle.hfs_node.specs.declared.kind.NodeKind.TheVariants.{Leaf}
+use Rattle.hfs_btree.specs.declared.fault.NodeFault.{NodeFault}
+use Rattle.hfs_btree.specs.declared.node.Node.{Node}
+use Rattle.hfs_btree.specs.declared.kind.NodeKind.TheVariants.{Leaf}
 use Rattle.hfs_btree_removal.specs.declared.down.Step.{Step}
 use Rattle.hfs_btree_removal.specs.declared.unlink.Neighbours.{Neighbours}
 use Rattle.hfs_btree.specs.declared.header.Header.{Header as HeaderRecord}
 use Rattle.hfs_btree.specs.declared.key.Key.{Ghosts}
 use Rattle.hfs_btree_edits.specs.Edits.{without_pair}
 use Rattle.hfs_btree_edits.specs.KeptKeys.{tree_keys, EachKey}
-use Rattle.hfs_node.specs.Laid.{IsZeroFrom}
-use Rattle.hfs_scans.specs.Each.{Each}
-use Rattle.hfs_scans.specs.Members.{In}
+use Rattle.hfs_btree.specs.Laid.{IsZeroFrom}
+use Rattle.hfs_fields.specs.Each.{Each}
+use Rattle.hfs_fields.specs.Members.{In}
 use Rattle.hfs_btree_edits.specs.Stored.{HasStored, HasHeaderPut, IsLink, IsSame, IsReleased, bytes_in}
 use Rattle.hfs_btree.specs.Tree.{Store, node_in, records_in, forward_of}
 use Rattle.hfs_btree.specs.Header.{header_in, depth_of, own_nodes, free_nodes, tree_content, tree_nodes}

@@ -3,17 +3,16 @@
 ghost use Rattle.std.specs.Prelude.{◌≡◌, ◌<◌, ◌-◌, suc, true, IfOk, MatchOption, length, drop};
 ghost use Rattle.hfs_btree_edits.specs.Conditions.{IsThere};
 ghost use Rattle.hfs_btree.specs.Header.{header_in, depth_of, tree_content};
-ghost use Rattle.hfs_scans.specs.Each.{Each};
+ghost use Rattle.hfs_fields.specs.Each.{Each};
 ghost use Rattle.hfs_btree.specs.Pairs.{lookup};
 ghost use Rattle.hfs_btree.specs.Search.{branch_place};
 ghost use Rattle.hfs_btree.specs.Sound.{IsSound};
 ghost use Rattle.hfs_btree.specs.Tree.{records_of};
 ghost use Rattle.hfs_btree_removal.specs.Ways.{IsWayTo, IsLastWide, AreNarrow, child_in};
-ghost use Rattle.hfs_node.specs.Node.{node_of};
+ghost use Rattle.hfs_btree.specs.Node.{node_of};
 
-use hfs_btree::{Header, Key, Nodes, child_of, count_in, entry_in, place_above};
+use hfs_btree::{Header, Key, Nodes, child_of, count_in, entry_in, place_above, view};
 use hfs_btree_edits::place_of;
-use hfs_node::view;
 use std::alloc::{AllocError, Global};
 
 /// A node on the way from the root to a pair.

@@ -11,9 +11,9 @@ use Rattle.hfs_catalog.specs.declared.item.CatalogItem.{CatalogItem}
 use Rattle.hfs_catalog.specs.Records.{Record}
 use Rattle.hfs_catalog.specs.Lookups.{catalog_item}
 use Rattle.hfs_call_edits.specs.Choosing.{map_ok, only_file, is_locked, unless_locked, file_part, is_locked_body, is_locked_item}
-use Rattle.hfs_queries.proofs.FolderLemmas.{folder_not_file}
-use Rattle.hfs_queries.proofs.Files.{same_file}
-use Rattle.hfs_changes.proofs.Chosen.{same_ok}
+use Rattle.hfs_items.proofs.FolderLemmas.{folder_not_file}
+use Rattle.hfs_items.proofs.Files.{same_file}
+use Rattle.hfs_record_edits.proofs.Chosen.{same_ok}
 use Rattle.hfs_model.proofs.KeepsCalls.{err_is_ok}
 
 -- ---- what is chosen of it

@@ -11,8 +11,8 @@ use Rattle.hfs_fields.specs.Names.{is_item_name}
 use Rattle.hfs_fields.specs.Order.{same_name}
 use Rattle.hfs_fields.specs.Records.{is_dir, is_file, is_item, item_id, is_bit_set, dir_record_of, file_record_of}
 use Rattle.hfs_btree.specs.Pairs.{lookup}
-use Rattle.hfs_scans.specs.Members.{In}
-use Rattle.hfs_scans.proofs.MemberLemmas.{each_in, found_in}
+use Rattle.hfs_fields.specs.Members.{In}
+use Rattle.hfs_fields.proofs.MemberLemmas.{each_in, found_in}
 use Rattle.hfs_model.specs.declared.codes.TheConstants.{BAD_NAME, NOT_FOUND, HARDWARE_LOCKED, FILE_LOCKED, SOFTWARE_LOCKED, NOT_A_FOLDER}
 use Rattle.hfs_model.specs.Volume.{Volume, Entry}
 use Rattle.hfs_model.specs.Children.{is_folder_kind, entries_of}
@@ -28,18 +28,18 @@ use Rattle.hfs_catalog.specs.Lookups.{catalog_item, is_child_named, child_named}
 use Rattle.hfs_check.specs.Parts.{Blocks, mdb_in, catalog_in}
 use Rattle.hfs_check.specs.Sound.{AreBlocksSound}
 use Rattle.hfs_check.specs.VolumeOf.{contents_in, volume_in}
-use Rattle.hfs_changes.proofs.OnceLemmas.{distinct_once, item_found}
-use Rattle.hfs_changes.specs.SettingLaws.{IsChoice}
-use Rattle.hfs_changes.proofs.SettingLaws.{ChoiceStands}
+use Rattle.hfs_record_edits.proofs.OnceLemmas.{distinct_once, item_found}
+use Rattle.hfs_record_edits.specs.SettingLaws.{IsChoice}
+use Rattle.hfs_record_edits.proofs.SettingLaws.{ChoiceStands}
 use Rattle.hfs_call_patches.specs.Settings.{IsBody}
 use Rattle.hfs_call_edits.specs.Choosing.{map_ok, lock_code, unless_code, only_file, is_locked, unless_locked, file_to_set, item_to_set, file_part}
 use Rattle.hfs_call_edits.specs.Choosing as records
 use Rattle.hfs_call_edits.specs.Edits.{IsChosenFile, IsChosenFolder, IsChosenBody, ChoosesFile, ChoosesItem}
-use Rattle.hfs_queries.specs.Queries.{AreEntries}
-use Rattle.hfs_queries.specs.Told.{is_folder}
-use Rattle.hfs_changes.proofs.Chosen.{same_ok}
+use Rattle.hfs_items.specs.Queries.{AreEntries}
+use Rattle.hfs_items.specs.Told.{is_folder}
+use Rattle.hfs_record_edits.proofs.Chosen.{same_ok}
 use Rattle.hfs_model.proofs.KeepsCalls.{err_is_ok as err_ok}
-use Rattle.hfs_queries.proofs.ReplyLemmas.{folder_kind, folder_same}
+use Rattle.hfs_items.proofs.ReplyLemmas.{folder_kind, folder_same}
 
 -- ---- the choices of a volume with these locks, whose entries the records answer for
 

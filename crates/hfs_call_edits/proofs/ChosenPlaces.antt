@@ -8,7 +8,7 @@ use Rattle.std.proofs.lemmas.Option.{none-some, same_Some}
 use Rattle.hfs_fields.specs.declared.mdb.Mdb.{Mdb}
 use Rattle.hfs_fields.specs.Names.{is_item_name}
 use Rattle.hfs_fields.specs.Records.{is_dir, item_id, is_bit_set, dir_record_of, file_record_of}
-use Rattle.hfs_scans.proofs.MemberLemmas.{each_in}
+use Rattle.hfs_fields.proofs.MemberLemmas.{each_in}
 use Rattle.hfs_model.specs.declared.codes.TheConstants.{FOLDER_FULL, BAD_NAME, HARDWARE_LOCKED, SOFTWARE_LOCKED, DUPLICATE, NOT_A_FOLDER}
 use Rattle.hfs_model.specs.declared.reply.Info.{Info}
 use Rattle.hfs_model.specs.Volume.{Volume, Entry}
@@ -23,12 +23,12 @@ use Rattle.hfs_catalog.specs.Items.{item_of, entry_of}
 use Rattle.hfs_catalog.specs.Lookups.{catalog_item, child_named}
 use Rattle.hfs_check.specs.Parts.{Blocks, mdb_in, catalog_in}
 use Rattle.hfs_check.specs.VolumeOf.{contents_in, volume_in}
-use Rattle.hfs_changes.specs.Changes.{IsFolderWith}
-use Rattle.hfs_queries.proofs.FoundLemmas.{is_some-option_map}
-use Rattle.hfs_queries.proofs.FolderLemmas.{found_with}
-use Rattle.hfs_queries.specs.Queries.{AreEntries}
-use Rattle.hfs_queries.proofs.ReplyLemmas.{folder_kind, folder_same}
-use Rattle.hfs_queries.specs.Told.{folder_info, body_info, told, only_folder, folder_with}
+use Rattle.hfs_record_edits.specs.Changes.{IsFolderWith}
+use Rattle.hfs_items.proofs.FoundLemmas.{is_some-option_map}
+use Rattle.hfs_items.proofs.FolderLemmas.{found_with}
+use Rattle.hfs_items.specs.Queries.{AreEntries}
+use Rattle.hfs_items.proofs.ReplyLemmas.{folder_kind, folder_same}
+use Rattle.hfs_items.specs.Told.{folder_info, body_info, told, only_folder, folder_with}
 use Rattle.hfs_call_edits.specs.Choosing.{unless_code}
 use Rattle.hfs_call_patches.specs.declared.new_items.NewPlace.{NewPlace}
 use Rattle.hfs_call_edits.specs.NewPlaces.{children_in, place_under, place_in, new_place, ChoosesPlace}

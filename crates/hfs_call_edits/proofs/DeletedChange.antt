@@ -17,8 +17,8 @@ use Rattle.hfs_model.specs.Volume.{Volume, Entry}
 use Rattle.hfs_check.specs.Parts.{Blocks, mdb_in}
 use Rattle.hfs_check.specs.Sound.{AreBlocksSound}
 use Rattle.hfs_check.specs.VolumeOf.{volume_in}
-use Rattle.hfs_changes.specs.Laws.{CatalogEditsAreSteps}
-use Rattle.hfs_changes.specs.RemovalLaws.{without_folder}
+use Rattle.hfs_record_edits.specs.Laws.{CatalogEditsAreSteps}
+use Rattle.hfs_record_edits.specs.RemovalLaws.{without_folder}
 use Rattle.hfs_call_patches.specs.Deleting.{MakesFolderDeletion, IsFolderDeletion, MakesFileDeletion, IsFileDeletion}
 use Rattle.hfs_call_patches.specs.CallChanges.{IsChangeOf}
 use Rattle.hfs_call_edits.specs.Edits.{IsEditOf}

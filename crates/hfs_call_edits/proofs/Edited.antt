@@ -23,9 +23,9 @@ use Rattle.hfs_model.specs.Volume.{Volume, Items, Entry}
 use Rattle.hfs_check.specs.Parts.{Blocks, mdb_in, catalog_extents, catalog_nodes, catalog_blocks}
 use Rattle.hfs_check.specs.Sound.{AreBlocksSound}
 use Rattle.hfs_check.specs.VolumeOf.{volume_in}
-use Rattle.hfs_changes.specs.Laws.{CatalogEditsAreSteps}
-use Rattle.hfs_changes.specs.OnBlocks.{at_time}
-use Rattle.hfs_changes.specs.SettingLaws.{MakesAt, lock_call}
+use Rattle.hfs_record_edits.specs.Laws.{CatalogEditsAreSteps}
+use Rattle.hfs_record_edits.specs.OnBlocks.{at_time}
+use Rattle.hfs_record_edits.specs.SettingLaws.{MakesAt, lock_call}
 use Rattle.hfs_call_patches.specs.declared.change.Change.{Change}
 use Rattle.hfs_call_patches.specs.declared.settings.ItemSettings.{ItemSettings}
 use Rattle.hfs_call_patches.specs.Settings.{IsFileChoice, IsFolderChoice, set_cat_info_call}

@@ -8,7 +8,7 @@ use Rattle.hfs_fields.specs.declared.dir_record.DirRecord.{DirRecord}
 use Rattle.hfs_fields.specs.declared.file_record.FileRecord.{FileRecord}
 use Rattle.hfs_fields.specs.declared.mdb.Mdb.{Mdb}
 use Rattle.hfs_fields.specs.Records.{is_dir, item_id, dir_record_of, file_record_of}
-use Rattle.hfs_scans.proofs.MemberLemmas.{each_in}
+use Rattle.hfs_fields.proofs.MemberLemmas.{each_in}
 use Rattle.hfs_model.specs.declared.codes.TheConstants.{FILE_ID_NOT_FOUND, FILE_ID_EXISTS, NOT_A_FILE}
 use Rattle.hfs_model.specs.Choices.{and_then}
 use Rattle.hfs_catalog.specs.declared.item.ItemRecord.TheVariants.{Folder, File}
@@ -16,12 +16,12 @@ use Rattle.hfs_catalog.specs.declared.item.CatalogItem.{CatalogItem}
 use Rattle.hfs_catalog.specs.Records.{Record, Catalog, item_with, has_thread}
 use Rattle.hfs_catalog.specs.Lookups.{catalog_item}
 use Rattle.hfs_catalog.specs.Sound.{IsSoundCatalog}
-use Rattle.hfs_queries.proofs.FolderLemmas.{found_with, folder_not_file}
+use Rattle.hfs_items.proofs.FolderLemmas.{found_with, folder_not_file}
 use Rattle.hfs_call_edits.specs.Choosing.{map_ok, lock_code, unless_code, file_part}
 use Rattle.hfs_call_edits.specs.ChoosingFileIds.{unless_threaded, if_threaded, file_with_id}
-use Rattle.hfs_changes.proofs.Chosen.{same_ok}
+use Rattle.hfs_record_edits.proofs.Chosen.{same_ok}
 use Rattle.hfs_model.proofs.KeepsCalls.{err_is_ok as err_ok}
-use Rattle.hfs_queries.proofs.Files.{same_file}
+use Rattle.hfs_items.proofs.Files.{same_file}
 
 -- what was chosen is a file's record
 pub record IsFileOf (chosen : Result Record ℤ) (key : CatKey) (file : FileRecord) : Type 0 where

@@ -12,9 +12,9 @@ use Rattle.hfs_model.specs.Volume.{Volume, Entry}
 use Rattle.hfs_check.specs.Parts.{Blocks, mdb_in}
 use Rattle.hfs_check.specs.Sound.{AreBlocksSound}
 use Rattle.hfs_check.specs.VolumeOf.{volume_in}
-use Rattle.hfs_changes.specs.Laws.{CatalogEditsAreSteps}
-use Rattle.hfs_changes.specs.OnBlocks.{at_time}
-use Rattle.hfs_changes.specs.SettingLaws.{MakesAt}
+use Rattle.hfs_record_edits.specs.Laws.{CatalogEditsAreSteps}
+use Rattle.hfs_record_edits.specs.OnBlocks.{at_time}
+use Rattle.hfs_record_edits.specs.SettingLaws.{MakesAt}
 use Rattle.hfs_call_patches.specs.declared.change.Change.{Change}
 use Rattle.hfs_call_edits.specs.Edits.{IsEditOf, wants_nodes}
 

@@ -9,8 +9,8 @@ use Rattle.hfs_fields.specs.declared.mdb.Mdb.{Mdb}
 use Rattle.hfs_fields.specs.declared.file_record.FileRecord.{FileRecord}
 use Rattle.hfs_fields.specs.Names.{is_item_name}
 use Rattle.hfs_fields.specs.Records.{is_dir, is_file, is_item, item_id, is_bit_set, dir_record_of, file_record_of}
-use Rattle.hfs_scans.specs.Members.{In}
-use Rattle.hfs_scans.proofs.MemberLemmas.{each_in}
+use Rattle.hfs_fields.specs.Members.{In}
+use Rattle.hfs_fields.proofs.MemberLemmas.{each_in}
 use Rattle.hfs_model.specs.declared.codes.TheConstants.{BAD_NAME, NOT_FOUND, HARDWARE_LOCKED, SOFTWARE_LOCKED, NOT_A_FOLDER, FILE_ID_NOT_FOUND, FILE_ID_EXISTS, NOT_A_FILE}
 use Rattle.hfs_model.specs.Volume.{Volume, Entry}
 use Rattle.hfs_model.specs.Children.{is_folder, is_folder_kind, child_named, entries_of}
@@ -25,22 +25,22 @@ use Rattle.hfs_catalog.specs.Sound.{IsRoot, IsGiven, HasRightId, HasPlace}
 use Rattle.hfs_check.specs.Parts.{Blocks, mdb_in, catalog_in}
 use Rattle.hfs_check.specs.Sound.{AreBlocksSound}
 use Rattle.hfs_check.specs.VolumeOf.{contents_in, volume_in}
-use Rattle.hfs_changes.proofs.PlaceLaws.{FileIsThreadless}
-use Rattle.hfs_changes.specs.SettingLaws.{IsChoice}
-use Rattle.hfs_changes.proofs.SettingLaws.{ChoiceStands}
-use Rattle.hfs_queries.proofs.FolderLemmas.{HasId, found_with}
-use Rattle.hfs_queries.specs.Queries.{AreEntries}
-use Rattle.hfs_queries.proofs.ReplyLemmas.{folder_kind}
+use Rattle.hfs_record_edits.proofs.PlaceLaws.{FileIsThreadless}
+use Rattle.hfs_record_edits.specs.SettingLaws.{IsChoice}
+use Rattle.hfs_record_edits.proofs.SettingLaws.{ChoiceStands}
+use Rattle.hfs_items.proofs.FolderLemmas.{HasId, found_with}
+use Rattle.hfs_items.specs.Queries.{AreEntries}
+use Rattle.hfs_items.proofs.ReplyLemmas.{folder_kind}
 use Rattle.hfs_call_patches.specs.Settings.{IsBody}
 use Rattle.hfs_call_edits.specs.Choosing.{map_ok, unless_code, lock_code, file_part}
 use Rattle.hfs_call_edits.specs.Choosing as records
 use Rattle.hfs_call_edits.specs.Edits.{IsChosenFile, ChoosesFile}
 use Rattle.hfs_call_patches.specs.FileIds.{IsThreadless}
 use Rattle.hfs_call_edits.specs.ChoosingFileIds.{unless_threaded, if_threaded, file_without_id, file_with_id}
-use Rattle.hfs_changes.proofs.Chosen.{same_ok}
+use Rattle.hfs_record_edits.proofs.Chosen.{same_ok}
 use Rattle.hfs_model.proofs.KeepsCalls.{err_is_ok as err_ok}
 use Rattle.hfs_call_edits.proofs.Chosen.{child_same, child_is, chosen_file}
-use Rattle.hfs_changes.proofs.Made.{file-not_dir as file_no_dir}
+use Rattle.hfs_record_edits.proofs.Made.{file-not_dir as file_no_dir}
 use Rattle.hfs_call_patches.proofs.ChosenFileLemmas.{file_id_is}
 use Rattle.hfs_call_edits.proofs.ChosenPlaces.{locked_code}
 

@@ -9,8 +9,8 @@ use Rattle.hfs_catalog.specs.declared.item.ItemRecord.TheVariants.{Folder, File}
 use Rattle.hfs_catalog.specs.declared.item.CatalogItem.{CatalogItem}
 use Rattle.hfs_catalog.specs.Records.{Record, Catalog, item_with}
 use Rattle.hfs_catalog.specs.Lookups.{catalog_item}
-use Rattle.hfs_queries.proofs.FolderLemmas.{folder_not_file}
-use Rattle.hfs_queries.specs.Told.{only_folder, folder_with}
+use Rattle.hfs_items.proofs.FolderLemmas.{folder_not_file}
+use Rattle.hfs_items.specs.Told.{only_folder, folder_with}
 use Rattle.hfs_call_patches.specs.declared.valences.FolderPlace.{FolderPlace}
 use Rattle.hfs_call_edits.specs.ChoosingMoving.{place_of, folder_place}
 use Rattle.hfs_call_edits.proofs.RenameChoice.{key_is}

@@ -17,13 +17,13 @@ use Rattle.hfs_check.specs.Parts.{Blocks, mdb_in}
 use Rattle.hfs_check.specs.VolumeOf.{volume_in}
 use Rattle.hfs_call_patches.specs.CallChanges.{IsChangeOf, Makes, changed, written_blocks}
 use Rattle.hfs_call_patches.specs.declared.change.Change.{Change}
-use Rattle.hfs_fork_changes.specs.Files.{fork_of}
-use Rattle.hfs_fork_edits.specs.Calls.{IsForkEdit, IsForkChangeOf, IsSetEofEdit, IsWriteForkEdit}
-use Rattle.hfs_fork_edits.specs.Found.{IsFoundFile, FindsFile}
-use Rattle.hfs_fork_edits.specs.Wanting.{MeetsWant, IsWanting}
-use Rattle.hfs_fork_edits.specs.declared.choosing.FoundFile.{FoundFile}
-use Rattle.hfs_fork_edits.specs.declared.volume.ForkRefusal.{ForkRefusal}
-use Rattle.hfs_fork_edits.specs.declared.volume.ForkRefusal.TheVariants as fork_refusal
+use Rattle.hfs_call_patches.specs.Files.{fork_of}
+use Rattle.hfs_call_patches.specs.Calls.{IsForkEdit, IsForkChangeOf, IsSetEofEdit, IsWriteForkEdit}
+use Rattle.hfs_call_patches.specs.Found.{IsFoundFile, FindsFile}
+use Rattle.hfs_call_patches.specs.Wanting.{MeetsWant, IsWanting}
+use Rattle.hfs_call_patches.specs.declared.choosing.FoundFile.{FoundFile}
+use Rattle.hfs_call_patches.specs.declared.volume.ForkRefusal.{ForkRefusal}
+use Rattle.hfs_call_patches.specs.declared.volume.ForkRefusal.TheVariants as fork_refusal
 use Rattle.hfs_call_edits.specs.declared.editing.Refusal.{Refusal}
 use Rattle.hfs_call_edits.specs.declared.editing.Refusal.TheVariants as refusal
 use Rattle.hfs_call_edits.specs.Edits.{IsEditOf, HasForkRoom, HasForkWritten, IsForkWanting, IsWantOf, wants_nodes}

@@ -7,9 +7,9 @@ use Rattle.hfs_btree.specs.Pairs.{lookup}
 use Rattle.hfs_catalog.specs.Records.{Record, item_with}
 use Rattle.hfs_catalog.specs.Sound.{IsSoundCatalog}
 use Rattle.hfs_catalog.specs.Tree.{catalog_of}
-use Rattle.hfs_catalog_edits.specs.Bodies.{IfBody}
+use Rattle.hfs_record_edits.specs.Bodies.{IfBody}
 use Rattle.hfs_check.specs.Parts.{Blocks, catalog_nodes, catalog_in}
-use Rattle.hfs_queries.proofs.FolderLemmas.{found_with}
+use Rattle.hfs_items.proofs.FolderLemmas.{found_with}
 
 module _ (old : Blocks) (next : ℕ) (sound : IsSoundCatalog next (catalog_in old)) (r : Record) (id : ℕ) (was : item_with (catalog_in old) id ≡ Some r) (from to : CatKey) (own_key : r.0 ≡ from) where
   -- the item's body stands under its key

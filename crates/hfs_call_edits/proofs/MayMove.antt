@@ -4,7 +4,7 @@ use Rattle.std.specs.Prelude.{IsTrue, Err, not, ◌&&◌, ◌^◌}
 use Rattle.hfs_fields.specs.declared.key.CatKey.{CatKey}
 use Rattle.hfs_fields.specs.Keys.{cat_cmp}
 use Rattle.hfs_fields.specs.Names.{is_item_name}
-use Rattle.hfs_scans.proofs.MemberLemmas.{each_in}
+use Rattle.hfs_fields.proofs.MemberLemmas.{each_in}
 use Rattle.hfs_btree.specs.Pairs.{lookup}
 use Rattle.hfs_model.specs.declared.call.Call.TheVariants as call
 use Rattle.hfs_model.specs.declared.reply.Value.TheVariants as value
@@ -16,18 +16,18 @@ use Rattle.hfs_model.specs.Volume.{Volume}
 use Rattle.hfs_catalog.specs.Items.{item_of}
 use Rattle.hfs_catalog.specs.Records.{Record}
 use Rattle.hfs_catalog.specs.Tree.{catalog_of}
-use Rattle.hfs_catalog_edits.specs.Rooms.{IsInFile, HasRoom}
-use Rattle.hfs_catalog_edits.proofs.RootLemmas.{sound_has_root}
-use Rattle.hfs_catalog_edits.specs.Swaps.{one_if}
+use Rattle.hfs_record_edits.specs.Rooms.{IsInFile, HasRoom}
+use Rattle.hfs_record_edits.proofs.RootLemmas.{sound_has_root}
+use Rattle.hfs_record_edits.specs.Swaps.{one_if}
 use Rattle.hfs_check.proofs.LawTypes.{CatalogIsSound, TreesAreSound}
 use Rattle.hfs_check.specs.Parts.{Blocks, mdb_in, catalog_nodes, catalog_in}
 use Rattle.hfs_check.specs.Sound.{AreBlocksSound}
 use Rattle.hfs_check.specs.VolumeOf.{contents_in, volume_in}
-use Rattle.hfs_changes.proofs.BoundLaws.{CountsMove, MoveFits}
-use Rattle.hfs_changes.specs.MoveLaws.{under_folder}
-use Rattle.hfs_changes.proofs.PlaceLaws.{FolderIdIs, MoveIsFree}
-use Rattle.hfs_changes.proofs.SettingLaws.{ChoiceStands}
-use Rattle.hfs_queries.proofs.FolderLemmas.{found_with}
+use Rattle.hfs_record_edits.proofs.BoundLaws.{CountsMove, MoveFits}
+use Rattle.hfs_record_edits.specs.MoveLaws.{under_folder}
+use Rattle.hfs_record_edits.proofs.PlaceLaws.{FolderIdIs, MoveIsFree}
+use Rattle.hfs_record_edits.proofs.SettingLaws.{ChoiceStands}
+use Rattle.hfs_items.proofs.FolderLemmas.{found_with}
 use Rattle.hfs_call_patches.specs.declared.moving.Moving.{Moving}
 use Rattle.hfs_call_patches.specs.Moving.{IsMoving, FitsCounts, CanMove}
 use Rattle.hfs_call_patches.specs.Rekeyings.{CanRekey}

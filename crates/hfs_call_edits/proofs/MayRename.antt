@@ -20,21 +20,21 @@ use Rattle.hfs_model.specs.Volume.{Volume}
 use Rattle.hfs_catalog.specs.Records.{Record}
 use Rattle.hfs_catalog.specs.Items.{item_of}
 use Rattle.hfs_catalog.specs.Tree.{catalog_of}
-use Rattle.hfs_catalog_edits.specs.Rooms.{IsInFile, HasRoom}
-use Rattle.hfs_catalog_edits.proofs.RootLemmas.{sound_has_root}
+use Rattle.hfs_record_edits.specs.Rooms.{IsInFile, HasRoom}
+use Rattle.hfs_record_edits.proofs.RootLemmas.{sound_has_root}
 use Rattle.hfs_check.proofs.LawTypes.{CatalogIsSound, TreesAreSound}
 use Rattle.hfs_check.specs.Parts.{Blocks, mdb_in, catalog_nodes, catalog_in}
 use Rattle.hfs_check.specs.Sound.{AreBlocksSound}
 use Rattle.hfs_check.specs.VolumeOf.{contents_in, volume_in}
-use Rattle.hfs_changes.proofs.PlaceLaws.{RenameIsFree}
-use Rattle.hfs_changes.specs.SettingLaws.{with_name}
-use Rattle.hfs_changes.proofs.SettingLaws.{ChoiceStands}
+use Rattle.hfs_record_edits.proofs.PlaceLaws.{RenameIsFree}
+use Rattle.hfs_record_edits.specs.SettingLaws.{with_name}
+use Rattle.hfs_record_edits.proofs.SettingLaws.{ChoiceStands}
 use Rattle.hfs_call_patches.specs.declared.rekeying.Rekeying.{Rekeying}
 use Rattle.hfs_call_patches.specs.Rekeyings.{CanRekey}
 use Rattle.hfs_call_edits.specs.ChoosingRenaming.{IsRenaming}
 use Rattle.hfs_call_edits.proofs.StepMade.{change_refused, change_accepted}
 use Rattle.hfs_call_edits.proofs.ItemThere.{item_there, own_there}
-use Rattle.hfs_changes.proofs.FreeKeys.{same_through}
+use Rattle.hfs_record_edits.proofs.FreeKeys.{same_through}
 
 -- ---- keys
 

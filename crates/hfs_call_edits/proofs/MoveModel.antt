@@ -8,7 +8,7 @@ use Rattle.hfs_fields.specs.declared.mdb.Mdb.{Mdb}
 use Rattle.hfs_fields.specs.Names.{is_item_name}
 use Rattle.hfs_fields.specs.Order.{same_name}
 use Rattle.hfs_fields.specs.Records.{is_dir, is_item, is_bit_set, item_id, dir_record_of, file_record_of}
-use Rattle.hfs_scans.proofs.MemberLemmas.{each_in}
+use Rattle.hfs_fields.proofs.MemberLemmas.{each_in}
 use Rattle.hfs_model.specs.declared.codes.TheConstants.{BAD_NAME, DUPLICATE, NOT_A_FOLDER, BAD_MOVE, FOLDER_FULL}
 use Rattle.hfs_model.specs.Volume.{Entry}
 use Rattle.hfs_model.specs.Children.{entries_of}
@@ -17,21 +17,21 @@ use Rattle.hfs_model.specs.Choices.{and_then, child_to_change, to_move, is_bad_m
 use Rattle.hfs_catalog.specs.declared.item.ItemRecord.TheVariants.{Folder, File}
 use Rattle.hfs_catalog.specs.Records.{Record, Catalog, is_child_of, valence_of}
 use Rattle.hfs_catalog.specs.Items.{entry_of}
-use Rattle.hfs_catalog.proofs.LawTypes.{ValencesAreCounted}
+use Rattle.hfs_catalog.proofs.CatalogLawTypes.{ValencesAreCounted}
 use Rattle.hfs_catalog.specs.Lookups.{catalog_item, child_named}
 use Rattle.hfs_check.proofs.LawTypes.{CatalogIsSound}
 use Rattle.hfs_check.specs.Parts.{Blocks, mdb_in, catalog_in}
 use Rattle.hfs_check.specs.Sound.{AreBlocksSound}
 use Rattle.hfs_check.specs.VolumeOf.{contents_in, volume_in}
-use Rattle.hfs_changes.specs.Changes.{IsFolderWith}
-use Rattle.hfs_changes.proofs.OffspringLaws.{OffspringByParents}
-use Rattle.hfs_changes.proofs.OnceLemmas.{distinct_once, item_found}
-use Rattle.hfs_changes.proofs.SettingLaws.{ChoiceStands}
-use Rattle.hfs_queries.proofs.FolderLemmas.{found_with}
-use Rattle.hfs_queries.proofs.FoundLemmas.{is_some-option_map}
-use Rattle.hfs_queries.specs.Queries.{AreEntries}
-use Rattle.hfs_queries.proofs.ReplyLemmas.{folder_kind, folder_same}
-use Rattle.hfs_queries.specs.Told.{only_folder, folder_with}
+use Rattle.hfs_record_edits.specs.Changes.{IsFolderWith}
+use Rattle.hfs_record_edits.proofs.OffspringLaws.{OffspringByParents}
+use Rattle.hfs_record_edits.proofs.OnceLemmas.{distinct_once, item_found}
+use Rattle.hfs_record_edits.proofs.SettingLaws.{ChoiceStands}
+use Rattle.hfs_items.proofs.FolderLemmas.{found_with}
+use Rattle.hfs_items.proofs.FoundLemmas.{is_some-option_map}
+use Rattle.hfs_items.specs.Queries.{AreEntries}
+use Rattle.hfs_items.proofs.ReplyLemmas.{folder_kind, folder_same}
+use Rattle.hfs_items.specs.Told.{only_folder, folder_with}
 use Rattle.hfs_call_patches.specs.declared.moving.Moving.{Moving}
 use Rattle.hfs_call_edits.specs.Choosing.{map_ok}
 use Rattle.hfs_call_edits.specs.Choosing as records

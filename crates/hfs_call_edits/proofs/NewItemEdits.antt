@@ -3,7 +3,7 @@ use Rattle.std.proofs.Common.{◌≡◌, ℕ, ◌<◌, ◌^◌, false, List, sym
 use Rattle.hfs_fields.specs.declared.mdb.Mdb.{Mdb}
 use Rattle.hfs_blocks.specs.declared.run.Run.{Run}
 use Rattle.hfs_btree.specs.Header.{header_in}
-use Rattle.hfs_catalog_edits.specs.Rooms.{IsInFile}
+use Rattle.hfs_record_edits.specs.Rooms.{IsInFile}
 use Rattle.hfs_model.specs.declared.call.Call.{Call}
 use Rattle.hfs_model.specs.Choices.{to_create}
 use Rattle.hfs_check.specs.Parts.{Blocks, catalog_nodes}

@@ -10,9 +10,9 @@ use Rattle.hfs_catalog.specs.declared.item.ItemRecord.TheVariants.{Folder, File}
 use Rattle.hfs_catalog.specs.declared.item.CatalogItem.{CatalogItem}
 use Rattle.hfs_catalog.specs.Records.{Record, Catalog, item_with}
 use Rattle.hfs_catalog.specs.Lookups.{catalog_item}
-use Rattle.hfs_queries.proofs.FolderLemmas.{folder_not_file}
-use Rattle.hfs_queries.proofs.FoundLemmas.{is_some-option_map}
-use Rattle.hfs_queries.specs.Told.{only_folder, folder_with, is_folder}
+use Rattle.hfs_items.proofs.FolderLemmas.{folder_not_file}
+use Rattle.hfs_items.proofs.FoundLemmas.{is_some-option_map}
+use Rattle.hfs_items.specs.Told.{only_folder, folder_with, is_folder}
 use Rattle.hfs_call_patches.specs.Deleting.{IsParent}
 use Rattle.hfs_call_edits.proofs.FolderPlaces.{same_folder}
 

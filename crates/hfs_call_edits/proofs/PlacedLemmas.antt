@@ -5,7 +5,7 @@ use Rattle.std.proofs.lemmas.Option.{none-some, same_Some}
 use Rattle.hfs_fields.specs.declared.key.CatKey.{CatKey}
 use Rattle.hfs_fields.specs.Keys.{cat_cmp_total}
 use Rattle.hfs_fields.specs.Records.{is_item}
-use Rattle.hfs_scans.specs.Members.{In}
+use Rattle.hfs_fields.specs.Members.{In}
 use Rattle.hfs_btree.specs.Tree.{Store, pair_of}
 use Rattle.hfs_btree.specs.Header.{body_at}
 use Rattle.hfs_btree_edits.specs.Entries.{IsPlaceOf}
@@ -16,8 +16,8 @@ use Rattle.hfs_catalog.specs.declared.item.CatalogItem.{CatalogItem}
 use Rattle.hfs_catalog.specs.Records.{Record, Catalog}
 use Rattle.hfs_catalog.specs.Lookups.{catalog_item, item_at, item_named}
 use Rattle.hfs_catalog.specs.Tree.{IsCatalogTree, cat_keys, catalog_of}
-use Rattle.hfs_catalog_edits.proofs.KeepLemmas.{in_right}
-use Rattle.hfs_catalog_edits.proofs.NamedLemmas.{record_at-child, other-child, no-child}
+use Rattle.hfs_record_edits.proofs.KeepLemmas.{in_right}
+use Rattle.hfs_record_edits.proofs.NamedLemmas.{record_at-child, other-child, no-child}
 
 module _ (nodes : Store) (tree : IsCatalogTree nodes) (key : CatKey) where
   pub none-named : body_at cat_keys nodes key ≡ None → None ≡ item_named (catalog_of nodes) key.parent key.name

@@ -14,7 +14,7 @@ use Rattle.hfs_catalog.specs.Lookups.{catalog_item}
 use Rattle.hfs_call_patches.specs.declared.rekeying.Rekeying.{Rekeying}
 use Rattle.hfs_call_edits.specs.Choosing.{map_ok, unless_code}
 use Rattle.hfs_call_edits.specs.ChoosingRenaming.{own_body_id, own_id, is_taken, unless_taken, renaming}
-use Rattle.hfs_changes.proofs.Chosen.{same_ok}
+use Rattle.hfs_record_edits.proofs.Chosen.{same_ok}
 use Rattle.hfs_model.proofs.KeepsCalls.{err_is_ok as err_ok}
 
 -- the item of a record has its ID

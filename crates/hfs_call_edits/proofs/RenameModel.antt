@@ -16,24 +16,24 @@ use Rattle.hfs_model.specs.Choices as model
 use Rattle.hfs_model.specs.Lawful.{IsLawful}
 use Rattle.hfs_catalog.specs.Records.{Record, Catalog, item_with, is_child_of}
 use Rattle.hfs_catalog.specs.Items.{Contents, entry_of}
-use Rattle.hfs_catalog.proofs.LawTypes.{SoundIsLawful}
+use Rattle.hfs_catalog.proofs.CatalogLawTypes.{SoundIsLawful}
 use Rattle.hfs_catalog.specs.Lookups as lookups
 use Rattle.hfs_check.proofs.LawTypes.{CatalogIsSound}
 use Rattle.hfs_check.specs.Parts.{Blocks, mdb_in, catalog_in}
 use Rattle.hfs_check.specs.Sound.{AreBlocksSound}
 use Rattle.hfs_check.specs.VolumeOf.{contents_in, volume_in}
-use Rattle.hfs_changes.specs.Changes.{IsFolderWith}
-use Rattle.hfs_changes.proofs.OnceLemmas.{distinct_once, item_found}
-use Rattle.hfs_changes.proofs.PlaceLaws.{FolderIdIs}
-use Rattle.hfs_changes.proofs.SettingLaws.{ChoiceStands}
-use Rattle.hfs_queries.specs.Queries.{AreEntries}
-use Rattle.hfs_queries.specs.Told.{only_folder}
-use Rattle.hfs_queries.specs.Told as told
+use Rattle.hfs_record_edits.specs.Changes.{IsFolderWith}
+use Rattle.hfs_record_edits.proofs.OnceLemmas.{distinct_once, item_found}
+use Rattle.hfs_record_edits.proofs.PlaceLaws.{FolderIdIs}
+use Rattle.hfs_record_edits.proofs.SettingLaws.{ChoiceStands}
+use Rattle.hfs_items.specs.Queries.{AreEntries}
+use Rattle.hfs_items.specs.Told.{only_folder}
+use Rattle.hfs_items.specs.Told as told
 use Rattle.hfs_call_patches.specs.declared.rekeying.Rekeying.{Rekeying}
 use Rattle.hfs_call_edits.specs.Choosing.{map_ok, unless_code, unless_locked, item_to_set}
 use Rattle.hfs_call_edits.specs.Choosing as records
 use Rattle.hfs_call_edits.specs.ChoosingRenaming.{is_taken, unless_taken, item_to_rename, renaming, IsRenaming, ChoosesRenaming}
-use Rattle.hfs_changes.proofs.Chosen.{same_ok}
+use Rattle.hfs_record_edits.proofs.Chosen.{same_ok}
 use Rattle.hfs_model.proofs.KeepsCalls.{err_is_ok as err_ok}
 use Rattle.hfs_call_edits.proofs.Chosen.{by_lock, by_test, next_same, item_same, here}
 use Rattle.hfs_call_edits.proofs.Taken.{taken_is}

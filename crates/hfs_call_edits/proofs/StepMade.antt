@@ -11,7 +11,7 @@ use Rattle.hfs_model.specs.Volume.{Volume, Items, Entry}
 use Rattle.hfs_check.specs.Parts.{Blocks}
 use Rattle.hfs_check.specs.Sound.{AreBlocksSound}
 use Rattle.hfs_check.specs.VolumeOf.{volume_in}
-use Rattle.hfs_changes.specs.Laws.{MakesStep, CatalogEditsAreSteps}
+use Rattle.hfs_record_edits.specs.Laws.{MakesStep, CatalogEditsAreSteps}
 use Rattle.hfs_call_patches.specs.declared.change.Change.{Change}
 use Rattle.hfs_call_edits.specs.Edits.{IsEditOf, wants_nodes}
 

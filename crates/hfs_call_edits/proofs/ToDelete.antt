@@ -5,8 +5,8 @@ use Rattle.std.specs.Option.{ok_or}
 use Rattle.hfs_fields.specs.declared.mdb.Mdb.{Mdb}
 use Rattle.hfs_fields.specs.Names.{is_item_name}
 use Rattle.hfs_fields.specs.Records.{is_dir, is_item, is_bit_set, dir_record_of, file_record_of}
-use Rattle.hfs_scans.specs.Members.{In}
-use Rattle.hfs_scans.proofs.MemberLemmas.{each_in, found_in}
+use Rattle.hfs_fields.specs.Members.{In}
+use Rattle.hfs_fields.proofs.MemberLemmas.{each_in, found_in}
 use Rattle.hfs_model.specs.declared.codes.TheConstants.{BAD_NAME, NOT_FOUND, FILE_LOCKED, NOT_A_FOLDER, BUSY}
 use Rattle.hfs_model.specs.declared.reply.Info.{Info}
 use Rattle.hfs_model.specs.Volume.{Volume, Entry}
@@ -22,15 +22,15 @@ use Rattle.hfs_catalog.specs.Lookups.{catalog_item, is_child_named, child_named}
 use Rattle.hfs_check.specs.Parts.{Blocks, mdb_in, catalog_in}
 use Rattle.hfs_check.specs.Sound.{AreBlocksSound}
 use Rattle.hfs_check.specs.VolumeOf.{contents_in, volume_in}
-use Rattle.hfs_changes.proofs.SettingLaws.{ChoiceStands}
-use Rattle.hfs_queries.specs.Queries.{AreEntries}
-use Rattle.hfs_queries.proofs.ReplyLemmas.{folder_kind, child_item}
-use Rattle.hfs_queries.specs.Told.{is_folder, body_info, folder_info, file_info}
+use Rattle.hfs_record_edits.proofs.SettingLaws.{ChoiceStands}
+use Rattle.hfs_items.specs.Queries.{AreEntries}
+use Rattle.hfs_items.proofs.ReplyLemmas.{folder_kind, child_item}
+use Rattle.hfs_items.specs.Told.{is_folder, body_info, folder_info, file_info}
 use Rattle.hfs_call_edits.specs.Choosing.{map_ok, lock_code, unless_code, is_locked, unless_locked, is_locked_body, is_locked_item}
 use Rattle.hfs_call_edits.specs.Choosing as records
 use Rattle.hfs_call_edits.specs.ChoosingDelete.{is_busy, unless_held, item_to_delete, is_busy_item, is_busy_body}
 use Rattle.hfs_call_edits.specs.Edits.{ChoosesItem}
-use Rattle.hfs_changes.proofs.Chosen.{same_ok}
+use Rattle.hfs_record_edits.proofs.Chosen.{same_ok}
 use Rattle.hfs_model.proofs.KeepsCalls.{err_is_ok as err_ok}
 use Rattle.hfs_call_edits.proofs.Chosen.{child_same, child_is, chosen_body}
 

@@ -6,15 +6,15 @@ use Rattle.std.proofs.lemmas.Bool.{eq-eqb, ne_eqb, true≢false}
 use Rattle.std.proofs.lemmas.Option.{none-some, same_Some}
 use Rattle.hfs_fields.specs.declared.key.CatKey.{CatKey}
 use Rattle.hfs_fields.specs.Records.{is_dir, item_id}
-use Rattle.hfs_scans.proofs.MemberLemmas.{each_in}
+use Rattle.hfs_fields.proofs.MemberLemmas.{each_in}
 use Rattle.hfs_catalog.specs.declared.item.CatalogItem.{CatalogItem}
 use Rattle.hfs_catalog.specs.Lookups.{catalog_item}
 use Rattle.hfs_catalog.specs.Records.{Record, Catalog, item_with, is_folder_id}
 use Rattle.hfs_catalog.specs.Sound.{IsSoundCatalog, IsRoot, IsGiven, HasPlace}
-use Rattle.hfs_changes.specs.Changes.{IsFolderWith}
-use Rattle.hfs_changes.proofs.OffspringLaws.{lies_by_parents}
-use Rattle.hfs_queries.proofs.FolderLemmas.{found_with}
-use Rattle.hfs_queries.specs.Told.{only_folder, folder_with}
+use Rattle.hfs_record_edits.specs.Changes.{IsFolderWith}
+use Rattle.hfs_record_edits.proofs.OffspringLaws.{lies_by_parents}
+use Rattle.hfs_items.proofs.FolderLemmas.{found_with}
+use Rattle.hfs_items.specs.Told.{only_folder, folder_with}
 use Rattle.hfs_call_edits.specs.ChoosingMoving.{up_by_folders}
 use Rattle.hfs_call_edits.proofs.RenameChoice.{key_is}
 

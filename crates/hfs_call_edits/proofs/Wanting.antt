@@ -11,7 +11,7 @@ use Rattle.hfs_model.specs.Changes.{refused}
 use Rattle.hfs_model.specs.Need.{need}
 use Rattle.hfs_model.specs.Replies.{success, is_accepted}
 use Rattle.hfs_model.specs.Step.{step}
-use Rattle.hfs_catalog_edits.specs.Rooms.{IsInFile}
+use Rattle.hfs_record_edits.specs.Rooms.{IsInFile}
 use Rattle.hfs_check.specs.Parts.{Blocks, mdb_in, catalog_extents, catalog_nodes}
 use Rattle.hfs_check.specs.Sound.{AreBlocksSound}
 use Rattle.hfs_check.specs.VolumeOf.{volume_in}

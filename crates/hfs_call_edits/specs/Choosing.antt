@@ -13,7 +13,7 @@ use Rattle.hfs_catalog.specs.declared.item.ItemRecord.TheVariants.{Folder, File}
 use Rattle.hfs_catalog.specs.declared.item.CatalogItem.{CatalogItem}
 use Rattle.hfs_catalog.specs.Records.{Record, Catalog}
 use Rattle.hfs_catalog.specs.Lookups.{child_named, catalog_item}
-use Rattle.hfs_queries.specs.Told.{is_folder}
+use Rattle.hfs_items.specs.Told.{is_folder}
 use Rattle.hfs_btree.specs.Tree.{Store}
 use Rattle.hfs_catalog.specs.Tree.{catalog_of}
 

@@ -15,7 +15,7 @@ use Rattle.hfs_catalog.specs.Records.{Record, Catalog}
 use Rattle.hfs_catalog.specs.Lookups.{catalog_item, child_named}
 use Rattle.hfs_check.specs.Parts.{Blocks}
 use Rattle.hfs_check.specs.VolumeOf.{volume_in}
-use Rattle.hfs_queries.specs.Told.{folder_with}
+use Rattle.hfs_items.specs.Told.{folder_with}
 use Rattle.hfs_call_patches.specs.declared.valences.FolderPlace.{FolderPlace}
 use Rattle.hfs_call_patches.specs.declared.moving.Moving.{Moving}
 use Rattle.hfs_call_edits.specs.Choosing.{map_ok, child_to_change}

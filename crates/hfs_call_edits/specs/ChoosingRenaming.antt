@@ -21,7 +21,7 @@ use Rattle.hfs_call_patches.specs.declared.rekeying.Rekeying.{Rekeying}
 use Rattle.hfs_call_edits.specs.Choosing.{map_ok, lock_code, unless_code, item_to_set}
 use Rattle.hfs_call_patches.specs.Renaming.{IsRenameChoice}
 use Rattle.hfs_btree.specs.Tree.{Store}
-use Rattle.hfs_catalog_edits.specs.Rooms.{HasRoom}
+use Rattle.hfs_record_edits.specs.Rooms.{HasRoom}
 use Rattle.hfs_catalog.specs.Tree.{catalog_of}
 use Rattle.hfs_call_edits.specs.declared.editing.Refusal.{Refusal}
 use Rattle.hfs_call_edits.specs.Room.{lacking}

@@ -34,9 +34,9 @@ use Rattle.std.specs.Option.{MatchOption}
 use Rattle.hfs_blocks.specs.Layers.{Numbered}
 use Rattle.hfs_model.specs.Children.{entries_of}
 use Rattle.hfs_model.specs.declared.reply.Value.{Value}
-use Rattle.hfs_changes.specs.OnBlocks.{at_time}
-use Rattle.hfs_queries.specs.Queries.{AreEntries}
-use Rattle.hfs_queries.specs.Told.{is_folder}
+use Rattle.hfs_record_edits.specs.OnBlocks.{at_time}
+use Rattle.hfs_items.specs.Queries.{AreEntries}
+use Rattle.hfs_items.specs.Told.{is_folder}
 use Rattle.hfs_call_patches.specs.Deleting.{IsParent}
 use Rattle.hfs_call_patches.specs.FileIds.{IsThreadless}
 use Rattle.hfs_blocks.specs.Blocks.{nodes_in}

@@ -12,11 +12,11 @@ use Rattle.hfs_model.specs.Volume.{Entry}
 use Rattle.hfs_check.specs.Parts.{Blocks, mdb_in}
 use Rattle.hfs_check.specs.VolumeOf.{volume_in}
 use Rattle.hfs_call_patches.specs.Settings.{IsFileChoice}
-use Rattle.hfs_fork_changes.specs.Files.{fork_of}
-use Rattle.hfs_fork_edits.specs.Wanting.{MeetsWant}
-use Rattle.hfs_fork_wants.specs.Wants.{IsForkWant}
-use Rattle.hfs_fork_edits.specs.declared.volume.ForkRefusal.{ForkRefusal}
-use Rattle.hfs_fork_edits.specs.declared.volume.ForkRefusal.TheVariants as fork_refusal
+use Rattle.hfs_call_patches.specs.Files.{fork_of}
+use Rattle.hfs_call_patches.specs.Wanting.{MeetsWant}
+use Rattle.hfs_record_edits.specs.Wants.{IsForkWant}
+use Rattle.hfs_call_patches.specs.declared.volume.ForkRefusal.{ForkRefusal}
+use Rattle.hfs_call_patches.specs.declared.volume.ForkRefusal.TheVariants as fork_refusal
 use Rattle.hfs_call_patches.specs.declared.change.Change.{Change}
 use Rattle.hfs_call_edits.specs.declared.editing.Refusal.{Refusal}
 use Rattle.hfs_call_edits.specs.declared.editing.Refusal.TheVariants as refusal

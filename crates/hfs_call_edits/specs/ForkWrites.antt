@@ -4,8 +4,8 @@ use Rattle.hfs_fields.specs.Keys.{cat_cmp}
 use Rattle.hfs_fields.specs.RecordForms.{IsFileRecordValue, file_record_bytes}
 use Rattle.hfs_fields.specs.declared.key.CatKey.{CatKey}
 use Rattle.hfs_fields.specs.declared.file_record.FileRecord.{FileRecord}
-use Rattle.hfs_scans.specs.Each.{Each}
-use Rattle.hfs_scans.specs.Members.{In}
+use Rattle.hfs_fields.specs.Each.{Each}
+use Rattle.hfs_fields.specs.Members.{In}
 use Rattle.hfs_btree_edits.specs.Edits.{with_replaced}
 use Rattle.hfs_space.specs.ForkLaws.{block_numbers}
 use Rattle.hfs_model.specs.declared.call.Call.{Call}
@@ -16,8 +16,8 @@ use Rattle.hfs_model.specs.Volume.{Entry}
 use Rattle.hfs_check.specs.Parts.{Blocks, mdb_in, catalog_in}
 use Rattle.hfs_check.specs.VolumeOf.{volume_in}
 use Rattle.hfs_call_patches.specs.Settings.{IsFileChoice}
-use Rattle.hfs_fork_changes.specs.Edits.{extents_of}
-use Rattle.hfs_fork_changes.specs.CallEdits.{HasLaid}
+use Rattle.hfs_call_patches.specs.Edits.{extents_of}
+use Rattle.hfs_call_patches.specs.CallEdits.{HasLaid}
 use Rattle.hfs_call_edits.specs.ForkWants.{length_with}
 
 -- The file that a call chooses had one record and has the other now, and these blocks of its fork were written, which has `len` bytes then.

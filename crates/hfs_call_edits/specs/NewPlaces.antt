@@ -11,7 +11,7 @@ use Rattle.hfs_catalog.specs.declared.item.CatalogItem.{CatalogItem}
 use Rattle.hfs_catalog.specs.Records.{Record, Catalog}
 use Rattle.hfs_catalog.specs.Lookups.{catalog_item, child_named}
 use Rattle.hfs_check.specs.Parts.{Blocks}
-use Rattle.hfs_queries.specs.Told.{folder_with}
+use Rattle.hfs_items.specs.Told.{folder_with}
 use Rattle.hfs_btree.specs.Tree.{Store}
 use Rattle.hfs_btree_edits.specs.Entries.{IsPlaceOf}
 use Rattle.hfs_catalog.specs.Tree.{cat_keys}

@@ -4,7 +4,7 @@ ghost use Rattle.std.specs.Prelude.{◌≡◌, IfOk};
 ghost use Rattle.hfs_catalog.specs.Tree.{catalog_of};
 ghost use Rattle.hfs_call_edits.specs.Choosing.{lock_code, child_to_change, file_to_change, file_to_set, item_to_set, is_locked_item, as_item, as_file, chosen_child, chosen_file};
 ghost use Rattle.hfs_call_edits.specs.Placed.{item_chosen, file_chosen, IsItemPlaced, IsFilePlaced};
-ghost use Rattle.hfs_queries.specs.Told.{IsCatalog};
+ghost use Rattle.hfs_items.specs.Told.{IsCatalog};
 
 use crate::placed::{PlacedFile, PlacedItem, placed_child};
 use bitflags::Flags;

@@ -2,7 +2,7 @@
 
 ghost use Rattle.std.specs.Prelude.{◌≡◌};
 ghost use Rattle.hfs_call_edits.specs.ChoosingDelete.{is_busy_item, item_to_delete, chosen_to_delete};
-ghost use Rattle.hfs_queries.specs.Told.{IsCatalog};
+ghost use Rattle.hfs_items.specs.Told.{IsCatalog};
 
 use crate::choosing::{child_to_change, is_locked};
 use hfs_btree::Nodes;

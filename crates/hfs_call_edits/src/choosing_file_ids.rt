@@ -4,7 +4,7 @@ ghost use Rattle.std.specs.Prelude.{◌≡◌};
 ghost use Rattle.hfs_catalog.specs.Tree.{catalog_of};
 ghost use Rattle.hfs_call_edits.specs.Choosing.{as_file};
 ghost use Rattle.hfs_call_edits.specs.ChoosingFileIds.{file_without_id, file_with_id, chosen_without_id};
-ghost use Rattle.hfs_queries.specs.Told.{IsCatalog};
+ghost use Rattle.hfs_items.specs.Told.{IsCatalog};
 
 use crate::choosing::{child_to_change, lock_code};
 use hfs_btree::Nodes;

@@ -2,7 +2,7 @@
 
 ghost use Rattle.std.specs.Prelude.{◌≡◌};
 ghost use Rattle.hfs_catalog.specs.Tree.{catalog_of};
-ghost use Rattle.hfs_queries.specs.Told.{IsCatalog};
+ghost use Rattle.hfs_items.specs.Told.{IsCatalog};
 ghost use Rattle.hfs_call_edits.specs.ChoosingMoving.{up_by_folders, folder_place, is_folder_item, most_steps, moving_to, item_to_move, moving_within};
 
 use crate::choosing::child_to_change;
@@ -11,8 +11,8 @@ use hfs_btree::Nodes;
 use hfs_call_patches::{FolderPlace, Moving, Rekeying};
 use hfs_catalog::{CatalogItem, ItemRecord, lookup};
 use hfs_fields::{CatKey, Mdb, Name};
+use hfs_items::folder;
 use hfs_model::{BAD_MOVE, BAD_NAME, DUPLICATE, FOLDER_FULL, NOT_A_FOLDER};
-use hfs_queries::folder;
 
 /// Whether `up` is at most `steps` parents up from the folder `dir`. Each step looks up one folder.
 fn lies_in<N: Nodes>(nodes: &N, steps: u64, dir: u32, up: u32) -> bool

@@ -2,7 +2,7 @@
 
 ghost use Rattle.std.specs.Prelude.{◌≡◌};
 ghost use Rattle.hfs_catalog.specs.Tree.{catalog_of};
-ghost use Rattle.hfs_queries.specs.Told.{IsCatalog};
+ghost use Rattle.hfs_items.specs.Told.{IsCatalog};
 ghost use Rattle.hfs_call_edits.specs.ChoosingRenaming.{own_id, is_taken, item_to_rename, chosen_renaming};
 
 use crate::choosing::{item_to_set, lock_code};

@@ -3,7 +3,7 @@
 ghost use Rattle.std.specs.Prelude.{IfOk};
 ghost use Rattle.hfs_model.specs.declared.call.Call.TheVariants as call;
 ghost use Rattle.hfs_model.specs.Choices.{to_delete};
-ghost use Rattle.hfs_changes.specs.RemovalLaws.{without_folder};
+ghost use Rattle.hfs_record_edits.specs.RemovalLaws.{without_folder};
 ghost use Rattle.hfs_check.specs.Parts.{catalog_in};
 ghost use Rattle.hfs_call_patches.specs.Deleting.{IsParent, IsFolderToDelete, IsFolderDeletion, IsFileToDelete, IsFileDeletion};
 ghost use Rattle.hfs_call_edits.specs.Edits.{IsEditOf, ChoosesItemBy, HasFolder, FindsParent};
@@ -15,8 +15,8 @@ use hfs_blocks::Blocks;
 use hfs_call_patches::{Change, patch_delete_file, patch_delete_folder, without_folder};
 use hfs_catalog::{CatalogItem, ItemRecord};
 use hfs_fields::{CatKey, DirRecord, FileRecord};
+use hfs_items::folder;
 use hfs_model::Value;
-use hfs_queries::folder;
 use std::alloc::{AllocError, Global};
 
 impl<B: Blocks> Editing<'_, B> {

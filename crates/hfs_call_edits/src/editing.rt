@@ -6,7 +6,7 @@ ghost use Rattle.hfs_model.specs.declared.reply.Value.TheVariants as value;
 ghost use Rattle.hfs_model.specs.Choices.{file_to_change, to_set_f_info, to_set_cat_info};
 ghost use Rattle.hfs_call_edits.specs.Edits.{IsEditing, ChoosesFileBy, ChoosesItemBy, RecordsAreEntriesIn, change_at, IsEditingIn, HoldCatalog};
 ghost use Rattle.hfs_call_edits.specs.Placed.{item_chosen, file_chosen, IsItemPlaced, IsFilePlaced};
-ghost use Rattle.hfs_queries.specs.Told.{IsCatalog};
+ghost use Rattle.hfs_items.specs.Told.{IsCatalog};
 
 use crate::choosing;
 use crate::placed::{PlacedFile, PlacedItem};

@@ -4,16 +4,15 @@ ghost use Rattle.std.specs.Prelude.{◌≡◌};
 ghost use Rattle.hfs_model.specs.declared.call.Call.TheVariants as call;
 ghost use Rattle.hfs_model.specs.ForkCalls.{file_to_write};
 ghost use Rattle.hfs_check.specs.VolumeOf.{volume_in};
-ghost use Rattle.hfs_fork_edits.specs.Calls.{AreFoundIn, IsForkVolumeIn};
-ghost use Rattle.hfs_fork_edits.specs.Found.{FindsFile};
+ghost use Rattle.hfs_call_patches.specs.Calls.{AreFoundIn, IsForkVolumeIn};
+ghost use Rattle.hfs_call_patches.specs.Found.{FindsFile};
 ghost use Rattle.hfs_call_edits.specs.Edits.{HasForkRoom, HasForkWritten, IsEditOf};
 ghost use Rattle.hfs_call_edits.specs.ForkWants as wants;
 ghost use Rattle.hfs_call_patches.specs.CallChanges.{Makes};
 
 use crate::editing::{Editing, Refusal};
 use hfs_blocks::Blocks;
-use hfs_call_patches::Change;
-use hfs_fork_edits::{ForkRefusal, ForkVolume, FoundFile};
+use hfs_call_patches::{Change, ForkRefusal, ForkVolume, FoundFile};
 use hfs_model::Fork;
 use std::alloc::{AllocError, Global};
 
@@ -78,7 +77,7 @@ impl<B: Blocks> Editing<'_, B> {
     {
         let found = self.found_file(dir, name);
         let volume = self.fork_volume();
-        let edit = hfs_fork_edits::set_eof(alloc, &volume, found, fork, length, now)?;
+        let edit = hfs_call_patches::set_eof(alloc, &volume, found, fork, length, now)?;
         Ok(edit_of(edit))
     }
 
@@ -105,7 +104,7 @@ impl<B: Blocks> Editing<'_, B> {
     {
         let found = self.found_file(dir, name);
         let volume = self.fork_volume();
-        let edit = hfs_fork_edits::write_fork(alloc, &volume, found, fork, offset, bytes, now)?;
+        let edit = hfs_call_patches::write_fork(alloc, &volume, found, fork, offset, bytes, now)?;
         Ok(edit_of(edit))
     }
 }

@@ -6,15 +6,15 @@ ghost use Rattle.hfs_fields.specs.Keys.{is_cat_leaf};
 ghost use Rattle.hfs_btree.specs.Tree.{pair_of};
 ghost use Rattle.hfs_catalog.specs.Lookups.{catalog_item, item_at, item_named};
 ghost use Rattle.hfs_catalog.specs.Tree.{IsCatalogTree, cat_keys, catalog_of};
-ghost use Rattle.hfs_queries.specs.Told.{IsCatalog, folder_child, folder_with};
+ghost use Rattle.hfs_items.specs.Told.{IsCatalog, folder_child, folder_with};
 ghost use Rattle.hfs_call_edits.specs.Placed.{item_part, item_chosen, IsItemPlaced};
 
 use hfs_btree::{Key, Nodes, entry_in};
 use hfs_btree_edits::{RecordPlace, seek};
 use hfs_catalog::{CatalogItem, ItemRecord, item_of, thread};
 use hfs_fields::{CatKey, FileRecord, Name};
+use hfs_items::folder;
 use hfs_model::{NOT_A_FOLDER, NOT_FOUND};
-use hfs_queries::folder;
 
 /// An item of the catalog, and where its record is.
 #[derive(Clone, Copy)]

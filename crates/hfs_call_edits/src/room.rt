@@ -3,7 +3,7 @@
 ghost use Rattle.std.specs.Prelude.{◌≡◌, ◌<◌, ◌^◌, IfNone};
 ghost use Rattle.hfs_btree.specs.Header.{header_in};
 ghost use Rattle.hfs_catalog.specs.Tree.{IsCatalogTree};
-ghost use Rattle.hfs_catalog_edits.specs.Rooms.{IsInFile, HasRoom, HasRoomForTwo};
+ghost use Rattle.hfs_record_edits.specs.Rooms.{IsInFile, HasRoom, HasRoomForTwo};
 ghost use Rattle.hfs_check.specs.Parts.{catalog_nodes};
 ghost use Rattle.hfs_model.specs.declared.journal.Want.TheVariants as want;
 ghost use Rattle.hfs_model.specs.Need.{one_record, two_records};

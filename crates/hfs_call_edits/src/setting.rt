@@ -1,7 +1,7 @@
 //! What the calls that set something make of a volume's blocks.
 
 ghost use Rattle.hfs_model.specs.declared.call.Call.TheVariants as call;
-ghost use Rattle.hfs_changes.specs.SettingLaws.{lock_call};
+ghost use Rattle.hfs_record_edits.specs.SettingLaws.{lock_call};
 ghost use Rattle.hfs_call_edits.specs.Edits.{IsEditOf};
 ghost use Rattle.hfs_call_patches.specs.Settings.{set_cat_info_call};
 ghost use Rattle.hfs_call_patches.specs.CallChanges.{Makes};

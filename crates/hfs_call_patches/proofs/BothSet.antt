@@ -6,21 +6,21 @@ use Rattle.hfs_fields.specs.declared.key.CatKey.{CatKey}
 use Rattle.hfs_fields.specs.Keys.{cat_cmp}
 use Rattle.hfs_fields.specs.Records.{is_dir, dir_record_of}
 use Rattle.hfs_fields.specs.RecordForms.{IsDirRecordValue, dir_record_bytes}
-use Rattle.hfs_scans.specs.Members.{In}
+use Rattle.hfs_fields.specs.Members.{In}
 use Rattle.hfs_btree.specs.Pairs.{lookup}
 use Rattle.hfs_btree.specs.Tree.{Store}
 use Rattle.hfs_catalog.specs.Records.{Record}
 use Rattle.hfs_catalog.specs.Tree.{IsCatalogTree, catalog_of}
-use Rattle.hfs_catalog_edits.specs.Bodies.{IfBody, with_valence}
-use Rattle.hfs_catalog_edits.specs.Finds.{record_at}
-use Rattle.hfs_catalog_edits.proofs.FindLemmas.{own_record, body_at}
-use Rattle.hfs_catalog_edits.specs.ItemEdits.{HasValenceSet, ValenceSet}
-use Rattle.hfs_catalog_edits.specs.Keeps.{KeepsCatalog}
-use Rattle.hfs_catalog_edits.proofs.KeepLemmas.{keeps_then}
-use Rattle.hfs_catalog_edits.specs.Swaps.{Swaps}
-use Rattle.hfs_changes.specs.Changes.{with_children, folder_with}
-use Rattle.hfs_changes.specs.PlaceLaws.{BothStand}
-use Rattle.hfs_changes.proofs.PlaceLaws.{StandsStill}
+use Rattle.hfs_record_edits.specs.Bodies.{IfBody, with_valence}
+use Rattle.hfs_record_edits.specs.Finds.{record_at}
+use Rattle.hfs_record_edits.proofs.FindLemmas.{own_record, body_at}
+use Rattle.hfs_record_edits.specs.ItemEdits.{HasValenceSet, ValenceSet}
+use Rattle.hfs_record_edits.specs.Keeps.{KeepsCatalog}
+use Rattle.hfs_record_edits.proofs.KeepLemmas.{keeps_then}
+use Rattle.hfs_record_edits.specs.Swaps.{Swaps}
+use Rattle.hfs_record_edits.specs.Changes.{with_children, folder_with}
+use Rattle.hfs_record_edits.specs.PlaceLaws.{BothStand}
+use Rattle.hfs_record_edits.proofs.PlaceLaws.{StandsStill}
 use Rattle.hfs_call_patches.specs.declared.valences.FolderPlace.{FolderPlace}
 use Rattle.hfs_call_patches.specs.Valences.{StandAt, ValencesSet}
 

@@ -5,9 +5,9 @@ use Rattle.hfs_fields.specs.declared.file_record.FileRecord.{FileRecord}
 use Rattle.hfs_fields.specs.Records.{dir_record_of, file_record_of}
 use Rattle.hfs_model.specs.Volume.{Entry}
 use Rattle.hfs_check.specs.Parts.{Blocks, catalog_in}
-use Rattle.hfs_queries.proofs.FolderLemmas.{found_with}
+use Rattle.hfs_items.proofs.FolderLemmas.{found_with}
 use Rattle.hfs_call_patches.specs.Settings.{IsFileChoice}
-use Rattle.hfs_changes.proofs.Made.{file-not_dir}
+use Rattle.hfs_record_edits.proofs.Made.{file-not_dir}
 
 -- the ID in a file's record is the one under which it was chosen
 pub file_id_is : (old : Blocks) (chosen : Result Entry ℤ) (key : CatKey) (f : FileRecord) (c : IsFileChoice old chosen key f) → f.id ≡ c.choice.id

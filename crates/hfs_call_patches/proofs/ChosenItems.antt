@@ -6,14 +6,14 @@ use Rattle.hfs_fields.specs.declared.file_record.FileRecord.{FileRecord}
 use Rattle.hfs_fields.specs.declared.key.CatKey.{CatKey}
 use Rattle.hfs_fields.specs.Names.{is_item_name}
 use Rattle.hfs_fields.specs.Records.{is_dir, is_file}
-use Rattle.hfs_scans.proofs.MemberLemmas.{each_in}
+use Rattle.hfs_fields.proofs.MemberLemmas.{each_in}
 use Rattle.hfs_model.specs.Volume.{Entry}
 use Rattle.hfs_catalog.specs.Records.{Record}
 use Rattle.hfs_check.specs.Parts.{Blocks, catalog_in}
 use Rattle.hfs_check.specs.Sound.{AreBlocksSound}
-use Rattle.hfs_changes.specs.SettingLaws.{IsChoice}
-use Rattle.hfs_changes.proofs.SettingLaws.{ChoiceStands}
-use Rattle.hfs_queries.proofs.FolderLemmas.{found_with}
+use Rattle.hfs_record_edits.specs.SettingLaws.{IsChoice}
+use Rattle.hfs_record_edits.proofs.SettingLaws.{ChoiceStands}
+use Rattle.hfs_items.proofs.FolderLemmas.{found_with}
 use Rattle.hfs_call_patches.specs.Settings.{IsBody, IsFileChoice, IsFileUnder, IsFolderChoice, IsFolderUnder}
 
 module _ (total : ℕ) (old : Blocks) (sound : AreBlocksSound total old) (chosen : Result Entry ℤ) (key : CatKey) where

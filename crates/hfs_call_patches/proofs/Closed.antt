@@ -15,7 +15,7 @@ use Rattle.hfs_btree.specs.Tree.{Store}
 use Rattle.hfs_btree_checks.specs.Order.{index_keys}
 use Rattle.hfs_btree_edits.specs.Files.{is_one_of, beside, AreWithin}
 use Rattle.hfs_btree_edits.proofs.WrittenLemmas.{at_other, at_own, untouched, put_within}
-use Rattle.hfs_scans.specs.Each.{Each}
+use Rattle.hfs_fields.specs.Each.{Each}
 use Rattle.hfs_space.specs.ForkLaws.{block_numbers}
 use Rattle.hfs_space.specs.TreeFiles.{node_count, tree_blocks}
 use Rattle.hfs_space.proofs.TreeFileLemmas.{nodes_in-tree_blocks}
@@ -24,15 +24,15 @@ use Rattle.hfs_catalog.specs.Tree.{cat_keys, IsCatalogTree, catalog_of}
 use Rattle.hfs_check.specs.Parts.{Blocks, mdb_in, catalog_extents, catalog_nodes, catalog_blocks, catalog_in}
 use Rattle.hfs_check.specs.Sound.{AreBlocksSound}
 use Rattle.hfs_check.specs.Agree.{node_blocks}
-use Rattle.hfs_changes.proofs.LawTypes.{CatalogFileStays}
-use Rattle.hfs_changes.specs.OnBlocks.{EditsCatalog}
+use Rattle.hfs_record_edits.proofs.LawTypes.{CatalogFileStays}
+use Rattle.hfs_record_edits.specs.OnBlocks.{EditsCatalog}
 use Rattle.hfs_call_patches.specs.CatalogPatch.{KeepsNamed, HasCatalog}
 use Rattle.hfs_call_patches.specs.TreeFiles.{IsCatalogFile}
 use Rattle.hfs_call_patches.specs.Settings.{PutsCounts}
 use Rattle.hfs_call_patches.proofs.IndexNames.{kept_names}
-use Rattle.hfs_changes.proofs.CatalogEdits.{each_take}
+use Rattle.hfs_record_edits.proofs.CatalogEdits.{each_take}
 use Rattle.hfs_call_patches.proofs.Placed.{IsAt, place_of, behind_first, at_place}
-use Rattle.hfs_changes.proofs.CatalogEdits.{below_area}
+use Rattle.hfs_record_edits.proofs.CatalogEdits.{below_area}
 
 -- ---- the catalog's nodes through an empty patch
 

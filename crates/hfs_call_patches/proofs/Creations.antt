@@ -9,34 +9,34 @@ use Rattle.hfs_fields.specs.RecordForms.{IsDirRecordValue}
 use Rattle.hfs_blocks.specs.declared.run.Run.{Run}
 use Rattle.hfs_blocks.specs.Layers.{Numbered, changes, over, AreWithin}
 use Rattle.hfs_btree.specs.Tree.{Store}
-use Rattle.hfs_scans.proofs.MemberLemmas.{each_in}
+use Rattle.hfs_fields.proofs.MemberLemmas.{each_in}
 use Rattle.hfs_catalog.specs.Records.{Record, Catalog}
 use Rattle.hfs_catalog.specs.Lookups.{thread_of}
 use Rattle.hfs_catalog.specs.Sound.{IsIndexKeyName}
 use Rattle.hfs_catalog.specs.Tree.{catalog_of}
-use Rattle.hfs_catalog_edits.proofs.FindLemmas.{no_thread_key}
-use Rattle.hfs_catalog_edits.proofs.RootLemmas.{sound_has_root}
-use Rattle.hfs_catalog_edits.specs.Swaps.{Swaps}
+use Rattle.hfs_record_edits.proofs.FindLemmas.{no_thread_key}
+use Rattle.hfs_record_edits.proofs.RootLemmas.{sound_has_root}
+use Rattle.hfs_record_edits.specs.Swaps.{Swaps}
 use Rattle.hfs_model.specs.declared.call.Call.TheVariants as call
 use Rattle.hfs_model.specs.declared.reply.Value.TheVariants as answer
 use Rattle.hfs_model.specs.Replies.{success}
 use Rattle.hfs_check.specs.Parts.{Blocks, mdb_in, catalog_nodes, catalog_in}
 use Rattle.hfs_check.specs.VolumeOf.{volume_in}
-use Rattle.hfs_changes.proofs.BoundLaws.{HasRoomForOne, CreationFits}
-use Rattle.hfs_changes.specs.Changes.{with_children, folder_with}
-use Rattle.hfs_changes.specs.CreationLaws.{with_file, with_folder}
-use Rattle.hfs_changes.proofs.CreationLaws.{CreateMakes, DirCreateMakes}
-use Rattle.hfs_changes.specs.Laws.{CatalogEditsAreSteps}
-use Rattle.hfs_changes.specs.OnBlocks.{HasTree}
-use Rattle.hfs_changes.proofs.PlaceLaws.{FolderIdIs, CreationIsFree, NextIsThreadless}
-use Rattle.hfs_queries.proofs.FolderLemmas.{found_with}
+use Rattle.hfs_record_edits.proofs.BoundLaws.{HasRoomForOne, CreationFits}
+use Rattle.hfs_record_edits.specs.Changes.{with_children, folder_with}
+use Rattle.hfs_record_edits.specs.CreationLaws.{with_file, with_folder}
+use Rattle.hfs_record_edits.proofs.CreationLaws.{CreateMakes, DirCreateMakes}
+use Rattle.hfs_record_edits.specs.Laws.{CatalogEditsAreSteps}
+use Rattle.hfs_record_edits.specs.OnBlocks.{HasTree}
+use Rattle.hfs_record_edits.proofs.PlaceLaws.{FolderIdIs, CreationIsFree, NextIsThreadless}
+use Rattle.hfs_items.proofs.FolderLemmas.{found_with}
 use Rattle.hfs_call_patches.specs.declared.new_items.NewPlace.{NewPlace}
 use Rattle.hfs_call_patches.specs.CatalogPatch.{KeepsNamed, HasCatalog}
 use Rattle.hfs_call_patches.specs.CallChanges.{IsChangeOf}
 use Rattle.hfs_call_patches.specs.NewItems.{IsOwnFolder, TakesItem, TakesFolder, HasPutFile, PutsFile, HasPutFolder, PutsFolder}
 use Rattle.hfs_call_patches.specs.ReadyPlaces.{IsReady}
 use Rattle.hfs_call_patches.proofs.CreationAnswerLemmas.{file_answered, folder_answered}
-use Rattle.hfs_changes.proofs.NewItems.{named_long}
+use Rattle.hfs_record_edits.proofs.NewItems.{named_long}
 
 -- ---- what the calls answer
 

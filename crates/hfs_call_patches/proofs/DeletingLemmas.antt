@@ -2,16 +2,16 @@
 use Rattle.std.specs.Prelude.{◌≡◌, ℕ, ◌+◌, List, length}
 use Rattle.hfs_fields.specs.Counts.{SameBesideCounts}
 use Rattle.hfs_fields.specs.declared.mdb.Mdb.{Mdb}
-use Rattle.hfs_scans.specs.Each.{Each}
+use Rattle.hfs_fields.specs.Each.{Each}
 use Rattle.hfs_btree.specs.Sound.{KeepsFrame}
 use Rattle.hfs_btree.specs.Tree.{Store}
 use Rattle.hfs_btree_checks.specs.Order.{index_keys}
 use Rattle.hfs_space.specs.Bitmap.{clear_count}
-use Rattle.hfs_space_edits.specs.Dropped.{HasDroppedOverflow}
+use Rattle.hfs_record_edits.specs.Dropped.{HasDroppedOverflow}
 use Rattle.hfs_catalog.specs.Sound.{IsIndexKeyName}
 use Rattle.hfs_catalog.specs.Tree.{cat_keys, IsCatalogTree, catalog_of}
 use Rattle.hfs_check.specs.Parts.{Blocks, mdb_in, extents_nodes, catalog_nodes, catalog_in}
-use Rattle.hfs_changes.specs.Deletion.{EditsVolume, HasCleared}
+use Rattle.hfs_record_edits.specs.Deletion.{EditsVolume, HasCleared}
 
 -- the volume has these counts, the catalog of these nodes, the extents tree without this file's records, and the bits clear of these
 -- allocation blocks, which were marked

@@ -6,8 +6,8 @@ use Rattle.std.proofs.lemmas.Nat.{div-mul-add}
 use Rattle.std.proofs.lemmas.List.Concat.{flat_map-append}
 use Rattle.hfs_fields.specs.declared.mdb.Mdb.{Mdb}
 use Rattle.hfs_fields.specs.declared.extent.Extent.{Extent}
-use Rattle.hfs_scans.specs.Each.{Each}
-use Rattle.hfs_scans.proofs.ElementLemmas.{each-append, each-left}
+use Rattle.hfs_fields.specs.Each.{Each}
+use Rattle.hfs_fields.proofs.ElementLemmas.{each-append, each-left}
 use Rattle.hfs_blocks.specs.Blocks.{nodes_in}
 use Rattle.hfs_btree.specs.Sound.{IsOther, IsDistinct}
 use Rattle.hfs_space.proofs.OwnedOnce.{distinct-range}
@@ -20,7 +20,7 @@ use Rattle.hfs_space.specs.TreeFiles.{node_count, tree_blocks}
 use Rattle.hfs_check.specs.Parts.{Blocks, mdb_in, overflow_in, catalog_extents, catalog_blocks, catalog_in, owned_in}
 use Rattle.hfs_check.specs.Sound.{AreBlocksSound}
 use Rattle.hfs_btree.proofs.DistinctLemmas.{distinct-append}
-use Rattle.hfs_changes.proofs.Frames.{each_range}
+use Rattle.hfs_record_edits.proofs.Frames.{each_range}
 
 -- ---- lists in which no number stands twice
 

@@ -8,8 +8,8 @@ use Rattle.hfs_blocks.specs.Layers.{Changes, Numbered, changes, over}
 use Rattle.hfs_btree.specs.Sound.{IsOther}
 use Rattle.hfs_btree.specs.Tree.{Store}
 use Rattle.hfs_btree_edits.specs.Files.{is_one_of, beside, AreWithin}
-use Rattle.hfs_scans.specs.Each.{Each}
-use Rattle.hfs_space_edits.specs.Released.{HasReleased}
+use Rattle.hfs_fields.specs.Each.{Each}
+use Rattle.hfs_record_edits.specs.Released.{HasReleased}
 use Rattle.hfs_check.specs.Parts.{Blocks}
 use Rattle.hfs_call_patches.proofs.Placed.{IsAt, place_of, behind_first, at_place}
 

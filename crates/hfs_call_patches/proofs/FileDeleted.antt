@@ -9,30 +9,30 @@ use Rattle.hfs_fields.specs.declared.extent.Extent.{Extent}
 use Rattle.hfs_fields.specs.declared.file_record.FileRecord.{FileRecord}
 use Rattle.hfs_fields.specs.declared.mdb.Mdb.{Mdb}
 use Rattle.hfs_fields.specs.Records.{is_dir, item_id, dir_record_of, file_record_of}
-use Rattle.hfs_scans.specs.Members.{In}
-use Rattle.hfs_scans.proofs.MemberLemmas.{each_in}
+use Rattle.hfs_fields.specs.Members.{In}
+use Rattle.hfs_fields.proofs.MemberLemmas.{each_in}
 use Rattle.hfs_btree.specs.Tree.{Store}
 use Rattle.hfs_space.specs.Extents.{AreExtentsWithin, block_total, extent_blocks}
 use Rattle.hfs_space.specs.Owners.{Fork, forks_of, forks_of_file, extents_in}
 use Rattle.hfs_space.specs.TreeKeys.{overflow_of}
-use Rattle.hfs_space_edits.specs.Dropped.{HasDroppedOverflow}
-use Rattle.hfs_space_edits.specs.Released.{AreAlone}
+use Rattle.hfs_record_edits.specs.Dropped.{HasDroppedOverflow}
+use Rattle.hfs_record_edits.specs.Released.{AreAlone}
 use Rattle.hfs_model.specs.declared.call.Call.TheVariants as call
 use Rattle.hfs_model.specs.Choices.{to_delete}
 use Rattle.hfs_catalog.specs.Records.{Record, Catalog}
 use Rattle.hfs_catalog.specs.Lookups.{thread_of}
 use Rattle.hfs_catalog.specs.Sound.{IsRoot, IsGiven}
-use Rattle.hfs_catalog_edits.proofs.BodyLemmas.{dir_length, file_length}
+use Rattle.hfs_record_edits.proofs.BodyLemmas.{dir_length, file_length}
 use Rattle.hfs_check.specs.Parts.{Blocks, mdb_in, extents_nodes, overflow_in, catalog_nodes, catalog_in}
 use Rattle.hfs_check.specs.Sound.{AreBlocksSound}
 use Rattle.hfs_check.specs.VolumeOf.{volume_in}
-use Rattle.hfs_changes.specs.Deletion.{EditsVolume, HasCleared, without_one_file, DeletionsAreSteps}
-use Rattle.hfs_changes.proofs.DeletionLaws.{fork_blocks, DeleteFileMakes, ForkBlocksAreAlone, ForkExtentsAreWithin}
-use Rattle.hfs_changes.proofs.DropLaws.{DroppedLeaves}
-use Rattle.hfs_changes.proofs.PlaceLaws.{DeleteLeavesFolder}
-use Rattle.hfs_changes.proofs.RemovalLaws.{HasDroppedItem}
-use Rattle.hfs_changes.proofs.SettingLaws.{ChoiceStands}
-use Rattle.hfs_queries.proofs.FolderLemmas.{found_with}
+use Rattle.hfs_record_edits.specs.Deletion.{EditsVolume, HasCleared, without_one_file, DeletionsAreSteps}
+use Rattle.hfs_record_edits.proofs.DeletionLaws.{fork_blocks, DeleteFileMakes, ForkBlocksAreAlone, ForkExtentsAreWithin}
+use Rattle.hfs_record_edits.proofs.DropLaws.{DroppedLeaves}
+use Rattle.hfs_record_edits.proofs.PlaceLaws.{DeleteLeavesFolder}
+use Rattle.hfs_record_edits.proofs.RemovalLaws.{HasDroppedItem}
+use Rattle.hfs_record_edits.proofs.SettingLaws.{ChoiceStands}
+use Rattle.hfs_items.proofs.FolderLemmas.{found_with}
 use Rattle.hfs_call_patches.specs.Deleting.{IsParent, ItemDropped, IsFileDeleted}
 use Rattle.hfs_call_patches.proofs.DeletingLemmas.{IsFileGone}
 use Rattle.hfs_call_patches.specs.Settings.{IsFileChoice}

@@ -8,8 +8,8 @@ use Rattle.hfs_fields.specs.declared.mdb.Mdb.{Mdb}
 use Rattle.hfs_fields.specs.declared.extent.Extent.{Extent}
 use Rattle.hfs_fields.specs.Counts.{SameBesideCounts, with_counts}
 use Rattle.hfs_fields.specs.Mdb.{mdb_of}
-use Rattle.hfs_scans.specs.Each.{Each}
-use Rattle.hfs_scans.proofs.ElementLemmas.{each-left, each-right, each-mono, each-both}
+use Rattle.hfs_fields.specs.Each.{Each}
+use Rattle.hfs_fields.proofs.ElementLemmas.{each-left, each-right, each-mono, each-both}
 use Rattle.hfs_blocks.specs.declared.run.Run.{Run}
 use Rattle.hfs_blocks.specs.Blocks.{run_of, nodes_in}
 use Rattle.hfs_blocks.specs.Layers.{Changes, over}
@@ -26,15 +26,15 @@ use Rattle.hfs_space.specs.ForkLaws.{block_numbers}
 use Rattle.hfs_space.specs.Owners.{owners}
 use Rattle.hfs_space.specs.TreeFiles.{node_count, tree_blocks}
 use Rattle.hfs_space.proofs.TreeFileLemmas.{nodes_in-tree_blocks}
-use Rattle.hfs_space_edits.specs.Dropped.{HasDroppedOverflow}
-use Rattle.hfs_space_edits.specs.Released.{AreAlone, HasReleased}
+use Rattle.hfs_record_edits.specs.Dropped.{HasDroppedOverflow}
+use Rattle.hfs_record_edits.specs.Released.{AreAlone, HasReleased}
 use Rattle.hfs_catalog.specs.Sound.{IsIndexKeyName}
 use Rattle.hfs_catalog.specs.Tree.{cat_keys, IsCatalogTree, catalog_of}
 use Rattle.hfs_check.specs.Parts.{Blocks, mdb_in, extents_nodes, extents_blocks, catalog_extents, catalog_nodes, catalog_blocks, catalog_in}
 use Rattle.hfs_check.specs.Sound.{AreBlocksSound}
 use Rattle.hfs_check.specs.Agree.{IsBeside, bitmap_blocks, node_blocks, changing_blocks}
-use Rattle.hfs_changes.specs.Deletion.{EditsVolume, HasCleared}
-use Rattle.hfs_changes.proofs.DropLaws.{DeletionLeavesFile}
+use Rattle.hfs_record_edits.specs.Deletion.{EditsVolume, HasCleared}
+use Rattle.hfs_record_edits.proofs.DropLaws.{DeletionLeavesFile}
 use Rattle.hfs_call_patches.specs.CatalogPatch.{KeepsNamed}
 use Rattle.hfs_call_patches.proofs.DeletingLemmas.{IsFileGone}
 use Rattle.hfs_call_patches.specs.TreeFiles.{IsExtentsFile, IsCatalogFile}
@@ -42,8 +42,8 @@ use Rattle.hfs_call_patches.specs.Settings.{PutsCounts}
 use Rattle.hfs_call_patches.proofs.EditedNodes.{first_only, behind_drop, same_on}
 use Rattle.hfs_call_patches.proofs.FileParts.{outside_range, in_area, catalog_apart, extents_apart}
 use Rattle.hfs_call_patches.proofs.IndexNames.{kept_names}
-use Rattle.hfs_changes.proofs.CatalogEdits.{each_take}
-use Rattle.hfs_changes.proofs.CatalogEdits.{below_area}
+use Rattle.hfs_record_edits.proofs.CatalogEdits.{each_take}
+use Rattle.hfs_record_edits.proofs.CatalogEdits.{below_area}
 
 module _ (total : ℕ) (old : Blocks) (h : AreBlocksSound total old) (extents catalog : List Run) (ext : IsExtentsFile extents total old) (cat : IsCatalogFile catalog total old) where
   abbrev mdb : Mdb

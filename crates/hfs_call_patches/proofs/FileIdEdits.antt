@@ -9,28 +9,28 @@ use Rattle.hfs_fields.specs.Keys.{cat_cmp}
 use Rattle.hfs_fields.specs.Names.{is_item_name}
 use Rattle.hfs_fields.specs.Records.{is_dir, is_file, new_thread}
 use Rattle.hfs_fields.specs.RecordForms.{IsFileRecordValue, file_record_bytes, IsThreadRecordValue}
-use Rattle.hfs_scans.specs.Each.{Each}
-use Rattle.hfs_scans.specs.Members.{In}
-use Rattle.hfs_scans.proofs.MemberLemmas.{found_in}
+use Rattle.hfs_fields.specs.Each.{Each}
+use Rattle.hfs_fields.specs.Members.{In}
+use Rattle.hfs_fields.proofs.MemberLemmas.{found_in}
 use Rattle.hfs_btree.specs.Pairs.{lookup}
 use Rattle.hfs_btree.specs.Tree.{Store}
 use Rattle.hfs_catalog.specs.Records.{Record}
 use Rattle.hfs_catalog.specs.Lookups.{first_key, thread_of}
 use Rattle.hfs_catalog.specs.Sound.{IsRecord}
 use Rattle.hfs_catalog.specs.Tree.{catalog_of}
-use Rattle.hfs_catalog_edits.specs.Finds.{has_key, record_at}
-use Rattle.hfs_catalog_edits.proofs.FindLemmas.{some_text, still_none}
-use Rattle.hfs_catalog_edits.proofs.KeepLemmas.{keeps_then}
-use Rattle.hfs_catalog_edits.specs.RecordEdits.{RecordCame, RecordWent, RecordSet}
-use Rattle.hfs_catalog_edits.specs.Roots.{HasRoot}
-use Rattle.hfs_catalog_edits.proofs.RootLemmas.{root_stays}
-use Rattle.hfs_catalog_edits.specs.Swaps.{list_of}
-use Rattle.hfs_catalog_edits.proofs.SwapLemmas.{swapped_each}
-use Rattle.hfs_changes.specs.FileIdLaws.{with_thread_flag}
+use Rattle.hfs_record_edits.specs.Finds.{has_key, record_at}
+use Rattle.hfs_record_edits.proofs.FindLemmas.{some_text, still_none}
+use Rattle.hfs_record_edits.proofs.KeepLemmas.{keeps_then}
+use Rattle.hfs_record_edits.specs.RecordEdits.{RecordCame, RecordWent, RecordSet}
+use Rattle.hfs_record_edits.specs.Roots.{HasRoot}
+use Rattle.hfs_record_edits.proofs.RootLemmas.{root_stays}
+use Rattle.hfs_record_edits.specs.Swaps.{list_of}
+use Rattle.hfs_record_edits.proofs.SwapLemmas.{swapped_each}
+use Rattle.hfs_record_edits.specs.FileIdLaws.{with_thread_flag}
 use Rattle.hfs_call_patches.specs.FileIds.{flagged_file, file_thread, FileIdCame, FileIdWent}
-use Rattle.hfs_changes.proofs.NewItems.{named_long}
-use Rattle.hfs_catalog_edits.proofs.ItemSteps.{equal_parents}
-use Rattle.hfs_changes.proofs.Made.{file-is}
+use Rattle.hfs_record_edits.proofs.NewItems.{named_long}
+use Rattle.hfs_record_edits.proofs.ItemSteps.{equal_parents}
+use Rattle.hfs_record_edits.proofs.Made.{file-is}
 
 -- the file's record as the program has it, which is the one with the flag
 module _ (there : Bool) (key : CatKey) (file written : FileRecord) (same : written ≡ with_thread_flag there file) (named : IsTrue (is_item_name key.name)) (old middle : Store)

@@ -10,16 +10,16 @@ use Rattle.hfs_btree.specs.Tree.{Store}
 use Rattle.hfs_catalog.specs.Records.{Record, Catalog, item_with}
 use Rattle.hfs_catalog.specs.Lookups.{thread_of}
 use Rattle.hfs_catalog.specs.Tree.{catalog_of}
-use Rattle.hfs_catalog_edits.specs.Bodies.{thread_record}
-use Rattle.hfs_catalog_edits.specs.Finds.{record_at}
-use Rattle.hfs_catalog_edits.proofs.FindLemmas.{own_record}
-use Rattle.hfs_catalog_edits.specs.Swaps.{Swaps}
+use Rattle.hfs_record_edits.specs.Bodies.{thread_record}
+use Rattle.hfs_record_edits.specs.Finds.{record_at}
+use Rattle.hfs_record_edits.proofs.FindLemmas.{own_record}
+use Rattle.hfs_record_edits.specs.Swaps.{Swaps}
 use Rattle.hfs_check.specs.Parts.{Blocks, mdb_in, catalog_nodes, catalog_in}
 use Rattle.hfs_check.specs.Sound.{AreBlocksSound}
-use Rattle.hfs_changes.specs.FileIdLaws.{with_thread_flag}
-use Rattle.hfs_changes.proofs.FileIdLaws.{file_with_flag, CreateFileIdMakes, DeleteFileIdMakes}
-use Rattle.hfs_changes.specs.OnBlocks.{at_time, HasTree}
-use Rattle.hfs_queries.proofs.FolderLemmas.{found_with}
+use Rattle.hfs_record_edits.specs.FileIdLaws.{with_thread_flag}
+use Rattle.hfs_record_edits.proofs.FileIdLaws.{file_with_flag, CreateFileIdMakes, DeleteFileIdMakes}
+use Rattle.hfs_record_edits.specs.OnBlocks.{at_time, HasTree}
+use Rattle.hfs_items.proofs.FolderLemmas.{found_with}
 use Rattle.hfs_call_patches.specs.CatalogPatch.{HasCatalog}
 use Rattle.hfs_call_patches.specs.FileIds.{flagged_file, FileIdCame, FileIdWent, MakesCreateFileId, MakesDeleteFileId}
 use Rattle.hfs_call_patches.proofs.ChosenFileLemmas.{file_id_is}

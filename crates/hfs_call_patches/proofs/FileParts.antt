@@ -5,8 +5,8 @@ use Rattle.std.proofs.lemmas.Bool.{cases_lt}
 use Rattle.std.proofs.lemmas.List.Concat.{flat_map-append}
 use Rattle.hfs_fields.specs.declared.mdb.Mdb.{Mdb}
 use Rattle.hfs_fields.specs.declared.extent.Extent.{Extent}
-use Rattle.hfs_scans.specs.Each.{Each}
-use Rattle.hfs_scans.proofs.ElementLemmas.{each-append, each-left, each-right, each-mono}
+use Rattle.hfs_fields.specs.Each.{Each}
+use Rattle.hfs_fields.proofs.ElementLemmas.{each-append, each-left, each-right, each-mono}
 use Rattle.hfs_blocks.specs.Blocks.{run_of}
 use Rattle.hfs_btree.specs.Sound.{IsOther, IsDistinct}
 use Rattle.hfs_space.specs.Forks.{run_in}
@@ -18,7 +18,7 @@ use Rattle.hfs_check.specs.Sound.{AreBlocksSound}
 use Rattle.hfs_call_patches.proofs.Different.{distinct-take, numbers-are, distinct-rows, owned-parts, others}
 use Rattle.hfs_btree_edits.proofs.DistinctLemmas.{distinct-left}
 use Rattle.hfs_btree.proofs.DistinctLemmas.{cross}
-use Rattle.hfs_changes.proofs.Frames.{each_range}
+use Rattle.hfs_record_edits.proofs.Frames.{each_range}
 
 -- ---- numbers beside a row
 

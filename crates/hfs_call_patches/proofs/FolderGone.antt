@@ -10,12 +10,12 @@ use Rattle.hfs_catalog.specs.Tree.{catalog_of}
 use Rattle.hfs_check.specs.Parts.{Blocks, mdb_in, catalog_nodes, catalog_in}
 use Rattle.hfs_check.specs.Sound.{AreBlocksSound}
 use Rattle.hfs_check.specs.VolumeOf.{volume_in}
-use Rattle.hfs_changes.specs.OnBlocks.{HasTree}
-use Rattle.hfs_changes.proofs.PlaceLaws.{DeleteLeavesFolder}
-use Rattle.hfs_changes.specs.RemovalLaws.{without_folder}
-use Rattle.hfs_changes.proofs.RemovalLaws.{HasDroppedItem, DeleteFolderMakes}
-use Rattle.hfs_changes.proofs.SettingLaws.{ChoiceStands}
-use Rattle.hfs_queries.proofs.FolderLemmas.{found_with}
+use Rattle.hfs_record_edits.specs.OnBlocks.{HasTree}
+use Rattle.hfs_record_edits.proofs.PlaceLaws.{DeleteLeavesFolder}
+use Rattle.hfs_record_edits.specs.RemovalLaws.{without_folder}
+use Rattle.hfs_record_edits.proofs.RemovalLaws.{HasDroppedItem, DeleteFolderMakes}
+use Rattle.hfs_record_edits.proofs.SettingLaws.{ChoiceStands}
+use Rattle.hfs_items.proofs.FolderLemmas.{found_with}
 use Rattle.hfs_call_patches.specs.CatalogPatch.{HasCatalog}
 use Rattle.hfs_call_patches.specs.Deleting.{IsParent, ItemDropped, MakesFolderDeletion}
 use Rattle.hfs_call_patches.specs.Settings.{IsFolderChoice}

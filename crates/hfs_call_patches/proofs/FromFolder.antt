@@ -5,8 +5,8 @@ use Rattle.hfs_fields.specs.declared.key.CatKey.{CatKey}
 use Rattle.hfs_fields.specs.declared.dir_record.DirRecord.{DirRecord}
 use Rattle.hfs_fields.specs.Keys.{cat_cmp}
 use Rattle.hfs_fields.specs.Records.{is_dir, is_item, item_id, dir_record_of, file_record_of}
-use Rattle.hfs_scans.specs.Each.{Each}
-use Rattle.hfs_scans.proofs.MemberLemmas.{each_in}
+use Rattle.hfs_fields.specs.Each.{Each}
+use Rattle.hfs_fields.proofs.MemberLemmas.{each_in}
 use Rattle.hfs_btree.specs.Pairs.{Rises, lookup}
 use Rattle.hfs_btree.specs.Tree.{Store}
 use Rattle.hfs_model.specs.Choices.{to_delete}
@@ -14,23 +14,23 @@ use Rattle.hfs_catalog.specs.Records.{Record, Catalog}
 use Rattle.hfs_catalog.specs.Lookups.{thread_of}
 use Rattle.hfs_catalog.specs.Sound.{IsRecord, IsIndexKeyName}
 use Rattle.hfs_catalog.specs.Tree.{catalog_of}
-use Rattle.hfs_catalog_edits.specs.Bodies.{IfBody}
-use Rattle.hfs_catalog_edits.specs.Finds.{record_at}
-use Rattle.hfs_catalog_edits.proofs.FindLemmas.{body_at, own_record}
-use Rattle.hfs_catalog_edits.specs.ItemEdits.{ItemWent, ValenceSet}
-use Rattle.hfs_catalog_edits.specs.Keeps.{KeepsCatalog}
-use Rattle.hfs_catalog_edits.proofs.KeepLemmas.{keeps_then}
-use Rattle.hfs_catalog_edits.specs.Swaps.{Swaps}
+use Rattle.hfs_record_edits.specs.Bodies.{IfBody}
+use Rattle.hfs_record_edits.specs.Finds.{record_at}
+use Rattle.hfs_record_edits.proofs.FindLemmas.{body_at, own_record}
+use Rattle.hfs_record_edits.specs.ItemEdits.{ItemWent, ValenceSet}
+use Rattle.hfs_record_edits.specs.Keeps.{KeepsCatalog}
+use Rattle.hfs_record_edits.proofs.KeepLemmas.{keeps_then}
+use Rattle.hfs_record_edits.specs.Swaps.{Swaps}
 use Rattle.hfs_check.specs.Parts.{Blocks, catalog_nodes, catalog_in}
 use Rattle.hfs_check.specs.Sound.{AreBlocksSound}
 use Rattle.hfs_check.specs.VolumeOf.{volume_in}
-use Rattle.hfs_changes.specs.Changes.{IsFolderWith, folder_with}
-use Rattle.hfs_changes.proofs.BoundLaws.{RemovalFits}
-use Rattle.hfs_changes.proofs.PlaceLaws.{DeleteLeavesFolder}
-use Rattle.hfs_changes.proofs.RemovalLaws.{HasDroppedItem}
-use Rattle.hfs_changes.specs.SettingLaws.{IsChoice}
-use Rattle.hfs_changes.proofs.SettingLaws.{ChoiceStands}
-use Rattle.hfs_queries.proofs.FolderLemmas.{found_with}
+use Rattle.hfs_record_edits.specs.Changes.{IsFolderWith, folder_with}
+use Rattle.hfs_record_edits.proofs.BoundLaws.{RemovalFits}
+use Rattle.hfs_record_edits.proofs.PlaceLaws.{DeleteLeavesFolder}
+use Rattle.hfs_record_edits.proofs.RemovalLaws.{HasDroppedItem}
+use Rattle.hfs_record_edits.specs.SettingLaws.{IsChoice}
+use Rattle.hfs_record_edits.proofs.SettingLaws.{ChoiceStands}
+use Rattle.hfs_items.proofs.FolderLemmas.{found_with}
 use Rattle.hfs_call_patches.specs.CatalogPatch.{KeepsNamed}
 use Rattle.hfs_call_patches.specs.Deleting.{HasIdUnder, IsParent, StaysFolder, ItemDropped}
 

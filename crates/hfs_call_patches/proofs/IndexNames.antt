@@ -7,12 +7,12 @@ use Rattle.hfs_btree.specs.Header.{depth_of, root_level, tree_content, tree_turn
 use Rattle.hfs_btree.specs.Tree.{Store, Spot, records_in, children, pair_of, pairs, first_of, spots, turn, last_level, key_at}
 use Rattle.hfs_btree_checks.specs.Order.{index_keys, index_keys_at}
 use Rattle.hfs_btree_edits.specs.KeptKeys.{EachKey}
-use Rattle.hfs_scans.specs.Each.{Each}
-use Rattle.hfs_scans.proofs.ElementLemmas.{each-append, each-left, each-right, each-map, each-unmap, each-mono, each-both}
+use Rattle.hfs_fields.specs.Each.{Each}
+use Rattle.hfs_fields.proofs.ElementLemmas.{each-append, each-left, each-right, each-map, each-unmap, each-mono, each-both}
 use Rattle.hfs_catalog.specs.Records.{Record, Catalog}
 use Rattle.hfs_catalog.specs.Sound.{IsRecord, IsIndexKeyName, AreNamesSound}
 use Rattle.hfs_catalog.specs.Tree.{cat_keys, catalog_of}
-use Rattle.hfs_catalog_edits.proofs.KeepLemmas.{given_keys_hold}
+use Rattle.hfs_record_edits.proofs.KeepLemmas.{given_keys_hold}
 use Rattle.hfs_call_patches.specs.CatalogPatch.{KeepsNamed}
 
 module _ {K : Type 0} (g : Ghosts K) (nodes : Store) (P : K → Type 0) where

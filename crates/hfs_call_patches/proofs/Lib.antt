@@ -22,3 +22,35 @@ pub mod ChosenFileLemmas
 mod ChosenItems
 pub mod CreationAnswerLemmas
 mod DeletingLemmas
+mod Files
+mod TreeKeys
+mod Overflows
+pub mod Beside
+mod BesideTrees
+pub mod Rooms
+pub mod SoundForks
+mod Changed
+mod Contents
+mod Whole
+pub mod Moves
+mod Bytes
+pub mod Laid
+pub mod Edited
+pub mod LawsProved
+pub mod Choices
+mod Apart
+mod Bitmaps
+mod SettledNodes
+mod Ready
+mod Assembled
+mod Edits
+mod ResizedFork
+mod GrownFork
+mod ShrunkFork
+mod CallsMade
+mod Wants
+mod Pieces
+mod LaidOver
+mod WrittenBlocks
+mod Coming
+mod Told

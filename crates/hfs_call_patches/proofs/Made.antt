@@ -12,8 +12,8 @@ use Rattle.hfs_btree_edits.specs.Edits.{with_replaced}
 use Rattle.hfs_catalog.specs.Records.{Record}
 use Rattle.hfs_check.specs.Parts.{Blocks, mdb_in, catalog_in}
 use Rattle.hfs_check.specs.Sound.{AreBlocksSound}
-use Rattle.hfs_changes.specs.OnBlocks.{at_time, HasTree}
-use Rattle.hfs_changes.proofs.SettingLaws.{HasSetBody, HasSetFile, HasSetFolder, with_info, with_told, with_told_folder, with_lock_bit, SetFInfoMakes, SetFileInfoMakes, SetFolderInfoMakes, SetLockMakes}
+use Rattle.hfs_record_edits.specs.OnBlocks.{at_time, HasTree}
+use Rattle.hfs_record_edits.proofs.SettingLaws.{HasSetBody, HasSetFile, HasSetFolder, with_info, with_told, with_told_folder, with_lock_bit, SetFInfoMakes, SetFileInfoMakes, SetFolderInfoMakes, SetLockMakes}
 use Rattle.hfs_call_patches.specs.declared.settings.ItemSettings.{ItemSettings}
 use Rattle.hfs_call_patches.specs.Settings.{HasSetRecord, MakesSetFInfo, MakesSetFileInfo, MakesSetFolderInfo, MakesSetLock}
 

@@ -5,26 +5,26 @@ use Rattle.hfs_fields.specs.declared.key.CatKey.{CatKey}
 use Rattle.hfs_fields.specs.declared.mdb.Mdb.{Mdb}
 use Rattle.hfs_fields.specs.Names.{is_item_name}
 use Rattle.hfs_fields.specs.Records.{is_dir, dir_record_of}
-use Rattle.hfs_scans.proofs.MemberLemmas.{each_in}
+use Rattle.hfs_fields.proofs.MemberLemmas.{each_in}
 use Rattle.hfs_btree.specs.Tree.{Store}
 use Rattle.hfs_model.specs.declared.call.Call.TheVariants as call
 use Rattle.hfs_catalog.specs.Lookups.{first_key, thread_of}
 use Rattle.hfs_catalog.specs.Records.{Record}
 use Rattle.hfs_catalog.specs.Sound.{IsIndexKeyName}
 use Rattle.hfs_catalog.specs.Tree.{catalog_of}
-use Rattle.hfs_catalog_edits.specs.ItemEdits as edits
-use Rattle.hfs_catalog_edits.proofs.KeepLemmas.{keeps_then}
+use Rattle.hfs_record_edits.specs.ItemEdits as edits
+use Rattle.hfs_record_edits.proofs.KeepLemmas.{keeps_then}
 use Rattle.hfs_check.proofs.LawTypes.{CatalogIsSound}
 use Rattle.hfs_check.specs.Parts.{Blocks, mdb_in, catalog_nodes, catalog_in}
 use Rattle.hfs_check.specs.Sound.{AreBlocksSound}
-use Rattle.hfs_changes.proofs.ChangesLaws.{led_to}
-use Rattle.hfs_changes.specs.Laws.{MakesStep}
-use Rattle.hfs_changes.specs.MoveLaws.{under_folder, with_moved}
-use Rattle.hfs_changes.proofs.MoveLaws.{CatMoveMakes, HasMovedItem}
-use Rattle.hfs_changes.specs.OnBlocks.{HasTree}
-use Rattle.hfs_changes.specs.PlaceLaws.{BothStand}
-use Rattle.hfs_changes.proofs.PlaceLaws.{MoveLeavesFolders}
-use Rattle.hfs_queries.proofs.FolderLemmas.{found_with}
+use Rattle.hfs_record_edits.proofs.ChangesLaws.{led_to}
+use Rattle.hfs_record_edits.specs.Laws.{MakesStep}
+use Rattle.hfs_record_edits.specs.MoveLaws.{under_folder, with_moved}
+use Rattle.hfs_record_edits.proofs.MoveLaws.{CatMoveMakes, HasMovedItem}
+use Rattle.hfs_record_edits.specs.OnBlocks.{HasTree}
+use Rattle.hfs_record_edits.specs.PlaceLaws.{BothStand}
+use Rattle.hfs_record_edits.proofs.PlaceLaws.{MoveLeavesFolders}
+use Rattle.hfs_items.proofs.FolderLemmas.{found_with}
 use Rattle.hfs_call_patches.specs.CatalogPatch.{HasCatalog, KeepsNamed}
 use Rattle.hfs_call_patches.specs.declared.valences.FolderPlace.{FolderPlace}
 use Rattle.hfs_call_patches.specs.declared.moving.Moving.{Moving}

@@ -3,7 +3,7 @@ use Rattle.std.proofs.Common.{◌≡◌, ℕ, List, sym, ap, ◌∙◌, subst, O
 use Rattle.hfs_fields.specs.declared.key.CatKey.{CatKey}
 use Rattle.hfs_fields.specs.declared.mdb.Mdb.{Mdb}
 use Rattle.hfs_fields.specs.Keys.{cat_cmp}
-use Rattle.hfs_scans.specs.Each.{Each}
+use Rattle.hfs_fields.specs.Each.{Each}
 use Rattle.hfs_btree.specs.Pairs.{lookup}
 use Rattle.hfs_btree.specs.Tree.{Store}
 use Rattle.hfs_btree_edits.specs.declared.seeking.RecordPlace.{RecordPlace}
@@ -14,12 +14,12 @@ use Rattle.hfs_catalog.specs.Records.{Catalog}
 use Rattle.hfs_catalog.specs.Lookups.{first_key, thread_of}
 use Rattle.hfs_catalog.specs.Sound.{IsRecord}
 use Rattle.hfs_catalog.specs.Tree.{IsCatalogTree, cat_keys, catalog_of}
-use Rattle.hfs_catalog_edits.specs.Bodies.{item_bytes, IsItemValue}
-use Rattle.hfs_catalog_edits.proofs.FindLemmas.{no_thread_key}
-use Rattle.hfs_catalog_edits.specs.RecordEdits.{RecordSet}
-use Rattle.hfs_catalog_edits.specs.Rooms.{IsInFile}
-use Rattle.hfs_catalog_edits.specs.Roots.{HasRoot}
-use Rattle.hfs_catalog_edits.proofs.RootLemmas.{sound_has_root}
+use Rattle.hfs_record_edits.specs.Bodies.{item_bytes, IsItemValue}
+use Rattle.hfs_record_edits.proofs.FindLemmas.{no_thread_key}
+use Rattle.hfs_record_edits.specs.RecordEdits.{RecordSet}
+use Rattle.hfs_record_edits.specs.Rooms.{IsInFile}
+use Rattle.hfs_record_edits.specs.Roots.{HasRoot}
+use Rattle.hfs_record_edits.proofs.RootLemmas.{sound_has_root}
 use Rattle.hfs_check.specs.Parts.{Blocks, mdb_in, catalog_nodes, catalog_in}
 use Rattle.hfs_check.specs.Sound.{AreBlocksSound}
 use Rattle.hfs_call_patches.specs.CatalogPatch.{HasCatalog}

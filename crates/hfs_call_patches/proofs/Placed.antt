@@ -5,11 +5,11 @@ use Rattle.hfs_fields.specs.declared.extent.Extent.{Extent}
 use Rattle.hfs_blocks.specs.Blocks.{run_of}
 use Rattle.hfs_btree.specs.Sound.{IsOther}
 use Rattle.hfs_btree_edits.specs.Files.{is_one_of}
-use Rattle.hfs_scans.specs.Each.{Each}
-use Rattle.hfs_scans.proofs.ElementLemmas.{each-append}
+use Rattle.hfs_fields.specs.Each.{Each}
+use Rattle.hfs_fields.proofs.ElementLemmas.{each-append}
 use Rattle.hfs_space.specs.Forks.{run_in}
 use Rattle.hfs_space.specs.ForkLaws.{block_numbers}
-use Rattle.hfs_changes.proofs.Frames.{each_range}
+use Rattle.hfs_record_edits.proofs.Frames.{each_range}
 
 -- a number that is one of these stands at a place
 pub record IsAt (ns : List ℕ) (n : ℕ) : Type 0 where

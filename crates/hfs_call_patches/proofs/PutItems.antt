@@ -9,22 +9,22 @@ use Rattle.hfs_fields.specs.Records.{is_dir, new_dir, new_file}
 use Rattle.hfs_fields.specs.RecordForms.{IsFileRecordValue}
 use Rattle.hfs_btree.specs.Pairs.{lookup}
 use Rattle.hfs_btree.specs.Tree.{Store}
-use Rattle.hfs_scans.specs.Members.{In}
+use Rattle.hfs_fields.specs.Members.{In}
 use Rattle.hfs_catalog.specs.Records.{Record}
 use Rattle.hfs_catalog.specs.Tree.{IsCatalogTree, catalog_of}
-use Rattle.hfs_catalog_edits.specs.Bodies.{IfBody}
-use Rattle.hfs_catalog_edits.specs.Finds.{record_at}
-use Rattle.hfs_catalog_edits.proofs.FindLemmas.{body_at, own_record, still_none, other_key}
-use Rattle.hfs_catalog_edits.specs.ItemEdits.{HasValenceSet, ValenceSet, file_record, folder_record, folder_thread, FolderCame}
-use Rattle.hfs_catalog_edits.proofs.KeepLemmas.{keeps_then, keeps_turned}
-use Rattle.hfs_catalog_edits.specs.RecordEdits.{RecordCame}
-use Rattle.hfs_catalog_edits.specs.Roots.{HasRoot}
-use Rattle.hfs_catalog_edits.proofs.RootLemmas.{root_set}
-use Rattle.hfs_catalog_edits.specs.Rooms.{IsInFile, HasRoom, HasRoomForTwo}
-use Rattle.hfs_catalog_edits.proofs.RoomLemmas.{still_in_file, room_after, room_for_two_after, set_takes_none}
-use Rattle.hfs_catalog_edits.specs.Swaps.{Swaps}
-use Rattle.hfs_catalog_edits.proofs.SwapLemmas.{set_then_came}
-use Rattle.hfs_changes.specs.Changes.{folder_with}
+use Rattle.hfs_record_edits.specs.Bodies.{IfBody}
+use Rattle.hfs_record_edits.specs.Finds.{record_at}
+use Rattle.hfs_record_edits.proofs.FindLemmas.{body_at, own_record, still_none, other_key}
+use Rattle.hfs_record_edits.specs.ItemEdits.{HasValenceSet, ValenceSet, file_record, folder_record, folder_thread, FolderCame}
+use Rattle.hfs_record_edits.proofs.KeepLemmas.{keeps_then, keeps_turned}
+use Rattle.hfs_record_edits.specs.RecordEdits.{RecordCame}
+use Rattle.hfs_record_edits.specs.Roots.{HasRoot}
+use Rattle.hfs_record_edits.proofs.RootLemmas.{root_set}
+use Rattle.hfs_record_edits.specs.Rooms.{IsInFile, HasRoom, HasRoomForTwo}
+use Rattle.hfs_record_edits.proofs.CatalogRoomLemmas.{still_in_file, room_after, room_for_two_after, set_takes_none}
+use Rattle.hfs_record_edits.specs.Swaps.{Swaps}
+use Rattle.hfs_record_edits.proofs.SwapLemmas.{set_then_came}
+use Rattle.hfs_record_edits.specs.Changes.{folder_with}
 use Rattle.hfs_call_patches.specs.declared.new_items.NewPlace.{NewPlace}
 use Rattle.hfs_call_patches.specs.NewItems.{IsOwnFolder, HasPutFile, HasPutFolder}
 

@@ -10,17 +10,17 @@ use Rattle.hfs_catalog.specs.Records.{Record, item_with}
 use Rattle.hfs_catalog.specs.Lookups.{first_key, thread_of}
 use Rattle.hfs_catalog.specs.Sound.{IsSoundCatalog}
 use Rattle.hfs_catalog.specs.Tree.{catalog_of}
-use Rattle.hfs_catalog_edits.specs.Bodies.{turned_record, turned}
-use Rattle.hfs_catalog_edits.specs.Finds.{record_at}
-use Rattle.hfs_catalog_edits.proofs.FindLemmas.{own_record}
-use Rattle.hfs_catalog_edits.specs.ItemEdits.{Rekeyed, with_key}
-use Rattle.hfs_catalog_edits.specs.ItemEdits as edits
-use Rattle.hfs_catalog_edits.specs.Swaps.{Swaps}
+use Rattle.hfs_record_edits.specs.Bodies.{turned_record, turned}
+use Rattle.hfs_record_edits.specs.Finds.{record_at}
+use Rattle.hfs_record_edits.proofs.FindLemmas.{own_record}
+use Rattle.hfs_record_edits.specs.ItemEdits.{Rekeyed, with_key}
+use Rattle.hfs_record_edits.specs.ItemEdits as edits
+use Rattle.hfs_record_edits.specs.Swaps.{Swaps}
 use Rattle.hfs_check.specs.Parts.{Blocks, catalog_nodes, catalog_in}
-use Rattle.hfs_changes.proofs.ChangesLaws.{led_to, IsLedValue, ItemRekeyed}
+use Rattle.hfs_record_edits.proofs.ChangesLaws.{led_to, IsLedValue, ItemRekeyed}
 use Rattle.hfs_call_patches.specs.CatalogPatch.{KeepsNamed}
 use Rattle.hfs_call_patches.specs.declared.rekeying.Rekeying.{Rekeying}
-use Rattle.hfs_queries.proofs.FolderLemmas.{found_with}
+use Rattle.hfs_items.proofs.FolderLemmas.{found_with}
 
 -- the keys that it gives have names that an index may have
 pub rekeyed_named : (item : Rekeying) (old new : Store) → IsTrue (is_item_name item.to.name) → edits.ItemRekeyed item.id item.from item.to old new → KeepsNamed old new

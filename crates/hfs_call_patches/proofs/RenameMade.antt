@@ -5,15 +5,15 @@ use Rattle.hfs_btree.specs.Tree.{Store}
 use Rattle.hfs_catalog.specs.Records.{Catalog}
 use Rattle.hfs_catalog.specs.Lookups.{thread_of}
 use Rattle.hfs_catalog.specs.Tree.{catalog_of}
-use Rattle.hfs_catalog_edits.specs.ItemEdits as edits
-use Rattle.hfs_catalog_edits.specs.Swaps.{Swaps}
+use Rattle.hfs_record_edits.specs.ItemEdits as edits
+use Rattle.hfs_record_edits.specs.Swaps.{Swaps}
 use Rattle.hfs_check.proofs.LawTypes.{CatalogIsSound}
 use Rattle.hfs_check.specs.Parts.{Blocks, mdb_in, catalog_nodes, catalog_in}
 use Rattle.hfs_check.specs.Sound.{AreBlocksSound}
-use Rattle.hfs_changes.proofs.ChangesLaws.{led_to}
-use Rattle.hfs_changes.specs.OnBlocks.{at_time, HasTree}
-use Rattle.hfs_changes.specs.SettingLaws.{with_name}
-use Rattle.hfs_changes.proofs.SettingLaws.{RenameMakes}
+use Rattle.hfs_record_edits.proofs.ChangesLaws.{led_to}
+use Rattle.hfs_record_edits.specs.OnBlocks.{at_time, HasTree}
+use Rattle.hfs_record_edits.specs.SettingLaws.{with_name}
+use Rattle.hfs_record_edits.proofs.SettingLaws.{RenameMakes}
 use Rattle.hfs_call_patches.specs.CatalogPatch.{HasCatalog}
 use Rattle.hfs_call_patches.specs.declared.rekeying.Rekeying.{Rekeying}
 use Rattle.hfs_call_patches.specs.Renaming.{MakesRename}

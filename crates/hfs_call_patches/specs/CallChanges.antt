@@ -4,14 +4,14 @@ use Rattle.std.specs.List.{flat_map}
 use Rattle.hfs_fields.specs.Counts.{with_counts}
 use Rattle.hfs_blocks.specs.Blocks.{run_of}
 use Rattle.hfs_blocks.specs.Layers.{Numbered, changes, over, AreWithin}
-use Rattle.hfs_fork_bytes.specs.Clearing.{patched}
-use Rattle.hfs_fork_bytes.specs.Zeros.{AreAmong}
+use Rattle.hfs_space.specs.Clearing.{patched}
+use Rattle.hfs_space.specs.Zeros.{AreAmong}
 use Rattle.hfs_model.specs.declared.call.Call.{Call}
 use Rattle.hfs_model.specs.Replies.{success}
 use Rattle.hfs_model.specs.Step.{step, is_writing}
 use Rattle.hfs_check.specs.Parts.{Blocks, mdb_in}
 use Rattle.hfs_check.specs.VolumeOf.{volume_in}
-use Rattle.hfs_changes.specs.Laws.{IsSteppedBut}
+use Rattle.hfs_record_edits.specs.Laws.{IsSteppedBut}
 use Rattle.hfs_call_patches.specs.declared.change.Change.{Change}
 use Rattle.hfs_call_patches.specs.declared.change.ForkBlocks.{ForkBlocks}
 

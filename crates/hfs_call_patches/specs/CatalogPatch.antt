@@ -8,13 +8,13 @@ use Rattle.hfs_blocks.specs.Blocks.{run_of}
 use Rattle.hfs_blocks.specs.Layers.{Changes, Numbered, changes, over}
 use Rattle.hfs_btree.specs.Tree.{Store}
 use Rattle.hfs_btree_edits.specs.Files.{beside}
-use Rattle.hfs_scans.specs.Each.{Each}
+use Rattle.hfs_fields.specs.Each.{Each}
 use Rattle.hfs_catalog.specs.Records.{Catalog}
 use Rattle.hfs_catalog.specs.Sound.{IsIndexKeyName}
 use Rattle.hfs_catalog.specs.Tree.{catalog_of}
-use Rattle.hfs_catalog_edits.specs.Keeps.{KeepsCatalog}
+use Rattle.hfs_record_edits.specs.Keeps.{KeepsCatalog}
 use Rattle.hfs_check.specs.Parts.{Blocks, catalog_in, catalog_nodes}
-use Rattle.hfs_changes.specs.OnBlocks.{HasTree}
+use Rattle.hfs_record_edits.specs.OnBlocks.{HasTree}
 use Rattle.hfs_call_patches.specs.Patches.{patched_nodes, Patches}
 use Rattle.hfs_call_patches.specs.Rekeyings.{Rekeys}
 use Rattle.hfs_call_patches.specs.declared.rekeying.Rekeying.{Rekeying}

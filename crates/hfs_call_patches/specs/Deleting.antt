@@ -13,13 +13,13 @@ use Rattle.hfs_model.specs.declared.call.Call.TheVariants as call
 use Rattle.hfs_model.specs.Choices.{to_delete}
 use Rattle.hfs_catalog.specs.Records.{Record, Catalog}
 use Rattle.hfs_catalog.specs.Tree.{catalog_of}
-use Rattle.hfs_catalog_edits.specs.Bodies.{IfBody}
-use Rattle.hfs_catalog_edits.specs.ItemEdits.{ItemWent, HasValenceSet}
+use Rattle.hfs_record_edits.specs.Bodies.{IfBody}
+use Rattle.hfs_record_edits.specs.ItemEdits.{ItemWent, HasValenceSet}
 use Rattle.hfs_check.specs.Parts.{Blocks, mdb_in}
 use Rattle.hfs_check.specs.VolumeOf.{volume_in}
-use Rattle.hfs_changes.specs.Changes.{IsFolderWith}
-use Rattle.hfs_changes.specs.Laws.{MakesStep, IsStepped}
-use Rattle.hfs_changes.specs.RemovalLaws.{without_folder}
+use Rattle.hfs_record_edits.specs.Changes.{IsFolderWith}
+use Rattle.hfs_record_edits.specs.Laws.{MakesStep, IsStepped}
+use Rattle.hfs_record_edits.specs.RemovalLaws.{without_folder}
 use Rattle.hfs_call_patches.specs.CallChanges.{IsChangeOf}
 use Rattle.hfs_call_patches.specs.Settings.{IsFileChoice, IsFolderChoice}
 use Rattle.hfs_call_patches.specs.declared.change.Change.{Change}

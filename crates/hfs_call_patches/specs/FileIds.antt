@@ -11,13 +11,13 @@ use Rattle.hfs_model.specs.FileIds.{to_create_file_id, to_delete_file_id}
 use Rattle.hfs_catalog.specs.Records.{Record, Catalog}
 use Rattle.hfs_catalog.specs.Lookups.{thread_of, first_key}
 use Rattle.hfs_catalog.specs.Tree.{catalog_of}
-use Rattle.hfs_catalog_edits.specs.Bodies.{thread_record}
-use Rattle.hfs_catalog_edits.specs.Finds.{record_at}
-use Rattle.hfs_catalog_edits.specs.Swaps.{Swaps}
+use Rattle.hfs_record_edits.specs.Bodies.{thread_record}
+use Rattle.hfs_record_edits.specs.Finds.{record_at}
+use Rattle.hfs_record_edits.specs.Swaps.{Swaps}
 use Rattle.hfs_check.specs.Parts.{Blocks}
 use Rattle.hfs_check.specs.VolumeOf.{volume_in}
-use Rattle.hfs_changes.specs.FileIdLaws.{with_thread_flag}
-use Rattle.hfs_changes.specs.SettingLaws.{MakesAt}
+use Rattle.hfs_record_edits.specs.FileIdLaws.{with_thread_flag}
+use Rattle.hfs_record_edits.specs.SettingLaws.{MakesAt}
 use Rattle.hfs_call_patches.specs.CatalogPatch.{KeepsNamed}
 use Rattle.hfs_call_patches.specs.Settings.{IsFileChoice}
 use Rattle.hfs_fields.specs.Keys.{cat_cmp}

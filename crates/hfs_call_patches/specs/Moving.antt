@@ -7,10 +7,10 @@ use Rattle.hfs_model.specs.Choices.{to_move}
 use Rattle.hfs_catalog.specs.Records.{Record}
 use Rattle.hfs_check.specs.Parts.{Blocks, mdb_in, catalog_nodes, catalog_in}
 use Rattle.hfs_check.specs.VolumeOf.{volume_in}
-use Rattle.hfs_catalog_edits.specs.Swaps.{one_if}
-use Rattle.hfs_changes.specs.Changes.{IsFolderWith}
-use Rattle.hfs_changes.specs.Laws.{MakesStep}
-use Rattle.hfs_changes.specs.MoveLaws.{under_folder, with_moved}
+use Rattle.hfs_record_edits.specs.Swaps.{one_if}
+use Rattle.hfs_record_edits.specs.Changes.{IsFolderWith}
+use Rattle.hfs_record_edits.specs.Laws.{MakesStep}
+use Rattle.hfs_record_edits.specs.MoveLaws.{under_folder, with_moved}
 use Rattle.hfs_call_patches.specs.declared.valences.FolderPlace.{FolderPlace}
 use Rattle.hfs_call_patches.specs.declared.moving.Moving.{Moving}
 use Rattle.hfs_call_patches.specs.Rekeyings.{CanRekey, IsRekeyChoice}

@@ -6,16 +6,16 @@ use Rattle.hfs_fields.specs.Records.{is_dir, dir_record_of, new_thread, new_dir,
 use Rattle.hfs_fields.specs.RecordForms.{IsThreadRecordValue, IsDirRecordValue, IsFileRecordValue}
 use Rattle.hfs_btree.specs.Pairs.{lookup}
 use Rattle.hfs_btree.specs.Tree.{Store}
-use Rattle.hfs_scans.specs.Members.{In}
+use Rattle.hfs_fields.specs.Members.{In}
 use Rattle.hfs_catalog.specs.Records.{Record, Catalog}
 use Rattle.hfs_catalog.specs.Lookups.{first_key}
 use Rattle.hfs_catalog.specs.Tree.{catalog_of}
-use Rattle.hfs_catalog_edits.specs.Keeps.{KeepsCatalog}
-use Rattle.hfs_catalog_edits.specs.Rooms.{IsInFile}
-use Rattle.hfs_catalog_edits.specs.Roots.{HasRoot}
-use Rattle.hfs_catalog_edits.specs.Swaps.{Swaps}
-use Rattle.hfs_changes.specs.Changes.{thread_record, with_children, folder_with}
-use Rattle.hfs_changes.specs.CreationLaws.{file_record_in, folder_record_in}
+use Rattle.hfs_record_edits.specs.Keeps.{KeepsCatalog}
+use Rattle.hfs_record_edits.specs.Rooms.{IsInFile}
+use Rattle.hfs_record_edits.specs.Roots.{HasRoot}
+use Rattle.hfs_record_edits.specs.Swaps.{Swaps}
+use Rattle.hfs_record_edits.specs.Changes.{thread_record, with_children, folder_with}
+use Rattle.hfs_record_edits.specs.CreationLaws.{file_record_in, folder_record_in}
 use Rattle.hfs_call_patches.specs.declared.new_items.NewPlace.{NewPlace}
 
 -- ---- before

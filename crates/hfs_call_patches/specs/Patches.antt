@@ -12,8 +12,8 @@ use Rattle.hfs_blocks.specs.Layers.{Numbered, changes, over}
 use Rattle.hfs_btree.specs.Tree.{Store}
 use Rattle.hfs_btree_edits.specs.Files.{beside}
 use Rattle.hfs_space.specs.Extents.{extent_blocks}
-use Rattle.hfs_space_edits.specs.Dropped.{HasDroppedOverflow}
-use Rattle.hfs_space_edits.specs.Released.{HasReleased}
+use Rattle.hfs_record_edits.specs.Dropped.{HasDroppedOverflow}
+use Rattle.hfs_record_edits.specs.Released.{HasReleased}
 use Rattle.hfs_check.specs.Parts.{Blocks, mdb_in, extents_nodes, catalog_nodes}
 use Rattle.hfs_call_patches.specs.Deleting.{ItemDropped, MakesFileDeletion, MakesFolderDeletion}
 

@@ -7,11 +7,11 @@ use Rattle.hfs_blocks.specs.declared.run.Run.{Run}
 use Rattle.hfs_btree.specs.Header.{header_in}
 use Rattle.hfs_model.specs.Choices.{to_create}
 use Rattle.hfs_catalog.specs.Records.{Record}
-use Rattle.hfs_catalog_edits.specs.Rooms.{IsInFile}
+use Rattle.hfs_record_edits.specs.Rooms.{IsInFile}
 use Rattle.hfs_check.specs.Parts.{Blocks, mdb_in, catalog_nodes, catalog_in}
 use Rattle.hfs_check.specs.Sound.{AreBlocksSound}
 use Rattle.hfs_check.specs.VolumeOf.{volume_in}
-use Rattle.hfs_changes.specs.Changes.{IsFolderWith}
+use Rattle.hfs_record_edits.specs.Changes.{IsFolderWith}
 use Rattle.hfs_call_patches.specs.TreeFiles.{IsCatalogFile}
 use Rattle.hfs_call_patches.specs.declared.new_items.NewPlace.{NewPlace}
 

@@ -4,20 +4,20 @@ use Rattle.std.specs.Ordering.{is_eq}
 use Rattle.hfs_fields.specs.Keys.{cat_cmp}
 use Rattle.hfs_fields.specs.Names.{is_item_name}
 use Rattle.hfs_fields.specs.Records.{is_item, item_id}
-use Rattle.hfs_scans.specs.Each.{Each}
+use Rattle.hfs_fields.specs.Each.{Each}
 use Rattle.hfs_btree.specs.Pairs.{lookup}
 use Rattle.hfs_btree.specs.Tree.{Store}
 use Rattle.hfs_model.specs.Volume.{Entry}
 use Rattle.hfs_catalog.specs.Records.{Record}
 use Rattle.hfs_catalog.specs.Sound.{IsRecord, AreNamesSound}
 use Rattle.hfs_catalog.specs.Tree.{IsCatalogTree, catalog_of}
-use Rattle.hfs_catalog_edits.specs.Bodies.{IfBody}
-use Rattle.hfs_catalog_edits.specs.Rooms.{IsInFile, HasRoom}
-use Rattle.hfs_catalog_edits.specs.Roots.{HasRoot}
+use Rattle.hfs_record_edits.specs.Bodies.{IfBody}
+use Rattle.hfs_record_edits.specs.Rooms.{IsInFile, HasRoom}
+use Rattle.hfs_record_edits.specs.Roots.{HasRoot}
 use Rattle.hfs_check.specs.Parts.{Blocks}
-use Rattle.hfs_changes.specs.SettingLaws.{IsChoice}
+use Rattle.hfs_record_edits.specs.SettingLaws.{IsChoice}
 use Rattle.hfs_call_patches.specs.declared.rekeying.Rekeying.{Rekeying}
-use Rattle.hfs_catalog_edits.specs.ItemEdits.{ItemRekeyed}
+use Rattle.hfs_record_edits.specs.ItemEdits.{ItemRekeyed}
 
 -- in these nodes of a sound catalog the item is there, and may be put under its other key: where the keys are not equal in order, that
 -- key is free, and there are nodes for one more record

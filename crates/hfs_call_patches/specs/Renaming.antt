@@ -4,7 +4,7 @@ use Rattle.hfs_model.specs.declared.call.Call.TheVariants as call
 use Rattle.hfs_model.specs.Choices.{to_rename}
 use Rattle.hfs_check.specs.Parts.{Blocks}
 use Rattle.hfs_check.specs.VolumeOf.{volume_in}
-use Rattle.hfs_changes.specs.SettingLaws.{MakesAt, with_name}
+use Rattle.hfs_record_edits.specs.SettingLaws.{MakesAt, with_name}
 use Rattle.hfs_call_patches.specs.declared.rekeying.Rekeying.{Rekeying}
 use Rattle.hfs_call_patches.specs.Rekeyings.{IsRekeyChoice}
 

@@ -13,12 +13,12 @@ use Rattle.hfs_btree.specs.Pairs.{lookup}
 use Rattle.hfs_btree_edits.specs.Edits.{with_replaced}
 use Rattle.hfs_catalog.specs.declared.item.ItemRecord.{ItemRecord}
 use Rattle.hfs_catalog.specs.Records.{Record, Catalog}
-use Rattle.hfs_catalog_edits.specs.Bodies.{item_bytes, IsItemValue, IfBody, IsOfKind}
+use Rattle.hfs_record_edits.specs.Bodies.{item_bytes, IsItemValue, IfBody, IsOfKind}
 use Rattle.hfs_model.specs.Volume.{Entry, Volume}
 use Rattle.hfs_model.specs.declared.call.Call.{Call}
 use Rattle.hfs_check.specs.Parts.{Blocks, catalog_in}
-use Rattle.hfs_changes.specs.OnBlocks.{HasTree}
-use Rattle.hfs_changes.specs.SettingLaws.{IsChoice, MakesAt, lock_call}
+use Rattle.hfs_record_edits.specs.OnBlocks.{HasTree}
+use Rattle.hfs_record_edits.specs.SettingLaws.{IsChoice, MakesAt, lock_call}
 use Rattle.hfs_model.specs.declared.call.Call.TheVariants as call
 use Rattle.hfs_model.specs.Choices.{file_to_change, to_set_f_info, to_set_cat_info}
 use Rattle.hfs_check.specs.VolumeOf.{volume_in}

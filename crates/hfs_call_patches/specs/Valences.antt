@@ -5,10 +5,10 @@ use Rattle.hfs_fields.specs.RecordForms.{IsDirRecordValue}
 use Rattle.hfs_btree.specs.Tree.{Store}
 use Rattle.hfs_catalog.specs.Records.{Record, Catalog}
 use Rattle.hfs_catalog.specs.Tree.{catalog_of}
-use Rattle.hfs_catalog_edits.specs.Keeps.{KeepsCatalog}
-use Rattle.hfs_catalog_edits.specs.Swaps.{Swaps}
-use Rattle.hfs_changes.specs.Changes.{with_children, folder_with}
-use Rattle.hfs_changes.specs.PlaceLaws.{BothStand}
+use Rattle.hfs_record_edits.specs.Keeps.{KeepsCatalog}
+use Rattle.hfs_record_edits.specs.Swaps.{Swaps}
+use Rattle.hfs_record_edits.specs.Changes.{with_children, folder_with}
+use Rattle.hfs_record_edits.specs.PlaceLaws.{BothStand}
 use Rattle.hfs_call_patches.specs.declared.valences.FolderPlace.{FolderPlace}
 
 -- the records of two folders are in these places

@@ -2,8 +2,8 @@
 
 use hfs_blocks::{Patch, Run};
 use hfs_fields::Mdb;
-use hfs_fork_bytes::ZeroRuns;
 use hfs_model::Value;
+use hfs_space::ZeroRuns;
 
 /// What a call that writes a fork writes into it.
 #[derive(Drop)]

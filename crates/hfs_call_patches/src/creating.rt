@@ -3,7 +3,7 @@
 ghost use Rattle.hfs_model.specs.declared.call.Call.TheVariants as call;
 ghost use Rattle.hfs_catalog.specs.Tree.{cat_keys};
 ghost use Rattle.hfs_btree_edits.specs.Entries.{IsPlaceOf};
-ghost use Rattle.hfs_catalog_edits.specs.Rooms.{HasRoom, HasRoomForTwo};
+ghost use Rattle.hfs_record_edits.specs.Rooms.{HasRoom, HasRoomForTwo};
 ghost use Rattle.hfs_check.specs.Parts.{catalog_nodes};
 ghost use Rattle.hfs_call_patches.specs.CallChanges.{IsChangeOf, Makes};
 ghost use Rattle.hfs_call_patches.specs.ReadyPlaces.{IsReadyIn};

@@ -5,7 +5,7 @@ ghost use Rattle.std.specs.Prelude.{◌≡◌, ◌+◌, ◌<◌, ◌≤◌, IfOk
 ghost use Rattle.hfs_blocks.specs.Layers.{changes, AreWithin};
 ghost use Rattle.hfs_btree_edits.specs.Files.{beside};
 ghost use Rattle.hfs_space.specs.Extents.{AreExtentsWithin, block_total};
-ghost use Rattle.hfs_changes.specs.Deletion.{without_one_file};
+ghost use Rattle.hfs_record_edits.specs.Deletion.{without_one_file};
 ghost use Rattle.hfs_check.specs.Parts.{mdb_in, catalog_nodes, catalog_in};
 ghost use Rattle.hfs_check.specs.Sound.{AreBlocksSound};
 ghost use Rattle.hfs_call_patches.specs.Deleting.{StaysFolder, HasIdUnder, IsItemUnder, IsParent, IsFileToDelete};
@@ -19,8 +19,8 @@ use hfs_blocks::{Blocks, Patch, Run};
 use hfs_btree::RunNodes;
 use hfs_btree_edits::PatchNodes;
 use hfs_fields::{CatKey, Extent, FileRecord, Mdb};
+use hfs_record_edits::{drop_overflow, file_extents, release_extents};
 use hfs_space::Bitmap;
-use hfs_space_edits::{drop_overflow, file_extents, release_extents};
 use std::alloc::{AllocError, Global};
 
 /// How many allocation blocks the extents have together.

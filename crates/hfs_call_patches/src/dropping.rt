@@ -1,15 +1,15 @@
 //! Removing an item from its folder, in the nodes of a catalog.
 
 ghost use Rattle.std.specs.Prelude.{◌≡◌, OnOk};
-ghost use Rattle.hfs_scans.specs.Each.{Each};
+ghost use Rattle.hfs_fields.specs.Each.{Each};
 ghost use Rattle.hfs_catalog.specs.Sound.{IsRecord};
 ghost use Rattle.hfs_catalog.specs.Tree.{IsCatalogTree, catalog_of};
 ghost use Rattle.hfs_call_patches.specs.Deleting.{StaysFolder, ItemDropped, HasIdUnder, IsItemUnder};
 ghost use Rattle.hfs_btree_edits.specs.Edits.{Edits};
 
 use hfs_btree_edits::NodesMut;
-use hfs_catalog_edits::{drop_item, set_valence};
 use hfs_fields::CatKey;
+use hfs_record_edits::{drop_item, set_valence};
 use std::alloc::{AllocError, Global};
 
 /// Removes the item under a key, which has this ID, with its thread if it has one; then its folder, under the other key, has this

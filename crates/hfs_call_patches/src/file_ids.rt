@@ -3,10 +3,10 @@
 ghost use Rattle.std.specs.Prelude.{◌≡◌, IfOk};
 ghost use Rattle.hfs_model.specs.FileIds.{to_create_file_id};
 ghost use Rattle.hfs_blocks.specs.Layers.{changes, AreWithin};
-ghost use Rattle.hfs_catalog_edits.specs.Rooms.{IsInFile, HasRoom};
+ghost use Rattle.hfs_record_edits.specs.Rooms.{IsInFile, HasRoom};
 ghost use Rattle.hfs_check.specs.Parts.{mdb_in, catalog_in, catalog_nodes};
 ghost use Rattle.hfs_check.specs.Sound.{AreBlocksSound};
-ghost use Rattle.hfs_changes.specs.OnBlocks.{at_time};
+ghost use Rattle.hfs_record_edits.specs.OnBlocks.{at_time};
 ghost use Rattle.hfs_call_patches.specs.FileIds.{IsFileToLoseId, IsThreadless};
 ghost use Rattle.hfs_call_patches.specs.TreeFiles.{IsCatalogFile};
 ghost use Rattle.hfs_call_patches.specs.Settings.{IsFileChosenBy};

@@ -2,19 +2,19 @@
 
 ghost use Rattle.std.specs.Prelude.{◌≡◌, ◌≤◌, true, IsTrue, OnOk};
 ghost use Rattle.hfs_fields.specs.Names.{is_item_name};
-ghost use Rattle.hfs_scans.specs.Each.{Each};
+ghost use Rattle.hfs_fields.specs.Each.{Each};
 ghost use Rattle.hfs_catalog.specs.Sound.{IsRecord};
 ghost use Rattle.hfs_catalog.specs.Tree.{IsCatalogTree, catalog_of};
-ghost use Rattle.hfs_catalog_edits.specs.Rooms.{IsInFile, HasRoom};
-ghost use Rattle.hfs_catalog_edits.specs.Roots.{HasRoot};
+ghost use Rattle.hfs_record_edits.specs.Rooms.{IsInFile, HasRoom};
+ghost use Rattle.hfs_record_edits.specs.Roots.{HasRoot};
 ghost use Rattle.hfs_call_patches.specs.FileIds.{FileIdCame, FileIdWent, LacksThread};
 ghost use Rattle.hfs_call_patches.specs.Settings.{IsFileUnder};
 ghost use Rattle.hfs_btree_edits.specs.Edits.{Edits};
 
 use hfs_btree_edits::NodesMut;
 use hfs_catalog::ItemRecord;
-use hfs_catalog_edits::{add_thread, drop_thread, set_record};
 use hfs_fields::{CatKey, FileRecord, ThreadKind};
+use hfs_record_edits::{add_thread, drop_thread, set_record};
 use std::alloc::{AllocError, Global};
 
 /// Adds the thread of a file that has none, and sets the bit. Fails only when out of memory.

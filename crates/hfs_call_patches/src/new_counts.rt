@@ -1,8 +1,8 @@
 //! The counts of a volume with one more item.
 
 ghost use Rattle.std.specs.Prelude.{◌≡◌, ◌≢◌, ◌+◌, ◌==◌, ◌<◌, ◌^◌};
-ghost use Rattle.hfs_catalog_edits.specs.Swaps.{one_if};
-ghost use Rattle.hfs_changes.specs.CreationLaws.{with_file, with_folder};
+ghost use Rattle.hfs_record_edits.specs.Swaps.{one_if};
+ghost use Rattle.hfs_record_edits.specs.CreationLaws.{with_file, with_folder};
 
 use hfs_fields::Mdb;
 

@@ -2,14 +2,14 @@
 
 ghost use Rattle.std.specs.Prelude.{◌≡◌, ◌+◌, ◌<◌, ◌^◌, OnOk};
 ghost use Rattle.hfs_catalog.specs.Tree.{IsCatalogTree, cat_keys};
-ghost use Rattle.hfs_catalog_edits.specs.Rooms.{HasRoom, HasRoomForTwo};
+ghost use Rattle.hfs_record_edits.specs.Rooms.{HasRoom, HasRoomForTwo};
 ghost use Rattle.hfs_call_patches.specs.NewItems.{TakesItem, TakesFolder, PutsFile, PutsFolder};
 ghost use Rattle.hfs_btree_edits.specs.Edits.{Edits};
 ghost use Rattle.hfs_btree_edits.specs.Entries.{IsPlaceOf};
 
 use hfs_btree_edits::{NodesMut, RecordPlace};
-use hfs_catalog_edits::{add_dir, add_file, set_valence_at};
 use hfs_fields::{CatKey, DirRecord, FileRecord, Name};
+use hfs_record_edits::{add_dir, add_file, set_valence_at};
 use std::alloc::{AllocError, Global};
 
 /// A new item's name, and its folder's key with the number of its children.

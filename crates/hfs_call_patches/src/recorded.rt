@@ -15,8 +15,8 @@ use crate::catalog_patch::{close_catalog, open_catalog};
 use hfs_blocks::{Blocks, Patch, Run};
 use hfs_btree_edits::RecordPlace;
 use hfs_catalog::ItemRecord;
-use hfs_catalog_edits::set_record_at;
 use hfs_fields::{CatKey, Mdb};
+use hfs_record_edits::set_record_at;
 use std::alloc::{AllocError, Global};
 
 /// The patch that puts an item's record in place of the one under this key, which is of its kind and is at this place, and these

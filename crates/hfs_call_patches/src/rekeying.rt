@@ -11,8 +11,8 @@ ghost use Rattle.hfs_call_patches.specs.CatalogPatch.{LiesOver, RekeysOver};
 use crate::catalog_patch::open_catalog;
 use hfs_blocks::{Blocks, Run};
 use hfs_btree_edits::PatchNodes;
-use hfs_catalog_edits::rekey;
 use hfs_fields::CatKey;
+use hfs_record_edits::rekey;
 use std::alloc::{AllocError, Global};
 
 /// An item's ID and key, and the key that it is to get.

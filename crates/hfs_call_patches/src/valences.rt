@@ -6,8 +6,8 @@ ghost use Rattle.hfs_call_patches.specs.Valences.{StandAt, ValencesSet};
 ghost use Rattle.hfs_btree_edits.specs.Edits.{Edits};
 
 use hfs_btree_edits::NodesMut;
-use hfs_catalog_edits::set_valence;
 use hfs_fields::CatKey;
+use hfs_record_edits::set_valence;
 use std::alloc::{AllocError, Global};
 
 /// A folder's key, and the number of its children.

@@ -13,9 +13,9 @@ use Rattle.hfs_fields.specs.declared.thread_record.ThreadRecord.{ThreadRecord}
 use Rattle.hfs_fields.specs.Order.{name_cmp, same_name}
 use Rattle.hfs_fields.specs.Keys.{cat_cmp, cat_cmp_total}
 use Rattle.hfs_fields.specs.Records.{type_byte, is_dir, is_file, is_item, is_thread, is_dir_thread, is_file_thread, begins_thread, thread_record_of}
-use Rattle.hfs_scans.specs.Each.{Each}
+use Rattle.hfs_fields.specs.Each.{Each}
 use Rattle.hfs_btree.specs.Pairs.{Rises, pairs_from}
-use Rattle.hfs_scans.proofs.ElementLemmas.{each-mono}
+use Rattle.hfs_fields.proofs.ElementLemmas.{each-mono}
 use Rattle.hfs_btree.specs.Sound.{IsDistinct}
 use Rattle.hfs_btree.specs.Lookups.{first_pair}
 use Rattle.hfs_btree.proofs.LookupLemmas.{le-lt}
@@ -23,8 +23,8 @@ use Rattle.hfs_catalog.specs.declared.item.CatalogItem.{CatalogItem}
 use Rattle.hfs_catalog.specs.Records.{Record, Catalog, item_with, item_ids, is_child_of, is_thread_of}
 use Rattle.hfs_catalog.specs.Sound.{IsRecord, AreNamesSound, ArePlacesSound, HasItem}
 use Rattle.hfs_catalog.specs.Lookups.{catalog_item, is_child_named, child_named, thread_of, named_at, thread_at}
-use Rattle.hfs_scans.specs.Members.{In}
-use Rattle.hfs_scans.proofs.MemberLemmas.{each_in, found_in}
+use Rattle.hfs_fields.specs.Members.{In}
+use Rattle.hfs_fields.proofs.MemberLemmas.{each_in, found_in}
 use Rattle.hfs_catalog.proofs.Held.{with_id}
 use Rattle.hfs_catalog.proofs.Lawful.{one_record, same_keys}
 use Rattle.hfs_model.proofs.InOrder.{none_some}

@@ -6,8 +6,8 @@ use Rattle.std.specs.Option.{option_map}
 use Rattle.std.specs.FinMap as fin
 use Rattle.std.proofs.lemmas.Bool.{eqb-true, eq-eqb, ne_eqb, true≢false, and_parts}
 use Rattle.hfs_fields.specs.Records.{is_dir, is_item, item_id, dir_record_of, file_record_of}
-use Rattle.hfs_scans.specs.Members.{In}
-use Rattle.hfs_scans.proofs.MemberLemmas.{found_in}
+use Rattle.hfs_fields.specs.Members.{In}
+use Rattle.hfs_fields.proofs.MemberLemmas.{found_in}
 use Rattle.hfs_model.specs.declared.item.Item.{Item}
 use Rattle.hfs_model.specs.Children.{is_folder_kind}
 use Rattle.hfs_model.specs.Lawful.{Has}

@@ -13,7 +13,7 @@ use Rattle.std.proofs.lemmas.List.Sums.{sum_by-cons}
 use Rattle.hfs_fields.specs.Order.{name_cmp, same_name}
 use Rattle.hfs_fields.specs.Keys.{cat_cmp, cat_cmp_total}
 use Rattle.hfs_fields.specs.Records.{is_dir, is_item, item_id}
-use Rattle.hfs_scans.specs.Each.{Each}
+use Rattle.hfs_fields.specs.Each.{Each}
 use Rattle.hfs_btree.specs.Pairs.{Rises}
 use Rattle.hfs_btree.specs.Sound.{IsDistinct, IsOther}
 use Rattle.hfs_model.specs.declared.item.Item.{Item}
@@ -25,8 +25,8 @@ use Rattle.hfs_catalog.specs.Records.{Record, Catalog, item_with, items_of, item
 use Rattle.hfs_catalog.specs.Parents.{parent_in}
 use Rattle.hfs_catalog.specs.Sound.{IsRoot, IsGiven, HasRightId, HasPlace, HasValence, IsSoundCatalog}
 use Rattle.hfs_catalog.specs.Items.{Contents, item_of, entry_of, items_in}
-use Rattle.hfs_scans.specs.Members.{In}
-use Rattle.hfs_scans.proofs.MemberLemmas.{each_in}
+use Rattle.hfs_fields.specs.Members.{In}
+use Rattle.hfs_fields.proofs.MemberLemmas.{each_in}
 use Rattle.hfs_catalog.proofs.Held.{with_id, item_parent, item_name, item_folder, items_are_records, has_item, has_record, HasRecord}
 use Rattle.hfs_model.proofs.Counts.{one, cons}
 

@@ -5,6 +5,21 @@ pub mod Found
 pub mod Steps
 pub mod Queries
 pub mod DistinctLemmas
-pub mod LawsProved
+pub mod CatalogLawsProved
 pub mod ItemsLaws
-pub mod LawTypes
+pub mod CatalogLawTypes
+pub mod Decided
+pub mod Agreed
+pub mod Reach
+pub mod Ids
+pub mod Places
+pub mod Indexed
+pub mod IdSteps
+pub mod ValenceSteps
+pub mod OrderSteps
+pub mod ParentSteps
+pub mod PlaceSteps
+pub mod Ordered
+mod IndexeLemmas
+pub mod CatalogChecksLawsProved
+pub mod CatalogChecksLawTypes

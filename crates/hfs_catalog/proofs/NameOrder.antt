@@ -11,9 +11,9 @@ use Rattle.std.proofs.lemmas.Bool.{eqb-true, eq-eqb, true≢false, and_parts, an
 use Rattle.hfs_fields.specs.Order.{name_cmp}
 use Rattle.hfs_fields.specs.Keys.{cat_cmp}
 use Rattle.hfs_fields.specs.Records.{is_item, item_id}
-use Rattle.hfs_scans.specs.Each.{Each}
+use Rattle.hfs_fields.specs.Each.{Each}
 use Rattle.hfs_btree.specs.Pairs.{Rises}
-use Rattle.hfs_scans.proofs.ElementLemmas.{each-at}
+use Rattle.hfs_fields.proofs.ElementLemmas.{each-at}
 use Rattle.hfs_model.specs.declared.item.Item.{Item}
 use Rattle.hfs_model.specs.Volume.{Volume, Entry}
 use Rattle.hfs_model.specs.Children.{children}
@@ -23,10 +23,10 @@ use Rattle.hfs_catalog.specs.Records.{Record, Catalog, has_id, item_with, is_chi
 use Rattle.hfs_catalog.specs.Sound.{IsSoundCatalog}
 use Rattle.hfs_catalog.specs.Items.{Contents, item_of, entry_of, items_in}
 use Rattle.hfs_catalog.proofs.ItemsLaws.{children_in}
-use Rattle.hfs_scans.proofs.ScanLemmas.{Later}
+use Rattle.hfs_fields.proofs.ScanLemmas.{Later}
 use Rattle.hfs_catalog.proofs.DistinctLemmas.{Differs, later_from_distinct}
-use Rattle.hfs_scans.specs.Members.{In}
-use Rattle.hfs_scans.proofs.MemberLemmas.{each_in}
+use Rattle.hfs_fields.specs.Members.{In}
+use Rattle.hfs_fields.proofs.MemberLemmas.{each_in}
 use Rattle.hfs_catalog.proofs.Held.{item_parent, item_name, has_item, has_record}
 use Rattle.hfs_catalog.proofs.Lawful.{sound_is_lawful}
 

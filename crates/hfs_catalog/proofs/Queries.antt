@@ -18,7 +18,7 @@ use Rattle.hfs_catalog.specs.Sound.{IsSoundCatalog}
 use Rattle.hfs_catalog.specs.Items.{Contents, item_of, entry_of, items_in}
 use Rattle.hfs_catalog.specs.Lookups.{is_child_named, child_named}
 use Rattle.hfs_catalog.proofs.DistinctLemmas.{later_from_distinct}
-use Rattle.hfs_scans.proofs.MemberLemmas.{found_in}
+use Rattle.hfs_fields.proofs.MemberLemmas.{found_in}
 use Rattle.hfs_catalog.proofs.Held.{with_id, item_parent, item_name, items_are_records, has_item, has_record}
 use Rattle.hfs_catalog.proofs.NameOrder.{found_by_id, records_are_children}
 use Rattle.hfs_catalog.proofs.Found.{only}

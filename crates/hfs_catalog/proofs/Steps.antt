@@ -10,7 +10,7 @@ use Rattle.hfs_fields.specs.declared.key.CatKey.{CatKey}
 use Rattle.hfs_fields.specs.Order.{name_cmp}
 use Rattle.hfs_fields.specs.Keys.{cat_cmp}
 use Rattle.hfs_fields.specs.Records.{is_item}
-use Rattle.hfs_scans.specs.Each.{Each}
+use Rattle.hfs_fields.specs.Each.{Each}
 use Rattle.hfs_btree.specs.Pairs.{Rises, pairs_from}
 use Rattle.hfs_btree.specs.Lookups.{first_pair}
 use Rattle.hfs_catalog.specs.declared.item.CatalogItem.{CatalogItem}

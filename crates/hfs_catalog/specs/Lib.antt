@@ -4,3 +4,6 @@ pub mod Sound
 pub mod Items
 pub mod Tree
 pub mod Lookups
+pub mod Faults
+pub mod Indexes
+pub mod Laws

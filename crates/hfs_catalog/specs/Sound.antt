@@ -6,7 +6,7 @@ use Rattle.hfs_fields.specs.Names.{is_item_name}
 use Rattle.hfs_fields.specs.Order.{same_name}
 use Rattle.hfs_fields.specs.Keys.{cat_cmp}
 use Rattle.hfs_fields.specs.Records.{is_dir, is_file, is_item, is_thread, is_dir_thread, begins_thread, item_id, dir_record_of, thread_record_of}
-use Rattle.hfs_scans.specs.Each.{Each}
+use Rattle.hfs_fields.specs.Each.{Each}
 use Rattle.hfs_btree.specs.Pairs.{Rises}
 use Rattle.hfs_btree.specs.Sound.{IsDistinct}
 use Rattle.hfs_catalog.specs.Records.{Record, Catalog, item_ids, item_with, is_folder_id, has_thread, valence_of}

@@ -2,7 +2,7 @@
 ghost use Rattle.std.specs.Prelude.{◌≡◌, ◌==◌, IfOk, OnOk, length, option_map, slice_get};
 ghost use Rattle.std.specs.Option.{SomeIff, is_some};
 ghost use Rattle.hfs_fields.specs.Records.{thread_record_of};
-ghost use Rattle.hfs_scans.specs.Each.{Each};
+ghost use Rattle.hfs_fields.specs.Each.{Each};
 ghost use Rattle.hfs_btree.specs.Lookups.{first_pair};
 ghost use Rattle.hfs_btree.specs.Sound.{IsDistinct};
 ghost use Rattle.hfs_catalog.specs.Records.{item_with, item_ids};

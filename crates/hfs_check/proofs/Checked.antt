@@ -7,7 +7,7 @@ use Rattle.hfs_fields.specs.declared.mdb.Mdb.{Mdb}
 use Rattle.hfs_fields.specs.declared.extent.Extent.{Extent}
 use Rattle.hfs_fields.specs.declared.key.ExtKey.{ExtKey}
 use Rattle.hfs_btree.specs.declared.key.Key.{Ghosts}
-use Rattle.hfs_scans.specs.Each.{Each}
+use Rattle.hfs_fields.specs.Each.{Each}
 use Rattle.hfs_btree.specs.Tree.{Store, records_in, key_at}
 use Rattle.hfs_btree.specs.Header.{tree_turn}
 use Rattle.hfs_btree_checks.specs.Shape.{has_counts, shape_fault}
@@ -15,14 +15,14 @@ use Rattle.hfs_btree_checks.proofs.ShapeLawLemmas.{shape-law}
 use Rattle.hfs_btree.specs.Sound.{IsShaped}
 use Rattle.hfs_btree_checks.specs.Order.{has_keys, key_fault, index_keys, index_order_fault}
 use Rattle.hfs_btree_checks.proofs.OrderLawLemmas.{first_node-law, index-order-law, order-law}
-use Rattle.hfs_scans.proofs.ScanLemmas.{all_decides}
+use Rattle.hfs_fields.proofs.ScanLemmas.{all_decides}
 use Rattle.hfs_space.specs.Bitmap.{bitmap_len}
 use Rattle.hfs_space.specs.Forks.{blocks_each}
 use Rattle.hfs_space.specs.TreeKeys.{ext_keys}
 use Rattle.hfs_space.proofs.LawTypes.{NoTreeFileFault}
 use Rattle.hfs_catalog.specs.Records.{Catalog}
 use Rattle.hfs_catalog.specs.Tree.{cat_keys}
-use Rattle.hfs_catalog_checks.proofs.LawTypes.{NoNameFault, NoPlaceFault}
+use Rattle.hfs_catalog.proofs.CatalogChecksLawTypes.{NoNameFault, NoPlaceFault}
 use Rattle.hfs_check.specs.declared.mount_fault.MountFault.TheVariants.{TooLarge, Short, NoMacDisk, BadMdb}
 use Rattle.hfs_check.specs.Sound.{IsImageLength, IsMdbSound, IsForkKey, EachKey, IsExtentsSound, IsCatalogFileSound, AreCatalogNamesSound, AreCatalogPlacesSound}
 use Rattle.hfs_check.specs.Faults.{length_fault, mdb_fault, counted_shape_fault, is_fork_key, extents_fault, catalog_fault, catalog_name_fault, catalog_place_fault}

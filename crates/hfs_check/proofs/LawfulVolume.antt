@@ -5,7 +5,7 @@ use Rattle.hfs_model.specs.Lawful.{IsLawful}
 use Rattle.hfs_space.specs.TreeKeys.{IsExtentsTree}
 use Rattle.hfs_catalog.specs.Tree.{IsCatalogTree}
 use Rattle.hfs_catalog.specs.Sound.{IsSoundCatalog}
-use Rattle.hfs_catalog.proofs.LawTypes.{SoundIsLawful}
+use Rattle.hfs_catalog.proofs.CatalogLawTypes.{SoundIsLawful}
 use Rattle.hfs_check.specs.Parts.{Blocks, mdb_in, extents_nodes, catalog_nodes, catalog_in}
 use Rattle.hfs_check.specs.Sound.{AreBlocksSound, IsSound}
 use Rattle.hfs_check.specs.VolumeOf.{contents_in, volume_in, volume_of}

@@ -10,10 +10,10 @@ use Rattle.hfs_check.proofs.Checked.{no_length_fault as no_length_fault-proved, 
 use Rattle.hfs_check.specs.Laws.{NoImageFault, SoundImagesAreLawful}
 use Rattle.hfs_check.proofs.LawTypes.{NoLengthFault, NoMdbFault, NoExtentsFault, NoCatalogFault, NoCatalogNameFault, NoCatalogPlaceFault, NoBlocksFault, TreesAreSound, CatalogIsSound, AgreesWithItself, AgreesOn}
 use Rattle.hfs_space.proofs.LawsProved.{no_tree_file_fault, no_fork_fault, no_space_fault, owned_are_within}
-use Rattle.hfs_catalog_checks.proofs.LawsProved.{no_name_fault, no_place_fault, no_record_fault, no_id_fault, no_valence_fault, no_count_fault}
+use Rattle.hfs_catalog.proofs.CatalogChecksLawsProved.{no_name_fault, no_place_fault, no_record_fault, no_id_fault, no_valence_fault, no_count_fault}
 use Rattle.hfs_check.proofs.Whole.{no_blocks_fault as no_blocks_fault-proved, no_image_fault as no_image_fault-proved}
 use Rattle.hfs_check.proofs.LawfulVolume.{sound_trees, sound_catalog, lawful_volume}
-use Rattle.hfs_catalog.proofs.LawsProved.{sound_is_lawful}
+use Rattle.hfs_catalog.proofs.CatalogLawsProved.{sound_is_lawful}
 use Rattle.hfs_check.proofs.Stays.{agrees_itself, agrees_on as agrees_on-proved}
 
 -- The check of an image's length finds no fault exactly where it has 1,536 to 2,147,483,648 bytes.

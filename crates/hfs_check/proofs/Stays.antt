@@ -8,8 +8,8 @@ use Rattle.hfs_fields.specs.Numbers.{number_at}
 use Rattle.hfs_fields.proofs.PutLemmas.{number_at-same}
 use Rattle.hfs_fields.specs.Counts.{IsBesideCounts, SameBesideCounts}
 use Rattle.hfs_btree.specs.declared.key.Key.{Ghosts}
-use Rattle.hfs_scans.specs.Each.{Each}
-use Rattle.hfs_scans.proofs.ElementLemmas.{each-append, each-left, each-right}
+use Rattle.hfs_fields.specs.Each.{Each}
+use Rattle.hfs_fields.proofs.ElementLemmas.{each-append, each-left, each-right}
 use Rattle.hfs_btree.specs.Tree.{Store}
 use Rattle.hfs_blocks.specs.declared.run.Run.{Run}
 use Rattle.hfs_blocks.specs.Blocks.{run_of, block_at}

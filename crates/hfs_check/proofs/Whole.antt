@@ -1,12 +1,12 @@
 -- An image is sound exactly where no check fails.
 use Rattle.std.proofs.Common.{ℕ, List, length}
-use Rattle.hfs_scans.specs.Each.{Each}
+use Rattle.hfs_fields.specs.Each.{Each}
 use Rattle.hfs_blocks.specs.Blocks.{block_at, block_count}
 use Rattle.hfs_space.specs.Sound.{AreForksSound, IsSpaceSound}
 use Rattle.hfs_space.specs.Faults.{space_fault}
 use Rattle.hfs_space.proofs.LawTypes.{NoForkFault, NoSpaceFault, OwnedAreWithin}
 use Rattle.hfs_catalog.specs.Sound.{EachFolder, IsRecord, AreIdsSound, HasValence, AreCountsSound}
-use Rattle.hfs_catalog_checks.proofs.LawTypes.{NoRecordFault, NoIdFault, NoValenceFault, NoCountFault}
+use Rattle.hfs_catalog.proofs.CatalogChecksLawTypes.{NoRecordFault, NoIdFault, NoValenceFault, NoCountFault}
 use Rattle.hfs_check.specs.Parts.{Blocks, mdb_in, extents_nodes, overflow_in, catalog_extents, catalog_nodes, catalog_in, owned_in}
 use Rattle.hfs_check.specs.Sound.{IsExtentsSound, IsCatalogFileSound, AreCatalogNamesSound, AreCatalogPlacesSound, AreBlocksSound, IsSound}
 use Rattle.hfs_check.specs.Faults.{extents_counts, catalog_counts, trees_fault, records_fault, numbers_fault, blocks_fault, fault_of}

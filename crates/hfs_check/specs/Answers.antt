@@ -14,7 +14,7 @@ use Rattle.hfs_space.specs.Faults.{fork_fault, space_fault}
 use Rattle.hfs_space.specs.Owners.{owned_blocks}
 use Rattle.hfs_catalog.specs.Records.{Catalog}
 use Rattle.hfs_catalog.specs.Tree.{catalog_of}
-use Rattle.hfs_catalog_checks.specs.Faults.{record_fault, id_fault, valence_fault, count_fault}
+use Rattle.hfs_catalog.specs.Faults.{record_fault, id_fault, valence_fault, count_fault}
 use Rattle.hfs_check.specs.Parts.{Blocks, extents_nodes, catalog_extents, catalog_nodes, owned_in}
 use Rattle.hfs_check.specs.Faults.{◌or_fault◌, check_fault, extents_fault, extents_counts, catalog_fault, catalog_counts, trees_fault, catalog_name_fault, catalog_place_fault, is_fork_key, records_fault, numbers_fault, blocks_fault}
 use Rattle.hfs_check.specs.declared.mount_fault.MountFault.{MountFault}

@@ -15,7 +15,7 @@ use Rattle.hfs_space.specs.TreeKeys.{ext_keys}
 use Rattle.hfs_space.specs.Faults.{is_tree_file, fork_fault, space_fault}
 use Rattle.hfs_catalog.specs.Records.{Catalog}
 use Rattle.hfs_catalog.specs.Tree.{cat_keys}
-use Rattle.hfs_catalog_checks.specs.Faults.{record_fault, id_fault, name_fault, place_fault, valence_fault, count_fault}
+use Rattle.hfs_catalog.specs.Faults.{record_fault, id_fault, name_fault, place_fault, valence_fault, count_fault}
 use Rattle.hfs_check.specs.declared.mount_fault.MountFault.{MountFault}
 use Rattle.hfs_check.specs.declared.mount_fault.MountFault.TheVariants.{TooLarge, Short, NoMacDisk, BadMdb, Check}
 use Rattle.hfs_check.specs.Parts.{Blocks, mdb_in, extents_nodes, overflow_in, catalog_extents, catalog_nodes, catalog_in, owned_in}

@@ -7,3 +7,5 @@ pub mod Laws
 pub mod Answers
 pub mod Report
 pub mod Trees
+pub mod Hints
+pub mod Refusals

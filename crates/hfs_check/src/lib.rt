@@ -1,13 +1,18 @@
 //! The checks of a volume, the volume that it holds, and the report on it.
+//!
+//! Why an image is refused and what that means, in words.
 #![tactic(auto)]
 
 mod catalog_files;
 mod checking;
+mod hint;
 mod laws;
 mod mdb_check;
+mod meaning;
 mod mount_fault;
 mod number_checks;
 mod record_checks;
+mod refusal;
 mod reported;
 mod reporting;
 mod tree_checks;
@@ -24,3 +29,6 @@ pub use crate::reported::{Alternate, Report};
 pub use crate::reporting::{refused_report, report, report_blocks};
 pub use crate::tree_checks::check_extents_tree;
 pub use crate::trees::VolumeTrees;
+pub use hint::Hint;
+pub use meaning::push_meaning;
+pub use refusal::Refusal;

@@ -1,6 +1,6 @@
 //! The checks of the catalog's records, each with the result that mounting gives.
 ghost use Rattle.std.specs.Prelude.{◌≡◌};
-ghost use Rattle.hfs_catalog_checks.specs.Faults as catalog_spec;
+ghost use Rattle.hfs_catalog.specs.Faults as catalog_spec;
 ghost use Rattle.hfs_btree.specs.Sound.{HasStructure};
 ghost use Rattle.hfs_catalog.specs.Tree.{cat_keys};
 ghost use Rattle.hfs_check.specs.Faults.{check_fault, catalog_name_fault, catalog_place_fault};
@@ -9,9 +9,9 @@ ghost use Rattle.hfs_check.specs.Answers.{Answers, listed_fault};
 use crate::mount_fault::MountFault;
 use hfs_btree::Nodes;
 use hfs_btree_checks::{index_keys, index_keys_in_order};
-use hfs_catalog::CatalogRecord;
-use hfs_catalog_checks::{
-    IndexedCatalog, count_fault, id_fault, name_fault, place_fault, record_fault, valence_fault,
+use hfs_catalog::{
+    CatalogRecord, IndexedCatalog, count_fault, id_fault, name_fault, place_fault, record_fault,
+    valence_fault,
 };
 use hfs_fields::{CatKey, Mdb};
 use std::alloc::Global;

@@ -3,13 +3,12 @@
 use crate::reading::CollectWords;
 use crate::telling::{tell_found, tell_obstacle};
 use hfs_bag::Watch;
-use hfs_collection::ImageFacts;
 use hfs_commands::{Fault, ShownPath, Status};
 use hfs_console::{Progress, print_lines, tell_sum, tell_unread};
 use hfs_word_collect::{
-    Collection, Comparison, DatabaseFiles, FileCollection, ImageCounts, Obstacle, RunFault,
-    can_open_database, collect_image, compare_image, comparison_line, image_line, next_path,
-    open_image, rows_at,
+    Collection, Comparison, DatabaseFiles, FileCollection, ImageCounts, ImageFacts, Obstacle,
+    RunFault, can_open_database, collect_image, compare_image, comparison_line, image_line,
+    next_path, open_image, rows_at,
 };
 
 /// What a row says about the program that read an image.

@@ -2,11 +2,11 @@
 
 use crate::collecting::{close_database, open_collection, refuse};
 use crate::reading_page::PageWords;
-use hfs_collection_page::{
-    CollectionFault, DatabaseFault, is_base, standard_texts, write_collection_page,
-};
 use hfs_commands::{Fault, ShownPath, Status};
 use hfs_console::VERSION;
+use hfs_database::{
+    CollectionFault, DatabaseFault, is_base, standard_texts, write_collection_page,
+};
 use hfs_word_collect::{DatabaseFiles, FileCollection, RunFault};
 use std::path::Path;
 

@@ -3,8 +3,7 @@
 use crate::reading_page::{PageWords, page_command, page_words};
 use crate::reading_rows::{RowsWords, rows_command, rows_words};
 use clap::{ArgMatches, Command, Error};
-use hfs_arguments::{Argument, NoValue, Program, Takes, Word, with_word};
-use hfs_console::{VERSION, WordsFault};
+use hfs_console::{Argument, NoValue, Program, Takes, VERSION, Word, WordsFault, with_word};
 use std::alloc::{AllocError, Global};
 
 /// What the program is asked for.

@@ -1,7 +1,7 @@
 //! The word `page`, from the command line to what it asks for.
 
 use clap::{ArgMatches, Command};
-use hfs_arguments::{Argument, NoValue, Takes, Word};
+use hfs_console::{Argument, NoValue, Takes, Word};
 use std::alloc::{AllocError, Global};
 
 /// A database whose page is printed.

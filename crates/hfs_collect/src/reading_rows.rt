@@ -1,8 +1,7 @@
 //! The word `rows`, from the command line to what it asks for.
 
 use clap::{Arg, ArgAction, ArgMatches, Command};
-use hfs_arguments::{Argument, NoValue, Takes, Word};
-use hfs_console::WordsFault;
+use hfs_console::{Argument, NoValue, Takes, Word, WordsFault};
 use hfs_word_collect::{Form, Table};
 use std::alloc::{AllocError, Global};
 

@@ -3,10 +3,11 @@
 use crate::collecting::PROGRAM;
 use crate::reading_rows::RowsWords;
 use hfs_bag::Watch;
-use hfs_collection::ImageFacts;
 use hfs_commands::{Fault, ShownPath, Status};
 use hfs_console::{Progress, tell_sum};
-use hfs_word_collect::{ImageCounts, RunFault, TextTaker, rows_at, write_head, write_image};
+use hfs_word_collect::{
+    ImageCounts, ImageFacts, RunFault, TextTaker, rows_at, write_head, write_image,
+};
 use std::io::Stdout;
 
 /// Prints the rows of the images, and returns the exit status. Faults go to standard error, where no program looks for rows.

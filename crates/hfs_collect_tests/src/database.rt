@@ -1,11 +1,10 @@
 //! An image in memory in a database in memory: what the database has about it, and how images compare to that.
 
 use crate::stored::{facts_of, rows_of};
-use hfs_collection::ImageCounts;
 use hfs_database::{Listing, listed};
 use hfs_fixtures::{FixtureFault, new_image, one_file_image};
 use hfs_source::MemoryBytes;
-use hfs_word_collect::{Collection, Comparison, collect_image, compare_image};
+use hfs_word_collect::{Collection, Comparison, ImageCounts, collect_image, compare_image};
 use sqlite::{Connection, MemStore, Row};
 use std::alloc::Global;
 use std::process::Abort;

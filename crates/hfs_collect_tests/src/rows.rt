@@ -2,9 +2,8 @@
 
 use crate::expected::Expected;
 use crate::stored::{facts_of, rows_of};
-use hfs_collection::ImageCounts;
 use hfs_fixtures::one_file_image;
-use hfs_word_collect::{Form, TextTaker, write_image};
+use hfs_word_collect::{Form, ImageCounts, TextTaker, write_image};
 use std::alloc::Global;
 use std::cell::Cell;
 use std::test::Fail;

@@ -1,9 +1,7 @@
 //! Images in memory, as the programs' files are opened.
 
-use hfs_collection::{ImageFacts, NotedFile, Reopen};
-use hfs_source::MemoryBytes;
-use hfs_sparse::SparseFault;
-use hfs_word_collect::ImageRows;
+use hfs_source::{MemoryBytes, SparseFault};
+use hfs_word_collect::{ImageFacts, ImageRows, NotedFile, Reopen};
 use std::alloc::Global;
 use std::marker::Brand;
 

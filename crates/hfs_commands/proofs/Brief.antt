@@ -8,7 +8,7 @@ use Rattle.hfs_model.specs.declared.reply.ItemKind.TheVariants.{Folder, File}
 use Rattle.hfs_model.specs.declared.reply.Reply.{Reply}
 use Rattle.hfs_model.specs.declared.reply.Value.{Value}
 use Rattle.hfs_model.specs.declared.reply.Value.TheVariants as value
-use Rattle.hfs_queries.specs.Brief.{without_id, value_without_ids, without_ids}
+use Rattle.hfs_items.specs.Brief.{without_id, value_without_ids, without_ids}
 use Rattle.hfs_commands.specs.Faults.{status_number}
 use Rattle.hfs_commands.specs.Listing.{child_line, child_lines, code_line, tabbed, tabbed_sizes, listed_lines, listed_status, list_lines, list_status}
 use Rattle.hfs_texts.specs.Answers.{kind_text}

@@ -3,7 +3,7 @@ use Rattle.std.proofs.Common.{◌≡◌, ℕ, List, Option, None, Some, ap, refl
 use Rattle.std.specs.Prelude.{IfSome, length}
 use Rattle.std.specs.Arc.{arc_value}
 use Rattle.hfs_source.specs.Images.{FailsWhere, OfEach}
-use Rattle.hfs_raw.specs.Sectors.{other_count}
+use Rattle.hfs_source.specs.Sectors.{other_count}
 use Rattle.hfs_commands.specs.OpenedFiles.{StaysHeld, stored_bytes, stored_failures, stored_images}
 use Rattle.hfs_commands.specs.declared.opened_file.StoredFile.{StoredFile}
 use Rattle.hfs_commands.specs.declared.opened_file.StoredFile.TheVariants.{Seekable, Whole}

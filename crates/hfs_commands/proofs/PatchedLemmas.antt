@@ -2,9 +2,9 @@
 use Rattle.std.proofs.Common.{ℕ, List, sym, subst}
 use Rattle.hfs_blocks.specs.Layers.{Numbered}
 use Rattle.hfs_source.specs.Images.{OfEach}
-use Rattle.hfs_patched.specs.Patched.{OfPatched}
-use Rattle.hfs_patched.specs.InFile.{OfFileWith}
-use Rattle.hfs_patched.specs.declared.in_file.ImagePlace.{ImagePlace}
+use Rattle.hfs_volume.specs.Patched.{OfPatched}
+use Rattle.hfs_volume.specs.InFile.{OfFileWith}
+use Rattle.hfs_volume.specs.declared.in_file.ImagePlace.{ImagePlace}
 use Rattle.hfs_commands.specs.Images.{IsFileWith, IsPatchedOf}
 
 -- what holds of each image with the changed blocks in place of its own, where fewer hold by then

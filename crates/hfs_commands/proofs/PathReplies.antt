@@ -4,8 +4,8 @@ use Rattle.std.specs.Option.{option_map_or}
 use Rattle.hfs_model.specs.declared.codes.TheConstants.{NOT_FOUND}
 use Rattle.hfs_model.specs.declared.reply.Reply.{Reply}
 use Rattle.hfs_model.specs.Replies.{refusal}
-use Rattle.hfs_needed.specs.Paths.{path_told}
-use Rattle.hfs_paths.specs.Paths.{path_names}
+use Rattle.hfs_image.specs.Paths.{path_told}
+use Rattle.hfs_texts.specs.Paths.{path_names}
 use Rattle.hfs_commands.specs.ByPath.{IsFilePathReply, IsPathReply, file_reply}
 use Rattle.hfs_commands.specs.Entries.{entries_in}
 

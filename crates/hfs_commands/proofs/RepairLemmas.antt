@@ -4,7 +4,7 @@ use Rattle.hfs_blocks.specs.Layers.{Numbered}
 use Rattle.hfs_check.specs.declared.mount_fault.MountFault.{MountFault}
 use Rattle.hfs_volume.specs.Image.{patched}
 use Rattle.hfs_repair.specs.declared.fixed.Fix.{Fix}
-use Rattle.hfs_mending.specs.Mended.{IsMendedBy}
+use Rattle.hfs_copy.specs.Mended.{IsMendedBy}
 use Rattle.hfs_commands.specs.Checks.{refused_line}
 use Rattle.hfs_commands.specs.Repairs.{IsRefused, IsRepaired, repaired_lines}
 

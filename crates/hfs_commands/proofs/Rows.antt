@@ -3,7 +3,7 @@ use Rattle.std.proofs.Common.{◌≡◌, subst, ℕ, List, ◌++◌, length, rep
 use Rattle.std.specs.Io.KnownBytes.{Appends}
 use Rattle.std.proofs.KnownBytes.{Appends-trans}
 use Rattle.hfs_encodings.specs.MacBinary.{filled, padding}
-use Rattle.hfs_patched.proofs.Fronts.{front_first, front_next}
+use Rattle.hfs_volume.proofs.Fronts.{front_first, front_next}
 use Rattle.hfs_texts.specs.Writing.{AppendsFront}
 
 pub whole_next : (a b c : Option (List ℕ)) (xs ys : List ℕ) → Appends a b xs → Appends b c ys → Appends a c (xs ++ ys)

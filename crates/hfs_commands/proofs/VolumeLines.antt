@@ -1,9 +1,9 @@
 -- Line by line.
 use Rattle.std.proofs.Common.{◌≡◌, ◌∙◌, ℕ, ◌+◌, ◌<◌, ◌≤◌, List, [], ◌∷◌, ◌++◌, length, drop, get_or, Some, None, ap, sym, arith, append_assoc, append-nil}
 use Rattle.std.proofs.lemmas.List.{drop_more, drop_all, nil_from_length}
-use Rattle.hfs_containers.specs.declared.ranges.FoundRange.{FoundRange}
-use Rattle.hfs_containers.specs.declared.ranges.Layout.{Layout}
-use Rattle.hfs_containers.specs.Found.{found_by}
+use Rattle.hfs_source.specs.declared.ranges.FoundRange.{FoundRange}
+use Rattle.hfs_source.specs.declared.ranges.Layout.{Layout}
+use Rattle.hfs_source.specs.Found.{found_by}
 use Rattle.hfs_commands.specs.Volumes.{line_of, lines_from, lines_of, volume_lines}
 
 module _ (others : ℕ) (ranges : List FoundRange) (file : List ℕ) where

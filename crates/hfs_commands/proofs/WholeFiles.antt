@@ -4,7 +4,7 @@ use Rattle.std.specs.Io.KnownBytes.{Appends}
 use Rattle.hfs_encodings.specs.MacBinary.{filled, macbinary_bytes, macbinary_head_bytes}
 use Rattle.hfs_encodings.specs.declared.macbinary.MacBinaryHead.{MacBinaryHead}
 use Rattle.hfs_texts.specs.Writing.{AppendsFront}
-use Rattle.hfs_patched.proofs.Fronts.{front_first, front_next}
+use Rattle.hfs_volume.proofs.Fronts.{front_first, front_next}
 use Rattle.hfs_commands.proofs.Rows.{whole_next}
 
 module _ (header : MacBinaryHead) (data_fork resource_fork head : List ℕ) (head-is : head ≡ macbinary_head_bytes header) where

@@ -9,8 +9,8 @@ use Rattle.hfs_model.specs.declared.reply.Value.{Value}
 use Rattle.hfs_model.specs.declared.reply.Value.TheVariants as value
 use Rattle.hfs_model.specs.Replies.{refusal}
 use Rattle.hfs_model.specs.Volume.{Entry}
-use Rattle.hfs_needed.specs.Paths.{path_told}
-use Rattle.hfs_paths.specs.Paths.{path_names}
+use Rattle.hfs_image.specs.Paths.{path_told}
+use Rattle.hfs_texts.specs.Paths.{path_names}
 use Rattle.hfs_commands.specs.Entries.{entries_in}
 
 -- -43 where the text is no path

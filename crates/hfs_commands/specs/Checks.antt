@@ -8,7 +8,7 @@ use Rattle.hfs_check.specs.declared.reported.Report.{Report}
 use Rattle.hfs_check.specs.Report.{report_of}
 use Rattle.hfs_commands.specs.declared.fault.Status.{Status}
 use Rattle.hfs_commands.specs.declared.fault.Status.TheVariants as status
-use Rattle.hfs_refusals.specs.Refusals.{refusal_text}
+use Rattle.hfs_check.specs.Refusals.{refusal_text}
 use Rattle.hfs_commands.specs.Faults.{status_number}
 use Rattle.hfs_texts.specs.Lines.{line}
 

@@ -4,8 +4,8 @@ use Rattle.std.specs.Borrow.{Bor}
 use Rattle.std.specs.Fmt.{decimal}
 use Rattle.std.specs.Option.{is_some}
 use Rattle.std.specs.Io.KnownBytes.{Appends}
-use Rattle.hfs_containers.specs.declared.ranges.ByteRange.{ByteRange}
-use Rattle.hfs_containers.specs.Ranges.{volume_name_in}
+use Rattle.hfs_source.specs.declared.ranges.ByteRange.{ByteRange}
+use Rattle.hfs_source.specs.Ranges.{volume_name_in}
 use Rattle.hfs_source.specs.Images.{OfEach}
 use Rattle.hfs_texts.specs.Lines.{line}
 use Rattle.hfs_texts.specs.Writing.{AppendsFront}

@@ -4,9 +4,9 @@ use Rattle.std.specs.Borrow.{Bor}
 use Rattle.std.specs.Fmt.{decimal}
 use Rattle.hfs_check.specs.declared.mount_fault.MountFault.{MountFault}
 use Rattle.hfs_check.specs.declared.mount_fault.MountFault.TheVariants as mount
-use Rattle.hfs_needed.specs.declared.opening.NeededFault.{NeededFault}
-use Rattle.hfs_needed.specs.declared.opening.NeededFault.TheVariants as needed
-use Rattle.hfs_refusals.specs.Refusals.{refusal_text}
+use Rattle.hfs_image.specs.declared.opening.NeededFault.{NeededFault}
+use Rattle.hfs_image.specs.declared.opening.NeededFault.TheVariants as needed
+use Rattle.hfs_check.specs.Refusals.{refusal_text}
 use Rattle.hfs_commands.specs.Paths.{path_text}
 use Rattle.hfs_commands.specs.declared.fault.Status.{Status}
 use Rattle.hfs_commands.specs.declared.fault.Status.TheVariants as status

@@ -1,8 +1,8 @@
 -- Images with changed blocks laid over them, and files in which they lie.
 use Rattle.std.specs.Prelude.{◌≡◌, ℕ, List, length}
 use Rattle.hfs_blocks.specs.Layers.{Numbered}
-use Rattle.hfs_patched.specs.InFile.{file_with}
-use Rattle.hfs_patched.specs.declared.in_file.ImagePlace.{ImagePlace}
+use Rattle.hfs_volume.specs.InFile.{file_with}
+use Rattle.hfs_volume.specs.declared.in_file.ImagePlace.{ImagePlace}
 use Rattle.hfs_volume.specs.Image.{patched}
 
 -- these are the bytes of one of these images, which has so many, with the changed blocks in place of its own

@@ -1,7 +1,7 @@
 -- The table of a volume's items, as it is written.
 use Rattle.std.specs.Prelude.{◌≡◌, ℕ, suc, Bool, true, false, List, [], ◌++◌, length, flat_map, Option}
 use Rattle.std.specs.Io.KnownBytes.{Appends}
-use Rattle.hfs_inventory.specs.Told.{ToldRow, told_rows}
+use Rattle.hfs_items.specs.ToldRows.{ToldRow, told_rows}
 use Rattle.hfs_table.specs.Lines.{head_text, row_text}
 use Rattle.hfs_table.specs.declared.format.Format.{Format}
 use Rattle.hfs_texts.specs.Writing.{AppendsFront}

@@ -3,12 +3,12 @@ use Rattle.std.specs.Prelude.{◌≡◌, ⊤, ℕ, ◌+◌, ◌*◌, ◌/◌, �
 use Rattle.std.specs.Arc.{arc_value}
 use Rattle.hfs_source.specs.Images.{OfEach}
 use Rattle.hfs_source.specs.Steps.{IsReadFrom}
-use Rattle.hfs_raw.specs.Reading.{FailsInData, IsDataOfOne}
-use Rattle.hfs_raw.specs.Sectors.{other_count, sector_count}
-use Rattle.hfs_containers.specs.declared.ranges.ByteRange.{ByteRange}
-use Rattle.hfs_containers.specs.declared.ranges.Layout.{Layout}
-use Rattle.hfs_containers.specs.declared.ranges.Layout.TheVariants as layout
-use Rattle.hfs_containers.specs.Ranges.{range_of}
+use Rattle.hfs_source.specs.Reading.{FailsInData, IsDataOfOne}
+use Rattle.hfs_source.specs.Sectors.{other_count, sector_count}
+use Rattle.hfs_source.specs.declared.ranges.ByteRange.{ByteRange}
+use Rattle.hfs_source.specs.declared.ranges.Layout.{Layout}
+use Rattle.hfs_source.specs.declared.ranges.Layout.TheVariants as layout
+use Rattle.hfs_source.specs.Ranges.{range_of}
 use Rattle.hfs_commands.specs.declared.opened_file.OpenedFile.{OpenedFile}
 use Rattle.hfs_commands.specs.declared.opened_file.OpenedFile.TheVariants.{Plain, Raw}
 use Rattle.hfs_commands.specs.declared.opened_file.StoredFile.{StoredFile}

@@ -2,7 +2,7 @@
 use Rattle.std.specs.Prelude.{◌≡◌, ◌⊎◌, ℕ, ◌+◌, List, Option}
 use Rattle.std.specs.Borrow.{Bor}
 use Rattle.hfs_check.specs.declared.mount_fault.MountFault.{MountFault}
-use Rattle.hfs_containers.specs.declared.ranges.ByteRange.{ByteRange}
+use Rattle.hfs_source.specs.declared.ranges.ByteRange.{ByteRange}
 use Rattle.hfs_source.specs.Images.{EndsBefore, IsRangeOf, OfEach}
 use Rattle.hfs_source.specs.declared.blocks.BlocksOf.{BlocksOf}
 use Rattle.hfs_source.specs.declared.range.RangeBytes.{RangeBytes}

@@ -1,14 +1,14 @@
 -- What is printed of the volumes in a file.
 use Rattle.std.specs.Prelude.{ℕ, ◌+◌, Bool, true, false, ◌==◌, if◌then◌else◌, List, [], ◌∷◌, ◌++◌, take, codes, Option, None, Some}
 use Rattle.std.specs.Fmt.{decimal}
-use Rattle.hfs_names.specs.PlainTexts.{plain_text}
-use Rattle.hfs_containers.specs.declared.ranges.Container.{Container}
-use Rattle.hfs_containers.specs.declared.ranges.Container.TheVariants.{Bare, MacBinary, DiskCopy, Partition, RawBare, RawPartition}
-use Rattle.hfs_containers.specs.declared.ranges.FoundRange.{FoundRange}
-use Rattle.hfs_containers.specs.Ranges.{bytes_in, volume_name_in}
-use Rattle.hfs_containers.specs.declared.ranges.Layout.{Layout}
-use Rattle.hfs_containers.specs.Found.{found_by}
-use Rattle.hfs_containers.specs.Sums.{sum_told}
+use Rattle.hfs_texts.specs.PlainTexts.{plain_text}
+use Rattle.hfs_source.specs.declared.ranges.Container.{Container}
+use Rattle.hfs_source.specs.declared.ranges.Container.TheVariants.{Bare, MacBinary, DiskCopy, Partition, RawBare, RawPartition}
+use Rattle.hfs_source.specs.declared.ranges.FoundRange.{FoundRange}
+use Rattle.hfs_source.specs.Ranges.{bytes_in, volume_name_in}
+use Rattle.hfs_source.specs.declared.ranges.Layout.{Layout}
+use Rattle.hfs_source.specs.Found.{found_by}
+use Rattle.hfs_source.specs.Sums.{sum_told}
 
 -- how a range lies in the file
 abbrev pub container_text : Container → List ℕ

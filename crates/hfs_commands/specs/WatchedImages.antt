@@ -1,7 +1,7 @@
 -- Images that were opened to be changed.
 use Rattle.std.specs.Prelude.{⊤, ℕ, List, Option, None, Some}
-use Rattle.hfs_files.specs.Looks.{HasTold}
-use Rattle.hfs_files.specs.declared.looks.TrustedLooks.{TrustedLooks}
+use Rattle.hfs_source.specs.Looks.{HasTold}
+use Rattle.hfs_source.specs.declared.looks.TrustedLooks.{TrustedLooks}
 use Rattle.hfs_commands.specs.OpenedFiles.{stored_bytes, stored_images}
 use Rattle.hfs_commands.specs.declared.opened_file.StoredFile.{StoredFile}
 use Rattle.hfs_commands.specs.declared.opened_file.StoredFile.TheVariants.{Seekable, Whole}

@@ -1,12 +1,12 @@
 -- Volumes in files that were opened to be changed.
 use Rattle.std.specs.Prelude.{◌≡◌, ◌⊎◌, ℕ, Bool, true, false, List, Option, None, Some}
 use Rattle.std.specs.Borrow.{Bor}
-use Rattle.hfs_containers.specs.declared.asking.NumberedRange.{NumberedRange}
-use Rattle.hfs_containers.specs.declared.ranges.ByteRange.{ByteRange}
-use Rattle.hfs_containers.specs.declared.ranges.FoundRange.{FoundRange}
-use Rattle.hfs_containers.specs.Ranges.{bytes_in, range_of}
-use Rattle.hfs_containers.specs.Sums.{sum_told}
-use Rattle.hfs_patched.specs.InFile.{sum_place}
+use Rattle.hfs_source.specs.declared.asking.NumberedRange.{NumberedRange}
+use Rattle.hfs_source.specs.declared.ranges.ByteRange.{ByteRange}
+use Rattle.hfs_source.specs.declared.ranges.FoundRange.{FoundRange}
+use Rattle.hfs_source.specs.Ranges.{bytes_in, range_of}
+use Rattle.hfs_source.specs.Sums.{sum_told}
+use Rattle.hfs_volume.specs.InFile.{sum_place}
 use Rattle.hfs_source.specs.Images.{OfEach}
 use Rattle.hfs_source.specs.declared.range.RangeBytes.{RangeBytes}
 use Rattle.hfs_commands.specs.declared.fault.Fault.{Fault}

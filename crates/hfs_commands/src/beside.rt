@@ -4,7 +4,7 @@ ghost use Rattle.std.specs.Option.{option_map};
 ghost use Rattle.hfs_commands.specs.Paths.{IsBeside, TellsFirst, leftover_text, path_beside};
 
 use crate::paths::ShownPath;
-use hfs_files::TrustedNewFile;
+use hfs_source::TrustedNewFile;
 use std::alloc::{AllocError, Global};
 use std::fs::OpenOptions;
 use std::io::ErrorKind;

@@ -3,11 +3,11 @@ ghost use Rattle.std.specs.Prelude.{◌≡◌, IfOk};
 ghost use Rattle.hfs_commands.specs.ByPath.{IsFilePathReply, IsPathReply, file_reply, is_folder_kind, tells_folder};
 ghost use Rattle.hfs_source.specs.Images.{OfEach};
 
+use hfs_image::SeenImage;
+use hfs_items::refusal;
 use hfs_model::{ItemKind, NOT_FOUND, Reply, Value};
-use hfs_needed::SeenImage;
-use hfs_paths::path_names;
-use hfs_queries::refusal;
 use hfs_source::PlacedBlocks;
+use hfs_texts::path_names;
 use std::alloc::{AllocError, Global};
 
 /// The reply about the item that a Mac path leads to, starting with the volume's name, in every image consistent with the bytes

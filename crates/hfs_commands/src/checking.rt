@@ -1,15 +1,13 @@
 //! What is printed about an image.
 ghost use Rattle.std.specs.Prelude.{◌≡◌, ◌++◌, IfErr, IfOk, OnOk, string_bytes};
 ghost use Rattle.hfs_commands.specs.Checks.{HasCheckLines, IsCheckFault, IsCheckStatus, alternate_text, check_lines, check_status, refused_line, sound_lines};
-ghost use Rattle.hfs_needed.specs.Failing.{SomeReadFails};
+ghost use Rattle.hfs_image.specs.Failing.{SomeReadFails};
 ghost use Rattle.hfs_source.specs.Images.{OfEach};
 
 use crate::fault::Status;
-use hfs_check::{Alternate, MountFault, Report};
-use hfs_needed::seen_report;
-use hfs_refusals::Refusal;
-use hfs_source::PlacedBlocks;
-use hfs_sparse::{SeenBlocks, SparseFault};
+use hfs_check::{Alternate, MountFault, Refusal, Report};
+use hfs_image::seen_report;
+use hfs_source::{PlacedBlocks, SeenBlocks, SparseFault};
 use hfs_texts::{Show, push_line};
 use std::alloc::{AllocError, Global};
 

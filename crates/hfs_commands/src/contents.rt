@@ -5,10 +5,9 @@ ghost use Rattle.hfs_format.specs.Image.{image_bytes};
 ghost use Rattle.hfs_source.specs.Images.{OfEach};
 ghost use Rattle.hfs_texts.specs.Writing.{AppendsFront};
 
-use hfs_files::{NewFileWriter, PlacedWriter};
 use hfs_format::PlannedImage;
-use hfs_patched::PatchedFault;
-use hfs_volume::Volume;
+use hfs_source::{NewFileWriter, PlacedWriter};
+use hfs_volume::{PatchedFault, Volume};
 use std::io;
 use std::io::{ErrorKind, Write};
 

@@ -5,9 +5,7 @@ ghost use Rattle.hfs_commands.specs.Extracts.{IsNoVolume, WritesAll, WritesAt, W
 
 use crate::contents::{ReadContents, UnwrittenFault};
 use crate::fault::Fault;
-use hfs_containers::{ByteRange, volume_name};
-use hfs_source::PlacedBytes;
-use hfs_sparse::BlockSource;
+use hfs_source::{BlockSource, ByteRange, PlacedBytes, volume_name};
 use hfs_texts::{push_line, put};
 use std::alloc::{AllocError, Global};
 use std::io::Write;

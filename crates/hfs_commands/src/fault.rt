@@ -5,11 +5,10 @@ ghost use Rattle.hfs_commands.specs.Saving.{IsUnsaved};
 
 use crate::contents::UnwrittenFault;
 use crate::paths::ShownPath;
-use hfs_check::MountFault;
+use hfs_check::{MountFault, Refusal};
 use hfs_format::FormatFault;
-use hfs_needed::NeededFault;
-use hfs_refusals::Refusal;
-use hfs_sparse::{CopyFault, SparseFault};
+use hfs_image::NeededFault;
+use hfs_source::{CopyFault, SparseFault};
 use hfs_texts::{InfoFault, LoadFault};
 use std::{fmt, io};
 

@@ -8,8 +8,8 @@ ghost use Rattle.hfs_table.specs.Lines.{head_text};
 ghost use Rattle.hfs_texts.specs.Writing.{AppendsFront};
 
 use crate::fault::Fault;
-use hfs_inventory::Inventory;
-use hfs_needed::SeenImage;
+use hfs_image::SeenImage;
+use hfs_items::Inventory;
 use hfs_source::PlacedBlocks;
 use hfs_table::{Format, push_head, push_row};
 use hfs_texts::put;

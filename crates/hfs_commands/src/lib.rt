@@ -32,15 +32,15 @@ pub use contents::{Contents, ReadContents, UnwrittenFault};
 pub use extracting::{ImageContents, extracted_text, need_volume, write_range};
 pub use fault::{Fault, Status};
 pub use files::load_script;
-pub use hfs_containers::{ByteRange, Counted, Layout, NumberedRange, Window};
-pub use hfs_files::Watched;
-pub use hfs_needed::{NeededFault, NeededFile, SeenImage, Unopened};
-pub use hfs_raw::UserData;
-pub use hfs_refusals::{Hint, Refusal};
-pub use hfs_sparse::{BlockSource, CopyFault, SparseFault};
+pub use hfs_check::{Hint, Refusal};
+pub use hfs_copy::FailingBlocks;
+pub use hfs_image::{NeededFault, NeededFile, SeenImage, Unopened};
+pub use hfs_source::{
+    BlockSource, ByteRange, CopyFault, Counted, Layout, NumberedRange, SparseFault, UserData,
+    Watched, Window,
+};
 pub use hfs_table::Format;
 pub use hfs_texts::{InfoFault, LoadFault, put, run_info};
-pub use hfs_working::FailingBlocks;
 pub use items::write_items;
 pub use listing::{children_text, code_text, seen_list_text};
 pub use macbinary::put_macbinary;

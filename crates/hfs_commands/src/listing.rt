@@ -5,8 +5,8 @@ ghost use Rattle.hfs_commands.specs.Listing.{HasFolderLines, IsFolderStatus, chi
 ghost use Rattle.hfs_texts.specs.Texts.{Gains};
 
 use crate::fault::Status;
+use hfs_image::SeenImage;
 use hfs_model::{Info, ItemKind, Reply, Value};
-use hfs_needed::SeenImage;
 use hfs_source::PlacedBlocks;
 use hfs_texts::{Show, push_line};
 use std::alloc::{AllocError, Global};

@@ -1,16 +1,16 @@
 //! A file that was opened, whatever kind it is.
 ghost use Rattle.std.specs.Prelude.{◌≡◌, IfErr, IfOk, IfNone, IfSome, None};
-ghost use Rattle.hfs_containers.specs.Raw.{layout_of};
-ghost use Rattle.hfs_raw.specs.Sectors.{other_count};
+ghost use Rattle.hfs_source.specs.Raw.{layout_of};
+ghost use Rattle.hfs_source.specs.Sectors.{other_count};
 ghost use Rattle.hfs_source.specs.Images.{OfEach};
 ghost use Rattle.hfs_commands.specs.Faults.{IsUnreadFile};
 ghost use Rattle.hfs_commands.specs.OpenedFiles.{AreHeldOthers, AreOthersOf, HasSectorsOf, StaysHeld, failures_of, files_of, held_bytes, images_of, opened_layout, range_by, raw_range, stored_bytes, stored_failures, stored_images};
 
 use crate::fault::Fault;
-use hfs_containers::{ByteRange, Layout, Window, layout_in};
-use hfs_raw::{UserData, count_others};
-use hfs_source::{MemoryBytes, PlacedBytes, SeekableBytes, TrustedFile};
-use hfs_sparse::SparseFault;
+use hfs_source::{
+    ByteRange, Layout, MemoryBytes, PlacedBytes, SeekableBytes, SparseFault, TrustedFile, UserData,
+    Window, count_others, layout_in,
+};
 use std::alloc::AllocError;
 use std::io;
 use std::io::{Read, Seek};

@@ -4,10 +4,9 @@ ghost use Rattle.hfs_blocks.specs.Layers.{changes, AreWithin};
 ghost use Rattle.hfs_commands.specs.Images.{IsPatchedOf};
 
 use crate::contents::{ReadContents, UnwrittenFault};
-use hfs_changed_blocks::ChangedBlocks;
-use hfs_files::Watched;
-use hfs_patched::write_patched;
-use hfs_sparse::BlockSource;
+use hfs_source::{BlockSource, Watched};
+use hfs_space::ChangedBlocks;
+use hfs_volume::write_patched;
 use std::alloc::Global;
 use std::io::Write;
 

@@ -7,10 +7,10 @@ ghost use Rattle.hfs_commands.specs.Repairs.{place_text, fix_text, fixed_line, f
 use crate::checking::refused_text;
 use crate::fault::Status;
 use crate::patched_image::PatchedImage;
-use hfs_changed_blocks::ChangedBlocks;
 use hfs_check::MountFault;
-use hfs_mending::{Mended, mend_needed};
-use hfs_sparse::{BlockSource, SparseFault};
+use hfs_copy::{Mended, mend_needed};
+use hfs_source::{BlockSource, SparseFault};
+use hfs_space::ChangedBlocks;
 use hfs_texts::{Show, push_line};
 use hfs_volume::{Fix, FixPlace};
 use std::alloc::{AllocError, Global};

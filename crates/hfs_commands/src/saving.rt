@@ -2,7 +2,7 @@
 ghost use Rattle.std.specs.Prelude.{◌≡◌, [], None, Some, IfErr, IfOk, OnOk, string_bytes};
 ghost use Rattle.std.specs.Option.{option_map};
 ghost use Rattle.hfs_source.specs.Images.{OfEach};
-ghost use Rattle.hfs_files.specs.Writes.{bytes_after};
+ghost use Rattle.hfs_source.specs.Writes.{bytes_after};
 ghost use Rattle.hfs_commands.specs.Saving.{IsNoPlace, IsOpenTarget, IsUnmade, IsUnsaved, TellsSomeFirst};
 ghost use Rattle.hfs_commands.specs.Paths.{TellsFirst};
 
@@ -10,7 +10,7 @@ use crate::beside::{Leftover, NewFile, create_beside};
 use crate::contents::{Contents, ReadContents, UnwrittenFault, Whole, fill};
 use crate::fault::Fault;
 use crate::free_place::FreePlace;
-use hfs_files::TrustedNewFile;
+use hfs_source::TrustedNewFile;
 use std::fs::{File, Metadata, OpenFile, OpenOptions};
 use std::io::ErrorKind;
 use std::os::unix::fs::MetadataExt;

@@ -2,16 +2,14 @@
 ghost use Rattle.std.specs.Prelude.{◌≡◌, ◌+◌, IfErr, IfOk};
 ghost use Rattle.hfs_commands.specs.OpenedFiles.{images_of};
 ghost use Rattle.hfs_commands.specs.SeenFiles.{IsPartOf, IsUnseen, parts_of};
-ghost use Rattle.hfs_needed.specs.Seen.{HasNoFault};
+ghost use Rattle.hfs_image.specs.Seen.{HasNoFault};
 ghost use Rattle.hfs_source.specs.Images.{OfEach, ReachesTo};
 
 use crate::fault::Fault;
 use crate::opened_file::OpenedFile;
 use crate::volume_files::open_part;
-use hfs_containers::Window;
-use hfs_needed::{SeenImage, Unopened};
-use hfs_source::{BlocksOf, RangeBytes};
-use hfs_sparse::SeenBlocks;
+use hfs_image::{SeenImage, Unopened};
+use hfs_source::{BlocksOf, RangeBytes, SeenBlocks, Window};
 use std::io::{Read, Seek};
 use std::rt::Files;
 

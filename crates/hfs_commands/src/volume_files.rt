@@ -1,7 +1,7 @@
 //! A file that volumes lie in, by its path.
 ghost use Rattle.std.specs.Prelude.{◌≡◌, IfErr, IfOk, IfSome, None, Some};
 ghost use Rattle.std.specs.Option.{is_some};
-ghost use Rattle.hfs_containers.specs.Asking.{IsAnswerTo, asked_in};
+ghost use Rattle.hfs_source.specs.Asking.{IsAnswerTo, asked_in};
 ghost use Rattle.hfs_commands.specs.Faults.{IsUnopened, IsUnreadFile};
 ghost use Rattle.hfs_commands.specs.OpenedFiles.{held_bytes, images_of, opened_layout, stored_bytes, stored_images};
 ghost use Rattle.hfs_commands.specs.Parts.{IsRangeAt, asked_at};
@@ -10,8 +10,9 @@ ghost use Rattle.hfs_source.specs.Images.{FailsWhere, HasLength, OfEach};
 use crate::fault::Fault;
 use crate::files::{load_opened, regular_len};
 use crate::opened_file::{OpenedFile, StoredFile, content_of};
-use hfs_containers::{Asked, ByteRange, Counted, Layout, NumberedRange, Window, find_asked};
-use hfs_source::PlacedBytes;
+use hfs_source::{
+    Asked, ByteRange, Counted, Layout, NumberedRange, PlacedBytes, Window, find_asked,
+};
 use std::alloc::Global;
 use std::fs::{File, OpenFile};
 use std::io::{Read, Seek, SeekFrom};

@@ -5,10 +5,10 @@ ghost use Rattle.hfs_source.specs.Images.{FailsWhere, OfEach};
 ghost use Rattle.hfs_texts.specs.Texts.{Gains};
 ghost use Rattle.hfs_commands.specs.Volumes.{container_text, line_of, lines_from, missing_field, name_field, name_text, others_field, place_fields, sum_field, volume_line, volume_lines};
 
-use hfs_containers::{Container, FoundRange, Layout, find_in_layout, sum_told, volume_name};
-use hfs_names::push_plain_text;
-use hfs_source::PlacedBytes;
-use hfs_sparse::SparseFault;
+use hfs_source::{
+    Container, FoundRange, Layout, PlacedBytes, SparseFault, find_in_layout, sum_told, volume_name,
+};
+use hfs_texts::push_plain_text;
 use std::alloc::{AllocError, Global};
 
 /// Appends how a range lies in its file.

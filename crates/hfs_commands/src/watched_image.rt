@@ -9,11 +9,10 @@ use crate::files::regular_len;
 use crate::opened_file::{OpenedFile, StoredFile, content_of};
 use crate::volume_files::{loaded, opened};
 use crate::watched_range::WatchedBytes;
-use hfs_containers::Window;
-use hfs_files::{TrustedLooks, Watched, look_again};
-use hfs_source::{MemoryBytes, PlacedBytes};
-use hfs_sparse::BlockSource;
-use hfs_working::FailingBlocks;
+use hfs_copy::FailingBlocks;
+use hfs_source::{
+    BlockSource, MemoryBytes, PlacedBytes, TrustedLooks, Watched, Window, look_again,
+};
 use std::fs::{File, OpenFile};
 use std::io;
 use std::io::{ErrorKind, Read, Seek};

@@ -3,18 +3,15 @@ ghost use Rattle.std.specs.Prelude.{◌≡◌, ◌≤◌, ◌/◌, List, ℕ, No
 ghost use Rattle.std.proofs.lemmas.Option.{none-some};
 ghost use Rattle.hfs_source.specs.Images.{FailsInRange, IsRangeOf, OfEach};
 ghost use Rattle.hfs_blocks.specs.Layers.{changes, AreWithin};
-ghost use Rattle.hfs_containers.specs.Ranges.{range_of};
+ghost use Rattle.hfs_source.specs.Ranges.{range_of};
 ghost use Rattle.hfs_commands.specs.Images.{IsFileWith};
 
 use crate::contents::{ReadContents, UnwrittenFault};
 use crate::patched_image::PatchedImage;
-use hfs_changed_blocks::ChangedBlocks;
-use hfs_containers::ByteRange;
-use hfs_files::Watched;
-use hfs_patched::{ImagePlace, write_file_with};
-use hfs_source::{PlacedBytes, RangeBytes};
-use hfs_sparse::BlockSource;
-use hfs_working::FailingBlocks;
+use hfs_copy::FailingBlocks;
+use hfs_source::{BlockSource, ByteRange, PlacedBytes, RangeBytes, Watched};
+use hfs_space::ChangedBlocks;
+use hfs_volume::{ImagePlace, write_file_with};
 use std::alloc::Global;
 use std::io;
 use std::io::Write;
@@ -113,7 +110,7 @@ impl<S> ImageInFile<S> {
 
 impl<S: WatchedBytes> ReadContents for ImageInFile<S> {
     ghost use Rattle.hfs_blocks.specs.Layers.{Numbered};
-    ghost use Rattle.hfs_patched.specs.declared.in_file.ImagePlace.{ImagePlace};
+    ghost use Rattle.hfs_volume.specs.declared.in_file.ImagePlace.{ImagePlace};
 
     ghost Holds = { λ contents. IsFileWith (S.Holds contents.file) contents.place contents.patch };
 

@@ -1,8 +1,8 @@
 //! A volume in a file that was opened to be changed.
 ghost use Rattle.std.specs.Prelude.{◌≡◌, false, IfErr, IfOk, OnOk, Some};
-ghost use Rattle.hfs_containers.specs.Asking.{IsAnswerTo, asked_in};
-ghost use Rattle.hfs_containers.specs.declared.asking.Counted.TheVariants.{Ranges};
-ghost use Rattle.hfs_containers.specs.declared.ranges.Layout.TheVariants.{Plain};
+ghost use Rattle.hfs_source.specs.Asking.{IsAnswerTo, asked_in};
+ghost use Rattle.hfs_source.specs.declared.asking.Counted.TheVariants.{Ranges};
+ghost use Rattle.hfs_source.specs.declared.ranges.Layout.TheVariants.{Plain};
 ghost use Rattle.hfs_commands.specs.Faults.{IsUnopenedVolume};
 ghost use Rattle.hfs_source.specs.Images.{FailsWhere, OfEach};
 ghost use Rattle.hfs_commands.specs.OpenedFiles.{StaysHeld, stored_bytes, stored_images};
@@ -14,11 +14,11 @@ use crate::opened_file::{OpenedFile, StoredFile, content_of};
 use crate::volume_files::place_asked;
 use crate::watched_image::{LookedFile, WatchedImage, open_looked};
 use crate::watched_range::WatchedRange;
-use hfs_containers::{Counted, FoundRange, Layout, NumberedRange, Window, sum_told};
-use hfs_files::TrustedLooks;
-use hfs_patched::sum_place;
-use hfs_raw::UserData;
-use hfs_source::{PlacedBytes, RangeBytes};
+use hfs_source::{
+    Counted, FoundRange, Layout, NumberedRange, PlacedBytes, RangeBytes, TrustedLooks, UserData,
+    Window, sum_told,
+};
+use hfs_volume::sum_place;
 use std::alloc::Global;
 use std::io::{Read, Seek};
 use std::rt::Files;

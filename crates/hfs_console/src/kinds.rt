@@ -1,8 +1,8 @@
 //! What a file without an HFS volume is, for someone at a terminal.
 
+use crate::{Beside, Glance, Kind, Piece};
 use hfs_commands::{OpenedFile, Window, open_part};
 use hfs_fields::{u16_at, u32_at};
-use hfs_kinds::{Beside, Glance, Kind, Piece};
 use hfs_source::PlacedBytes;
 use std::fs;
 use std::io::{IsTerminal, Read, Seek};

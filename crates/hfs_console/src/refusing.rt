@@ -3,10 +3,10 @@
 ghost use Rattle.std.specs.Prelude.{◌≡◌, ◌⊎◌};
 ghost use Rattle.hfs_commands.specs.Faults.{status_number, status_of};
 
+use crate::NoValue;
 use crate::hints::tell_hint;
 use clap::Error;
 use clap::error::ErrorKind;
-use hfs_arguments::NoValue;
 use hfs_commands::{Fault, Status};
 use std::alloc::AllocError;
 use std::io;

@@ -3,3 +3,8 @@ pub mod TableLemmas
 pub mod Ending
 pub mod RowLemmas
 pub mod FaultLemmas
+mod Fields
+mod Names
+mod Objects
+mod Going
+mod NestedLemmas

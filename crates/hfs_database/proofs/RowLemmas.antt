@@ -5,7 +5,7 @@ use Rattle.sqlite.specs.Held.{Held, state}
 use Rattle.sqlite.specs.State.{HasCleanDisk, Survives}
 use Rattle.sqlite.specs.Store.{Ghosts}
 use Rattle.sqlite.proofs.StateLemmas.{survives_then, survives_weaker}
-use Rattle.hfs_rows.specs.Taken.{TakenRow}
+use Rattle.hfs_database.specs.Taken.{TakenRow}
 use Rattle.hfs_database.specs.declared.fault.PutFault.{PutFault}
 use Rattle.hfs_database.specs.declared.fault.PutFault.TheVariants.{Database, Source}
 use Rattle.hfs_database.specs.declared.statements.LastRows.{LastRows}

@@ -6,7 +6,7 @@ use Rattle.sqlite.specs.declared.types.Value.{Value}
 use Rattle.sqlite.specs.State.{State, Executes, HasCleanDisk, QueriesRow, Shown}
 use Rattle.sqlite.specs.Store.{Ghosts}
 use Rattle.sqlite_value.specs.Order.{column}
-use Rattle.hfs_database.specs.Texts.{drop_volumes_text, put_image_text}
+use Rattle.hfs_database.specs.StatementTexts.{drop_volumes_text, put_image_text}
 
 -- this text was run with these parameters, where the disk is clean still
 abbrev pub HasRun : State → State → List ℕ → List Value → Type 0

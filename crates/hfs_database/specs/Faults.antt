@@ -8,8 +8,8 @@ use Rattle.sqlite.specs.declared.types.Value.{Value}
 use Rattle.sqlite.specs.Reading.{IsReadError}
 use Rattle.sqlite.specs.State.{State, FailsToQuery, HasCleanDisk, QueriesRow}
 use Rattle.sqlite_value.specs.Order.{column}
-use Rattle.hfs_rows.specs.declared.fault.TakerFault.{TakerFault}
-use Rattle.hfs_rows.specs.declared.fault.TakerFault.TheVariants as taker
+use Rattle.hfs_database.specs.declared.row_fault.TakerFault.{TakerFault}
+use Rattle.hfs_database.specs.declared.row_fault.TakerFault.TheVariants as taker
 use Rattle.hfs_database.specs.declared.fault.DatabaseFault.{DatabaseFault}
 use Rattle.hfs_database.specs.declared.fault.DatabaseFault.TheVariants.{CannotOpen, CannotWrite, NoMemory}
 use Rattle.hfs_database.specs.declared.fault.Obstacle.{Obstacle}

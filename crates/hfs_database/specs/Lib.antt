@@ -1,5 +1,8 @@
+pub mod Taken
+pub mod GivenRows
+pub mod StoredRows
 pub mod Values
-pub mod Texts
+pub mod StatementTexts
 pub mod Doing
 pub mod Faults
 pub mod Rows
@@ -9,3 +12,12 @@ pub mod Listing
 pub mod Transactions
 pub mod Tables
 pub mod FileNames
+pub mod Columns
+pub mod Keys
+pub mod RowLines
+pub mod RowTexts
+pub mod UnderWay
+pub mod PageLines
+pub mod Pages
+pub mod Writing
+pub mod Nested

@@ -4,11 +4,11 @@ use Rattle.sqlite.specs.declared.types.Value.{Value}
 use Rattle.sqlite.specs.declared.types.Value.TheVariants.{Int}
 use Rattle.sqlite.specs.Held.{Held, state}
 use Rattle.sqlite.specs.Store.{Ghosts}
-use Rattle.hfs_rows.specs.declared.value.Table.{Table}
-use Rattle.hfs_rows.specs.declared.value.Table.TheVariants as table
+use Rattle.hfs_database.specs.declared.value.Table.{Table}
+use Rattle.hfs_database.specs.declared.value.Table.TheVariants as table
 use Rattle.hfs_database.specs.declared.statements.LastRows.{LastRows}
 use Rattle.hfs_database.specs.Doing.{HasFound, HasReplaced, HasRunAll}
-use Rattle.hfs_database.specs.Texts.{put_item_text, put_volume_text}
+use Rattle.hfs_database.specs.StatementTexts.{put_item_text, put_volume_text}
 
 -- a volume was put under the image that was put last
 pub record PutsVolume {S : Type 0} (g : Ghosts S) (values : List Value) (old new : Held S) (before after : LastRows) : Type 0 where

@@ -1,7 +1,7 @@
 -- Values of a row as SQLite has them.
 use Rattle.std.specs.Prelude.{pos}
-use Rattle.hfs_rows.specs.declared.value.RowValue.{RowValue}
-use Rattle.hfs_rows.specs.declared.value.RowValue.TheVariants as row
+use Rattle.hfs_database.specs.declared.value.RowValue.{RowValue}
+use Rattle.hfs_database.specs.declared.value.RowValue.TheVariants as row
 use Rattle.sqlite.specs.declared.types.Value.{Value}
 use Rattle.sqlite.specs.declared.types.Value.TheVariants.{Null, Int, Text}
 

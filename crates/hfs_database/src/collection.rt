@@ -3,11 +3,11 @@ ghost use Rattle.std.specs.Prelude.{[], IfErr, IfOk, OnErr, OnOk};
 ghost use Rattle.hfs_database.specs.Tables.{HasTables, IsRefusedFor};
 ghost use Rattle.hfs_database.specs.Transactions.{EndsAtSource, IsSourceFault, KeepsAtSource, LeavesAllOrNone, LeavesAsBefore, PutsAllInOne};
 
+use crate::RowSource;
 use crate::fault::{DatabaseFault, Obstacle, PutFault, opening_fault, writing_fault};
 use crate::files::DatabaseFiles;
 use crate::putting::put_all;
 use crate::tables::{Found, find_tables, make_tables};
-use hfs_rows::RowSource;
 use sqlite::{Alter, Connection, File, FileStore, Files as OpenedFiles, Unknown};
 use std::alloc::Global;
 

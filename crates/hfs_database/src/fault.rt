@@ -4,7 +4,7 @@ ghost use Rattle.hfs_database.specs.declared.fault.DatabaseFault.TheVariants.{Ca
 ghost use Rattle.hfs_database.specs.Faults as spec;
 ghost use Rattle.hfs_database.specs.Tables.{TellsNoTables};
 
-use hfs_rows::TakerFault;
+use crate::TakerFault;
 use sqlite::{Error, ErrorCode};
 
 /// Why a database can't be opened.

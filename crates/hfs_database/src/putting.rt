@@ -4,9 +4,9 @@ ghost use Rattle.sqlite.specs.Held.{state};
 ghost use Rattle.sqlite.specs.State.{Survives};
 ghost use Rattle.hfs_database.specs.Transactions.{EndsAtSource, IsAsBefore, IsBegun, IsCommitted, IsSettled, IsSourceFault, IsUndone, KeepsAtSource, KeepsFile, LeavesAllOrNone, LeavesAsBefore, PutsAllInOne};
 
+use crate::RowSource;
 use crate::fault::{DatabaseFault, PutFault, writing_fault};
 use crate::taker::put_rows;
-use hfs_rows::RowSource;
 use sqlite::{Alter, Connection};
 use std::alloc::Global;
 

@@ -6,13 +6,13 @@ ghost use Rattle.sqlite_value.specs.Order.{column};
 ghost use Rattle.sqlite.specs.Values.{bound};
 ghost use Rattle.hfs_database.specs.Doing.{HasFound, HasReplaced, HasRunAll, HasShown};
 ghost use Rattle.hfs_database.specs.Rows.{PutsRow};
-ghost use Rattle.hfs_database.specs.Texts.{drop_volumes_text, put_item_text, put_volume_text};
+ghost use Rattle.hfs_database.specs.StatementTexts.{drop_volumes_text, put_item_text, put_volume_text};
 ghost use Rattle.hfs_database.specs.Transactions.{KeepsFile};
 ghost use Rattle.hfs_database.specs.Values.{sql_value};
 
 use crate::fault::taking_fault;
 use crate::values::{parameters_under, push_parameters};
-use hfs_rows::{RowValue, Table, TakerFault};
+use crate::{RowValue, Table, TakerFault};
 use sqlite::types::ValueRef;
 use sqlite::{Alter, Connection, Row};
 use std::alloc::Global;
@@ -92,7 +92,7 @@ fn put<S: Alter>(
 }
 
 /// Removes the volumes of an image, with their items.
-#[tactic(auto, unfolding(crate::specs::Texts::drop_volumes_text))]
+#[tactic(auto, unfolding(crate::specs::StatementTexts::drop_volumes_text))]
 fn drop_volumes<S: Alter>(conn: &mut Connection<S>, image: i64) -> Result<(), TakerFault>
     ensures done { OnOk result (HasRunAll (state S.Store conn.old) (state S.Store conn.new)
         drop_volumes_text (Int image ∷ [])) }
@@ -107,7 +107,7 @@ fn drop_volumes<S: Alter>(conn: &mut Connection<S>, image: i64) -> Result<(), Ta
 }
 
 /// Inserts the row of an image, or updates the one with its path, whose volumes are removed. Returns the row's number.
-#[tactic(auto, using(crate::proofs::Keeping::keeps_itself, crate::proofs::Keeping::keeps_then), unfolding(crate::specs::Texts::put_image_text))]
+#[tactic(auto, using(crate::proofs::Keeping::keeps_itself, crate::proofs::Keeping::keeps_then), unfolding(crate::specs::StatementTexts::put_image_text))]
 fn replace_image<S: Alter>(
     alloc: Global,
     conn: &mut Connection<S>,
@@ -129,7 +129,7 @@ fn replace_image<S: Alter>(
 }
 
 /// Inserts the row of a volume of an image, and returns the row's number.
-#[tactic(auto, using(crate::proofs::Keeping::keeps_itself, crate::proofs::Keeping::keeps_then), unfolding(crate::specs::Texts::put_volume_text))]
+#[tactic(auto, using(crate::proofs::Keeping::keeps_itself, crate::proofs::Keeping::keeps_then), unfolding(crate::specs::StatementTexts::put_volume_text))]
 fn put_volume<S: Alter>(
     alloc: Global,
     conn: &mut Connection<S>,
@@ -150,7 +150,7 @@ fn put_volume<S: Alter>(
 }
 
 /// Inserts the row of an item of a volume.
-#[tactic(auto, using(crate::proofs::Keeping::keeps_itself, crate::proofs::Keeping::keeps_then), unfolding(crate::specs::Texts::put_item_text))]
+#[tactic(auto, using(crate::proofs::Keeping::keeps_itself, crate::proofs::Keeping::keeps_then), unfolding(crate::specs::StatementTexts::put_item_text))]
 fn put_item<S: Alter>(
     alloc: Global,
     conn: &mut Connection<S>,

@@ -1,15 +1,15 @@
 //! The taker that is a database.
 ghost use Rattle.std.specs.Prelude.{◌≡◌, false, [], map, IfErr, IfOk, OnErr, OnOk};
 ghost use Rattle.sqlite.specs.Held.{Held};
-ghost use Rattle.hfs_rows.specs.GivenRows.{with_given};
-ghost use Rattle.hfs_rows.specs.Taken.{with_row};
+ghost use Rattle.hfs_database.specs.GivenRows.{with_given};
+ghost use Rattle.hfs_database.specs.Taken.{with_row};
 ghost use Rattle.hfs_database.specs.Rows.{PutsRow};
 ghost use Rattle.hfs_database.specs.Transactions.{HasPutSince, IsSourceFault, KeepsFile, LeavesFile, PutsAll};
 ghost use Rattle.hfs_database.specs.Values.{sql_value};
 
 use crate::fault::{DatabaseFault, PutFault};
 use crate::statements::{LastRows, put_row};
-use hfs_rows::{Given, GivenRow, RowSource, RowTaker, RowValue, Table, TakerFault};
+use crate::{Given, GivenRow, RowSource, RowTaker, RowValue, Table, TakerFault};
 use sqlite::{Alter, Connection};
 use std::alloc::Global;
 use std::snapshot::Snapshot;

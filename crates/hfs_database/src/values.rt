@@ -5,7 +5,7 @@ ghost use Rattle.sqlite.specs.Values.{bound, bound_value};
 ghost use Rattle.sqlite_value.specs.Value.{owned};
 ghost use Rattle.hfs_database.specs.Values.{sql_value};
 
-use hfs_rows::{RowValue, TakerFault};
+use crate::{RowValue, TakerFault};
 use sqlite::types::ValueRef;
 use std::alloc::Global;
 

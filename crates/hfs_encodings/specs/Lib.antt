@@ -1,3 +1,11 @@
 pub mod Crc
 pub mod AppleDouble
 pub mod MacBinary
+pub mod Spelled
+pub mod Names
+pub mod Forks
+pub mod IncomingMacBinary
+pub mod Dates
+pub mod Failing
+pub mod IncomingAppleDouble
+pub mod Laws

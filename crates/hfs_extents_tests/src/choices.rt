@@ -3,9 +3,8 @@
 ghost use Rattle.std.specs.Prelude.{◌≡◌, IfOk, vec_len};
 
 use hfs_blocks::ImageBytes;
-use hfs_claims::{Room, blocks_that_come, free_runs};
 use hfs_fields::Extent;
-use hfs_space::Bitmap;
+use hfs_space::{Bitmap, Room, blocks_that_come, free_runs};
 use std::alloc::{AllocError, Global};
 use std::test::Fail;
 

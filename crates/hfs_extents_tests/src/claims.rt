@@ -3,9 +3,8 @@
 ghost use Rattle.std.specs.Prelude.{◌≡◌, IfOk, vec_len};
 
 use hfs_blocks::{Blocks, ImageBytes, Patch};
-use hfs_claims::{claim, claim_extents};
 use hfs_fields::Extent;
-use hfs_space::{Bitmap, are_within};
+use hfs_space::{Bitmap, are_within, claim, claim_extents};
 use std::alloc::{AllocError, Global};
 use std::test::Fail;
 

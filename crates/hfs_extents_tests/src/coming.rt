@@ -1,6 +1,6 @@
 //! Adding records.
 use crate::trees::{begins_with, counts, empty_tree, put, put_run};
-use hfs_extents_edits::extents_need;
+use hfs_record_edits::extents_need;
 use std::alloc::Global;
 use std::test::Fail;
 

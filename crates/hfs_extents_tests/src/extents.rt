@@ -4,7 +4,7 @@ ghost use Rattle.std.specs.Prelude.{◌<◌, IsTrue, ◌↔◌};
 ghost use Rattle.std.specs.List.{All};
 
 use hfs_fields::Extent;
-use hfs_fork_extents::{cut_extents, lengthen, surplus};
+use hfs_record_edits::{cut_extents, lengthen, surplus};
 use hfs_space::are_within;
 use std::alloc::{AllocError, Global};
 use std::test::Fail;

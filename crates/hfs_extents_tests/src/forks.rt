@@ -4,7 +4,7 @@ use crate::trees::{begins_with, counts, empty_tree, put, put_run};
 use hfs_btree_checks::check_tree;
 use hfs_fields::ExtKey;
 use hfs_fixtures::NodeTable;
-use hfs_fork_extents::cut_records;
+use hfs_record_edits::cut_records;
 use hfs_space::ForkKind;
 use std::alloc::Global;
 use std::test::Fail;

@@ -3,15 +3,15 @@
 ghost use Rattle.std.specs.Prelude.{◌≡◌, ◌+◌, ◌<◌, ◌≤◌, ◌↔◌, true, IsTrue, IfOk, [], ◌∷◌};
 ghost use Rattle.std.specs.List.{All};
 ghost use Rattle.hfs_space.specs.Extents.{block_total};
-ghost use Rattle.hfs_fork_extents.specs.Lengthened.{none};
-ghost use Rattle.hfs_fork_extents.specs.Whole.{IsWhole};
+ghost use Rattle.hfs_record_edits.specs.Lengthened.{none};
+ghost use Rattle.hfs_record_edits.specs.Whole.{IsWhole};
 
 use crate::trees::{begins_with, counts, empty_tree, key_of};
 use hfs_btree::{find, read_header};
 use hfs_btree_checks::check_tree;
 use hfs_fields::{ExtKey, Extent};
 use hfs_fixtures::NodeTable;
-use hfs_fork_extents::{NodesWanted, ShortFork, lengthen_fork, shorten_fork};
+use hfs_record_edits::{NodesWanted, ShortFork, lengthen_fork, shorten_fork};
 use hfs_space::{ForkKind, are_within, fork_extents};
 use std::alloc::Global;
 use std::test::Fail;

@@ -5,9 +5,9 @@ ghost use Rattle.hfs_space.specs.TreeKeys.{IsExtentsTree};
 use crate::trees::{begins_with, counts, empty_tree, key_of, put, put_run};
 use hfs_btree::find;
 use hfs_btree_checks::check_tree;
-use hfs_extents_edits::{change, cut_fork};
 use hfs_fields::ExtKey;
 use hfs_fixtures::NodeTable;
+use hfs_record_edits::{change, cut_fork};
 use std::alloc::Global;
 use std::test::Fail;
 

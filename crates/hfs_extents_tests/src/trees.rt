@@ -4,9 +4,9 @@ ghost use Rattle.hfs_space.specs.TreeKeys.{IsExtentsTree};
 
 use hfs_btree::{Key, Walk, depth, find, free_nodes, read_header};
 use hfs_btree_checks::check_tree;
-use hfs_extents_edits::{add, extents_need};
 use hfs_fields::ExtKey;
 use hfs_fixtures::{NodeTable, is_exact};
+use hfs_record_edits::{add, extents_need};
 use std::alloc::Global;
 use std::test::Fail;
 

@@ -1,7 +1,6 @@
 //! What a fork that grows lacks, with numbers by hand.
-use hfs_fork_calls::BlockSize;
-use hfs_fork_wants::{Growth, Supply, blocks_wanted, fork_want};
-use hfs_model::Want;
+use hfs_model::{BlockSize, Want};
+use hfs_record_edits::{Growth, Supply, blocks_wanted, fork_want};
 use std::test::Fail;
 
 /// The free blocks and nodes, levels and records of a volume, and the blocks and records that are added to a fork.

@@ -4,8 +4,7 @@ ghost use Rattle.std.specs.Prelude.{◌≡◌, IfOk, vec_len};
 
 use hfs_blocks::{Blocks, ImageBytes, Patch};
 use hfs_fields::{Extent, Mdb};
-use hfs_fork_bytes::{Cleared, clear_fork, write_fork};
-use hfs_space::are_within;
+use hfs_space::{Cleared, are_within, clear_fork, write_fork};
 use std::alloc::{AllocError, Global};
 use std::test::Fail;
 

@@ -1,3 +1,7 @@
+pub mod Each
+pub mod Members
+pub mod First
+pub mod Laws
 pub mod Order
 pub mod Names
 pub mod NameFields

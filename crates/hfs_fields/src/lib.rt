@@ -1,3 +1,5 @@
+//! What holds for each element of a list, and the first element that fails a test.
+//!
 //! Numbers, records, keys and names of an HFS volume, read from its bytes and written to them.
 #![tactic(auto)]
 
@@ -8,6 +10,7 @@ mod field_row;
 mod file_flags;
 mod file_record;
 mod key;
+mod laws;
 mod mdb;
 mod name;
 mod numbers;
@@ -24,3 +27,4 @@ pub use crate::mdb::Mdb;
 pub use crate::name::{Name, is_item_name, name_order_laws, same_name};
 pub use crate::numbers::{put, put_u16, put_u32, u16_at, u32_at};
 pub use crate::thread_record::{ThreadKind, ThreadRecord};
+pub use laws::{scans_are_first, scans_are_whole};

@@ -1,8 +1,7 @@
 //! Whether a tree's index keys are exact.
 
 use crate::node_table::NodeTable;
-use hfs_btree::{Key, Nodes};
-use hfs_node::{NodeKind, view};
+use hfs_btree::{Key, NodeKind, Nodes, view};
 
 /// The first key of a leaf or an index node.
 fn first_key<K: Key>(bytes: &[u8; 512]) -> Option<K> {

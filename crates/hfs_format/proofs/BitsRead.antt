@@ -5,8 +5,8 @@ use Rattle.std.specs.Int.{bit_at}
 use Rattle.std.proofs.Math.Nat.{min-le_left, min-le_right, le-min}
 use Rattle.std.proofs.lemmas.List.FromFn.{get_or-map-range_with_len}
 use Rattle.std.proofs.lemmas.Bool.{cases_Bool, lt-ltb, le-ltb, ltb-true, ltb-false}
-use Rattle.hfs_node.specs.Node.{each_below}
-use Rattle.hfs_node.proofs.BelowLemmas.{each_below-at}
+use Rattle.hfs_btree.specs.Node.{each_below}
+use Rattle.hfs_btree.proofs.BelowLemmas.{each_below-at}
 use Rattle.hfs_btree.specs.Header.{bit_of}
 use Rattle.hfs_space.specs.Bitmap.{is_used, count_below, clear_count}
 use Rattle.hfs_space.proofs.CountingLemmas.{count_below-suc, count_below-same}

@@ -10,7 +10,7 @@ use Rattle.hfs_btree.specs.declared.header.Header.{Header}
 use Rattle.hfs_btree.specs.declared.key.Key.{Ghosts}
 use Rattle.hfs_btree.specs.Tree.{Store, node_in, records_of, forward_of}
 use Rattle.hfs_btree.specs.Header.{header_of, header_in, record_in, chain_from, map_nodes, map_bytes, bit_of, marks, free_nodes, is_marked}
-use Rattle.hfs_scans.specs.Each.{Each}
+use Rattle.hfs_fields.specs.Each.{Each}
 use Rattle.hfs_btree.specs.Sound.{HasHeader, HasMap, IsDistinct, IsMapNode, IsMarked}
 use Rattle.hfs_space.proofs.OwnedOnce.{each-range, distinct-range}
 use Rattle.hfs_format.specs.BitRow.{bit_row}

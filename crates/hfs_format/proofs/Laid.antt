@@ -2,8 +2,8 @@
 use Rattle.std.proofs.Common.{◌≡◌, ℕ, ◌+◌, ◌-◌, List, [], ◌∷◌, ◌++◌, length, replicate, ◌∙◌, arith}
 use Rattle.std.proofs.lemmas.List.{append_assoc, append-nil}
 use Rattle.byteorder.specs.Endian.{big_bytes}
-use Rattle.hfs_node.specs.Node.{size_of, start_of}
-use Rattle.hfs_node.specs.declared.kind.NodeKind.TheVariants.{Header, Leaf, Map}
+use Rattle.hfs_btree.specs.Node.{size_of, start_of}
+use Rattle.hfs_btree.specs.declared.kind.NodeKind.TheVariants.{Header, Leaf, Map}
 use Rattle.hfs_format.specs.NewTrees.{descriptor, descriptor_bytes, offsets_down, node_bytes, lone_leaf}
 
 two-pieces : (d a b z x y w : List ℕ) → ((d ++ (a ++ (b ++ []))) ++ z) ++ (x ++ (y ++ w)) ≡ (((((d ++ a) ++ b) ++ z) ++ x) ++ y) ++ w

@@ -16,3 +16,11 @@ pub mod PlanFacts
 pub mod NewImage
 pub mod Ranges
 mod BitRowLemmas
+mod NodeNumbers
+pub mod PlanNumbers
+pub mod SizeLemmas
+pub mod CatalogLemmas
+pub mod PlanLemmas
+pub mod NameLemmas
+pub mod ReadLemmas
+pub mod TypedLemmas

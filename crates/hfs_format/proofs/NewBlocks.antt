@@ -10,7 +10,7 @@ use Rattle.hfs_fields.specs.Records.{new_dir, new_thread}
 use Rattle.hfs_fields.specs.RecordForms.{IsDirRecordValue, dir_record_bytes, IsThreadRecordValue, thread_record_bytes}
 use Rattle.hfs_fields.proofs.RecordFormLemmas.{length-dir_record_bytes, length-thread_record_bytes}
 use Rattle.hfs_fields.specs.declared.thread_record.ThreadKind.TheVariants.{Folder}
-use Rattle.hfs_node.specs.Node.{size_of}
+use Rattle.hfs_btree.specs.Node.{size_of}
 use Rattle.hfs_blocks.specs.Blocks.{block_at, block_count}
 use Rattle.hfs_format.specs.declared.layout.Layout.{Layout}
 use Rattle.hfs_btree.specs.declared.header.Header.{Header}

@@ -12,7 +12,7 @@ use Rattle.hfs_fields.proofs.RecordFormLemmas.{is_dir-written, dir_record_of-wri
 use Rattle.hfs_fields.specs.declared.dir_record.DirRecord.{DirRecord}
 use Rattle.hfs_fields.specs.declared.thread_record.ThreadRecord.{ThreadRecord}
 use Rattle.hfs_fields.specs.declared.thread_record.ThreadKind.TheVariants.{Folder}
-use Rattle.hfs_scans.specs.Each.{Each}
+use Rattle.hfs_fields.specs.Each.{Each}
 use Rattle.hfs_btree.specs.Sound.{IsDistinct}
 use Rattle.hfs_catalog.specs.Records.{items_of, has_id, item_with, has_thread, valence_of}
 use Rattle.hfs_catalog.specs.Sound.{EachFolder, IsRecord, AreIdsSound, AreNamesSound, LeadsTo, ArePlacesSound, HasValence, counts_of, AreCountsSound}

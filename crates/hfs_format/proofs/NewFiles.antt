@@ -14,8 +14,8 @@ use Rattle.hfs_fields.specs.RecordForms.{dir_record_bytes, thread_record_bytes}
 use Rattle.hfs_fields.proofs.RecordFormLemmas.{length-dir_record_bytes, length-thread_record_bytes}
 use Rattle.hfs_fields.specs.declared.key.CatKey.{CatKey}
 use Rattle.hfs_fields.specs.declared.thread_record.ThreadKind.TheVariants.{Folder}
-use Rattle.hfs_node.specs.declared.node.Node.{Node}
-use Rattle.hfs_node.specs.Node.{node_of}
+use Rattle.hfs_btree.specs.declared.node.Node.{Node}
+use Rattle.hfs_btree.specs.Node.{node_of}
 use Rattle.hfs_blocks.specs.Blocks.{block_at, nodes_in}
 use Rattle.hfs_btree.specs.Pairs.{Rises}
 use Rattle.hfs_btree.specs.Tree.{Store, node_in, pair_of}

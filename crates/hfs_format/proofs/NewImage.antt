@@ -7,7 +7,7 @@ use Rattle.hfs_fields.specs.Records.{is_dir, dir_record_of, is_bit_set, new_dir}
 use Rattle.hfs_fields.specs.RecordForms.{dir_record_bytes}
 use Rattle.hfs_fields.specs.declared.mdb.Mdb.{Mdb}
 use Rattle.hfs_btree_checks.specs.Order.{index_keys, index_keys_at}
-use Rattle.hfs_scans.specs.Each.{Each}
+use Rattle.hfs_fields.specs.Each.{Each}
 use Rattle.hfs_btree.specs.Tree.{records_in, key_at}
 use Rattle.hfs_model.specs.Volume.{Entry}
 use Rattle.hfs_space.specs.TreeFiles.{tree_nodes}

@@ -6,8 +6,8 @@ use Rattle.std.proofs.Math.Nat.{mul_left_comm}
 use Rattle.std.proofs.lemmas.List.{append-nil}
 use Rattle.std.proofs.lemmas.Bool.{cond-false, lt-ltb}
 use Rattle.hfs_fields.specs.declared.extent.Extent.{Extent}
-use Rattle.hfs_scans.proofs.ElementLemmas.{each-append}
-use Rattle.hfs_scans.specs.Each.{Each}
+use Rattle.hfs_fields.proofs.ElementLemmas.{each-append}
+use Rattle.hfs_fields.specs.Each.{Each}
 use Rattle.hfs_btree.specs.Sound.{IsOther}
 use Rattle.hfs_space.proofs.OwnedOnce.{each-range, distinct-range}
 use Rattle.hfs_space.specs.Bitmap.{is_used}

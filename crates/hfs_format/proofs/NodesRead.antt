@@ -7,11 +7,11 @@ use Rattle.std.proofs.lemmas.List.Concat.{length-flat_map}
 use Rattle.std.proofs.lemmas.List.Sums.{sum_by-cons, sum_by_more}
 use Rattle.byteorder.specs.Endian.{big_bytes}
 use Rattle.hfs_fields.proofs.LaidLemmas.{number-read}
-use Rattle.hfs_node.proofs.KindLemmas.{kind_of-byte_of}
-use Rattle.hfs_node.specs.declared.node.Node.{Node}
-use Rattle.hfs_node.specs.Node.{count_of, offset_of, node_of, start_of, size_of, Fits}
-use Rattle.hfs_node.specs.Laid.{HasHead}
-use Rattle.hfs_node.proofs.ReadBackLemmas.{start-room, few-records, size_of-lengths, node_of-encoded}
+use Rattle.hfs_btree.proofs.KindLemmas.{kind_of-byte_of}
+use Rattle.hfs_btree.specs.declared.node.Node.{Node}
+use Rattle.hfs_btree.specs.Node.{count_of, offset_of, node_of, start_of, size_of, Fits}
+use Rattle.hfs_btree.specs.Laid.{HasHead}
+use Rattle.hfs_btree.proofs.ReadBackLemmas.{start-room, few-records, size_of-lengths, node_of-encoded}
 use Rattle.hfs_format.specs.NewTrees.{descriptor_bytes, offsets_down, offset_bytes, node_bytes}
 
 -- what every node of a new volume keeps

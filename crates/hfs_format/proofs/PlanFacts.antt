@@ -4,9 +4,9 @@ use Rattle.std.specs.Prelude.{nat_le}
 use Rattle.std.proofs.Math.Nat.{mul-le-mul_left, mul_comm, div-le_self}
 use Rattle.std.proofs.lemmas.Bool.{and_parts, leb-true, cases_lt}
 use Rattle.hfs_fields.specs.Names.{is_item_name}
-use Rattle.hfs_format.specs.declared.plan.FormatPlan.{FormatPlan}
-use Rattle.hfs_format.specs.declared.fault.FormatFault.{FormatFault}
-use Rattle.hfs_format.specs.declared.fault.FormatFault.TheVariants.{BadName, BadSize, BadNodes, NoRoom}
+use Rattle.hfs_format.specs.declared.format_plan.FormatPlan.{FormatPlan}
+use Rattle.hfs_format.specs.declared.format_fault.FormatFault.{FormatFault}
+use Rattle.hfs_format.specs.declared.format_fault.FormatFault.TheVariants.{BadName, BadSize, BadNodes, NoRoom}
 use Rattle.hfs_format.specs.Plan.{block_factor, bitmap_blocks, allocation_start, allocation_blocks, file_blocks, layout_of, is_volume_name, is_volume_size, are_node_counts, has_room, format_fault}
 use Rattle.hfs_format.specs.declared.layout.Layout.{Layout}
 use Rattle.hfs_format.specs.Plan.{IsLayout, IsLaidOut}

@@ -16,7 +16,7 @@ use borrow.Rule.Slice.PartMut.{put_mid}
 use Rattle.hfs_space.proofs.ForkLawLemmas.{range-add}
 use Rattle.hfs_format.specs.declared.layout.Layout.{Layout}
 use Rattle.hfs_format.specs.declared.planned_image.PlannedImage.{PlannedImage}
-use Rattle.hfs_format.specs.declared.plan.FormatPlan.{FormatPlan}
+use Rattle.hfs_format.specs.declared.format_plan.FormatPlan.{FormatPlan}
 use Rattle.hfs_format.specs.Plan.{IsLayout, IsLaidOut, IsPlanned}
 use Rattle.hfs_format.specs.Image.{new_block, volume_image, image_bytes}
 use Rattle.hfs_format.proofs.Blocks.{flat_map-range-last}

@@ -4,7 +4,7 @@ use Rattle.std.specs.FinMap as finite
 use Rattle.hfs_model.specs.declared.item.Item.{Item}
 use Rattle.hfs_model.specs.Changes.{new_folder, new_item}
 use Rattle.hfs_model.specs.Volume.{Volume}
-use Rattle.hfs_format.specs.declared.plan.FormatPlan.{FormatPlan}
+use Rattle.hfs_format.specs.declared.format_plan.FormatPlan.{FormatPlan}
 use Rattle.hfs_format.specs.Plan.{block_factor, format_fault}
 use Rattle.hfs_format.specs.Image.{new_image}
 use Rattle.hfs_check.specs.Sound.{IsSound}

@@ -2,7 +2,7 @@
 use Rattle.std.specs.Prelude.{ℕ, ◌+◌, ◌-◌, ◌*◌, Bool, ◌||◌, ◌==◌, nat_lt, if◌then◌else◌, List, None, replicate, ◌≡◌}
 use Rattle.std.proofs.Common.{Vec, Global}
 use Rattle.std.specs.List.{flat_map, range_with_len}
-use Rattle.hfs_format.specs.declared.plan.FormatPlan.{FormatPlan}
+use Rattle.hfs_format.specs.declared.format_plan.FormatPlan.{FormatPlan}
 use Rattle.hfs_format.specs.declared.layout.Layout.{Layout}
 use Rattle.hfs_format.specs.declared.planned_image.PlannedImage.{PlannedImage}
 use Rattle.hfs_format.specs.Plan.{format_fault, layout_of, used_blocks}

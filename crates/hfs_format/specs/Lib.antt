@@ -4,3 +4,11 @@ pub mod BitRow
 pub mod NewTrees
 pub mod Image
 pub mod FormatLaws
+pub mod SizeNumerals
+pub mod TypedSizes
+pub mod Names
+pub mod Catalogs
+pub mod Least
+pub mod Wanted
+pub mod ChosenSizes
+pub mod Plans

@@ -7,11 +7,11 @@ use Rattle.hfs_fields.specs.Records.{new_dir, new_thread}
 use Rattle.hfs_fields.specs.RecordForms.{dir_record_bytes, thread_record_bytes}
 use Rattle.hfs_fields.specs.declared.dir_record.DirRecord.{DirRecord}
 use Rattle.hfs_fields.specs.declared.thread_record.ThreadKind.TheVariants.{Folder}
-use Rattle.hfs_node.specs.Kind.{byte_of}
-use Rattle.hfs_node.specs.Node.{size_of, start_of}
-use Rattle.hfs_node.specs.declared.kind.NodeKind.{NodeKind}
-use Rattle.hfs_node.specs.declared.kind.NodeKind.TheVariants.{Header, Leaf, Map}
-use Rattle.hfs_node.specs.declared.node.Node.{Node}
+use Rattle.hfs_btree.specs.Kind.{byte_of}
+use Rattle.hfs_btree.specs.Node.{size_of, start_of}
+use Rattle.hfs_btree.specs.declared.kind.NodeKind.{NodeKind}
+use Rattle.hfs_btree.specs.declared.kind.NodeKind.TheVariants.{Header, Leaf, Map}
+use Rattle.hfs_btree.specs.declared.node.Node.{Node}
 use Rattle.hfs_btree.specs.declared.header.Header.{Header as TreeHeader}
 use Rattle.hfs_format.specs.declared.layout.Layout.{Layout}
 use Rattle.hfs_format.specs.BitRow.{bit_row}

@@ -3,11 +3,11 @@
 use Rattle.std.specs.Prelude.{ℕ, ◌+◌, ◌-◌, ◌*◌, ◌/◌, ◌^◌, ◌<◌, ◌≤◌, Bool, not, ◌&&◌, nat_le, if◌then◌else◌, List, length, Option, Some, None, ◌≡◌, ◌⊎◌, IsTrue}
 use Rattle.std.specs.Option.{SomeIff}
 use Rattle.hfs_fields.specs.Names.{is_item_name}
-use Rattle.hfs_format.specs.declared.plan.FormatPlan.{FormatPlan}
+use Rattle.hfs_format.specs.declared.format_plan.FormatPlan.{FormatPlan}
 use Rattle.hfs_format.specs.declared.layout.Layout.{Layout}
 use Rattle.hfs_format.specs.declared.layout.TreeFile.{TreeFile}
-use Rattle.hfs_format.specs.declared.fault.FormatFault.{FormatFault}
-use Rattle.hfs_format.specs.declared.fault.FormatFault.TheVariants.{BadName, BadSize, BadNodes, NoRoom, Memory}
+use Rattle.hfs_format.specs.declared.format_fault.FormatFault.{FormatFault}
+use Rattle.hfs_format.specs.declared.format_fault.FormatFault.TheVariants.{BadName, BadSize, BadNodes, NoRoom, Memory}
 
 -- ---- numbers
 

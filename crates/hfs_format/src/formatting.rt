@@ -8,11 +8,11 @@ ghost use Rattle.hfs_check.specs.Sound.{IsSound};
 ghost use Rattle.hfs_check.specs.VolumeOf.{volume_of};
 
 use crate::bit_row::push_bits;
-use crate::fault::FormatFault;
+use crate::format_fault::FormatFault;
 use crate::format_laws::{new_images_are_sound, new_images_hold_new_volumes};
+use crate::format_plan::FormatPlan;
 use crate::layout::Layout;
 use crate::mdb_block::mdb_block;
-use crate::plan::FormatPlan;
 use crate::root_leaf::root_leaf_block;
 use crate::tree_header::{empty_tree, one_leaf_tree, tree_block};
 use hfs_fields::FieldRow;

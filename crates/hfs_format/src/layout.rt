@@ -4,8 +4,8 @@ ghost use Rattle.std.specs.Option.{SomeIff};
 ghost use Rattle.hfs_format.specs.Plan as spec;
 ghost use Rattle.hfs_format.specs.Plan.{HasFault, IsLaidOut};
 
-use crate::fault::FormatFault;
-use crate::plan::FormatPlan;
+use crate::format_fault::FormatFault;
+use crate::format_plan::FormatPlan;
 use hfs_fields::Name;
 
 /// The file of a tree.

@@ -10,13 +10,13 @@ ghost use Rattle.hfs_format.specs.FormatLaws.{planned_volume};
 ghost use Rattle.hfs_format.specs.Image as spec;
 ghost use Rattle.hfs_format.specs.Image.{IsImageOf, image_bytes};
 
-use crate::fault::FormatFault;
+use crate::format_fault::FormatFault;
 use crate::format_laws::{new_images_are_sound, new_images_hold_new_volumes};
+use crate::format_plan::FormatPlan;
 use crate::formatting::new_block;
 use crate::layout::Layout;
-use crate::plan::FormatPlan;
 use crate::planned_image::PlannedImage;
-use hfs_sparse::BlockSource;
+use hfs_source::BlockSource;
 use hfs_texts::put;
 use std::io;
 use std::io::{ErrorKind, Write};

@@ -2,8 +2,8 @@
 ghost use Rattle.std.specs.Prelude.{◌≡◌, ◌+◌, ◌-◌, ◌≤◌, [], ◌∷◌, length};
 ghost use Rattle.hfs_format.specs.NewTrees as spec;
 
+use hfs_btree::NodeKind;
 use hfs_fields::FieldRow;
-use hfs_node::NodeKind;
 
 /// The descriptor of a node with these links.
 pub fn descriptor(forward: u32, backward: u32, kind: NodeKind, height: u8, records: u16) -> FieldRow

@@ -3,7 +3,7 @@ ghost use Rattle.std.specs.Prelude.{◌<◌};
 
 use crate::layout::Layout;
 use crate::*;
-use hfs_sparse::BlockSource;
+use hfs_source::BlockSource;
 use std::alloc::{AllocError, Global};
 use std::test::Fail;
 

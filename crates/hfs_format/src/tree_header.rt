@@ -5,9 +5,8 @@ ghost use Rattle.hfs_format.specs.NewTrees.{map_node_count, IsNewTree};
 
 use crate::bit_row::push_bits;
 use crate::node_block::descriptor;
-use hfs_btree::Header;
+use hfs_btree::{Header, NodeKind};
 use hfs_fields::FieldRow;
-use hfs_node::NodeKind;
 
 /// How many map nodes a tree of `nodes` nodes has. A map node's record is 492 bytes long.
 #[tactic(auto, unfolding(crate::specs::NewTrees::map_node_count))]

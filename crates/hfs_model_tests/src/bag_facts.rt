@@ -1,9 +1,9 @@
 //! What bags in a tree in memory say about their items, and the digests of their files.
 use crate::sources::{DOUBLE, file, folder};
-use hfs_bag_facts::{BagFacts, ManifestDigests, bag_name, first_wrong_file};
 use hfs_put_plan::ToldFacts;
-use hfs_sources::{
-    HostFault, HostNode, MemoryTree, NothingTold, PutOptions, SourceItem, ToldItems, list_sources,
+use hfs_put_sources::{
+    BagFacts, HostFault, HostNode, ManifestDigests, MemoryTree, NothingTold, PutOptions,
+    SourceItem, ToldItems, bag_name, first_wrong_file, list_sources,
 };
 use std::alloc::Global;
 

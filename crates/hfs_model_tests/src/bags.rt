@@ -1,11 +1,13 @@
 //! What the tag files of a bag say, and what folders of a host become on a disk.
 use csv::{ByteRecord, Error, Reader};
-use hfs_bag_tags::{ItemRow, bag_path, external_identifier, item_row, manifest_line, read_moment};
+use hfs_encodings::{GivenName, given_name, plain_item_name};
 use hfs_fields::Name;
-use hfs_incoming::{GivenName, given_name, plain_item_name};
 use hfs_model::ItemKind;
 use hfs_put_plan::{
     Entry, EntryKind, FolderItem, date_before_1970, date_since_1970, folder_items, later_twins,
+};
+use hfs_put_sources::{
+    ItemRow, bag_path, external_identifier, item_row, manifest_line, read_moment,
 };
 use std::alloc::Global;
 use std::test::Fail;

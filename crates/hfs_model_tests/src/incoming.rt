@@ -1,5 +1,5 @@
 //! Names and files that come from a host.
-use hfs_incoming::{
+use hfs_encodings::{
     AppleDoubleFile, FileDates, GivenName, MacBinaryFile, host_item_name, read_apple_double,
     read_macbinary,
 };

@@ -1,12 +1,12 @@
 //! Forks of files of a host, read at their places in an image.
-use hfs_laid_forks::{HostFiles, LaidForks, look_again};
 use hfs_model::Fork;
+use hfs_put::{HostFiles, LaidForks, look_again};
 use hfs_put_plan::EntryKind;
-use hfs_source::{MemoryBytes, PlacedBytes};
-use hfs_sources::{
+use hfs_put_sources::{
     ForkRun, HostFault, HostNode, HostTime, Look, MemoryTree, NothingTold, PutOptions, SourceItem,
     list_sources,
 };
+use hfs_source::{MemoryBytes, PlacedBytes};
 
 /// An AppleDouble file with three bytes of resource fork from byte 38 on.
 const DOUBLE: [u8; 41] = [

@@ -2,7 +2,7 @@
 ghost use Rattle.std.specs.Prelude.{◌≤◌, length};
 
 use byteorder::{BigEndian, ByteOrder};
-use hfs_node::{BLANK_NODE, Node, NodeFault, NodeKind, Records, decode, encode, fits, view};
+use hfs_btree::{BLANK_NODE, Node, NodeFault, NodeKind, Records, decode, encode, fits, view};
 use std::alloc::{AllocError, Global};
 use std::test::Fail;
 

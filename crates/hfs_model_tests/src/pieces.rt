@@ -1,9 +1,9 @@
 //! Forks that are kept in pieces.
 ghost use Rattle.std.specs.Prelude.{◌<◌, OnOk};
-ghost use Rattle.hfs_fork_pieces.specs.Pieces.{ArePieces, fork_length};
+ghost use Rattle.hfs_viewers.specs.Pieces.{ArePieces, fork_length};
 
-use hfs_fork_pieces::{ForkPieces, Stretch};
 use hfs_model::SharedBytes;
+use hfs_viewers::{ForkPieces, Stretch};
 use std::alloc::Global;
 use std::test::Fail;
 

@@ -1,7 +1,7 @@
 //! Items from a host's folders: the walk over a tree in memory.
 use hfs_model::Fork;
 use hfs_put_plan::{EntryKind, Why, why_not};
-use hfs_sources::{
+use hfs_put_sources::{
     ForkSpan, HostNode, HostTime, Look, MemoryTree, NothingTold, PutOptions, SourceItem,
     list_sources,
 };

@@ -8,3 +8,4 @@ mod ItemLemmas
 pub mod Joins
 mod DiskLemmas
 pub mod Written
+mod SamePages

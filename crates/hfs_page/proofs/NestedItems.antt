@@ -6,9 +6,9 @@ use Rattle.std.specs.List.{list_all}
 use Rattle.hfs_model.specs.declared.reply.Info.{Info}
 use Rattle.hfs_model.specs.declared.reply.ItemKind.{ItemKind}
 use Rattle.hfs_model.specs.declared.reply.ItemKind.TheVariants.{Folder, File}
-use Rattle.hfs_names.specs.Moments.{moment}
-use Rattle.hfs_names.specs.PlainTexts.{plain_text}
-use Rattle.hfs_inventory.specs.Told.{ToldRow}
+use Rattle.hfs_texts.specs.Moments.{moment}
+use Rattle.hfs_texts.specs.PlainTexts.{plain_text}
+use Rattle.hfs_items.specs.ToldRows.{ToldRow}
 use Rattle.hfs_page.specs.Escapes.{escaped}
 use Rattle.hfs_page.specs.Laws.{is_no_delimiter}
 use Rattle.hfs_page.specs.Links.{bag_path, link_end, link_start, link_text, url_text}

@@ -9,9 +9,9 @@ use Rattle.hfs_fields.specs.declared.extent.Extent.{Extent}
 use Rattle.hfs_catalog.specs.Records.{Catalog, Record}
 use Rattle.hfs_space.specs.declared.fork_kind.ForkKind.{ForkKind}
 use Rattle.hfs_space.specs.declared.fork_kind.ForkKind.TheVariants.{Data, Resource}
-use Rattle.hfs_names.specs.PlainTexts.{plain_text}
-use Rattle.hfs_inventory.specs.Levels.{catalog_rows}
-use Rattle.hfs_inventory.specs.Told.{ToldRow}
+use Rattle.hfs_texts.specs.PlainTexts.{plain_text}
+use Rattle.hfs_items.specs.Levels.{catalog_rows}
+use Rattle.hfs_items.specs.ToldRows.{ToldRow}
 use Rattle.hfs_check.specs.Parts.{Blocks, catalog_in, mdb_in}
 use Rattle.hfs_page.specs.declared.cells.Cell.{Cell}
 use Rattle.hfs_page.specs.declared.page_image.PageImage.{PageImage}

@@ -7,8 +7,8 @@ use Rattle.std.proofs.lemmas.List.{take-append-le, take_min, drop_at, take_at}
 use Rattle.std.proofs.Math.Seq.{take-add}
 use Rattle.hfs_catalog.specs.Records.{Catalog}
 use Rattle.hfs_check.specs.Parts.{Blocks, catalog_in, mdb_in}
-use Rattle.hfs_inventory.specs.Levels.{catalog_rows}
-use Rattle.hfs_inventory.specs.Told.{ToldRow}
+use Rattle.hfs_items.specs.Levels.{catalog_rows}
+use Rattle.hfs_items.specs.ToldRows.{ToldRow}
 use Rattle.hfs_texts.specs.Writing.{AppendsFront}
 use Rattle.hfs_fields.specs.declared.mdb.Mdb.{Mdb}
 use Rattle.hfs_page.specs.declared.page_texts.PageTexts.{PageTexts}

@@ -2,7 +2,7 @@
 use Rattle.std.specs.Prelude.{ℕ, List, ◌++◌}
 use Rattle.hfs_space.specs.Bitmap.{is_used}
 use Rattle.hfs_check.specs.Parts.{Blocks, catalog_in, mdb_in, overflow_in}
-use Rattle.hfs_inventory.specs.Levels.{catalog_rows}
+use Rattle.hfs_items.specs.Levels.{catalog_rows}
 use Rattle.hfs_page.specs.declared.cells.Cell.{Cell}
 use Rattle.hfs_page.specs.declared.page_texts.PageTexts.{PageTexts}
 use Rattle.hfs_page.specs.declared.parts.Holding.{Holding}

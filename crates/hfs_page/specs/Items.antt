@@ -4,7 +4,7 @@ use Rattle.std.specs.Borrow.{Bor}
 use Rattle.hfs_model.specs.declared.reply.Info.{Info}
 use Rattle.hfs_model.specs.declared.reply.ItemKind.{ItemKind}
 use Rattle.hfs_model.specs.declared.reply.ItemKind.TheVariants.{Folder, File}
-use Rattle.hfs_inventory.specs.Told.{ToldRow}
+use Rattle.hfs_items.specs.ToldRows.{ToldRow}
 use Rattle.hfs_page.specs.Links.{bag_path, link_end, link_start}
 use Rattle.hfs_page.specs.Sizes.{told_size}
 use Rattle.hfs_page.specs.Texts.{shown, told_date, told_number, told_text}

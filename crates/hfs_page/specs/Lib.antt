@@ -19,3 +19,5 @@ pub mod Markup
 pub mod Dress
 pub mod Disk
 pub mod Nested
+pub mod ImagePages
+pub mod RefusedPages

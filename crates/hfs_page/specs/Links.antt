@@ -3,7 +3,7 @@ use Rattle.std.specs.Prelude.{ℕ, ◌+◌, ◌-◌, ◌/◌, ◌%◌, ◌==◌,
 use Rattle.std.specs.Borrow.{Bor}
 use Rattle.std.specs.List.{flat_map, list_any, slice_get}
 use Rattle.std.specs.Char.{is_ascii_alphanumeric}
-use Rattle.hfs_names.specs.Paths.{host_path}
+use Rattle.hfs_texts.specs.MacPaths.{host_path}
 use Rattle.hfs_page.specs.Escapes.{escaped}
 
 -- what a URL has of a path as it is: letters, digits, and `-._~/`

@@ -1,7 +1,7 @@
 -- One row after the other.
 use Rattle.std.specs.Prelude.{◌≡◌, ℕ, ◌<◌, List, [], ◌++◌, length, Option, Some, None}
 use Rattle.std.specs.Borrow.{Bor}
-use Rattle.hfs_inventory.specs.Told.{ToldRow}
+use Rattle.hfs_items.specs.ToldRows.{ToldRow}
 use Rattle.hfs_page.specs.Items.{rows_text}
 
 -- the first of the rows were added to the text, and so many folders are open after it; or no row is left

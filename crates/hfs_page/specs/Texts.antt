@@ -1,8 +1,8 @@
 -- Bytes of a volume as texts of a page.
 use Rattle.std.specs.Prelude.{ℕ, ◌==◌, if◌then◌else◌, List, [], ◌++◌, take, drop, codes}
 use Rattle.std.specs.Fmt.{decimal}
-use Rattle.hfs_names.specs.Moments.{moment}
-use Rattle.hfs_names.specs.PlainTexts.{plain_text}
+use Rattle.hfs_texts.specs.Moments.{moment}
+use Rattle.hfs_texts.specs.PlainTexts.{plain_text}
 use Rattle.hfs_page.specs.Escapes.{escaped}
 
 -- plain text, escaped

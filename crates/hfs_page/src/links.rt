@@ -7,7 +7,7 @@ ghost use Rattle.hfs_page.specs.Pieces.{Gains};
 use crate::escaping::push_escaped;
 use crate::pieces::push_bytes;
 use hfs_fields::Name;
-use hfs_names::push_host_path;
+use hfs_texts::push_host_path;
 use std::alloc::{AllocError, Global};
 
 /// What a URL has as it is, besides letters and digits.

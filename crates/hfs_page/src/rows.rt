@@ -6,7 +6,7 @@ ghost use Rattle.hfs_page.specs.Rows.{MovesRow};
 ghost use Rattle.hfs_texts.specs.Writing.{AppendsFront};
 
 use crate::items::{depth_in, open_behind, push_closings, push_row};
-use hfs_inventory::Inventory;
+use hfs_items::Inventory;
 use hfs_texts::put;
 use std::alloc::{AllocError, Global};
 use std::io::Write;

@@ -7,7 +7,7 @@ ghost use Rattle.hfs_page.specs.Texts.{date_text, shown, told_date, told_number,
 
 use crate::escaping::push_escaped;
 use crate::pieces::push_bytes;
-use hfs_names::{push_moment, push_plain_text};
+use hfs_texts::{push_moment, push_plain_text};
 use std::alloc::{AllocError, Global};
 
 /// Appends bytes of a volume as text: plain text, escaped.

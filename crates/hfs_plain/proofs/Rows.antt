@@ -13,10 +13,10 @@ use Rattle.hfs_model.specs.Volume.{Entry}
 use Rattle.hfs_model.specs.Children.{valence}
 use Rattle.hfs_model.specs.Lawful.{IsLawful}
 use Rattle.hfs_store.specs.PlainVolume.{AreEntries, Rises, unlocked_volume, with_block_size, with_locks}
-use Rattle.hfs_item_table.specs.declared.row.Row.{Row}
-use Rattle.hfs_item_table.specs.declared.table.Table.{Table}
-use Rattle.hfs_item_table.proofs.ShownLemmas.{entries_items, get_items}
-use Rattle.hfs_item_table.specs.Tables.{IsTable, item_of, items_of, shown, volume_of}
+use Rattle.hfs_viewers.specs.declared.row.Row.{Row}
+use Rattle.hfs_viewers.specs.declared.table.Table.{Table}
+use Rattle.hfs_viewers.proofs.ShownLemmas.{entries_items, get_items}
+use Rattle.hfs_viewers.specs.Tables.{IsTable, item_of, items_of, shown, volume_of}
 use Rattle.hfs_plain.specs.Entries.{row_entries}
 
 -- a key found under a number

@@ -1,12 +1,12 @@
 //! The items of a table in the form of the model, with the bytes of their forks.
 
 ghost use Rattle.std.specs.Prelude.{◌≡◌, IfOk};
-ghost use Rattle.hfs_item_table.specs.Tables as tables;
-ghost use Rattle.hfs_item_table.specs.Tables.{IsForkIn, IsKindIn, IsTable, bytes_in};
+ghost use Rattle.hfs_viewers.specs.Tables as tables;
+ghost use Rattle.hfs_viewers.specs.Tables.{IsForkIn, IsKindIn, IsTable, bytes_in};
 ghost use Rattle.hfs_plain.specs.Entries.{row_entries};
 
-use hfs_item_table::{Row, RowFile, RowFork, RowKind, Table};
 use hfs_model::{Content, File, Item, Kind};
+use hfs_viewers::{Row, RowFile, RowFork, RowKind, Table};
 use std::alloc::{AllocError, Global};
 
 /// The bytes of a fork of a table.

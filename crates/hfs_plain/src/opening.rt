@@ -2,15 +2,14 @@
 
 ghost use Rattle.std.specs.Prelude.{◌≡◌, IfOk};
 ghost use Rattle.hfs_check.specs.VolumeOf.{volume_of};
-ghost use Rattle.hfs_item_table.specs.Tables as tables;
-ghost use Rattle.hfs_item_table.specs.Tables.{IsTable};
+ghost use Rattle.hfs_viewers.specs.Tables as tables;
+ghost use Rattle.hfs_viewers.specs.Tables.{IsTable};
 ghost use Rattle.hfs_model.specs.Lawful.{IsLawful};
 
 use crate::fault::Fault;
 use crate::items::items_of;
-use hfs_item_table::Table;
 use hfs_store::PlainVolume;
-use hfs_view::Rows;
+use hfs_viewers::{Rows, Table};
 use hfs_volume::{Volume, mount};
 use std::alloc::{AllocError, Global};
 

@@ -4,10 +4,10 @@ use Rattle.std.specs.Prelude.{slice_get}
 use Rattle.std.proofs.Math.Seq.{take-suc}
 use Rattle.std.proofs.lemmas.List.{length-take-le}
 use Rattle.hfs_model.specs.Volume.{Volume}
-use Rattle.hfs_put_calls.specs.declared.items.PutItem.{PutItem}
-use Rattle.hfs_put_calls.specs.Accepted.{next, all_accepted}
-use Rattle.hfs_put_calls.specs.Calls.{somes, making}
-use Rattle.hfs_put_calls.specs.Put.{Open, Placed, Refused, folder_id, left}
+use Rattle.hfs_put_plan.specs.declared.items.PutItem.{PutItem}
+use Rattle.hfs_put_plan.specs.Accepted.{next, all_accepted}
+use Rattle.hfs_put_plan.specs.Calls.{somes, making}
+use Rattle.hfs_put_plan.specs.Put.{Open, Placed, Refused, folder_id, left}
 use Rattle.hfs_put.specs.Faults.{IsAbsentAt, IsNoAbsence, fault_at}
 use Rattle.hfs_put.specs.Laying.{IsAbsence, LacksItem, LacksName, LacksOne, front_laid, id_told, one_laid}
 use Rattle.hfs_put.specs.declared.faults.CallFault.{CallFault}

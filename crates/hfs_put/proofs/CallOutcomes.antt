@@ -15,7 +15,7 @@ use Rattle.hfs_model.specs.Volume.{Volume}
 use Rattle.hfs_check.specs.VolumeOf.{volume_of}
 use Rattle.hfs_volume.specs.Image.{ImageValue}
 use Rattle.hfs_volume.specs.Serving.{free_in, depth_in, within_nodes, IsForkOutcome, IsOutcomeIn}
-use Rattle.hfs_put_calls.specs.Accepted.{accepted}
+use Rattle.hfs_put_plan.specs.Accepted.{accepted}
 use Rattle.hfs_put.specs.Faults.{IsWanting}
 
 and-first : (a b : Bool) → (a && b) ≡ true → a ≡ true

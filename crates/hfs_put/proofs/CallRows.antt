@@ -10,11 +10,11 @@ use Rattle.hfs_model.specs.declared.reply.Reply.{Reply}
 use Rattle.hfs_put_plan.specs.declared.over.Placing.{Placing}
 use Rattle.hfs_put_plan.specs.declared.over.Placing.TheVariants.{New, Kept, Replaced, Taken}
 use Rattle.hfs_model.specs.Volume.{Volume}
-use Rattle.hfs_put_calls.specs.Accepted.{next, accepted, all_accepted}
-use Rattle.hfs_put_calls.specs.declared.calls.TheConstants.{MAKING_CALLS, ENDING_CALLS}
-use Rattle.hfs_put_calls.specs.declared.items.PutItem.{PutItem}
-use Rattle.hfs_put_calls.specs.Calls.{somes, making, making_of, folder_ending, ending, ending_of}
-use Rattle.hfs_put_calls.specs.Put.{Refused, at_place}
+use Rattle.hfs_put_plan.specs.Accepted.{next, accepted, all_accepted}
+use Rattle.hfs_put_plan.specs.declared.calls.TheConstants.{MAKING_CALLS, ENDING_CALLS}
+use Rattle.hfs_put_plan.specs.declared.items.PutItem.{PutItem}
+use Rattle.hfs_put_plan.specs.Calls.{somes, making, making_of, folder_ending, ending, ending_of}
+use Rattle.hfs_put_plan.specs.Put.{Refused, at_place}
 use Rattle.hfs_put.specs.Faults.{IsCallFault, IsLayFault, fault_at}
 use Rattle.hfs_put.specs.declared.faults.CallFault.{CallFault}
 use Rattle.hfs_put.specs.declared.faults.CallFault.TheVariants as call_fault

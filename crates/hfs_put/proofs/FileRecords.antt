@@ -9,7 +9,7 @@ use Rattle.hfs_fields.specs.declared.dir_record.DirRecord.{DirRecord}
 use Rattle.hfs_fields.specs.declared.file_record.FileRecord.{FileRecord}
 use Rattle.hfs_fields.specs.declared.key.CatKey.{CatKey}
 use Rattle.hfs_fields.specs.Records.{is_dir, is_file, is_item, type_byte, dir_record_of, file_record_of}
-use Rattle.hfs_scans.specs.Members.{In}
+use Rattle.hfs_fields.specs.Members.{In}
 
 pub not-dir : (body : List ℕ) → is_file body ≡ true → is_dir body ≡ false
 not-dir body file = elim (is_dir body) as (λ (b : Bool). is_dir body ≡ b → b ≡ false) [

@@ -6,7 +6,7 @@ use Rattle.hfs_put_plan.specs.declared.reasons.Findings.{Findings}
 use Rattle.hfs_put_plan.specs.declared.reasons.Why.{Why}
 use Rattle.hfs_put_plan.specs.declared.reasons.Why.TheVariants.{NotAFile, TooLarge}
 use Rattle.hfs_put_plan.specs.Why.{why_not}
-use Rattle.hfs_sources.specs.declared.plan.ItemPlan.{ItemPlan}
+use Rattle.hfs_put_sources.specs.declared.plan.ItemPlan.{ItemPlan}
 use Rattle.hfs_put.specs.Decisions.{findings_with, fork_spans_fit}
 
 some-why : (w : Why) → Some w ≡ None → ⊥

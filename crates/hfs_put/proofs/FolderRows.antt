@@ -2,8 +2,8 @@
 use Rattle.std.proofs.Common.{◌≡◌, ℕ, Bool, true, false, cond, List, [], ◌∷◌, ◌++◌, map, reverse, Option, Result, Ok, sym, ◌∙◌, ap, subst}
 use Rattle.std.proofs.lemmas.List.{map-append, reverse-append}
 use Rattle.hfs_model.specs.Volume.{Volume}
-use Rattle.hfs_put_calls.specs.Accepted.{next}
-use Rattle.hfs_put_calls.specs.Put.{Open, Refused, is_at, left}
+use Rattle.hfs_put_plan.specs.Accepted.{next}
+use Rattle.hfs_put_plan.specs.Put.{Open, Refused, is_at, left}
 use Rattle.hfs_put.specs.Faults.{IsLayFault}
 use Rattle.hfs_put.specs.Folders.{one_left, open_of, opens}
 use Rattle.hfs_put.specs.declared.faults.LayFault.{LayFault}

@@ -2,9 +2,9 @@
 use Rattle.std.proofs.Common.{◌≡◌, ℕ, ◌+◌, ◌<◌, ◌≤◌, get_or, length, drop, List, [], ◌∷◌, ◌++◌, map, None, Result, Ok, Err, refl, sym, ◌∙◌, ap, subst}
 use Rattle.std.proofs.lemmas.List.{append_assoc, append-nil, drop_all, drop_more}
 use Rattle.hfs_model.specs.Volume.{Volume}
-use Rattle.hfs_put_calls.specs.declared.items.PutItem.{PutItem}
-use Rattle.hfs_put_calls.specs.Accepted.{next}
-use Rattle.hfs_put_calls.specs.Put.{Arrival, Open, Put, Placed, Refused, folder_id, laid_volume, left, placed, put_from, without_bytes}
+use Rattle.hfs_put_plan.specs.declared.items.PutItem.{PutItem}
+use Rattle.hfs_put_plan.specs.Accepted.{next}
+use Rattle.hfs_put_plan.specs.Put.{Arrival, Open, Put, Placed, Refused, folder_id, laid_volume, left, placed, put_from, without_bytes}
 use Rattle.hfs_put.specs.Faults.{IsLayFault}
 use Rattle.hfs_put.specs.Laying.{AreLaid, IsFaultOfLaying, bare, item_of, one_laid}
 use Rattle.hfs_put.specs.declared.faults.LayFault.{LayFault}

@@ -8,7 +8,7 @@ use Rattle.hfs_model.specs.Children.{child_named, entries_of, is_folder}
 use Rattle.hfs_model.specs.Reading.{get_cat_info, one}
 use Rattle.hfs_model.specs.Replies.{refusal, info_of}
 use Rattle.hfs_model.specs.Volume.{Entry, Volume}
-use Rattle.hfs_put_calls.specs.Put.{id_named}
+use Rattle.hfs_put_plan.specs.Put.{id_named}
 use Rattle.hfs_put.specs.Laying.{id_in}
 
 pub named : (v : Volume) (dir : ℕ) (name : List ℕ) → IfSome (id_in (get_cat_info (entries_of v) dir name).value) (λ id. id ≡ id_named v dir name)

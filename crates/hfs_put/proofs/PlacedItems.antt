@@ -2,10 +2,10 @@
 use Rattle.std.proofs.Common.{◌≡◌, ℕ, List, Result, Ok, Err, refl, sym, ◌∙◌, ap, subst}
 use Rattle.hfs_model.specs.declared.reply.Reply.{Reply}
 use Rattle.hfs_model.specs.Volume.{Volume}
-use Rattle.hfs_put_calls.specs.declared.items.PutItem.{PutItem}
-use Rattle.hfs_put_calls.specs.Accepted.{next, all_accepted}
-use Rattle.hfs_put_calls.specs.Calls.{somes, making, ending}
-use Rattle.hfs_put_calls.specs.Put.{Open, Placed, Refused, at_place, filling, folder_id, id_named, left, opened}
+use Rattle.hfs_put_plan.specs.declared.items.PutItem.{PutItem}
+use Rattle.hfs_put_plan.specs.Accepted.{next, all_accepted}
+use Rattle.hfs_put_plan.specs.Calls.{somes, making, ending}
+use Rattle.hfs_put_plan.specs.Put.{Open, Placed, Refused, at_place, filling, folder_id, id_named, left, opened}
 use Rattle.hfs_put.specs.Faults.{IsCallFault, IsLayFault, fault_at}
 use Rattle.hfs_put.specs.Laying.{bare, one_laid, placed_in, standing}
 use Rattle.hfs_put.specs.declared.faults.CallFault.{CallFault}

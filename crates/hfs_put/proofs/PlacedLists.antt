@@ -5,15 +5,15 @@ use Rattle.std.specs.Prelude.{⊤}
 use Rattle.std.proofs.lemmas.List.{append_assoc, append-nil, drop_all, drop_more}
 use Rattle.hfs_model.specs.declared.reply.Info.{Info}
 use Rattle.hfs_model.specs.Volume.{Volume}
-use Rattle.hfs_put_calls.specs.declared.items.PutItem.{PutItem}
+use Rattle.hfs_put_plan.specs.declared.items.PutItem.{PutItem}
 use Rattle.hfs_put_plan.specs.declared.over.Placing.{Placing}
 use Rattle.hfs_put_plan.specs.declared.over.Placing.TheVariants as placing
 use Rattle.hfs_put_plan.specs.declared.reasons.Why.{Why}
 use Rattle.hfs_put_plan.specs.Placing.{how_placed}
 use Rattle.hfs_put_plan.specs.Why.{why_not}
-use Rattle.hfs_scans.specs.Each.{Each}
-use Rattle.hfs_scans.proofs.ElementLemmas.{each-append}
-use Rattle.hfs_sources.specs.Items.{PlannedItem}
+use Rattle.hfs_fields.specs.Each.{Each}
+use Rattle.hfs_fields.proofs.ElementLemmas.{each-append}
+use Rattle.hfs_put_sources.specs.Items.{PlannedItem}
 use Rattle.hfs_put.specs.Decisions.{decision, decision_by, findings_with, info_named, inside, inside_kept, inside_of, item_kind, judged, standing_of}
 use Rattle.hfs_put.specs.PlacedSources.{decisions, decisions_behind, destination, item_put, refused_at, refused_from}
 use Rattle.hfs_put.specs.declared.decisions.Decision.{Decision}

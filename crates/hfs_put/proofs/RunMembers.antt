@@ -12,12 +12,12 @@ use Rattle.hfs_fields.specs.declared.mdb.Mdb.{Mdb}
 use Rattle.hfs_fields.specs.Records.{is_file, file_record_of}
 use Rattle.hfs_model.specs.declared.call.Fork.{Fork}
 use Rattle.hfs_model.specs.declared.call.Fork.TheVariants.{DataFork, ResFork}
-use Rattle.hfs_put_calls.specs.declared.items.PutItem.{PutItem}
-use Rattle.hfs_scans.specs.Each.{Each}
-use Rattle.hfs_scans.specs.Members.{In}
-use Rattle.hfs_scans.proofs.MemberLemmas.{each_in, in-left, in-right}
-use Rattle.hfs_scans.proofs.ElementLemmas.{each-append}
-use Rattle.hfs_sources.specs.declared.fork_run.ForkRun.{ForkRun}
+use Rattle.hfs_put_plan.specs.declared.items.PutItem.{PutItem}
+use Rattle.hfs_fields.specs.Each.{Each}
+use Rattle.hfs_fields.specs.Members.{In}
+use Rattle.hfs_fields.proofs.MemberLemmas.{each_in, in-left, in-right}
+use Rattle.hfs_fields.proofs.ElementLemmas.{each-append}
+use Rattle.hfs_put_sources.specs.declared.fork_run.ForkRun.{ForkRun}
 use Rattle.hfs_put.specs.ForkRuns.{AreFilePlaces, AreForkRuns, ArePlacesInOrder, HaveFileOf, IsFileAt, IsForkRun, file_runs, fork_runs_of, record_runs, runs_from}
 use Rattle.hfs_space.specs.Forks.{blocks_each, run_in}
 use Rattle.hfs_volume.specs.Sharing.{file_extents}

@@ -10,22 +10,22 @@ use Rattle.std.proofs.lemmas.List.Sorted.{sum_by-IsPermutation, Contains-permuta
 use Rattle.std.proofs.Math.Nat.{add-mul, mul-le-mul_left, mul-le-mul_right}
 use Rattle.hfs_blocks.specs.Blocks.{block_at}
 use Rattle.hfs_catalog.specs.Records.{Catalog, Record}
-use Rattle.hfs_changes.proofs.Space.{extents_parts, owned_distinct}
+use Rattle.hfs_record_edits.proofs.Space.{extents_parts, owned_distinct}
 use Rattle.hfs_check.specs.Parts.{Blocks, catalog_in, mdb_in, overflow_in, owned_in}
 use Rattle.hfs_check.specs.Sound.{IsSound}
 use Rattle.hfs_fields.specs.declared.extent.Extent.{Extent}
 use Rattle.hfs_fields.specs.declared.file_record.FileRecord.{FileRecord}
 use Rattle.hfs_fields.specs.declared.mdb.Mdb.{Mdb}
 use Rattle.hfs_fields.specs.Records.{is_file, file_record_of}
-use Rattle.hfs_fork_changes.proofs.Rooms.{length-blocks, room_left, within_each}
+use Rattle.hfs_call_patches.proofs.Rooms.{length-blocks, room_left, within_each}
 use Rattle.hfs_model.specs.declared.call.Fork.{Fork}
 use Rattle.hfs_model.specs.declared.call.Fork.TheVariants.{DataFork, ResFork}
 use Rattle.hfs_model.proofs.Members.{contains_from_in, in_from_contains}
-use Rattle.hfs_scans.specs.Each.{Each}
-use Rattle.hfs_scans.specs.Members.{In}
-use Rattle.hfs_scans.proofs.ElementLemmas.{each-append}
-use Rattle.hfs_scans.proofs.MemberLemmas.{each_in}
-use Rattle.hfs_sources.specs.declared.fork_run.ForkRun.{ForkRun}
+use Rattle.hfs_fields.specs.Each.{Each}
+use Rattle.hfs_fields.specs.Members.{In}
+use Rattle.hfs_fields.proofs.ElementLemmas.{each-append}
+use Rattle.hfs_fields.proofs.MemberLemmas.{each_in}
+use Rattle.hfs_put_sources.specs.declared.fork_run.ForkRun.{ForkRun}
 use Rattle.hfs_space.specs.Extents.{AreExtentsWithin, Overflow, block_total, extent_blocks}
 use Rattle.hfs_space.specs.Forks.{blocks_each, run_in}
 use Rattle.hfs_space.specs.Owners.{Fork as OwnedFork, forks_of_file, owned_blocks, owners}

@@ -8,7 +8,7 @@ use Rattle.hfs_model.specs.declared.reply.Value.TheVariants as value
 use Rattle.hfs_model.specs.Children.{entries_of}
 use Rattle.hfs_model.specs.Reading.{get_cat_info}
 use Rattle.hfs_model.specs.Volume.{Volume}
-use Rattle.hfs_put_calls.specs.declared.items.PutItem.{PutItem}
+use Rattle.hfs_put_plan.specs.declared.items.PutItem.{PutItem}
 use Rattle.hfs_put_plan.specs.declared.over.Placing.{Placing}
 use Rattle.hfs_put_plan.specs.declared.over.Placing.TheVariants as placing
 use Rattle.hfs_put_plan.specs.declared.over.Standing.{Standing}
@@ -17,10 +17,10 @@ use Rattle.hfs_put_plan.specs.declared.reasons.Why.{Why}
 use Rattle.hfs_put_plan.specs.declared.reasons.Why.TheVariants.{NoName}
 use Rattle.hfs_put_plan.specs.Placing.{how_placed}
 use Rattle.hfs_put_plan.specs.Why.{why_not}
-use Rattle.hfs_sources.specs.declared.entry.Look.{Look}
-use Rattle.hfs_sources.specs.declared.plan.ItemPlan.{ItemPlan}
-use Rattle.hfs_sources.specs.Items.{PlannedItem}
-use Rattle.hfs_sources.specs.Plans.{fit, is_folder}
+use Rattle.hfs_put_sources.specs.declared.entry.Look.{Look}
+use Rattle.hfs_put_sources.specs.declared.plan.ItemPlan.{ItemPlan}
+use Rattle.hfs_put_sources.specs.Items.{PlannedItem}
+use Rattle.hfs_put_sources.specs.Plans.{fit, is_folder}
 use Rattle.hfs_put.specs.declared.decisions.Decision.{Decision}
 use Rattle.hfs_put.specs.declared.decisions.Decision.TheVariants as decided
 use Rattle.hfs_put.specs.declared.decisions.Destination.{Destination}

@@ -7,7 +7,7 @@ use Rattle.hfs_model.specs.Replies.{is_accepted}
 use Rattle.hfs_model.specs.Step.{step}
 use Rattle.hfs_check.specs.VolumeOf.{volume_of}
 use Rattle.hfs_volume.specs.Serving.{IsOutcomeIn}
-use Rattle.hfs_put_calls.specs.Put.{Refused}
+use Rattle.hfs_put_plan.specs.Put.{Refused}
 use Rattle.hfs_put.specs.declared.faults.CallFault.{CallFault}
 use Rattle.hfs_put.specs.declared.faults.CallFault.TheVariants as call_fault
 use Rattle.hfs_put.specs.declared.faults.LayFault.{LayFault}

@@ -1,9 +1,9 @@
 -- Folders that are open, with what leaves them.
 use Rattle.std.specs.Prelude.{◌≡◌, ℕ, List, map, reverse, Result, Ok}
 use Rattle.hfs_model.specs.Volume.{Volume}
-use Rattle.hfs_put_calls.specs.Accepted.{all_accepted}
-use Rattle.hfs_put_calls.specs.Calls.{somes, ending}
-use Rattle.hfs_put_calls.specs.Put.{Open, Refused, at_place}
+use Rattle.hfs_put_plan.specs.Accepted.{all_accepted}
+use Rattle.hfs_put_plan.specs.Calls.{somes, ending}
+use Rattle.hfs_put_plan.specs.Put.{Open, Refused, at_place}
 use Rattle.hfs_put.specs.declared.folders.OpenFolder.{OpenFolder}
 
 abbrev pub open_of : ℕ → OpenFolder → Open

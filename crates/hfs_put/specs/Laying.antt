@@ -6,10 +6,10 @@ use Rattle.hfs_model.specs.declared.reply.Value.TheVariants as value
 use Rattle.hfs_model.specs.Children.{entries_of}
 use Rattle.hfs_model.specs.Reading.{get_cat_info}
 use Rattle.hfs_model.specs.Volume.{Volume}
-use Rattle.hfs_put_calls.specs.declared.items.PutItem.{PutItem}
-use Rattle.hfs_put_calls.specs.Accepted.{next, all_accepted}
-use Rattle.hfs_put_calls.specs.Calls.{somes, making}
-use Rattle.hfs_put_calls.specs.Put.{Arrival, Open, Placed, Refused, filling, folder_id, id_named, laid_volume, left, placed}
+use Rattle.hfs_put_plan.specs.declared.items.PutItem.{PutItem}
+use Rattle.hfs_put_plan.specs.Accepted.{next, all_accepted}
+use Rattle.hfs_put_plan.specs.Calls.{somes, making}
+use Rattle.hfs_put_plan.specs.Put.{Arrival, Open, Placed, Refused, filling, folder_id, id_named, laid_volume, left, placed}
 use Rattle.hfs_put.specs.declared.faults.LayFault.{LayFault}
 use Rattle.hfs_put.specs.declared.faults.LayFault.TheVariants as fault
 use Rattle.hfs_put.specs.Faults.{IsLayFault}

@@ -6,8 +6,8 @@ use Rattle.hfs_fields.specs.Records.{is_bit_set}
 use Rattle.hfs_model.specs.declared.codes.TheConstants.{HARDWARE_LOCKED, SOFTWARE_LOCKED}
 use Rattle.hfs_model.specs.Choices as choices
 use Rattle.hfs_model.specs.Volume.{Volume}
-use Rattle.hfs_put_calls.specs.declared.items.PutItem.{PutItem}
-use Rattle.hfs_sources.specs.Items.{PlannedItem}
+use Rattle.hfs_put_plan.specs.declared.items.PutItem.{PutItem}
+use Rattle.hfs_put_sources.specs.Items.{PlannedItem}
 use Rattle.hfs_put.specs.Decisions.{decision, inside}
 use Rattle.hfs_put.specs.declared.decisions.Decision.{Decision}
 use Rattle.hfs_put.specs.declared.decisions.Decision.TheVariants as decided

@@ -2,13 +2,13 @@
 ghost use Rattle.std.specs.Prelude.{◌≡◌, [], Ok, OnOk, IfErr};
 ghost use Rattle.std.specs.List.{cons_option};
 ghost use Rattle.hfs_check.specs.VolumeOf.{volume_of};
-ghost use Rattle.hfs_put_calls.specs.Accepted.{accepted, all_accepted};
-ghost use Rattle.hfs_put_calls.specs.Calls.{somes, making, ending};
+ghost use Rattle.hfs_put_plan.specs.Accepted.{accepted, all_accepted};
+ghost use Rattle.hfs_put_plan.specs.Calls.{somes, making, ending};
 ghost use Rattle.hfs_put.specs.Faults.{IsCallFault};
 
 use crate::faults::CallFault;
 use hfs_model::Call;
-use hfs_put_calls::{ENDING_CALLS, MAKING_CALLS, PutItem, ending_call, making_call};
+use hfs_put_plan::{ENDING_CALLS, MAKING_CALLS, PutItem, ending_call, making_call};
 use hfs_volume::Volume;
 use std::alloc::Global;
 

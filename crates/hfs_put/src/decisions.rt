@@ -6,11 +6,10 @@ ghost use Rattle.hfs_put.specs.Decisions.{decision, decision_by, findings_with, 
 
 use hfs_fields::Name;
 use hfs_model::{Info, ItemKind, Value};
-use hfs_put_calls::PutItem;
 use hfs_put_plan::{
-    EntryKind, Findings, Placing, Standing, Why, how_placed, is_too_large, why_not,
+    EntryKind, Findings, Placing, PutItem, Standing, Why, how_placed, is_too_large, why_not,
 };
-use hfs_sources::{ItemPlan, Look, SourceItem};
+use hfs_put_sources::{ItemPlan, Look, SourceItem};
 use hfs_volume::Volume;
 
 /// The folder into which an item is to be put.

@@ -6,7 +6,7 @@ ghost use Rattle.hfs_put.specs.ForkRuns.{run_at, runs_from};
 
 use hfs_fields::{Extent, Mdb};
 use hfs_model::Fork;
-use hfs_sources::ForkRun;
+use hfs_put_sources::ForkRun;
 use std::alloc::AllocError;
 
 /// The run of an extent's blocks, before which the fork has `before` allocation blocks; None for an extent without blocks.

@@ -5,7 +5,7 @@ ghost use Rattle.std.specs.Ordering.{nat_cmp};
 ghost use Rattle.hfs_put.specs.ForkRuns.{AreFilePlaces, NotesPlace, file_id};
 
 use hfs_model::ItemKind;
-use hfs_put_calls::PutItem;
+use hfs_put_plan::PutItem;
 use std::alloc::{AllocError, Global};
 use std::collections::BTreeMap;
 

@@ -1,13 +1,13 @@
 //! Folders of a list that are open, so that items may be put into them.
 ghost use Rattle.std.specs.Prelude.{◌≡◌, ℕ, Ok, OnOk, IfErr};
 ghost use Rattle.hfs_check.specs.VolumeOf.{volume_of};
-ghost use Rattle.hfs_put_calls.specs.Put.{folder_id, is_at, left};
+ghost use Rattle.hfs_put_plan.specs.Put.{folder_id, is_at, left};
 ghost use Rattle.hfs_put.specs.Faults.{IsLayFault, IsNoAbsence};
 ghost use Rattle.hfs_put.specs.Folders.{LeavesOne, one_left, opens};
 
 use crate::calls::end_item;
 use crate::faults::{LayFault, fault_at};
-use hfs_put_calls::PutItem;
+use hfs_put_plan::PutItem;
 use hfs_volume::Volume;
 use std::alloc::Global;
 

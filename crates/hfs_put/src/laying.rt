@@ -1,8 +1,8 @@
 //! Laying a list of items on a mounted volume.
 ghost use Rattle.std.specs.Prelude.{◌≡◌, ℕ, Ok, OnOk, IfOk, IfErr, IfNone, IfSome};
 ghost use Rattle.hfs_check.specs.VolumeOf.{volume_of};
-ghost use Rattle.hfs_put_calls.specs.Accepted.{all_accepted};
-ghost use Rattle.hfs_put_calls.specs.Put.{filling, folder_id, id_named, opened};
+ghost use Rattle.hfs_put_plan.specs.Accepted.{all_accepted};
+ghost use Rattle.hfs_put_plan.specs.Put.{filling, folder_id, id_named, opened};
 ghost use Rattle.hfs_put.specs.Faults.{IsAbsentAt, IsCallFault, IsLayFault};
 ghost use Rattle.hfs_put.specs.declared.faults.LayFault.TheVariants as lay_fault;
 ghost use Rattle.hfs_put.specs.Folders.{open_of, opens};
@@ -12,7 +12,7 @@ use crate::calls::{end_item, make_item};
 use crate::faults::{CallFault, LayFault, fault_at};
 use crate::folders::{OpenFolder, folder_id, leave};
 use hfs_model::{ItemKind, Value};
-use hfs_put_calls::PutItem;
+use hfs_put_plan::PutItem;
 use hfs_volume::Volume;
 use std::alloc::Global;
 

@@ -9,9 +9,8 @@ use crate::decisions::{Decision, Destination, decide};
 use bitflags::Flags;
 use hfs_fields::Mdb;
 use hfs_model::{HARDWARE_LOCKED, SOFTWARE_LOCKED};
-use hfs_put_calls::PutItem;
-use hfs_put_plan::Why;
-use hfs_sources::SourceItem;
+use hfs_put_plan::{PutItem, Why};
+use hfs_put_sources::SourceItem;
 use hfs_volume::Volume;
 use std::alloc::{AllocError, Global};
 

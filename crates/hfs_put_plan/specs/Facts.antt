@@ -1,8 +1,8 @@
 -- What is kept of an item besides its forks: what the Finder keeps, the lock, and dates.
 use Rattle.std.specs.Prelude.{ℕ, Bool, false, List, ◌++◌, replicate, Option, Some, None}
-use Rattle.hfs_incoming.specs.declared.apple_double.AppleDoubleFile.{AppleDoubleFile}
-use Rattle.hfs_incoming.specs.declared.apple_double.FileDates.{FileDates}
-use Rattle.hfs_incoming.specs.declared.macbinary.MacBinaryFile.{MacBinaryFile}
+use Rattle.hfs_encodings.specs.declared.incoming_apple_double.AppleDoubleFile.{AppleDoubleFile}
+use Rattle.hfs_encodings.specs.declared.incoming_apple_double.FileDates.{FileDates}
+use Rattle.hfs_encodings.specs.declared.incoming_macbinary.MacBinaryFile.{MacBinaryFile}
 use Rattle.hfs_put_plan.specs.declared.facts.ItemFacts.{ItemFacts}
 use Rattle.hfs_put_plan.specs.declared.facts.ToldFacts.{ToldFacts}
 

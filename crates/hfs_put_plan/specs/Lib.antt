@@ -7,3 +7,8 @@ pub mod Twins
 pub mod Why
 pub mod Placing
 pub mod Steps
+pub mod Accepted
+pub mod WithForks
+pub mod Calls
+pub mod Put
+pub mod Laws

@@ -2,8 +2,8 @@
 ghost use Rattle.std.specs.Prelude.{◌≡◌};
 ghost use Rattle.hfs_put_plan.specs.Facts.{double_dates, double_facts, double_finder, file_time, macbinary_facts, macbinary_finder, told_dates, told_lock};
 
+use hfs_encodings::{AppleDoubleFile, FileDates, MacBinaryFile};
 use hfs_fields::FieldRow;
-use hfs_incoming::{AppleDoubleFile, FileDates, MacBinaryFile};
 
 /// Lock and dates of an item, as its bag gives them.
 #[derive(Clone, Copy)]

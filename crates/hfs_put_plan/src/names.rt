@@ -1,11 +1,11 @@
 //! The name that an item gets.
 ghost use Rattle.std.specs.Prelude.{◌≡◌, chars};
-ghost use Rattle.hfs_incoming.specs.Names.{given_name};
-ghost use Rattle.hfs_incoming.specs.Spelled.{host_letters};
+ghost use Rattle.hfs_encodings.specs.Names.{given_name};
+ghost use Rattle.hfs_encodings.specs.Spelled.{host_letters};
 ghost use Rattle.hfs_put_plan.specs.Names.{put_name};
 
+use hfs_encodings::{GivenName, host_item_name};
 use hfs_fields::Name;
-use hfs_incoming::{GivenName, host_item_name};
 
 /// The name that an item gets from one that was given: that one, if it is an item name; if names may be changed, the one in its
 /// place; otherwise none.

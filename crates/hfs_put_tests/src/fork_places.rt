@@ -4,7 +4,7 @@ use crate::items::item;
 use hfs_fixtures::{FixtureFault, new_image};
 use hfs_model::{Fork, ItemKind};
 use hfs_put::{fork_runs, lay_items};
-use hfs_sources::ForkRun;
+use hfs_put_sources::ForkRun;
 use hfs_volume_fixtures::mounted;
 use std::alloc::Global;
 use std::test::Fail;

@@ -1,10 +1,9 @@
 //! Items that are put.
+use hfs_encodings::FileDates;
 use hfs_fields::Name;
 use hfs_fixtures::FixtureFault;
-use hfs_incoming::FileDates;
 use hfs_model::ItemKind;
-use hfs_put_calls::PutItem;
-use hfs_put_plan::{ItemFacts, Placing};
+use hfs_put_plan::{ItemFacts, Placing, PutItem};
 
 /// A new item of that name, with this many bytes in its forks.
 pub(crate) fn item(

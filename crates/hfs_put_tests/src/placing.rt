@@ -3,9 +3,8 @@ use crate::items::item;
 use hfs_fixtures::{FixtureFault, new_image};
 use hfs_model::ItemKind;
 use hfs_put::{PlacedSources, lay_items, lock_code, place_sources};
-use hfs_put_calls::PutItem;
-use hfs_put_plan::{EntryKind, Placing, Why};
-use hfs_sources::{
+use hfs_put_plan::{EntryKind, Placing, PutItem, Why};
+use hfs_put_sources::{
     HostNode, HostTime, Look, MemoryTree, NothingTold, PutOptions, SourceItem, list_sources,
 };
 use hfs_volume::Volume;

@@ -3,8 +3,8 @@
 use crate::items::item;
 use hfs_fixtures::{FixtureFault, lay, new_image};
 use hfs_model::ItemKind;
-use hfs_put_calls::PutItem;
-use hfs_put_image::{PutBlocks, put_items};
+use hfs_put::{PutBlocks, put_items};
+use hfs_put_plan::PutItem;
 use hfs_volume::mount;
 use std::alloc::Global;
 use std::test::Fail;

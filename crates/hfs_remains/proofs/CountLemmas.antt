@@ -1,185 +1,198 @@
--- How many blocks a fork has, by the sums of its chain.
-use Rattle.std.proofs.Common.{◌≡◌, ◌≢◌, ℕ, zero, suc, ◌+◌, ◌<◌, ◌≤◌, Bool, true, false, ◌&&◌, ◌==◌, nat_lt, if◌then◌else◌, Bor, ltb, List, [], length, get_or, Option, Some, None, refl, sym, ap, ◌∙◌, arith, inl, inr}
-use Rattle.std.specs.Prelude.{find}
-use Rattle.std.specs.List.{position_from}
-use Rattle.std.specs.Option.{option_map_or, option_copied, is_some, IfSome}
-use Rattle.std.proofs.lemmas.Bool.{cases_lt, cases_eq, eqb-true, eq-eqb, ne_eqb, le-leb, lt-leb}
-use Rattle.std.proofs.lemmas.List.{get_or-map, get_or_default}
-use Rattle.std.proofs.lemmas.List.Sums.{sum_by-append}
+-- How many items remain in blocks of bytes.
+use Rattle.std.proofs.Common.{◌≡◌, ℕ, zero, suc, ◌+◌, ◌-◌, ◌*◌, ◌^◌, ◌<◌, ◌≤◌, Bool, true, false, cond, ◌&&◌, ◌==◌, not, if◌then◌else◌, List, [], ◌∷◌, take, length, length-append, Option, Some, None, slice_index_or, refl, ap, ◌∙◌, arith, inl, inr}
+use Rattle.std.specs.Prelude.{count_by, find, nat_le, nat_lt}
+use Rattle.std.specs.List.{range_with_len}
+use Rattle.std.specs.Option.{is_none, is_some, option_or}
+use Rattle.std.proofs.Math.Nat.{mul-le-mul_right}
+use Rattle.std.proofs.lemmas.Bool.{and_parts, cases_eq, eq-eqb, leb-true, ltb-true}
+use Rattle.std.proofs.lemmas.List.FromFn.{length-range_with_len}
+use Rattle.std.proofs.lemmas.List.Sums.{count_by-le-length, sum_by-cons}
+use Rattle.hfs_fields.specs.declared.mdb.Mdb.{Mdb}
 use Rattle.hfs_fields.specs.declared.extent.Extent.{Extent}
-use Rattle.hfs_fields.specs.declared.key.ExtKey.{ExtKey}
-use Rattle.hfs_catalog_checks.proofs.Indexed.{found_get, found_is, found_none}
-use Rattle.hfs_space.specs.Extents.{Overflow, block_total, record_extents}
-use Rattle.hfs_rescue.specs.OverflowRecords.{has_key, record_at, further, fork_extents}
-use Rattle.hfs_rescue.proofs.ForkLemmas.{further-none, further-ended, further-empty, further-more}
-use Rattle.hfs_places.specs.Chains.{place_at}
-use Rattle.hfs_places.proofs.FolderLemmas.{position-holds}
-use Rattle.hfs_remains.specs.Chains.{own_blocks, record_place, next_place, owns_of, nexts_of, number_at, blocks_in, at_most}
-use Rattle.hfs_remains.proofs.SumLemmas.{blocks_in-zero, blocks_in-suc}
+use Rattle.hfs_fields.proofs.CommonLemmas.{none-true}
+use Rattle.hfs_fields.specs.Each.{Each}
+use Rattle.hfs_fields.proofs.MemberLemmas.{found_in}
+use Rattle.hfs_blocks.specs.Blocks.{block_at, block_count, few-block_count}
+use Rattle.hfs_btree.specs.Header.{header_of, record_in}
+use Rattle.hfs_btree.specs.Sound.{HasCounts}
+use Rattle.hfs_btree.specs.Tree.{Store, records_in}
+use Rattle.hfs_catalog.specs.Records.{Catalog}
+use Rattle.hfs_catalog.specs.Tree.{cat_keys, catalog_of}
+use Rattle.hfs_space.specs.Extents.{extent_blocks}
+use Rattle.hfs_space.specs.Forks.{blocks_each}
+use Rattle.hfs_space.specs.TreeFiles.{node_count}
+use Rattle.hfs_check.specs.Faults.{is_block_size, length_fault}
+use Rattle.hfs_check.specs.Parts.{Blocks}
+use Rattle.hfs_check.proofs.LawsProved.{no_catalog_fault, no_length_fault}
+use Rattle.hfs_remains.specs.Allocation.{is_there, start_of}
+use Rattle.hfs_remains.specs.Directory.{all_places, directory_in, directory_of, has_beginning, mdb_at, serves, usual_places, will_do}
+use Rattle.hfs_remains.specs.declared.directory.Beginning.{Beginning}
+use Rattle.hfs_remains.specs.declared.directory.Beginning.TheVariants.{Both, Catalog as CatalogAlone, Neither}
+use Rattle.hfs_remains.specs.TreeFiles.{FileBlocks, file_blocks, first_there}
+use Rattle.hfs_remains.specs.CatalogRecords.{catalog_nodes, catalog_records, found, found_in_tree, found_of, is_catalog_body, is_catalog_tree_right, is_node_block, scattered_records}
+use Rattle.hfs_remains.specs.Remains.{catalog_file_extents}
+use Rattle.hfs_remains.specs.Items.{is_named_item, items_of}
+use Rattle.hfs_remains.specs.Laws.{AreBytes, DirectoriesAreRead, IsReadDirectory, ItemsAreCounted, others}
+use Rattle.hfs_remains.proofs.ByteLemmas.{block-bytes, no-bytes, number-small, take-bytes}
+use Rattle.hfs_remains.proofs.FewLemmas.{items-few}
+use Rattle.hfs_remains.proofs.ReadLemmas.{nodes-bytes, store-bytes}
+use Rattle.hfs_remains.proofs.RightLemmas.{catalog-shaped}
+use Rattle.hfs_remains.proofs.SumLemmas.{scattered-few}
 
--- ---- no more than are wanted
+-- ---- numbers that pass a test
 
-pub at_most-full : (wanted n : ℕ) → wanted ≤ n → at_most wanted n ≡ wanted
-at_most-full wanted n full = ap (λ (b : Bool). if b then wanted else n) (le-leb wanted n full)
+abbrev pub one : Bool → ℕ
+one b = cond b 1 0
 
-pub at_most-few : (wanted n : ℕ) → n < wanted → at_most wanted n ≡ n
-at_most-few wanted n few = ap (λ (b : Bool). if b then wanted else n) (lt-leb wanted n few)
+pub count-cons : (p : ℕ → Bool) (a n : ℕ) → count_by p (range_with_len a (suc n)) ≡ one (p a) + count_by p (range_with_len (a + 1) n)
+count-cons p a n = sum_by-cons (λ k. one (p k)) a (range_with_len (a + 1) n)
 
--- ---- records by their places
+abbrev pub without : (ℕ → Bool) → ℕ → ℕ → Bool
+without p b k = p k && not (k == b)
 
-abbrev none_such : ExtKey × List ℕ
-none_such = (record { fork = 0; file = 0; block = 0 }, [])
+fewer-one : (x y : Bool) → one (x && y) ≤ one x
+fewer-one true true = omega arith
+fewer-one true false = omega arith
+fewer-one false y = omega arith
 
-record IsFound (records : Overflow) (file fork block i : ℕ) (r : ExtKey × List ℕ) : Type 0 where
-  within : i < length records
-  stands : r ≡ get_or records i none_such
-  found : record_at records file fork block ≡ Some r
-  file_is : r.0.file ≡ file
-  fork_is : r.0.fork ≡ fork
-  block_is : r.0.block ≡ block
+fewer : (p : ℕ → Bool) (b a n : ℕ) → count_by (without p b) (range_with_len a n) ≤ count_by p (range_with_len a n)
+fewer p b a zero = omega arith
+fewer p b a (suc n) = omega (arith, count-cons (without p b) a n, count-cons p a n, fewer-one (p a) (not (a == b)), fewer p b (a + 1) n)
 
-placed : (records : Overflow) (file fork block i : ℕ) → record_place records file fork block ≡ Some i → (nat_lt block 65536 ≡ true) × (position_from (has_key file fork block) 0 records ≡ Some i)
-unfolding record_place
-placed records file fork block i is = by (nat_lt block 65536) is
+-- with one of them left out, there is one fewer
+pub less-one : (p : ℕ → Bool) (b a n : ℕ) → a ≤ b → b < a + n → p b ≡ true → count_by (without p b) (range_with_len a n) + 1 ≤ count_by p (range_with_len a n)
+less-one p b a zero from below is = absurd (omega (arith, from, below))
+less-one p b a (suc n) from below is =
+    elim (cases_eq a b) [
+      | inl same ↦
+          let here : one (p a) ≡ 1 = ap one (ap p same ∙ is) in
+          let gone : one (without p b a) ≡ 0 = ap one ((λ t. (ap p same ∙ is) t && not (eq-eqb a b same t))) in
+          omega (arith, count-cons (without p b) a n, count-cons p a n, here, gone, fewer p b (a + 1) n)
+      | inr other ↦
+          let later : a + 1 ≤ b = omega (arith, from, λ (same : a ≡ b). other same) in
+          let inside : b < a + 1 + n = omega (arith, below) in
+          omega (arith, count-cons (without p b) a n, count-cons p a n, fewer-one (p a) (not (a == b)), less-one p b (a + 1) n later inside is)
+    ]
+
+-- ---- the blocks of a file that are there are different ones
+
+some-cons : (o : Option ℕ) (file : FileBlocks) → count_by is_some (o ∷ file) ≡ one (is_some o) + count_by is_some file
+some-cons o file = sum_by-cons (λ (x : Option ℕ). one (is_some x)) o file
+
+there-few : (n : ℕ) (there : ℕ → Bool) (bs : List ℕ) → ((k : ℕ) → there k ≡ true → k < n) → count_by is_some (first_there there bs) ≤ count_by there (range_with_len 0 n)
+there-few n there [] inside = omega arith
+there-few n there (b ∷ bs) inside =
+    by (there b) refl (there-few n (without there b) bs (λ k so. inside k (and_parts (there k) (not (k == b)) so).0)) (there-few n there bs inside)
   where
-    by : (b : Bool) → (if b then position_from (has_key file fork block) 0 records else None) ≡ Some i → (b ≡ true) × (position_from (has_key file fork block) 0 records ≡ Some i)
-    by true e = (refl, e)
-    by false e = cc
+    by : (t : Bool) → there b ≡ t → count_by is_some (first_there (without there b) bs) ≤ count_by (without there b) (range_with_len 0 n)
+        → count_by is_some (first_there there bs) ≤ count_by there (range_with_len 0 n)
+        → count_by is_some (if t then Some b ∷ first_there (λ k. there k && not (k == b)) bs else None ∷ first_there there bs) ≤ count_by there (range_with_len 0 n)
+    by true is left all = omega (arith, some-cons (Some b) (first_there (without there b) bs), left, less-one there b 0 n (omega arith) (omega (arith, inside b is)) is)
+    by false is left all = omega (arith, some-cons None (first_there there bs), all)
 
-pub placed-none : (records : Overflow) (file fork block : ℕ) → record_place records file fork block ≡ None → record_at records file fork block ≡ None
-unfolding record_place
-placed-none records file fork block is = by (nat_lt block 65536) is
+file-few : (total : ℕ) (mdb : Mdb) (extents : List Extent) → count_by is_some (file_blocks total mdb extents) ≤ mdb.allocation_blocks
+unfolding file_blocks is_there
+file-few total mdb extents =
+    omega (
+      arith,
+      there-few mdb.allocation_blocks (is_there total mdb) (extent_blocks extents) (λ k so. ltb-true k mdb.allocation_blocks (and_parts (nat_lt k mdb.allocation_blocks) (nat_le (start_of mdb (k + 1)) total) so).0),
+      count_by-le-length (is_there total mdb) (range_with_len 0 mdb.allocation_blocks),
+      length-range_with_len 0 mdb.allocation_blocks,
+    )
+
+-- ---- the items
+
+others-few : (total : ℕ) (mdb : Mdb) (file : FileBlocks) → others total mdb file ≤ total
+others-few total mdb file =
+    omega (arith, count_by-le-length (λ k. not (is_node_block mdb file k)) (range_with_len 3 (total - 3)), length-range_with_len 3 (total - 3))
+
+scattered-counted : (total : ℕ) (blocks : Blocks) (mdb : Mdb) (extents : List Extent) → total < 2 ^ 32 → IsReadDirectory mdb
+    → length (items_of (scattered_records total blocks mdb (file_blocks total mdb extents))) < 2 ^ 48
+scattered-counted total blocks mdb extents most is =
+    let file : FileBlocks = file_blocks total mdb extents in
+    let product : count_by is_some file * blocks_each mdb ≤ 65536 * blocks_each mdb = mul-le-mul_right (blocks_each mdb) (omega (arith, file-few total mdb extents, is.few)) in
+    omega (arith, most, is.size, product, others-few total mdb file, scattered-few total blocks mdb file is.some)
+
+found-few : (records : Catalog) → length (found_of records) ≤ length records
+found-few [] = omega arith
+found-few (r ∷ records) = omega (arith, length-append (found_in_tree r) (found_of records), found-few records, by (is_catalog_body r.1))
   where
-    by : (b : Bool) → (if b then position_from (has_key file fork block) 0 records else None) ≡ None → (if b then find (has_key file fork block) records else None) ≡ None
-    by true e = found_none (has_key file fork block) 0 records e
-    by false e = refl
+    by : (b : Bool) → length (if b then found false r ∷ [] else []) ≤ 1
+    by true = omega arith
+    by false = omega arith
 
-pub placed-some : (records : Overflow) (file fork block i : ℕ) (o : Option (Bor (ExtKey × List ℕ))) → record_place records file fork block ≡ Some i
-    → is_some o ≡ ltb i (length records) → IfSome o (λ x. x.now ≡ get_or records i x.now) → option_copied o ≡ record_at records file fork block
-placed-some records file fork block i o is there at =
-    let place = placed records file fork block i is in
-    found_get (has_key file fork block) records i o place.1 there at
-    ∙ ap (λ (b : Bool). if b then find (has_key file fork block) records else None) (sym place.0)
+bytes-at : (records : List (List ℕ)) (i : ℕ) → Each AreBytes records → AreBytes (slice_index_or records i [])
+bytes-at [] i all = no-bytes
+bytes-at (r ∷ records) zero all = all.0
+bytes-at (r ∷ records) (suc i) all = bytes-at records i all.1
 
-key-parts : (r : ExtKey × List ℕ) (file fork block : ℕ) → has_key file fork block r ≡ true → (r.0.file ≡ file) × ((r.0.fork ≡ fork) × (r.0.block ≡ block))
-key-parts r file fork block is = by (r.0.file == file) (r.0.fork == fork) (r.0.block == block) refl refl refl is
+-- the header of a tree counts its records
+tree-counted : (nodes : Store) → AreBytes (record_in nodes 0 0) → HasCounts cat_keys nodes → length (catalog_of nodes) < 2 ^ 32
+unfolding header_of
+tree-counted nodes are counts = omega (arith, counts.records, number-small 6 4 (record_in nodes 0 0) are)
+
+records-counted : (total : ℕ) (blocks : Blocks) (mdb : Mdb) (extents : List Extent) → ((n : ℕ) → AreBytes (blocks n)) → total < 2 ^ 32 → IsReadDirectory mdb
+    → length (items_of (catalog_records total blocks mdb extents (file_blocks total mdb extents))) < 2 ^ 48
+unfolding catalog_records
+records-counted total blocks mdb extents are most is = by (is_catalog_tree_right mdb extents (catalog_nodes blocks mdb (file_blocks total mdb extents))) refl
   where
-    by : (a b c : Bool) → (r.0.file == file) ≡ a → (r.0.fork == fork) ≡ b → (r.0.block == block) ≡ c → (a && b && c) ≡ true → (r.0.file ≡ file) × ((r.0.fork ≡ fork) × (r.0.block ≡ block))
-    by true true true x y z e = (eqb-true r.0.file file x, (eqb-true r.0.fork fork y, eqb-true r.0.block block z))
-    by true true false x y z e = cc
-    by true false c x y z e = cc
-    by false b c x y z e = cc
+    by : (b : Bool) → is_catalog_tree_right mdb extents (catalog_nodes blocks mdb (file_blocks total mdb extents)) ≡ b
+        → length (items_of (if b then found_of (catalog_of (catalog_nodes blocks mdb (file_blocks total mdb extents))) else scattered_records total blocks mdb (file_blocks total mdb extents))) < 2 ^ 48
+    by true right =
+        let file : FileBlocks = file_blocks total mdb extents in
+        let nodes : Store = catalog_nodes blocks mdb file in
+        let shaped = catalog-shaped mdb nodes extents no_catalog_fault right in
+        omega (
+          arith,
+          items-few (found_of (catalog_of nodes)),
+          count_by-le-length is_named_item (found_of (catalog_of nodes)),
+          found-few (catalog_of nodes),
+          tree-counted nodes (bytes-at (records_in nodes 0) 0 (store-bytes blocks are nodes 0 (nodes-bytes blocks are mdb file (node_count mdb.catalog_file_size)))) shaped.counts,
+        )
+    by false wrong = scattered-counted total blocks mdb extents most is
 
-is-found : (records : Overflow) (file fork block i : ℕ) → record_place records file fork block ≡ Some i → IsFound records file fork block i (get_or records i none_such)
-is-found records file fork block i is =
-    let place = placed records file fork block i is in
-    let at = position-holds (has_key file fork block) 0 records i place.1 in
-    let same : at.m ≡ i = omega (arith, at.place) in
-    let r : ExtKey × List ℕ = get_or records i none_such in
-    let within : i < length records = omega (arith, at.within, same) in
-    let holds : has_key file fork block r ≡ true = ap (λ (j : ℕ). has_key file fork block (get_or records j none_such)) (sym same) ∙ at.holds none_such in
-    let parts = key-parts r file fork block holds in
-    record {
-      within = within;
-      stands = refl;
-      found =
-          ap (λ (b : Bool). if b then find (has_key file fork block) records else None) place.0
-          ∙ sym (found_is (has_key file fork block) records i r place.1 (get_or_default records i none_such r within));
-      file_is = parts.0;
-      fork_is = parts.1.0;
-      block_is = parts.1.1;
-    }
+pub items-counted : ItemsAreCounted
+items-counted total blocks mdb are most is = records-counted total blocks mdb (catalog_file_extents total blocks mdb) are most is
 
-own-at : (records : Overflow) (i : ℕ) → i < length records → number_at (owns_of records) i ≡ own_blocks (get_or records i none_such)
-unfolding owns_of
-own-at records i within = get_or-map own_blocks records i none_such 0 within
+-- ---- directories
 
-next-at : (records : Overflow) (i : ℕ) → i < length records → place_at (nexts_of records) i ≡ next_place records (get_or records i none_such)
-unfolding nexts_of
-next-at records i within = get_or-map (next_place records) records i none_such None within
+either : (one other : Option ℕ) (n : ℕ) (P : ℕ → Type 0) → (one ≡ Some n → P n) → (other ≡ Some n → P n) → option_or one other ≡ Some n → P n
+either None other n P first second is = second is
+either (Some m) other n P first second is = first is
 
--- ---- the count
+does : (total : ℕ) (blocks : Blocks) (beginning : Beginning) (places : List ℕ) (n : ℕ) → find (serves total blocks beginning) places ≡ Some n → will_do (mdb_at blocks n) ≡ true
+unfolding serves
+does total blocks beginning places n is =
+    (and_parts (will_do (mdb_at blocks n)) (has_beginning total blocks (mdb_at blocks n) beginning) (found_in (serves total blocks beginning) places n is).1).0
 
-module _ (records : Overflow) (file fork wanted : ℕ) where
-  -- what a fork goes on with from a block on, by the sums
-  abbrev summed_from : ℕ → ℕ → ℕ
-  summed_from most block = option_map_or (blocks_in (owns_of records) (nexts_of records) most) (record_place records file fork block) 0
+found-does : (total : ℕ) (blocks : Blocks) (n : ℕ) → directory_in total blocks ≡ Some n → will_do (mdb_at blocks n) ≡ true
+unfolding directory_in
+found-does total blocks n =
+    either (find (serves total blocks Both) (usual_places total)) _ n (λ m. will_do (mdb_at blocks m) ≡ true) (does total blocks Both (usual_places total) n)
+    (either (find (serves total blocks CatalogAlone) (all_places total)) _ n (λ m. will_do (mdb_at blocks m) ≡ true)
+    (does total blocks CatalogAlone (all_places total) n) (does total blocks Neither (all_places total) n))
 
-  none-more : (o : Option ℕ) → option_map_or (blocks_in (owns_of records) (nexts_of records) zero) o 0 ≡ 0
-  none-more None = refl
-  none-more (Some j) = blocks_in-zero (owns_of records) (nexts_of records) j
+some-each : (mdb : Mdb) → will_do mdb ≡ true → 1 ≤ blocks_each mdb
+some-each mdb does =
+    let size = (and_parts _ (is_block_size mdb) does).1 in
+    let least : 512 ≤ mdb.allocation_block_size = leb-true 512 mdb.allocation_block_size (and_parts (nat_le 512 mdb.allocation_block_size) _ size).0 in
+    omega (arith, least)
 
-  abbrev Counted : ℕ → Type 0
-  Counted most = (block : ℕ) → at_most wanted (block + block_total (further records file fork wanted most block)) ≡ at_most wanted (block + summed_from most block)
+pub directories-read : DirectoriesAreRead
+unfolding directory_of
+directories-read image n are is = by (is_none (length_fault (length image))) refl is
+  where
+    block : AreBytes (take 162 (block_at image n))
+    block = take-bytes 162 (block_at image n) (block-bytes image are n)
 
-  more : (most : ℕ) → Counted most → (block i : ℕ) → block < wanted → (r : ExtKey × List ℕ) → IsFound records file fork block i r → own_blocks r ≢ 0
-      → at_most wanted (block + block_total (further records file fork wanted (suc most) block)) ≡ at_most wanted (block + blocks_in (owns_of records) (nexts_of records) (suc most) i)
-  more most before block i wants r is some =
-      let own : number_at (owns_of records) i ≡ own_blocks r = own-at records i is.within ∙ ap own_blocks (sym is.stands) in
-      let next : place_at (nexts_of records) i ≡ record_place records file fork (block + own_blocks r) =
-      next-at records i is.within ∙ ap (next_place records) (sym is.stands)
-      ∙ ap (λ (b : Bool). if b then None else record_place records r.0.file r.0.fork (r.0.block + own_blocks r)) (ne_eqb (own_blocks r) 0 some)
-      ∙ (λ t. record_place records (is.file_is t) (is.fork_is t) (is.block_is t + own_blocks r)) in
-      let sum : blocks_in (owns_of records) (nexts_of records) (suc most) i ≡ own_blocks r + summed_from most (block + own_blocks r) =
-      blocks_in-suc (owns_of records) (nexts_of records) most i ∙ (λ t. own t + option_map_or (blocks_in (owns_of records) (nexts_of records) most) (next t) 0) in
-      let left : block_total (further records file fork wanted (suc most) block) ≡ own_blocks r + block_total (further records file fork wanted most (block + own_blocks r)) =
-      ap block_total (further-more records file fork wanted most block r wants is.found some)
-      ∙ sum_by-append (λ (e : Extent). e.count) (record_extents r.1) (further records file fork wanted most (block + own_blocks r)) in
-      ap (at_most wanted) (omega (arith, left))
-      ∙ before (block + own_blocks r)
-      ∙ ap (at_most wanted) (omega (arith, sum))
-
-  empty : (most block i : ℕ) → block < wanted → (r : ExtKey × List ℕ) → IsFound records file fork block i r → own_blocks r ≡ 0
-      → at_most wanted (block + block_total (further records file fork wanted (suc most) block)) ≡ at_most wanted (block + blocks_in (owns_of records) (nexts_of records) (suc most) i)
-  empty most block i wants r is none =
-      let own : number_at (owns_of records) i ≡ 0 = own-at records i is.within ∙ ap own_blocks (sym is.stands) ∙ none in
-      let next : place_at (nexts_of records) i ≡ None =
-      next-at records i is.within ∙ ap (next_place records) (sym is.stands)
-      ∙ ap (λ (b : Bool). if b then None else record_place records r.0.file r.0.fork (r.0.block + own_blocks r)) (eq-eqb (own_blocks r) 0 none) in
-      let sum : blocks_in (owns_of records) (nexts_of records) (suc most) i ≡ 0 =
-      blocks_in-suc (owns_of records) (nexts_of records) most i ∙ (λ t. own t + option_map_or (blocks_in (owns_of records) (nexts_of records) most) (next t) 0) in
-      ap (λ (n : ℕ). at_most wanted (block + n)) (ap block_total (further-empty records file fork wanted most block r wants is.found none) ∙ sym sum)
-
-  by-place : (most : ℕ) → Counted most → (block : ℕ) → block < wanted → (o : Option ℕ) → record_place records file fork block ≡ o
-      → at_most wanted (block + block_total (further records file fork wanted (suc most) block)) ≡ at_most wanted (block + option_map_or (blocks_in (owns_of records) (nexts_of records) (suc most)) o 0)
-  by-place most before block wants None is = ap (λ (l : List Extent). at_most wanted (block + block_total l)) (further-none records file fork wanted (suc most) block (placed-none records file fork block is))
-  by-place most before block wants (Some i) is =
-      let found = is-found records file fork block i is in
-      elim (cases_eq (own_blocks (get_or records i none_such)) 0) [
-        | inl none ↦ empty most block i wants (get_or records i none_such) found none
-        | inr some ↦ more most before block i wants (get_or records i none_such) found some
-      ]
-
-  pub counted : (most : ℕ) → Counted most
-  counted zero block =
-      ap (λ (n : ℕ). at_most wanted (block + n))
-      (ap block_total (further-ended records file fork wanted zero block refl) ∙ sym (none-more (record_place records file fork block)))
-  counted (suc most) block =
-      elim (cases_lt block wanted) [
-        | inl wants ↦ by-place most (counted most) block wants (record_place records file fork block) refl
-        | inr full ↦
-            at_most-full wanted (block + block_total (further records file fork wanted (suc most) block)) (omega (arith, full))
-            ∙ sym (at_most-full wanted (block + summed_from (suc most) block) (omega (arith, full)))
-      ]
-
-  -- the blocks of the first extents, and those of the records
-  pub count-is : (first : List Extent) → at_most wanted (block_total (fork_extents records file fork wanted first)) ≡ at_most wanted (block_total first + summed_from 65536 (block_total first))
-  unfolding fork_extents
-  count-is first =
-      ap (at_most wanted) (sum_by-append (λ (e : Extent). e.count) first (further records file fork wanted 65536 (block_total first)))
-      ∙ counted 65536 (block_total first)
-
-  pub count-full : (first : List Extent) → wanted ≤ block_total first → at_most wanted (block_total (fork_extents records file fork wanted first)) ≡ wanted
-  count-full first full = count-is first ∙ at_most-full wanted (block_total first + summed_from 65536 (block_total first)) (omega (arith, full))
-
-  pub count-none : (first : List Extent) → block_total first < wanted → record_place records file fork (block_total first) ≡ None
-      → at_most wanted (block_total (fork_extents records file fork wanted first)) ≡ block_total first
-  count-none first few none =
-      let nothing : summed_from 65536 (block_total first) ≡ 0 = ap (λ (o : Option ℕ). option_map_or (blocks_in (owns_of records) (nexts_of records) 65536) o 0) none in
-      count-is first ∙ ap (at_most wanted) (omega (arith, nothing)) ∙ at_most-few wanted (block_total first) few
-
-  pub count-some : (first : List Extent) (i sum : ℕ) → record_place records file fork (block_total first) ≡ Some i → sum ≡ blocks_in (owns_of records) (nexts_of records) 65536 i
-      → at_most wanted (block_total (fork_extents records file fork wanted first)) ≡ at_most wanted (block_total first + sum)
-  count-some first i sum some is =
-      let same : summed_from 65536 (block_total first) ≡ sum = ap (λ (o : Option ℕ). option_map_or (blocks_in (owns_of records) (nexts_of records) 65536) o 0) some ∙ sym is in
-      count-is first ∙ ap (at_most wanted) (omega (arith, same))
+    by : (b : Bool) → is_none (length_fault (length image)) ≡ b → (if b then directory_in (block_count image) (block_at image) else None) ≡ Some n
+        → IsReadDirectory (mdb_at (block_at image) n) × (block_count image < 2 ^ 32)
+    by true right there = (
+      record {
+        few = omega (arith, number-small 18 2 (take 162 (block_at image n)) block);
+        size = omega (arith, number-small 20 4 (take 162 (block_at image n)) block);
+        some = some-each (mdb_at (block_at image) n) (found-does (block_count image) (block_at image) n there);
+      },
+      few-block_count image (omega (arith, ((no_length_fault (length image)).0 (none-true _ right)).most)),
+    )
+    by false wrong there = cc

@@ -1,54 +1,45 @@
 -- Laws of this crate, each by the laws that it stands on.
-use Rattle.std.proofs.Common.{map}
-use Rattle.hfs_blocks.specs.Blocks.{block_at, block_count}
-use Rattle.hfs_places.proofs.LawsProved.{places_differ}
-use Rattle.hfs_remains.specs.Records.{thing_of, namings_of}
-use Rattle.hfs_remains.specs.Laws.{ForksAreTheirBlocks, FoundAreThings, RecordsHaveOwnPlaces, SoundAreThings, SoundForksAreTaken, SoundForksAreWhole, SoundItemsHaveWays, SoundNamesAreOwn, SoundPathsAreHostPaths, SoundThingsAreItems}
-use Rattle.hfs_remains.proofs.ReadThingLemmas.{found-are-things, sound-are-things}
-use Rattle.hfs_remains.proofs.SoundPathLemmas.{sound-paths}
-use Rattle.hfs_remains.proofs.SoundWayLemmas.{ways-are}
-use Rattle.hfs_remains.proofs.SoundThingLemmas.{things-are, names-own}
-use Rattle.hfs_remains.proofs.TakenLemmas.{forks-taken}
-use Rattle.hfs_remains.proofs.WholeForkLemmas.{forks-whole}
-use Rattle.hfs_remains.proofs.SameLemmas.{forks-same, are-items}
+use Rattle.hfs_remains.specs.Laws.{BlocksHaveFewItems, DirectoriesAreRead, ItemsAreCounted, ItemsAreFew, RecordsAreRead, SoundDirectoryIsFound, SoundOverflowIsFound, SoundCatalogIsFound, SoundItemsAreFound}
+use Rattle.hfs_remains.proofs.FewLemmas.{blocks-few}
+use Rattle.hfs_remains.proofs.SumLemmas.{scattered-few}
+use Rattle.hfs_remains.proofs.CountLemmas.{directories-read, items-counted}
+use Rattle.hfs_remains.proofs.ReadLemmas.{records-read}
+use Rattle.hfs_remains.proofs.DirectoryLemmas.{directory-is}
+use Rattle.hfs_remains.proofs.SoundItemLemmas.{items-are}
+use Rattle.hfs_remains.proofs.SoundLemmas.{overflow-is, records-are}
 
--- The law of forks: how many bytes are taken of a fork, which these are, and what is said of it but for who else owns its blocks, are a function of
--- the numbers, the size and the beginning of the allocation blocks, the number of logical blocks, the fork's length and extents, and its blocks' bytes.
-pub forks_are_their_blocks : ForksAreTheirBlocks
-forks_are_their_blocks = forks-same
+-- 512 bytes have at most six items.
+pub blocks_have_few_items : BlocksHaveFewItems
+blocks_have_few_items = blocks-few
 
--- The law of places: the items among records, and the folders that records name, have places of their own, and each place leads down from the payload.
-pub records_have_own_places : RecordsHaveOwnPlaces
-records_have_own_places items records things = places_differ (map thing_of items) (namings_of records) (are-items items) things
+-- A catalog that does not pass its check gives at most six items for each of its nodes that is there, and for each other block.
+pub items_are_few : ItemsAreFew
+items_are_few = scattered-few
 
--- Each sound fork of a sound volume is taken whole: its blocks are there, nothing of it is cut or missing, and its bytes are those that the volume has.
-pub sound_forks_are_whole : SoundForksAreWhole
-sound_forks_are_whole = forks-whole
+-- The records that remain in blocks of bytes have names of at most 31 bytes and numbers of 32 bits.
+pub records_are_read : RecordsAreRead
+records_are_read = records-read
 
--- No fork of a sound volume is left, where as many bytes may be taken as the volume has: no two own a block.
-pub sound_forks_are_taken : SoundForksAreTaken
-sound_forks_are_taken = forks-taken
+-- By a directory of such an image fewer than 2^48 items remain,
+pub items_are_counted : ItemsAreCounted
+items_are_counted = items-counted
 
--- Of a sound volume the items alone are things: no folder is named by a thread alone.
-pub sound_things_are_items : SoundThingsAreItems
-sound_things_are_items = things-are
+-- and each directory that is found in an image of bytes is one of these.
+pub directories_are_read : DirectoriesAreRead
+directories_are_read = directories-read
 
--- What is found in an image of bytes has names of at most 31 bytes and numbers of 32 bits, and there are fewer than 2^64 things.
-pub found_are_things : FoundAreThings
-found_are_things = found-are-things
+-- The directory of a sound image is found in block 2, where the catalog file has a block in the directory's own extents of it.
+pub sound_directory_is_found : SoundDirectoryIsFound
+sound_directory_is_found = directory-is
 
--- So it is of a sound image's.
-pub sound_are_things : SoundAreThings
-sound_are_things = sound-are-things
+-- Of a sound volume the records of the extents tree are its own.
+pub sound_overflow_is_found : SoundOverflowIsFound
+sound_overflow_is_found = overflow-is
 
--- Of a sound volume no two items of a folder are called the same, not even but for case.
-pub sound_names_are_own : SoundNamesAreOwn
-sound_names_are_own image sound bytes = names-own (block_count image) (block_at image) sound.blocks (sound_are_things image sound bytes)
+-- Of a sound volume the records that are found are those of its catalog, in order, and none is old.
+pub sound_catalog_is_found : SoundCatalogIsFound
+sound_catalog_is_found = records-are
 
--- Of a sound volume names lead from each item but the root up to the payload.
-pub sound_items_have_ways : SoundItemsHaveWays
-sound_items_have_ways = ways-are
-
--- Of a sound volume whose folders' host paths take at most 800 bytes each item but the root is put at the host path of the names that lead to it.
-pub sound_paths_are_host_paths : SoundPathsAreHostPaths
-sound_paths_are_host_paths = sound-paths
+-- Of a sound volume the items are the folders and files of its catalog, in order.
+pub sound_items_are_found : SoundItemsAreFound
+sound_items_are_found = items-are

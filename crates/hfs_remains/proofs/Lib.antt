@@ -1,17 +1,20 @@
-mod CodeLemmas
-pub mod SumLemmas
+pub mod FileLemmas
+pub mod NodeLemmas
+pub mod ChainLemmas
+pub mod RangeLemmas
+pub mod LeafLemmas
+pub mod StepLemmas
+pub mod ForkLemmas
+pub mod RightLemmas
+pub mod ItemLemmas
+pub mod ByteLemmas
+pub mod ReadLemmas
+mod FewLemmas
 pub mod CountLemmas
-mod OwnerLemmas
-mod BlockLemmas
-mod ShareLemmas
-pub mod ForkByteLemmas
-mod NamingLemmas
-mod SameLemmas
-mod FrontLemmas
-mod WholeForkLemmas
-mod TakenLemmas
-mod SoundThingLemmas
-mod SoundWayLemmas
-mod ReadThingLemmas
-mod SoundPathLemmas
+mod SumLemmas
+pub mod WholeLemmas
+pub mod OnwardLemmas
+pub mod SoundLemmas
+mod SoundItemLemmas
+pub mod DirectoryLemmas
 pub mod LawsProved

@@ -1,106 +1,195 @@
--- Blocks of records, each the next of the one before it.
-use Rattle.std.proofs.Common.{◌≡◌, ℕ, zero, suc, ◌+◌, ◌*◌, ◌^◌, ◌≤◌, List, length, map, Option, Some, None, refl, sym, ap, ◌∙◌, arith, inl, inr}
-use Rattle.std.specs.List.{range_with_len}
-use Rattle.std.specs.Option.{option_and_then, option_map_or}
-use Rattle.std.proofs.lemmas.Bool.{cases_lt}
-use Rattle.std.proofs.lemmas.List.{get_or_past, length-map}
-use Rattle.std.proofs.lemmas.List.FromFn.{get_or-map-range_with_len, length-map-range_with_len}
-use Rattle.std.proofs.lemmas.Nat.{pow-add}
-use Rattle.hfs_places.specs.Chains.{place_at, steps, LeadBy}
-use Rattle.hfs_places.proofs.ChainLemmas.{steps-zero, steps-suc}
-use Rattle.hfs_space.specs.Extents.{Overflow}
-use Rattle.hfs_remains.specs.Chains.{own_blocks, next_place, owns_of, nexts_of, number_at, blocks_in, summed, SumBy, AreBelow}
+-- How many items there are for all blocks.
+use Rattle.std.proofs.Common.{◌≡◌, ℕ, zero, suc, ◌+◌, ◌-◌, ◌*◌, ◌/◌, ◌<◌, ◌≤◌, Bool, true, false, cond, not, if◌then◌else◌, List, [], ◌++◌, length, take, Option, Some, None, slice_index_or, refl, sym, ap, subst, ◌∙◌, arith}
+use Rattle.std.specs.Prelude.{count_by}
+use Rattle.std.specs.Bool.{beq}
+use Rattle.std.specs.List.{flat_map, list_all, range_with_len, sum_by}
+use Rattle.std.specs.Option.{is_some}
+use Rattle.std.proofs.Math.Nat.{add-mul}
+use Rattle.std.proofs.lemmas.Grind.{flat_map-append}
+use Rattle.std.proofs.lemmas.List.{take_all}
+use Rattle.std.proofs.lemmas.List.Sums.{sum_by-append, sum_by-cons, count_by_more_yes, count_by_more_no}
+use Rattle.hfs_fields.specs.declared.mdb.Mdb.{Mdb}
+use Rattle.hfs_btree.specs.Node.{node_of}
+use Rattle.hfs_btree.specs.Tree.{node_in}
+use Rattle.hfs_space.specs.Forks.{blocks_each}
+use Rattle.hfs_space.proofs.ForkLawLemmas.{range-add}
+use Rattle.hfs_check.specs.Parts.{Blocks}
+use Rattle.hfs_remains.specs.TreeFiles.{FileBlocks, node_at, nodes_of}
+use Rattle.hfs_remains.specs.InUse.{is_in_use}
+use Rattle.hfs_remains.specs.LeafRecords.{leaf_records, with_age, records_at, records_of_age, all_leaf_records}
+use Rattle.hfs_remains.specs.CatalogRecords.{is_catalog_record, found_in, found_in_leaves, is_node_block, stray_records_at, all_stray_records, nodes_there, is_lacking, scattered_records}
+use Rattle.hfs_remains.specs.Items.{items_of}
+use Rattle.hfs_remains.specs.declared.leaf_records.LeafRecord.{LeafRecord}
+use Rattle.hfs_remains.specs.declared.catalog.FoundRecord.{FoundRecord}
+use Rattle.hfs_remains.specs.Laws.{items_among, others, ItemsAreFew}
+use Rattle.hfs_remains.proofs.FewLemmas.{among-append, blocks-few, items-few}
+use Rattle.hfs_remains.proofs.LeafLemmas.{place-of}
+use Rattle.hfs_remains.proofs.NodeLemmas.{length-nodes, node_in-missing, node_of-node_at}
 
-pub blocks_in-zero : (owns : List ℕ) (nexts : List (Option ℕ)) (i : ℕ) → blocks_in owns nexts zero i ≡ 0
-unfolding blocks_in
-blocks_in-zero owns nexts i = refl
+-- ---- sums over numbers
 
-pub blocks_in-suc : (owns : List ℕ) (nexts : List (Option ℕ)) (k i : ℕ) → blocks_in owns nexts (suc k) i ≡ number_at owns i + option_map_or (blocks_in owns nexts k) (place_at nexts i) 0
-unfolding blocks_in
-blocks_in-suc owns nexts k i = refl
+sum-more : (g : ℕ → ℕ) (a n : ℕ) → sum_by g (range_with_len a (suc n)) ≡ g a + sum_by g (range_with_len (a + 1) n)
+sum-more g a n = sum_by-cons g a (range_with_len (a + 1) n)
 
-pub blocks_in-one : (owns : List ℕ) (nexts : List (Option ℕ)) (i : ℕ) → blocks_in owns nexts 1 i ≡ number_at owns i
-blocks_in-one owns nexts i = blocks_in-suc owns nexts 0 i ∙ by (place_at nexts i)
+-- the items of leaves number by number
+gather : (f : ℕ → List LeafRecord) (a n : ℕ) → items_among (found_in_leaves (flat_map f (range_with_len a n))) ≡ sum_by (λ k. items_among (found_in_leaves (f k))) (range_with_len a n)
+gather f a zero = refl
+gather f a (suc n) =
+    ap items_among (flat_map-append found_in (f a) (flat_map f (range_with_len (a + 1) n)))
+    ∙ among-append (found_in_leaves (f a)) (found_in_leaves (flat_map f (range_with_len (a + 1) n)))
+    ∙ ap (λ (s : ℕ). items_among (found_in_leaves (f a)) + s) (gather f (a + 1) n)
+    ∙ sym (sum_by-cons (λ k. items_among (found_in_leaves (f k))) a (range_with_len (a + 1) n))
+
+both-sums : (g h w : ℕ → ℕ) → ((k : ℕ) → g k + h k ≤ w k) → (a n : ℕ) → sum_by g (range_with_len a n) + sum_by h (range_with_len a n) ≤ sum_by w (range_with_len a n)
+both-sums g h w each a zero = omega arith
+both-sums g h w each a (suc n) = omega (arith, each a, sum-more g a n, sum-more h a n, sum-more w a n, both-sums g h w each (a + 1) n)
+
+sum-same : (w : ℕ → ℕ) (b : Bool) (a n : ℕ) → ((k : ℕ) → k < n → w (a + k) ≡ (if b then 6 else 0)) → sum_by w (range_with_len a n) ≡ (if b then 6 * n else 0)
+sum-same w true a zero each = refl
+sum-same w false a zero each = refl
+sum-same w true a (suc n) each =
+    let first : w a ≡ 6 = ap w (omega arith) ∙ each 0 (omega arith) in
+    let more : sum_by w (range_with_len (a + 1) n) ≡ 6 * n = sum-same w true (a + 1) n (λ k lt. ap w (omega arith) ∙ each (suc k) (omega (arith, lt))) in
+    omega (arith, first, more, sum-more w a n)
+sum-same w false a (suc n) each =
+    let first : w a ≡ 0 = ap w (omega arith) ∙ each 0 (omega arith) in
+    let more : sum_by w (range_with_len (a + 1) n) ≡ 0 = sum-same w false (a + 1) n (λ k lt. ap w (omega arith) ∙ each (suc k) (omega (arith, lt))) in
+    omega (arith, first, more, sum-more w a n)
+
+none-or : (b : Bool) (records : List LeafRecord) → items_among (found_in_leaves (if b then [] else records)) ≡ (if b then 0 else items_among (found_in_leaves records))
+none-or true records = refl
+none-or false records = refl
+
+-- ---- the nodes of a file
+
+-- six for a node that is there
+abbrev weight : Mdb → FileBlocks → ℕ → ℕ
+weight mdb file n = if is_some (slice_index_or file (n / blocks_each mdb) None) then 6 else 0
+
+module _ (mdb : Mdb) (file : FileBlocks) where
+  places-few : (m : ℕ) → m ≤ length file → sum_by (weight mdb file) (range_with_len 0 (m * blocks_each mdb)) ≡ 6 * (count_by is_some (take m file) * blocks_each mdb)
+  places-few zero within =
+      let none : 0 * blocks_each mdb ≡ 0 = omega arith in
+      let zero-is : 0 ≡ 6 * (0 * blocks_each mdb) = omega arith in
+      ap (λ (k : ℕ). sum_by (weight mdb file) (range_with_len 0 k)) none ∙ zero-is
+  places-few (suc m) within =
+      let each = blocks_each mdb in
+      let before : m < length file = omega (arith, within) in
+      let next : suc m ≡ m + 1 = omega arith in
+      let longer : (m + 1) * each ≡ m * each + each = add-mul m 1 each ∙ omega arith in
+      let parted : sum_by (weight mdb file) (range_with_len 0 (m * each + each)) ≡ sum_by (weight mdb file) (range_with_len 0 (m * each)) + sum_by (weight mdb file) (range_with_len (m * each) each) =
+      ap (sum_by (weight mdb file)) (range-add 0 (m * each) each ∙ ap (λ (j : ℕ). range_with_len 0 (m * each) ++ range_with_len j each) (omega arith))
+      ∙ sum_by-append (weight mdb file) (range_with_len 0 (m * each)) (range_with_len (m * each) each) in
+      let here : (k : ℕ) → k < each → weight mdb file (m * each + k) ≡ (if is_some (slice_index_or file m None) then 6 else 0) =
+      λ k lt. ap (λ (p : ℕ). if is_some (slice_index_or file p None) then 6 else 0) (place-of each m k lt) in
+      ap (λ (j : ℕ). sum_by (weight mdb file) (range_with_len 0 (j * each))) next
+      ∙ ap (λ (j : ℕ). sum_by (weight mdb file) (range_with_len 0 j)) longer
+      ∙ parted
+      ∙ by each before (is_some (slice_index_or file m None)) refl (places-few m (omega (arith, within))) (sum-same (weight mdb file) (is_some (slice_index_or file m None)) (m * each) each here)
+      ∙ ap (λ (j : ℕ). 6 * (count_by is_some (take j file) * each)) (sym next)
+    where
+      by : (each : ℕ) → m < length file → (b : Bool) → is_some (slice_index_or file m None) ≡ b
+          → sum_by (weight mdb file) (range_with_len 0 (m * each)) ≡ 6 * (count_by is_some (take m file) * each)
+          → sum_by (weight mdb file) (range_with_len (m * each) each) ≡ (if b then 6 * each else 0)
+          → sum_by (weight mdb file) (range_with_len 0 (m * each)) + sum_by (weight mdb file) (range_with_len (m * each) each) ≡ 6 * (count_by is_some (take (m + 1) file) * each)
+      by each before true is first second =
+          let more : count_by is_some (take (m + 1) file) ≡ count_by is_some (take m file) + 1 = count_by_more_yes is_some file m None before is in
+          let product : count_by is_some (take (m + 1) file) * each ≡ count_by is_some (take m file) * each + each =
+          ap (λ (j : ℕ). j * each) more ∙ add-mul (count_by is_some (take m file)) 1 each ∙ omega arith in
+          omega (arith, first, second, product)
+      by each before false is first second =
+          let same : count_by is_some (take (m + 1) file) ≡ count_by is_some (take m file) = count_by_more_no is_some file m None before is in
+          let product : count_by is_some (take (m + 1) file) * each ≡ count_by is_some (take m file) * each = ap (λ (j : ℕ). j * each) same in
+          omega (arith, first, second, product)
+
+  module _ (blocks : Blocks) (some : 1 ≤ blocks_each mdb) where
+    abbrev of-age : Bool → ℕ → ℕ
+    of-age old n = items_among (found_in_leaves (records_at (nodes_of blocks mdb file) old n))
+
+    -- a node's records are old or aren't
+    one-age : (used : Bool) (n : ℕ) → is_in_use (nodes_of blocks mdb file) n ≡ used
+        → of-age false n + of-age true n ≤ (if is_some (slice_index_or file (n / blocks_each mdb) None) then 6 else 0)
+    one-age used n is = by used (slice_index_or file (n / blocks_each mdb) None) refl is
+      where
+        decoded : node_in (nodes_of blocks mdb file) n ≡ node_of (node_at blocks mdb file n)
+        decoded = sym (node_of-node_at blocks mdb file n some)
+
+        few : (old : Bool) → items_among (found_in_leaves (with_age old (leaf_records (node_in (nodes_of blocks mdb file) n)))) ≤ 6
+        few old = subst (λ r. items_among (found_in_leaves (with_age old (leaf_records r))) ≤ 6) (sym decoded) (blocks-few old (node_at blocks mdb file n))
+
+        none : (old : Bool) → slice_index_or file (n / blocks_each mdb) None ≡ None → items_among (found_in_leaves (with_age old (leaf_records (node_in (nodes_of blocks mdb file) n)))) ≡ 0
+        none old missing = ap (λ r. items_among (found_in_leaves (with_age old (leaf_records r)))) (node_in-missing blocks mdb file n some missing)
+
+        pick : (old used : Bool) → is_in_use (nodes_of blocks mdb file) n ≡ used
+            → items_among (found_in_leaves (records_at (nodes_of blocks mdb file) old n)) ≡ (if beq old used then 0 else items_among (found_in_leaves (with_age old (leaf_records (node_in (nodes_of blocks mdb file) n)))))
+        pick old used is =
+            ap (λ (u : Bool). items_among (found_in_leaves (if beq old u then [] else with_age old (leaf_records (node_in (nodes_of blocks mdb file) n))))) is
+            ∙ none-or (beq old used) (with_age old (leaf_records (node_in (nodes_of blocks mdb file) n)))
+
+        by : (used : Bool) (o : Option ℕ) → slice_index_or file (n / blocks_each mdb) None ≡ o → is_in_use (nodes_of blocks mdb file) n ≡ used
+            → items_among (found_in_leaves (records_at (nodes_of blocks mdb file) false n)) + items_among (found_in_leaves (records_at (nodes_of blocks mdb file) true n)) ≤ (if is_some o then 6 else 0)
+        by true None at is = omega (arith, pick false true is, pick true true is, none false at)
+        by true (Some b) at is = omega (arith, pick false true is, pick true true is, few false)
+        by false None at is = omega (arith, pick false false is, pick true false is, none true at)
+        by false (Some b) at is = omega (arith, pick false false is, pick true false is, few true)
+
+    nodes-few : items_among (found_in_leaves (all_leaf_records (nodes_of blocks mdb file))) ≤ 6 * nodes_there mdb file
+    unfolding all_leaf_records records_of_age
+    nodes-few =
+        let count : ℕ = length (nodes_of blocks mdb file) in
+        let young : List LeafRecord = flat_map (records_at (nodes_of blocks mdb file) false) (range_with_len 0 count) in
+        let old : List LeafRecord = flat_map (records_at (nodes_of blocks mdb file) true) (range_with_len 0 count) in
+        let parted : items_among (found_in_leaves (young ++ old)) ≡ items_among (found_in_leaves young) + items_among (found_in_leaves old) =
+        ap items_among (flat_map-append found_in young old) ∙ among-append (found_in_leaves young) (found_in_leaves old) in
+        let sums : sum_by (of-age false) (range_with_len 0 count) + sum_by (of-age true) (range_with_len 0 count) ≤ sum_by (weight mdb file) (range_with_len 0 count) =
+        both-sums (of-age false) (of-age true) (weight mdb file) (λ n. one-age (is_in_use (nodes_of blocks mdb file) n) n refl) 0 count in
+        let whole : take (length file) file ≡ file = take_all (length file) file (omega arith) in
+        let all : sum_by (weight mdb file) (range_with_len 0 count) ≡ 6 * nodes_there mdb file =
+        ap (λ (j : ℕ). sum_by (weight mdb file) (range_with_len 0 j)) (length-nodes blocks mdb file)
+        ∙ places-few (length file) (omega arith)
+        ∙ ap (λ (l : FileBlocks). 6 * (count_by is_some l * blocks_each mdb)) whole in
+        omega (arith, parted, gather (records_at (nodes_of blocks mdb file) false) 0 count, gather (records_at (nodes_of blocks mdb file) true) 0 count, sums, all)
+
+  -- ---- other blocks
+
+  stray-few : (blocks : Blocks) (k : ℕ) → items_among (found_in_leaves (stray_records_at blocks mdb file k)) ≤ 6 * cond (not (is_node_block mdb file k)) 1 0
+  stray-few blocks k = by (is_node_block mdb file k) (list_all is_catalog_record (leaf_records (node_of (blocks k))))
+    where
+      by : (node all : Bool) → items_among (found_in_leaves (if node then [] else if all then with_age true (leaf_records (node_of (blocks k))) else [])) ≤ 6 * cond (not node) 1 0
+      by true all = omega arith
+      by false true = omega (arith, blocks-few true (blocks k))
+      by false false = omega arith
+
+  strays-from : (blocks : Blocks) (a n : ℕ) → items_among (found_in_leaves (flat_map (stray_records_at blocks mdb file) (range_with_len a n))) ≤ 6 * count_by (λ k. not (is_node_block mdb file k)) (range_with_len a n)
+  strays-from blocks a n = omega (arith, gather (stray_records_at blocks mdb file) a n, by a n)
+    where
+      by : (a n : ℕ) → sum_by (λ k. items_among (found_in_leaves (stray_records_at blocks mdb file k))) (range_with_len a n) ≤ 6 * sum_by (λ k. cond (not (is_node_block mdb file k)) 1 0) (range_with_len a n)
+      by a zero = omega arith
+      by a (suc n) =
+          omega (arith, stray-few blocks a, by (a + 1) n, sum-more (λ k. items_among (found_in_leaves (stray_records_at blocks mdb file k))) a n, sum-more (λ k. cond (not (is_node_block mdb file k)) 1 0) a n)
+
+  strays-few : (total : ℕ) (blocks : Blocks) → items_among (found_in_leaves (all_stray_records total blocks mdb file)) ≤ 6 * others total mdb file
+  unfolding all_stray_records
+  strays-few total blocks = strays-from blocks 3 (total - 3)
+
+-- ---- all of them
+
+abbrev own-of : Blocks → Mdb → FileBlocks → List FoundRecord
+own-of blocks mdb file = found_in_leaves (all_leaf_records (nodes_of blocks mdb file))
+
+abbrev strays-of : ℕ → Blocks → Mdb → FileBlocks → List FoundRecord
+strays-of total blocks mdb file = found_in_leaves (all_stray_records total blocks mdb file)
+
+pub scattered-few : ItemsAreFew
+unfolding scattered_records
+scattered-few total blocks mdb file some = by (is_lacking mdb file (own-of blocks mdb file))
   where
-    by : (o : Option ℕ) → number_at owns i + option_map_or (blocks_in owns nexts 0) o 0 ≡ number_at owns i
-    by None = omega arith
-    by (Some j) = omega (arith, blocks_in-zero owns nexts j)
-
--- those of so many, and then of so many more
-pub blocks_in-add : (owns : List ℕ) (nexts : List (Option ℕ)) (a b i : ℕ)
-    → blocks_in owns nexts (a + b) i ≡ blocks_in owns nexts a i + option_map_or (blocks_in owns nexts b) (steps nexts a i) 0
-blocks_in-add owns nexts zero b i =
-    let same : zero + b ≡ b = omega arith in
-    let start : option_map_or (blocks_in owns nexts b) (steps nexts zero i) 0 ≡ blocks_in owns nexts b i = ap (λ (o : Option ℕ). option_map_or (blocks_in owns nexts b) o 0) (steps-zero nexts i) in
-    ap (λ (n : ℕ). blocks_in owns nexts n i) same ∙ omega (arith, start, blocks_in-zero owns nexts i)
-blocks_in-add owns nexts (suc a) b i =
-    let more : suc a + b ≡ suc (a + b) = omega arith in
-    ap (λ (n : ℕ). blocks_in owns nexts n i) more
-    ∙ blocks_in-suc owns nexts (a + b) i
-    ∙ by (λ j. blocks_in-add owns nexts a b j) (place_at nexts i)
-    ∙ (λ t. sym (blocks_in-suc owns nexts a i) t + option_map_or (blocks_in owns nexts b) (sym (steps-suc nexts a i) t) 0)
-  where
-    by : ((j : ℕ) → blocks_in owns nexts (a + b) j ≡ blocks_in owns nexts a j + option_map_or (blocks_in owns nexts b) (steps nexts a j) 0)
-        → (o : Option ℕ)
-        → number_at owns i + option_map_or (blocks_in owns nexts (a + b)) o 0
-        ≡ number_at owns i + option_map_or (blocks_in owns nexts a) o 0 + option_map_or (blocks_in owns nexts b) (option_and_then (steps nexts a) o) 0
-    by fewer None = omega arith
-    by fewer (Some j) = omega (arith, fewer j)
-
--- ---- sums over twice as many
-
-made-at : (sums : List ℕ) (jumps : List (Option ℕ)) (made : List ℕ) → made ≡ map (summed sums jumps) (range_with_len 0 (length sums)) → length jumps ≡ length sums
-    → (i : ℕ) → number_at made i ≡ summed sums jumps i
-made-at sums jumps made is all i =
-    elim (cases_lt i (length sums)) [
-      | inl lt ↦ ap (λ (l : List ℕ). number_at l i) is ∙ get_or-map-range_with_len (summed sums jumps) 0 (length sums) i i 0 lt (omega arith)
-      | inr ge ↦
-          let own : number_at sums i ≡ 0 = get_or_past sums i 0 ge in
-          let none : option_map_or (number_at sums) (place_at jumps i) 0 ≡ 0 = ap (λ (o : Option ℕ). option_map_or (number_at sums) o 0) (get_or_past jumps i None (omega (arith, all, ge))) in
-          let past : number_at made i ≡ 0 =
-          ap (λ (l : List ℕ). number_at l i) is
-          ∙ get_or_past (map (summed sums jumps) (range_with_len 0 (length sums))) i 0 (omega (arith, ge, length-map-range_with_len (summed sums jumps) 0 (length sums))) in
-          omega (arith, past, own, none)
-    ]
-
-pub sum-twice : (owns : List ℕ) (nexts : List (Option ℕ)) (sums : List ℕ) (jumps : List (Option ℕ)) (made : List ℕ) (k : ℕ)
-    → made ≡ map (summed sums jumps) (range_with_len 0 (length sums)) → length jumps ≡ length sums
-    → SumBy k owns nexts sums → LeadBy k nexts jumps → SumBy (k + k) owns nexts made
-sum-twice owns nexts sums jumps made k is all sum lead i =
-    made-at sums jumps made is all i
-    ∙ (λ t. sum i t + option_map_or (λ j. sum j t) (lead i t) 0)
-    ∙ sym (blocks_in-add owns nexts k k i)
-
-pub sum-more : (owns : List ℕ) (nexts : List (Option ℕ)) (sums : List ℕ) (jumps : List (Option ℕ)) (made : List ℕ) (bits : ℕ)
-    → made ≡ map (summed sums jumps) (range_with_len 0 (length sums)) → length jumps ≡ length sums
-    → SumBy (2 ^ bits) owns nexts sums → LeadBy (2 ^ bits) nexts jumps → SumBy (2 ^ (bits + 1)) owns nexts made
-sum-more owns nexts sums jumps made bits is all sum lead i =
-    let power : 2 ^ (bits + 1) ≡ 2 ^ bits * 2 = pow-add 2 bits 1 in
-    let double : 2 ^ bits + 2 ^ bits ≡ 2 ^ (bits + 1) = omega (arith, power) in
-    sum-twice owns nexts sums jumps made (2 ^ bits) is all sum lead i ∙ ap (λ (n : ℕ). blocks_in owns nexts n i) double
-
-pub sum-first : (owns : List ℕ) (nexts : List (Option ℕ)) (sums : List ℕ) → sums ≡ owns → SumBy 1 owns nexts sums
-sum-first owns nexts sums is i = ap (λ (l : List ℕ). number_at l i) is ∙ sym (blocks_in-one owns nexts i)
-
--- twice as many are below twice as much
-pub below-twice : (sums : List ℕ) (jumps : List (Option ℕ)) (made : List ℕ) (most : ℕ) → made ≡ map (summed sums jumps) (range_with_len 0 (length sums)) → length jumps ≡ length sums
-    → AreBelow most sums → AreBelow (most + most) made
-below-twice sums jumps made most is all below i = by (place_at jumps i) (made-at sums jumps made is all i)
-  where
-    by : (o : Option ℕ) → number_at made i ≡ number_at sums i + option_map_or (number_at sums) o 0 → number_at made i ≤ most + most
-    by None e = omega (arith, e, below i)
-    by (Some j) e = omega (arith, e, below i, below j)
-
-pub below-more : (sums : List ℕ) (jumps : List (Option ℕ)) (made : List ℕ) (bits : ℕ) → made ≡ map (summed sums jumps) (range_with_len 0 (length sums)) → length jumps ≡ length sums
-    → AreBelow (2 ^ (bits + 18)) sums → AreBelow (2 ^ (bits + 1 + 18)) made
-below-more sums jumps made bits is all below i =
-    let place : bits + 1 + 18 ≡ bits + 18 + 1 = omega arith in
-    let power : 2 ^ (bits + 18 + 1) ≡ 2 ^ (bits + 18) * 2 = pow-add 2 (bits + 18) 1 in
-    let same : 2 ^ (bits + 1 + 18) ≡ 2 ^ (bits + 18 + 1) = ap (λ (n : ℕ). 2 ^ n) place in
-    omega (arith, power, same, below-twice sums jumps made (2 ^ (bits + 18)) is all below i)
-
--- ---- numbers of records
-
-pub same-length : (records : Overflow) → length (owns_of records) ≡ length (nexts_of records)
-unfolding owns_of nexts_of
-same-length records = length-map records own_blocks ∙ sym (length-map records (next_place records))
+    by : (lacking : Bool) → length (items_of (if lacking then own-of blocks mdb file ++ strays-of total blocks mdb file else own-of blocks mdb file)) ≤ 6 * (nodes_there mdb file + others total mdb file)
+    by true = omega (
+      arith,
+      items-few (own-of blocks mdb file ++ strays-of total blocks mdb file),
+      among-append (own-of blocks mdb file) (strays-of total blocks mdb file),
+      nodes-few mdb file blocks some,
+      strays-few mdb file total blocks,
+    )
+    by false = omega (arith, items-few (own-of blocks mdb file), nodes-few mdb file blocks some)

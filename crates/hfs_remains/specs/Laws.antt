@@ -1,167 +1,87 @@
--- What is said about a fork, and its bytes, are a function of the fork's length, its extents, its blocks, and of where blocks lie.
-use Rattle.std.specs.Prelude.{◌≡◌, ◌≢◌, ℕ, ◌*◌, ◌<◌, ◌≤◌, Bool, true, false, List, map, take, length, reverse, Option, Some, None, IsTrue, slice_index_or}
+-- What holds of what remains, whatever an image says.
+use Rattle.std.specs.Prelude.{◌≡◌, ℕ, ◌+◌, ◌-◌, ◌*◌, ◌^◌, ◌<◌, ◌≤◌, Bool, false, not, List, count_by, map, length, slice_index, Some}
+use Rattle.std.specs.List.{range_with_len}
 use Rattle.hfs_fields.specs.declared.mdb.Mdb.{Mdb}
-use Rattle.hfs_fields.specs.Records.{item_id}
-use Rattle.hfs_names.specs.Laws.{is_bytes}
-use Rattle.hfs_names.specs.Paths.{host_path}
-use Rattle.hfs_fields.specs.declared.extent.Extent.{Extent}
+use Rattle.hfs_fields.specs.Each.{Each}
+use Rattle.hfs_btree.specs.Node.{node_of}
 use Rattle.hfs_blocks.specs.Blocks.{block_at, block_count}
-use Rattle.hfs_space.specs.Extents.{Overflow, extent_blocks, fork_extents as whole_extents}
-use Rattle.hfs_space.specs.Forks.{fork_bytes as whole_bytes}
-use Rattle.hfs_space.specs.Owners.{Fork as CheckedFork}
-use Rattle.hfs_space.specs.Sound.{IsForkSound}
-use Rattle.hfs_catalog.specs.Records.{Record, Catalog, items_of as items_in}
+use Rattle.hfs_catalog.specs.Records.{items_of as items_in}
 use Rattle.hfs_check.specs.Parts.{Blocks, mdb_in, overflow_in, catalog_in}
 use Rattle.hfs_check.specs.Sound.{AreBlocksSound, IsSound}
-use Rattle.hfs_rescue.specs.TreeFiles.{FileBlocks}
-use Rattle.hfs_rescue.specs.OverflowRecords.{fork_extents}
-use Rattle.hfs_rescue.specs.declared.catalog.FoundRecord.{FoundRecord}
-use Rattle.hfs_rescue.specs.CatalogRecords.{found}
-use Rattle.hfs_rescue.specs.Directory.{directory_of, mdb_at}
-use Rattle.hfs_rescue.specs.Items.{items_of}
-use Rattle.hfs_rescue.specs.Remains.{remaining_records}
-use Rattle.hfs_places.specs.declared.things.Thing.{Thing}
-use Rattle.hfs_places.specs.Folders.{thing_at}
-use Rattle.hfs_places.specs.Things.{things_of}
-use Rattle.hfs_places.specs.Paths.{payload_path}
-use Rattle.hfs_places.specs.Laws.{AreThings, ArePlacedApart, AreWaysShort, HasWay, HaveOwnNames}
-use Rattle.hfs_remains.specs.declared.forks.Fork.{Fork}
-use Rattle.hfs_remains.specs.declared.shares.FileShares.{FileShares}
-use Rattle.hfs_remains.specs.Records.{thing_of, namings_of}
-use Rattle.hfs_remains.specs.Forks.{blocks_for, both_forks, fork_length, fork_places}
-use Rattle.hfs_remains.specs.Verdicts.{finding_of, shares_of}
-use Rattle.hfs_remains.specs.ForkBytes.{fork_bytes, place_bytes}
+use Rattle.hfs_space.specs.Extents.{block_total}
+use Rattle.hfs_space.specs.Forks.{blocks_each}
+use Rattle.hfs_remains.specs.Directory.{directory_of, mdb_at}
+use Rattle.hfs_remains.specs.TreeFiles.{FileBlocks}
+use Rattle.hfs_remains.specs.LeafRecords.{leaf_records, with_age}
+use Rattle.hfs_remains.specs.CatalogRecords.{found, found_in_leaves, is_node_block, nodes_there, scattered_records}
+use Rattle.hfs_remains.specs.Remains.{remaining_overflow, remaining_records}
+use Rattle.hfs_remains.specs.Items.{is_named_item, items_of}
+use Rattle.hfs_remains.specs.declared.catalog.FoundRecord.{FoundRecord}
 
--- ---- what two images agree on
+-- how many of these records are items
+abbrev pub items_among : List FoundRecord → ℕ
+items_among records = count_by is_named_item records
 
--- two directories say the same of how many allocation blocks there are, how large these are, and where they begin
-pub record AgreeOnBlocks (one other : Mdb) : Type 0 where
-  pub count : one.allocation_blocks ≡ other.allocation_blocks
-  pub size : one.allocation_block_size ≡ other.allocation_block_size
-  pub start : one.allocation_start ≡ other.allocation_start
+-- 512 bytes have at most six items
+abbrev pub BlocksHaveFewItems : Type 0
+BlocksHaveFewItems = (old : Bool) (bytes : List ℕ) → items_among (found_in_leaves (with_age old (leaf_records (node_of bytes)))) ≤ 6
 
--- all extents of a fork
-abbrev pub extents_of : Overflow → Mdb → Fork → List Extent
-extents_of records mdb fork = fork_extents records fork.file fork.kind (blocks_for mdb fork.len) fork.first
+-- the blocks that are looked at besides the nodes of the catalog's file
+abbrev pub others : ℕ → Mdb → FileBlocks → ℕ
+others total mdb file = count_by (λ k. not (is_node_block mdb file k)) (range_with_len 3 (total - 3))
 
--- two forks have the same length, and the same extents by these records
-pub record AgreeOnFork (records others : Overflow) (one other : Mdb) (fork second : Fork) : Type 0 where
-  pub len : fork.len ≡ second.len
-  pub extents : extents_of records one fork ≡ extents_of others other second
+-- a catalog that does not pass its check gives at most six items for each of its nodes that is there, and for each other block
+abbrev pub ItemsAreFew : Type 0
+ItemsAreFew =
+    (total : ℕ) (blocks : Blocks) (mdb : Mdb) (file : FileBlocks) → 1 ≤ blocks_each mdb
+    → length (items_of (scattered_records total blocks mdb file)) ≤ 6 * (nodes_there mdb file + others total mdb file)
 
--- ---- a fork's bytes
+-- ---- what is read from bytes
 
--- those of a fork of an image of `total` logical blocks, as far as its length goes
-abbrev pub taken_bytes : ℕ → List ℕ → Overflow → Mdb → Fork → List ℕ
-taken_bytes total image records mdb fork = fork_bytes image mdb (fork_length records mdb fork) (fork_places total records mdb fork)
+-- each element is a byte
+abbrev pub AreBytes : List ℕ → Type 0
+AreBytes xs = (k : ℕ) → slice_index xs k < 256
 
--- two images have the same bytes in these blocks
-abbrev pub AgreeOnBytes : List ℕ → List ℕ → Mdb → Mdb → FileBlocks → Type 0
-AgreeOnBytes first second one other places = (i b : ℕ) → slice_index_or places i None ≡ Some b → place_bytes first one (Some b) ≡ place_bytes second other (Some b)
+-- a record with a name of at most 31 bytes, a number of 32 bits, and a body of bytes
+pub record IsReadRecord (r : FoundRecord) : Type 0 where
+  pub name : AreBytes r.entry.0.name
+  pub short : length r.entry.0.name ≤ 31
+  pub parent : r.entry.0.parent < 2 ^ 32
+  pub body : AreBytes r.entry.1
 
--- an image has these blocks, so many
-pub record HasBlocks (image : List ℕ) (total : ℕ) (blocks : Blocks) : Type 0 where
-  pub enough : total ≤ block_count image
-  pub same : (n : ℕ) → n < total → block_at image n ≡ blocks n
+-- all records that remain in blocks of bytes are of this kind
+abbrev pub RecordsAreRead : Type 0
+RecordsAreRead = (total : ℕ) (blocks : Blocks) (mdb : Mdb) → ((n : ℕ) → AreBytes (blocks n)) → Each IsReadRecord (remaining_records total blocks mdb)
 
--- ---- the law of forks
+-- a directory of an image has fewer blocks than 2 ^ 16, of a size of 32 bits
+pub record IsReadDirectory (mdb : Mdb) : Type 0 where
+  pub few : mdb.allocation_blocks < 2 ^ 16
+  pub size : mdb.allocation_block_size < 2 ^ 32
+  pub some : 1 ≤ blocks_each mdb
 
--- the same blocks, as many bytes, and the same findings except for who else owns the blocks
-pub record IsSameFork (total : ℕ) (records others : Overflow) (one other : Mdb) (fork second : Fork) : Type 0 where
-  pub places : fork_places total records one fork ≡ fork_places total others other second
-  pub len : fork_length records one fork ≡ fork_length others other second
-  pub cut : (used later : FileBlocks) → (finding_of total records one used fork).cut ≡ (finding_of total others other later second).cut
-  pub missing : (used later : FileBlocks) → (finding_of total records one used fork).missing ≡ (finding_of total others other later second).missing
-  pub bytes : (first later : List ℕ) → AgreeOnBytes first later one other (fork_places total records one fork)
-      → taken_bytes total first records one fork ≡ taken_bytes total later others other second
+-- by such a directory fewer than 2 ^ 48 items remain in blocks of bytes
+abbrev pub ItemsAreCounted : Type 0
+ItemsAreCounted =
+    (total : ℕ) (blocks : Blocks) (mdb : Mdb) → ((n : ℕ) → AreBytes (blocks n)) → total < 2 ^ 32 → IsReadDirectory mdb → length (items_of (remaining_records total blocks mdb)) < 2 ^ 48
 
-abbrev pub ForksAreTheirBlocks : Type 0
-ForksAreTheirBlocks =
-    (total : ℕ) (records others : Overflow) (one other : Mdb) (fork second : Fork) → AgreeOnBlocks one other → AgreeOnFork records others one other fork second
-    → IsSameFork total records others one other fork second
+-- and each directory that is found in an image of bytes is of this kind
+abbrev pub DirectoriesAreRead : Type 0
+DirectoriesAreRead = (image : List ℕ) (n : ℕ) → AreBytes image → directory_of image ≡ Some n → IsReadDirectory (mdb_at (block_at image) n) × (block_count image < 2 ^ 32)
 
 -- ---- a sound volume
 
--- all bytes of a fork are taken: its blocks are there, as many as it needs, and nothing of it is cut or missing
-pub record IsWholeFork (total : ℕ) (blocks : Blocks) (records : Overflow) (mdb : Mdb) (fork : Fork) : Type 0 where
-  pub places : fork_places total records mdb fork ≡ map Some (take (blocks_for mdb fork.len) (extent_blocks (whole_extents records fork.file fork.kind fork.first)))
-  pub len : fork_length records mdb fork ≡ fork.len
-  pub cut : (used : FileBlocks) → (finding_of total records mdb used fork).cut ≡ None
-  pub missing : (used : FileBlocks) → (finding_of total records mdb used fork).missing ≡ 0
-  pub bytes : (image : List ℕ) → HasBlocks image total blocks
-      → taken_bytes total image records mdb fork ≡ whole_bytes blocks mdb (whole_extents records fork.file fork.kind fork.first) fork.len
+-- the records of the extents tree are its own
+abbrev pub SoundOverflowIsFound : Type 0
+SoundOverflowIsFound = (total : ℕ) (blocks : Blocks) → AreBlocksSound total blocks → remaining_overflow total blocks (mdb_in blocks) ≡ overflow_in blocks
 
--- a fork as the checks of a volume have it
-abbrev pub checked : Fork → CheckedFork
-checked fork = record { file = fork.file; fork = fork.kind; len = fork.len; first = fork.first }
+-- the records that are found are those of its catalog, in order, and none is old
+abbrev pub SoundCatalogIsFound : Type 0
+SoundCatalogIsFound = (total : ℕ) (blocks : Blocks) → AreBlocksSound total blocks → remaining_records total blocks (mdb_in blocks) ≡ map (found false) (catalog_in blocks)
 
--- each sound fork of a sound volume is taken whole
-abbrev pub SoundForksAreWhole : Type 0
-SoundForksAreWhole =
-    (total : ℕ) (blocks : Blocks) → AreBlocksSound total blocks → (fork : Fork) → IsForkSound (mdb_in blocks) (overflow_in blocks) (checked fork)
-    → IsWholeFork total blocks (overflow_in blocks) (mdb_in blocks) fork
+-- and its items are the folders and files among these
+abbrev pub SoundItemsAreFound : Type 0
+SoundItemsAreFound = (total : ℕ) (blocks : Blocks) → AreBlocksSound total blocks → items_of (remaining_records total blocks (mdb_in blocks)) ≡ map (found false) (items_in (catalog_in blocks))
 
--- both forks of a file are taken; a folder has none
-abbrev pub whole_shares : Bool → Option (Fork × Fork) → Option FileShares
-whole_shares old None = None
-whole_shares old (Some forks) = Some (record { old = old; «data» = record { fork = forks.0; taken = true }; resource = record { fork = forks.1; taken = true } })
-
--- where as many bytes may be taken as the volume has, no fork of it is left
-abbrev pub SoundForksAreTaken : Type 0
-SoundForksAreTaken =
-    (total : ℕ) (blocks : Blocks) → AreBlocksSound total blocks → (limit : ℕ) → 512 * total ≤ limit
-    → shares_of (overflow_in blocks) (mdb_in blocks) limit (map (found false) (items_in (catalog_in blocks)))
-    ≡ map (λ (item : FoundRecord). whole_shares item.old (both_forks item.entry.1)) (map (found false) (items_in (catalog_in blocks)))
-
--- ---- places
-
--- the items among records, and the folders that records name, have places of their own
-abbrev pub RecordsHaveOwnPlaces : Type 0
-RecordsHaveOwnPlaces =
-    (items records : List FoundRecord) → AreThings (things_of (map thing_of items) (namings_of records)) → ArePlacedApart (things_of (map thing_of items) (namings_of records))
-
--- the records of the catalog that block n as the directory of an image leads to
-abbrev pub records_found : List ℕ → ℕ → List FoundRecord
-records_found image n = remaining_records (block_count image) (block_at image) (mdb_at (block_at image) n)
-
--- the things of a catalog's items
-abbrev pub things_in : Catalog → List Thing
-things_in catalog = map thing_of (map (found false) (items_in catalog))
-
--- of a sound volume no folder is named by a thread alone
-abbrev pub SoundThingsAreItems : Type 0
-SoundThingsAreItems =
-    (total : ℕ) (blocks : Blocks) → AreBlocksSound total blocks → things_of (things_in (catalog_in blocks)) (namings_of (map (found false) (catalog_in blocks))) ≡ things_in (catalog_in blocks)
-
--- what is found in an image of bytes by its directory are things: names have at most 31 bytes, numbers 32 bits
-abbrev pub FoundAreThings : Type 0
-FoundAreThings =
-    (image : List ℕ) (n : ℕ) → IsTrue (is_bytes image) → directory_of image ≡ Some n
-    → AreThings (things_of (map thing_of (items_of (records_found image n))) (namings_of (records_found image n)))
-
--- and so are those of a sound image
-abbrev pub SoundAreThings : Type 0
-SoundAreThings = (image : List ℕ) → IsSound image → IsTrue (is_bytes image) → AreThings (things_in (catalog_in (block_at image)))
-
--- no two items of a folder of it are called the same
-abbrev pub SoundNamesAreOwn : Type 0
-SoundNamesAreOwn = (image : List ℕ) → IsSound image → IsTrue (is_bytes image) → HaveOwnNames (things_in (catalog_in (block_at image)))
-
--- names lead from a thing up to the payload
-pub record HasSomeWay (things : List Thing) (i : ℕ) : Type 0 where
-  pub names : List (List ℕ)
-  pub way : HasWay things names i
-
--- they do from each item but the root
-abbrev pub SoundItemsHaveWays : Type 0
-SoundItemsHaveWays =
-    (total : ℕ) (blocks : Blocks) → AreBlocksSound total blocks → (i : ℕ) (none : Record) → i < length (items_in (catalog_in blocks))
-    → item_id (slice_index_or (items_in (catalog_in blocks)) i none).1 ≢ 2 → HasSomeWay (things_in (catalog_in blocks)) i
-
--- where the host paths of folders take at most 800 bytes, an item but the root is put at the host path of the names that lead to it
-abbrev pub SoundPathsAreHostPaths : Type 0
-SoundPathsAreHostPaths =
-    (image : List ℕ) → IsSound image → IsTrue (is_bytes image) → AreWaysShort (things_in (catalog_in (block_at image)))
-    → (i : ℕ) (names : List (List ℕ)) → i < length (things_in (catalog_in (block_at image))) → (thing_at (things_in (catalog_in (block_at image))) i).folder ≢ Some 2
-    → HasWay (things_in (catalog_in (block_at image))) names i
-    → payload_path (things_of (things_in (catalog_in (block_at image))) (namings_of (map (found false) (catalog_in (block_at image))))) i ≡ host_path (reverse names)
+-- the directory is found in its place, where the catalog file has a block in the directory's own extents of it
+abbrev pub SoundDirectoryIsFound : Type 0
+SoundDirectoryIsFound = (image : List ℕ) → IsSound image → 0 < block_total (mdb_in (block_at image)).catalog_file → directory_of image ≡ Some 2

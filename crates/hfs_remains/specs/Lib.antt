@@ -1,7 +1,10 @@
-pub mod Records
-pub mod Chains
-pub mod Forks
-pub mod Owners
-pub mod Verdicts
-pub mod ForkBytes
+pub mod Allocation
+pub mod Directory
+pub mod TreeFiles
+pub mod InUse
+pub mod LeafRecords
+pub mod OverflowRecords
+pub mod CatalogRecords
+pub mod Remains
+pub mod Items
 pub mod Laws

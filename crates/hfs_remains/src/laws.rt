@@ -1,54 +1,47 @@
 //! What holds for the definitions, each law as the contract of a function that does nothing.
-ghost use Rattle.hfs_remains.specs.Laws.{ForksAreTheirBlocks, RecordsHaveOwnPlaces, SoundForksAreWhole, SoundForksAreTaken, SoundThingsAreItems, FoundAreThings, SoundAreThings, SoundNamesAreOwn, SoundItemsHaveWays, SoundPathsAreHostPaths};
+ghost use Rattle.hfs_remains.specs.Laws.{BlocksHaveFewItems, ItemsAreFew, RecordsAreRead, ItemsAreCounted, DirectoriesAreRead, SoundDirectoryIsFound, SoundOverflowIsFound, SoundCatalogIsFound, SoundItemsAreFound};
 
-/// How many bytes are taken of a fork, which these are, and what is found of it except for other owners of its blocks, are a
-/// function of where blocks lie, the fork's length and extents, and its blocks' bytes.
-pub fn forks_are_their_blocks()
-    ensures { ForksAreTheirBlocks }
+/// 512 bytes have at most six items.
+pub fn blocks_have_few_items()
+    ensures { BlocksHaveFewItems }
 {}
 
-/// The items among records, and the folders that records name, have places of their own, which lead down from the payload.
-pub fn records_have_own_places()
-    ensures { RecordsHaveOwnPlaces }
+/// A catalog that does not pass its check gives at most six items for each of its nodes that exists, and for each other block.
+pub fn items_are_few()
+    ensures { ItemsAreFew }
 {}
 
-/// Each sound fork of a sound volume is taken whole, and its bytes are those that the volume has.
-pub fn sound_forks_are_whole()
-    ensures { SoundForksAreWhole }
+/// The records that remain in blocks of bytes have names of at most 31 bytes and numbers of 32 bits.
+pub fn records_are_read()
+    ensures { RecordsAreRead }
 {}
 
-/// No fork of a sound volume is left out if as many bytes may be taken as the volume has.
-pub fn sound_forks_are_taken()
-    ensures { SoundForksAreTaken }
+/// By a directory of such an image, fewer than 2^48 items remain.
+pub fn items_are_counted()
+    ensures { ItemsAreCounted }
 {}
 
-/// On a sound volume, no folder is named only by a thread.
-pub fn sound_things_are_items()
-    ensures { SoundThingsAreItems }
+/// Each directory that is found in an image has fewer than 2^16 blocks, of a size of 32 bits.
+pub fn directories_are_read()
+    ensures { DirectoriesAreRead }
 {}
 
-/// What is found in an image has names of at most 31 bytes and numbers of 32 bits; there are fewer than 2^64.
-pub fn found_are_things()
-    ensures { FoundAreThings }
+/// The directory of a sound image is found in block 2, if the catalog file has a block in the directory's own extents.
+pub fn sound_directory_is_found()
+    ensures { SoundDirectoryIsFound }
 {}
 
-/// What a sound image has is of that kind as well.
-pub fn sound_are_things()
-    ensures { SoundAreThings }
+/// For a sound volume, the records of the extents tree are its own.
+pub fn sound_overflow_is_found()
+    ensures { SoundOverflowIsFound }
 {}
 
-/// On a sound volume, no two items of a folder have the same name, even ignoring the case of letters.
-pub fn sound_names_are_own()
-    ensures { SoundNamesAreOwn }
+/// For a sound volume, the records that are found are those of its catalog, in order, and none is old.
+pub fn sound_catalog_is_found()
+    ensures { SoundCatalogIsFound }
 {}
 
-/// On a sound volume, names lead from each item except the root up to the payload.
-pub fn sound_items_have_ways()
-    ensures { SoundItemsHaveWays }
-{}
-
-/// On a sound volume whose folders' host paths take at most 800 bytes, each item except the root is put at the host path of the
-/// names that lead to it.
-pub fn sound_paths_are_host_paths()
-    ensures { SoundPathsAreHostPaths }
+/// For a sound volume, the items are the folders and files of its catalog, in order.
+pub fn sound_items_are_found()
+    ensures { SoundItemsAreFound }
 {}

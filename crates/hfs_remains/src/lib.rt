@@ -1,26 +1,38 @@
-//! What remains of files: records as things that have a place, forks, their blocks and bytes, and the verdicts on them.
+//! What remains of a damaged volume: a directory, the blocks and nodes that exist, and the records in them.
 #![tactic(auto)]
 
-mod chains;
-mod codes;
-mod findings;
-mod forks;
+mod allocation;
+mod catalog;
+mod directory;
+mod fork_extents;
+mod in_use;
+mod items;
 mod laws;
-mod owners;
-mod records;
-mod salvage;
-mod shares;
-mod trees;
+mod leaf_records;
+mod nodes;
+mod overflow;
+mod remains;
+mod sets;
+mod strays;
+mod tree_file;
 
-pub use chains::Chains;
-pub use findings::FoundFork;
-pub use forks::Fork;
-pub use laws::{
-    forks_are_their_blocks, found_are_things, records_have_own_places, sound_are_things,
-    sound_forks_are_taken, sound_forks_are_whole, sound_items_have_ways, sound_names_are_own,
-    sound_paths_are_host_paths, sound_things_are_items,
+pub use allocation::{is_there, start_of};
+pub use catalog::{
+    FoundRecord, catalog_records, is_catalog_right, is_catalog_tree_right, looks_elsewhere,
 };
-pub use records::{namings, things_of};
-pub use salvage::{Salvage, usual_limit};
-pub use shares::{FileShares, Share};
-pub use trees::Trees;
+pub use directory::{
+    Beginning, beginning_of, directory_in, directory_of, read_mdb_at, tree_begins, usual_directory,
+};
+pub use fork_extents::catalog_extents;
+pub use in_use::NodesInUse;
+pub use items::items_of;
+pub use laws::{
+    blocks_have_few_items, directories_are_read, items_are_counted, items_are_few,
+    records_are_read, sound_catalog_is_found, sound_directory_is_found, sound_items_are_found,
+    sound_overflow_is_found,
+};
+pub use leaf_records::{LeafRecord, all_leaf_records};
+pub use nodes::{FileNodes, FirstNodes};
+pub use overflow::{OverflowRecord, is_extents_tree_right, overflow_records};
+pub use remains::{Remains, find_remains};
+pub use tree_file::file_blocks;

@@ -2,9 +2,9 @@
 use Rattle.std.proofs.Common.{◌≡◌, ◌∙◌, ℕ, List, [], Option, None, Some, ap, subst, sym}
 use Rattle.std.specs.Option.{IsSomeAnd, option_map_or}
 use Rattle.hfs_fields.specs.declared.extent.Extent.{Extent}
-use Rattle.hfs_remains.specs.declared.findings.FoundFork.{FoundFork}
-use Rattle.hfs_remains.specs.declared.shares.FileShares.{FileShares}
-use Rattle.hfs_remains.specs.Verdicts.{FindsFork, IsForkOf, Salvaged, fork_share, share_used, shares_at}
+use Rattle.hfs_remains_forks.specs.declared.findings.FoundFork.{FoundFork}
+use Rattle.hfs_remains_forks.specs.declared.shares.FileShares.{FileShares}
+use Rattle.hfs_remains_forks.specs.Verdicts.{FindsFork, IsForkOf, Salvaged, fork_share, share_used, shares_at}
 use Rattle.hfs_space.specs.declared.fork_kind.ForkKind.{ForkKind}
 use Rattle.hfs_remains_page.specs.Pictures.{fork_blocks, pieces}
 

@@ -7,7 +7,7 @@ use Rattle.std.specs.List.{list_all, slice_get}
 use Rattle.hfs_model.specs.declared.reply.Info.{Info}
 use Rattle.hfs_model.specs.declared.reply.ItemKind.{ItemKind}
 use Rattle.hfs_model.specs.declared.reply.ItemKind.TheVariants.{Folder, File}
-use Rattle.hfs_names.specs.PlainTexts.{plain_text}
+use Rattle.hfs_texts.specs.PlainTexts.{plain_text}
 use Rattle.hfs_fields.specs.declared.mdb.Mdb.{Mdb}
 use Rattle.hfs_page.specs.declared.cells.Cell.{Cell}
 use Rattle.hfs_page.specs.declared.page_image.PageImage.{PageImage}
@@ -22,15 +22,15 @@ use Rattle.hfs_page.specs.Texts.{date_text, shown, told_number}
 use Rattle.hfs_page.proofs.MarkupLemmas.{Goes, Passes, ◌▹◌, at, constant, decimal-plain, goes-if, in-tag, inside, nested, tag-goes, text-goes}
 use Rattle.hfs_page.proofs.NestedItems.{bold, closings-pass, date-passes, decimal-passes, escaped-passes, escaped-plain, folders, folders-close, items-pass, label-passes, line, link-end-passes, link-start-passes, linked, number-passes, opening-passes, sizes-pass, span, summary, type-passes}
 use Rattle.hfs_page.proofs.NestedPages.{body, count-row-passes, dates-pass, extents-pass, facts, fork-passes, image-rows-pass, in-rect, page-head-passes, part-passes, range-passes, rect-passes, version-passes}
-use Rattle.hfs_places.specs.declared.things.Thing.{Thing}
-use Rattle.hfs_places.specs.Folders.{thing_at}
-use Rattle.hfs_rescue.specs.declared.catalog.FoundRecord.{FoundRecord}
-use Rattle.hfs_remains.specs.Verdicts.{verdicts_at}
+use Rattle.hfs_remains_places.specs.declared.things.Thing.{Thing}
+use Rattle.hfs_remains_places.specs.Folders.{thing_at}
+use Rattle.hfs_remains.specs.declared.catalog.FoundRecord.{FoundRecord}
+use Rattle.hfs_remains_forks.specs.Verdicts.{verdicts_at}
 use Rattle.hfs_rescue_items.specs.declared.found.Found.{Found}
 use Rattle.hfs_rescue_items.specs.Found.{field_name, path_at, told_at}
 use Rattle.hfs_rescue_items.specs.Sums.{files_at, folders_at, of_all, whole_at}
-use Rattle.hfs_verdicts.specs.declared.verdict.Verdict.{Verdict}
-use Rattle.hfs_verdicts.specs.Verdicts.{is_whole, verdict_text}
+use Rattle.hfs_remains_places.specs.declared.verdict.Verdict.{Verdict}
+use Rattle.hfs_remains_places.specs.Verdicts.{is_whole, verdict_text}
 use Rattle.hfs_remains_page.specs.declared.remains_texts.RemainsTexts.{RemainsTexts}
 use Rattle.hfs_remains_page.specs.declared.steps.Step.{Step}
 use Rattle.hfs_remains_page.specs.Dress.{IsRemainsDress}

@@ -9,13 +9,13 @@ use Rattle.std.proofs.lemmas.List.{length-append, length-drop, length-take, map-
 use Rattle.std.proofs.Math.Nat.{min-le_right}
 use Rattle.std.proofs.lemmas.Option.{none-some}
 use Rattle.std.proofs.lemmas.Slice.Eq.{bytes_eq-Decides}
-use Rattle.hfs_catalog_checks.specs.Indexes.{is_place}
-use Rattle.hfs_catalog_checks.proofs.Indexed.{found_within}
+use Rattle.hfs_catalog.specs.Indexes.{is_place}
+use Rattle.hfs_catalog.proofs.Indexed.{found_within}
 use Rattle.hfs_page.specs.Bases.{begins_with}
-use Rattle.hfs_places.specs.declared.things.Thing.{Thing}
-use Rattle.hfs_places.specs.Folders.{is_folder_of, place_of, thing_at}
-use Rattle.hfs_places.specs.Paths.{front_of, is_root, path, payload_path, root_of}
-use Rattle.hfs_places.specs.Things.{folder_of}
+use Rattle.hfs_remains_places.specs.declared.things.Thing.{Thing}
+use Rattle.hfs_remains_places.specs.Folders.{is_folder_of, place_of, thing_at}
+use Rattle.hfs_remains_places.specs.Paths.{front_of, is_root, path, payload_path, root_of}
+use Rattle.hfs_remains_places.specs.Things.{folder_of}
 use Rattle.hfs_rescue_items.specs.Found.{path_at}
 use Rattle.hfs_remains_page.specs.declared.steps.Step.{Step}
 use Rattle.hfs_remains_page.specs.Trees.{apart, inside, lies_in, lost_node, no_node, old_node, own_path, top_node, tree_order, up, up_by, up_in, up_top, walk_from, walk_if}

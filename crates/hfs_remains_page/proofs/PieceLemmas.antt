@@ -7,7 +7,7 @@ use Rattle.std.proofs.lemmas.List.Concat.{flat_map-append}
 use Rattle.hfs_fields.specs.declared.extent.Extent.{Extent}
 use Rattle.hfs_page.specs.declared.parts.BlockUse.{BlockUse}
 use Rattle.hfs_page.specs.declared.parts.Holding.{Holding}
-use Rattle.hfs_rescue.specs.TreeFiles.{FileBlocks}
+use Rattle.hfs_remains.specs.TreeFiles.{FileBlocks}
 use Rattle.hfs_remains_page.proofs.TreeLemmas.{range-more}
 use Rattle.hfs_remains_page.specs.Pictures.{joined, pieces, put_before, with_block, with_place}
 

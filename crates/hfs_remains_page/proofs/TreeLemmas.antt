@@ -5,10 +5,10 @@ use Rattle.std.specs.List.{range_with_len}
 use Rattle.std.proofs.lemmas.Bool.{ltb-false, ltb-true, ne_eqb}
 use Rattle.std.proofs.lemmas.List.{take_all, take_more, length-take-le, length_push, get_or_push, get_or_append_left, reverse-append, reverse-reverse, map-append}
 use Rattle.std.proofs.lemmas.List.Elements.{filter-append}
-use Rattle.hfs_catalog_checks.specs.Indexes.{Numbered}
-use Rattle.hfs_places.specs.declared.things.Thing.{Thing}
-use Rattle.hfs_places.specs.Folders.{KnowsFolders, NotesFolder}
-use Rattle.hfs_places.proofs.FolderLemmas.{knows-more}
+use Rattle.hfs_catalog.specs.Indexes.{Numbered}
+use Rattle.hfs_remains_places.specs.declared.things.Thing.{Thing}
+use Rattle.hfs_remains_places.specs.Folders.{KnowsFolders, NotesFolder}
+use Rattle.hfs_remains_places.proofs.FolderLemmas.{knows-more}
 use Rattle.hfs_remains_page.specs.declared.steps.Step.{Step}
 use Rattle.hfs_remains_page.specs.Trees.{inside, walk_from}
 use Rattle.hfs_remains_page.specs.Walks.{AreBelow, GainsBelow, below, deeper, step_at, walk}

@@ -6,7 +6,7 @@ use Rattle.hfs_page.specs.Document.{version_text}
 use Rattle.hfs_page.specs.Extents.{extents_text}
 use Rattle.hfs_page.specs.Facts.{head_text}
 use Rattle.hfs_page.specs.Texts.{shown}
-use Rattle.hfs_rescue.specs.declared.catalog.FoundRecord.{FoundRecord}
+use Rattle.hfs_remains.specs.declared.catalog.FoundRecord.{FoundRecord}
 use Rattle.hfs_rescue_items.specs.declared.found.Found.{Found}
 use Rattle.hfs_rescue_items.specs.Found.{field_name}
 use Rattle.hfs_remains_page.specs.declared.remains_texts.RemainsTexts.{RemainsTexts}

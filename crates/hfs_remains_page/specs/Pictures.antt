@@ -15,10 +15,10 @@ use Rattle.hfs_page.specs.Holdings.{all_held, held_from}
 use Rattle.hfs_page.specs.Picture.{blocks_text, fork_text, part_text, rect_head}
 use Rattle.hfs_page.specs.Texts.{shown, told_number}
 use Rattle.hfs_page.specs.Uses.{block_uses}
-use Rattle.hfs_rescue.specs.declared.catalog.FoundRecord.{FoundRecord}
-use Rattle.hfs_rescue.specs.TreeFiles.{FileBlocks}
-use Rattle.hfs_remains.specs.declared.shares.FileShares.{FileShares}
-use Rattle.hfs_remains.specs.Verdicts.{Salvaged, fork_share, share_used, shares_at}
+use Rattle.hfs_remains.specs.declared.catalog.FoundRecord.{FoundRecord}
+use Rattle.hfs_remains.specs.TreeFiles.{FileBlocks}
+use Rattle.hfs_remains_forks.specs.declared.shares.FileShares.{FileShares}
+use Rattle.hfs_remains_forks.specs.Verdicts.{Salvaged, fork_share, share_used, shares_at}
 use Rattle.hfs_rescue_items.specs.declared.found.Found.{Found}
 use Rattle.hfs_space.specs.declared.fork_kind.ForkKind.{ForkKind}
 use Rattle.hfs_space.specs.declared.fork_kind.ForkKind.TheVariants.{Data, Resource}

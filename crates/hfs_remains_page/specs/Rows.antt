@@ -7,12 +7,12 @@ use Rattle.hfs_model.specs.declared.reply.ItemKind.TheVariants.{Folder, File}
 use Rattle.hfs_page.specs.Items.{closings, items_word, open_by, opening, sizes_text, type_text}
 use Rattle.hfs_page.specs.Links.{link_end, link_start}
 use Rattle.hfs_page.specs.Texts.{date_text, shown, told_number}
-use Rattle.hfs_places.specs.declared.things.Thing.{Thing}
-use Rattle.hfs_places.specs.Folders.{thing_at}
-use Rattle.hfs_remains.specs.Verdicts.{verdicts_at}
+use Rattle.hfs_remains_places.specs.declared.things.Thing.{Thing}
+use Rattle.hfs_remains_places.specs.Folders.{thing_at}
+use Rattle.hfs_remains_forks.specs.Verdicts.{verdicts_at}
 use Rattle.hfs_rescue_items.specs.declared.found.Found.{Found}
 use Rattle.hfs_rescue_items.specs.Found.{field_name, path_at, told_at}
-use Rattle.hfs_verdicts.specs.declared.verdict.Verdict.{Verdict}
+use Rattle.hfs_remains_places.specs.declared.verdict.Verdict.{Verdict}
 use Rattle.hfs_remains_page.specs.declared.steps.Step.{Step}
 use Rattle.hfs_remains_page.specs.Trees.{lost_node, volume_node}
 use Rattle.hfs_remains_page.specs.Verdicts.{base_of, forks_text}

@@ -1,12 +1,12 @@
 -- The tree of a page: where each thing is that was found, below a folder or below what the page itself adds.
 use Rattle.std.specs.Prelude.{ℕ, ◌+◌, Bool, ◌&&◌, not, ◌==◌, nat_lt, if◌then◌else◌, List, [], ◌∷◌, ◌++◌, codes, length, drop, Option, None, Some}
 use Rattle.std.specs.Option.{unwrap_or}
-use Rattle.hfs_catalog_checks.specs.Indexes.{is_place}
+use Rattle.hfs_catalog.specs.Indexes.{is_place}
 use Rattle.hfs_page.specs.Bases.{begins_with}
-use Rattle.hfs_places.specs.declared.things.Thing.{Thing}
-use Rattle.hfs_places.specs.Folders.{thing_at}
-use Rattle.hfs_places.specs.Things.{folder_of}
-use Rattle.hfs_places.specs.Paths.{root_of}
+use Rattle.hfs_remains_places.specs.declared.things.Thing.{Thing}
+use Rattle.hfs_remains_places.specs.Folders.{thing_at}
+use Rattle.hfs_remains_places.specs.Things.{folder_of}
+use Rattle.hfs_remains_places.specs.Paths.{root_of}
 use Rattle.hfs_rescue_items.specs.Found.{path_at}
 use Rattle.hfs_remains_page.specs.declared.steps.Step.{Step}
 use Rattle.hfs_remains_page.specs.Walks.{below, step_at, walk}

@@ -2,9 +2,9 @@
 use Rattle.std.specs.Prelude.{ℕ, Bool, ◌&&◌, if◌then◌else◌, List, [], ◌++◌, codes, Option, Some, None}
 use Rattle.std.specs.Borrow.{Bor}
 use Rattle.hfs_page.specs.Escapes.{escaped}
-use Rattle.hfs_verdicts.specs.declared.verdict.Verdict.{Verdict}
-use Rattle.hfs_verdicts.specs.declared.verdict.Verdict.TheVariants.{Left, Taken}
-use Rattle.hfs_verdicts.specs.Verdicts.{is_whole, verdict_text}
+use Rattle.hfs_remains_places.specs.declared.verdict.Verdict.{Verdict}
+use Rattle.hfs_remains_places.specs.declared.verdict.Verdict.TheVariants.{Left, Taken}
+use Rattle.hfs_remains_places.specs.Verdicts.{is_whole, verdict_text}
 
 -- of both forks, of which one at least isn't whole
 unfoldable pub damaged_text : Verdict × Verdict → List ℕ

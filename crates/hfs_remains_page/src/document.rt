@@ -11,7 +11,7 @@ use crate::facts::{push_facts, push_fault};
 use crate::pictures::{TreeFiles, cells_of, holdings_of, push_picture};
 use crate::remains_texts::RemainsTexts;
 use hfs_page::{Cell, Holding, push_bytes, push_extents, push_head, push_shown, push_version};
-use hfs_rescue::FoundRecord;
+use hfs_remains::FoundRecord;
 use hfs_rescue_items::{Found, FoundSums, field_name, sums_of};
 use std::alloc::{AllocError, Global};
 

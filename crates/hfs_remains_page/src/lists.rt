@@ -1,12 +1,12 @@
 //! What is below each node of a tree.
 ghost use Rattle.std.specs.Prelude.{◌≡◌, ◌+◌, ℕ, IfOk, OnOk, length};
-ghost use Rattle.hfs_places.specs.Paths as paths;
+ghost use Rattle.hfs_remains_places.specs.Paths as paths;
 ghost use Rattle.hfs_remains_page.specs.Trees as spec;
 ghost use Rattle.hfs_remains_page.specs.Walks.{AreBelow, GainsBelow};
 
 use crate::numbers::folders_of;
 use crate::trees::{ADDED, up};
-use hfs_places::Thing;
+use hfs_remains_places::Thing;
 use hfs_rescue_items::Found;
 use std::alloc::{AllocError, Global};
 

@@ -1,10 +1,10 @@
 //! The places of folders, by their numbers.
 ghost use Rattle.std.specs.Prelude.{◌≡◌, [], IfOk, OnOk, take};
-ghost use Rattle.hfs_catalog_checks.specs.Indexes.{number_of, SetsNumber, NotesFirst};
-ghost use Rattle.hfs_places.specs.Folders.{KnowsFolders, NotesFolder};
-ghost use Rattle.hfs_places.specs.Things as all_things;
+ghost use Rattle.hfs_catalog.specs.Indexes.{number_of, SetsNumber, NotesFirst};
+ghost use Rattle.hfs_remains_places.specs.Folders.{KnowsFolders, NotesFolder};
+ghost use Rattle.hfs_remains_places.specs.Things as all_things;
 
-use hfs_places::Thing;
+use hfs_remains_places::Thing;
 use std::alloc::{AllocError, Global};
 use std::collections::BTreeMap;
 use std::marker::Model;
@@ -17,7 +17,7 @@ pub(crate) struct FolderNumbers {
 }
 
 impl Model for FolderNumbers {
-    ghost use Rattle.hfs_catalog_checks.specs.Indexes.{Numbered};
+    ghost use Rattle.hfs_catalog.specs.Indexes.{Numbered};
 
     ghost Value = { Numbered };
 

@@ -14,7 +14,7 @@ use hfs_page::{
     BlockUse, Cell, FileFork, Holding, Part, lay_all, picture_cells, push_blocks, push_bytes,
     push_fork_held, push_held, push_kind, push_part, push_rect_head, push_shown, push_told_count,
 };
-use hfs_rescue::FoundRecord;
+use hfs_remains::FoundRecord;
 use hfs_rescue_items::Found;
 use hfs_space::ForkKind;
 use std::alloc::{AllocError, Global};

@@ -12,9 +12,8 @@ use hfs_page::{
     push_bytes, push_closings, push_date, push_link_end, push_link_start, push_shown, push_sizes,
     push_told_count, push_type,
 };
-use hfs_places::Thing;
+use hfs_remains_places::{Thing, Verdict};
 use hfs_rescue_items::{Found, field_name, told_of};
-use hfs_verdicts::Verdict;
 use std::alloc::{AllocError, Global};
 
 /// How many folders are nested at most; what is deeper is listed flat in the last of them.

@@ -1,12 +1,12 @@
 //! Where each thing is in the tree of a page.
 ghost use Rattle.std.specs.Prelude.{◌≡◌, IfOk};
 ghost use Rattle.hfs_page.specs.Bases as bases;
-ghost use Rattle.hfs_places.specs.Folders.{KnowsFolders, thing_at};
-ghost use Rattle.hfs_places.specs.Paths as paths;
+ghost use Rattle.hfs_remains_places.specs.Folders.{KnowsFolders, thing_at};
+ghost use Rattle.hfs_remains_places.specs.Paths as paths;
 ghost use Rattle.hfs_remains_page.specs.Trees as spec;
 
 use crate::numbers::{FolderNumbers, folder_of};
-use hfs_places::Thing;
+use hfs_remains_places::Thing;
 use hfs_rescue_items::Found;
 use std::alloc::{AllocError, Global};
 

@@ -2,13 +2,13 @@
 ghost use Rattle.std.specs.Prelude.{◌≡◌, IfOk, OnOk, string_bytes};
 ghost use Rattle.hfs_page.specs.Escapes.{escaped};
 ghost use Rattle.hfs_page.specs.Pieces.{Gains};
-ghost use Rattle.hfs_verdicts.specs.Verdicts.{verdict_text};
-ghost use Rattle.hfs_remains.specs.Verdicts.{verdicts_at};
+ghost use Rattle.hfs_remains_places.specs.Verdicts.{verdict_text};
+ghost use Rattle.hfs_remains_forks.specs.Verdicts.{verdicts_at};
 ghost use Rattle.hfs_remains_page.specs.Verdicts as spec;
 
 use hfs_page::{push_bytes, push_escaped};
+use hfs_remains_places::{Verdict, push_verdict};
 use hfs_rescue_items::Found;
-use hfs_verdicts::{Verdict, push_verdict};
 use std::alloc::{AllocError, Global};
 
 /// The verdicts on both forks of an item; None for a folder, and if there is no such item.

@@ -6,7 +6,7 @@ ghost use Rattle.hfs_remains_page.specs.Walks.{AreBelow, deeper, step_at};
 use crate::lists::lists_of;
 use crate::steps::Step;
 use crate::trees::{root_of, top_node};
-use hfs_places::Thing;
+use hfs_remains_places::Thing;
 use hfs_rescue_items::Found;
 use std::alloc::{AllocError, Global};
 

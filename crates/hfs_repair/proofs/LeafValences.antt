@@ -7,10 +7,10 @@ use Rattle.std.proofs.lemmas.List.Concat.{flat_map-append}
 use Rattle.std.proofs.lemmas.List.Elements.{filter-append}
 use Rattle.hfs_fields.specs.declared.key.CatKey.{CatKey}
 use Rattle.hfs_fields.specs.Keys.{is_cat_leaf}
-use Rattle.hfs_node.specs.Node.{node_of, offset_of}
+use Rattle.hfs_btree.specs.Node.{node_of, offset_of}
 use Rattle.hfs_btree.specs.declared.header.Header.{Header}
 use Rattle.hfs_btree.specs.Pairs.{Pairs}
-use Rattle.hfs_scans.specs.Each.{Each}
+use Rattle.hfs_fields.specs.Each.{Each}
 use Rattle.hfs_btree.specs.Tree.{Store, first_of, forward_of, pair_of, pairs, records_of}
 use Rattle.hfs_btree.specs.Header.{header_in, leaves, tree_content}
 use Rattle.hfs_btree.specs.Sound.{HasStructure, IsRight}

@@ -11,13 +11,13 @@ use Rattle.hfs_fields.specs.declared.extent.Extent.{Extent}
 use Rattle.hfs_fields.specs.declared.mdb.Mdb.{Mdb}
 use Rattle.hfs_fields.specs.Keys.{is_cat_leaf, is_cat_body_len, cat_body_start, cat_body_of}
 use Rattle.hfs_fields.specs.Records.{is_dir}
-use Rattle.hfs_node.specs.declared.node.Node.{Node}
-use Rattle.hfs_node.specs.Node.{node_of, offset_of, count_of, record_of}
-use Rattle.hfs_node.proofs.DecodingLemmas.{node_of-is, length-records, get_or-records, offset-inside, offset-rising}
+use Rattle.hfs_btree.specs.declared.node.Node.{Node}
+use Rattle.hfs_btree.specs.Node.{node_of, offset_of, count_of, record_of}
+use Rattle.hfs_btree.proofs.DecodingLemmas.{node_of-is, length-records, get_or-records, offset-inside, offset-rising}
 use Rattle.hfs_blocks.specs.Blocks.{run_of}
-use Rattle.hfs_scans.specs.Each.{Each}
-use Rattle.hfs_scans.proofs.ElementLemmas.{each-append, each-map, each-mono}
-use Rattle.hfs_scans.proofs.PartLemmas.{flat-each}
+use Rattle.hfs_fields.specs.Each.{Each}
+use Rattle.hfs_fields.proofs.ElementLemmas.{each-append, each-map, each-mono}
+use Rattle.hfs_fields.proofs.PartLemmas.{flat-each}
 use Rattle.hfs_btree.specs.declared.key.Key.{Ghosts}
 use Rattle.hfs_btree.specs.Keys.{cat_allowed}
 use Rattle.hfs_btree.specs.Tree.{Store, node_in, records_in, records_of}

@@ -8,7 +8,7 @@ use Rattle.hfs_fields.specs.declared.mdb.Mdb.{Mdb}
 use Rattle.hfs_fields.specs.Numbers.{number_at}
 use Rattle.hfs_fields.specs.Keys.{cat_body_of}
 use Rattle.hfs_fields.specs.Records.{is_dir, is_file}
-use Rattle.hfs_node.specs.Node.{offset_of}
+use Rattle.hfs_btree.specs.Node.{offset_of}
 use Rattle.hfs_blocks.specs.declared.run.Run.{Run}
 use Rattle.hfs_blocks.specs.Blocks.{run_of, nodes_in}
 use Rattle.hfs_btree.specs.declared.key.Key.{Ghosts}

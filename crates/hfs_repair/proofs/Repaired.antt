@@ -9,8 +9,8 @@ use Rattle.hfs_fields.specs.Counts.{IsOutside}
 use Rattle.hfs_fields.specs.Keys.{cat_body_of}
 use Rattle.hfs_fields.specs.Records.{is_dir, dir_record_of, file_record_of}
 use Rattle.hfs_btree.specs.declared.key.Key.{Ghosts}
-use Rattle.hfs_scans.proofs.ElementLemmas.{each-append, each-left, each-right}
-use Rattle.hfs_scans.specs.Each.{Each}
+use Rattle.hfs_fields.proofs.ElementLemmas.{each-append, each-left, each-right}
+use Rattle.hfs_fields.specs.Each.{Each}
 use Rattle.hfs_btree.specs.Tree.{Store, records_in, pair_of, pairs}
 use Rattle.hfs_btree.specs.Header.{leaves}
 use Rattle.hfs_btree.specs.Sound.{HasCounts}

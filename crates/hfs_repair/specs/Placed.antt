@@ -6,7 +6,7 @@ use Rattle.hfs_fields.specs.Records.{is_dir, dir_record_of}
 use Rattle.hfs_fields.specs.declared.extent.Extent.{Extent}
 use Rattle.hfs_fields.specs.declared.mdb.Mdb.{Mdb}
 use Rattle.hfs_btree.specs.declared.key.Key.{Ghosts}
-use Rattle.hfs_node.specs.Node.{node_of, offset_of}
+use Rattle.hfs_btree.specs.Node.{node_of, offset_of}
 use Rattle.hfs_btree.specs.Tree.{Store, records_of, records_in}
 use Rattle.hfs_btree.specs.Header.{header_in, free_nodes, leaves, tree_content}
 use Rattle.hfs_blocks.specs.Blocks.{run_of, nodes_in}

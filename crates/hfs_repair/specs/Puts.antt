@@ -2,7 +2,7 @@
 use Rattle.std.specs.Prelude.{◌≡◌, ℕ, suc, ◌*◌, ◌<◌, List, [], ◌∷◌, slice_set}
 use Rattle.std.specs.List.{flat_map}
 use Rattle.byteorder.specs.Endian.{big_bytes}
-use Rattle.hfs_scans.specs.Each.{Each}
+use Rattle.hfs_fields.specs.Each.{Each}
 use Rattle.hfs_repair.specs.declared.byte_put.BytePut.{BytePut}
 use Rattle.hfs_repair.specs.Fields.{CountedNumber, PlacedNumber}
 use Rattle.hfs_repair.specs.Repair.{repair}

@@ -5,10 +5,9 @@ ghost use Rattle.hfs_btree.specs.Header.{header_of, header_in, free_nodes, tree_
 ghost use Rattle.hfs_btree.specs.Sound.{HasStructure};
 ghost use Rattle.hfs_repair.specs.Opened.{IsCountsAnswer, IsRightHead};
 
-use hfs_btree::{Header, Key, Nodes};
+use hfs_btree::{BLANK_NODE, Header, Key, Nodes, encode};
 use hfs_btree_checks::{TreeFault, count_tree};
 use hfs_btree_edits::load;
-use hfs_node::{BLANK_NODE, encode};
 use std::alloc::{AllocError, Global};
 
 /// The two counts of a tree's header record, and its header node with them in it.

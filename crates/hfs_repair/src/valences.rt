@@ -2,12 +2,12 @@
 
 ghost use Rattle.std.specs.Prelude.{◌≡◌, ◌+◌, ◌<◌, ◌≤◌, ◌^◌, ◌∷◌, [], true, length, OnOk};
 ghost use Rattle.hfs_fields.specs.Keys.{is_cat_leaf};
-ghost use Rattle.hfs_node.specs.Node.{node_of};
-ghost use Rattle.hfs_scans.specs.Each.{Each};
+ghost use Rattle.hfs_btree.specs.Node.{node_of};
+ghost use Rattle.hfs_fields.specs.Each.{Each};
 ghost use Rattle.hfs_btree.specs.Tree.{records_of};
 ghost use Rattle.hfs_blocks.specs.Blocks.{AreRunsWithin};
 ghost use Rattle.hfs_catalog.specs.Tree.{cat_keys};
-ghost use Rattle.hfs_catalog_checks.specs.Indexes.{count_of};
+ghost use Rattle.hfs_catalog.specs.Indexes.{count_of};
 ghost use Rattle.hfs_repair.specs.Opened.{HasRightCounts};
 ghost use Rattle.hfs_repair.specs.Placed.{placed_from, AddsWrong, placed_in_node, placed_in_runs};
 
@@ -15,11 +15,9 @@ use crate::fixed::FixPlace;
 use crate::tree_file::TreeFile;
 use crate::wrong_number::{WrongNumber, push_short};
 use hfs_blocks::{Blocks, block_of};
-use hfs_btree::{Nodes, RunNodes, body_of, count_in, forward_in};
-use hfs_catalog::is_folder;
-use hfs_catalog_checks::Numbers;
+use hfs_btree::{Nodes, RunNodes, body_of, count_in, forward_in, view};
+use hfs_catalog::{Numbers, is_folder};
 use hfs_fields::{CatKey, DirRecord, u16_at};
-use hfs_node::view;
 use std::alloc::AllocError;
 
 /// Adds the valence in a record of the catalog that begins at this place of the image, if it is a folder's and wrong.

@@ -3,14 +3,14 @@ use Rattle.std.proofs.Common.{◌≡◌, ℕ, ◌≤◌, List, [], length, Optio
 use Rattle.std.specs.Option.{IsSomeAnd, option_map_or}
 use Rattle.std.proofs.lemmas.List.{get_or_past}
 use Rattle.hfs_space.specs.declared.fork_kind.ForkKind.{ForkKind}
-use Rattle.hfs_rescue.specs.TreeFiles.{FileBlocks}
-use Rattle.hfs_remains.specs.declared.findings.FoundFork.{FoundFork}
-use Rattle.hfs_remains.specs.declared.shares.FileShares.{FileShares}
-use Rattle.hfs_remains.specs.declared.shares.Share.{Share}
-use Rattle.hfs_remains.specs.declared.trees.Trees.{Trees}
-use Rattle.hfs_remains.specs.ForkBytes.{fork_bytes}
-use Rattle.hfs_remains.proofs.ForkByteLemmas.{length-share_bytes}
-use Rattle.hfs_remains.specs.Verdicts.{FindsFork, IsForkOf, IsFound, fork_share, shares_at, used_for}
+use Rattle.hfs_remains.specs.TreeFiles.{FileBlocks}
+use Rattle.hfs_remains_forks.specs.declared.findings.FoundFork.{FoundFork}
+use Rattle.hfs_remains_forks.specs.declared.shares.FileShares.{FileShares}
+use Rattle.hfs_remains_forks.specs.declared.shares.Share.{Share}
+use Rattle.hfs_remains_forks.specs.declared.trees.Trees.{Trees}
+use Rattle.hfs_remains_forks.specs.ForkBytes.{fork_bytes}
+use Rattle.hfs_remains_forks.proofs.ForkByteLemmas.{length-share_bytes}
+use Rattle.hfs_remains_forks.specs.Verdicts.{FindsFork, IsForkOf, IsFound, fork_share, shares_at, used_for}
 use Rattle.hfs_rescue_items.specs.declared.found.Found.{Found}
 use Rattle.hfs_rescue_items.specs.Bytes.{GivesBytes, HasBytes, bytes_by, taken_bytes}
 

@@ -2,11 +2,11 @@
 use Rattle.std.specs.Prelude.{◌≡◌, ℕ, ◌<◌, Bool, true, List, map, length, Some}
 use Rattle.hfs_bag.specs.declared.item.BagKind.{BagKind}
 use Rattle.hfs_bag.specs.Laws.{ArePlaced}
-use Rattle.hfs_places.specs.Things.{things_of}
-use Rattle.hfs_places.specs.Laws.{AreThings}
-use Rattle.hfs_remains.specs.Records.{namings_of, thing_of}
-use Rattle.hfs_rescue.specs.declared.catalog.FoundRecord.{FoundRecord}
-use Rattle.hfs_scans.specs.Members.{In}
+use Rattle.hfs_remains_places.specs.Things.{things_of}
+use Rattle.hfs_remains_places.specs.Laws.{AreThings}
+use Rattle.hfs_remains_forks.specs.Records.{namings_of, thing_of}
+use Rattle.hfs_remains.specs.declared.catalog.FoundRecord.{FoundRecord}
+use Rattle.hfs_fields.specs.Members.{In}
 use Rattle.hfs_rescue_items.specs.declared.found.Found.{Found}
 use Rattle.hfs_rescue_items.specs.declared.plan.Planned.{Planned}
 use Rattle.hfs_rescue_items.specs.Found.{path_at}

@@ -4,7 +4,7 @@ use Rattle.std.proofs.Math.Seq.{take-length}
 use Rattle.hfs_rescue_items.specs.Found.{path_at}
 use Rattle.hfs_rescue_items.specs.Plan.{first_part, last_part, whole_plan}
 use Rattle.hfs_rescue_items.specs.Laws.{FoldersComeFirst, IsOfThing, OnlyThingsAreMade, PayloadsHaveTheirSums, PlansCountItems}
-use Rattle.hfs_scans.proofs.ElementLemmas.{each-mono}
+use Rattle.hfs_fields.proofs.ElementLemmas.{each-mono}
 use Rattle.hfs_rescue_items.proofs.AboveLemmas.{folders_first, place-of}
 use Rattle.hfs_rescue_items.proofs.HoldLemmas.{plan_holds}
 use Rattle.hfs_rescue_items.proofs.LastLemmas.{last_to}

@@ -17,3 +17,6 @@ mod RootLemmas
 mod PlanSumLemmas
 mod PayloadLemmas
 pub mod WritingLemmas
+pub mod GatherLemmas
+mod WrittenForkLemmas
+mod FirstLemmas

@@ -1,6 +1,6 @@
 -- Pieces of tables that are read.
 use Rattle.std.proofs.Common.{◌≡◌, ℕ, ◌+◌, ◌≤◌, List, [], ◌∷◌, ◌++◌, length, refl, sym, ap, ◌∙◌, append_assoc, length-append, arith}
-use Rattle.hfs_rescue.specs.declared.catalog.FoundRecord.{FoundRecord}
+use Rattle.hfs_remains.specs.declared.catalog.FoundRecord.{FoundRecord}
 use Rattle.hfs_table.specs.Columns.{column_name, columns}
 use Rattle.hfs_table.specs.Lines.{bag_head}
 use Rattle.std.specs.Prelude.{codes}

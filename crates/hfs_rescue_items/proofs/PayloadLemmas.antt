@@ -18,13 +18,13 @@ use Rattle.hfs_encodings.proofs.WrittenAppleDouble.{length-apple_double_head_byt
 use Rattle.hfs_fields.specs.declared.key.CatKey.{CatKey}
 use Rattle.hfs_fields.specs.Mdb.{bytes_at as bytes_from}
 use Rattle.hfs_fields.specs.Records.{dir_record_of, file_record_of, is_dir, is_file, is_item, type_byte}
-use Rattle.hfs_queries.specs.Told.{file_info, folder_info}
-use Rattle.hfs_remains.specs.declared.shares.FileShares.{FileShares}
-use Rattle.hfs_remains.specs.Forks.{fork_length}
-use Rattle.hfs_remains.specs.Verdicts.{fork_share, shares_at}
-use Rattle.hfs_remains.proofs.ForkByteLemmas.{length-share_bytes}
-use Rattle.hfs_rescue.specs.declared.catalog.FoundRecord.{FoundRecord}
-use Rattle.hfs_scans.specs.Each.{Each}
+use Rattle.hfs_items.specs.Told.{file_info, folder_info}
+use Rattle.hfs_remains_forks.specs.declared.shares.FileShares.{FileShares}
+use Rattle.hfs_remains_forks.specs.Forks.{fork_length}
+use Rattle.hfs_remains_forks.specs.Verdicts.{fork_share, shares_at}
+use Rattle.hfs_remains_forks.proofs.ForkByteLemmas.{length-share_bytes}
+use Rattle.hfs_remains.specs.declared.catalog.FoundRecord.{FoundRecord}
+use Rattle.hfs_fields.specs.Each.{Each}
 use Rattle.hfs_space.specs.declared.fork_kind.ForkKind.{ForkKind}
 use Rattle.hfs_space.specs.declared.fork_kind.ForkKind.TheVariants.{Data, Resource}
 use Rattle.hfs_rescue_items.specs.declared.found.Found.{Found}

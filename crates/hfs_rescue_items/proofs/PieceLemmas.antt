@@ -4,9 +4,9 @@ use Rattle.std.specs.Option.{option_map}
 use Rattle.std.proofs.lemmas.List.{drop-drop, replicate-append-replicate, take-append-drop, take_all}
 use Rattle.std.proofs.lemmas.List.Concat.{flat_map-append}
 use Rattle.hfs_fields.specs.declared.mdb.Mdb.{Mdb}
-use Rattle.hfs_rescue.specs.Allocation.{start_of}
-use Rattle.hfs_remains.specs.ForkBytes.{filled, place_bytes}
-use Rattle.hfs_remains.proofs.ForkByteLemmas.{block_first, length-filled, missing_first, read-filled}
+use Rattle.hfs_remains.specs.Allocation.{start_of}
+use Rattle.hfs_remains_forks.specs.ForkBytes.{filled, place_bytes}
+use Rattle.hfs_remains_forks.proofs.ForkByteLemmas.{block_first, length-filled, missing_first, read-filled}
 use Rattle.hfs_bag.specs.declared.piece.Piece.{Piece}
 use Rattle.hfs_bag.specs.Forks.{first_bytes, piece_bytes, pieces_bytes}
 use Rattle.hfs_rescue_items.specs.Bytes.{GoesOn}

@@ -9,22 +9,22 @@ use Rattle.std.proofs.lemmas.Option.{get_or_from_slice_get, slice_get-map, slice
 use Rattle.hfs_bag.specs.declared.item.BagKind.{BagKind}
 use Rattle.hfs_bag.specs.declared.item.BagKind.TheVariants as bag
 use Rattle.hfs_bag.specs.Laws.{AreApart, ArePlaced, ArePlain, DifferInPath, HasDouble, HasNo, HasOwn, IsApart, IsPlaced, IsPlain, begins_with, folder_path}
-use Rattle.hfs_catalog_checks.specs.Indexes.{is_place}
+use Rattle.hfs_catalog.specs.Indexes.{is_place}
 use Rattle.hfs_fields.specs.Order.{fold_letter, folded}
 use Rattle.hfs_fields.specs.Records.{item_id}
-use Rattle.hfs_names.specs.Laws.{IsSafe}
-use Rattle.hfs_places.specs.declared.things.Thing.{Thing}
-use Rattle.hfs_places.specs.Folders.{nothing, thing_at}
-use Rattle.hfs_places.specs.Paths.{is_folder_at, payload_path}
-use Rattle.hfs_places.specs.Things.{folder_of, things_of}
-use Rattle.hfs_places.specs.Laws.{ArePlacedApart, AreThings, EndsThere, IsOver, LeadsDown}
-use Rattle.hfs_places.proofs.OverLemmas.{leads_down_over}
-use Rattle.hfs_places.proofs.ThingLemmas.{item_at}
-use Rattle.hfs_remains.specs.Records.{namings_of, thing_of}
-use Rattle.hfs_remains.proofs.LawsProved.{records_have_own_places}
-use Rattle.hfs_rescue.specs.declared.catalog.FoundRecord.{FoundRecord}
-use Rattle.hfs_scans.specs.Each.{Each}
-use Rattle.hfs_scans.proofs.ScanLemmas.{Later}
+use Rattle.hfs_texts.specs.NameLaws.{IsSafe}
+use Rattle.hfs_remains_places.specs.declared.things.Thing.{Thing}
+use Rattle.hfs_remains_places.specs.Folders.{nothing, thing_at}
+use Rattle.hfs_remains_places.specs.Paths.{is_folder_at, payload_path}
+use Rattle.hfs_remains_places.specs.Things.{folder_of, things_of}
+use Rattle.hfs_remains_places.specs.Laws.{ArePlacedApart, AreThings, EndsThere, IsOver, LeadsDown}
+use Rattle.hfs_remains_places.proofs.OverLemmas.{leads_down_over}
+use Rattle.hfs_remains_places.proofs.ThingLemmas.{item_at}
+use Rattle.hfs_remains_forks.specs.Records.{namings_of, thing_of}
+use Rattle.hfs_remains_forks.proofs.RemainsLawsProved.{records_have_own_places}
+use Rattle.hfs_remains.specs.declared.catalog.FoundRecord.{FoundRecord}
+use Rattle.hfs_fields.specs.Each.{Each}
+use Rattle.hfs_fields.proofs.ScanLemmas.{Later}
 use Rattle.hfs_rescue_items.specs.declared.found.Found.{Found}
 use Rattle.hfs_rescue_items.specs.declared.plan.Planned.{Planned}
 use Rattle.hfs_rescue_items.specs.Found.{path_at}

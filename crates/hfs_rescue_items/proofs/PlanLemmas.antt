@@ -10,14 +10,14 @@ use Rattle.std.proofs.lemmas.List.Sums.{fold-append}
 use Rattle.std.proofs.lemmas.Option.{slice_get_past, slice_get_read}
 use Rattle.hfs_bag.specs.declared.item.BagKind.{BagKind}
 use Rattle.hfs_bag.specs.declared.item.BagKind.TheVariants as bag
-use Rattle.hfs_remains.specs.declared.findings.FoundFork.{FoundFork}
-use Rattle.hfs_remains.specs.declared.shares.FileShares.{FileShares}
-use Rattle.hfs_remains.specs.Verdicts.{FindsFork, IsForkOf, finding_of, shares_at, used_for}
-use Rattle.hfs_rescue.specs.declared.catalog.FoundRecord.{FoundRecord}
-use Rattle.hfs_rescue.specs.Items.{AddsRow, has_row}
+use Rattle.hfs_remains_forks.specs.declared.findings.FoundFork.{FoundFork}
+use Rattle.hfs_remains_forks.specs.declared.shares.FileShares.{FileShares}
+use Rattle.hfs_remains_forks.specs.Verdicts.{FindsFork, IsForkOf, finding_of, shares_at, used_for}
+use Rattle.hfs_remains.specs.declared.catalog.FoundRecord.{FoundRecord}
+use Rattle.hfs_remains.specs.Items.{AddsRow, has_row}
 use Rattle.hfs_space.specs.declared.fork_kind.ForkKind.TheVariants.{Data}
-use Rattle.hfs_verdicts.specs.declared.verdict.Finding.{Finding}
-use Rattle.hfs_verdicts.specs.declared.verdict.Verdict.TheVariants.{Left, Taken}
+use Rattle.hfs_remains_places.specs.declared.verdict.Finding.{Finding}
+use Rattle.hfs_remains_places.specs.declared.verdict.Verdict.TheVariants.{Left, Taken}
 use Rattle.hfs_rescue_items.specs.declared.found.Found.{Found}
 use Rattle.hfs_rescue_items.specs.declared.plan.Planned.{Planned}
 use Rattle.hfs_rescue_items.specs.Found.{path_at}

@@ -8,15 +8,15 @@ use Rattle.std.proofs.lemmas.List.Sums.{fold-append, sum_by-cons, sum_by_push}
 use Rattle.std.proofs.lemmas.Option.{slice_get_cases}
 use Rattle.hfs_bag.specs.declared.item.BagKind.{BagKind}
 use Rattle.hfs_bag.specs.declared.item.BagKind.TheVariants as bag
-use Rattle.hfs_catalog_checks.specs.Indexes.{is_place}
+use Rattle.hfs_catalog.specs.Indexes.{is_place}
 use Rattle.hfs_fields.specs.Records.{is_dir}
-use Rattle.hfs_places.specs.declared.things.Thing.{Thing}
-use Rattle.hfs_places.specs.Paths.{payload_path, root_of}
-use Rattle.hfs_places.specs.Things.{things_of}
-use Rattle.hfs_remains.specs.declared.shares.FileShares.{FileShares}
-use Rattle.hfs_remains.specs.Records.{namings_of, thing_of}
-use Rattle.hfs_remains.specs.Verdicts.{shares_at}
-use Rattle.hfs_rescue.specs.declared.catalog.FoundRecord.{FoundRecord}
+use Rattle.hfs_remains_places.specs.declared.things.Thing.{Thing}
+use Rattle.hfs_remains_places.specs.Paths.{payload_path, root_of}
+use Rattle.hfs_remains_places.specs.Things.{things_of}
+use Rattle.hfs_remains_forks.specs.declared.shares.FileShares.{FileShares}
+use Rattle.hfs_remains_forks.specs.Records.{namings_of, thing_of}
+use Rattle.hfs_remains_forks.specs.Verdicts.{shares_at}
+use Rattle.hfs_remains.specs.declared.catalog.FoundRecord.{FoundRecord}
 use Rattle.hfs_rescue_items.specs.declared.found.Found.{Found}
 use Rattle.hfs_rescue_items.specs.declared.plan.Planned.{Planned}
 use Rattle.hfs_rescue_items.specs.Found.{path_at}

@@ -4,8 +4,8 @@ use Rattle.std.proofs.lemmas.List.{take-take}
 use Rattle.hfs_bag.specs.declared.piece.Piece.{Piece}
 use Rattle.hfs_bag.specs.Forks.{pieces_bytes}
 use Rattle.hfs_fields.specs.declared.mdb.Mdb.{Mdb}
-use Rattle.hfs_rescue.specs.TreeFiles.{FileBlocks}
-use Rattle.hfs_remains.specs.ForkBytes.{fork_bytes, places_bytes}
+use Rattle.hfs_remains.specs.TreeFiles.{FileBlocks}
+use Rattle.hfs_remains_forks.specs.ForkBytes.{fork_bytes, places_bytes}
 
 -- all bytes of the fork are left
 pub fork_begun : (image : List ℕ) (mdb : Mdb) (len : ℕ) (places : FileBlocks) (pieces : List Piece) → pieces_bytes true image pieces ≡ fork_bytes image mdb len places

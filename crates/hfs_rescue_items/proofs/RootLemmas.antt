@@ -3,20 +3,20 @@ use Rattle.std.proofs.Common.{◌≡◌, ◌≢◌, ℕ, zero, suc, ◌+◌, ◌
 use Rattle.std.specs.Fmt.{decimal}
 use Rattle.std.specs.List.{position_from}
 use Rattle.std.proofs.lemmas.Bool.{ne_eqb}
-use Rattle.hfs_catalog_checks.specs.Indexes.{is_place}
-use Rattle.hfs_names.specs.HostNames.{host_name}
-use Rattle.hfs_names.proofs.HostNameLemmas.{host-names}
-use Rattle.hfs_places.specs.declared.things.Thing.{Thing}
-use Rattle.hfs_places.specs.Chains.{place_at, ups_of}
-use Rattle.hfs_places.specs.Entries.{entries_of, entry_behind, entry_row, has_entry_row, suffix}
-use Rattle.hfs_places.specs.Folders.{thing_at}
-use Rattle.hfs_places.specs.Laws.{AreThings, IsThing}
-use Rattle.hfs_places.specs.Paths.{entry_at, front_of, is_cut, is_root, lost, lost_at, path, path_by, payload_path, root_of, within}
-use Rattle.hfs_places.specs.Things.{is_taken, named_behind, things_of, with_named, with_numbered}
-use Rattle.hfs_places.proofs.LawLemmas.{behind-at, length-within}
-use Rattle.hfs_places.proofs.PathLemmas.{path-is}
-use Rattle.hfs_remains.specs.Records.{thing_of}
-use Rattle.hfs_rescue.specs.declared.catalog.FoundRecord.{FoundRecord}
+use Rattle.hfs_catalog.specs.Indexes.{is_place}
+use Rattle.hfs_texts.specs.HostNames.{host_name}
+use Rattle.hfs_texts.proofs.HostNameLemmas.{host-names}
+use Rattle.hfs_remains_places.specs.declared.things.Thing.{Thing}
+use Rattle.hfs_remains_places.specs.Chains.{place_at, ups_of}
+use Rattle.hfs_remains_places.specs.Entries.{entries_of, entry_behind, entry_row, has_entry_row, suffix}
+use Rattle.hfs_remains_places.specs.Folders.{thing_at}
+use Rattle.hfs_remains_places.specs.Laws.{AreThings, IsThing}
+use Rattle.hfs_remains_places.specs.Paths.{entry_at, front_of, is_cut, is_root, lost, lost_at, path, path_by, payload_path, root_of, within}
+use Rattle.hfs_remains_places.specs.Things.{is_taken, named_behind, things_of, with_named, with_numbered}
+use Rattle.hfs_remains_places.proofs.LawLemmas.{behind-at, length-within}
+use Rattle.hfs_remains_places.proofs.PathLemmas.{path-is}
+use Rattle.hfs_remains_forks.specs.Records.{thing_of}
+use Rattle.hfs_remains.specs.declared.catalog.FoundRecord.{FoundRecord}
 use Rattle.hfs_rescue_items.specs.Sums.{root_of as items_root}
 
 -- ---- paths of things

@@ -8,11 +8,11 @@ use Rattle.hfs_bag.specs.declared.source.Stream.{Stream}
 use Rattle.hfs_bag.specs.declared.source.Stream.TheVariants as stream
 use Rattle.hfs_bag.specs.Items.{IsHead}
 use Rattle.hfs_bag.specs.Sources.{HasItem, HasNoItem, HasOpened, HasRead, HasRestarted, stream_bytes}
-use Rattle.hfs_remains.specs.declared.findings.FoundFork.{FoundFork}
-use Rattle.hfs_remains.specs.declared.shares.FileShares.{FileShares}
-use Rattle.hfs_remains.specs.ForkBytes.{fork_bytes}
-use Rattle.hfs_remains.specs.Verdicts.{fork_share, shares_at}
-use Rattle.hfs_remains.proofs.ForkByteLemmas.{length-share_bytes}
+use Rattle.hfs_remains_forks.specs.declared.findings.FoundFork.{FoundFork}
+use Rattle.hfs_remains_forks.specs.declared.shares.FileShares.{FileShares}
+use Rattle.hfs_remains_forks.specs.ForkBytes.{fork_bytes}
+use Rattle.hfs_remains_forks.specs.Verdicts.{fork_share, shares_at}
+use Rattle.hfs_remains_forks.proofs.ForkByteLemmas.{length-share_bytes}
 use Rattle.hfs_space.specs.declared.fork_kind.ForkKind.{ForkKind}
 use Rattle.hfs_space.specs.declared.fork_kind.ForkKind.TheVariants.{Data, Resource}
 use Rattle.hfs_table.specs.Lines.{bag_head}

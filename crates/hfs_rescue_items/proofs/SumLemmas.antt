@@ -2,12 +2,12 @@
 use Rattle.std.proofs.Common.{◌≡◌, ℕ, ◌+◌, ◌-◌, ◌^◌, ◌≤◌, Bool, true, false, ◌&&◌, ◌==◌, if◌then◌else◌, length, min, Option, Some, None, sym, ap, ◌∙◌, arith}
 use Rattle.std.specs.Option.{IsSomeAnd, option_map, option_map_or}
 use Rattle.std.proofs.lemmas.List.FromFn.{sum_by-map-range_with_len_more}
-use Rattle.hfs_remains.specs.declared.findings.FoundFork.{FoundFork}
-use Rattle.hfs_remains.specs.declared.shares.FileShares.{FileShares}
-use Rattle.hfs_remains.specs.Verdicts.{FindsFork, IsForkOf, shares_at, verdicts_at, verdicts_of}
+use Rattle.hfs_remains_forks.specs.declared.findings.FoundFork.{FoundFork}
+use Rattle.hfs_remains_forks.specs.declared.shares.FileShares.{FileShares}
+use Rattle.hfs_remains_forks.specs.Verdicts.{FindsFork, IsForkOf, shares_at, verdicts_at, verdicts_of}
 use Rattle.hfs_space.specs.declared.fork_kind.ForkKind.TheVariants.{Data, Resource}
-use Rattle.hfs_verdicts.specs.declared.verdict.Verdict.{Verdict}
-use Rattle.hfs_verdicts.specs.Verdicts.{is_whole}
+use Rattle.hfs_remains_places.specs.declared.verdict.Verdict.{Verdict}
+use Rattle.hfs_remains_places.specs.Verdicts.{is_whole}
 use Rattle.hfs_rescue_items.specs.declared.found.Found.{Found}
 use Rattle.hfs_rescue_items.specs.declared.sums.FoundSums.{FoundSums}
 use Rattle.hfs_rescue_items.specs.Sums.{AreSums, Counts, CountsAt, byte_number, bytes_at, file_number, files_at, folder_number, folders_at, of_first, root_of, unless_root, whole_at, whole_number}

@@ -7,10 +7,10 @@ use Rattle.std.proofs.lemmas.List.{drop_at, take_at, take-append-le, take_min}
 use Rattle.std.proofs.Math.Seq.{take-add}
 use Rattle.hfs_source.specs.Images.{OfEach}
 use Rattle.hfs_texts.specs.Writing.{AppendsFront}
-use Rattle.hfs_sparse.proofs.Written.{GoesOn, goes-on-end, goes-on-first}
+use Rattle.hfs_source.proofs.Written.{GoesOn, goes-on-end, goes-on-first}
 use Rattle.hfs_fields.specs.declared.mdb.Mdb.{Mdb}
-use Rattle.hfs_rescue.specs.TreeFiles.{FileBlocks}
-use Rattle.hfs_remains.specs.ForkBytes.{fork_bytes}
+use Rattle.hfs_remains.specs.TreeFiles.{FileBlocks}
+use Rattle.hfs_remains_forks.specs.ForkBytes.{fork_bytes}
 use Rattle.hfs_bag.specs.declared.fork_reading.ForkReading.{ForkReading}
 use Rattle.hfs_bag.specs.Forks.{ReadsOn, fork_rest}
 use Rattle.hfs_rescue_items.specs.Writing.{MovesPiece, WritesFrontOf, WritesOf}

@@ -3,11 +3,11 @@ use Rattle.std.specs.Prelude.{◌≡◌, ℕ, ◌+◌, true, List, [], ◌++◌,
 use Rattle.std.specs.Option.{option_map_or}
 use Rattle.hfs_bag.specs.Forks.{first_bytes}
 use Rattle.hfs_space.specs.declared.fork_kind.ForkKind.{ForkKind}
-use Rattle.hfs_remains.specs.declared.findings.FoundFork.{FoundFork}
-use Rattle.hfs_remains.specs.declared.shares.Share.{Share}
-use Rattle.hfs_remains.specs.declared.trees.Trees.{Trees}
-use Rattle.hfs_remains.specs.ForkBytes.{fork_bytes, share_bytes}
-use Rattle.hfs_remains.specs.Verdicts.{fork_share, shares_at}
+use Rattle.hfs_remains_forks.specs.declared.findings.FoundFork.{FoundFork}
+use Rattle.hfs_remains_forks.specs.declared.shares.Share.{Share}
+use Rattle.hfs_remains_forks.specs.declared.trees.Trees.{Trees}
+use Rattle.hfs_remains_forks.specs.ForkBytes.{fork_bytes, share_bytes}
+use Rattle.hfs_remains_forks.specs.Verdicts.{fork_share, shares_at}
 use Rattle.hfs_rescue_items.specs.declared.found.Found.{Found}
 
 -- ---- forks

@@ -9,11 +9,11 @@ use Rattle.hfs_fields.specs.declared.key.CatKey.{CatKey}
 use Rattle.hfs_fields.specs.declared.mdb.Mdb.{Mdb}
 use Rattle.hfs_fields.specs.Records.{is_item}
 use Rattle.hfs_model.specs.declared.reply.Info.{Info}
-use Rattle.hfs_places.specs.declared.things.Thing.{Thing}
-use Rattle.hfs_places.specs.Names.{names_to}
-use Rattle.hfs_places.specs.Paths.{payload_path}
-use Rattle.hfs_queries.specs.Told.{file_info, folder_info}
-use Rattle.hfs_rescue.specs.declared.catalog.FoundRecord.{FoundRecord}
+use Rattle.hfs_remains_places.specs.declared.things.Thing.{Thing}
+use Rattle.hfs_remains_places.specs.Names.{names_to}
+use Rattle.hfs_remains_places.specs.Paths.{payload_path}
+use Rattle.hfs_items.specs.Told.{file_info, folder_info}
+use Rattle.hfs_remains.specs.declared.catalog.FoundRecord.{FoundRecord}
 
 -- the path of a thing below the payload; no text where there is none
 abbrev pub path_at : List Thing → ℕ → List ℕ

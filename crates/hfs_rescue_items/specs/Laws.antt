@@ -5,12 +5,12 @@ use Rattle.hfs_bag.specs.declared.item.BagKind.TheVariants as bag
 use Rattle.hfs_bag.specs.Bags.{bytes_in, doubles_told, payload}
 use Rattle.hfs_bag.specs.Items.{BagItem, item_digests}
 use Rattle.hfs_fields.specs.Records.{is_dir}
-use Rattle.hfs_places.specs.Laws.{AreThings, EndsThere}
-use Rattle.hfs_places.specs.Things.{things_of}
-use Rattle.hfs_remains.specs.Records.{namings_of, thing_of}
-use Rattle.hfs_remains.specs.Verdicts.{shares_at}
-use Rattle.hfs_rescue.specs.declared.catalog.FoundRecord.{FoundRecord}
-use Rattle.hfs_scans.specs.Each.{Each}
+use Rattle.hfs_remains_places.specs.Laws.{AreThings, EndsThere}
+use Rattle.hfs_remains_places.specs.Things.{things_of}
+use Rattle.hfs_remains_forks.specs.Records.{namings_of, thing_of}
+use Rattle.hfs_remains_forks.specs.Verdicts.{shares_at}
+use Rattle.hfs_remains.specs.declared.catalog.FoundRecord.{FoundRecord}
+use Rattle.hfs_fields.specs.Each.{Each}
 use Rattle.hfs_rescue_items.specs.declared.found.Found.{Found}
 use Rattle.hfs_rescue_items.specs.declared.plan.Planned.{Planned}
 use Rattle.hfs_rescue_items.specs.Found.{path_at}

@@ -8,3 +8,8 @@ pub mod Sums
 pub mod Faults
 pub mod Laws
 pub mod Writing
+pub mod Rows
+pub mod Paths
+pub mod Folders
+pub mod Forks
+pub mod Gathers

@@ -1,10 +1,10 @@
 -- The lines of both tables.
 use Rattle.std.specs.Prelude.{ℕ, suc, List, [], ◌∷◌, ◌++◌, Option, Some, None}
 use Rattle.hfs_model.specs.declared.reply.Info.{Info}
-use Rattle.hfs_remains.specs.Verdicts.{verdicts_at}
-use Rattle.hfs_rescue.specs.declared.catalog.FoundRecord.{FoundRecord}
+use Rattle.hfs_remains_forks.specs.Verdicts.{verdicts_at}
+use Rattle.hfs_remains.specs.declared.catalog.FoundRecord.{FoundRecord}
 use Rattle.hfs_table.specs.Lines.{bag_head, own_bag_line}
-use Rattle.hfs_verdicts.specs.Verdicts.{row_text}
+use Rattle.hfs_remains_places.specs.Verdicts.{row_text}
 use Rattle.hfs_rescue_items.specs.declared.found.Found.{Found}
 use Rattle.hfs_rescue_items.specs.Found.{names_at, path_at, told}
 

@@ -6,12 +6,12 @@ use Rattle.std.proofs.Common.{Vec, Global}
 use Rattle.hfs_bag.specs.declared.item.BagKind.{BagKind}
 use Rattle.hfs_bag.specs.declared.item.BagKind.TheVariants as bag
 use Rattle.hfs_fields.specs.Records.{is_dir}
-use Rattle.hfs_rescue.specs.declared.catalog.FoundRecord.{FoundRecord}
-use Rattle.hfs_rescue.specs.Items.{has_row}
-use Rattle.hfs_remains.specs.declared.shares.FileShares.{FileShares}
-use Rattle.hfs_remains.specs.Verdicts.{shares_at}
-use Rattle.hfs_verdicts.specs.declared.verdict.Verdict.{Verdict}
-use Rattle.hfs_verdicts.specs.declared.verdict.Verdict.TheVariants.{Left, Taken}
+use Rattle.hfs_remains.specs.declared.catalog.FoundRecord.{FoundRecord}
+use Rattle.hfs_remains.specs.Items.{has_row}
+use Rattle.hfs_remains_forks.specs.declared.shares.FileShares.{FileShares}
+use Rattle.hfs_remains_forks.specs.Verdicts.{shares_at}
+use Rattle.hfs_remains_places.specs.declared.verdict.Verdict.{Verdict}
+use Rattle.hfs_remains_places.specs.declared.verdict.Verdict.TheVariants.{Left, Taken}
 use Rattle.hfs_rescue_items.specs.declared.found.Found.{Found}
 use Rattle.hfs_rescue_items.specs.declared.plan.Planned.{Planned}
 use Rattle.hfs_rescue_items.specs.Found.{path_at}

@@ -1,7 +1,7 @@
 -- What is still to be read of a stream.
 use Rattle.std.specs.Prelude.{ℕ, true, List, ◌++◌, length}
 use Rattle.hfs_bag.specs.Forks.{ReadsOn, fork_rest}
-use Rattle.hfs_rescue.specs.declared.catalog.FoundRecord.{FoundRecord}
+use Rattle.hfs_remains.specs.declared.catalog.FoundRecord.{FoundRecord}
 use Rattle.hfs_table.specs.Lines.{bag_head}
 use Rattle.hfs_rescue_items.specs.declared.found.Found.{Found}
 use Rattle.hfs_rescue_items.specs.declared.table_lines.Lines.{Lines}

@@ -2,16 +2,16 @@
 use Rattle.std.specs.Prelude.{◌≡◌, ℕ, ◌+◌, ◌-◌, ◌^◌, ◌≤◌, ◌==◌, ◌&&◌, false, if◌then◌else◌, List, length, map, min, Option, Some, None}
 use Rattle.std.specs.List.{position_from, range_with_len, sum}
 use Rattle.std.specs.Option.{option_map_or}
-use Rattle.hfs_places.specs.Paths.{is_root}
-use Rattle.hfs_remains.specs.declared.shares.FileShares.{FileShares}
-use Rattle.hfs_remains.specs.declared.shares.Share.{Share}
-use Rattle.hfs_remains.specs.declared.trees.Trees.{Trees}
-use Rattle.hfs_remains.specs.Forks.{fork_length}
-use Rattle.hfs_remains.specs.Records.{thing_of}
-use Rattle.hfs_remains.specs.Verdicts.{shares_at, verdicts_at}
-use Rattle.hfs_rescue.specs.declared.catalog.FoundRecord.{FoundRecord}
-use Rattle.hfs_verdicts.specs.declared.verdict.Verdict.{Verdict}
-use Rattle.hfs_verdicts.specs.Verdicts.{is_whole}
+use Rattle.hfs_remains_places.specs.Paths.{is_root}
+use Rattle.hfs_remains_forks.specs.declared.shares.FileShares.{FileShares}
+use Rattle.hfs_remains_forks.specs.declared.shares.Share.{Share}
+use Rattle.hfs_remains_forks.specs.declared.trees.Trees.{Trees}
+use Rattle.hfs_remains_forks.specs.Forks.{fork_length}
+use Rattle.hfs_remains_forks.specs.Records.{thing_of}
+use Rattle.hfs_remains_forks.specs.Verdicts.{shares_at, verdicts_at}
+use Rattle.hfs_remains.specs.declared.catalog.FoundRecord.{FoundRecord}
+use Rattle.hfs_remains_places.specs.declared.verdict.Verdict.{Verdict}
+use Rattle.hfs_remains_places.specs.Verdicts.{is_whole}
 use Rattle.hfs_rescue_items.specs.declared.found.Found.{Found}
 use Rattle.hfs_rescue_items.specs.declared.sums.FoundSums.{FoundSums}
 

@@ -9,7 +9,7 @@ use crate::found::Found;
 use crate::plan::Planned;
 use hfs_bag::{BagHead, BagKind, SourceFault, since_1970};
 use hfs_model::Info;
-use hfs_remains::FoundFork;
+use hfs_remains_forks::FoundFork;
 use hfs_space::ForkKind;
 use std::alloc::{AllocError, Global};
 

@@ -1,6 +1,6 @@
 //! The folders that are made.
 ghost use Rattle.std.specs.Prelude.{◌≡◌, [], OnOk};
-ghost use Rattle.hfs_rescue.specs.Items.{AddsRow, has_row};
+ghost use Rattle.hfs_remains.specs.Items.{AddsRow, has_row};
 ghost use Rattle.hfs_rescue_items.specs.Plan.{NotesRow, makes_folder};
 
 use hfs_bag::BagKind;

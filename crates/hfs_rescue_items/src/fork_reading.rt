@@ -1,12 +1,12 @@
 //! Forks that were found, as they are read piece by piece.
 ghost use Rattle.std.specs.Prelude.{◌≡◌, ℕ, List, true, IfOk};
 ghost use Rattle.hfs_bag.specs.Forks.{fork_rest};
-ghost use Rattle.hfs_remains.specs.ForkBytes.{fork_bytes};
+ghost use Rattle.hfs_remains_forks.specs.ForkBytes.{fork_bytes};
 
 use crate::pieces::pieces_of;
 use hfs_bag::{ForkReading, SourceFault};
 use hfs_fields::Mdb;
-use hfs_remains::FoundFork;
+use hfs_remains_forks::FoundFork;
 use std::alloc::Global;
 
 /// Begins with a fork.

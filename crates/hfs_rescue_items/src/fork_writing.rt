@@ -1,6 +1,6 @@
 //! Writing a fork while it is read.
 ghost use Rattle.std.specs.Prelude.{◌≡◌, ◌<◌, false, true, Err, IfOk, OnErr, OnOk};
-ghost use Rattle.hfs_remains.specs.ForkBytes.{fork_bytes};
+ghost use Rattle.hfs_remains_forks.specs.ForkBytes.{fork_bytes};
 ghost use Rattle.hfs_texts.specs.Writing.{AppendsFront};
 ghost use Rattle.hfs_source.specs.Images.{OfEach};
 ghost use Rattle.hfs_bag.specs.Forks.{fork_rest};
@@ -9,8 +9,8 @@ ghost use Rattle.hfs_rescue_items.specs.Writing.{MovesPiece, WritesFrontOf, Writ
 use crate::fork_reading::begin_fork;
 use hfs_bag::{ForkReading, SourceFault, read_fork};
 use hfs_fields::Mdb;
-use hfs_remains::FoundFork;
-use hfs_sparse::{BlockSource, CopyFault};
+use hfs_remains_forks::FoundFork;
+use hfs_source::{BlockSource, CopyFault};
 use hfs_texts::put;
 use std::alloc::Global;
 use std::io::Write;

@@ -2,9 +2,9 @@
 ghost use Rattle.std.specs.Prelude.{◌≡◌};
 
 use hfs_fields::Mdb;
-use hfs_places::Places;
-use hfs_remains::Salvage;
-use hfs_rescue::FoundRecord;
+use hfs_remains::FoundRecord;
+use hfs_remains_forks::Salvage;
+use hfs_remains_places::Places;
 
 /// What was found of an image by its directory: its items, in order, with the place of each and what remains of their forks.
 #[derive(Clone, Copy, Drop)]

@@ -14,8 +14,8 @@ use crate::plan::{Planned, plan_of};
 use crate::reading::{Reading, read_next};
 use crate::table_lines::Lines;
 use hfs_bag::{BagHead, BagSource, ForkReading, SourceFault, Stream};
+use hfs_source::BlockSource;
 use hfs_space::ForkKind;
-use hfs_sparse::BlockSource;
 use std::alloc::{AllocError, Global};
 
 /// The items of a damaged volume below its root, one after the other, each folder where it is first needed, and the bytes of

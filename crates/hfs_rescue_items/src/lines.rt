@@ -5,9 +5,9 @@ ghost use Rattle.hfs_rescue_items.specs.Lines.{item_line, remains_line};
 use crate::found::Found;
 use crate::looking::names_at;
 use crate::told::told_of;
-use hfs_rescue::FoundRecord;
+use hfs_remains::FoundRecord;
+use hfs_remains_places::push_row;
 use hfs_table::push_own_bag_row;
-use hfs_verdicts::push_row;
 use std::alloc::{AllocError, Global};
 
 /// The line of the item with this number in the table of what remains.

@@ -1,18 +1,17 @@
 //! Looking up what was found of an image.
 ghost use Rattle.std.specs.Prelude.{◌≡◌, ℕ, List, IfOk, string_bytes};
-ghost use Rattle.hfs_remains.specs.Verdicts.{FindsFork, verdicts_at};
+ghost use Rattle.hfs_remains_forks.specs.Verdicts.{FindsFork, verdicts_at};
 ghost use Rattle.hfs_rescue_items.specs.Bytes.{GivesBytes, taken_bytes};
-ghost use Rattle.hfs_places.specs.Names.{names_by};
+ghost use Rattle.hfs_remains_places.specs.Names.{names_by};
 ghost use Rattle.hfs_rescue_items.specs.Found.{field_name, names_at, path_at, told_at};
 
 use crate::found::Found;
 use crate::told::told_of;
 use hfs_fields::{Mdb, Name};
 use hfs_model::Info;
-use hfs_places::Places;
-use hfs_remains::FoundFork;
+use hfs_remains_forks::FoundFork;
+use hfs_remains_places::{Places, Verdict};
 use hfs_space::ForkKind;
-use hfs_verdicts::Verdict;
 use std::alloc::{AllocError, Global};
 
 /// The characters of a name, from a field with their number before them.

@@ -1,8 +1,8 @@
 //! The bytes of a fork in pieces, each of which is read at once.
 ghost use Rattle.std.specs.Prelude.{◌≡◌, ◌+◌, ◌*◌, ◌≤◌, ◌++◌, ℕ, List, take, true, IfOk, IfSome, OnOk};
 ghost use Rattle.std.specs.Option.{option_map};
-ghost use Rattle.hfs_rescue.specs.Allocation.{start_of};
-ghost use Rattle.hfs_remains.specs.ForkBytes.{fork_bytes, place_bytes};
+ghost use Rattle.hfs_remains.specs.Allocation.{start_of};
+ghost use Rattle.hfs_remains_forks.specs.ForkBytes.{fork_bytes, place_bytes};
 ghost use Rattle.hfs_bag.specs.Forks.{first_bytes, piece_bytes, pieces_bytes};
 ghost use Rattle.hfs_rescue_items.specs.Bytes.{GoesOn};
 
@@ -139,7 +139,7 @@ fn push_place(
 
 /// The first bytes of a fork in these blocks, in pieces. Errors: memory was refused; a block lies past everything that can be
 /// read.
-#[tactic(auto, using(hfs_remains::proofs::ForkByteLemmas::fork_whole))]
+#[tactic(auto, using(hfs_remains_forks::proofs::ForkByteLemmas::fork_whole))]
 pub(crate) fn pieces_of(
     alloc: Global,
     mdb: &Mdb,

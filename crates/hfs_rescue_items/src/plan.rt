@@ -1,7 +1,7 @@
 //! Which folders and files are made of what was found, in order.
 ghost use Rattle.std.specs.Prelude.{◌≡◌, ◌+◌, ◌<◌, ◌^◌, if◌then◌else◌, ◌==◌, None, Some, IfOk, OnOk};
 ghost use Rattle.std.specs.List.{fold};
-ghost use Rattle.hfs_remains.specs.Verdicts.{shares_at};
+ghost use Rattle.hfs_remains_forks.specs.Verdicts.{shares_at};
 ghost use Rattle.hfs_rescue_items.specs.Found.{path_at};
 ghost use Rattle.hfs_rescue_items.specs.Plan as spec;
 
@@ -9,9 +9,9 @@ use crate::folders::Folders;
 use crate::found::Found;
 use hfs_bag::BagKind;
 use hfs_catalog::is_folder;
-use hfs_rescue::FoundRecord;
+use hfs_remains::FoundRecord;
+use hfs_remains_places::Verdict;
 use hfs_space::ForkKind;
-use hfs_verdicts::Verdict;
 use std::alloc::{AllocError, Global};
 
 /// What is made of a part of a thing's path.

@@ -11,7 +11,7 @@ use crate::found::Found;
 use crate::lines::{push_item_line, push_remains_line};
 use crate::table_lines::Lines;
 use hfs_bag::{ForkReading, SourceFault, read_fork};
-use hfs_sparse::BlockSource;
+use hfs_source::BlockSource;
 use hfs_table::push_bag_head;
 use std::alloc::Global;
 

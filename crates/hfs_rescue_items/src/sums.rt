@@ -1,16 +1,16 @@
 //! How much remains.
 ghost use Rattle.std.specs.Prelude.{◌≡◌, ◌+◌, ◌-◌, ◌<◌, ◌≤◌, ◌^◌, ◌&&◌, ◌==◌, false, if◌then◌else◌, min, IfOk};
 ghost use Rattle.std.specs.Option.{option_map_or};
-ghost use Rattle.hfs_places.specs.Paths.{is_root};
-ghost use Rattle.hfs_remains.specs.Records.{thing_of};
-ghost use Rattle.hfs_remains.specs.Verdicts.{shares_at, verdicts_at};
-ghost use Rattle.hfs_verdicts.specs.Verdicts.{is_whole};
+ghost use Rattle.hfs_remains_places.specs.Paths.{is_root};
+ghost use Rattle.hfs_remains_forks.specs.Records.{thing_of};
+ghost use Rattle.hfs_remains_forks.specs.Verdicts.{shares_at, verdicts_at};
+ghost use Rattle.hfs_remains_places.specs.Verdicts.{is_whole};
 ghost use Rattle.hfs_rescue_items.specs.Sums as spec;
 
 use crate::found::Found;
 use hfs_catalog::{is_folder, item_id};
-use hfs_remains::FoundFork;
-use hfs_rescue::FoundRecord;
+use hfs_remains::FoundRecord;
+use hfs_remains_forks::FoundFork;
 use hfs_space::ForkKind;
 use std::alloc::{AllocError, Global};
 

@@ -1,7 +1,7 @@
 //! How far a table has been read.
 ghost use Rattle.std.specs.Prelude.{◌+◌, ◌^◌, ◌<◌, length};
 
-use hfs_rescue::FoundRecord;
+use hfs_remains::FoundRecord;
 
 /// How far a table has been read.
 #[derive(Clone, Copy, Drop)]

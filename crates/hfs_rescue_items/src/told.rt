@@ -1,12 +1,12 @@
 //! What an item's own record says about it.
 ghost use Rattle.std.specs.Prelude.{◌≡◌, ◌++◌, false};
-ghost use Rattle.hfs_queries.specs.Told.{file_info, folder_info};
+ghost use Rattle.hfs_items.specs.Told.{file_info, folder_info};
 ghost use Rattle.hfs_rescue_items.specs.Found.{info_of, told};
 
 use hfs_catalog::{CatalogItem, ItemRecord, item_of};
 use hfs_fields::{CatKey, DirRecord, FileRecord};
 use hfs_model::{Info, ItemKind};
-use hfs_rescue::FoundRecord;
+use hfs_remains::FoundRecord;
 
 /// The 32 Finder bytes of an item, which are in two places of its record.
 fn finder_bytes(info: &[u8; 16], extended: &[u8; 16]) -> [u8; 32]
@@ -19,7 +19,7 @@ fn finder_bytes(info: &[u8; 16], extended: &[u8; 16]) -> [u8; 32]
 }
 
 /// What is known of a folder.
-#[tactic(auto, unfolding(hfs_queries::specs::Told::folder_info))]
+#[tactic(auto, unfolding(hfs_items::specs::Told::folder_info))]
 fn folder_info(key: CatKey, folder: &DirRecord) -> Info
     ensures { result ≡ folder_info key folder.now }
 {
@@ -41,7 +41,7 @@ fn folder_info(key: CatKey, folder: &DirRecord) -> Info
 }
 
 /// What is known of a file, whose thread is not looked for.
-#[tactic(auto, unfolding(hfs_queries::specs::Told::file_info))]
+#[tactic(auto, unfolding(hfs_items::specs::Told::file_info))]
 fn file_info(key: CatKey, file: &FileRecord) -> Info
     ensures { result ≡ file_info false key file.now }
 {

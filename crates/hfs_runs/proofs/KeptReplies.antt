@@ -4,8 +4,8 @@ use mathlib.Core.List.{map-map}
 use Rattle.hfs_model.specs.declared.reply.Reply.{Reply}
 use Rattle.hfs_scripts.specs.declared.lines.Caller.{Caller}
 use Rattle.hfs_scripts.specs.declared.lines.Caller.TheVariants.{Worker, Viewer}
-use Rattle.hfs_published.specs.Histories.{Known}
-use Rattle.hfs_published.specs.Tolds.{ToldState}
+use Rattle.hfs_shared.specs.Histories.{Known}
+use Rattle.hfs_shared.specs.Tolds.{ToldState}
 use Rattle.hfs_shared.specs.declared.done.Done.{Done}
 use Rattle.hfs_runs.specs.declared.replies.Replies.{Replies}
 use Rattle.hfs_runs.specs.declared.viewing.Viewing.{Viewing}

@@ -3,9 +3,9 @@ use Rattle.std.proofs.Common.{◌≡◌, ℕ, zero, suc, ◌+◌, ◌<◌, ◌�
 use Rattle.std.proofs.lemmas.List.Elements.{All-weaker, All-more}
 use mathlib.Core.List.{IsPrefix}
 use Rattle.hfs_model.specs.declared.reply.Reply.{Reply}
-use Rattle.hfs_published.specs.declared.item.Item.{Item}
-use Rattle.hfs_published.specs.Tolds.{ToldState}
-use Rattle.hfs_published.proofs.Prefixes.{prefix_trans}
+use Rattle.hfs_shared.specs.declared.item.Item.{Item}
+use Rattle.hfs_shared.specs.Tolds.{ToldState}
+use Rattle.hfs_shared.proofs.Prefixes.{prefix_trans}
 use Rattle.hfs_shared.specs.declared.done.Done.{Done}
 use Rattle.hfs_runs.specs.Tellings.{AllBegin, OfEach}
 

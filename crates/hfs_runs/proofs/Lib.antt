@@ -11,3 +11,16 @@ mod KeptReplies
 mod PieceLemmas
 mod Reasons
 mod SendLemmas
+pub mod ForkPlaces
+pub mod FreeBlocks
+pub mod MoreRead
+pub mod SameNames
+pub mod ForksOfLines
+pub mod MadeFiles
+pub mod MadeForks
+pub mod KeptWorking
+pub mod RunOver
+pub mod Answered
+pub mod OnImage
+mod Digits
+mod RunNeeded

@@ -11,17 +11,17 @@ use Rattle.hfs_model.specs.declared.journal.Entry.{Entry}
 use Rattle.hfs_model.specs.Volume.{Volume}
 use Rattle.hfs_model.specs.Runs.{after}
 use Rattle.hfs_check.specs.VolumeOf.{volume_of}
-use Rattle.hfs_published.specs.declared.item.Item.{Item}
-use Rattle.hfs_published.specs.declared.item.Item.TheVariants.{Opening, Change}
-use Rattle.hfs_published.specs.Journals.{IsLegal, is_accepted, changes, published}
-use Rattle.hfs_published.proofs.LawTypes.{PublishedIsAfter}
-use Rattle.hfs_published.specs.Lists.{shown}
-use Rattle.hfs_published.specs.Tolds.{ToldState}
-use Rattle.hfs_published.proofs.Prefixes.{prefix_trans}
+use Rattle.hfs_shared.specs.declared.item.Item.{Item}
+use Rattle.hfs_shared.specs.declared.item.Item.TheVariants.{Opening, Change}
+use Rattle.hfs_shared.specs.Journals.{IsLegal, is_accepted, changes, published}
+use Rattle.hfs_shared.proofs.LawTypes.{PublishedIsAfter}
+use Rattle.hfs_shared.specs.Lists.{shown}
+use Rattle.hfs_shared.specs.Tolds.{ToldState}
+use Rattle.hfs_shared.proofs.Prefixes.{prefix_trans}
 use Rattle.hfs_shared.specs.Desks.{PassState, entry_of}
 use Rattle.hfs_shared.specs.Shareds.{IsReplyOf, IsSomeCall}
 use Rattle.hfs_runs.specs.Standing.{BeginsWith, Stands, is_change}
-use Rattle.hfs_published.proofs.Following.{changes_accepted, changes_other}
+use Rattle.hfs_shared.proofs.Following.{changes_accepted, changes_other}
 
 -- ---- changes of a journal
 

@@ -11,8 +11,8 @@ use Rattle.hfs_scripts.specs.declared.lines.Caller.TheVariants.{Viewer}
 use Rattle.hfs_scripts.specs.declared.lines.ScriptLine.{ScriptLine}
 use Rattle.hfs_scripts.specs.Callers.{calls_of, workers, viewers}
 use Rattle.hfs_scripts.specs.Scripts.{script_of}
-use Rattle.hfs_published.specs.Histories.{Known, known, opened}
-use Rattle.hfs_published.proofs.LawTypes.{PublishedIsAfter}
+use Rattle.hfs_shared.specs.Histories.{Known, known, opened}
+use Rattle.hfs_shared.proofs.LawTypes.{PublishedIsAfter}
 use Rattle.hfs_shared.specs.Closings.{HasNoOthers, IsWhether}
 use Rattle.hfs_shared.specs.declared.done.Done.{Done}
 use Rattle.hfs_shared.specs.Desks.{PassState}

@@ -2,8 +2,8 @@
 use Rattle.std.proofs.Common.{◌≡◌, ◌∙◌, ◌<◌, ◌++◌, List, [], ◌∷◌, length, get_or, refl, sym, ap, subst, arith}
 use Rattle.hfs_model.specs.declared.call.Call.{Call}
 use Rattle.hfs_model.specs.declared.reply.Reply.{Reply}
-use Rattle.hfs_published.specs.Histories.{Known}
-use Rattle.hfs_published.specs.Lists.{Reads}
+use Rattle.hfs_shared.specs.Histories.{Known}
+use Rattle.hfs_shared.specs.Lists.{Reads}
 use Rattle.hfs_runs.specs.Views.{AreReads}
 
 -- the reply to the next call goes behind those so far

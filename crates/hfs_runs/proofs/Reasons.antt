@@ -9,9 +9,9 @@ use Rattle.hfs_check.specs.Sound.{IsSound}
 use Rattle.hfs_scripts.specs.declared.fault.ScriptFault.{ScriptFault as ReadFault}
 use Rattle.hfs_scripts.specs.declared.fault.ScriptFault.TheVariants as read
 use Rattle.hfs_scripts.specs.Scripts.{script_of, IsFaultOf as IsReadFault}
-use Rattle.hfs_runs.specs.declared.fault.ScriptFault.{ScriptFault}
-use Rattle.hfs_runs.specs.declared.fault.ScriptFault.TheVariants as run
-use Rattle.hfs_runs.specs.Faults.{fault_of_script}
+use Rattle.hfs_runs.specs.declared.script_fault.ScriptFault.{ScriptFault}
+use Rattle.hfs_runs.specs.declared.script_fault.ScriptFault.TheVariants as run
+use Rattle.hfs_runs.specs.ScriptFaults.{fault_of_script}
 use Rattle.hfs_runs.specs.Runs.{IsScript, IsMountFault, IsRunFault}
 
 -- ---- of mounting

@@ -12,11 +12,11 @@ use Rattle.hfs_check.specs.VolumeOf.{volume_of}
 use Rattle.hfs_scripts.specs.declared.lines.Caller.TheVariants.{Worker, Viewer}
 use Rattle.hfs_scripts.specs.declared.lines.ScriptLine.{ScriptLine}
 use Rattle.hfs_scripts.specs.Callers.{calls_of, workers}
-use Rattle.hfs_published.specs.Histories.{Known, known, opened}
-use Rattle.hfs_published.specs.declared.item.Item.{Item}
-use Rattle.hfs_published.specs.Journals.{made_by, IsLegal, published}
-use Rattle.hfs_published.proofs.LawTypes.{PublishedIsAfter}
-use Rattle.hfs_published.specs.Tolds.{ToldState}
+use Rattle.hfs_shared.specs.Histories.{Known, known, opened}
+use Rattle.hfs_shared.specs.declared.item.Item.{Item}
+use Rattle.hfs_shared.specs.Journals.{made_by, IsLegal, published}
+use Rattle.hfs_shared.proofs.LawTypes.{PublishedIsAfter}
+use Rattle.hfs_shared.specs.Tolds.{ToldState}
 use Rattle.hfs_shared.specs.declared.done.Done.{Done}
 use Rattle.hfs_shared.specs.Closings.{AreAllPasses}
 use Rattle.hfs_shared.specs.Desks.{PassState, pass_state}

@@ -9,7 +9,7 @@ use Rattle.hfs_scripts.specs.declared.lines.Caller.{Caller}
 use Rattle.hfs_scripts.specs.declared.lines.Caller.TheVariants.{Worker, Viewer}
 use Rattle.hfs_scripts.specs.Texts.{caller_text}
 use Rattle.hfs_texts.specs.Answers.{reply_text}
-use Rattle.hfs_published.specs.Tolds.{ToldState}
+use Rattle.hfs_shared.specs.Tolds.{ToldState}
 use Rattle.hfs_shared.specs.declared.done.Done.{Done}
 use Rattle.hfs_runs.specs.declared.replies.Replies.{Replies}
 use Rattle.hfs_runs.specs.declared.viewing.Viewing.{Viewing}

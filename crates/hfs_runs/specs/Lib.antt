@@ -1,4 +1,4 @@
-pub mod Faults
+pub mod ScriptFaults
 pub mod Asking
 pub mod Views
 pub mod Tellings
@@ -7,3 +7,9 @@ pub mod Answers
 pub mod Pieces
 pub mod Runs
 pub mod Jobs
+pub mod Naming
+pub mod NamedForks
+pub mod NeededRuns
+pub mod OnImage
+pub mod RunFaults
+pub mod Running

@@ -17,16 +17,16 @@ use Rattle.hfs_scripts.specs.declared.lines.Caller.TheVariants.{Worker, Viewer}
 use Rattle.hfs_scripts.specs.declared.lines.ScriptLine.{ScriptLine}
 use Rattle.hfs_scripts.specs.Callers.{calls_of, workers, viewers}
 use Rattle.hfs_scripts.specs.Scripts.{script_of}
-use Rattle.hfs_published.specs.Histories.{Known, known, opened}
-use Rattle.hfs_published.specs.Journals.{IsLegal, made_by}
-use Rattle.hfs_published.specs.Tolds.{ToldState}
+use Rattle.hfs_shared.specs.Histories.{Known, known, opened}
+use Rattle.hfs_shared.specs.Journals.{IsLegal, made_by}
+use Rattle.hfs_shared.specs.Tolds.{ToldState}
 use Rattle.hfs_shared.specs.Closings.{HasNoOthers, IsClosed}
 use Rattle.hfs_shared.specs.declared.done.Done.{Done}
 use Rattle.hfs_shared.specs.Desks.{PassState, pass_state}
 use Rattle.hfs_shared.specs.Stages.{HaveMadeOf, stage_of}
 use Rattle.hfs_shared.specs.Works.{IsWork}
-use Rattle.hfs_runs.specs.declared.fault.ScriptFault.{ScriptFault}
-use Rattle.hfs_runs.specs.declared.fault.ScriptFault.TheVariants as run
+use Rattle.hfs_runs.specs.declared.script_fault.ScriptFault.{ScriptFault}
+use Rattle.hfs_runs.specs.declared.script_fault.ScriptFault.TheVariants as run
 use Rattle.hfs_runs.specs.declared.numbering.Asked.{Asked}
 use Rattle.hfs_runs.specs.declared.running.Made.{Made}
 use Rattle.hfs_runs.specs.declared.running.Ran.{Ran}

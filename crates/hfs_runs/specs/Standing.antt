@@ -7,7 +7,7 @@ use Rattle.hfs_model.specs.declared.journal.Entry.{Entry}
 use Rattle.hfs_model.specs.Step.{is_reading}
 use Rattle.hfs_model.specs.Runs.{after}
 use Rattle.hfs_check.specs.VolumeOf.{volume_of}
-use Rattle.hfs_published.specs.Journals.{is_accepted}
+use Rattle.hfs_shared.specs.Journals.{is_accepted}
 use Rattle.hfs_shared.specs.Shareds.{IsReplyOf}
 
 -- whether the reply says that the call changed the volume

@@ -3,8 +3,8 @@ use Rattle.std.specs.Prelude.{◌≡◌, List, All}
 use mathlib.Core.List.{IsPrefix}
 use Rattle.logbook.specs.Pages.{Book}
 use Rattle.hfs_model.specs.declared.reply.Reply.{Reply}
-use Rattle.hfs_published.specs.declared.item.Item.{Item}
-use Rattle.hfs_published.specs.Tolds.{ToldState}
+use Rattle.hfs_shared.specs.declared.item.Item.{Item}
+use Rattle.hfs_shared.specs.Tolds.{ToldState}
 use Rattle.hfs_shared.specs.declared.done.Done.{Done}
 
 -- each told list is of this history

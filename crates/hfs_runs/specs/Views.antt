@@ -2,8 +2,8 @@
 use Rattle.std.specs.Prelude.{◌≡◌, ℕ, ◌<◌, List, [], ◌∷◌, ◌++◌, length, get_or}
 use Rattle.hfs_model.specs.declared.call.Call.{Call}
 use Rattle.hfs_model.specs.declared.reply.Reply.{Reply}
-use Rattle.hfs_published.specs.Histories.{Known}
-use Rattle.hfs_published.specs.Lists.{Reads}
+use Rattle.hfs_shared.specs.Histories.{Known}
+use Rattle.hfs_shared.specs.Lists.{Reads}
 use Rattle.hfs_runs.specs.declared.viewing.Viewing.{Viewing}
 
 -- the replies to the first calls, each on a list that begins with the one before it

@@ -5,8 +5,8 @@ ghost use Rattle.hfs_runs.specs.Answers.{kept_replies, replies_of};
 ghost use Rattle.hfs_runs.specs.Runs.{IsHandedOut};
 ghost use Rattle.hfs_runs.specs.Tellings.{AreOf, OfEach};
 
-use crate::fault::ScriptFault;
 use crate::replies::Replies;
+use crate::script_fault::ScriptFault;
 use crate::telling::learn_all;
 use crate::viewing::Viewing;
 use hfs_model::Reply;

@@ -5,7 +5,7 @@ ghost use Rattle.hfs_texts.specs.Lines.{hex_text};
 ghost use Rattle.hfs_runs.specs.Answers.{answer_text, answers_text, is_whole, kept_replies, reply_to};
 ghost use Rattle.hfs_runs.specs.Pieces.{HasPieceMore, digits_head, pieces_text, text_of_pieces, value_bytes};
 
-use crate::answers::{ShownCaller, push_answer_text};
+use crate::answer_text::{ShownCaller, push_answer_text};
 use crate::numbering::Asked;
 use crate::replies::Replies;
 use hfs_model::{Reply, Value};

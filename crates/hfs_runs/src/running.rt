@@ -8,13 +8,13 @@ ghost use Rattle.hfs_runs.specs.Asking.{IsSmall};
 ghost use Rattle.hfs_runs.specs.Runs.{IsRunFault, IsScriptRunAs, IsStartFault, AreLinesMade, AreLinesRunAs, AreLinesRunInPieces};
 ghost use Rattle.hfs_runs.specs.Views.{AreViewed};
 
-use crate::answers::answers_text;
+use crate::answer_text::answers_text;
 use crate::closing::close;
-use crate::fault::ScriptFault;
 use crate::jobs::{jobs_of, viewings_of};
 use crate::numbering::{Asked, number_lines};
 use crate::pieces::{Answers, answers_in_pieces};
 use crate::replies::Replies;
+use crate::script_fault::ScriptFault;
 use crate::starting::{mounted, start};
 use crate::telling::are_all_whole;
 use crate::viewing::{Viewing, view_all};

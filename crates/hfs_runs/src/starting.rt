@@ -7,7 +7,7 @@ ghost use Rattle.hfs_runs.specs.Asking.{IsSmall};
 ghost use Rattle.hfs_runs.specs.Jobs.{is_viewer, has_viewer};
 ghost use Rattle.hfs_runs.specs.Runs.{IsMountFault, IsStartFault};
 
-use crate::fault::ScriptFault;
+use crate::script_fault::ScriptFault;
 use hfs_scripts::{Caller, Script, ScriptLine};
 use hfs_shared::{Parts, Pass, Viewer, Why};
 use hfs_volume::{Volume, mount};

@@ -1,8 +1,8 @@
 -- The parts of a volume of which no call was made yet.
 use Rattle.std.proofs.Common.{◌≡◌, ℕ, List, [], ap, sym, ◌∙◌}
 use Rattle.hfs_check.specs.VolumeOf.{volume_of}
-use Rattle.hfs_published.specs.Histories.{opened}
-use Rattle.hfs_published.specs.Pairs.{PairState, IsOpened}
+use Rattle.hfs_shared.specs.Histories.{opened}
+use Rattle.hfs_shared.specs.Pairs.{PairState, IsOpened}
 use Rattle.hfs_shared.specs.Desks.{DeskState, desk_state, IsHeadline}
 use Rattle.hfs_shared.specs.Shareds.{IsUnused}
 

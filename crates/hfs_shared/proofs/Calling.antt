@@ -7,9 +7,9 @@ use Rattle.hfs_model.specs.declared.journal.Entry.{Entry}
 use Rattle.hfs_model.specs.Volume.{Volume}
 use Rattle.hfs_model.specs.Runs.{after}
 use Rattle.hfs_check.specs.VolumeOf.{volume_of}
-use Rattle.hfs_published.specs.Histories.{known}
-use Rattle.hfs_published.specs.Journals.{IsLegal, published}
-use Rattle.hfs_published.specs.Tolds.{ToldState, told}
+use Rattle.hfs_shared.specs.Histories.{known}
+use Rattle.hfs_shared.specs.Journals.{IsLegal, published}
+use Rattle.hfs_shared.specs.Tolds.{ToldState, told}
 use Rattle.hfs_shared.specs.Desks.{DeskState, PassState, IsApplied, IsHeadline}
 use Rattle.hfs_shared.specs.declared.desk.CallFault.{CallFault}
 use Rattle.hfs_shared.specs.declared.desk.CallFault.TheVariants.{Stamp, Memory}

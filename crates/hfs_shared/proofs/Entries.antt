@@ -20,7 +20,7 @@ use Rattle.hfs_check.specs.Sound.{IsSound}
 use Rattle.hfs_check.specs.VolumeOf.{volume_of}
 use Rattle.hfs_volume.specs.Serving.{free_in, depth_in, within_nodes, IsForkOutcome, IsOutcomeIn}
 use Rattle.hfs_volume.proofs.WantsTold.{set_eof_wants, write_fork_wants}
-use Rattle.hfs_published.specs.Journals.{IsForkWantOf, IsWantOf, IsAnswered}
+use Rattle.hfs_shared.specs.Journals.{IsForkWantOf, IsWantOf, IsAnswered}
 use Rattle.hfs_shared.specs.Desks.{PassState, entry_of, want_of, want_in}
 
 int_is : (x y : ℤ) → int_eq x y ≡ true → x ≡ y

@@ -16,7 +16,7 @@ use Rattle.hfs_check.specs.VolumeOf.{volume_of}
 use Rattle.hfs_volume.specs.Image.{ImageValue}
 use Rattle.hfs_volume.specs.Serving.{IsOutcomeIn}
 use Rattle.hfs_volume.specs.Steps.{HasWrittenBlocks}
-use Rattle.hfs_published.specs.Journals.{made_by, IsAnswered, IsLegalAt, IsLegal}
+use Rattle.hfs_shared.specs.Journals.{made_by, IsAnswered, IsLegalAt, IsLegal}
 use Rattle.hfs_shared.specs.Desks.{IsHeadline, IsCounted, PassState, entry_of, wanted}
 use Rattle.hfs_shared.specs.Stages.{stage, stage_of, HasMade}
 use Rattle.hfs_shared.proofs.Entries.{tells}

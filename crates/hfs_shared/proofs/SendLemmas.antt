@@ -9,15 +9,15 @@ use denote.Param.Send.{IsSend, IsSync, recorded_send, sendable, struct_send, vie
 use denote.RattleType.{RattleType}
 use denote.Struct.Declared
 use Rattle.std.proofs.Crossing.{crosses}
-use Rattle.hfs_changed_blocks.proofs.changed.ChangedBlocks.TheSendSync as changed_law
-use Rattle.hfs_changed_blocks.specs.contracts.changed.ChangedBlocks as changed
-use Rattle.hfs_changed_blocks.specs.contracts.log.WrittenLog as log
+use Rattle.hfs_space.proofs.changed.ChangedBlocks.TheSendSync as changed_law
+use Rattle.hfs_space.specs.contracts.changed.ChangedBlocks as changed
+use Rattle.hfs_space.specs.contracts.log.WrittenLog as log
 use Rattle.hfs_model.proofs.call.Call.TheSendSync as call_law
 use Rattle.hfs_model.specs.contracts.call.Call as call
 use Rattle.hfs_shared.specs.contracts.pass.Pass as pass
 use Rattle.hfs_model.proofs.journal.Entry.TheSendSync as entry_law
 use Rattle.hfs_model.specs.contracts.journal.Entry as entry
-use Rattle.hfs_published.proofs.pair.Pair.TheSendSync as pair_law
+use Rattle.hfs_shared.proofs.pair.Pair.TheSendSync as pair_law
 use Rattle.hfs_shared.specs.contracts.desk.Desk as desk
 use Rattle.hfs_shared.specs.contracts.desk.Desk.TheInside as desk_inside
 use Rattle.hfs_shared.specs.contracts.locked.Locked as locked

@@ -5,20 +5,20 @@ use Rattle.std.proofs.lemmas.List.{append-nil, drop-drop}
 use Rattle.std.proofs.lemmas.List.Elements.{All-take, All-drop}
 use Rattle.hfs_model.specs.declared.journal.Entry.{Entry}
 use Rattle.hfs_model.specs.Volume.{Volume}
-use Rattle.hfs_published.specs.declared.item.Item.{Item}
-use Rattle.hfs_published.specs.Journals.{is_accepted, changes, published, NoneAccepted}
-use Rattle.hfs_published.proofs.LawTypes.{PublishedGrows, PublishedStays}
-use Rattle.hfs_published.specs.Pairs.{PairState, pair}
+use Rattle.hfs_shared.specs.declared.item.Item.{Item}
+use Rattle.hfs_shared.specs.Journals.{is_accepted, changes, published, NoneAccepted}
+use Rattle.hfs_shared.proofs.LawTypes.{PublishedGrows, PublishedStays}
+use Rattle.hfs_shared.specs.Pairs.{PairState, pair}
 use Rattle.hfs_model.specs.declared.call.Call.{Call}
 use Rattle.hfs_model.specs.declared.reply.Reply.{Reply}
 use Rattle.hfs_shared.specs.declared.desk.CallFault.{CallFault}
-use Rattle.hfs_published.specs.Histories.{known}
-use Rattle.hfs_published.specs.Tolds.{told}
+use Rattle.hfs_shared.specs.Histories.{known}
+use Rattle.hfs_shared.specs.Tolds.{told}
 use Rattle.logbook.specs.Pages.{Book}
 use Rattle.hfs_check.specs.VolumeOf.{volume_of}
 use Rattle.hfs_shared.specs.Desks.{DeskState, PassState, entry_of, IsApplied, IsHeadline}
 use Rattle.hfs_shared.specs.Lockeds.{locked_state, IsLocked, IsUnderLock, GathersOf, ShowsOf}
-use Rattle.hfs_published.proofs.Following.{changes_of}
+use Rattle.hfs_shared.proofs.Following.{changes_of}
 
 -- what the type says of what lies under the lock
 pub under_lock : (book : Book) (base : List ℕ) (d : DeskState) (p : PairState) (added shown : ℕ) → IsLocked book base d p added shown → IsUnderLock base (locked_state d shown)

@@ -6,8 +6,8 @@ use Rattle.hfs_model.specs.Runs.{after}
 use Rattle.hfs_check.specs.Agree.{AgreesBut}
 use Rattle.hfs_check.specs.VolumeOf.{volume_of}
 use Rattle.hfs_volume.specs.Image.{ImageValue}
-use Rattle.hfs_published.specs.Histories.{Known}
-use Rattle.hfs_published.specs.Journals.{IsLegal, made_by, published}
+use Rattle.hfs_shared.specs.Histories.{Known}
+use Rattle.hfs_shared.specs.Journals.{IsLegal, made_by, published}
 use Rattle.hfs_shared.specs.declared.closed.Closed.{Closed}
 use Rattle.hfs_shared.specs.Desks.{PassState, pass_state}
 use Rattle.hfs_shared.specs.Lockeds.{LockedState}

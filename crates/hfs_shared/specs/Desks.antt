@@ -14,7 +14,7 @@ use Rattle.hfs_model.specs.Runs.{after}
 use Rattle.hfs_check.specs.Agree.{AgreesBut}
 use Rattle.hfs_check.specs.VolumeOf.{volume_of}
 use Rattle.hfs_volume.specs.Serving.{IsOutcomeIn}
-use Rattle.hfs_published.specs.Journals.{IsLegal, made_by}
+use Rattle.hfs_shared.specs.Journals.{IsLegal, made_by}
 use Rattle.hfs_shared.specs.Stages.{stage, HasMade, HaveMadeOf}
 
 -- the image as it was mounted, the image as it is, the blocks of forks that were written since, the journal, and how many workers there

@@ -1,3 +1,11 @@
+pub mod Histories
+pub mod Lists
+pub mod Journals
+pub mod Pairs
+pub mod Tolds
+pub mod Answers
+pub mod Writers
+pub mod Kinds
 pub mod Stages
 pub mod Desks
 pub mod Faults

@@ -4,8 +4,8 @@ use Rattle.logbook.specs.Pages.{Book}
 use Rattle.hfs_model.specs.declared.journal.Entry.{Entry}
 use Rattle.hfs_model.specs.Volume.{Volume}
 use Rattle.hfs_check.specs.VolumeOf.{volume_of}
-use Rattle.hfs_published.specs.Journals.{published, NoneAccepted}
-use Rattle.hfs_published.specs.Pairs.{PairState}
+use Rattle.hfs_shared.specs.Journals.{published, NoneAccepted}
+use Rattle.hfs_shared.specs.Pairs.{PairState}
 use Rattle.hfs_shared.specs.Desks.{DeskState, desk_state, IsHeadline}
 
 -- a desk, and how many entries of its journal the published list covers

@@ -9,10 +9,10 @@ use Rattle.hfs_model.specs.Runs.{after}
 use Rattle.hfs_check.specs.VolumeOf.{volume_of}
 use Rattle.hfs_volume.specs.Image.{ImageValue}
 use Rattle.hfs_volume.specs.Serving.{IsOutcomeIn}
-use Rattle.hfs_published.specs.Histories.{Known, known, opened}
-use Rattle.hfs_published.specs.Journals.{IsLegal, published}
-use Rattle.hfs_published.specs.Pairs.{PairState}
-use Rattle.hfs_published.specs.Tolds.{ToldState, told}
+use Rattle.hfs_shared.specs.Histories.{Known, known, opened}
+use Rattle.hfs_shared.specs.Journals.{IsLegal, published}
+use Rattle.hfs_shared.specs.Pairs.{PairState}
+use Rattle.hfs_shared.specs.Tolds.{ToldState, told}
 use Rattle.hfs_shared.specs.Desks.{DeskState, PassState, pass_state, entry_of, IsHeadline}
 
 -- ---- before the volume is shared

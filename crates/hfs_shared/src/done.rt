@@ -1,8 +1,8 @@
 //! What a worker has done.
+use crate::Told;
 use crate::desk::CallFault;
 use crate::pass::Pass;
 use hfs_model::{Call, Reply};
-use hfs_published::Told;
 
 /// A job that was run: its pass as it is now, and the reply to each call that was made, with the list that was published then.
 /// Without a fault, all its calls were made.

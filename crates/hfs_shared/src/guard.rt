@@ -6,12 +6,12 @@ ghost use Rattle.hfs_shared.specs.Faults.{IsCallFault};
 ghost use Rattle.hfs_shared.specs.Lockeds.{LockedState, desk_of, IsUnderLock, KeepsUp, CoversAllOrSame};
 ghost use Rattle.hfs_shared.specs.Shareds.{IsToldOf};
 
+use crate::Told;
 use crate::desk::CallFault;
 use crate::locked::Locked;
 use crate::pass::Pass;
 use crate::session::Session;
 use hfs_model::{Call, Reply};
-use hfs_published::Told;
 use std::alloc::Global;
 use std::marker::Model;
 use std::sync::{MutexGuard, Wait};

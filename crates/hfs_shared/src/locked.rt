@@ -1,7 +1,7 @@
 //! What lies under the lock: the volume with its journal, and the published list of its changes.
 ghost use Rattle.std.specs.Prelude.{◌≡◌, ◌⊎◌, ◌≤◌, [], length, drop, ◌-◌, IfOk, OnErr, IfErr};
 ghost use Rattle.hfs_check.specs.VolumeOf.{volume_of};
-ghost use Rattle.hfs_published.specs.Journals.{published, NoneAccepted};
+ghost use Rattle.hfs_shared.specs.Journals.{published, NoneAccepted};
 ghost use Rattle.hfs_shared.specs.Desks.{IsApplied, IsHeadline};
 ghost use Rattle.hfs_shared.specs.Faults.{IsCallFault};
 ghost use Rattle.hfs_shared.specs.Lockeds.{LockedState, locked_state, desk_of, IsUnderLock, KeepsUp, ShowsOf, GathersOf, CoversAllOrSame};
@@ -10,8 +10,8 @@ ghost use Rattle.hfs_shared.specs.Shareds.{told_of};
 use crate::desk::{CallFault, Desk};
 use crate::pass::Pass;
 use crate::session::Session;
+use crate::{Pair, Told};
 use hfs_model::{Call, Entry, Reply};
-use hfs_published::{Pair, Told};
 use std::alloc::Global;
 use std::marker::{Model, PhantomData};
 use std::sync::Wait;

@@ -8,7 +8,7 @@ use crate::locked::Locked;
 use crate::pass::Pass;
 use crate::session::Session;
 use crate::shared::Shared;
-use hfs_published::{Pair, PairFault, Viewer};
+use crate::{Pair, PairFault, Viewer};
 use hfs_volume::Volume;
 use std::alloc::Global;
 use std::marker::Model;

@@ -10,8 +10,8 @@ use crate::guard::Guard;
 use crate::locked::Locked;
 use crate::pass::Pass;
 use crate::session::Session;
+use crate::{Told, Viewer};
 use hfs_model::{Call, Reply};
-use hfs_published::{Told, Viewer};
 use std::alloc::Global;
 use std::sync::{Mutex, Wait};
 

@@ -4,13 +4,13 @@ ghost use Rattle.hfs_shared.specs.Faults.{IsFaultUnder};
 ghost use Rattle.hfs_shared.specs.Shareds.{IsSomeCall};
 ghost use Rattle.hfs_shared.specs.Works.{IsMoreWork, IsDone, HaveTheirPasses, AreDone, AreDoneFrom};
 
+use crate::Told;
 use crate::desk::CallFault;
 use crate::done::{Done, RunFault};
 use crate::pass::Pass;
 use crate::session::Session;
 use crate::shared::Shared;
 use hfs_model::{Call, Reply};
-use hfs_published::Told;
 use std::alloc::Global;
 use std::sync::Wait;
 use std::thread;

@@ -1,2 +1,18 @@
 pub mod Walks
 pub mod Ranges
+pub mod DataLemmas
+pub mod Fetched
+pub mod Seen
+pub mod Copied
+pub mod SparseLemmas
+pub mod BlockBytes
+pub mod PuttingIn
+pub mod ReadingIn
+pub mod Written
+pub mod Fillings
+pub mod Shorter
+mod Entries
+mod Counting
+mod SumLemmas
+mod RawLemmas
+mod Handed

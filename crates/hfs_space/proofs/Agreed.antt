@@ -7,8 +7,8 @@ use Rattle.hfs_fields.specs.declared.mdb.Mdb.{Mdb}
 use Rattle.hfs_fields.specs.declared.extent.Extent.{Extent}
 use Rattle.hfs_fields.specs.declared.key.CatKey.{CatKey}
 use Rattle.hfs_btree.specs.Pairs.{Pairs}
-use Rattle.hfs_scans.proofs.TwoFaultLemmas.{neither, both_none}
-use Rattle.hfs_scans.proofs.ScanLemmas.{check}
+use Rattle.hfs_fields.proofs.TwoFaultLemmas.{neither, both_none}
+use Rattle.hfs_fields.proofs.ScanLemmas.{check}
 use Rattle.hfs_space.specs.Extents.{Overflow}
 use Rattle.hfs_space.specs.Owners.{all_forks}
 use Rattle.hfs_space.specs.Sound.{IsTreeFile, AreForksSound}

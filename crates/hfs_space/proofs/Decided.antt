@@ -9,9 +9,9 @@ use Rattle.hfs_fields.specs.declared.mdb.Mdb.{Mdb}
 use Rattle.hfs_fields.specs.declared.extent.Extent.{Extent}
 use Rattle.hfs_fields.specs.declared.key.CatKey.{CatKey}
 use Rattle.hfs_fields.specs.declared.key.ExtKey.{ExtKey}
-use Rattle.hfs_scans.specs.Each.{Each}
-use Rattle.hfs_scans.proofs.ElementLemmas.{each-at}
-use Rattle.hfs_scans.proofs.ScanLemmas.{all_decides}
+use Rattle.hfs_fields.specs.Each.{Each}
+use Rattle.hfs_fields.proofs.ElementLemmas.{each-at}
+use Rattle.hfs_fields.proofs.ScanLemmas.{all_decides}
 use Rattle.hfs_space.specs.Extents.{Overflow, block_total, record_extents, IsExtentWithin, AreExtentsWithin}
 use Rattle.hfs_space.specs.Owners.{Fork, forks_of, extents_in, is_bad_blocks, goes_on_with}
 use Rattle.hfs_space.specs.Sound.{IsTreeFile, IsForkSound, IsOverflowSound}

@@ -9,7 +9,7 @@ use Rattle.hfs_fields.specs.declared.mdb.Mdb.{Mdb}
 use Rattle.hfs_fields.specs.declared.key.CatKey.{CatKey}
 use Rattle.hfs_fields.specs.Records.{is_file, file_record_of}
 use Rattle.hfs_btree.specs.Pairs.{Pairs}
-use Rattle.hfs_scans.specs.First.{first_failing}
+use Rattle.hfs_fields.specs.First.{first_failing}
 use Rattle.hfs_space.specs.declared.files.CatalogFile.{CatalogFile}
 use Rattle.hfs_space.specs.Extents.{Overflow, block_total, record_extents}
 use Rattle.hfs_space.specs.Owners.{Fork, forks_of_file, forks_of, all_forks, catalog_fork, is_bad_blocks, goes_on_with}

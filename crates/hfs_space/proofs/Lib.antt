@@ -30,3 +30,31 @@ pub mod TreeFileLemmas
 pub mod OwnerLemmas
 pub mod LawsProved
 pub mod LawTypes
+mod SetBits
+mod Claims
+mod LowestRuns
+mod Owned
+mod Counted
+mod ClaimedMore
+mod Running
+mod Firsts
+mod RowLemmas
+mod Chosen
+mod ByteLemmas
+pub mod PartLemmas
+mod PartSteps
+mod Puts
+mod JoinedLemmas
+mod NumberLemmas
+pub mod ForkLemmas
+mod ZeroLemmas
+mod ZeroSteps
+pub mod CoverLemmas
+mod FromLemmas
+pub mod WholeLemmas
+mod BlockSteps
+pub mod Walks
+pub mod Runs
+pub mod AllBlocks
+pub mod Joined
+pub mod Laid

@@ -9,7 +9,7 @@ use Rattle.std.proofs.lemmas.Cmp.{ranked, by_ranked, tied_itself, alike_right, n
 use Rattle.hfs_fields.specs.declared.extent.Extent.{Extent}
 use Rattle.hfs_fields.specs.declared.key.ExtKey.{ExtKey}
 use Rattle.hfs_fields.specs.Keys.{ext_cmp, ext_cmp_total}
-use Rattle.hfs_scans.specs.Each.{Each}
+use Rattle.hfs_fields.specs.Each.{Each}
 use Rattle.hfs_btree.specs.Pairs.{Rises, lookup}
 use Rattle.hfs_space.specs.Extents.{Overflow, block_total, record_extents, goes_on, run_on, extents_from}
 use Rattle.hfs_fields.proofs.OrderLemmas.{eq_is}

@@ -8,17 +8,17 @@ use Rattle.std.proofs.lemmas.Bool.Decides.{Decides-and, Decides-or, Decides-eqb}
 use Rattle.std.proofs.lemmas.List.Sums.{sum_by-cons}
 use Rattle.std.proofs.lemmas.List.FromFn.{length-range_with_len, get_or-range_with_len}
 use Rattle.hfs_fields.specs.declared.mdb.Mdb.{Mdb}
-use Rattle.hfs_scans.specs.Each.{Each}
-use Rattle.hfs_scans.proofs.ElementLemmas.{each-at}
+use Rattle.hfs_fields.specs.Each.{Each}
+use Rattle.hfs_fields.proofs.ElementLemmas.{each-at}
 use Rattle.hfs_btree.specs.Sound.{IsOther, IsDistinct}
-use Rattle.hfs_scans.proofs.ScanLemmas.{check}
+use Rattle.hfs_fields.proofs.ScanLemmas.{check}
 use Rattle.hfs_space.specs.Bitmap.{is_used, clear_count}
 use Rattle.hfs_space.specs.Owners.{owners, is_block_sound}
 use Rattle.hfs_space.specs.Sound.{IsSpaceSound}
 use Rattle.hfs_space.specs.Faults.{block_fault, free_fault, space_fault}
 use Rattle.hfs_space.proofs.LawTypes.{AreBlocksWithin}
 use Rattle.hfs_fields.proofs.DecisionLemmas.{itself}
-use Rattle.hfs_scans.proofs.TwoFaultLemmas.{neither, both_none}
+use Rattle.hfs_fields.proofs.TwoFaultLemmas.{neither, both_none}
 
 -- ---- blocks from one number on
 

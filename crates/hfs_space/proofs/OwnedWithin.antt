@@ -6,15 +6,15 @@ use Rattle.hfs_fields.specs.declared.extent.Extent.{Extent}
 use Rattle.hfs_fields.specs.declared.key.CatKey.{CatKey}
 use Rattle.hfs_fields.specs.declared.key.ExtKey.{ExtKey}
 use Rattle.hfs_btree.specs.Pairs.{Pairs}
-use Rattle.hfs_scans.specs.Each.{Each}
-use Rattle.hfs_scans.proofs.ElementLemmas.{each-append, each-mono}
+use Rattle.hfs_fields.specs.Each.{Each}
+use Rattle.hfs_fields.proofs.ElementLemmas.{each-append, each-mono}
 use Rattle.hfs_space.specs.Extents.{Overflow, record_extents, extent_blocks, IsExtentWithin}
 use Rattle.hfs_space.specs.Owners.{Fork, forks_of, all_forks, catalog_fork, extents_in, is_bad_blocks, bad_extents, owned_extents, owned_blocks}
 use Rattle.hfs_space.specs.Sound.{IsTreeFile, IsForkSound, IsOverflowSound, AreForksSound}
 use Rattle.hfs_space.proofs.LawTypes.{AreBlocksWithin}
 use Rattle.hfs_space.proofs.Decided.{each_from_all}
 use Rattle.hfs_space.proofs.OwnedOnce.{each-range}
-use Rattle.hfs_scans.proofs.PartLemmas.{flat-each}
+use Rattle.hfs_fields.proofs.PartLemmas.{flat-each}
 
 -- the blocks of extents in the volume are the volume's
 blocks_within : (n : ℕ) (extents : List Extent) → Each (IsExtentWithin n) extents → Each (λ b. b < n) (extent_blocks extents)

@@ -6,7 +6,7 @@ use Rattle.std.proofs.lemmas.Bool.{eq-eqb, eqb-true}
 use Rattle.std.proofs.lemmas.List.{length-append}
 use Rattle.std.proofs.lemmas.List.FromFn.{get_or-map-range_with_len}
 use Rattle.hfs_fields.specs.declared.mdb.Mdb.{Mdb}
-use Rattle.hfs_scans.specs.First.{first_failing}
+use Rattle.hfs_fields.specs.First.{first_failing}
 use Rattle.hfs_space.specs.Bitmap.{is_used, count_below, clear_count}
 use Rattle.hfs_space.proofs.CountingLemmas.{count_below-suc}
 use Rattle.hfs_space.specs.Owners.{owners, is_block_sound, is_stray_block}

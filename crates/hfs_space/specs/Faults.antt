@@ -7,7 +7,7 @@ use Rattle.hfs_fields.specs.declared.extent.Extent.{Extent}
 use Rattle.hfs_fields.specs.declared.key.CatKey.{CatKey}
 use Rattle.hfs_fields.specs.declared.key.ExtKey.{ExtKey}
 use Rattle.hfs_btree.specs.Pairs.{Pairs}
-use Rattle.hfs_scans.specs.First.{first_failing}
+use Rattle.hfs_fields.specs.First.{first_failing}
 use Rattle.hfs_space.specs.Extents.{Overflow, block_total, record_extents, extent_blocks}
 use Rattle.hfs_space.specs.Owners.{Fork, forks_of, all_forks, extents_in, is_bad_blocks, goes_on_with, is_block_sound, is_stray_block}
 use Rattle.hfs_space.specs.Bitmap.{count_below, clear_count}

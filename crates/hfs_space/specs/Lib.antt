@@ -12,3 +12,17 @@ pub mod ForkLengths
 pub mod Runs
 pub mod Places
 pub mod Results
+pub mod Claimed
+pub mod FreeRuns
+pub mod Pieces
+pub mod Choice
+pub mod Parts
+pub mod Written
+pub mod WrittenForks
+pub mod Zeros
+pub mod Clearing
+pub mod Flags
+pub mod Again
+pub mod Laying
+pub mod Changed
+pub mod Logs

@@ -5,7 +5,7 @@ use Rattle.hfs_fields.specs.declared.extent.Extent.{Extent}
 use Rattle.hfs_fields.specs.declared.key.CatKey.{CatKey}
 use Rattle.hfs_fields.specs.declared.key.ExtKey.{ExtKey}
 use Rattle.hfs_btree.specs.Pairs.{Pairs}
-use Rattle.hfs_scans.specs.Each.{Each}
+use Rattle.hfs_fields.specs.Each.{Each}
 use Rattle.hfs_btree.specs.Sound.{IsDistinct}
 use Rattle.hfs_space.specs.Extents.{Overflow, block_total, record_extents, AreExtentsWithin}
 use Rattle.hfs_space.specs.Owners.{Fork, forks_of, all_forks, extents_in, is_bad_blocks, goes_on_with}

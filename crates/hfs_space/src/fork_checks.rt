@@ -168,7 +168,7 @@ fn is_record_right(mdb: &Mdb, r: &OverflowRecord, used: bool) -> bool
 }
 
 /// The place of the first wrong record of the extents tree.
-#[tactic(auto, using(hfs_scans::proofs::ScanStepLemmas::scan_stop, hfs_scans::proofs::ScanStepLemmas::scan_go, hfs_scans::proofs::ScanStepLemmas::scan_end))]
+#[tactic(auto, using(hfs_fields::proofs::ScanStepLemmas::scan_stop, hfs_fields::proofs::ScanStepLemmas::scan_go, hfs_fields::proofs::ScanStepLemmas::scan_end))]
 fn overflow_fault(
     alloc: Global,
     mdb: &Mdb,

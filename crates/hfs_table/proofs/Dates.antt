@@ -2,7 +2,7 @@
 use Rattle.std.proofs.Common.{◌≡◌, refl, ℕ, inl, inr}
 use Rattle.std.specs.Prelude.{◌==◌}
 use Rattle.std.proofs.lemmas.Bool.{cases_Bool}
-use Rattle.hfs_names.specs.Moments.{moment}
+use Rattle.hfs_texts.specs.Moments.{moment}
 use Rattle.hfs_table.specs.Cells.{cell_text}
 use Rattle.hfs_table.specs.Columns.{moment_cell}
 

@@ -2,9 +2,9 @@
 use Rattle.std.specs.Prelude.{ℕ, Bool, true, false, List, [], codes}
 use Rattle.std.specs.Fmt.{decimal}
 use Rattle.json.specs.Token as json
-use Rattle.hfs_names.specs.MacRoman.{characters_text}
-use Rattle.hfs_names.specs.PlainTexts.{plain_text}
-use Rattle.hfs_names.specs.Paths.{mac_path, mac_path_characters}
+use Rattle.hfs_texts.specs.MacRoman.{characters_text}
+use Rattle.hfs_texts.specs.PlainTexts.{plain_text}
+use Rattle.hfs_texts.specs.MacPaths.{mac_path, mac_path_characters}
 
 pub data Cell : Type 0 where
   empty : Cell

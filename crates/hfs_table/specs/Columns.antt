@@ -3,8 +3,8 @@ use Rattle.std.specs.Prelude.{ℕ, ◌==◌, if◌then◌else◌, List, [], ◌�
 use Rattle.hfs_model.specs.declared.reply.Info.{Info}
 use Rattle.hfs_model.specs.declared.reply.ItemKind.{ItemKind}
 use Rattle.hfs_model.specs.declared.reply.ItemKind.TheVariants.{Folder, File}
-use Rattle.hfs_names.specs.Digits.{hex_text}
-use Rattle.hfs_names.specs.Moments.{moment}
+use Rattle.hfs_texts.specs.Digits.{hex_text}
+use Rattle.hfs_texts.specs.Moments.{moment}
 use Rattle.hfs_table.specs.Cells.{Cell, empty, path, characters, word, number, flag}
 use Rattle.hfs_table.specs.declared.column.Column.{Column}
 use Rattle.hfs_table.specs.declared.column.Column.TheVariants as column

@@ -4,7 +4,7 @@ use Rattle.std.specs.List.{list_any, join_by}
 use Rattle.json.specs.Token as json
 use Rattle.json.specs.Print.{print}
 use Rattle.hfs_model.specs.declared.reply.Info.{Info}
-use Rattle.hfs_names.specs.Paths.{host_path}
+use Rattle.hfs_texts.specs.MacPaths.{host_path}
 use Rattle.hfs_table.specs.Cells.{cell_text, cell_value}
 use Rattle.hfs_table.specs.Columns.{columns, column_name, cell}
 use Rattle.hfs_table.specs.declared.column.Column.{Column}

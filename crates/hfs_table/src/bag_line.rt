@@ -1,13 +1,13 @@
 //! A row in the table of a bag: in CSV, with the path below the payload as the last field.
 ghost use Rattle.std.specs.Prelude.{◌≡◌, ◌++◌, OnOk};
-ghost use Rattle.hfs_names.specs.Gains.{Gains};
+ghost use Rattle.hfs_texts.specs.Gains.{Gains};
 ghost use Rattle.hfs_table.specs.Lines.{bag_end, bag_head, bag_line, bag_path, csv_fields, own_bag_line, own_fields};
 
 use crate::cells::USUAL;
 use crate::csv_line::{push_csv_field, push_csv_fields, push_own_fields};
 use hfs_fields::Name;
 use hfs_model::Info;
-use hfs_names::push_host_path;
+use hfs_texts::push_host_path;
 use std::alloc::{AllocError, Global};
 
 /// Appends the head of a bag's table: the names of its columns. At an error, a part of it may have been appended.

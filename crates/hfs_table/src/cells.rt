@@ -1,7 +1,7 @@
 //! The fields of a row.
 ghost use Rattle.std.specs.Prelude.{◌≡◌, OnOk, List, ℕ};
 ghost use Rattle.std.specs.Fmt.{decimal};
-ghost use Rattle.hfs_names.specs.Gains.{Gains};
+ghost use Rattle.hfs_texts.specs.Gains.{Gains};
 ghost use Rattle.hfs_table.specs.Cells.{cell_text, characters, flag, number};
 ghost use Rattle.hfs_table.specs.Columns.{cell, kind_word, of_file, of_folder};
 ghost use Rattle.hfs_table.specs.Lines.{field_text};
@@ -9,7 +9,7 @@ ghost use Rattle.hfs_table.specs.Lines.{field_text};
 use crate::column::Column;
 use hfs_fields::Name;
 use hfs_model::{Info, ItemKind};
-use hfs_names::{push_hex, push_mac_path, push_moment, push_plain_text};
+use hfs_texts::{push_hex, push_mac_path, push_moment, push_plain_text};
 use itoa::Buffer;
 use std::alloc::AllocError;
 

@@ -2,8 +2,8 @@
 ghost use Rattle.std.specs.Prelude.{◌≡◌, ◌++◌, ◌∷◌, [], OnOk, IfOk, flat_map, string_bytes};
 ghost use Rattle.json.specs.Token.{string, boolean, null};
 ghost use Rattle.json.specs.Token as token;
-ghost use Rattle.hfs_names.specs.Digits.{hex_text};
-ghost use Rattle.hfs_names.specs.Moments.{moment};
+ghost use Rattle.hfs_texts.specs.Digits.{hex_text};
+ghost use Rattle.hfs_texts.specs.Moments.{moment};
 ghost use Rattle.hfs_table.specs.Adds.{Adds};
 ghost use Rattle.hfs_table.specs.Cells.{cell_value, characters, flag, number, path};
 ghost use Rattle.hfs_table.specs.Columns.{cell, moment_cell, of_file, of_folder};
@@ -13,7 +13,7 @@ use crate::cells::{USUAL, kind_word};
 use crate::column::{BEHIND_PATH, Column, column_name};
 use hfs_fields::Name;
 use hfs_model::{Info, ItemKind};
-use hfs_names::{push_characters, push_hex, push_mac_path_characters, push_moment};
+use hfs_texts::{push_characters, push_hex, push_mac_path_characters, push_moment};
 use json::Writer;
 use std::alloc::{AllocError, Global};
 

@@ -1,6 +1,6 @@
 //! A row with tabs between its fields.
 ghost use Rattle.std.specs.Prelude.{◌≡◌, ◌++◌, OnOk, codes, flat_map};
-ghost use Rattle.hfs_names.specs.Gains.{Gains};
+ghost use Rattle.hfs_texts.specs.Gains.{Gains};
 ghost use Rattle.hfs_table.specs.Lines.{field_text, tab_line};
 
 use crate::cells::{USUAL, push_field};

@@ -1,3 +1,14 @@
+pub mod Gains
+pub mod MacRoman
+pub mod Digits
+pub mod PlainTexts
+pub mod HostNames
+pub mod MacPaths
+pub mod Calendar
+pub mod Moments
+pub mod NameLaws
+pub mod Paths
+pub mod PathLaws
 pub mod Lines
 pub mod Info
 pub mod Answers

@@ -6,7 +6,7 @@ use hfs_commands::{
     Counted, Fault, ImageContents, ReadContents, Status, extracted_text, need_volume, part_blocks,
 };
 use hfs_console::{print_lines, tell_sum};
-use hfs_take::{FoundPart, find_part};
+use hfs_word_take::{FoundPart, find_part};
 
 /// Writes the bytes of a volume to a file of its own, and prints how many there are. Without a number, bytes that hold no volume
 /// aren't written.

@@ -5,9 +5,9 @@ use crate::saving::tell;
 use crate::words::MakeWords;
 use hfs_commands::{Fault, Status, save_read};
 use hfs_console::{Progress, print_lines};
-use hfs_laid_forks::HostFiles;
+use hfs_put::HostFiles;
+use hfs_put_sources::SystemTree;
 use hfs_source::PlacedBytes;
-use hfs_sources::SystemTree;
 use hfs_word_make::{MakeOrder, SettledImage, made_lines, make_volume};
 use hfs_word_put::{PutImage, Watch, unsaved};
 

@@ -8,12 +8,12 @@ use hfs_commands::{
     Fault, NeededFault, PartBlocks, PartImage, SeenImage, Status, Unopened, part_blocks,
 };
 use hfs_console::VERSION;
-use hfs_pages::{
+use hfs_page::{
     PageFault, PageImage, PageTexts, is_base, standard_texts, write_image_page, write_refused_page,
 };
-use hfs_salvage::{RefusedImage, found_texts, look};
 use hfs_source::PlacedBlocks;
-use hfs_take::{image_digest, image_name};
+use hfs_word_rescue::{RefusedImage, found_texts, look};
+use hfs_word_take::{image_digest, image_name};
 use std::alloc::Global;
 use std::io::{Read, Seek};
 

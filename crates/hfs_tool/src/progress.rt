@@ -1,6 +1,6 @@
 //! What long work shows while it goes on: one line on standard error that is rewritten, if standard error is a terminal.
 
-use hfs_word_run::Gate;
+use hfs_runs::Gate;
 
 /// After how many calls of one worker the line is written.
 const CALLS_SHOWN: u64 = 1_000;

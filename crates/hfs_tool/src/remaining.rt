@@ -8,11 +8,12 @@ use hfs_commands::{
     Window, open_asked, part_blocks,
 };
 use hfs_console::tell_hint;
-use hfs_containers::{Asked, find_asked};
 use hfs_model::{Fork, Reply};
-use hfs_salvage::{RefusedImage, Remains, RemainsTexts, RescueWords, ShownFork, look, remains_of};
-use hfs_source::{BlocksOf, PlacedBlocks, RangeBytes};
+use hfs_source::{Asked, BlocksOf, PlacedBlocks, RangeBytes, find_asked};
 use hfs_space::ForkKind;
+use hfs_word_rescue::{
+    RefusedImage, Remains, RemainsTexts, RescueWords, ShownFork, look, remains_of,
+};
 use std::alloc::Global;
 use std::fs::File;
 

@@ -4,7 +4,7 @@ use crate::saving::{left_beside, tell};
 use crate::taking::print_fault;
 use hfs_commands::Fault;
 use hfs_console::{Progress, print_lines, tell_sum};
-use hfs_salvage::{BagWords, RescueWords, Rescued, list_rescue, rescue};
+use hfs_word_rescue::{BagWords, RescueWords, Rescued, list_rescue, rescue};
 
 /// Prints the answer for an image of which something remains, and returns the exit status.
 fn print_answer(rt: &HostRuntime, image: &str, rescued: &Rescued) -> Result<u8, Fault<'static>> {

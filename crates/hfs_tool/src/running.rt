@@ -8,7 +8,7 @@ use hfs_commands::{
     load_script, open_volume, open_watched,
 };
 use hfs_console::print_lines;
-use hfs_word_run::{
+use hfs_runs::{
     Answers, Ran, RanImage, RunImage, run_fault, run_script_at, script_lines, write_answers,
 };
 use std::fs::File;

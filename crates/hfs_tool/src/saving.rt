@@ -3,7 +3,7 @@
 use hfs_commands::{
     Contents, Fault, Leftover, ReadContents, Saved, save_file, save_new, save_read,
 };
-use hfs_take::left_folder;
+use hfs_word_take::left_folder;
 
 /// Writes a file, and returns the file next to it that an interrupted run left, if any. If the write fails, that one is reported
 /// before the fault.

@@ -3,7 +3,7 @@
 use crate::saving::{left_beside, tell};
 use hfs_commands::{Fault, Status};
 use hfs_console::{Progress, print_lines, tell_sum};
-use hfs_take::{BagSums, TakeFault, TakeWords, Taken, take, taken_text};
+use hfs_word_take::{BagSums, TakeFault, TakeWords, Taken, take, taken_text};
 use std::thread::Threads;
 
 /// Takes a volume, and prints what the folder then holds.

@@ -2,9 +2,9 @@
 
 use hfs_commands::Format;
 use hfs_model::Fork;
-use hfs_salvage::{BagWords, RescueWords};
-use hfs_sources::PutOptions;
-use hfs_take::TakeWords;
+use hfs_put_sources::PutOptions;
+use hfs_word_rescue::{BagWords, RescueWords};
+use hfs_word_take::TakeWords;
 
 /// What the words ask for.
 #[derive(Drop)]

@@ -4,7 +4,7 @@ use Rattle.std.specs.Prelude.{◌-◌}
 use Rattle.std.proofs.lemmas.List.{length-replicate, take-replicate, drop-replicate}
 use Rattle.hfs_blocks.specs.Blocks.{block_at, block_count}
 use Rattle.hfs_blocks.specs.Layers.{Numbered, changes, AreWithin}
-use Rattle.hfs_sparse.specs.Sparse.{zero_block, sparse}
+use Rattle.hfs_source.specs.Sparse.{zero_block, sparse}
 use Rattle.hfs_volume.specs.BaseBytes.{EndsInZeros}
 use Rattle.hfs_volume.specs.Image.{copy_of}
 use Rattle.hfs_volume.proofs.Laid.{block_at-laid_over}

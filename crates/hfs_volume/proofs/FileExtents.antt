@@ -8,9 +8,9 @@ use Rattle.hfs_fields.specs.declared.extent.Extent.{Extent}
 use Rattle.hfs_fields.specs.declared.file_record.FileRecord.{FileRecord}
 use Rattle.hfs_fields.specs.Records.{is_dir, is_file, is_item, dir_record_of, file_record_of}
 use Rattle.hfs_blocks.specs.Blocks.{block_at}
-use Rattle.hfs_scans.specs.Each.{Each}
-use Rattle.hfs_scans.specs.Members.{In}
-use Rattle.hfs_scans.proofs.MemberLemmas.{each_in, found_in}
+use Rattle.hfs_fields.specs.Each.{Each}
+use Rattle.hfs_fields.specs.Members.{In}
+use Rattle.hfs_fields.proofs.MemberLemmas.{each_in, found_in}
 use Rattle.hfs_model.specs.declared.call.Fork.{Fork}
 use Rattle.hfs_model.specs.declared.call.Fork.TheVariants.{DataFork, ResFork}
 use Rattle.hfs_model.specs.declared.item.File.{File}
@@ -27,7 +27,7 @@ use Rattle.hfs_catalog.specs.declared.item.CatalogItem.{CatalogItem}
 use Rattle.hfs_catalog.specs.declared.item.ItemRecord.TheVariants as item_record
 use Rattle.hfs_catalog.specs.Records.{Record, Catalog, has_id, has_thread, item_with}
 use Rattle.hfs_catalog.specs.Items.{Contents, folder_of, file_of, item_of}
-use Rattle.hfs_catalog.proofs.LawTypes.{ItemsAreRecords}
+use Rattle.hfs_catalog.proofs.CatalogLawTypes.{ItemsAreRecords}
 use Rattle.hfs_catalog.specs.Lookups.{catalog_item}
 use Rattle.hfs_check.specs.Agree.{AgreesBut}
 use Rattle.hfs_check.specs.Parts.{mdb_in, overflow_in, catalog_in}
@@ -37,7 +37,7 @@ use Rattle.hfs_volume.proofs.LayoutLemmas.{same_layout, same_bytes}
 use Rattle.hfs_volume.specs.Mounted.{AreForksIn, fork_record}
 use Rattle.hfs_volume.specs.Sharing.{file_extents, AreUnwritten, HasFile, AreExtentsOf, HaveFork, bytes_of_extents}
 use Rattle.hfs_volume.proofs.SharingLaws.{ForksStay, FileForksStay}
-use Rattle.hfs_queries.specs.Told.{pick}
+use Rattle.hfs_items.specs.Told.{pick}
 
 -- ---- the record of a file
 

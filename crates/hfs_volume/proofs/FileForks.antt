@@ -15,9 +15,9 @@ use Rattle.hfs_model.specs.Reading.{read_fork, part_of, fork_part}
 use Rattle.hfs_model.specs.Replies.{refusal}
 use Rattle.hfs_catalog.specs.Records.{Record, Catalog, has_thread}
 use Rattle.hfs_catalog.specs.Items.{Contents, folder_of, file_of, item_of}
-use Rattle.hfs_queries.specs.Told.{only_file, file_named, pick}
-use Rattle.hfs_queries.specs.Queries.{AreEntries}
-use Rattle.hfs_queries.proofs.NamedFileLemmas.{answer_of, answer_of-file_named}
+use Rattle.hfs_items.specs.Told.{only_file, file_named, pick}
+use Rattle.hfs_items.specs.Queries.{AreEntries}
+use Rattle.hfs_items.proofs.NamedFileLemmas.{answer_of, answer_of-file_named}
 use Rattle.hfs_volume.specs.declared.open_fork.Opened.{Opened}
 use Rattle.hfs_volume.specs.declared.open_fork.Opened.TheVariants as opened
 use Rattle.hfs_volume.specs.Opening.{opened_kind, opened_fork}

@@ -7,8 +7,8 @@ use Rattle.std.proofs.lemmas.List.FromFn.{length-range_with_len}
 use Rattle.std.proofs.lemmas.Map.Made.{is_some-lookup, length-le_from_is_member}
 use Rattle.hfs_blocks.specs.Blocks.{block_at}
 use Rattle.hfs_blocks.specs.Layers.{Numbered, Changes, changes, numbers, over}
-use Rattle.hfs_changed_blocks.specs.Changed.{HasBlocksOf}
-use Rattle.hfs_changed_blocks.proofs.AllBlocks.{has-numbers}
+use Rattle.hfs_space.specs.Changed.{HasBlocksOf}
+use Rattle.hfs_space.proofs.AllBlocks.{has-numbers}
 
 -- what was joined is kept
 pub kept : (old new : Numbered) (other : Changes) → HasBlocksOf (changes old) other (changes new)

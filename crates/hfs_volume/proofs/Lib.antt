@@ -22,3 +22,10 @@ pub mod RunSteps
 pub mod LayoutLemmas
 pub mod SharingLaws
 pub mod BlocksWritten
+pub mod FlatBlocks
+pub mod Fronts
+pub mod InFiles
+pub mod Pieces
+pub mod RangePieces
+pub mod Spans
+pub mod Written

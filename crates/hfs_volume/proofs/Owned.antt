@@ -5,13 +5,13 @@ use Rattle.std.proofs.lemmas.Grind.{flat_map-append}
 use Rattle.std.proofs.lemmas.Bool.{eqb-true, eq-eqb}
 use Rattle.std.proofs.lemmas.List.Sums.{sum_by-cons}
 use Rattle.hfs_fields.specs.declared.mdb.Mdb.{Mdb}
-use Rattle.hfs_scans.specs.Each.{Each}
-use Rattle.hfs_scans.specs.Members.{In}
+use Rattle.hfs_fields.specs.Each.{Each}
+use Rattle.hfs_fields.specs.Members.{In}
 use Rattle.hfs_btree.specs.Sound.{IsDistinct, IsOther}
 use Rattle.hfs_space.specs.Extents.{Overflow, extent_blocks}
 use Rattle.hfs_space.specs.Owners.{Fork, forks_of, catalog_fork, all_forks, extents_in, bad_extents, owned_extents, owned_blocks, owners}
 use Rattle.hfs_catalog.specs.Records.{Record, Catalog}
-use Rattle.hfs_changes.proofs.Space.{none_other, extents_parts, cons, one, no}
+use Rattle.hfs_record_edits.proofs.Space.{none_other, extents_parts, cons, one, no}
 use Rattle.hfs_format.proofs.BitsRead.{one_if}
 
 -- ---- numbers that stand in a list

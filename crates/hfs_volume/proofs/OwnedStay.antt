@@ -7,10 +7,10 @@ use Rattle.hfs_fields.specs.declared.mdb.Mdb.{Mdb}
 use Rattle.hfs_fields.specs.declared.extent.Extent.{Extent}
 use Rattle.hfs_fields.specs.Records.{is_file, file_record_of}
 use Rattle.hfs_blocks.specs.Blocks.{block_at, run_of}
-use Rattle.hfs_scans.specs.Each.{Each}
-use Rattle.hfs_scans.proofs.ElementLemmas.{each-append}
-use Rattle.hfs_scans.specs.Members.{In}
-use Rattle.hfs_scans.proofs.MemberLemmas.{each_in}
+use Rattle.hfs_fields.specs.Each.{Each}
+use Rattle.hfs_fields.proofs.ElementLemmas.{each-append}
+use Rattle.hfs_fields.specs.Members.{In}
+use Rattle.hfs_fields.proofs.MemberLemmas.{each_in}
 use Rattle.hfs_btree.specs.Sound.{IsOther}
 use Rattle.hfs_model.specs.declared.call.Fork.{Fork}
 use Rattle.hfs_model.specs.declared.call.Fork.TheVariants.{DataFork, ResFork}
@@ -29,11 +29,11 @@ use Rattle.hfs_volume.specs.Sharing.{file_extents}
 use Rattle.hfs_volume.proofs.SharingLaws.{ForksStay, FileForksStay}
 use Rattle.hfs_volume.proofs.StayingBlocks.{same_changing}
 use Rattle.hfs_space.proofs.OwnerLemmas.{append}
-use Rattle.hfs_changes.proofs.Space.{extents_parts}
+use Rattle.hfs_record_edits.proofs.Space.{extents_parts}
 use Rattle.hfs_volume.proofs.Owned.{forks_have, record_has, others_have, owners_sum, sum_in, owners_in}
-use Rattle.hfs_changes.proofs.Space.{owned_distinct}
+use Rattle.hfs_record_edits.proofs.Space.{owned_distinct}
 use Rattle.hfs_model.proofs.Members.{in_from_contains}
-use Rattle.hfs_scans.proofs.PartLemmas.{in_parts}
+use Rattle.hfs_fields.proofs.PartLemmas.{in_parts}
 
 in_take : {A : Type 0} (x : A) (k : ℕ) (xs : List A) → In x (take k xs) → In x xs
 in_take x zero xs i = absurd i

@@ -18,11 +18,11 @@ use Rattle.hfs_check.specs.VolumeOf.{contents_in, volume_of}
 use Rattle.hfs_volume.specs.Image.{ImageValue}
 use Rattle.hfs_volume.specs.Mounted.{IsMounted, AreForksIn}
 use Rattle.hfs_volume.specs.Opening.{opened_fork}
-use Rattle.hfs_queries.specs.Told.{IsCatalog, file_named, pick}
-use Rattle.hfs_queries.specs.Queries.{AreEntries}
-use Rattle.hfs_queries.proofs.QueriesLaws.{CatalogsAreSound, RecordsAreEntries}
-use Rattle.hfs_queries.proofs.ReplyLemmas.{by_nodes}
-use Rattle.hfs_queries.proofs.NamedFileLemmas.{forks_in}
+use Rattle.hfs_items.specs.Told.{IsCatalog, file_named, pick}
+use Rattle.hfs_items.specs.Queries.{AreEntries}
+use Rattle.hfs_items.proofs.QueriesLaws.{CatalogsAreSound, RecordsAreEntries}
+use Rattle.hfs_items.proofs.ReplyLemmas.{by_nodes}
+use Rattle.hfs_items.proofs.NamedFileLemmas.{forks_in}
 use Rattle.hfs_volume.proofs.FileForks.{file_reply, file_opened, forks, opens}
 
 -- the image that a volume's field has, and the nodes that are read

@@ -18,7 +18,7 @@ use Rattle.hfs_check.specs.Parts.{mdb_in, extents_nodes, overflow_in}
 use Rattle.hfs_check.specs.VolumeOf.{bytes_in, contents_in}
 use Rattle.hfs_volume.specs.Image.{ImageValue}
 use Rattle.hfs_volume.specs.Mounted.{IsMounted, AreForksIn, fork_record}
-use Rattle.hfs_queries.specs.Told.{pick}
+use Rattle.hfs_items.specs.Told.{pick}
 
 -- the image that a volume's field has, and the nodes of the extents tree that are read
 module _ (value own : ImageValue) (mdb : Mdb) (extents catalog : List Run)

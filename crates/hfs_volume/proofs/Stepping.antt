@@ -16,15 +16,15 @@ use Rattle.hfs_check.specs.Laws.{AgreementsJoin}
 use Rattle.hfs_check.specs.Parts.{Blocks, mdb_in, catalog_extents, extents_blocks, extents_nodes, catalog_blocks, catalog_nodes}
 use Rattle.hfs_check.specs.Sound.{IsImageLength, AreBlocksSound, IsSound}
 use Rattle.hfs_check.specs.VolumeOf.{volume_in, volume_of}
-use Rattle.hfs_changes.specs.Laws.{IsSteppedBut}
+use Rattle.hfs_record_edits.specs.Laws.{IsSteppedBut}
 use Rattle.hfs_call_patches.specs.declared.change.Change.{Change}
 use Rattle.hfs_call_patches.specs.declared.change.ForkBlocks.{ForkBlocks}
 use Rattle.hfs_call_patches.specs.CallChanges.{IsChangeOf, AreZerosAmong, changed, laid_with, written_blocks}
 use Rattle.std.proofs.lemmas.List.Elements.{All-nil}
 use Rattle.hfs_blocks.specs.Layers.{Numbered}
-use Rattle.hfs_fork_bytes.specs.Zeros.{AreAmong}
-use Rattle.hfs_changed_blocks.specs.Changed.{laid_changes}
-use Rattle.hfs_changed_blocks.proofs.AllBlocks.{patched-laid, laid-within}
+use Rattle.hfs_space.specs.Zeros.{AreAmong}
+use Rattle.hfs_space.specs.Changed.{laid_changes}
+use Rattle.hfs_space.proofs.AllBlocks.{patched-laid, laid-within}
 use Rattle.hfs_volume.specs.Image.{ImageValue}
 use Rattle.hfs_volume.specs.Laid.{laid_over}
 use Rattle.hfs_volume.specs.Mounted.{IsMounted}

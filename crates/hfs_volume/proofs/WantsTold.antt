@@ -7,8 +7,8 @@ use Rattle.hfs_fields.specs.Records.{file_record_of}
 use Rattle.hfs_fields.specs.declared.key.CatKey.{CatKey}
 use Rattle.hfs_fields.specs.declared.file_record.FileRecord.{FileRecord}
 use Rattle.hfs_blocks.specs.Blocks.{block_at, block_count, length-block_at}
-use Rattle.hfs_scans.specs.Members.{In}
-use Rattle.hfs_scans.proofs.MemberLemmas.{each_in}
+use Rattle.hfs_fields.specs.Members.{In}
+use Rattle.hfs_fields.proofs.MemberLemmas.{each_in}
 use Rattle.hfs_model.specs.declared.codes.TheConstants.{BAD_NAME, NOT_A_FOLDER, NOT_FOUND}
 use Rattle.hfs_model.specs.declared.call.Call.TheVariants as call
 use Rattle.hfs_model.specs.declared.call.Fork.{Fork}
@@ -25,18 +25,18 @@ use Rattle.hfs_model.specs.Step.{step}
 use Rattle.hfs_model.specs.Volume.{Volume, Entry}
 use Rattle.hfs_model.proofs.Facts.{not_refused}
 use Rattle.hfs_model.proofs.KeepsCalls.{same_entry, err_is_ok, chained, unlocked_is}
-use Rattle.hfs_fork_calls.specs.Laws.{fork_named}
-use Rattle.hfs_fork_wants.specs.Wants.{IsForkWant, IsSetEofWant, IsWriteForkWant, length_written}
+use Rattle.hfs_model.specs.ForkCallLaws.{fork_named}
+use Rattle.hfs_record_edits.specs.Wants.{IsForkWant, IsSetEofWant, IsWriteForkWant, length_written}
 use Rattle.hfs_catalog.specs.Records.{Record, has_thread}
 use Rattle.hfs_catalog.specs.Items.{file_of, item_of}
 use Rattle.hfs_check.specs.Parts.{Blocks, mdb_in, catalog_in}
 use Rattle.hfs_check.specs.Sound.{IsSound}
 use Rattle.hfs_check.specs.VolumeOf.{contents_in, volume_in, volume_of}
-use Rattle.hfs_changes.proofs.Made.{file_item, file-not_dir}
-use Rattle.hfs_queries.specs.Told.{pick}
-use Rattle.hfs_queries.proofs.FolderLemmas.{found_with}
-use Rattle.hfs_queries.proofs.Queries.{AreLong, files_are_long}
-use Rattle.hfs_fork_changes.specs.Files.{fork_of}
+use Rattle.hfs_record_edits.proofs.Made.{file_item, file-not_dir}
+use Rattle.hfs_items.specs.Told.{pick}
+use Rattle.hfs_items.proofs.FolderLemmas.{found_with}
+use Rattle.hfs_items.proofs.Queries.{AreLong, files_are_long}
+use Rattle.hfs_call_patches.specs.Files.{fork_of}
 use Rattle.hfs_call_patches.specs.Settings.{IsFileChoice}
 use Rattle.hfs_call_edits.specs.ForkWants.{length_with}
 use Rattle.hfs_volume.specs.Serving.{IsForkOutcome}

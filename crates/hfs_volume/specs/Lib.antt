@@ -11,3 +11,5 @@ pub mod Serving
 pub mod Steps
 pub mod ForkParts
 pub mod Refusals
+pub mod Patched
+pub mod InFile

@@ -6,7 +6,7 @@ use Rattle.hfs_fields.specs.declared.file_record.ForkRecord.{ForkRecord}
 use Rattle.hfs_fields.specs.declared.mdb.Mdb.{Mdb}
 use Rattle.hfs_blocks.specs.declared.run.Run.{Run}
 use Rattle.hfs_blocks.specs.Blocks.{block_at, block_count, run_of, nodes_in, AreRunsWithin}
-use Rattle.hfs_scans.specs.Each.{Each}
+use Rattle.hfs_fields.specs.Each.{Each}
 use Rattle.hfs_model.specs.declared.call.Fork.{Fork}
 use Rattle.hfs_model.specs.declared.call.Fork.TheVariants.{DataFork, ResFork}
 use Rattle.hfs_space.specs.declared.fork_kind.ForkKind.{ForkKind}

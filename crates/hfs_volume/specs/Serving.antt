@@ -19,8 +19,8 @@ use Rattle.hfs_model.specs.Children.{entries_of}
 use Rattle.hfs_model.specs.Reading.{read_fork}
 use Rattle.hfs_model.specs.Volume.{Entry}
 use Rattle.hfs_catalog.specs.Records.{Catalog}
-use Rattle.hfs_queries.specs.Queries.{AreEntries}
-use Rattle.hfs_queries.specs.Told.{pick}
+use Rattle.hfs_items.specs.Queries.{AreEntries}
+use Rattle.hfs_items.specs.Told.{pick}
 
 -- the free nodes of the image's catalog tree
 abbrev pub free_in : List ℕ → ℕ

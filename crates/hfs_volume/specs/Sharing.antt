@@ -5,7 +5,7 @@ use Rattle.hfs_fields.specs.declared.extent.Extent.{Extent}
 use Rattle.hfs_fields.specs.declared.file_record.FileRecord.{FileRecord}
 use Rattle.hfs_fields.specs.Records.{is_file, file_record_of}
 use Rattle.hfs_blocks.specs.Blocks.{block_at}
-use Rattle.hfs_scans.specs.Each.{Each}
+use Rattle.hfs_fields.specs.Each.{Each}
 use Rattle.hfs_btree.specs.Sound.{IsOther}
 use Rattle.hfs_space.specs.ForkLaws.{block_numbers}
 use Rattle.hfs_model.specs.declared.call.Fork.{Fork}

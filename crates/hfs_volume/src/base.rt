@@ -13,7 +13,7 @@ use crate::extent_bytes::read_extents;
 use hfs_blocks::Blocks;
 use hfs_check::read_mdb;
 use hfs_fields::Extent;
-use hfs_sparse::SparseBlocks;
+use hfs_source::SparseBlocks;
 use std::alloc::{AllocError, AllocFailed, Global};
 use std::marker::Model;
 use std::sync::Arc;

@@ -4,8 +4,8 @@ ghost use Rattle.std.specs.Prelude.{◌≡◌};
 ghost use Rattle.hfs_volume.specs.Steps.{refusal_reply};
 
 use hfs_call_edits::Refusal;
+use hfs_items::refusal;
 use hfs_model::{DISK_FULL, Reply};
-use hfs_queries::refusal;
 
 /// The reply to a call that was refused: its code, or -34 with what it lacks.
 pub(crate) fn refused_by(reason: Refusal) -> Reply

@@ -6,7 +6,7 @@ ghost use Rattle.hfs_blocks.specs.Layers.{changes, AreWithin};
 ghost use Rattle.hfs_volume.specs.Image.{patched};
 ghost use Rattle.hfs_volume.specs.Saving.{WritesAll, WritesFirst, BreaksOff, BreaksOffBehind, bytes_between};
 
-use hfs_changed_blocks::ChangedBlocks;
+use hfs_space::ChangedBlocks;
 use std::io::{ErrorKind, Write};
 use thiserror::Error;
 

@@ -11,7 +11,7 @@ ghost use Rattle.hfs_check.specs.Parts.{catalog_in, extents_nodes};
 ghost use Rattle.hfs_check.specs.Sound.{IsSound};
 ghost use Rattle.hfs_check.specs.VolumeOf.{volume_of};
 ghost use Rattle.hfs_blocks.specs.Blocks.{block_at};
-ghost use Rattle.hfs_queries.specs.Brief.{without_ids};
+ghost use Rattle.hfs_items.specs.Brief.{without_ids};
 ghost use Rattle.hfs_space.specs.Results.{Gives};
 ghost use Rattle.hfs_volume.specs.Image.{IsSameBeside};
 ghost use Rattle.hfs_volume.specs.Opening.{opened_fork};
@@ -19,7 +19,7 @@ ghost use Rattle.hfs_volume.specs.Saving.{WritesAll, BreaksOff};
 ghost use Rattle.hfs_volume.specs.Serving.{AreEntriesIn, entries_in, fork_in, fork_reply};
 ghost use Rattle.hfs_volume.specs.Steps.{IsEditIn, IsEditReply, IsImageAfter, IsReplyTo, AreRepliesTo, AreFirstMade, AreFirstServed, AreServedWith, AreWrittenBy, HasWrittenBlocks, IsLaidBy};
 ghost use Rattle.hfs_call_patches.specs.CallChanges.{written_blocks};
-ghost use Rattle.hfs_queries.specs.Told.{IsCatalog};
+ghost use Rattle.hfs_items.specs.Told.{IsCatalog};
 ghost use Rattle.hfs_volume.specs.Mounted.{IsMounted, AreForksIn};
 
 use crate::fork::{fork_record, read_part};
@@ -33,8 +33,8 @@ use hfs_blocks::Run;
 use hfs_call_edits::{Editing, Refusal};
 use hfs_call_patches::{Change, with_counts};
 use hfs_fields::{FileRecord, Mdb};
+use hfs_items::{self as queries, Detail, refusal, success};
 use hfs_model::{Call, Fork, PARAMETER, Reply, enough_is_step, reading_leaves};
-use hfs_queries::{self as queries, Detail, refusal, success};
 use std::alloc::{AllocError, Global};
 use std::io::Write;
 use std::marker::Model;
@@ -119,7 +119,7 @@ impl Volume {
     /// it is. Fails only when out of memory, and then the bytes stay as they are.
     ///
     /// Source: Inside Macintosh: Files, chapter 2, "High-Level HFS Routines" and "Low-Level HFS Routines".
-    #[tactic(auto, using(hfs_model::proofs::LawsProved::reading_needs_none))]
+    #[tactic(auto, using(hfs_model::proofs::ModelLawsProved::reading_needs_none))]
     pub fn call(&mut self, alloc: Global, call: &Call) -> Result<Reply, AllocError>
         ensures outcome { IfOk result (IsReplyTo call.now self.old.current self.new.current) }
         ensures refused { IfOk result (λ reply. reply.code ≢ pos 0 → self.new ≡ self.old) }

@@ -4,7 +4,7 @@ ghost use Rattle.hfs_blocks.specs.Layers.{changes, AreWithin};
 
 use crate::saving::{is_front, is_saved, pattern};
 use hfs_blocks::Blocks;
-use hfs_sparse::{ByteSource, SparseBlocks, fetch};
+use hfs_source::{ByteSource, SparseBlocks, fetch};
 use hfs_volume::{Base, BaseBlocks, Image};
 use std::alloc::{AllocError, Global};
 use std::test::Fail;

@@ -6,7 +6,7 @@ use Rattle.sha2.specs.Sha256.{sha256}
 use Rattle.std.specs.Cmp.Lexicographic.{pointwise}
 use Rattle.std.proofs.Math.Logic.{∥∥₁_map}
 use Rattle.sqlite.specs.State.{State}
-use Rattle.hfs_contents.specs.Failing.{SomeFail}
+use Rattle.hfs_bag.specs.Failing.{SomeFail}
 use Rattle.hfs_source.specs.Images.{FailsWhere, OfEach}
 use Rattle.sqlite.specs.declared.types.Value.TheVariants.{Text}
 use Rattle.hfs_database.specs.Asking.{IsKnown, known_image_text}
@@ -17,8 +17,8 @@ use Rattle.hfs_database.specs.declared.comparing.Comparison.{Comparison}
 use Rattle.hfs_database.specs.declared.comparing.Comparison.TheVariants.{Changed, Missing, New, Same}
 use Rattle.hfs_database.specs.declared.comparing.KnownImage.{KnownImage}
 use Rattle.hfs_word_collect.specs.Answers.{database_fault}
-use Rattle.hfs_word_collect.specs.declared.fault.RunFault.{RunFault}
-use Rattle.hfs_word_collect.specs.declared.fault.RunFault.TheVariants as run
+use Rattle.hfs_word_collect.specs.declared.collect_fault.RunFault.{RunFault}
+use Rattle.hfs_word_collect.specs.declared.collect_fault.RunFault.TheVariants as run
 use Rattle.hfs_word_collect.specs.Comparing.{FailsToCompare, IsAsked, IsCompared, IsComparedIn, IsComparison, IsReadUnless}
 
 -- a length and a digest tell it

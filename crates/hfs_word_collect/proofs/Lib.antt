@@ -1,2 +1,13 @@
+mod Going
+mod VolumeGiving
+mod VolumesGoing
+mod ImageGiving
+mod RemainsGoing
+mod ForkTelling
+mod Counting
+mod VolumeCounting
+mod FoundGiving
+mod Noting
+mod PartGiving
 mod WrittenImages
 mod Comparisons

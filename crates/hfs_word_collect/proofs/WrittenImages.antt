@@ -4,15 +4,15 @@ use Rattle.std.proofs.Math.Logic.{∥∥₁_map}
 use Rattle.std.proofs.lemmas.Option.{none-some}
 use lib.Seq.{take-append_seam}
 use Rattle.std.specs.Io.KnownBytes.{Appends}
-use Rattle.hfs_rows.specs.Taken.{TakenRow, IsBeginning}
-use Rattle.hfs_collection.specs.declared.fault.CollectFault.{CollectFault}
-use Rattle.hfs_collection.specs.declared.fault.CollectFault.TheVariants.{ReadFailed, CannotWrite, NoMemory}
-use Rattle.hfs_collection.specs.Looking.{IsFaultOf}
-use Rattle.hfs_text_rows.specs.declared.form.Form.{Form}
-use Rattle.hfs_text_rows.specs.Texts.{image_text}
-use Rattle.hfs_text_rows.specs.UnderWay.{WritesFront}
-use Rattle.hfs_word_collect.specs.declared.fault.RunFault.{RunFault}
-use Rattle.hfs_word_collect.specs.declared.fault.RunFault.TheVariants as run
+use Rattle.hfs_database.specs.Taken.{TakenRow, IsBeginning}
+use Rattle.hfs_word_collect.specs.declared.fault.CollectFault.{CollectFault}
+use Rattle.hfs_word_collect.specs.declared.fault.CollectFault.TheVariants.{ReadFailed, CannotWrite, NoMemory}
+use Rattle.hfs_word_collect.specs.Looking.{IsFaultOf}
+use Rattle.hfs_database.specs.declared.form.Form.{Form}
+use Rattle.hfs_database.specs.RowTexts.{image_text}
+use Rattle.hfs_database.specs.UnderWay.{WritesFront}
+use Rattle.hfs_word_collect.specs.declared.collect_fault.RunFault.{RunFault}
+use Rattle.hfs_word_collect.specs.declared.collect_fault.RunFault.TheVariants as run
 use Rattle.hfs_word_collect.specs.Answers.{image_fault}
 use Rattle.hfs_word_collect.specs.Writing.{WritesPart}
 

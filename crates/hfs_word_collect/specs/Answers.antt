@@ -1,13 +1,13 @@
 -- What faults mean for the run.
 use Rattle.std.specs.Prelude.{Option, Some, None}
-use Rattle.hfs_rows.specs.declared.fault.TakerFault.{TakerFault}
-use Rattle.hfs_rows.specs.declared.fault.TakerFault.TheVariants as taker
+use Rattle.hfs_database.specs.declared.row_fault.TakerFault.{TakerFault}
+use Rattle.hfs_database.specs.declared.row_fault.TakerFault.TheVariants as taker
 use Rattle.hfs_database.specs.declared.fault.DatabaseFault.{DatabaseFault}
 use Rattle.hfs_database.specs.declared.fault.DatabaseFault.TheVariants as database
-use Rattle.hfs_collection.specs.declared.fault.CollectFault.{CollectFault}
-use Rattle.hfs_collection.specs.declared.fault.CollectFault.TheVariants as collect
-use Rattle.hfs_word_collect.specs.declared.fault.RunFault.{RunFault}
-use Rattle.hfs_word_collect.specs.declared.fault.RunFault.TheVariants as run
+use Rattle.hfs_word_collect.specs.declared.fault.CollectFault.{CollectFault}
+use Rattle.hfs_word_collect.specs.declared.fault.CollectFault.TheVariants as collect
+use Rattle.hfs_word_collect.specs.declared.collect_fault.RunFault.{RunFault}
+use Rattle.hfs_word_collect.specs.declared.collect_fault.RunFault.TheVariants as run
 
 -- where only the image can't be read, the run goes on
 abbrev pub image_fault : CollectFault → Option RunFault

@@ -1,8 +1,8 @@
 -- The rows of an image that is collected.
 use Rattle.std.specs.Prelude.{◌≡◌, ℕ, List}
-use Rattle.hfs_rows.specs.Taken.{TakenRow}
-use Rattle.hfs_collection.specs.declared.image.ImageFacts.{ImageFacts}
-use Rattle.hfs_collection.specs.Images.{image_rows}
+use Rattle.hfs_database.specs.Taken.{TakenRow}
+use Rattle.hfs_word_collect.specs.declared.image.ImageFacts.{ImageFacts}
+use Rattle.hfs_word_collect.specs.Images.{image_rows}
 
 -- these are the rows of an image, where it has the bytes which were read
 abbrev pub AreRowsOf : (List ℕ → Type 0) → List ℕ → ImageFacts → List TakenRow → Type 0

@@ -11,10 +11,10 @@ use Rattle.hfs_database.specs.declared.fault.DatabaseFault.{DatabaseFault}
 use Rattle.hfs_database.specs.declared.comparing.Comparison.TheVariants.{Missing, New}
 use Rattle.hfs_database.specs.declared.comparing.KnownImage.{KnownImage}
 use Rattle.hfs_database.specs.Comparing.{comparison}
-use Rattle.hfs_contents.specs.Failing.{SomeFail}
+use Rattle.hfs_bag.specs.Failing.{SomeFail}
 use Rattle.hfs_word_collect.specs.Answers.{database_fault}
-use Rattle.hfs_word_collect.specs.declared.fault.RunFault.{RunFault}
-use Rattle.hfs_word_collect.specs.declared.fault.RunFault.TheVariants as run
+use Rattle.hfs_word_collect.specs.declared.collect_fault.RunFault.{RunFault}
+use Rattle.hfs_word_collect.specs.declared.collect_fault.RunFault.TheVariants as run
 
 -- a file with these bytes is described by its length and its digest, unless it could not be read
 abbrev pub IsCompared : KnownImage → Comparison → List ℕ → Type 0

@@ -1,3 +1,14 @@
+pub mod Values
+pub mod Faults
+pub mod Items
+pub mod Remains
+pub mod Volumes
+pub mod Images
+pub mod Giving
+pub mod Refused
+pub mod Counts
+pub mod Looking
+pub mod Openings
 pub mod Answers
 pub mod Collecting
 pub mod Files

@@ -3,7 +3,7 @@ use Rattle.std.specs.Prelude.{ℕ, List, [], ◌∷◌, codes}
 use Rattle.std.specs.Fmt.{decimal}
 use Rattle.std.specs.List.{concat}
 use Rattle.hfs_commands.specs.Paths.{path_text}
-use Rattle.hfs_collection.specs.declared.counts.ImageCounts.{ImageCounts}
+use Rattle.hfs_word_collect.specs.declared.counts.ImageCounts.{ImageCounts}
 use Rattle.hfs_database.specs.declared.comparing.Comparison.{Comparison}
 use Rattle.hfs_database.specs.Comparing.{comparison_word}
 

@@ -1,10 +1,10 @@
 -- An image's rows as text.
 use Rattle.std.specs.Prelude.{ℕ, Bool, true, false, List, Option}
 use Rattle.std.specs.Io.KnownBytes.{Appends}
-use Rattle.hfs_rows.specs.Taken.{TakenRow, IsBeginning}
+use Rattle.hfs_database.specs.Taken.{TakenRow, IsBeginning}
 use Rattle.hfs_texts.specs.Writing.{AppendsFront}
-use Rattle.hfs_text_rows.specs.declared.form.Form.{Form}
-use Rattle.hfs_text_rows.specs.Texts.{image_text}
+use Rattle.hfs_database.specs.declared.form.Form.{Form}
+use Rattle.hfs_database.specs.RowTexts.{image_text}
 
 -- the lines of these rows were written, and after them that the image is whole
 abbrev pub WritesWhole : Option (List ℕ) → Option (List ℕ) → Form → List TakenRow → Type 0

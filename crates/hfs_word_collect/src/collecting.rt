@@ -1,16 +1,15 @@
 //! Putting an image's rows into the database.
 ghost use Rattle.std.specs.Prelude.{◌≡◌, ◌++◌, false, IfErr, IfNone, IfOk, IfSome, OnErr};
-ghost use Rattle.hfs_collection.specs.Counts.{image_counts};
-ghost use Rattle.hfs_collection.specs.Images.{image_rows};
-ghost use Rattle.hfs_collection.specs.Looking.{IsFaultOf};
+ghost use Rattle.hfs_word_collect.specs.Counts.{image_counts};
+ghost use Rattle.hfs_word_collect.specs.Images.{image_rows};
+ghost use Rattle.hfs_word_collect.specs.Looking.{IsFaultOf};
 ghost use Rattle.hfs_word_collect.specs.Collecting.{AreRowsOf};
 ghost use Rattle.hfs_database.specs.Transactions.{LeavesAllOrNone, LeavesAsBefore, LeavesFile, PutsAllInOne};
 
-use crate::fault::RunFault;
-use hfs_collection::{CollectFault, ImageCounts, ImageFacts, ImageFile, give_image};
-use hfs_contents::PickedImage;
-use hfs_database::{Collection, PutFault};
-use hfs_rows::{RowSource, RowTaker};
+use crate::collect_fault::RunFault;
+use crate::{CollectFault, ImageCounts, ImageFacts, ImageFile, give_image};
+use hfs_bag::PickedImage;
+use hfs_database::{Collection, PutFault, RowSource, RowTaker};
 use hfs_source::PlacedBytes;
 use sqlite::Alter;
 use std::alloc::Global;

@@ -3,19 +3,18 @@ ghost use Rattle.std.specs.Prelude.{◌≡◌, ◌≢◌, IfErr, IfNone, IfOk, I
 ghost use Rattle.hex.specs.Hex.{encode_lower};
 ghost use Rattle.sha2.specs.Sha256.{sha256};
 ghost use Rattle.sqlite.specs.Held.{state};
-ghost use Rattle.hfs_contents.specs.Failing.{SomeFail};
+ghost use Rattle.hfs_bag.specs.Failing.{SomeFail};
 ghost use Rattle.hfs_database.specs.Comparing.{comparison};
 ghost use Rattle.hfs_database.specs.declared.comparing.Comparison.TheVariants.{Missing};
 ghost use Rattle.hfs_source.specs.Images.{FailsWhere, OfEach};
 ghost use Rattle.hfs_word_collect.specs.Comparing.{FailsToCompare, IsAsked, IsCompared, IsComparedIn, IsComparison, IsReadUnless};
-ghost use Rattle.hfs_word_collect.specs.declared.fault.RunFault.TheVariants.{NoMemory};
+ghost use Rattle.hfs_word_collect.specs.declared.collect_fault.RunFault.TheVariants.{NoMemory};
 
-use crate::fault::RunFault;
+use crate::Reopen;
+use crate::collect_fault::RunFault;
 use crate::files::FileByPath;
 use crate::watched::WatchedFile;
-use hfs_bag::Watch;
-use hfs_collection::Reopen;
-use hfs_contents::file_digest;
+use hfs_bag::{Watch, file_digest};
 use hfs_database::{Collection, Comparison, KnownImage, known_image};
 use hfs_source::PlacedBytes;
 use sqlite::Alter;

@@ -1,59 +1,53 @@
-//! Why a run ended early.
+//! Why the rows of an image were not all given.
 ghost use Rattle.std.specs.Prelude.{◌≡◌};
-ghost use Rattle.hfs_word_collect.specs.Answers.{image_fault};
 
-use hfs_collection::CollectFault;
-use hfs_database::{DatabaseFault, Obstacle};
-use hfs_rows::TakerFault;
+use hfs_database::TakerFault;
+use hfs_source::SparseFault;
+use std::alloc::AllocError;
 
-/// Why a run ended early.
+/// Why the rows of an image were not all given.
 #[derive(Clone, Copy, Debug, PartialEq, Eq)]
-pub enum RunFault {
-    /// The database can't be opened.
-    CannotOpen(Obstacle),
-    /// The database, or the writer of the text, can't be written.
+pub enum CollectFault {
+    /// A read of the image failed.
+    ReadFailed,
+    /// A row can't be written.
     CannotWrite,
     /// Memory was refused.
     NoMemory,
 }
 
-impl From<DatabaseFault> for RunFault {
-    ghost use Rattle.hfs_word_collect.specs.Answers.{database_fault};
+impl From<AllocError> for CollectFault {
+    ghost use Rattle.hfs_word_collect.specs.declared.fault.CollectFault.TheVariants.{NoMemory};
 
-    ghost from_gives = { λ why fault. fault ≡ database_fault why };
+    ghost from_gives = { λ _ fault. fault ≡ NoMemory };
 
-    fn from(fault: DatabaseFault) -> RunFault {
+    fn from(_: AllocError) -> CollectFault {
+        CollectFault::NoMemory
+    }
+}
+
+impl From<SparseFault> for CollectFault {
+    ghost use Rattle.hfs_word_collect.specs.Faults.{reading_fault};
+
+    ghost from_gives = { λ why fault. fault ≡ reading_fault why };
+
+    fn from(fault: SparseFault) -> CollectFault {
         match fault {
-            DatabaseFault::CannotOpen(obstacle) => RunFault::CannotOpen(obstacle),
-            DatabaseFault::CannotWrite => RunFault::CannotWrite,
-            DatabaseFault::NoMemory => RunFault::NoMemory,
+            SparseFault::ReadFailed => CollectFault::ReadFailed,
+            SparseFault::Memory => CollectFault::NoMemory,
         }
     }
 }
 
-impl From<TakerFault> for RunFault {
-    ghost use Rattle.hfs_word_collect.specs.Answers.{taker_fault};
+impl From<TakerFault> for CollectFault {
+    ghost use Rattle.hfs_word_collect.specs.Faults.{giving_fault};
 
-    ghost from_gives = { λ why fault. fault ≡ taker_fault why };
+    ghost from_gives = { λ why fault. fault ≡ giving_fault why };
 
-    fn from(fault: TakerFault) -> RunFault {
+    fn from(fault: TakerFault) -> CollectFault {
         match fault {
-            TakerFault::CannotWrite => RunFault::CannotWrite,
-            TakerFault::NoMemory => RunFault::NoMemory,
-        }
-    }
-}
-
-impl RunFault {
-    /// What a failure to give an image's rows means for the run. None if only the image can't be read, and the run goes on with
-    /// the next one.
-    pub fn of_image(fault: CollectFault) -> Option<RunFault>
-        ensures { result ≡ image_fault fault }
-    {
-        match fault {
-            CollectFault::ReadFailed => None,
-            CollectFault::CannotWrite => Some(RunFault::CannotWrite),
-            CollectFault::NoMemory => Some(RunFault::NoMemory),
+            TakerFault::CannotWrite => CollectFault::CannotWrite,
+            TakerFault::NoMemory => CollectFault::NoMemory,
         }
     }
 }

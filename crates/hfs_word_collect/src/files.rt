@@ -4,11 +4,10 @@ ghost use Rattle.hfs_word_collect.specs.Files.{IsHeldIn, IsLentOf, IsNotHeld, Is
 
 use crate::collecting::ImageRows;
 use crate::watched::WatchedFile;
+use crate::{ImageFacts, NotedFile, Reopen};
 use hfs_bag::Watch;
-use hfs_collection::{ImageFacts, NotedFile, Reopen};
 use hfs_commands::{Fault, StoredFile, Window, open_file};
-use hfs_source::PlacedBytes;
-use hfs_sparse::SparseFault;
+use hfs_source::{PlacedBytes, SparseFault};
 use std::io::{Read, Seek};
 use std::marker::Brand;
 use std::rt::Files;

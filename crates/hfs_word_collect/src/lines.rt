@@ -2,7 +2,7 @@
 ghost use Rattle.std.specs.Prelude.{◌≡◌, IfOk, string_bytes};
 ghost use Rattle.hfs_word_collect.specs.Lines.{comparison_line, image_line};
 
-use hfs_collection::ImageCounts;
+use crate::ImageCounts;
 use hfs_commands::ShownPath;
 use hfs_database::Comparison;
 use std::alloc::{AllocError, Global};

@@ -1,15 +1,15 @@
 //! An image's rows as text.
 ghost use Rattle.std.specs.Prelude.{◌≡◌, ◌++◌, IfNone, IfOk, IfSome, OnErr};
-ghost use Rattle.hfs_collection.specs.Counts.{image_counts};
-ghost use Rattle.hfs_collection.specs.Images.{image_rows};
+ghost use Rattle.hfs_word_collect.specs.Counts.{image_counts};
+ghost use Rattle.hfs_word_collect.specs.Images.{image_rows};
 ghost use Rattle.hfs_word_collect.specs.Writing.{WritesPart, WritesSome, WritesWhole};
 
+use crate::collect_fault::RunFault;
 use crate::collecting::ImageRows;
-use crate::fault::RunFault;
-use hfs_collection::{ImageCounts, ImageFile, give_image};
-use hfs_contents::PickedImage;
+use crate::{ImageCounts, ImageFile, give_image};
+use hfs_bag::PickedImage;
+use hfs_database::TextTaker;
 use hfs_source::PlacedBytes;
-use hfs_text_rows::TextTaker;
 use std::io::Write;
 
 /// Writes the rows of an image, and its end, and returns how much the image holds if all of them came. None if they didn't,

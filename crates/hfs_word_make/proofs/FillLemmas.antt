@@ -4,8 +4,8 @@ use Rattle.std.specs.Result.{IsErrAnd, IfErr, MatchResult}
 use Rattle.hfs_blocks.specs.Blocks.{block_at, block_count}
 use Rattle.hfs_blocks.specs.Layers.{changes, AreWithin}
 use Rattle.hfs_check.specs.VolumeOf.{volume_of}
-use Rattle.hfs_sources.specs.Items.{PlannedItem}
-use Rattle.hfs_working.specs.Working.{IsWorkingCopy}
+use Rattle.hfs_put_sources.specs.Items.{PlannedItem}
+use Rattle.hfs_copy.specs.Working.{IsWorkingCopy}
 use Rattle.hfs_word_make.specs.declared.order.MakeOrder.{MakeOrder}
 use Rattle.hfs_word_make.specs.Filled.{IsFullIn, IsFullOn, IsLaidOn, IsPutIn, IsUnputIn}
 use Rattle.hfs_word_make.specs.Orders.{put_order}

@@ -1,3 +1,4 @@
+mod PlainNames
 mod FillLemmas
 mod DoublingLemmas
 mod MadeLists

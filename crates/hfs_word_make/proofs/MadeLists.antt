@@ -1,16 +1,16 @@
 -- What was listed for a new volume, and was put on it or not.
 use Rattle.std.proofs.Common.{◌≡◌, ◌∙◌, ℕ, List, map, Option, None, sym, ap, subst, inl, inr}
 use Rattle.std.specs.Borrow.{Bor}
-use Rattle.hfs_bag_facts.specs.Digests.{first_wrong}
-use Rattle.hfs_bag_facts.specs.Later.{Entries, told_at}
+use Rattle.hfs_put_sources.specs.Digests.{first_wrong}
+use Rattle.hfs_put_sources.specs.Later.{Entries, told_at}
 use Rattle.hfs_format.specs.declared.planned_image.PlannedImage.{PlannedImage}
-use Rattle.hfs_make.specs.declared.items.NewItem.{NewItem}
-use Rattle.hfs_make.specs.declared.new_volume.NewVolume.{NewVolume}
-use Rattle.hfs_make.specs.declared.volume_name.VolumeName.{VolumeName}
-use Rattle.hfs_make.specs.declared.volume_size.VolumeSize.{VolumeSize}
-use Rattle.hfs_make_items.specs.Items.{new_item_of}
-use Rattle.hfs_sources.specs.Items.{PlannedItem}
-use Rattle.hfs_sources.specs.Trees.{OfEachTree, Tree}
+use Rattle.hfs_format.specs.declared.items.NewItem.{NewItem}
+use Rattle.hfs_format.specs.declared.new_volume.NewVolume.{NewVolume}
+use Rattle.hfs_format.specs.declared.volume_name.VolumeName.{VolumeName}
+use Rattle.hfs_format.specs.declared.volume_size.VolumeSize.{VolumeSize}
+use Rattle.hfs_word_make.specs.Items.{new_item_of}
+use Rattle.hfs_put_sources.specs.Items.{PlannedItem}
+use Rattle.hfs_put_sources.specs.Trees.{OfEachTree, Tree}
 use Rattle.hfs_word_make.specs.declared.order.MakeOrder.{MakeOrder}
 use Rattle.hfs_word_make.specs.Doubled.{IsFilled, IsNotFilled}
 use Rattle.hfs_word_make.specs.Listed.{IsNewListed}

@@ -3,23 +3,23 @@ use Rattle.std.proofs.Common.{◌≡◌, ◌∙◌, ◌≤◌, ◌<◌, ◌/◌,
 use Rattle.std.proofs.lemmas.List.{take_all}
 use Rattle.hfs_blocks.specs.Layers.{changes, AreWithin}
 use Rattle.hfs_check.specs.VolumeOf.{volume_of}
-use Rattle.hfs_containers.specs.Ranges.{bytes_in}
-use Rattle.hfs_format.specs.declared.plan.FormatPlan.{FormatPlan}
+use Rattle.hfs_source.specs.Ranges.{bytes_in}
+use Rattle.hfs_format.specs.declared.format_plan.FormatPlan.{FormatPlan}
 use Rattle.hfs_format.specs.declared.planned_image.PlannedImage.{PlannedImage}
 use Rattle.hfs_format.specs.FormatLaws.{planned_volume, volume_of_root}
 use Rattle.hfs_format.specs.Image.{image_bytes, new_image}
 use Rattle.hfs_format.specs.Plan.{block_factor}
 use Rattle.hfs_format.proofs.NewImage.{new_images-hold}
-use Rattle.hfs_laid_forks.specs.Files.{IsReadOf, ReadTree}
-use Rattle.hfs_make.specs.declared.new_image.NewImage.{NewImage}
-use Rattle.hfs_make.specs.declared.volume_name.VolumeName.{VolumeName}
+use Rattle.hfs_put.specs.Files.{IsReadOf, ReadTree}
+use Rattle.hfs_format.specs.declared.new_image.NewImage.{NewImage}
+use Rattle.hfs_format.specs.declared.volume_name.VolumeName.{VolumeName}
 use Rattle.hfs_model.specs.declared.reply.Reply.{Reply}
-use Rattle.hfs_put_files.specs.Arrivals.{arrivals_of}
-use Rattle.hfs_put_files.specs.PutFiles.{IsFilePut, IsImageOf, IsPutList, put_file}
-use Rattle.hfs_put_files.proofs.WholeFiles.{put_files_hold_put}
-use Rattle.hfs_sources.specs.Items.{PlannedItem}
-use Rattle.hfs_sources.specs.Trees.{OfEachTree, Tree}
-use Rattle.hfs_working.specs.Working.{IsWorkingCopy}
+use Rattle.hfs_put.specs.Arrivals.{arrivals_of}
+use Rattle.hfs_put.specs.PutFiles.{IsFilePut, IsImageOf, IsPutList, put_file}
+use Rattle.hfs_put.proofs.WholeFiles.{put_files_hold_put}
+use Rattle.hfs_put_sources.specs.Items.{PlannedItem}
+use Rattle.hfs_put_sources.specs.Trees.{OfEachTree, Tree}
+use Rattle.hfs_copy.specs.Working.{IsWorkingCopy}
 use Rattle.hfs_word_make.specs.declared.order.MakeOrder.{MakeOrder}
 use Rattle.hfs_word_make.specs.declared.settled_image.SettledImage.{SettledImage}
 use Rattle.hfs_word_make.specs.Filled.{IsPutIn}

@@ -9,9 +9,9 @@ use Rattle.hfs_format.specs.declared.layout.Layout.{Layout}
 use Rattle.hfs_format.specs.declared.planned_image.PlannedImage.{PlannedImage}
 use Rattle.hfs_format.specs.Image.{image_bytes, new_image, volume_image}
 use Rattle.hfs_format.proofs.NewImage.{new_images-sound}
-use Rattle.hfs_needed.specs.declared.opening.NeededFault.{NeededFault}
-use Rattle.hfs_needed.specs.declared.opening.NeededFault.TheVariants.{Refused}
-use Rattle.hfs_needed.specs.Opened.{IsRefusedFor}
+use Rattle.hfs_image.specs.declared.opening.NeededFault.{NeededFault}
+use Rattle.hfs_image.specs.declared.opening.NeededFault.TheVariants.{Refused}
+use Rattle.hfs_image.specs.Opened.{IsRefusedFor}
 
 no-fault : (image : PlannedImage) → fault_of (image_bytes image) ≡ None
 no-fault image =

@@ -3,9 +3,9 @@ use Rattle.std.specs.Prelude.{◌⊎◌, ℕ, ◌<◌, List}
 use Rattle.std.specs.Borrow.{Bor}
 use Rattle.hfs_format.specs.declared.planned_image.PlannedImage.{PlannedImage}
 use Rattle.hfs_format.specs.Image.{image_bytes}
-use Rattle.hfs_make.specs.declared.fault.MakeFault.{MakeFault}
-use Rattle.hfs_make.specs.declared.new_volume.NewVolume.{NewVolume}
-use Rattle.hfs_sources.specs.Items.{PlannedItem}
+use Rattle.hfs_format.specs.declared.make_fault.MakeFault.{MakeFault}
+use Rattle.hfs_format.specs.declared.new_volume.NewVolume.{NewVolume}
+use Rattle.hfs_put_sources.specs.Items.{PlannedItem}
 use Rattle.hfs_word_make.specs.declared.order.MakeOrder.{MakeOrder}
 use Rattle.hfs_word_make.specs.Filled.{IsFullIn, IsPutIn, IsUnfilled}
 use Rattle.hfs_word_make.specs.Planned.{IsDoubled, IsNotDoubled}

@@ -1,8 +1,8 @@
 -- Why no new volume is planned, as it is told.
 use Rattle.hfs_commands.specs.declared.fault.Fault.{Fault}
 use Rattle.hfs_commands.specs.declared.fault.Fault.TheVariants as why
-use Rattle.hfs_make.specs.declared.fault.MakeFault.{MakeFault}
-use Rattle.hfs_make.specs.declared.fault.MakeFault.TheVariants as make
+use Rattle.hfs_format.specs.declared.make_fault.MakeFault.{MakeFault}
+use Rattle.hfs_format.specs.declared.make_fault.MakeFault.TheVariants as make
 use Rattle.hfs_word_put.specs.declared.fault.PutFault.{PutFault}
 use Rattle.hfs_word_put.specs.declared.fault.PutFault.TheVariants.{Image}
 

@@ -10,9 +10,9 @@ use Rattle.hfs_model.specs.declared.reply.Value.TheVariants as value
 use Rattle.hfs_put.specs.Laying.{IsFaultOfLaying}
 use Rattle.hfs_put.specs.declared.faults.LayFault.{LayFault}
 use Rattle.hfs_put.specs.declared.faults.LayFault.TheVariants as lay_fault
-use Rattle.hfs_put_image.specs.PutImages.{IsPutOver}
-use Rattle.hfs_sources.specs.Items.{PlannedItem}
-use Rattle.hfs_working.specs.Working.{IsWorkingCopy}
+use Rattle.hfs_put.specs.PutImages.{IsPutOver}
+use Rattle.hfs_put_sources.specs.Items.{PlannedItem}
+use Rattle.hfs_copy.specs.Working.{IsWorkingCopy}
 use Rattle.hfs_word_make.specs.declared.order.MakeOrder.{MakeOrder}
 use Rattle.hfs_word_make.specs.Mounted.{IsImageFault}
 use Rattle.hfs_word_make.specs.Orders.{put_order}

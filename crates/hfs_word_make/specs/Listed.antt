@@ -1,12 +1,12 @@
 -- What comes into a new volume, as far as a host tells it.
 use Rattle.std.specs.Prelude.{ℕ, List}
-use Rattle.hfs_bag_facts.specs.Digests.{AreDigestsOf}
-use Rattle.hfs_bag_facts.specs.Later.{Entries, told_at}
-use Rattle.hfs_bag_facts.specs.Told.{AreFactsOf}
-use Rattle.hfs_make_items.specs.Lists.{IsNewList}
+use Rattle.hfs_put_sources.specs.Digests.{AreDigestsOf}
+use Rattle.hfs_put_sources.specs.Later.{Entries, told_at}
+use Rattle.hfs_put_sources.specs.Told.{AreFactsOf}
+use Rattle.hfs_word_make.specs.Lists.{IsNewList}
 use Rattle.hfs_put_plan.specs.declared.facts.ToldFacts.{ToldFacts}
-use Rattle.hfs_sources.specs.Items.{PlannedItem}
-use Rattle.hfs_sources.specs.Trees.{Tree}
+use Rattle.hfs_put_sources.specs.Items.{PlannedItem}
+use Rattle.hfs_put_sources.specs.Trees.{Tree}
 use Rattle.hfs_word_make.specs.declared.order.MakeOrder.{MakeOrder}
 use Rattle.hfs_word_make.specs.Orders.{sources_of}
 

@@ -1,23 +1,23 @@
 -- A new volume with what comes: what its file is to hold, and why there is none.
 use Rattle.std.specs.Prelude.{◌≡◌, ◌⊎◌, ℕ, ◌*◌, List, length, map, Option, None}
 use Rattle.std.specs.Borrow.{Bor}
-use Rattle.hfs_bag_facts.specs.Digests.{first_wrong}
-use Rattle.hfs_bag_facts.specs.Later.{Entries, told_at}
+use Rattle.hfs_put_sources.specs.Digests.{first_wrong}
+use Rattle.hfs_put_sources.specs.Later.{Entries, told_at}
 use Rattle.hfs_check.specs.VolumeOf.{volume_of}
 use Rattle.hfs_commands.specs.declared.fault.Fault.TheVariants as why
 use Rattle.hfs_format.specs.declared.planned_image.PlannedImage.{PlannedImage}
 use Rattle.hfs_format.specs.FormatLaws.{volume_of_root}
 use Rattle.hfs_format.specs.Image.{image_bytes}
 use Rattle.hfs_format.specs.Plan.{block_factor}
-use Rattle.hfs_make.specs.declared.new_volume.NewVolume.{NewVolume}
-use Rattle.hfs_make.specs.declared.volume_name.VolumeName.{VolumeName}
-use Rattle.hfs_make.specs.declared.volume_size.VolumeSize.{VolumeSize}
-use Rattle.hfs_make_items.specs.Items.{new_item_of}
-use Rattle.hfs_patched.specs.declared.in_file.ImagePlace.{ImagePlace}
-use Rattle.hfs_put_files.specs.Arrivals.{arrivals_of}
-use Rattle.hfs_put_files.specs.PutFiles.{IsFilePut, put_file}
-use Rattle.hfs_sources.specs.Items.{PlannedItem}
-use Rattle.hfs_sources.specs.Trees.{OfEachTree, Tree}
+use Rattle.hfs_format.specs.declared.new_volume.NewVolume.{NewVolume}
+use Rattle.hfs_format.specs.declared.volume_name.VolumeName.{VolumeName}
+use Rattle.hfs_format.specs.declared.volume_size.VolumeSize.{VolumeSize}
+use Rattle.hfs_word_make.specs.Items.{new_item_of}
+use Rattle.hfs_volume.specs.declared.in_file.ImagePlace.{ImagePlace}
+use Rattle.hfs_put.specs.Arrivals.{arrivals_of}
+use Rattle.hfs_put.specs.PutFiles.{IsFilePut, put_file}
+use Rattle.hfs_put_sources.specs.Items.{PlannedItem}
+use Rattle.hfs_put_sources.specs.Trees.{OfEachTree, Tree}
 use Rattle.hfs_word_make.specs.declared.order.MakeOrder.{MakeOrder}
 use Rattle.hfs_word_make.specs.declared.settled_image.SettledImage.{SettledImage}
 use Rattle.hfs_word_make.specs.Doubled.{IsFilled, IsNotFilled}

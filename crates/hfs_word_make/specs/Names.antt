@@ -2,14 +2,14 @@
 use Rattle.std.specs.Prelude.{◌≡◌, ◌⊎◌, ℕ, ⊤, IsTrue, List, Option, Some, None}
 use Rattle.std.specs.Borrow.{Bor}
 use Rattle.hfs_format.specs.Plan.{is_volume_name}
-use Rattle.hfs_make.specs.Names.{name_in}
-use Rattle.hfs_make.specs.TypedSizes.{IsSize, IsSizeOf}
-use Rattle.hfs_make.specs.declared.fault.MakeFault.TheVariants.{BadName, BadSize}
-use Rattle.hfs_make.specs.declared.name.NameSource.TheVariants.{Typed}
-use Rattle.hfs_make.specs.declared.volume_name.VolumeName.{VolumeName}
-use Rattle.hfs_make.specs.declared.volume_size.VolumeSize.{VolumeSize}
-use Rattle.hfs_make_items.specs.Names.{found_name}
-use Rattle.hfs_sources.specs.Trees.{OfEachTree, Tree}
+use Rattle.hfs_format.specs.Names.{name_in}
+use Rattle.hfs_format.specs.TypedSizes.{IsSize, IsSizeOf}
+use Rattle.hfs_format.specs.declared.make_fault.MakeFault.TheVariants.{BadName, BadSize}
+use Rattle.hfs_format.specs.declared.name.NameSource.TheVariants.{Typed}
+use Rattle.hfs_format.specs.declared.volume_name.VolumeName.{VolumeName}
+use Rattle.hfs_format.specs.declared.volume_size.VolumeSize.{VolumeSize}
+use Rattle.hfs_word_make.specs.SourceNames.{found_name}
+use Rattle.hfs_put_sources.specs.Trees.{OfEachTree, Tree}
 use Rattle.hfs_word_make.specs.declared.order.MakeOrder.{MakeOrder}
 use Rattle.hfs_word_make.specs.Faults.{told_of}
 use Rattle.hfs_word_make.specs.Orders.{sources_of}

@@ -1,9 +1,9 @@
 -- The plan of a new volume for a list of items.
 use Rattle.std.specs.Prelude.{◌≡◌, ℕ, ◌^◌, [], None}
 use Rattle.hfs_format.specs.declared.planned_image.PlannedImage.{PlannedImage}
-use Rattle.hfs_make.specs.declared.fault.MakeFault.{MakeFault}
-use Rattle.hfs_make.specs.declared.new_volume.NewVolume.{NewVolume}
-use Rattle.hfs_make.specs.Plans.{IsMadeFor, IsPlanFault}
+use Rattle.hfs_format.specs.declared.make_fault.MakeFault.{MakeFault}
+use Rattle.hfs_format.specs.declared.new_volume.NewVolume.{NewVolume}
+use Rattle.hfs_format.specs.Plans.{IsMadeFor, IsPlanFault}
 
 -- ---- with the nodes of its catalog doubled
 

@@ -4,10 +4,10 @@ use Rattle.std.specs.Borrow.{Bor}
 use Rattle.hfs_check.specs.VolumeOf.{volume_of}
 use Rattle.hfs_format.specs.declared.planned_image.PlannedImage.{PlannedImage}
 use Rattle.hfs_format.specs.Image.{image_bytes}
-use Rattle.hfs_make.specs.declared.fault.MakeFault.{MakeFault}
-use Rattle.hfs_make.specs.declared.new_volume.NewVolume.{NewVolume}
-use Rattle.hfs_sources.specs.Items.{PlannedItem}
-use Rattle.hfs_working.specs.Working.{IsWorkingCopy}
+use Rattle.hfs_format.specs.declared.make_fault.MakeFault.{MakeFault}
+use Rattle.hfs_format.specs.declared.new_volume.NewVolume.{NewVolume}
+use Rattle.hfs_put_sources.specs.Items.{PlannedItem}
+use Rattle.hfs_copy.specs.Working.{IsWorkingCopy}
 use Rattle.hfs_word_make.specs.declared.order.MakeOrder.{MakeOrder}
 use Rattle.hfs_word_make.specs.Faults.{told_of}
 use Rattle.hfs_word_make.specs.Mounted.{IsImageFault}

@@ -10,8 +10,8 @@ use crate::laying::lay_list;
 use crate::mounting::mount_new;
 use crate::order::MakeOrder;
 use crate::unplanned::unplanned;
-use hfs_make::{NewImage, NewVolume, plan_volume};
-use hfs_sources::SourceItem;
+use hfs_format::{NewImage, NewVolume, plan_volume};
+use hfs_put_sources::SourceItem;
 use hfs_word_put::{PutFault, PutList, place_all};
 use std::alloc::Global;
 

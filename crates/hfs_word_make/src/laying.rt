@@ -9,10 +9,9 @@ ghost use Rattle.hfs_word_put.specs.Laid.{IsUnlaid, wants_of};
 ghost use Rattle.hfs_word_put.specs.Sums.{put_sums};
 
 use hfs_model::{Reply, Value};
-use hfs_put::LayFault;
-use hfs_put_calls::PutItem;
-use hfs_put_image::put_items;
-use hfs_sources::SourceItem;
+use hfs_put::{LayFault, put_items};
+use hfs_put_plan::PutItem;
+use hfs_put_sources::SourceItem;
 use hfs_volume::Volume;
 use hfs_word_put::{PlacedList, PutFault, PutList, PutSums, of_lay, put_sums, wants_of};
 use std::alloc::Global;

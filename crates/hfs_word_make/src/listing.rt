@@ -1,13 +1,12 @@
 //! What comes into a new volume, as far as the host tells it.
 ghost use Rattle.std.specs.Prelude.{IfErr, IfOk};
-ghost use Rattle.hfs_sources.specs.Trees.{OfEachTree};
+ghost use Rattle.hfs_put_sources.specs.Trees.{OfEachTree};
 ghost use Rattle.hfs_word_make.specs.Listed.{IsNewListed};
 ghost use Rattle.hfs_word_put.specs.Listed.{IsUnlisted};
 
+use crate::list_new;
 use crate::order::MakeOrder;
-use hfs_bag_facts::{BagFacts, ManifestDigests};
-use hfs_make_items::list_new;
-use hfs_sources::{HostFault, HostTree};
+use hfs_put_sources::{BagFacts, HostFault, HostTree, ManifestDigests};
 use hfs_word_put::{Listed, PutFault};
 use std::alloc::Global;
 

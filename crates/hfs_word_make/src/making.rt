@@ -2,21 +2,21 @@
 ghost use Rattle.std.specs.Prelude.{◌≡◌, ◌/◌, ◌<◌, ◌≤◌, ◌^◌, IfErr, IfOk, OnOk, length};
 ghost use Rattle.hfs_blocks.specs.Layers.{changes, AreWithin};
 ghost use Rattle.hfs_format.specs.Image.{image_bytes};
-ghost use Rattle.hfs_laid_forks.specs.Files.{IsReadOf};
-ghost use Rattle.hfs_sources.specs.Trees.{OfEachTree};
+ghost use Rattle.hfs_put.specs.Files.{IsReadOf};
+ghost use Rattle.hfs_put_sources.specs.Trees.{OfEachTree};
 ghost use Rattle.hfs_word_make.specs.Made.{IsMadeFile, IsMadeOf, IsUnmade, IsUnmadeList};
 
 use crate::filling::{FilledImage, filled_image};
 use crate::listing::list_all_new;
 use crate::naming::{made_name, made_size};
+use crate::new_items;
 use crate::order::MakeOrder;
 use crate::settled_image::SettledImage;
 use hfs_commands::WatchedRange;
-use hfs_laid_forks::HostFiles;
-use hfs_make::{NewImage, NewItem, NewVolume, VolumeName, VolumeSize};
-use hfs_make_items::new_items;
+use hfs_format::{NewImage, NewItem, NewVolume, VolumeName, VolumeSize};
+use hfs_put::HostFiles;
+use hfs_put_sources::HostTree;
 use hfs_source::{PlacedBytes, RangeBytes};
-use hfs_sources::HostTree;
 use hfs_word_put::{Listed, PutFault, PutImage, PutItems, Watch, need_digests, put_image};
 use std::alloc::Global;
 

@@ -2,14 +2,14 @@
 ghost use Rattle.std.specs.Prelude.{◌≡◌, ◌≤◌, IfErr, IfOk, OnOk, length};
 ghost use Rattle.hfs_format.specs.Image.{image_bytes};
 ghost use Rattle.hfs_word_make.specs.Mounted.{IsUnmounted};
-ghost use Rattle.hfs_working.specs.Working.{IsWorkingCopy};
+ghost use Rattle.hfs_copy.specs.Working.{IsWorkingCopy};
 
 use hfs_commands::Fault;
-use hfs_make::NewImage;
-use hfs_needed::NeededFault;
+use hfs_copy::{WorkingVolume, mount_read, open_working};
+use hfs_format::NewImage;
+use hfs_image::NeededFault;
 use hfs_source::PlacedBytes;
 use hfs_volume::Volume;
-use hfs_working::{WorkingVolume, mount_read, open_working};
 use std::alloc::Global;
 
 /// Makes the blocks of a new volume that calls read and write, and mounts it over them, with zeros in the place of all other blocks.

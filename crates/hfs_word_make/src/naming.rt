@@ -1,15 +1,15 @@
 //! The name and the size that a new volume gets.
 ghost use Rattle.std.specs.Prelude.{◌⊎◌, IfErr, IfOk, MatchResult};
-ghost use Rattle.hfs_make_items.specs.Names.{IsReadAs};
-ghost use Rattle.hfs_sources.specs.Trees.{OfEachTree};
+ghost use Rattle.hfs_word_make.specs.SourceNames.{IsReadAs};
+ghost use Rattle.hfs_put_sources.specs.Trees.{OfEachTree};
 ghost use Rattle.hfs_word_make.specs.Names.{IsAskedSize, IsBadSized, IsNamed, IsUnnamed, letters_of};
 ghost use Rattle.hfs_word_put.specs.Faults.{IsHostFault};
 
+use crate::found_name;
 use crate::order::MakeOrder;
 use crate::refusing::of_make;
-use hfs_make::{MakeFault, NameSource, VolumeName, VolumeSize, read_name, read_size};
-use hfs_make_items::found_name;
-use hfs_sources::{HostFault, HostTree};
+use hfs_format::{MakeFault, NameSource, VolumeName, VolumeSize, read_name, read_size};
+use hfs_put_sources::{HostFault, HostTree};
 use hfs_word_put::PutFault;
 use std::alloc::Global;
 

@@ -2,7 +2,7 @@
 ghost use Rattle.std.specs.Prelude.{◌≡◌};
 ghost use Rattle.hfs_word_make.specs.Orders.{put_order};
 
-use hfs_sources::PutOptions;
+use hfs_put_sources::PutOptions;
 use hfs_word_put::PutOrder;
 
 /// What a new volume is made of, and how.

@@ -3,7 +3,7 @@ ghost use Rattle.std.specs.Prelude.{◌≡◌};
 ghost use Rattle.hfs_word_make.specs.Faults.{told_of};
 
 use hfs_commands::Fault;
-use hfs_make::MakeFault;
+use hfs_format::MakeFault;
 use hfs_word_put::PutFault;
 
 /// What it means that no new volume is planned.

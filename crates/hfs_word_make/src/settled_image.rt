@@ -3,7 +3,7 @@ ghost use Rattle.std.specs.Prelude.{◌≡◌, ⊤};
 ghost use Rattle.hfs_format.specs.Image.{image_bytes};
 
 use hfs_commands::WatchedBytes;
-use hfs_make::NewImage;
+use hfs_format::NewImage;
 use hfs_source::PlacedBytes;
 use std::io;
 

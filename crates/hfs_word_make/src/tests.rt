@@ -1,7 +1,7 @@
 //! A new volume is made of trees in memory.
 use super::*;
 use hfs_put_plan::EntryKind;
-use hfs_sources::{HostNode, HostTime, Look, MemoryTree, PutOptions};
+use hfs_put_sources::{HostNode, HostTime, Look, MemoryTree, PutOptions};
 use hfs_word_put::{PutSums, Watch};
 
 /// Nobody is told of bytes that are read.

@@ -2,14 +2,14 @@
 use Rattle.std.proofs.Common.{◌≡◌, ◌≤◌, ℕ, ◌/◌, List, length, Some, None, sym, ◌∙◌, ap, subst}
 use Rattle.hfs_blocks.specs.Blocks.{block_count}
 use Rattle.hfs_check.specs.Sound.{IsImageLength, IsSound}
-use Rattle.hfs_sparse.specs.Seen.{IsSeen}
-use Rattle.hfs_working.specs.Opened.{IsRunnable}
-use Rattle.hfs_sparse.specs.Sparse.{IsOf}
+use Rattle.hfs_source.specs.Seen.{IsSeen}
+use Rattle.hfs_copy.specs.Opened.{IsRunnable}
+use Rattle.hfs_source.specs.Sparse.{IsOf}
 use Rattle.hfs_volume.specs.Image.{copy_of}
 use Rattle.hfs_volume.proofs.CopyLemmas.{length-copy}
-use Rattle.hfs_working.specs.declared.opening.WorkingVolume.{WorkingVolume}
-use Rattle.hfs_working.specs.Opened.{IsWorkingOf}
-use Rattle.hfs_working.proofs.ReadWork.{opened-copy}
+use Rattle.hfs_copy.specs.declared.opening.WorkingVolume.{WorkingVolume}
+use Rattle.hfs_copy.specs.Opened.{IsWorkingOf}
+use Rattle.hfs_copy.proofs.ReadWork.{opened-copy}
 use Rattle.hfs_word_put.specs.Put.{IsCopyOfEach}
 
 module _ (Holds : List ℕ → Type 0) (len : ℕ) (working : WorkingVolume) (is : IsRunnable Holds len working) where

@@ -1,16 +1,16 @@
 -- What a file is to hold, by its parts.
 use Rattle.std.proofs.Common.{◌≡◌, ◌∙◌, ℕ, ◌/◌, List, [], Option, None, Vec, Global, length, drop, refl, sym, subst, ap, arith, length-take, length-drop}
 use Rattle.hfs_blocks.specs.Layers.{changes, AreWithin}
-use Rattle.hfs_containers.specs.Ranges.{bytes_in}
-use Rattle.hfs_laid_forks.specs.Files.{IsReadOf, ReadTree}
-use Rattle.hfs_patched.specs.InFile.{LiesIn}
-use Rattle.hfs_patched.specs.declared.in_file.ImagePlace.{ImagePlace}
-use Rattle.hfs_put_files.specs.PutFiles.{IsImageOf, IsPutList, IsSumBefore}
-use Rattle.hfs_put_files.proofs.WholeFiles.{put_files_hold_put}
-use Rattle.hfs_put_image.specs.declared.putting.PutBlocks.{PutBlocks}
+use Rattle.hfs_source.specs.Ranges.{bytes_in}
+use Rattle.hfs_put.specs.Files.{IsReadOf, ReadTree}
+use Rattle.hfs_volume.specs.InFile.{LiesIn}
+use Rattle.hfs_volume.specs.declared.in_file.ImagePlace.{ImagePlace}
+use Rattle.hfs_put.specs.PutFiles.{IsImageOf, IsPutList, IsSumBefore}
+use Rattle.hfs_put.proofs.WholeFiles.{put_files_hold_put}
+use Rattle.hfs_put.specs.declared.putting.PutBlocks.{PutBlocks}
 use Rattle.hfs_source.specs.Images.{IsRangeOf}
-use Rattle.hfs_sources.specs.Items.{PlannedItem}
-use Rattle.hfs_sources.specs.Trees.{Tree}
+use Rattle.hfs_put_sources.specs.Items.{PlannedItem}
+use Rattle.hfs_put_sources.specs.Trees.{Tree}
 use Rattle.hfs_word_put.specs.declared.lines.PutSums.{PutSums}
 use Rattle.hfs_word_put.specs.declared.placing.PlacedList.{PlacedList}
 use Rattle.hfs_word_put.specs.declared.order.PutOrder.{PutOrder}

@@ -6,8 +6,8 @@ use Rattle.hfs_model.specs.declared.codes.TheConstants.{NOT_FOUND}
 use Rattle.hfs_model.specs.declared.reply.Reply.{Reply}
 use Rattle.hfs_model.specs.Replies.{refusal}
 use Rattle.hfs_model.specs.Volume.{Entry}
-use Rattle.hfs_needed.specs.Paths.{path_told}
-use Rattle.hfs_paths.specs.Paths.{path_names}
+use Rattle.hfs_image.specs.Paths.{path_told}
+use Rattle.hfs_texts.specs.Paths.{path_names}
 
 by-found : (es : List Entry) (path : List ℕ) (reply : Reply) (found : Option (List (List ℕ))) → found ≡ path_names path
     → reply ≡ option_map_or (path_told es) found (refusal NOT_FOUND) → reply ≡ path_reply es path

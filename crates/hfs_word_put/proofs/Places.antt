@@ -3,8 +3,8 @@ use Rattle.std.proofs.Common.{◌≡◌, ℕ, ◌+◌, List, [], ◌∷◌, map,
 use Rattle.hfs_put.specs.declared.decisions.Decision.{Decision}
 use Rattle.hfs_put.specs.declared.decisions.Decision.TheVariants as decided
 use Rattle.hfs_put.specs.PlacedSources.{item_put, refused_from}
-use Rattle.hfs_put_calls.specs.declared.items.PutItem.{PutItem}
-use Rattle.hfs_sources.specs.Items.{PlannedItem}
+use Rattle.hfs_put_plan.specs.declared.items.PutItem.{PutItem}
+use Rattle.hfs_put_sources.specs.Items.{PlannedItem}
 use Rattle.hfs_word_put.specs.Placed.{lines_told}
 
 none-refused : (place : ℕ) (ds : List Decision) (items : List PutItem) → map item_put ds ≡ map Some items → refused_from place ds ≡ []

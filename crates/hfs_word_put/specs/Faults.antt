@@ -6,8 +6,8 @@ use Rattle.hfs_commands.specs.declared.fault.Fault.{Fault}
 use Rattle.hfs_commands.specs.declared.fault.Fault.TheVariants as why
 use Rattle.hfs_commands.specs.declared.fault.Status.{Status}
 use Rattle.hfs_commands.specs.declared.fault.Status.TheVariants as status
-use Rattle.hfs_sources.specs.declared.fault.HostFault.{HostFault}
-use Rattle.hfs_sources.specs.declared.fault.HostFault.TheVariants as host
+use Rattle.hfs_put_sources.specs.declared.fault.HostFault.{HostFault}
+use Rattle.hfs_put_sources.specs.declared.fault.HostFault.TheVariants as host
 use Rattle.hfs_word_put.specs.declared.fault.PutFault.{PutFault}
 use Rattle.hfs_word_put.specs.declared.fault.PutFault.TheVariants as fault
 use Rattle.hfs_word_put.specs.declared.reason.PutReason.TheVariants as reason

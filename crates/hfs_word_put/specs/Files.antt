@@ -1,14 +1,14 @@
 -- What a file is to hold in which something was put on a volume.
 use Rattle.std.specs.Prelude.{◌≡◌, ℕ, List, Option}
-use Rattle.hfs_containers.specs.Ranges.{range_of}
-use Rattle.hfs_patched.specs.declared.in_file.ImagePlace.{ImagePlace}
-use Rattle.hfs_patched.specs.InFile.{LiesIn}
-use Rattle.hfs_put_files.specs.Arrivals.{arrivals_of}
-use Rattle.hfs_put_files.specs.PutFiles.{IsFilePut, IsSumBefore, put_file}
-use Rattle.hfs_put_image.specs.declared.putting.PutBlocks.{PutBlocks}
+use Rattle.hfs_source.specs.Ranges.{range_of}
+use Rattle.hfs_volume.specs.declared.in_file.ImagePlace.{ImagePlace}
+use Rattle.hfs_volume.specs.InFile.{LiesIn}
+use Rattle.hfs_put.specs.Arrivals.{arrivals_of}
+use Rattle.hfs_put.specs.PutFiles.{IsFilePut, IsSumBefore, put_file}
+use Rattle.hfs_put.specs.declared.putting.PutBlocks.{PutBlocks}
 use Rattle.hfs_source.specs.Images.{IsRangeOf}
-use Rattle.hfs_sources.specs.Items.{PlannedItem}
-use Rattle.hfs_sources.specs.Trees.{Tree}
+use Rattle.hfs_put_sources.specs.Items.{PlannedItem}
+use Rattle.hfs_put_sources.specs.Trees.{Tree}
 use Rattle.hfs_word_put.specs.declared.lines.PutSums.{PutSums}
 use Rattle.hfs_word_put.specs.declared.order.PutOrder.{PutOrder}
 use Rattle.hfs_word_put.specs.declared.putting.PutImage.{PutImage}

@@ -9,8 +9,8 @@ use Rattle.hfs_model.specs.Volume.{Volume}
 use Rattle.hfs_put.specs.Laying.{IsFaultOfLaying}
 use Rattle.hfs_put.specs.declared.faults.LayFault.{LayFault}
 use Rattle.hfs_put.specs.declared.faults.LayFault.TheVariants as lay_fault
-use Rattle.hfs_put_calls.specs.declared.items.PutItem.{PutItem}
-use Rattle.hfs_sources.specs.Items.{PlannedItem}
+use Rattle.hfs_put_plan.specs.declared.items.PutItem.{PutItem}
+use Rattle.hfs_put_sources.specs.Items.{PlannedItem}
 use Rattle.hfs_check.specs.Parts.{Blocks, mdb_in}
 use Rattle.hfs_word_put.specs.Sums.{wanted_of}
 use Rattle.hfs_word_put.specs.declared.placing.PlacedList.{PlacedList}

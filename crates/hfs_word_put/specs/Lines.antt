@@ -5,7 +5,7 @@ use Rattle.std.specs.List.{concat, flat_map}
 use Rattle.std.specs.Option.{option_map_or}
 use Rattle.hfs_commands.specs.Paths.{path_text}
 use Rattle.hfs_put.specs.declared.placing.RefusedItem.{RefusedItem}
-use Rattle.hfs_sources.specs.Items.{PlannedItem}
+use Rattle.hfs_put_sources.specs.Items.{PlannedItem}
 use Rattle.hfs_texts.specs.Lines.{line}
 use Rattle.hfs_word_put.specs.declared.lines.PutSums.{PutSums}
 use Rattle.hfs_word_put.specs.declared.reason.PutReason.{PutReason}

@@ -1,13 +1,13 @@
 -- What comes, as far as a host tells it.
 use Rattle.std.specs.Prelude.{◌≡◌, ◌⊎◌, ℕ, List, Some}
-use Rattle.hfs_bag_facts.specs.Digests.{AreDigestsOf, first_wrong}
-use Rattle.hfs_bag_facts.specs.Later.{Entries, told_at}
-use Rattle.hfs_bag_facts.specs.Told.{AreFactsOf}
+use Rattle.hfs_put_sources.specs.Digests.{AreDigestsOf, first_wrong}
+use Rattle.hfs_put_sources.specs.Later.{Entries, told_at}
+use Rattle.hfs_put_sources.specs.Told.{AreFactsOf}
 use Rattle.hfs_put_plan.specs.declared.facts.ToldFacts.{ToldFacts}
-use Rattle.hfs_sources.specs.declared.fault.HostFault.{HostFault}
-use Rattle.hfs_sources.specs.Items.{PlannedItem}
-use Rattle.hfs_sources.specs.Sources.{IsListing}
-use Rattle.hfs_sources.specs.Trees.{OfEachTree, Tree}
+use Rattle.hfs_put_sources.specs.declared.fault.HostFault.{HostFault}
+use Rattle.hfs_put_sources.specs.Items.{PlannedItem}
+use Rattle.hfs_put_sources.specs.Sources.{IsListing}
+use Rattle.hfs_put_sources.specs.Trees.{OfEachTree, Tree}
 use Rattle.hfs_word_put.specs.declared.fault.PutFault.{PutFault}
 use Rattle.hfs_word_put.specs.declared.order.PutOrder.{PutOrder}
 use Rattle.hfs_word_put.specs.declared.reason.PutReason.TheVariants.{Digest}

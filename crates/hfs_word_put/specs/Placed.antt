@@ -8,7 +8,7 @@ use Rattle.hfs_model.specs.Children.{entries_of}
 use Rattle.hfs_model.specs.Volume.{Volume}
 use Rattle.hfs_put.specs.PlacedSources.{decisions, item_put, lock_code, refused_from}
 use Rattle.hfs_put.specs.declared.placing.RefusedItem.{RefusedItem}
-use Rattle.hfs_sources.specs.Items.{PlannedItem}
+use Rattle.hfs_put_sources.specs.Items.{PlannedItem}
 use Rattle.hfs_word_put.specs.declared.fault.PutFault.{PutFault}
 use Rattle.hfs_word_put.specs.declared.fault.PutFault.TheVariants.{Image}
 use Rattle.hfs_word_put.specs.declared.order.PutOrder.{PutOrder}

@@ -1,8 +1,8 @@
 -- What is put on a volume in a file, and what the file is to hold then.
 use Rattle.std.specs.Prelude.{◌≡◌, ◌⊎◌, ◌≤◌, ◌/◌, ℕ, List, length, None, Some}
 use Rattle.std.specs.Borrow.{Bor}
-use Rattle.hfs_bag_facts.specs.Digests.{first_wrong}
-use Rattle.hfs_bag_facts.specs.Later.{Entries, told_at}
+use Rattle.hfs_put_sources.specs.Digests.{first_wrong}
+use Rattle.hfs_put_sources.specs.Later.{Entries, told_at}
 use Rattle.hfs_blocks.specs.Blocks.{block_at, block_count}
 use Rattle.hfs_check.specs.Faults.{fault_of}
 use Rattle.hfs_check.specs.Parts.{mdb_in}
@@ -11,12 +11,12 @@ use Rattle.hfs_commands.specs.declared.fault.Fault.{Fault}
 use Rattle.hfs_commands.specs.declared.fault.Fault.TheVariants as why
 use Rattle.hfs_commands.specs.declared.watched_range.WatchedRange.{WatchedRange}
 use Rattle.hfs_check.specs.declared.mount_fault.MountFault.{MountFault}
-use Rattle.hfs_put_image.specs.PutImages.{IsPutOver}
-use Rattle.hfs_put_image.specs.declared.putting.PutBlocks.{PutBlocks}
+use Rattle.hfs_put.specs.PutImages.{IsPutOver}
+use Rattle.hfs_put.specs.declared.putting.PutBlocks.{PutBlocks}
 use Rattle.hfs_source.specs.Images.{FailsInRange, IsRangeOf, OfEach}
-use Rattle.hfs_sources.specs.Items.{PlannedItem}
-use Rattle.hfs_sources.specs.Trees.{OfEachTree, Tree}
-use Rattle.hfs_working.specs.Working.{IsWorkingCopy}
+use Rattle.hfs_put_sources.specs.Items.{PlannedItem}
+use Rattle.hfs_put_sources.specs.Trees.{OfEachTree, Tree}
+use Rattle.hfs_copy.specs.Working.{IsWorkingCopy}
 use Rattle.hfs_word_put.specs.declared.fault.PutFault.{PutFault}
 use Rattle.hfs_word_put.specs.declared.fault.PutFault.TheVariants as fault
 use Rattle.hfs_word_put.specs.declared.lines.PutSums.{PutSums}

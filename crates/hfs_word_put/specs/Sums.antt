@@ -3,7 +3,7 @@ use Rattle.std.specs.Prelude.{ℕ, ◌+◌, min, if◌then◌else◌, List, sum_
 use Rattle.hfs_model.specs.Forks.{blocks, is_block_size}
 use Rattle.hfs_model.specs.declared.reply.ItemKind.{ItemKind}
 use Rattle.hfs_model.specs.declared.reply.ItemKind.TheVariants as kind
-use Rattle.hfs_put_calls.specs.declared.items.PutItem.{PutItem}
+use Rattle.hfs_put_plan.specs.declared.items.PutItem.{PutItem}
 use Rattle.hfs_put_plan.specs.declared.over.Placing.{Placing}
 use Rattle.hfs_put_plan.specs.declared.over.Placing.TheVariants as placing
 use Rattle.hfs_word_put.specs.declared.lines.PutSums.{PutSums}

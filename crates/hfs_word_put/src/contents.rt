@@ -1,15 +1,15 @@
 //! A file with what is put on its volume; it is looked at again, with everything that it is read from.
 ghost use Rattle.std.specs.Prelude.{◌≡◌, OnOk};
 ghost use Rattle.hfs_source.specs.Images.{OfEach};
-ghost use Rattle.hfs_laid_forks.specs.Failures.{FailsLaid};
-ghost use Rattle.hfs_laid_forks.specs.Images.{laid_images};
+ghost use Rattle.hfs_put.specs.Failures.{FailsLaid};
+ghost use Rattle.hfs_put.specs.Images.{laid_images};
 ghost use Rattle.hfs_word_put.specs.Contents.{IsSettled};
 
 use hfs_bag::Watch;
 use hfs_commands::WatchedBytes;
-use hfs_laid_forks::{LaidForks, PlacedFiles};
+use hfs_put::{LaidForks, PlacedFiles};
+use hfs_put_sources::HostFault;
 use hfs_source::PlacedBytes;
-use hfs_sources::HostFault;
 use std::io;
 use std::io::ErrorKind;
 

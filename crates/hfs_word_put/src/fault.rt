@@ -6,7 +6,7 @@ ghost use Rattle.hfs_word_put.specs.Lines.{refusal_line};
 use crate::lines::refusal_line;
 use crate::reason::PutReason;
 use hfs_commands::{Fault, ShownPath, Status};
-use hfs_sources::HostFault;
+use hfs_put_sources::HostFault;
 use std::alloc::{AllocError, Global};
 use std::fmt;
 

@@ -3,7 +3,7 @@ ghost use Rattle.std.specs.Prelude.{◌≡◌, IfErr, IfOk};
 ghost use Rattle.hfs_blocks.specs.Blocks.{block_at, block_count};
 ghost use Rattle.hfs_check.specs.VolumeOf.{volume_of};
 ghost use Rattle.hfs_blocks.specs.Layers.{changes, AreWithin};
-ghost use Rattle.hfs_put_image.specs.PutImages.{IsPutOver};
+ghost use Rattle.hfs_put.specs.PutImages.{IsPutOver};
 ghost use Rattle.hfs_word_put.specs.Laid.{IsUnlaid, TellsLay, reply_reason, wants_of};
 
 use crate::fault::PutFault;
@@ -13,10 +13,9 @@ use crate::reason::PutReason;
 use crate::wants::wanted_of;
 use hfs_commands::Fault;
 use hfs_model::{NOT_FOUND, Reply, Value};
-use hfs_put::LayFault;
-use hfs_put_calls::PutItem;
-use hfs_put_image::{PutBlocks, put_items};
-use hfs_sources::SourceItem;
+use hfs_put::{LayFault, PutBlocks, put_items};
+use hfs_put_plan::PutItem;
+use hfs_put_sources::SourceItem;
 use hfs_volume::Volume;
 use std::alloc::Global;
 

@@ -6,7 +6,7 @@ ghost use Rattle.hfs_word_put.specs.Lines.{item_line, line_at, line_of, lines_of
 use crate::reason::PutReason;
 use hfs_commands::ShownPath;
 use hfs_put::RefusedItem;
-use hfs_sources::SourceItem;
+use hfs_put_sources::SourceItem;
 use hfs_texts::{Show, push_line};
 use std::alloc::{AllocError, Global};
 

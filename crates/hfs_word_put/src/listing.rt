@@ -1,8 +1,8 @@
 //! What is put, as the host describes it.
 ghost use Rattle.std.specs.Prelude.{◌≡◌, None, IfErr, IfOk, OnOk};
-ghost use Rattle.hfs_bag_facts.specs.Digests.{first_wrong};
-ghost use Rattle.hfs_bag_facts.specs.Later.{told_at};
-ghost use Rattle.hfs_sources.specs.Trees.{OfEachTree};
+ghost use Rattle.hfs_put_sources.specs.Digests.{first_wrong};
+ghost use Rattle.hfs_put_sources.specs.Later.{told_at};
+ghost use Rattle.hfs_put_sources.specs.Trees.{OfEachTree};
 ghost use Rattle.hfs_word_put.specs.Faults.{SparesImage};
 ghost use Rattle.hfs_word_put.specs.Listed.{IsListed, IsUnlisted, IsUnverified};
 
@@ -10,8 +10,9 @@ use crate::fault::PutFault;
 use crate::lines::refusal_line;
 use crate::order::PutOrder;
 use crate::reason::PutReason;
-use hfs_bag_facts::{BagFacts, ManifestDigests, first_wrong_file};
-use hfs_sources::{HostFault, HostTree, SourceItem, list_sources};
+use hfs_put_sources::{
+    BagFacts, HostFault, HostTree, ManifestDigests, SourceItem, first_wrong_file, list_sources,
+};
 use std::alloc::Global;
 
 /// What is put.

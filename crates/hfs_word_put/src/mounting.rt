@@ -2,16 +2,16 @@
 ghost use Rattle.std.specs.Prelude.{◌≡◌, ◌/◌, None, IfErr, IfOk};
 ghost use Rattle.hfs_check.specs.Sound.{IsSound};
 ghost use Rattle.hfs_check.specs.declared.mount_fault.MountFault.{MountFault};
-ghost use Rattle.hfs_needed.specs.Failing.{SomeFailsWithin};
+ghost use Rattle.hfs_image.specs.Failing.{SomeFailsWithin};
 ghost use Rattle.hfs_source.specs.Images.{OfEach};
 ghost use Rattle.hfs_volume.specs.Image.{copy_of};
-ghost use Rattle.hfs_working.specs.Opened.{IsWorkingOf};
+ghost use Rattle.hfs_copy.specs.Opened.{IsWorkingOf};
 ghost use Rattle.hfs_word_put.specs.Put.{IsCopyOfEach, IsRefusedImage, IsUnmounted};
 
 use hfs_commands::Fault;
-use hfs_needed::NeededFault;
+use hfs_copy::{FailingBlocks, WorkingVolume, mount_read, open_source};
+use hfs_image::NeededFault;
 use hfs_volume::Volume;
-use hfs_working::{FailingBlocks, WorkingVolume, mount_read, open_source};
 use std::alloc::Global;
 
 /// Reads those blocks of an image of `len` bytes, opened by this path, that calls read and write, and makes all checks.

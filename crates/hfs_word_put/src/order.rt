@@ -1,5 +1,5 @@
 //! What is put on a volume, and how.
-use hfs_sources::PutOptions;
+use hfs_put_sources::PutOptions;
 
 /// What is put on a volume, and how.
 #[derive(Clone, Copy)]

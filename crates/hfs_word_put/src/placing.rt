@@ -13,8 +13,8 @@ use crate::reason::PutReason;
 use crate::target::target_folder;
 use hfs_commands::code_text;
 use hfs_put::{PlacedSources, lock_code, place_sources};
-use hfs_put_calls::PutItem;
-use hfs_sources::SourceItem;
+use hfs_put_plan::PutItem;
+use hfs_put_sources::SourceItem;
 use hfs_volume::Volume;
 use std::alloc::Global;
 

@@ -2,11 +2,11 @@
 ghost use Rattle.std.specs.Prelude.{◌≡◌, ◌≤◌, ◌/◌, IfErr, IfOk, OnOk};
 ghost use Rattle.hfs_blocks.specs.Blocks.{block_at, block_count};
 ghost use Rattle.hfs_check.specs.Parts.{mdb_in};
-ghost use Rattle.hfs_needed.specs.Failing.{SomeFailsWithin};
+ghost use Rattle.hfs_image.specs.Failing.{SomeFailsWithin};
 ghost use Rattle.hfs_source.specs.Images.{OfEach};
 ghost use Rattle.hfs_blocks.specs.Layers.{changes, AreWithin};
-ghost use Rattle.hfs_sources.specs.Trees.{OfEachTree};
-ghost use Rattle.hfs_laid_forks.specs.Files.{IsReadOf};
+ghost use Rattle.hfs_put_sources.specs.Trees.{OfEachTree};
+ghost use Rattle.hfs_put.specs.Files.{IsReadOf};
 ghost use Rattle.hfs_word_put.specs.Faults.{IsUnsavedBy, SparesImage};
 ghost use Rattle.hfs_word_put.specs.Files.{IsPutFile, place_of};
 ghost use Rattle.hfs_word_put.specs.Put.{IsPutFrom, IsPutOf, IsPutOn, IsUnput, IsUnputFrom, IsUnputOn, IsUnputSources, range_failures, range_images};
@@ -23,14 +23,12 @@ use crate::placing::place_all;
 use crate::wants::put_sums;
 use hfs_bag::Watch;
 use hfs_commands::{ByteRange, Fault, ImageInFile, WatchedBytes, WatchedRange};
-use hfs_laid_forks::{HostFiles, LaidForks, PlacedFiles};
-use hfs_patched::ImagePlace;
-use hfs_put_calls::PutItem;
-use hfs_put_image::PutBlocks;
+use hfs_copy::FailingBlocks;
+use hfs_put::{HostFiles, LaidForks, PlacedFiles, PutBlocks};
+use hfs_put_plan::PutItem;
+use hfs_put_sources::{HostTree, SourceItem};
 use hfs_source::RangeBytes;
-use hfs_sources::{HostTree, SourceItem};
-use hfs_volume::Volume;
-use hfs_working::FailingBlocks;
+use hfs_volume::{ImagePlace, Volume};
 use std::alloc::Global;
 
 /// A list that was put on a volume.

@@ -4,13 +4,13 @@ ghost use Rattle.std.specs.List.{fold};
 ghost use Rattle.hfs_commands.specs.ByPath.{path_reply};
 ghost use Rattle.hfs_commands.specs.Entries.{entries_in};
 ghost use Rattle.hfs_model.specs.Reading.{get_cat_info};
-ghost use Rattle.hfs_needed.specs.Paths as path;
+ghost use Rattle.hfs_image.specs.Paths as path;
 ghost use Rattle.hfs_word_put.specs.Targets.{folder_by, folder_of, target_folder};
 
 use hfs_fields::{Name, is_item_name, same_name};
+use hfs_items::refusal;
 use hfs_model::{ItemKind, NOT_A_FOLDER, NOT_FOUND, Reply, Value};
-use hfs_paths::path_names;
-use hfs_queries::refusal;
+use hfs_texts::path_names;
 use hfs_volume::Volume;
 use std::alloc::{AllocError, Global};
 
@@ -29,7 +29,7 @@ fn told_child(volume: &Volume, dir: u32, name: &[u8]) -> Reply
 }
 
 /// The reply for one more name on a path. A reply without an item stays as it is.
-#[tactic(auto, unfolding(hfs_needed::specs::Paths::told_next))]
+#[tactic(auto, unfolding(hfs_image::specs::Paths::told_next))]
 fn told_next(volume: &Volume, told: Reply, name: &[u8]) -> Reply
     ensures { result ≡ path.told_next (get_cat_info (entries_in volume.now.current)) told name.now }
 {
@@ -76,7 +76,7 @@ fn is_root_name(name: &[u8], root: &Value) -> bool
 }
 
 /// The reply about the item that these names lead to.
-#[tactic(auto, unfolding(hfs_needed::specs::Paths::told_at))]
+#[tactic(auto, unfolding(hfs_image::specs::Paths::told_at))]
 fn path_told(volume: &Volume, names: &[Name]) -> Reply
     ensures { result ≡ path.path_told (entries_in volume.now.current) names.now }
 {

@@ -3,10 +3,8 @@ ghost use Rattle.std.specs.Prelude.{◌≡◌};
 ghost use Rattle.hfs_word_put.specs.Sums.{byte_total, file_total, files_by, folders_by, item_blocks, item_bytes, made_total, put_sums, wanted_blocks, wanted_of};
 
 use crate::lines::PutSums;
-use hfs_fork_calls::BlockSize;
-use hfs_model::ItemKind;
-use hfs_put_calls::PutItem;
-use hfs_put_plan::Placing;
+use hfs_model::{BlockSize, ItemKind};
+use hfs_put_plan::{Placing, PutItem};
 
 /// How many allocation blocks of this size both forks of an item want.
 fn item_blocks(size: BlockSize, item: &PutItem) -> u64

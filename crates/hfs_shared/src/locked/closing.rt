@@ -2,15 +2,15 @@
 ghost use Rattle.std.specs.Prelude.{◌≡◌, IfOk, IfErr, MatchResult};
 ghost use mathlib.Core.List.{IsPrefix};
 ghost use Rattle.hfs_check.specs.VolumeOf.{volume_of};
-ghost use Rattle.hfs_published.specs.Journals.{published};
+ghost use Rattle.hfs_shared.specs.Journals.{published};
 ghost use Rattle.hfs_shared.specs.Closings.{AreAllPasses, AreTheirPasses, GivesAll, HasNoOthers, IsClosedAs, IsWhether};
 ghost use Rattle.hfs_shared.specs.Lockeds.{IsUnderLock};
 
 use super::Locked;
+use crate::Viewer;
 use crate::closed::Closed;
 use crate::pass::Pass;
 use crate::session::Session;
-use hfs_published::Viewer;
 use std::sync::Wait;
 
 impl<K: Session> Locked<K> {

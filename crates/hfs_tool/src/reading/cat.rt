@@ -3,7 +3,7 @@
 use super::places::{IMAGE, PATH, VOLUME, path_words, volume_of};
 use crate::words::{FileWords, ForkPathWords, ForkWords, PathWords, Words};
 use clap::{ArgMatches, Command};
-use hfs_arguments::{Argument, NoValue, Takes, Word};
+use hfs_console::{Argument, NoValue, Takes, Word};
 use hfs_model::Fork;
 use std::alloc::{AllocError, Global};
 

@@ -4,7 +4,7 @@ use super::places::{IMAGE, VOLUME, volume_of};
 use crate::help::CHECKS;
 use crate::words::Words;
 use clap::{ArgMatches, Command};
-use hfs_arguments::{NoValue, Word};
+use hfs_console::{NoValue, Word};
 use std::alloc::{AllocError, Global};
 
 const CHECK: Word = Word {

@@ -4,7 +4,7 @@ use super::places::{VOLUME, volume_of};
 use crate::help::EXTRACTS;
 use crate::words::{ExtractWords, Words};
 use clap::{ArgMatches, Command};
-use hfs_arguments::{Argument, NoValue, Takes, Word};
+use hfs_console::{Argument, NoValue, Takes, Word};
 use std::alloc::{AllocError, Global};
 
 /// The path of a file.

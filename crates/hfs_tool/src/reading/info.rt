@@ -3,7 +3,7 @@
 use super::places::{BARE_IMAGE, VOLUME, volume_of};
 use crate::words::Words;
 use clap::{ArgMatches, Command};
-use hfs_arguments::{NoValue, Word};
+use hfs_console::{NoValue, Word};
 use std::alloc::{AllocError, Global};
 
 const INFO: Word = Word {

@@ -4,8 +4,8 @@ use super::places::{IMAGE, VOLUME, volume_of};
 use crate::help::COLUMNS;
 use crate::words::Words;
 use clap::{ArgMatches, Command};
-use hfs_arguments::{Argument, NoValue, Takes, Word};
 use hfs_commands::Format;
+use hfs_console::{Argument, NoValue, Takes, Word};
 use std::alloc::{AllocError, Global};
 
 /// The format of a table; with tabs by default.

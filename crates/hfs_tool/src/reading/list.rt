@@ -3,7 +3,7 @@
 use super::places::{IMAGE, PATH, VOLUME, path_words, volume_of};
 use crate::words::Words;
 use clap::{ArgMatches, Command};
-use hfs_arguments::{Argument, NoValue, Takes, Word};
+use hfs_console::{Argument, NoValue, Takes, Word};
 use std::alloc::{AllocError, Global};
 
 /// The ID of a folder; by default the root's.

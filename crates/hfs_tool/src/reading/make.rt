@@ -4,8 +4,7 @@ use super::put::{CLOCK_NOW, MACBINARY, RENAME, options_of};
 use crate::help::MAKES;
 use crate::words::{MakeWords, Words};
 use clap::{ArgMatches, Command};
-use hfs_arguments::{Argument, Takes, Word};
-use hfs_console::WordsFault;
+use hfs_console::{Argument, Takes, Word, WordsFault};
 use std::alloc::{AllocError, Global};
 
 /// The path of the file that is written.

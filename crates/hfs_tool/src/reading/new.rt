@@ -3,8 +3,8 @@
 use super::places::NOW;
 use crate::words::{NewVolume, Words};
 use clap::{ArgMatches, Command};
-use hfs_arguments::{Argument, NoValue, Takes, Word};
-use hfs_sizes::{blocks_of, chosen_nodes};
+use hfs_console::{Argument, NoValue, Takes, Word};
+use hfs_format::{blocks_of, chosen_nodes};
 use std::alloc::{AllocError, Global};
 
 /// The path of the file that is written.

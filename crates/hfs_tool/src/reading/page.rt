@@ -4,7 +4,7 @@ use super::places::{IMAGE, VOLUME, volume_of};
 use crate::help::PAGES;
 use crate::words::{PageWords, Words};
 use clap::{ArgMatches, Command};
-use hfs_arguments::{Argument, NoValue, Takes, Word};
+use hfs_console::{Argument, NoValue, Takes, Word};
 use std::alloc::{AllocError, Global};
 
 /// The URL of a bag.

@@ -2,7 +2,7 @@
 
 use crate::words::PathWords;
 use clap::ArgMatches;
-use hfs_arguments::{Argument, NoValue, Takes};
+use hfs_console::{Argument, NoValue, Takes};
 
 /// The image of a volume, by its path: the volume itself, or a file in which the only volume is looked for.
 pub const IMAGE: Argument = Argument {

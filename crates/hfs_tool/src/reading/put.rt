@@ -4,9 +4,8 @@ use super::places::{BARE_IMAGE, OUT_HELP, VOLUME, volume_of};
 use crate::help::PUTS;
 use crate::words::{PutWords, Words};
 use clap::{ArgMatches, Command};
-use hfs_arguments::{Argument, NoValue, Takes, Word};
-use hfs_console::WordsFault;
-use hfs_sources::PutOptions;
+use hfs_console::{Argument, NoValue, Takes, Word, WordsFault};
+use hfs_put_sources::PutOptions;
 use std::alloc::{AllocError, Global};
 
 /// The paths of the sources.

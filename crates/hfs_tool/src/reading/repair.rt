@@ -3,7 +3,7 @@
 use super::places::{BARE_IMAGE, VOLUME, volume_of};
 use crate::words::{RepairWords, Words};
 use clap::{ArgMatches, Command};
-use hfs_arguments::{Argument, NoValue, Takes, Word};
+use hfs_console::{Argument, NoValue, Takes, Word};
 use std::alloc::{AllocError, Global};
 
 /// The path of the file that is written.

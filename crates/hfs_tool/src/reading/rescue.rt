@@ -4,9 +4,9 @@ use super::places::{FOLDER, IMAGE, NO_DIGEST, VOLUME, volume_of};
 use crate::help::{PROGRAM, RESCUES};
 use crate::words::Words;
 use clap::{ArgMatches, Command};
-use hfs_arguments::{Argument, NoValue, Takes, Word};
-use hfs_salvage::{BagWords, RescueWords};
-use hfs_take::folder_path;
+use hfs_console::{Argument, NoValue, Takes, Word};
+use hfs_word_rescue::{BagWords, RescueWords};
+use hfs_word_take::folder_path;
 use std::alloc::{AllocError, Global};
 
 /// The choice of a list instead of a folder.

@@ -4,7 +4,7 @@ use super::places::{BARE_IMAGE, NOW, OUT_HELP, VOLUME, volume_of};
 use crate::help::RUNS;
 use crate::words::{RunWords, Words};
 use clap::{ArgMatches, Command};
-use hfs_arguments::{Argument, NoValue, Takes, Word};
+use hfs_console::{Argument, NoValue, Takes, Word};
 use std::alloc::{AllocError, Global};
 
 /// The path of a script.

@@ -4,8 +4,8 @@ use super::places::{FOLDER, IMAGE, NO_DIGEST, VOLUME, volume_of};
 use crate::help::{PROGRAM, TAKES};
 use crate::words::Words;
 use clap::{ArgMatches, Command};
-use hfs_arguments::{NoValue, Word};
-use hfs_take::{TakeWords, folder_path};
+use hfs_console::{NoValue, Word};
+use hfs_word_take::{TakeWords, folder_path};
 use std::alloc::{AllocError, Global};
 
 const TAKE: Word = Word {

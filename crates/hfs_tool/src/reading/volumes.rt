@@ -3,7 +3,7 @@
 use crate::help::VOLUMES;
 use crate::words::Words;
 use clap::{ArgMatches, Command};
-use hfs_arguments::{Argument, NoValue, Takes, Word};
+use hfs_console::{Argument, NoValue, Takes, Word};
 use std::alloc::{AllocError, Global};
 
 /// The path of a file.

@@ -15,10 +15,9 @@ use super::Volume;
 use crate::base::Base;
 use crate::fork::fork_record;
 use hfs_catalog::{CatalogRecord, ItemRecord, by_id, read_records};
-use hfs_changed_blocks::ChangedBlocks;
 use hfs_fields::{Extent, FileRecord, Mdb};
 use hfs_model::Fork;
-use hfs_space::fork_extents;
+use hfs_space::{ChangedBlocks, fork_extents};
 use std::alloc::{AllocError, AllocFailed, Global};
 
 impl Volume {

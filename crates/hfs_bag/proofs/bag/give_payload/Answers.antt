@@ -1,6 +1,6 @@
 use Rattle.std.proofs.Common.{List, [], ◌∷◌, ◌++◌, codes, ap, map, ◌∙◌, subst, rules}
-use Rattle.hfs_shelves.specs.Entries.{IsBeginning, folder}
-use Rattle.hfs_shelves.proofs.Beginnings.{begins_appended}
+use Rattle.hfs_bag.specs.Entries.{IsBeginning, folder}
+use Rattle.hfs_bag.proofs.Beginnings.{begins_appended}
 use Rattle.hfs_bag.specs.Items.{BagItem, item_digests}
 use Rattle.hfs_bag.specs.Bags.{bytes_in, items_entries, payload}
 use Rattle.hfs_bag.specs.Faults.{AreTooMany, IsPayloadFault}

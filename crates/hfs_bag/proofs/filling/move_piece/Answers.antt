@@ -1,7 +1,7 @@
 use Rattle.std.proofs.Common.{◌++◌, List, ℕ, ap, ◌∙◌, subst}
 use Rattle.sha2.specs.Hashers.{Holds256}
-use Rattle.hfs_shelves.specs.Entries.{IsBeginning, with_piece}
-use Rattle.hfs_shelves.proofs.Beginnings.{begins_piece}
+use Rattle.hfs_bag.specs.Entries.{IsBeginning, with_piece}
+use Rattle.hfs_bag.proofs.Beginnings.{begins_piece}
 use Rattle.hfs_bag.proofs.Growing.{each_err}
 use Rattle.hfs_bag.proofs.Moves.{moved_piece, part_piece}
 use Rattle.hfs_bag.proofs.filling.move_piece.Goals as goal

@@ -1,6 +1,6 @@
 use Rattle.std.proofs.Common.{◌++◌, List, ℕ, [], ◌∷◌, ap, ◌∙◌, subst}
-use Rattle.hfs_shelves.specs.Entries.{IsBeginning, file}
-use Rattle.hfs_shelves.proofs.Beginnings.{begins_appended}
+use Rattle.hfs_bag.specs.Entries.{IsBeginning, file}
+use Rattle.hfs_bag.proofs.Beginnings.{begins_appended}
 use Rattle.hfs_bag.specs.Filling.{with_dated_file}
 use Rattle.hfs_bag.specs.Sources.{stream_bytes}
 use Rattle.hfs_bag.proofs.Files.{part_unmade, part_headless, part_streamed, whole_file}

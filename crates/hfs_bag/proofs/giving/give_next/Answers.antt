@@ -1,6 +1,6 @@
 use Rattle.std.proofs.Common.{◌+◌, subst, rules}
 use Rattle.hfs_source.specs.Images.{OfEach}
-use Rattle.hfs_shelves.proofs.Beginnings.{begins_appended}
+use Rattle.hfs_bag.proofs.Beginnings.{begins_appended}
 use Rattle.hfs_bag.specs.Bags.{bytes_in, items_entries}
 use Rattle.hfs_bag.specs.Faults.{AreTooMany, IsBagFault}
 use Rattle.hfs_bag.specs.Sources.{TakesItem}

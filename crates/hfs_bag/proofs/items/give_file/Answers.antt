@@ -1,6 +1,6 @@
 use Rattle.std.proofs.Common.{List, ℕ, [], ◌∷◌, Option, ◌∙◌, subst}
-use Rattle.hfs_shelves.specs.Entries.{IsBeginning}
-use Rattle.hfs_shelves.proofs.Beginnings.{begins_appended}
+use Rattle.hfs_bag.specs.Entries.{IsBeginning}
+use Rattle.hfs_bag.proofs.Beginnings.{begins_appended}
 use Rattle.hfs_bag.specs.declared.item.BagKind.TheVariants as kind
 use Rattle.hfs_bag.specs.Items.{data_entry, double_entry, entries_of_kind, item_path}
 use Rattle.hfs_bag.specs.Filling.{with_dated_file}

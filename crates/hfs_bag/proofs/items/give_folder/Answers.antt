@@ -1,5 +1,5 @@
 use Rattle.std.proofs.Common.{[], ◌∷◌, refl}
-use Rattle.hfs_shelves.specs.Entries.{folder}
+use Rattle.hfs_bag.specs.Entries.{folder}
 use Rattle.hfs_bag.specs.Items.{double_entry, item_path}
 use Rattle.hfs_bag.proofs.Growing.{each_err, part_done, part_first}
 use Rattle.hfs_bag.proofs.items.give_folder.Goals as goal

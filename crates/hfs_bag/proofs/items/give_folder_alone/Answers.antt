@@ -1,5 +1,5 @@
 use Rattle.std.proofs.Common.{[], ◌∷◌}
-use Rattle.hfs_shelves.proofs.Beginnings.{begins_appended}
+use Rattle.hfs_bag.proofs.Beginnings.{begins_appended}
 use Rattle.hfs_bag.specs.Items.{folder_entry}
 use Rattle.hfs_bag.proofs.Growing.{each_err}
 use Rattle.hfs_bag.proofs.items.give_folder_alone.Goals as goal

@@ -1,7 +1,7 @@
 use Rattle.std.proofs.Common.{List, [], ◌∷◌, codes, ap, ◌∙◌, subst, None}
 use Rattle.sha2.specs.Sha256.{sha256}
-use Rattle.hfs_shelves.specs.Entries.{IsBeginning, file}
-use Rattle.hfs_shelves.proofs.Beginnings.{begins_appended}
+use Rattle.hfs_bag.specs.Entries.{IsBeginning, file}
+use Rattle.hfs_bag.proofs.Beginnings.{begins_appended}
 use Rattle.hfs_bag.specs.Items.{BagItem}
 use Rattle.hfs_bag.specs.Bags.{items_entries, manifest}
 use Rattle.hfs_bag.specs.Filling.{with_whole_file}

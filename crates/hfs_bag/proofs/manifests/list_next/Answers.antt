@@ -1,7 +1,7 @@
 use Rattle.std.proofs.Common.{List, ℕ, ◌∙◌, inl, inr, refl, subst, rules}
 use Rattle.sha2.specs.Hashers.{Holds256}
-use Rattle.hfs_shelves.specs.Entries.{IsBeginning, with_piece}
-use Rattle.hfs_shelves.proofs.Beginnings.{begins_piece}
+use Rattle.hfs_bag.specs.Entries.{IsBeginning, with_piece}
+use Rattle.hfs_bag.proofs.Beginnings.{begins_piece}
 use Rattle.hfs_bag.specs.Bags.{items_entries, manifest}
 use Rattle.hfs_bag.specs.Sources.{TakesItem}
 use Rattle.hfs_bag.proofs.Growing.{each_err}

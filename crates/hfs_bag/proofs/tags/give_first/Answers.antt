@@ -1,5 +1,5 @@
 use Rattle.std.proofs.Common.{◌≡◌, [], ◌∷◌, ◌++◌, ap, ◌∙◌, subst}
-use Rattle.hfs_shelves.specs.Entries.{IsBeginning}
+use Rattle.hfs_bag.specs.Entries.{IsBeginning}
 use Rattle.hfs_bag.specs.Sources.{BagTables}
 use Rattle.hfs_bag.specs.Tags.{manifest_file, remains_files, table_file}
 use Rattle.hfs_bag.proofs.Growing.{each_err, part_first, part_last, part_next, whole_next}

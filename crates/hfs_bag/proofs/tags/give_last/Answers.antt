@@ -1,6 +1,6 @@
 use Rattle.std.proofs.Common.{ℕ, List, [], ◌∷◌, codes, ap, ◌∙◌, subst, None}
-use Rattle.hfs_shelves.specs.Entries.{IsBeginning, file}
-use Rattle.hfs_shelves.proofs.Beginnings.{begins_appended}
+use Rattle.hfs_bag.specs.Entries.{IsBeginning, file}
+use Rattle.hfs_bag.proofs.Beginnings.{begins_appended}
 use Rattle.hfs_bag.specs.Filling.{with_whole_file}
 use Rattle.hfs_bag.specs.TagParts.{tag_lines}
 use Rattle.hfs_bag.proofs.Growing.{on_err}

@@ -1,5 +1,5 @@
 use Rattle.std.proofs.Common.{◌≡◌, ℕ, List, [], ◌∷◌, codes, ap, ◌∙◌, refl, subst, None}
-use Rattle.hfs_shelves.specs.Entries.{IsBeginning, file}
+use Rattle.hfs_bag.specs.Entries.{IsBeginning, file}
 use Rattle.hfs_bag.specs.Filling.{with_whole_file}
 use Rattle.hfs_bag.specs.Tags.{declaration_file, info_text, report_file}
 use Rattle.hfs_bag.proofs.Growing.{on_err, part_done, part_first, part_next, whole_next}

@@ -1,6 +1,6 @@
 use Rattle.std.proofs.Common.{◌≡◌, ℕ, List, [], ◌∷◌, ◌++◌, codes, ap, ◌∙◌, append_assoc, subst}
 use Rattle.sha2.specs.Sha256.{sha256}
-use Rattle.hfs_shelves.specs.Entries.{ShelfEntry, IsBeginning}
+use Rattle.hfs_bag.specs.Entries.{ShelfEntry, IsBeginning}
 use Rattle.hfs_bag.specs.declared.tags.TagDigests.{TagDigests}
 use Rattle.hfs_bag.specs.Bags.{bytes_in, payload}
 use Rattle.hfs_bag.specs.Filling.{with_whole_file}

@@ -1,9 +1,9 @@
 use Rattle.std.proofs.Common.{◌≡◌, refl, ap, replicate}
 use Rattle.std.specs.Prelude.{Err}
 use Rattle.hfs_fields.specs.Numbers.{number_at}
-use Rattle.hfs_node.specs.declared.fault.NodeFault.TheVariants.{Outside}
-use Rattle.hfs_node.specs.Kind.{kind_of}
-use Rattle.hfs_node.specs.Node.{node_of, node_of_kind, are_inside, count_of, offset_of}
+use Rattle.hfs_btree.specs.declared.fault.NodeFault.TheVariants.{Outside}
+use Rattle.hfs_btree.specs.Kind.{kind_of}
+use Rattle.hfs_btree.specs.Node.{node_of, node_of_kind, are_inside, count_of, offset_of}
 use Rattle.hfs_btree.specs.Tree.{records_of, forward_of}
 use Rattle.hfs_btree.proofs.leaf.no_leaf.Goals as goal
 

@@ -1,5 +1,5 @@
 use Rattle.std.proofs.Common.{arith, ◌≤◌, length}
-use Rattle.hfs_node.specs.Node.{node_of}
+use Rattle.hfs_btree.specs.Node.{node_of}
 use Rattle.hfs_btree.specs.Tree.{records_of}
 use Rattle.hfs_btree.proofs.Walks.{settle-within, settle-room, settle-walk, settle-same}
 use Rattle.hfs_btree.proofs.leaf.settle.Goals as goal

@@ -1,7 +1,7 @@
 use Rattle.std.proofs.Common.{◌≡◌, ℕ, ◌-◌, List, ap, sym, ◌∙◌, subst}
 use Rattle.std.specs.Prelude.{true}
 use Rattle.hfs_btree.specs.declared.header.Header.{Header}
-use Rattle.hfs_scans.specs.Each.{Each}
+use Rattle.hfs_fields.specs.Each.{Each}
 use Rattle.hfs_btree.specs.Search.{leaf_under, child_for}
 use Rattle.hfs_btree.proofs.DecodedLemmas.{records-read}
 use Rattle.hfs_btree.proofs.DescentLemmas.{root-way, way-within, way-some, index-entries, leaf-step, leaf-end}

@@ -1,6 +1,6 @@
 use Rattle.std.proofs.Common.{◌≡◌, ◌-◌, [], ◌∷◌, ◌++◌, ◌∙◌, ℕ, List, ap, sym, subst, arith, map}
 use Rattle.std.specs.List.{flat_map}
-use Rattle.hfs_scans.specs.Each.{Each}
+use Rattle.hfs_fields.specs.Each.{Each}
 use Rattle.hfs_btree.specs.Tree.{children, turn, records_in}
 use Rattle.hfs_btree_checks.specs.Order.{index_keys_at}
 use Rattle.hfs_btree_checks.specs.KeySteps.{IsKeyNode}

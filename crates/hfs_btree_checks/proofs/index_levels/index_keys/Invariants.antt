@@ -1,6 +1,6 @@
 use Rattle.std.proofs.Common.{◌≡◌, ◌++◌}
 use Rattle.std.specs.List.{flat_map}
-use Rattle.hfs_scans.specs.Each.{Each}
+use Rattle.hfs_fields.specs.Each.{Each}
 use Rattle.hfs_btree.specs.Tree.{turn}
 use Rattle.hfs_btree.specs.Sound.{IsRight}
 use Rattle.hfs_btree_checks.specs.Order.{index_keys_at, index_keys}

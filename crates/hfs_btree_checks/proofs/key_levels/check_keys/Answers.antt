@@ -1,6 +1,6 @@
 use Rattle.std.proofs.Common.{◌≡◌, ◌-◌, ◌<◌, [], ◌∷◌, ◌++◌, ◌∙◌, ℕ, List, ap, sym, subst, arith}
 use Rattle.std.specs.List.{flat_map}
-use Rattle.hfs_scans.specs.Each.{Each}
+use Rattle.hfs_fields.specs.Each.{Each}
 use Rattle.hfs_btree.specs.Tree.{children}
 use Rattle.hfs_btree_checks.specs.ShapeSteps.{IsFault}
 use Rattle.hfs_btree_checks.specs.KeySteps.{IsKeyNode, level_key_fault}

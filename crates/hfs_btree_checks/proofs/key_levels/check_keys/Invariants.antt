@@ -1,5 +1,5 @@
 use Rattle.std.proofs.Common.{◌≡◌}
-use Rattle.hfs_scans.specs.Each.{Each}
+use Rattle.hfs_fields.specs.Each.{Each}
 use Rattle.hfs_btree.specs.Tree.{turn}
 use Rattle.hfs_btree.specs.Sound.{IsRight}
 use Rattle.hfs_btree_checks.specs.Order.{first_node, has_keys, key_fault}

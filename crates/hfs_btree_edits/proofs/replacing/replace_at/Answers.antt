@@ -1,7 +1,7 @@
 use Rattle.std.proofs.Common.{◌<◌, ℕ, List, ap, arith, length, refl, subst}
 use Rattle.std.specs.Prelude.{Result}
-use Rattle.hfs_node.specs.declared.fault.NodeFault.{NodeFault}
-use Rattle.hfs_node.specs.declared.node.Node.{Node}
+use Rattle.hfs_btree.specs.declared.fault.NodeFault.{NodeFault}
+use Rattle.hfs_btree.specs.declared.node.Node.{Node}
 use Rattle.hfs_btree.specs.Tree.{records_of}
 use Rattle.hfs_btree.proofs.DecodedLemmas.{records-read, records-within}
 use Rattle.hfs_btree_edits.proofs.DecodesLemmas.{decodes-some}

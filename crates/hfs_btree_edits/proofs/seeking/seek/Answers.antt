@@ -1,7 +1,7 @@
 -- The leaf where the search for the key ends has the record, where the tree has it.
 use Rattle.std.proofs.Common.{◌≡◌, true, [], ◌∙◌, sym}
-use Rattle.hfs_scans.proofs.ElementLemmas.{each-at}
-use Rattle.hfs_node.specs.Node.{node_of}
+use Rattle.hfs_fields.proofs.ElementLemmas.{each-at}
+use Rattle.hfs_btree.specs.Node.{node_of}
 use Rattle.hfs_btree.specs.Tree.{records_of}
 use Rattle.hfs_btree.proofs.FoundLemmas.{some-levels, found-entries, found-body}
 use Rattle.hfs_btree_edits.proofs.seeking.seek.Goals as goal

@@ -1,7 +1,7 @@
 use Rattle.std.proofs.Common.{◌≤◌, ℕ, List, set, subst, sym}
 use Rattle.std.specs.Prelude.{OnOk}
-use Rattle.hfs_node.specs.declared.node.Descriptor.{Descriptor}
-use Rattle.hfs_node.specs.Node.{descriptor_of, node_from, size_of}
+use Rattle.hfs_btree.specs.declared.node.Descriptor.{Descriptor}
+use Rattle.hfs_btree.specs.Node.{descriptor_of, node_from, size_of}
 use Rattle.hfs_btree_edits.specs.Stored.{HasStored}
 use Rattle.hfs_btree_edits.proofs.stored.store_replaced.Goals as goal
 

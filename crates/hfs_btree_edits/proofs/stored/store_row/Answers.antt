@@ -1,4 +1,4 @@
-use Rattle.hfs_node.specs.Node.{node_from}
+use Rattle.hfs_btree.specs.Node.{node_from}
 use Rattle.hfs_btree_edits.proofs.StoreLemmas.{stored, on-ok}
 use Rattle.hfs_btree_edits.proofs.stored.store_row.Goals as goal
 

@@ -1,8 +1,8 @@
 use Rattle.std.proofs.Common.{◌≤◌, List, ℕ, length, sym, ap, ◌∙◌, arith, ◌<◌}
 use Rattle.std.specs.Prelude.{All, Result}
-use Rattle.hfs_node.specs.declared.node.Node.{Node}
-use Rattle.hfs_node.specs.declared.fault.NodeFault.{NodeFault}
-use Rattle.hfs_node.specs.Node.{size_of}
+use Rattle.hfs_btree.specs.declared.node.Node.{Node}
+use Rattle.hfs_btree.specs.declared.fault.NodeFault.{NodeFault}
+use Rattle.hfs_btree.specs.Node.{size_of}
 use Rattle.hfs_btree.specs.Tree.{records_of}
 use Rattle.hfs_btree.proofs.DecodedLemmas.{records-read}
 use Rattle.hfs_btree_insertion.proofs.HalfRead.{none-read, of-view, to-view, some-size}

@@ -1,5 +1,5 @@
 use Rattle.std.proofs.Common.{ap}
-use Rattle.hfs_node.specs.declared.node.Node.{Node}
+use Rattle.hfs_btree.specs.declared.node.Node.{Node}
 use Rattle.hfs_btree_insertion.proofs.HalfRead.{first-fits, second-fits}
 use Rattle.hfs_btree_edits.proofs.DecodesLemmas.{decodes-within}
 use Rattle.hfs_btree_insertion.proofs.halving.halve.Goals as goal

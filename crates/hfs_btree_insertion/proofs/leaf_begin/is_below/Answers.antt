@@ -1,6 +1,6 @@
 use Rattle.std.proofs.Common.{arith}
 use Rattle.std.proofs.lemmas.List.{length-map}
-use Rattle.hfs_node.specs.Node.{node_of}
+use Rattle.hfs_btree.specs.Node.{node_of}
 use Rattle.hfs_btree.specs.Tree.{records_of, pair_of, pairs_of}
 use Rattle.hfs_btree_insertion.proofs.PlaceBehind.{all-below}
 use Rattle.hfs_btree_insertion.proofs.leaf_begin.is_below.Goals as goal

@@ -1,6 +1,6 @@
 use Rattle.std.proofs.Common.{◌≡◌, ◌∙◌, refl, []}
 use Rattle.std.specs.Prelude.{true}
-use Rattle.hfs_scans.proofs.ElementLemmas.{each-at}
+use Rattle.hfs_fields.proofs.ElementLemmas.{each-at}
 use Rattle.hfs_btree.proofs.DescentLemmas.{way-some, index-entries}
 use Rattle.hfs_btree_insertion.proofs.WayTo.{at-within, read-some, read-index}
 use Rattle.hfs_btree_insertion.proofs.LowerSteps.{lower-init, lower-step, at-step}

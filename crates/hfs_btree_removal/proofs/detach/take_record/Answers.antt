@@ -1,8 +1,8 @@
 use Rattle.std.proofs.Common.{◌≡◌, ◌<◌, ◌≤◌, ℕ, List, [], length, get_or, sym, ap, subst, arith}
 use Rattle.std.specs.Prelude.{true, remove}
-use Rattle.hfs_node.specs.Node.{size_of}
-use Rattle.hfs_node.proofs.SizeLemmas.{size_of-remove}
-use Rattle.hfs_scans.proofs.ElementLemmas.{each-at}
+use Rattle.hfs_btree.specs.Node.{size_of}
+use Rattle.hfs_btree.proofs.SizeLemmas.{size_of-remove}
+use Rattle.hfs_fields.proofs.ElementLemmas.{each-at}
 use Rattle.hfs_btree.specs.Tree.{records_in, records_of}
 use Rattle.hfs_btree_removal.proofs.PartsLess.{each-remove, length-remove'}
 use Rattle.hfs_btree_edits.proofs.DecodesLemmas.{decodes-some}

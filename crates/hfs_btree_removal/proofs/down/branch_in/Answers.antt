@@ -1,9 +1,9 @@
 use Rattle.std.proofs.Common.{◌≡◌, ℕ, List, [], length, ap, sym, subst, arith}
 use Rattle.std.specs.Prelude.{true}
 use Rattle.std.proofs.lemmas.List.Sums.{prefix_len-le-length}
-use Rattle.hfs_node.specs.Node.{node_of}
-use Rattle.hfs_scans.specs.Each.{Each}
-use Rattle.hfs_scans.proofs.ElementLemmas.{each-at}
+use Rattle.hfs_btree.specs.Node.{node_of}
+use Rattle.hfs_fields.specs.Each.{Each}
+use Rattle.hfs_fields.proofs.ElementLemmas.{each-at}
 use Rattle.hfs_btree.specs.Tree.{records_of}
 use Rattle.hfs_btree.specs.Search.{is_not_above}
 use Rattle.hfs_btree_removal.proofs.down.branch_in.Goals as goal

@@ -1,7 +1,7 @@
 use Rattle.std.proofs.Common.{◌≡◌, List, ℕ, [], sym, subst, arith}
 use Rattle.std.specs.Prelude.{true}
-use Rattle.hfs_node.specs.Node.{node_of}
-use Rattle.hfs_scans.proofs.ElementLemmas.{each-at}
+use Rattle.hfs_btree.specs.Node.{node_of}
+use Rattle.hfs_fields.proofs.ElementLemmas.{each-at}
 use Rattle.hfs_btree.specs.Tree.{records_of}
 use Rattle.hfs_btree_removal.proofs.down.child_at.Goals as goal
 

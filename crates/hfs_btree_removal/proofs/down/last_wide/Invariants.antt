@@ -1,5 +1,5 @@
 use Rattle.std.proofs.Common.{◌≤◌, ◌-◌, length, drop}
-use Rattle.hfs_scans.specs.Each.{Each}
+use Rattle.hfs_fields.specs.Each.{Each}
 use Rattle.hfs_btree_removal.proofs.down.last_wide.Given as goal
 
 abbrev pub invariant-loop-i : goal.invariant-loop-i

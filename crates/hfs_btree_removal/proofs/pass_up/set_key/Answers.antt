@@ -1,7 +1,7 @@
 use Rattle.std.proofs.Common.{◌≡◌, ◌<◌, ◌≤◌, ℕ, List, [], length, get_or, sym, ap, subst, arith}
 use Rattle.std.specs.Prelude.{true}
-use Rattle.hfs_node.specs.Node.{size_of}
-use Rattle.hfs_node.proofs.SizeLemmas.{size_of-set}
+use Rattle.hfs_btree.specs.Node.{size_of}
+use Rattle.hfs_btree.proofs.SizeLemmas.{size_of-set}
 use Rattle.hfs_btree.specs.Tree.{records_in, records_of}
 use Rattle.hfs_btree_edits.proofs.DecodesLemmas.{decodes-some}
 use Rattle.hfs_btree_removal.proofs.pass_up.set_key.Goals as goal

@@ -1,7 +1,7 @@
 use Rattle.std.proofs.Common.{◌≡◌, ◌<◌, ◌≤◌, ◌-◌, ℕ, List, length, sym, subst, ap, ◌∙◌, arith}
 use Rattle.std.specs.Prelude.{true}
 use Rattle.hfs_btree.specs.declared.header.Header.{Header}
-use Rattle.hfs_scans.specs.Each.{Each}
+use Rattle.hfs_fields.specs.Each.{Each}
 use Rattle.hfs_btree.specs.Header.{header_in, depth_of}
 use Rattle.hfs_btree.proofs.DecodedLemmas.{decoded-within, records-read}
 use Rattle.hfs_btree.proofs.DescentLemmas.{root-way, way-within, index-entries}

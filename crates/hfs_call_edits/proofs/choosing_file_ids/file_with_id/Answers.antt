@@ -3,7 +3,7 @@ use Rattle.std.proofs.Common.{◌≡◌, true, false, sym, ◌∙◌, ap}
 use Rattle.std.specs.Prelude.{not}
 use Rattle.hfs_catalog.specs.Tree.{catalog_of}
 use Rattle.hfs_catalog.specs.Records.{has_thread}
-use Rattle.hfs_queries.proofs.FileIds.{thread_there as thread_known}
+use Rattle.hfs_items.proofs.FileIds.{thread_there as thread_known}
 use Rattle.hfs_call_edits.proofs.FileIdChoices.{none_chosen, folder_of_id, file_of_id}
 use Rattle.hfs_call_edits.proofs.choosing_file_ids.file_with_id.Goals as goal
 

@@ -6,7 +6,7 @@ use Rattle.hfs_catalog.specs.Tree.{catalog_of}
 use Rattle.hfs_catalog.specs.Records.{has_thread}
 use Rattle.hfs_model.specs.declared.codes.TheConstants.{FILE_ID_EXISTS}
 use Rattle.hfs_call_edits.specs.Choosing.{child_to_change}
-use Rattle.hfs_queries.proofs.FileIds.{thread_there as thread_known}
+use Rattle.hfs_items.proofs.FileIds.{thread_there as thread_known}
 use Rattle.hfs_call_edits.proofs.FileIdChoices.{folder_refused, unless_asked}
 use Rattle.hfs_call_edits.proofs.choosing_file_ids.file_without_id.Goals as goal
 

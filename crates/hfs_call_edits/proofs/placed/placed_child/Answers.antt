@@ -1,6 +1,6 @@
 -- What holds the item that was found is a folder, but for 1.
 use Rattle.hfs_catalog.specs.Tree.{catalog_of}
-use Rattle.hfs_queries.proofs.Holders.{folder_child-one, folder_child-found}
+use Rattle.hfs_items.proofs.Holders.{folder_child-one, folder_child-found}
 use Rattle.hfs_call_edits.proofs.placed.placed_child.Goals as goal
 
 pub returns-then-dir-eq-ABOVE_ROOT-clause-chosen :

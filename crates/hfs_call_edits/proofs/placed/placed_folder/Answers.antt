@@ -3,7 +3,7 @@ use Rattle.std.proofs.Common.{refl, sym, ◌∙◌, ap, Some, None}
 use Rattle.std.specs.Option.{option_map}
 use Rattle.hfs_catalog.specs.Lookups.{catalog_item}
 use Rattle.hfs_catalog.specs.Tree.{catalog_of}
-use Rattle.hfs_queries.proofs.FolderLemmas.{unthreaded, item_by_thread, no_item, item_is_folder, item_is_file}
+use Rattle.hfs_items.proofs.FolderLemmas.{unthreaded, item_by_thread, no_item, item_is_folder, item_is_file}
 use Rattle.hfs_call_edits.proofs.placed.placed_folder.Goals as goal
 
 pub returns-in_default-clause-folder : goal.returns-in_default-clause-folder

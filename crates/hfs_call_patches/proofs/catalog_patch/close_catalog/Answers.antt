@@ -2,7 +2,7 @@
 use Rattle.std.proofs.Common.{arith}
 use Rattle.hfs_blocks.specs.Layers.{changes}
 use Rattle.hfs_call_patches.proofs.Closed.{closed, all_within}
-use Rattle.hfs_changes.proofs.LawsProved.{catalog_file_stays}
+use Rattle.hfs_record_edits.proofs.LawsProved.{catalog_file_stays}
 use Rattle.hfs_call_patches.proofs.catalog_patch.close_catalog.Goals as goal
 
 pub returns-clause-catalog : goal.returns-clause-catalog

@@ -5,7 +5,7 @@ use Rattle.hfs_btree_edits.specs.Entries.{IsPlaceOf}
 use Rattle.hfs_catalog.specs.Tree.{IsCatalogTree, cat_keys}
 use Rattle.hfs_call_patches.specs.NewItems.{TakesItem}
 use Rattle.hfs_call_patches.proofs.Creations.{file_in, fits, short, takes_item, file_keys, file_change}
-use Rattle.hfs_changes.proofs.LawsProved.{creation_fits, creation_is_free-folder, creation_is_free-key, catalog_edits_are_steps, create_makes}
+use Rattle.hfs_record_edits.proofs.LawsProved.{creation_fits, creation_is_free-folder, creation_is_free-key, catalog_edits_are_steps, create_makes}
 use Rattle.hfs_check.proofs.LawsProved.{trees_are_sound}
 use Rattle.hfs_call_patches.proofs.creating.add_new_file.Goals as goal
 

@@ -5,7 +5,7 @@ use Rattle.hfs_btree_edits.specs.Entries.{IsPlaceOf}
 use Rattle.hfs_catalog.specs.Tree.{IsCatalogTree, cat_keys}
 use Rattle.hfs_call_patches.specs.NewItems.{TakesFolder}
 use Rattle.hfs_call_patches.proofs.Creations.{folder_in, fits, short, takes_folder, folder_keys, folder_change}
-use Rattle.hfs_changes.proofs.LawsProved.{creation_fits, creation_is_free-folder, creation_is_free-key, creation_is_free-thread, catalog_edits_are_steps, dir_create_makes}
+use Rattle.hfs_record_edits.proofs.LawsProved.{creation_fits, creation_is_free-folder, creation_is_free-key, creation_is_free-thread, catalog_edits_are_steps, dir_create_makes}
 use Rattle.hfs_check.proofs.LawsProved.{trees_are_sound}
 use Rattle.hfs_call_patches.proofs.creating.add_new_folder.Goals as goal
 

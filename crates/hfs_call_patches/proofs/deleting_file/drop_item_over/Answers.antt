@@ -4,7 +4,7 @@ use Rattle.hfs_blocks.specs.Layers.{changes}
 use Rattle.hfs_btree.specs.Sound.{IsDistinct}
 use Rattle.hfs_catalog.specs.Records.{Catalog}
 use Rattle.hfs_catalog.specs.Tree.{IsCatalogTree}
-use Rattle.hfs_queries.proofs.ReplyLemmas.{by_nodes}
+use Rattle.hfs_items.proofs.ReplyLemmas.{by_nodes}
 use Rattle.hfs_call_patches.specs.Deleting.{HasIdUnder, IsItemUnder}
 use Rattle.hfs_call_patches.proofs.Different.{different}
 use Rattle.hfs_call_patches.proofs.EditedNodes.{edited_within}

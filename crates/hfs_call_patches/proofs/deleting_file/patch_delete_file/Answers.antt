@@ -6,14 +6,14 @@ use Rattle.hfs_blocks.specs.Layers.{changes, over}
 use Rattle.hfs_btree_edits.proofs.WrittenLemmas.{put_within}
 use Rattle.hfs_space.specs.Extents.{block_total, extent_blocks}
 use Rattle.hfs_space.specs.TreeKeys.{IsExtentsTree}
-use Rattle.hfs_changes.specs.Deletion.{without_one_file}
+use Rattle.hfs_record_edits.specs.Deletion.{without_one_file}
 use Rattle.hfs_check.specs.Parts.{catalog_nodes}
 use Rattle.hfs_call_patches.proofs.FileDeleted.{file_chosen_id, file_given, blocks_counted, freed_within, freed_alone, file_deleted}
 use Rattle.hfs_call_patches.proofs.FileGone.{extents_old, extents_first, catalog_second, file_gone, free_fits}
 use Rattle.hfs_call_patches.proofs.FromFolder.{own_under_by, under_by, stays_by, keeps_by, some_child}
 use Rattle.hfs_check.proofs.LawsProved.{trees_are_sound}
-use Rattle.hfs_changes.proofs.DeletionMakes.{fork_extents_are_within, fork_blocks_are_alone}
-use Rattle.hfs_changes.proofs.LawsProved.{removal_fits, choice_stands, folders_stand-delete, deletion_leaves_file, dropped_leaves, delete_file_makes, deletions_are_steps}
+use Rattle.hfs_record_edits.proofs.DeletionMakes.{fork_extents_are_within, fork_blocks_are_alone}
+use Rattle.hfs_record_edits.proofs.LawsProved.{removal_fits, choice_stands, folders_stand-delete, deletion_leaves_file, dropped_leaves, delete_file_makes, deletions_are_steps}
 use Rattle.hfs_call_patches.proofs.deleting_file.patch_delete_file.Goals as goal
 
 pub file_extents-requires : goal.file_extents-requires

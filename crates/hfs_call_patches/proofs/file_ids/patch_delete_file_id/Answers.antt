@@ -7,7 +7,7 @@ use Rattle.hfs_call_patches.proofs.Opened.{tree_open, records_open, body_open}
 use Rattle.hfs_call_patches.proofs.Made.{if_ok}
 use Rattle.hfs_call_patches.proofs.ChosenItems.{file_named, file_under}
 use Rattle.hfs_check.proofs.LawsProved.{trees_are_sound}
-use Rattle.hfs_changes.proofs.LawsProved.{choice_stands, delete_file_id_makes}
+use Rattle.hfs_record_edits.proofs.LawsProved.{choice_stands, delete_file_id_makes}
 use Rattle.hfs_call_patches.proofs.file_ids.patch_delete_file_id.Goals as goal
 
 pub drop_file_thread-requires-clause-name : goal.drop_file_thread-requires-clause-name

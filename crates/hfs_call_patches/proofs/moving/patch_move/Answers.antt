@@ -5,7 +5,7 @@ use Rattle.hfs_call_patches.specs.Moving.{FitsCounts}
 use Rattle.hfs_call_patches.proofs.Made.{if_ok}
 use Rattle.hfs_call_patches.proofs.MoveMade.{stand_at, move_named, move_made}
 use Rattle.hfs_check.proofs.LawsProved.{catalog_is_sound}
-use Rattle.hfs_changes.proofs.LawsProved.{folders_stand-moved, cat_move_makes}
+use Rattle.hfs_record_edits.proofs.LawsProved.{folders_stand-moved, cat_move_makes}
 use Rattle.hfs_call_patches.proofs.moving.patch_move.Goals as goal
 
 pub counts_moved-counts-requires : goal.counts_moved-counts-requires

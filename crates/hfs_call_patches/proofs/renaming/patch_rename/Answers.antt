@@ -4,7 +4,7 @@ use Rattle.hfs_call_patches.proofs.Made.{if_ok}
 use Rattle.hfs_call_patches.proofs.Rekeys.{rekeyed_named}
 use Rattle.hfs_call_patches.proofs.RenameMade.{rename_made}
 use Rattle.hfs_check.proofs.LawsProved.{catalog_is_sound}
-use Rattle.hfs_changes.proofs.LawsProved.{rename_makes}
+use Rattle.hfs_record_edits.proofs.LawsProved.{rename_makes}
 use Rattle.hfs_call_patches.proofs.renaming.patch_rename.Goals as goal
 
 pub close_catalog-requires-clause-keeps : goal.close_catalog-requires-clause-keeps

@@ -4,7 +4,7 @@ use Rattle.hfs_blocks.specs.Layers.{changes, over}
 use Rattle.hfs_call_patches.specs.Settings.{HasSetItem}
 use Rattle.hfs_call_patches.proofs.Made.{if_ok, folder_info_made}
 use Rattle.hfs_call_patches.proofs.ChosenItems.{folder_named, folder_under}
-use Rattle.hfs_changes.proofs.LawsProved.{choice_stands, set_cat_info_makes-folder}
+use Rattle.hfs_record_edits.proofs.LawsProved.{choice_stands, set_cat_info_makes-folder}
 use Rattle.hfs_call_patches.proofs.settings.patch_set_folder_info.Goals as goal
 
 pub patch_record-requires-clause-name : goal.patch_record-requires-clause-name

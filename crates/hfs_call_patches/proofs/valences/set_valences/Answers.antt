@@ -1,6 +1,6 @@
 -- The second folder's record stands as it did where the first one's was set.
 use Rattle.hfs_call_patches.proofs.BothSet.{dir_there, after_first, second_dir, both_set}
-use Rattle.hfs_changes.proofs.Standing.{stands_still}
+use Rattle.hfs_record_edits.proofs.Standing.{stands_still}
 use Rattle.hfs_call_patches.proofs.valences.set_valences.Goals as goal
 
 pub set_valence-requires-clause-there : goal.set_valence-requires-clause-there

@@ -1,5 +1,5 @@
 -- The fork and as many zeros as its length wants are the fork, filled up.
-use Rattle.hfs_sparse.proofs.Written.{on-err as on_err}
+use Rattle.hfs_source.proofs.Written.{on-err as on_err}
 use Rattle.hfs_commands.proofs.Rows.{filled_first, filled_next, filled_whole, on_ok_then, on_err_then}
 use Rattle.hfs_commands.proofs.macbinary.put_filled.Goals as goal
 

@@ -2,7 +2,7 @@
 use Rattle.std.proofs.Common.{◌∙◌, ap}
 use Rattle.hfs_encodings.specs.MacBinary.{macbinary_head_bytes}
 use Rattle.hfs_commands.specs.MacBinaryFiles.{macbinary_head}
-use Rattle.hfs_sparse.proofs.Written.{on-err as on_err}
+use Rattle.hfs_source.proofs.Written.{on-err as on_err}
 use Rattle.hfs_commands.proofs.Rows.{on_ok_then, on_err_then}
 use Rattle.hfs_commands.proofs.WholeFiles.{bytes_first, bytes_second, bytes_third, bytes_whole}
 use Rattle.hfs_commands.proofs.macbinary.put_parts.Goals as goal

@@ -4,7 +4,7 @@ use Rattle.std.specs.Prelude.{OnOk}
 use Rattle.sqlite.specs.declared.types.Value.TheVariants.{Int}
 use Rattle.sqlite.specs.Held.{state}
 use Rattle.hfs_database.specs.Doing.{HasRunAll}
-use Rattle.hfs_database.specs.Texts.{drop_volumes_text}
+use Rattle.hfs_database.specs.StatementTexts.{drop_volumes_text}
 use Rattle.hfs_database.proofs.statements.drop_volumes.Goals as goal
 
 pub returns-clause-done : goal.returns-clause-done

@@ -6,7 +6,7 @@ use Rattle.sqlite.specs.declared.types.Value.TheVariants.{Int}
 use Rattle.sqlite.specs.Held.{state}
 use Rattle.sqlite.specs.Values.{bound}
 use Rattle.hfs_database.specs.Doing.{HasRunAll}
-use Rattle.hfs_database.specs.Texts.{put_item_text}
+use Rattle.hfs_database.specs.StatementTexts.{put_item_text}
 use Rattle.hfs_database.specs.Values.{sql_value}
 use Rattle.hfs_database.proofs.statements.put_item.Goals as goal
 

@@ -3,7 +3,7 @@ use Rattle.std.proofs.Common.{◌≡◌, ◌++◌, ◌∙◌, ap, sym, subst, ma
 use Rattle.sqlite.specs.Held.{state}
 use Rattle.sqlite.specs.Values.{bound}
 use Rattle.hfs_database.specs.Doing.{HasFound}
-use Rattle.hfs_database.specs.Texts.{put_image_text}
+use Rattle.hfs_database.specs.StatementTexts.{put_image_text}
 use Rattle.hfs_database.specs.Values.{sql_value}
 use Rattle.hfs_database.proofs.statements.replace_image.Goals as goal
 

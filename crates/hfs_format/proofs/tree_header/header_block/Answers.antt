@@ -1,7 +1,7 @@
 use Rattle.std.proofs.Common.{◌-◌, ℕ, List, ◌++◌, length, replicate, sym, ap, ◌∙◌}
 use Rattle.byteorder.specs.Endian.{big_bytes}
 use Rattle.hfs_format.proofs.BitRowLemmas.{length-bit_row}
-use Rattle.hfs_node.specs.declared.kind.NodeKind.TheVariants.{Header}
+use Rattle.hfs_btree.specs.declared.kind.NodeKind.TheVariants.{Header}
 use Rattle.hfs_format.specs.NewTrees.{descriptor, next_map_node, header_node, header_record, node_map}
 use Rattle.hfs_format.proofs.Laid.{header-bytes}
 use Rattle.hfs_format.proofs.tree_header.header_block.Goals as goal

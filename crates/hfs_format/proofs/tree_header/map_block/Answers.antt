@@ -1,6 +1,6 @@
 use Rattle.std.proofs.Common.{◌-◌, ◌+◌, ◌*◌, ℕ, List, ◌++◌, replicate, sym, ap, ◌∙◌, arith}
 use Rattle.byteorder.specs.Endian.{big_bytes}
-use Rattle.hfs_node.specs.declared.kind.NodeKind.TheVariants.{Map}
+use Rattle.hfs_btree.specs.declared.kind.NodeKind.TheVariants.{Map}
 use Rattle.hfs_format.proofs.BitRowLemmas.{length-bit_row}
 use Rattle.hfs_format.proofs.MapNodes.{few-map_nodes}
 use Rattle.hfs_format.specs.NewTrees.{descriptor, next_map_node, map_node, node_map}

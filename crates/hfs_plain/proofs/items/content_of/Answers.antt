@@ -1,8 +1,8 @@
 -- All of the fork: as many bytes as its length says.
 use Rattle.std.proofs.Common.{◌∙◌, arith}
 use Rattle.std.proofs.lemmas.List.{take_all}
-use Rattle.hfs_item_table.specs.Tables.{bytes_in}
-use Rattle.hfs_item_table.proofs.LookedUp.{size_is}
+use Rattle.hfs_viewers.specs.Tables.{bytes_in}
+use Rattle.hfs_viewers.proofs.LookedUp.{size_is}
 use Rattle.hfs_plain.proofs.items.content_of.Goals as goal
 
 pub returns : goal.returns

@@ -2,9 +2,9 @@ use Rattle.std.proofs.Common.{◌≡◌, ℕ, [], ◌∷◌, ◌++◌, sym, ◌�
 use Rattle.std.proofs.lemmas.List.Elements.{All-head, All-tail}
 use Rattle.std.specs.Ordering.{nat_cmp}
 use Rattle.std.specs.BTreeMap as tree
-use Rattle.hfs_item_table.specs.declared.row.Row.{Row}
-use Rattle.hfs_item_table.specs.declared.table.Table.{Table}
-use Rattle.hfs_item_table.specs.Tables.{HasRows, item_of, shown}
+use Rattle.hfs_viewers.specs.declared.row.Row.{Row}
+use Rattle.hfs_viewers.specs.declared.table.Table.{Table}
+use Rattle.hfs_viewers.specs.Tables.{HasRows, item_of, shown}
 use Rattle.hfs_plain.proofs.items.items_of.Goals as goal
 
 abbrev IsRowOf : Table → ℕ × Row → Type 0

@@ -1,5 +1,5 @@
 use Rattle.std.proofs.Common.{◌≡◌, ◌++◌}
-use Rattle.hfs_item_table.specs.Tables.{HasRows, item_of, shown}
+use Rattle.hfs_viewers.specs.Tables.{HasRows, item_of, shown}
 use Rattle.hfs_plain.specs.Entries.{row_entries}
 use Rattle.hfs_plain.proofs.items.items_of.Given as goal
 

@@ -1,8 +1,8 @@
 -- Call by call.
 use Rattle.std.proofs.Common.{rules, ◌≡◌, ◌≤◌, length, arith}
 use Rattle.hfs_check.specs.VolumeOf.{volume_of}
-use Rattle.hfs_put_calls.specs.Accepted.{all_accepted}
-use Rattle.hfs_put_calls.specs.Calls.{somes, ending}
+use Rattle.hfs_put_plan.specs.Accepted.{all_accepted}
+use Rattle.hfs_put_plan.specs.Calls.{somes, ending}
 use Rattle.hfs_put.specs.Faults.{IsCallFault}
 use Rattle.hfs_put.proofs.CallRows.{few-ended, row-done, row-fault, row-step}
 use Rattle.hfs_put.proofs.calls.end_item.Goals as goal

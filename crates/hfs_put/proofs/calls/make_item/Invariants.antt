@@ -1,8 +1,8 @@
 -- What is left of the calls is made of the volume as it is.
 use Rattle.std.proofs.Common.{◌≡◌}
 use Rattle.hfs_check.specs.VolumeOf.{volume_of}
-use Rattle.hfs_put_calls.specs.Accepted.{all_accepted}
-use Rattle.hfs_put_calls.specs.Calls.{somes, making}
+use Rattle.hfs_put_plan.specs.Accepted.{all_accepted}
+use Rattle.hfs_put_plan.specs.Calls.{somes, making}
 use Rattle.hfs_put.proofs.CallRows.{rest}
 use Rattle.hfs_put.proofs.calls.make_item.Given as goal
 

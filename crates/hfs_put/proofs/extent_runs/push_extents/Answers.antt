@@ -3,7 +3,7 @@ use Rattle.std.proofs.Common.{◌≡◌, ℕ, ◌+◌, ◌++◌, [], List, Optio
 use Rattle.std.specs.List.{cons_option}
 use Rattle.std.proofs.lemmas.List.{get_or_default}
 use Rattle.hfs_fields.specs.declared.extent.Extent.{Extent}
-use Rattle.hfs_sources.specs.declared.fork_run.ForkRun.{ForkRun}
+use Rattle.hfs_put_sources.specs.declared.fork_run.ForkRun.{ForkRun}
 use Rattle.hfs_put.proofs.ForkRunLists.{AreRunsSoFar, runs_end, runs_next}
 use Rattle.hfs_put.proofs.extent_runs.push_extents.Goals as goal
 

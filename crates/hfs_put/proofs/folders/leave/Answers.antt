@@ -1,7 +1,7 @@
 -- Folder by folder.
 use Rattle.std.proofs.Common.{rules, ◌≡◌, false}
 use Rattle.hfs_check.specs.VolumeOf.{volume_of}
-use Rattle.hfs_put_calls.specs.Put.{is_at, left}
+use Rattle.hfs_put_plan.specs.Put.{is_at, left}
 use Rattle.hfs_put.specs.Faults.{IsLayFault}
 use Rattle.hfs_put.specs.Folders.{opens}
 use Rattle.hfs_put.proofs.FolderRows.{left_step, left_fault}

@@ -1,7 +1,7 @@
 -- What is left of the folders is left of the volume as it is.
 use Rattle.std.proofs.Common.{◌≡◌, length}
 use Rattle.hfs_check.specs.VolumeOf.{volume_of}
-use Rattle.hfs_put_calls.specs.Put.{left}
+use Rattle.hfs_put_plan.specs.Put.{left}
 use Rattle.hfs_put.specs.Folders.{opens}
 use Rattle.hfs_put.proofs.folders.leave.Given as goal
 

@@ -3,7 +3,7 @@ use Rattle.std.proofs.Common.{◌≡◌, sym, subst, get_or}
 use Rattle.hfs_blocks.specs.Blocks.{block_at}
 use Rattle.hfs_catalog.specs.Records.{Catalog, Record}
 use Rattle.hfs_check.specs.Parts.{catalog_in}
-use Rattle.hfs_scans.specs.Members.{In}
+use Rattle.hfs_fields.specs.Members.{In}
 use Rattle.hfs_put.proofs.FileRecords.{in-at}
 use Rattle.hfs_put.proofs.fork_places.runs_among.Goals as goal
 

@@ -1,7 +1,7 @@
 -- The closure answers the place.
 use Rattle.std.proofs.Common.{rules, ℕ}
 use Rattle.std.proofs.lemmas.List.Sorted.{IsNonDecreasingBy-from_sort, answers_always}
-use Rattle.hfs_sources.specs.declared.fork_run.ForkRun.{ForkRun}
+use Rattle.hfs_put_sources.specs.declared.fork_run.ForkRun.{ForkRun}
 use Rattle.hfs_put.proofs.fork_places.sort_runs.Goals as goal
 
 pub returns : goal.returns

@@ -1,7 +1,7 @@
 -- Item by item.
 use Rattle.std.proofs.Common.{rules, ◌≡◌, ℕ, ◌+◌, List, [], map, sym, ◌∙◌, ap, subst}
 use Rattle.hfs_check.specs.VolumeOf.{volume_of}
-use Rattle.hfs_put_calls.specs.Put.{put_from}
+use Rattle.hfs_put_plan.specs.Put.{put_from}
 use Rattle.hfs_put.specs.Faults.{IsAbsentAt, IsLayFault}
 use Rattle.hfs_put.specs.Folders.{opens}
 use Rattle.hfs_put.specs.Laying.{IsAbsence, IsFaultOfLaying, LacksOne, bare, one_laid}

@@ -1,7 +1,7 @@
 -- What is left of the list is laid on the volume as it is.
 use Rattle.std.proofs.Common.{◌≡◌, length, take, [], map, Ok}
 use Rattle.hfs_check.specs.VolumeOf.{volume_of}
-use Rattle.hfs_put_calls.specs.Put.{put_from}
+use Rattle.hfs_put_plan.specs.Put.{put_from}
 use Rattle.hfs_put.specs.Folders.{opens}
 use Rattle.hfs_put.specs.Laying.{bare, front_laid}
 use Rattle.hfs_put.proofs.LaidLists.{AreLeft}

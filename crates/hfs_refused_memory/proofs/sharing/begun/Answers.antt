@@ -1,7 +1,7 @@
 use Rattle.std.proofs.Common.{subst}
 use Rattle.std.specs.Prelude.{◌≡◌, IfSome}
 use Rattle.std.proofs.lemmas.List.Elements.{All-pop}
-use Rattle.hfs_published.specs.Histories.{Known}
+use Rattle.hfs_shared.specs.Histories.{Known}
 use Rattle.hfs_refused_memory.proofs.sharing.begun.Goals as goal
 
 pub returns : goal.returns

@@ -1,4 +1,4 @@
-use Rattle.hfs_published.proofs.BookLemmas.{of_book}
+use Rattle.hfs_shared.proofs.BookLemmas.{of_book}
 use Rattle.hfs_refused_memory.proofs.sharing.started_once.Goals as goal
 
 pub returns-in-Ok : goal.returns-in-Ok

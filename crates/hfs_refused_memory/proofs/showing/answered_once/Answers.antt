@@ -1,5 +1,5 @@
 use Rattle.std.proofs.Common.{ap}
-use Rattle.hfs_published.specs.Tolds.{ToldState}
+use Rattle.hfs_shared.specs.Tolds.{ToldState}
 use Rattle.hfs_refused_memory.proofs.showing.answered_once.Goals as goal
 
 pub returns-in-Ok : goal.returns-in-Ok

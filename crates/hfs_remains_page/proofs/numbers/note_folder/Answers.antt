@@ -1,6 +1,6 @@
 -- noted, or nothing to note
 use Rattle.hfs_fields.proofs.OutcomeLemmas.{on_ok}
-use Rattle.hfs_places.proofs.FolderLemmas.{notes-folder, notes-none}
+use Rattle.hfs_remains_places.proofs.FolderLemmas.{notes-folder, notes-none}
 use Rattle.hfs_remains_page.proofs.numbers.note_folder.Goals as goal
 
 pub returns-in-Some : goal.returns-in-Some

@@ -3,7 +3,7 @@ use Rattle.std.proofs.Common.{◌++◌}
 use Rattle.std.specs.Prelude.{codes}
 use Rattle.hfs_page.specs.Escapes.{escaped}
 use Rattle.hfs_page.proofs.Joins.{joined, joined-ok}
-use Rattle.hfs_verdicts.specs.Verdicts.{verdict_text}
+use Rattle.hfs_remains_places.specs.Verdicts.{verdict_text}
 use Rattle.hfs_remains_page.specs.Verdicts.{damaged_text}
 use Rattle.hfs_remains_page.proofs.verdicts.push_damaged.Goals as goal
 

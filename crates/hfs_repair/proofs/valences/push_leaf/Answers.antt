@@ -1,5 +1,5 @@
 use Rattle.std.proofs.Common.{arith}
-use Rattle.hfs_catalog_checks.specs.Indexes.{count_of}
+use Rattle.hfs_catalog.specs.Indexes.{count_of}
 use Rattle.hfs_repair.proofs.Pushed.{leaf-step}
 use Rattle.hfs_repair.proofs.valences.push_leaf.Goals as goal
 

@@ -1,6 +1,6 @@
 use Rattle.std.proofs.Common.{◌≡◌, ◌++◌, ◌+◌, drop, filter}
-use Rattle.hfs_node.specs.Node.{offset_of}
-use Rattle.hfs_catalog_checks.specs.Indexes.{count_of}
+use Rattle.hfs_btree.specs.Node.{offset_of}
+use Rattle.hfs_catalog.specs.Indexes.{count_of}
 use Rattle.hfs_repair.specs.Placed.{is_wrong, placed_from}
 use Rattle.hfs_repair.proofs.valences.push_leaf.Given as goal
 

@@ -3,7 +3,7 @@ use Rattle.std.specs.List.{flat_map}
 use Rattle.hfs_blocks.specs.Blocks.{run_of, nodes_in}
 use Rattle.hfs_btree.specs.Header.{tree_content}
 use Rattle.hfs_catalog.specs.Tree.{cat_keys}
-use Rattle.hfs_catalog_checks.specs.Indexes.{count_of}
+use Rattle.hfs_catalog.specs.Indexes.{count_of}
 use Rattle.hfs_repair.proofs.LeafValences.{IsReading}
 use Rattle.hfs_repair.proofs.valences.push_valences.Given as goal
 

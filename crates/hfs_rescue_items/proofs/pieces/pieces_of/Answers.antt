@@ -1,7 +1,7 @@
 -- The first bytes of a block more came.
 use Rattle.std.proofs.Common.{true, rules, ◌≡◌, ◌-◌, min, refl}
-use Rattle.hfs_remains.specs.ForkBytes.{fork_bytes}
-use Rattle.hfs_remains.proofs.ForkByteLemmas.{fork_more}
+use Rattle.hfs_remains_forks.specs.ForkBytes.{fork_bytes}
+use Rattle.hfs_remains_forks.proofs.ForkByteLemmas.{fork_more}
 use Rattle.hfs_bag.specs.Forks.{pieces_bytes}
 use Rattle.hfs_rescue_items.proofs.pieces.pieces_of.Goals as goal
 

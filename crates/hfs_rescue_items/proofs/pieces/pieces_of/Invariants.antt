@@ -1,6 +1,6 @@
 -- the pieces so far and the bytes of the blocks that are to come are all
 use Rattle.std.proofs.Common.{true, ◌≡◌, ℕ, List, ◌++◌, drop}
-use Rattle.hfs_remains.specs.ForkBytes.{fork_bytes}
+use Rattle.hfs_remains_forks.specs.ForkBytes.{fork_bytes}
 use Rattle.hfs_bag.specs.Forks.{pieces_bytes}
 use Rattle.hfs_rescue_items.proofs.pieces.pieces_of.Given as goal
 

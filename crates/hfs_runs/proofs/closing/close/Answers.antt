@@ -1,5 +1,5 @@
 use Rattle.std.proofs.Common.{◌≡◌, ◌∙◌, ap, get_or, rules}
-use Rattle.hfs_published.specs.Histories.{Known}
+use Rattle.hfs_shared.specs.Histories.{Known}
 use Rattle.hfs_runs.proofs.KeptReplies.{first-viewer, same-kept}
 use Rattle.hfs_runs.proofs.closing.close.Goals as goal
 

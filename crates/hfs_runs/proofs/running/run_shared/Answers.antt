@@ -6,7 +6,7 @@ use Rattle.hfs_model.specs.declared.reply.Reply.{Reply}
 use Rattle.hfs_scripts.specs.declared.lines.Caller.{Caller}
 use Rattle.hfs_scripts.specs.Callers.{workers, viewers}
 use Rattle.hfs_scripts.specs.declared.lines.ScriptLine.{ScriptLine}
-use Rattle.hfs_published.specs.Histories.{Known, known, opened}
+use Rattle.hfs_shared.specs.Histories.{Known, known, opened}
 use Rattle.hfs_check.specs.VolumeOf.{volume_of}
 use Rattle.hfs_shared.specs.Closings.{IsWhether}
 use Rattle.hfs_shared.specs.declared.done.Done.{Done}
@@ -17,7 +17,7 @@ use Rattle.hfs_runs.proofs.Small.{viewers_within}
 use Rattle.hfs_runs.proofs.Working.{AreJobs, AreDone, AreViewings, AreViewed, first_book, told_of}
 use Rattle.hfs_runs.proofs.Reasons.{ok_is}
 use Rattle.hfs_runs.proofs.OneRun.{begun, ran}
-use Rattle.hfs_published.proofs.LawsProved.{published_is_after}
+use Rattle.hfs_shared.proofs.PublishedLawsProved.{published_is_after}
 use Rattle.hfs_runs.proofs.running.run_shared.Goals as goal
 
 pub viewings_of-requires : goal.viewings_of-requires

@@ -1,8 +1,8 @@
 use Rattle.std.proofs.Common.{◌≡◌, List, sym, ◌∙◌, subst, arith}
 use mathlib.Core.List.{IsPrefix}
 use Rattle.hfs_model.specs.declared.reply.Reply.{Reply}
-use Rattle.hfs_published.specs.Tolds.{ToldState}
-use Rattle.hfs_published.proofs.Prefixes.{prefix_trans}
+use Rattle.hfs_shared.specs.Tolds.{ToldState}
+use Rattle.hfs_shared.proofs.Prefixes.{prefix_trans}
 use Rattle.hfs_runs.specs.Tellings.{AllBegin}
 use Rattle.hfs_runs.proofs.Learning.{begin_more, whole_taken}
 use Rattle.hfs_runs.proofs.telling.learn.Goals as goal

@@ -1,7 +1,7 @@
 use Rattle.std.proofs.Common.{List, ◌∙◌, subst, arith}
 use Rattle.hfs_model.specs.declared.reply.Reply.{Reply}
-use Rattle.hfs_published.specs.Tolds.{ToldState}
-use Rattle.hfs_published.proofs.Prefixes.{prefix_trans}
+use Rattle.hfs_shared.specs.Tolds.{ToldState}
+use Rattle.hfs_shared.proofs.Prefixes.{prefix_trans}
 use Rattle.hfs_shared.specs.declared.done.Done.{Done}
 use Rattle.hfs_runs.specs.Tellings.{AllBegin, OfEach}
 use Rattle.hfs_runs.proofs.Learning.{each_begin_more, whole_taken}

@@ -1,5 +1,5 @@
 -- each was shown
-use Rattle.hfs_shared.proofs.LawsProved.{agrees_where_none_writes}
+use Rattle.hfs_shared.proofs.SharedLawsProved.{agrees_where_none_writes}
 use Rattle.hfs_shared.proofs.laws.unwritten_fork_laws.Goals as goal
 
 pub returns : goal.returns

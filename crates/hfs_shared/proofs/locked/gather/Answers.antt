@@ -1,7 +1,7 @@
 use Rattle.std.specs.Prelude.{◌-◌, length, take, drop}
 use Rattle.std.proofs.lemmas.List.{take_rest}
 use Rattle.hfs_shared.proofs.Showing.{gathers}
-use Rattle.hfs_published.proofs.LawsProved.{published_grows}
+use Rattle.hfs_shared.proofs.PublishedLawsProved.{published_grows}
 use Rattle.hfs_shared.proofs.locked.gather.Goals as goal
 
 pub returns-clause-lists : goal.returns-clause-lists

@@ -3,7 +3,7 @@ use Rattle.std.specs.Prelude.{is_some, IfSome, IfNone, OnSome}
 use Rattle.std.proofs.lemmas.List.{get_or_default}
 use Rattle.hfs_model.specs.declared.call.Call.{Call}
 use Rattle.hfs_model.specs.declared.reply.Reply.{Reply}
-use Rattle.hfs_published.specs.Tolds.{ToldState}
+use Rattle.hfs_shared.specs.Tolds.{ToldState}
 use Rattle.hfs_shared.specs.declared.desk.CallFault.{CallFault}
 use Rattle.hfs_shared.specs.Desks.{PassState}
 use Rattle.hfs_shared.specs.Faults.{IsFaultUnder}

@@ -1,4 +1,4 @@
-use Rattle.hfs_published.proofs.BookLemmas.{of_book}
+use Rattle.hfs_shared.proofs.BookLemmas.{of_book}
 use Rattle.hfs_shared_tests.proofs.sharing.started.Goals as goal
 
 pub returns-in-Ok : goal.returns-in-Ok

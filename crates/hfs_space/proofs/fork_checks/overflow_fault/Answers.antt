@@ -4,7 +4,7 @@ use Rattle.hfs_space.specs.Owners.{goes_on_with}
 use Rattle.hfs_space.specs.Runs.{forks_with}
 use Rattle.hfs_space.specs.Faults.{is_overflow_right}
 use Rattle.hfs_space.proofs.ForkFaults.{record-right}
-use Rattle.hfs_scans.proofs.ScanStepLemmas.{scan_stop, scan_go}
+use Rattle.hfs_fields.proofs.ScanStepLemmas.{scan_stop, scan_go}
 use Rattle.hfs_space.proofs.fork_checks.overflow_fault.Goals as goal
 
 pub returns-then-not-is_record_right-clause-fault : goal.returns-then-not-is_record_right-clause-fault

@@ -1,6 +1,6 @@
 -- The records so far are right.
 use Rattle.std.proofs.Common.{◌≡◌, take, drop}
-use Rattle.hfs_scans.specs.First.{first_failing}
+use Rattle.hfs_fields.specs.First.{first_failing}
 use Rattle.hfs_space.specs.Runs.{forks_with}
 use Rattle.hfs_space.specs.Faults.{is_overflow_right, overflow_fault}
 use Rattle.hfs_space.proofs.fork_checks.overflow_fault.Given as goal

@@ -1,6 +1,6 @@
 -- What is written at a fault is a beginning of what is written without one.
 use Rattle.std.proofs.Common.{ap, ◌++◌, true, false}
-use Rattle.hfs_collection.specs.Images.{image_rows}
+use Rattle.hfs_word_collect.specs.Images.{image_rows}
 use Rattle.hfs_word_collect.proofs.WrittenImages.{all_begin, on_any_err, wrote_part, wrote_untold}
 use Rattle.hfs_word_collect.proofs.writing.write_image.Goals as goal
 

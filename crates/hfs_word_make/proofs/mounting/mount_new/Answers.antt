@@ -1,7 +1,7 @@
 -- The copy is that of the image, whose bytes are known and sound.
 use Rattle.std.proofs.Common.{List, ℕ, refl, sym, subst}
 use Rattle.hfs_format.specs.Image.{image_bytes}
-use Rattle.hfs_working.specs.Working.{IsWorkingCopy}
+use Rattle.hfs_copy.specs.Working.{IsWorkingCopy}
 use Rattle.hfs_word_make.proofs.FillLemmas.{small-in}
 use Rattle.hfs_word_make.proofs.SoundPlans.{not-refused}
 use Rattle.hfs_word_make.proofs.mounting.mount_new.Goals as goal

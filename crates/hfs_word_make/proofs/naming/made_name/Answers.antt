@@ -1,8 +1,8 @@
 -- The name is none that a volume has.
 use Rattle.std.proofs.Common.{◌≡◌, ◌∙◌, Result, ap, subst, inl, rules}
-use Rattle.hfs_make.specs.declared.fault.MakeFault.{MakeFault}
-use Rattle.hfs_make.specs.declared.volume_name.VolumeName.{VolumeName}
-use Rattle.hfs_make_items.specs.Names.{IsReadAs}
+use Rattle.hfs_format.specs.declared.make_fault.MakeFault.{MakeFault}
+use Rattle.hfs_format.specs.declared.volume_name.VolumeName.{VolumeName}
+use Rattle.hfs_word_make.specs.SourceNames.{IsReadAs}
 use Rattle.hfs_word_make.specs.Faults.{told_of}
 use Rattle.hfs_word_make.specs.Names.{letters_of}
 use Rattle.hfs_word_make.proofs.naming.made_name.Goals as goal

@@ -1,7 +1,7 @@
 -- The copy is that of the empty volume's image.
 use Rattle.std.proofs.Common.{List, ℕ, inl, sym, subst}
 use Rattle.hfs_format.specs.Image.{image_bytes}
-use Rattle.hfs_working.specs.Working.{IsWorkingCopy}
+use Rattle.hfs_copy.specs.Working.{IsWorkingCopy}
 use Rattle.hfs_word_make.proofs.unplanned.mount_empty.Goals as goal
 
 pub returns-in-Err-clause-fault : goal.returns-in-Err-clause-fault

@@ -1,7 +1,7 @@
 -- The mounted volume is over the copy that was read.
 use Rattle.std.proofs.Common.{◌≡◌}
 use Rattle.std.proofs.lemmas.Result.{IfOk-at_ok, IfOk-weaker}
-use Rattle.hfs_working.specs.Opened.{IsRunnable}
+use Rattle.hfs_copy.specs.Opened.{IsRunnable}
 use Rattle.hfs_volume.specs.Image.{copy_of}
 use Rattle.hfs_word_put.specs.Put.{IsCopyOfEach}
 use Rattle.hfs_word_put.proofs.Copies.{copy_of_each}

@@ -2,9 +2,9 @@
 use Rattle.std.proofs.Common.{◌/◌, None}
 use Rattle.std.proofs.lemmas.Result.{IfOk-at_ok}
 use Rattle.hfs_check.specs.Sound.{IsSound}
-use Rattle.hfs_sparse.specs.Seen.{IsSeen}
+use Rattle.hfs_source.specs.Seen.{IsSeen}
 use Rattle.hfs_volume.specs.Image.{copy_of}
-use Rattle.hfs_working.specs.Opened.{IsWorkingOf}
+use Rattle.hfs_copy.specs.Opened.{IsWorkingOf}
 use Rattle.hfs_word_put.proofs.Copies.{runnable}
 use Rattle.hfs_word_put.proofs.mounting.open_image.Goals as goal
 

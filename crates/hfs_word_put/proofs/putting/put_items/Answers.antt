@@ -1,7 +1,7 @@
 -- What was listed, and a file with another digest.
 use Rattle.std.proofs.Common.{List, inr, subst, rules}
-use Rattle.hfs_sources.specs.Items.{PlannedItem}
-use Rattle.hfs_sources.specs.Trees.{OfEachTree}
+use Rattle.hfs_put_sources.specs.Items.{PlannedItem}
+use Rattle.hfs_put_sources.specs.Trees.{OfEachTree}
 use Rattle.hfs_word_put.specs.Listed.{IsListed, IsUnverified}
 use Rattle.hfs_word_put.proofs.putting.put_items.Goals as goal
 

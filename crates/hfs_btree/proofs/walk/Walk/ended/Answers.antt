@@ -1,5 +1,5 @@
 use Rattle.std.proofs.Common.{ap, arith, ◌++◌, length, map, ℕ, List, inr}
-use Rattle.hfs_node.specs.Node.{node_of}
+use Rattle.hfs_btree.specs.Node.{node_of}
 use Rattle.hfs_btree.specs.Tree.{pair_of, forward_of}
 use Rattle.hfs_btree.specs.Walk.{pairs_along}
 use Rattle.hfs_btree.proofs.walk.Walk.ended.Goals as goal

@@ -9,7 +9,7 @@ use Rattle.hfs_call_edits.proofs.MayMove.{fits_counts, may_move, move_refused, m
 use Rattle.hfs_call_edits.proofs.StepMade.{step_made}
 use Rattle.hfs_call_edits.proofs.Wanting.{enough_nodes, full_edit, refused_edit}
 use Rattle.hfs_check.proofs.LawsProved.{catalog_is_sound, trees_are_sound}
-use Rattle.hfs_changes.proofs.LawsProved.{move_fits, choice_stands, creation_is_free-folder, move_is_free, catalog_edits_are_steps}
+use Rattle.hfs_record_edits.proofs.LawsProved.{move_fits, choice_stands, creation_is_free-folder, move_is_free, catalog_edits_are_steps}
 use Rattle.hfs_model.specs.declared.call.Call.TheVariants as call
 use Rattle.hfs_model.specs.declared.reply.Value.TheVariants as value
 use Rattle.hfs_call_edits.proofs.editing.Editing.cat_move.Goals as goal

@@ -9,7 +9,7 @@ use Rattle.hfs_call_edits.proofs.FileIdReplies.{create_refused, create_accepted,
 use Rattle.hfs_call_edits.proofs.FileIdsChosen.{create_code}
 use Rattle.hfs_call_patches.proofs.ChosenFileLemmas.{file_id_is}
 use Rattle.hfs_call_edits.proofs.Wanting.{enough_nodes, full_edit, refused_edit}
-use Rattle.hfs_changes.proofs.LawsProved.{catalog_edits_are_steps}
+use Rattle.hfs_record_edits.proofs.LawsProved.{catalog_edits_are_steps}
 use Rattle.hfs_model.specs.declared.call.Call.TheVariants as call
 use Rattle.hfs_model.specs.declared.reply.Value.TheVariants as answer
 use Rattle.hfs_call_edits.proofs.editing.Editing.create_file_id.Goals as goal

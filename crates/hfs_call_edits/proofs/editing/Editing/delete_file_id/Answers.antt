@@ -4,7 +4,7 @@ use Rattle.hfs_check.specs.VolumeOf.{volume_in}
 use Rattle.hfs_model.specs.FileIds.{to_delete_file_id}
 use Rattle.hfs_call_edits.proofs.Edited.{change_of, refusal_of, file_choice, editing_now}
 use Rattle.hfs_call_edits.proofs.FileIdReplies.{delete_refused, delete_accepted}
-use Rattle.hfs_changes.proofs.LawsProved.{catalog_edits_are_steps}
+use Rattle.hfs_record_edits.proofs.LawsProved.{catalog_edits_are_steps}
 use Rattle.hfs_model.specs.declared.call.Call.TheVariants as call
 use Rattle.hfs_call_edits.proofs.editing.Editing.delete_file_id.Goals as goal
 

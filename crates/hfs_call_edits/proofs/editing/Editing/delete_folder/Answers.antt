@@ -1,7 +1,7 @@
 -- The patch makes the call's step, and the call answers nothing.
 use Rattle.hfs_call_edits.proofs.DeletedChange.{folder_change}
 use Rattle.hfs_call_edits.proofs.Edited.{editing_now}
-use Rattle.hfs_changes.proofs.LawsProved.{catalog_edits_are_steps}
+use Rattle.hfs_record_edits.proofs.LawsProved.{catalog_edits_are_steps}
 use Rattle.hfs_call_edits.proofs.editing.Editing.delete_folder.Goals as goal
 
 pub returns : goal.returns

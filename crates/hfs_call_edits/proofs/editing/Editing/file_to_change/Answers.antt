@@ -5,8 +5,8 @@ use Rattle.hfs_btree.specs.Tree.{Store}
 use Rattle.hfs_call_edits.specs.Placed.{file_chosen, IsFilePlaced}
 use Rattle.hfs_call_edits.proofs.Chosen.{changes_file}
 use Rattle.hfs_call_edits.proofs.Edited.{editing_now}
-use Rattle.hfs_queries.proofs.ReplyLemmas.{by_nodes}
-use Rattle.hfs_changes.proofs.LawsProved.{choice_stands}
+use Rattle.hfs_items.proofs.ReplyLemmas.{by_nodes}
+use Rattle.hfs_record_edits.proofs.LawsProved.{choice_stands}
 use Rattle.hfs_call_edits.proofs.editing.Editing.file_to_change.Goals as goal
 
 pub returns-clause-chosen : goal.returns-clause-chosen

@@ -1,8 +1,8 @@
 -- The records choose what the volume's entries do.
 use Rattle.hfs_call_edits.proofs.FileIdsChosen.{deletes_id}
 use Rattle.hfs_call_edits.proofs.Edited.{editing_now}
-use Rattle.hfs_queries.proofs.ReplyLemmas.{by_nodes}
-use Rattle.hfs_changes.proofs.LawsProved.{choice_stands}
+use Rattle.hfs_items.proofs.ReplyLemmas.{by_nodes}
+use Rattle.hfs_record_edits.proofs.LawsProved.{choice_stands}
 use Rattle.hfs_call_edits.proofs.editing.Editing.file_with_id.Goals as goal
 
 pub returns : goal.returns

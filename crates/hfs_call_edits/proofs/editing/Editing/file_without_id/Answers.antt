@@ -1,9 +1,9 @@
 -- The records choose what the volume's entries do.
 use Rattle.hfs_call_edits.proofs.FileIdsChosen.{creates_id, threadless_chosen}
 use Rattle.hfs_call_edits.proofs.Edited.{editing_now}
-use Rattle.hfs_queries.proofs.ReplyLemmas.{by_nodes}
-use Rattle.hfs_changes.proofs.LawsProved.{choice_stands}
-use Rattle.hfs_changes.proofs.FileIdMakes.{file_threadless}
+use Rattle.hfs_items.proofs.ReplyLemmas.{by_nodes}
+use Rattle.hfs_record_edits.proofs.LawsProved.{choice_stands}
+use Rattle.hfs_record_edits.proofs.FileIdMakes.{file_threadless}
 use Rattle.hfs_call_edits.proofs.editing.Editing.file_without_id.Goals as goal
 
 pub returns-clause-choice : goal.returns-clause-choice

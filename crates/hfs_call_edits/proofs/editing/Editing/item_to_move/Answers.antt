@@ -1,9 +1,9 @@
 -- The records choose what the volume's entries do.
 use Rattle.hfs_call_edits.proofs.MoveModel.{chooses_moving}
 use Rattle.hfs_call_edits.proofs.Edited.{editing_now}
-use Rattle.hfs_queries.proofs.ReplyLemmas.{by_nodes}
-use Rattle.hfs_changes.proofs.LawsProved.{choice_stands, offspring_by_parents}
-use Rattle.hfs_catalog.proofs.LawsProved.{valences_are_counted}
+use Rattle.hfs_items.proofs.ReplyLemmas.{by_nodes}
+use Rattle.hfs_record_edits.proofs.LawsProved.{choice_stands, offspring_by_parents}
+use Rattle.hfs_catalog.proofs.CatalogLawsProved.{valences_are_counted}
 use Rattle.hfs_check.proofs.LawsProved.{catalog_is_sound}
 use Rattle.hfs_call_edits.proofs.editing.Editing.item_to_move.Goals as goal
 

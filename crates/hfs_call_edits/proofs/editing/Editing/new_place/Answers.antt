@@ -5,7 +5,7 @@ use Rattle.hfs_btree.specs.Tree.{Store}
 use Rattle.hfs_call_edits.specs.NewPlaces.{place_found, IsFolderFound}
 use Rattle.hfs_call_edits.proofs.ChosenPlaces.{place_chosen}
 use Rattle.hfs_call_edits.proofs.Edited.{editing_now}
-use Rattle.hfs_queries.proofs.ReplyLemmas.{by_nodes}
+use Rattle.hfs_items.proofs.ReplyLemmas.{by_nodes}
 use Rattle.hfs_call_edits.proofs.editing.Editing.new_place.Goals as goal
 
 pub returns-clause-chosen : goal.returns-clause-chosen

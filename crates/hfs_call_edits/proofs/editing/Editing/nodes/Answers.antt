@@ -1,6 +1,6 @@
 -- The runs are those of the catalog's file, and the volume is sound.
 use Rattle.hfs_call_edits.proofs.Edited.{editing_now, nodes_now}
-use Rattle.hfs_queries.proofs.LawsProved.{catalog_answers-sound, catalog_answers-entries}
+use Rattle.hfs_items.proofs.QueryLawsProved.{catalog_answers-sound, catalog_answers-entries}
 use Rattle.hfs_call_edits.proofs.editing.Editing.nodes.Goals as goal
 
 pub returns-clause-nodes : goal.returns-clause-nodes

@@ -3,8 +3,8 @@ use Rattle.std.proofs.Common.{◌∙◌}
 use Rattle.std.specs.Option.{option_map}
 use Rattle.hfs_catalog.specs.Lookups.{catalog_item}
 use Rattle.hfs_check.specs.Parts.{catalog_in}
-use Rattle.hfs_queries.proofs.ReplyLemmas.{by_nodes}
-use Rattle.hfs_queries.specs.Told.{folder_with}
+use Rattle.hfs_items.proofs.ReplyLemmas.{by_nodes}
+use Rattle.hfs_items.specs.Told.{folder_with}
 use Rattle.hfs_call_edits.proofs.Parents.{no_parent, parent_found, no_file_parent}
 use Rattle.hfs_call_edits.proofs.editing.Editing.parent.Goals as goal
 

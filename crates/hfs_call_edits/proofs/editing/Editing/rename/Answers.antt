@@ -2,7 +2,7 @@
 use Rattle.std.proofs.Common.{rules, refl, sym, subst}
 use Rattle.hfs_check.specs.Parts.{mdb_in, catalog_nodes}
 use Rattle.hfs_check.specs.VolumeOf.{volume_in}
-use Rattle.hfs_changes.specs.OnBlocks.{at_time}
+use Rattle.hfs_record_edits.specs.OnBlocks.{at_time}
 use Rattle.hfs_call_patches.specs.Rekeyings.{CanRekey}
 use Rattle.hfs_call_patches.specs.Renaming.{IsRenameChoice}
 use Rattle.hfs_call_edits.specs.ChoosingRenaming.{nodes_for_name}
@@ -11,7 +11,7 @@ use Rattle.hfs_call_edits.proofs.MayRename.{can_rename, rename_refused, rename_a
 use Rattle.hfs_call_edits.proofs.StepMade.{step_made}
 use Rattle.hfs_call_edits.proofs.Wanting.{enough_nodes, full_edit, refused_edit}
 use Rattle.hfs_check.proofs.LawsProved.{trees_are_sound, catalog_is_sound}
-use Rattle.hfs_changes.proofs.LawsProved.{choice_stands, rename_is_free, catalog_edits_are_steps}
+use Rattle.hfs_record_edits.proofs.LawsProved.{choice_stands, rename_is_free, catalog_edits_are_steps}
 use Rattle.hfs_model.specs.declared.call.Call.TheVariants as call
 use Rattle.hfs_model.specs.declared.reply.Value.TheVariants as value
 use Rattle.hfs_call_edits.proofs.editing.Editing.rename.Goals as goal

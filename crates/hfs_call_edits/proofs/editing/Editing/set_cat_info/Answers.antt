@@ -5,7 +5,7 @@ use Rattle.hfs_model.specs.Choices.{to_set_cat_info}
 use Rattle.hfs_call_patches.specs.Settings.{set_cat_info_call}
 use Rattle.hfs_call_edits.specs.Edits.{IsChosenBody}
 use Rattle.hfs_call_edits.proofs.Edited.{cat_info_refused, cat_info_accepted, change_of, refusal_of, file_choice, folder_choice, editing_now}
-use Rattle.hfs_changes.proofs.LawsProved.{catalog_edits_are_steps}
+use Rattle.hfs_record_edits.proofs.LawsProved.{catalog_edits_are_steps}
 use Rattle.hfs_call_edits.proofs.editing.Editing.set_cat_info.Goals as goal
 
 pub patch_set_folder_info-requires-clause-chosen : goal.patch_set_folder_info-requires-clause-chosen

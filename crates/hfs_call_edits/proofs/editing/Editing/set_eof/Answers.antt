@@ -4,7 +4,7 @@ use Rattle.hfs_call_patches.specs.declared.change.Change.{Change}
 use Rattle.hfs_call_edits.specs.declared.editing.Refusal.{Refusal}
 use Rattle.hfs_call_edits.specs.Edits.{HasForkRoom, HasForkWritten, IsEditOf}
 use Rattle.hfs_model.specs.declared.call.Call.TheVariants as call
-use Rattle.hfs_fork_edits.specs.Calls.{IsSetEofEdit}
+use Rattle.hfs_call_patches.specs.Calls.{IsSetEofEdit}
 use Rattle.hfs_call_edits.proofs.ForkEdits.{set_eof_edit, set_eof_room, set_eof_written}
 use Rattle.hfs_call_edits.proofs.editing.Editing.set_eof.Goals as goal
 

@@ -3,7 +3,7 @@ use Rattle.std.proofs.Common.{rules, refl}
 use Rattle.hfs_check.specs.VolumeOf.{volume_in}
 use Rattle.hfs_model.specs.Choices.{to_set_f_info}
 use Rattle.hfs_call_edits.proofs.Edited.{f_info_refused, f_info_accepted, change_of, refusal_of, file_choice, editing_now}
-use Rattle.hfs_changes.proofs.LawsProved.{catalog_edits_are_steps}
+use Rattle.hfs_record_edits.proofs.LawsProved.{catalog_edits_are_steps}
 use Rattle.hfs_model.specs.declared.call.Call.TheVariants as call
 use Rattle.hfs_call_edits.proofs.editing.Editing.set_f_info.Goals as goal
 

@@ -1,11 +1,11 @@
 -- The patch makes the call's step, and the call answers nothing.
 use Rattle.std.proofs.Common.{rules, ◌≡◌, ℕ, Bool, true, false, List, refl}
 use Rattle.hfs_check.specs.VolumeOf.{volume_in}
-use Rattle.hfs_changes.specs.SettingLaws.{lock_call}
+use Rattle.hfs_record_edits.specs.SettingLaws.{lock_call}
 use Rattle.hfs_model.specs.Choices.{file_to_change}
 use Rattle.hfs_model.specs.Need.{need}
 use Rattle.hfs_call_edits.proofs.Edited.{lock_refused, lock_accepted, change_of, refusal_of, file_choice, editing_now}
-use Rattle.hfs_changes.proofs.LawsProved.{catalog_edits_are_steps}
+use Rattle.hfs_record_edits.proofs.LawsProved.{catalog_edits_are_steps}
 use Rattle.hfs_call_edits.proofs.editing.Editing.set_lock.Goals as goal
 
 pub patch_set_lock-requires-clause-chosen : goal.patch_set_lock-requires-clause-chosen

@@ -4,7 +4,7 @@ use Rattle.hfs_call_patches.specs.declared.change.Change.{Change}
 use Rattle.hfs_call_edits.specs.declared.editing.Refusal.{Refusal}
 use Rattle.hfs_call_edits.specs.Edits.{HasForkRoom, HasForkWritten, IsEditOf}
 use Rattle.hfs_model.specs.declared.call.Call.TheVariants as call
-use Rattle.hfs_fork_edits.specs.Calls.{IsWriteForkEdit}
+use Rattle.hfs_call_patches.specs.Calls.{IsWriteForkEdit}
 use Rattle.hfs_call_edits.proofs.ForkEdits.{write_fork_edit, write_fork_room, write_fork_written}
 use Rattle.hfs_call_edits.proofs.editing.Editing.write_fork.Goals as goal
 

@@ -2,7 +2,7 @@
 use Rattle.std.proofs.Common.{◌≡◌, ◌∙◌, ℕ, ◌*◌, List, Some, Result, Ok, Err, OnOk, length, take, drop, refl, sym, subst, arith, rules}
 use Rattle.std.specs.Arc.{arc_value}
 use Rattle.hfs_source.specs.Images.{HasAt, OfEach}
-use Rattle.hfs_sparse.specs.Sparse.{HoldsFrom}
+use Rattle.hfs_source.specs.Sparse.{HoldsFrom}
 use Rattle.hfs_commands.specs.OpenedFiles.{stored_bytes}
 use Rattle.hfs_commands.proofs.watched_image.WatchedImageFailingBlocks.read_told.Goals as goal
 

@@ -2,7 +2,7 @@
 use Rattle.std.proofs.Common.{sym, subst, List}
 use Rattle.std.proofs.Math.Logic.{∥∥₁_map}
 use Rattle.sqlite.specs.Held.{Held}
-use Rattle.hfs_rows.specs.Taken.{TakenRow, row_of}
+use Rattle.hfs_database.specs.Taken.{TakenRow, row_of}
 use Rattle.hfs_database.specs.Transactions.{HasPutSince, KeepsFile, no_rows}
 use Rattle.hfs_database.proofs.Keeping.{keeps_then}
 use Rattle.hfs_database.proofs.RowLemmas.{has_not, puts_one_more}

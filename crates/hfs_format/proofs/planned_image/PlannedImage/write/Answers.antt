@@ -1,6 +1,6 @@
 -- Some blocks after the others.
 use Rattle.std.proofs.Common.{◌≡◌, arith}
-use Rattle.hfs_sparse.proofs.Written.{on-err}
+use Rattle.hfs_source.proofs.Written.{on-err}
 use Rattle.hfs_format.proofs.Ranges.{written_more, written_front, nothing_written, all_written}
 use Rattle.hfs_format.proofs.planned_image.PlannedImage.write.Goals as goal
 

@@ -1,7 +1,7 @@
 -- the entries of the map are the value
 use Rattle.std.proofs.Common.{◌∙◌, ap}
-use Rattle.hfs_catalog_checks.specs.Indexes.{Numbered, number_of}
-use Rattle.hfs_catalog_checks.proofs.Ordered.{number_there}
+use Rattle.hfs_catalog.specs.Indexes.{Numbered, number_of}
+use Rattle.hfs_catalog.proofs.Ordered.{number_there}
 use Rattle.hfs_remains_page.proofs.numbers.FolderNumbers.get.Goals as goal
 
 pub returns : goal.returns

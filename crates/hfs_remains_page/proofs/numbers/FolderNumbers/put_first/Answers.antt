@@ -1,7 +1,7 @@
 -- the place stays that was there first
 use Rattle.std.proofs.Common.{sym, ◌∙◌}
-use Rattle.hfs_catalog_checks.specs.Indexes.{number_of}
-use Rattle.hfs_catalog_checks.proofs.Indexed.{put_where_none, put_back}
+use Rattle.hfs_catalog.specs.Indexes.{number_of}
+use Rattle.hfs_catalog.proofs.Indexed.{put_where_none, put_back}
 use Rattle.hfs_fields.proofs.OutcomeLemmas.{on_ok}
 use Rattle.hfs_remains_page.proofs.numbers.FolderNumbers.put_first.Goals as goal
 

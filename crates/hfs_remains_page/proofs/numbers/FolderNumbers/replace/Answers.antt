@@ -1,7 +1,7 @@
 -- the entries of the map are the value
 use Rattle.std.proofs.Common.{◌∙◌, ap}
-use Rattle.hfs_catalog_checks.specs.Indexes.{Numbered, number_of, with_number}
-use Rattle.hfs_catalog_checks.proofs.Ordered.{number_there, number_put}
+use Rattle.hfs_catalog.specs.Indexes.{Numbered, number_of, with_number}
+use Rattle.hfs_catalog.proofs.Ordered.{number_there, number_put}
 use Rattle.hfs_remains_page.proofs.numbers.FolderNumbers.replace.Goals as goal
 
 pub returns-clause-put : goal.returns-clause-put

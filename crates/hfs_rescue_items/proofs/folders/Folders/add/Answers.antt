@@ -1,7 +1,7 @@
 use Rattle.std.proofs.Common.{◌∙◌, ap, ℕ, List, Vec, Global, ◌||◌}
 use Rattle.std.specs.Str.{bytes_eq}
-use Rattle.hfs_rescue.specs.Items.{has_row}
-use Rattle.hfs_rescue.proofs.ItemLemmas.{row-put}
+use Rattle.hfs_remains.specs.Items.{has_row}
+use Rattle.hfs_remains.proofs.ItemLemmas.{row-put}
 use Rattle.hfs_rescue_items.proofs.folders.Folders.add.Goals as goal
 
 pub returns : goal.returns

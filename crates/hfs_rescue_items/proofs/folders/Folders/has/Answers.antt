@@ -1,6 +1,6 @@
 use Rattle.std.proofs.Common.{◌∙◌, ap, ℕ, List, Vec, Global}
-use Rattle.hfs_rescue.specs.Items.{has_row}
-use Rattle.hfs_rescue.proofs.ItemLemmas.{row-there}
+use Rattle.hfs_remains.specs.Items.{has_row}
+use Rattle.hfs_remains.proofs.ItemLemmas.{row-there}
 use Rattle.hfs_rescue_items.proofs.folders.Folders.has.Goals as goal
 
 pub returns : goal.returns

@@ -5,11 +5,11 @@ use Rattle.hfs_model.specs.declared.journal.Entry.{Entry}
 use Rattle.hfs_check.specs.Agree.{AgreesBut}
 use Rattle.hfs_check.specs.VolumeOf.{volume_of}
 use Rattle.hfs_volume.specs.Serving.{IsOutcomeIn}
-use Rattle.hfs_published.specs.Journals.{made_by}
+use Rattle.hfs_shared.specs.Journals.{made_by}
 use Rattle.hfs_shared.specs.Desks.{DeskState, IsHeadline, IsCounted, wanted, entry_of, pass_state}
 use Rattle.hfs_shared.specs.Stages.{stage, HasMade}
 use Rattle.hfs_shared.proofs.Headline.{entry_makes, headline_more, counted_more, wanted_known}
-use Rattle.hfs_model.proofs.LawsProved.{step_is_never_full}
+use Rattle.hfs_model.proofs.ModelLawsProved.{step_is_never_full}
 use Rattle.hfs_shared.proofs.desk.Desk.apply.Goals as goal
 
 -- the journal has one entry more

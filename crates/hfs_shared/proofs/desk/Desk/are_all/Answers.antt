@@ -1,7 +1,7 @@
 use Rattle.std.proofs.Common.{◌<◌, ◌+◌, ℕ, length, sym, ap, ◌∙◌, subst, arith}
 use borrow.Author.Count.{below_more}
 use Rattle.std.proofs.lemmas.Grind.{get_or_default_zero}
-use Rattle.hfs_published.specs.Journals.{made_by}
+use Rattle.hfs_shared.specs.Journals.{made_by}
 use Rattle.hfs_shared.specs.Desks.{DeskState, pass_state}
 use Rattle.hfs_shared.specs.Closings.{HasPass, AreAllPasses}
 use Rattle.hfs_shared.proofs.desk.Desk.are_all.Goals as goal

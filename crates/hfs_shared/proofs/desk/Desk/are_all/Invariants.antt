@@ -1,5 +1,5 @@
 use Rattle.std.proofs.Common.{◌+◌, ◌<◌, ℕ}
-use Rattle.hfs_published.specs.Journals.{made_by}
+use Rattle.hfs_shared.specs.Journals.{made_by}
 use Rattle.hfs_shared.specs.Desks.{pass_state}
 use Rattle.hfs_shared.specs.Closings.{HasPass}
 use Rattle.hfs_shared.proofs.desk.Desk.are_all.Given as goal

@@ -3,7 +3,7 @@ use Rattle.std.proofs.Common.{◌≡◌, ◌<◌, ℕ, zero, suc, get_or, replic
 use Rattle.hfs_check.specs.VolumeOf.{volume_of}
 use Rattle.hfs_model.specs.Volume.{Volume}
 use Rattle.hfs_model.specs.declared.journal.Entry.{Entry}
-use Rattle.hfs_published.specs.Journals.{IsLegal}
+use Rattle.hfs_shared.specs.Journals.{IsLegal}
 use Rattle.hfs_shared.specs.Desks.{IsHeadline, IsCounted}
 use Rattle.hfs_shared.proofs.desk.Desk.new.Goals as goal
 

@@ -1,5 +1,5 @@
 use Rattle.hfs_shared.proofs.Showing.{locked_after, under_lock}
-use Rattle.hfs_published.proofs.LawsProved.{published_stays}
+use Rattle.hfs_shared.proofs.PublishedLawsProved.{published_stays}
 use Rattle.hfs_shared.proofs.locked.Locked.apply.Goals as goal
 
 pub invariant_of-self : goal.invariant_of-self

@@ -3,7 +3,7 @@ use Rattle.hfs_check.specs.Agree.{AgreesBut}
 use Rattle.hfs_check.specs.VolumeOf.{volume_of}
 use Rattle.hfs_model.specs.declared.journal.Entry.{Entry}
 use Rattle.hfs_model.specs.Runs.{after}
-use Rattle.hfs_published.specs.Journals.{IsLegal, published}
+use Rattle.hfs_shared.specs.Journals.{IsLegal, published}
 use Rattle.hfs_shared.specs.Closings.{AreAllPasses, HasNoOthers}
 use Rattle.hfs_shared.specs.Stages.{stage, HaveMadeOf}
 use Rattle.hfs_shared.proofs.locked.Locked.close.Goals as goal

@@ -1,12 +1,12 @@
 use Rattle.std.proofs.Common.{◌≡◌, List, length, drop, sym, ap, ◌∙◌, subst, ⊎_elim, arith}
 use Rattle.hfs_model.specs.declared.journal.Entry.{Entry}
 use Rattle.hfs_check.specs.VolumeOf.{volume_of}
-use Rattle.hfs_published.specs.Histories.{known}
-use Rattle.hfs_published.specs.Journals.{published, NoneAccepted}
-use Rattle.hfs_published.specs.Tolds.{told}
+use Rattle.hfs_shared.specs.Histories.{known}
+use Rattle.hfs_shared.specs.Journals.{published, NoneAccepted}
+use Rattle.hfs_shared.specs.Tolds.{told}
 use Rattle.hfs_shared.specs.Lockeds.{LockedState}
 use Rattle.hfs_shared.proofs.Showing.{none_later, idle_gathers, locked_published, told_published, under_lock}
-use Rattle.hfs_published.proofs.LawsProved.{published_grows}
+use Rattle.hfs_shared.proofs.PublishedLawsProved.{published_grows}
 use Rattle.hfs_shared.proofs.locked.Locked.publish.Goals as goal
 
 pub returns-clause-idle : goal.returns-clause-idle

@@ -2,7 +2,7 @@ use Rattle.std.proofs.Common.{ap, subst, ◌∙◌}
 use Rattle.std.specs.Prelude.{All, ◌≡◌}
 use Rattle.hfs_model.specs.Volume.{Volume}
 use Rattle.hfs_check.specs.VolumeOf.{volume_of}
-use Rattle.hfs_published.specs.Histories.{Known, known, opened}
+use Rattle.hfs_shared.specs.Histories.{Known, known, opened}
 use Rattle.hfs_shared.specs.Desks.{DeskState}
 use Rattle.hfs_shared.proofs.Begun.{unused}
 use Rattle.hfs_shared.proofs.parts.Parts.start.Goals as goal

@@ -2,7 +2,7 @@ use Rattle.std.proofs.Common.{◌≡◌, refl, ap, ◌∙◌, []}
 use Rattle.std.proofs.lemmas.List.Elements.{All-cons, All-nil}
 use Rattle.hfs_model.specs.Volume.{Volume}
 use Rattle.hfs_check.specs.VolumeOf.{volume_of}
-use Rattle.hfs_published.specs.Histories.{Known, known, opened}
+use Rattle.hfs_shared.specs.Histories.{Known, known, opened}
 use Rattle.hfs_shared.specs.Desks.{DeskState}
 use Rattle.hfs_shared.proofs.Begun.{unused}
 use Rattle.hfs_shared.proofs.parts.Parts.start_unread.Goals as goal

@@ -1,7 +1,7 @@
 -- A block of a copy was read, or is one of zeros.
 use Rattle.std.proofs.Common.{sym, ap, ◌∙◌, subst}
 use Rattle.hfs_blocks.specs.Layers.{Numbered}
-use Rattle.hfs_sparse.specs.Sparse.{sparse}
+use Rattle.hfs_source.specs.Sparse.{sparse}
 use Rattle.hfs_volume.specs.BaseBytes.{base_bytes, AreReadWithin}
 use Rattle.hfs_volume.proofs.CopyLemmas.{block-now}
 use Rattle.hfs_volume.proofs.base.Base.copy_block.Goals as goal

@@ -5,7 +5,7 @@ use Rattle.hfs_blocks.specs.Blocks.{block_count}
 use Rattle.hfs_blocks.specs.Layers.{changes}
 use Rattle.hfs_volume.specs.Laid.{laid_over}
 use Rattle.hfs_volume.specs.Image.{IsSameBeside}
-use Rattle.hfs_changed_blocks.proofs.AllBlocks.{few_numbers}
+use Rattle.hfs_space.proofs.AllBlocks.{few_numbers}
 use Rattle.hfs_volume.proofs.Kept.{beside}
 use Rattle.hfs_volume.proofs.Viewing.{same_blocks}
 use Rattle.hfs_volume.proofs.image.Image.changed.Goals as goal

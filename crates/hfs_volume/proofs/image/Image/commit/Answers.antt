@@ -3,8 +3,8 @@ use Rattle.std.proofs.Common.{◌≡◌, ℕ, List, sym, ap, ◌∙◌, subst}
 use Rattle.std.specs.Prelude.{Result, Ok, Err, OnErr}
 use Rattle.hfs_blocks.specs.Blocks.{block_at, block_count}
 use Rattle.hfs_blocks.specs.Layers.{changes, over, AreWithin}
-use Rattle.hfs_fork_bytes.specs.Zeros.{AreAmong}
-use Rattle.hfs_changed_blocks.specs.Changed.{laid_changes}
+use Rattle.hfs_space.specs.Zeros.{AreAmong}
+use Rattle.hfs_space.specs.Changed.{laid_changes}
 use Rattle.hfs_volume.specs.Image.{HasKept, image_of}
 use Rattle.hfs_volume.proofs.Kept.{kept}
 use Rattle.hfs_volume.proofs.Viewing.{same_count, committed, uncommitted}

@@ -1,7 +1,7 @@
 use Rattle.std.proofs.Common.{◌∙◌}
 use Rattle.hfs_blocks.specs.Blocks.{block_at, nodes_in}
 use Rattle.hfs_volume.proofs.Seen.{sound, is_catalog, same_content, are_entries}
-use Rattle.hfs_queries.proofs.LawsProved.{catalog_answers-sound, catalog_answers-entries}
+use Rattle.hfs_items.proofs.QueryLawsProved.{catalog_answers-sound, catalog_answers-entries}
 use Rattle.hfs_volume.proofs.volume.Volume.catalog_nodes.Goals as goal
 
 pub returns-clause-sound : goal.returns-clause-sound

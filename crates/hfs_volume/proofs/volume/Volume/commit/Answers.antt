@@ -5,8 +5,8 @@ use Rattle.hfs_fields.specs.declared.mdb.Mdb.{Mdb}
 use Rattle.hfs_blocks.specs.declared.run.Run.{Run}
 use Rattle.hfs_blocks.specs.Blocks.{block_count, run_of}
 use Rattle.hfs_blocks.specs.Layers.{changes, AreWithin}
-use Rattle.hfs_fork_bytes.specs.Zeros.{AreAmong}
-use Rattle.hfs_changed_blocks.specs.Changed.{laid_changes}
+use Rattle.hfs_space.specs.Zeros.{AreAmong}
+use Rattle.hfs_space.specs.Changed.{laid_changes}
 use Rattle.hfs_volume.specs.Image.{ImageValue}
 use Rattle.hfs_volume.specs.Laid.{laid_over}
 use Rattle.hfs_volume.specs.Mounted.{IsMounted}

@@ -8,7 +8,7 @@ use Rattle.hfs_check.specs.Agree.{AgreesBut}
 use Rattle.hfs_volume.specs.Image.{ImageValue}
 use Rattle.hfs_volume.specs.Sharing.{file_extents}
 use Rattle.hfs_volume.proofs.FileExtents.{is_there, no_folder, its_record, are_extents, are_within, have_fork, if_ok}
-use Rattle.hfs_catalog.proofs.LawsProved.{items_are_records}
+use Rattle.hfs_catalog.proofs.CatalogLawsProved.{items_are_records}
 use Rattle.hfs_volume.proofs.OwnedStay.{forks_stay}
 use Rattle.hfs_volume.proofs.volume.Volume.extents.Goals as goal
 

@@ -1,5 +1,5 @@
 use Rattle.std.proofs.Common.{◌∙◌}
-use Rattle.hfs_queries.proofs.ReplyLemmas.{cat_infos}
+use Rattle.hfs_items.proofs.ReplyLemmas.{cat_infos}
 use Rattle.hfs_volume.proofs.volume.Volume.get_cat_info.Goals as goal
 
 pub returns : goal.returns

@@ -1,5 +1,5 @@
 use Rattle.std.proofs.Common.{◌∙◌}
-use Rattle.hfs_queries.proofs.ReplyLemmas.{dir_infos}
+use Rattle.hfs_items.proofs.ReplyLemmas.{dir_infos}
 use Rattle.hfs_volume.proofs.volume.Volume.get_dir_info.Goals as goal
 
 pub returns : goal.returns

@@ -1,5 +1,5 @@
 use Rattle.std.proofs.Common.{◌∙◌}
-use Rattle.hfs_queries.proofs.ReplyLemmas.{indexes}
+use Rattle.hfs_items.proofs.ReplyLemmas.{indexes}
 use Rattle.hfs_volume.proofs.volume.Volume.get_indexed.Goals as goal
 
 pub returns : goal.returns

@@ -2,8 +2,8 @@ use Rattle.std.proofs.Common.{◌≡◌, ◌∙◌, subst}
 use Rattle.std.specs.Prelude.{IfOk}
 use Rattle.hfs_catalog.specs.Tree.{catalog_of}
 use Rattle.hfs_model.specs.declared.reply.Reply.{Reply}
-use Rattle.hfs_queries.proofs.ReplyLemmas.{lists}
-use Rattle.hfs_queries.proofs.DetailLemmas.{listed_in-full}
+use Rattle.hfs_items.proofs.ReplyLemmas.{lists}
+use Rattle.hfs_items.proofs.DetailLemmas.{listed_in-full}
 use Rattle.hfs_volume.proofs.volume.Volume.list.Goals as goal
 
 pub returns : goal.returns

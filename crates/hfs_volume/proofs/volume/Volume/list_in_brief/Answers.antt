@@ -2,9 +2,9 @@ use Rattle.std.proofs.Common.{◌≡◌, ◌∙◌, ap, subst}
 use Rattle.std.specs.Prelude.{IfOk}
 use Rattle.hfs_catalog.specs.Tree.{catalog_of}
 use Rattle.hfs_model.specs.declared.reply.Reply.{Reply}
-use Rattle.hfs_queries.specs.Brief.{without_ids}
-use Rattle.hfs_queries.proofs.ReplyLemmas.{lists}
-use Rattle.hfs_queries.proofs.DetailLemmas.{listed_in-brief}
+use Rattle.hfs_items.specs.Brief.{without_ids}
+use Rattle.hfs_items.proofs.ReplyLemmas.{lists}
+use Rattle.hfs_items.proofs.DetailLemmas.{listed_in-brief}
 use Rattle.hfs_volume.proofs.volume.Volume.list_in_brief.Goals as goal
 
 pub returns : goal.returns

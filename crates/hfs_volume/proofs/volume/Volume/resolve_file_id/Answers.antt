@@ -1,5 +1,5 @@
 use Rattle.std.proofs.Common.{◌∙◌}
-use Rattle.hfs_queries.proofs.ReplyLemmas.{places}
+use Rattle.hfs_items.proofs.ReplyLemmas.{places}
 use Rattle.hfs_volume.proofs.volume.Volume.resolve_file_id.Goals as goal
 
 pub returns : goal.returns

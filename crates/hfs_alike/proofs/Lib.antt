@@ -1,9 +1,0 @@
-pub mod MappedEntries
-pub mod MappedChoices
-pub mod MappedCalls
-pub mod BareEntries
-pub mod BareReplies
-pub mod BareChoices
-pub mod BareChanges
-pub mod LawsProved
-pub mod NamedItems

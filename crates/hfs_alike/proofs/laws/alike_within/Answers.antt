@@ -1,5 +1,0 @@
-use Rattle.hfs_alike.proofs.LawsProved as laws
-use Rattle.hfs_alike.proofs.laws.alike_within.Goals as goal
-
-pub returns : goal.returns
-returns c = laws.alike_within

@@ -1,5 +1,0 @@
-use Rattle.hfs_alike.proofs.NamedItems as items
-use Rattle.hfs_alike.proofs.named.asked_want_alike.Goals as goal
-
-pub returns : goal.returns
-returns c = items.asked_want_alike

@@ -1,5 +1,0 @@
-use Rattle.hfs_alike.proofs.NamedItems as items
-use Rattle.hfs_alike.proofs.named.named_stay_kept.Goals as goal
-
-pub returns : goal.returns
-returns c = items.named_stay_kept

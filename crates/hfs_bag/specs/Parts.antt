@@ -1,0 +1,22 @@
+-- Parts of an image that is picked.
+use Rattle.std.specs.Prelude.{◌≡◌, ℕ, ◌+◌, ◌<◌, ◌≤◌, ◌^◌, List, length}
+use Rattle.hfs_source.specs.declared.ranges.Layout.{Layout}
+pub use Rattle.hfs_source.specs.Raw.{content_of}
+use Rattle.hfs_source.specs.Ranges.{bytes_in, range_of}
+
+-- where it reads from, what that is, and which range of the content it is
+pub record PartValue (S : Type 0) : Type 0 where
+  pub source : S
+  pub layout : Layout
+  pub start : ℕ
+  pub len : ℕ
+
+-- the range lies in the content, where the source has what was read of this image
+pub record IsInside {S : Type 0} (Holds : S → List ℕ → Type 0) (image : List ℕ) (part : PartValue S) : Type 0 where
+  pub few : part.start + part.len < 2 ^ 63
+  pub inside : Holds part.source image → part.start + part.len ≤ length (content_of part.layout image)
+
+-- these bytes are the range, and the source has what was read of this image
+pub record IsPartOf {S : Type 0} (Holds : S → List ℕ → Type 0) (image : List ℕ) (part : PartValue S) (bytes : List ℕ) : Type 0 where
+  pub has : Holds part.source image
+  pub is : bytes ≡ bytes_in (range_of part.start part.len) (content_of part.layout image)

@@ -1,0 +1,215 @@
+//! Removing a folder with everything in it.
+ghost use Rattle.std.specs.Prelude.{◌≡◌, [], IfOk, MatchResult, is_some, string_bytes, true};
+ghost use Rattle.hfs_bag.specs.Told.{IsFolderOrIn};
+ghost use Rattle.hfs_bag.specs.Removals.{HasSince, IsTakenAway, RemovesIn};
+ghost use Rattle.hfs_bag.specs.Tries.{AnswersTried, HasNextPlace, is_stopped};
+
+use crate::paths::path_within;
+use crate::system::{FileSystem, Removal};
+use std::alloc::{AllocError, Global};
+use std::io::Read;
+
+/// How many bytes of a folder's names are read at a time.
+const NAMES: usize = 4_096;
+
+/// The result of removing what is in a folder.
+#[derive(Drop)]
+pub(crate) enum Tried {
+    /// There is a folder with this name.
+    Folder(String),
+    /// What was to be removed is gone.
+    Gone,
+    /// The system refused.
+    Refused,
+}
+
+/// Removes a folder with everything in it; each folder is removed when it is empty. One folder is open at a time. Each is opened
+/// once, and once more for each folder in it. A link in it is removed, not what it leads to. Where the system refuses, the rest
+/// stays. Fails only when out of memory, and then the rest stays as well.
+#[tactic(auto, using(crate::proofs::RemovalLemmas::removals))]
+pub(crate) fn remove_folder<Y: FileSystem>(
+    alloc: Global,
+    system: &mut Y,
+    folder: &str,
+) -> Result<(), AllocError>
+    ensures { MatchResult result
+        (λ _. IsTakenAway folder.now (Y.did system.old) (Y.did system.new))
+        (λ _. HasSince (RemovesIn folder.now) (Y.did system.old) (Y.did system.new)) }
+{
+    let mut inner = String::new(alloc);
+    for _ in 0..u64::MAX {
+        match remove_next(alloc, system, folder, inner.as_str()) {
+            Ok(Some(next)) => inner = next,
+            Ok(None) => return Ok(()),
+            Err(error) => return Err(error),
+        }
+    }
+    let _removed = system.remove_folder(folder);
+    Ok(())
+}
+
+/// Removes what is at a path in a folder, up to the first folder in it; the path is empty for the folder itself. Returns the path
+/// in the folder where to go on; None if nothing is left to do.
+#[tactic(auto, using(crate::proofs::RemovalLemmas::removals))]
+fn remove_next<Y: FileSystem>(
+    alloc: Global,
+    system: &mut Y,
+    folder: &str,
+    inner: &str,
+) -> Result<Option<String>, AllocError>
+    ensures { MatchResult result
+        (HasNextPlace folder.now (Y.did system.old) (Y.did system.new))
+        (λ _. HasSince (RemovesIn folder.now) (Y.did system.old) (Y.did system.new)) }
+{
+    let place = match place_in(alloc, folder, inner) {
+        Ok(place) => place,
+        Err(error) => return Err(error),
+    };
+    match remove_to_folder(alloc, system, place.as_str()) {
+        Ok(Tried::Gone) => {}
+        Ok(Tried::Refused) => return Ok(None),
+        Ok(Tried::Folder(name)) => return some(inner_path(alloc, inner, name)),
+        Err(error) => return Err(error),
+    }
+    match system.remove_folder(place.as_str()) {
+        Ok(()) => {}
+        Err(_) => return Ok(None),
+    }
+    if inner.is_empty() {
+        return Ok(None);
+    }
+    some(folder_of(alloc, inner))
+}
+
+/// A path where to go on.
+fn some(path: Result<String, AllocError>) -> Result<Option<String>, AllocError>
+    ensures { IfOk result (λ next. is_some next ≡ true) }
+{
+    match path {
+        Ok(path) => Ok(Some(path)),
+        Err(error) => Err(error),
+    }
+}
+
+/// The path of what is at a path in a folder; the inner path is empty for the folder itself.
+fn place_in(alloc: Global, folder: &str, inner: &str) -> Result<String, AllocError>
+    ensures within { IfOk result (λ place. IsFolderOrIn folder.now (string_bytes place)) }
+    ensures whole { inner.now ≡ [] → IfOk result (λ place. string_bytes place ≡ folder.now) }
+{
+    if inner.is_empty() {
+        String::from_str(alloc, folder)
+    } else {
+        path_within(alloc, folder, inner)
+    }
+}
+
+/// The path, within a folder, of the entry with this name in what is at a path in it.
+fn inner_path(alloc: Global, inner: &str, name: String) -> Result<String, AllocError> {
+    if inner.is_empty() {
+        Ok(name)
+    } else {
+        path_within(alloc, inner, name.as_str())
+    }
+}
+
+/// The path of the folder that holds what is at a path in a folder.
+fn folder_of(alloc: Global, inner: &str) -> Result<String, AllocError> {
+    match inner.rsplit_once('/') {
+        Some((above, _name)) => String::from_str(alloc, above),
+        None => Ok(String::new(alloc)),
+    }
+}
+
+/// Removes what is in a folder, up to the first folder in it. Names that are not text are skipped.
+#[tactic(auto, using(crate::proofs::RemovalLemmas::removals))]
+fn remove_to_folder<Y: FileSystem>(
+    alloc: Global,
+    system: &mut Y,
+    folder: &str,
+) -> Result<Tried, AllocError>
+    ensures { AnswersTried result folder.now (Y.did system.old) (Y.did system.new) }
+{
+    let Ok(mut names) = system.names(folder) else {
+        return Ok(Tried::Gone);
+    };
+    let mut bytes = [0; NAMES];
+    for _ in 0..u64::MAX {
+        let count = names.read(&mut bytes).unwrap_or(0);
+        let Some(read) = bytes.get(..count) else {
+            return Ok(Tried::Gone);
+        };
+        if read.is_empty() {
+            return Ok(Tried::Gone);
+        }
+        let text = str::from_utf8(read).unwrap_or("");
+        let tried = remove_names(alloc, system, folder, text);
+        if is_stopped(&tried) {
+            return tried;
+        }
+    }
+    Ok(Tried::Gone)
+}
+
+/// Removes the entries of a folder with these names, each of which ends with a zero byte, up to the first folder.
+#[tactic(auto, using(crate::proofs::RemovalLemmas::removals))]
+fn remove_names<Y: FileSystem>(
+    alloc: Global,
+    system: &mut Y,
+    folder: &str,
+    names: &str,
+) -> Result<Tried, AllocError>
+    ensures { AnswersTried result folder.now (Y.did system.old) (Y.did system.new) }
+{
+    let mut rest = names;
+    for _ in 0..names.len() {
+        let Some((name, behind)) = rest.split_once('\0') else {
+            return Ok(Tried::Gone);
+        };
+        let tried = remove_name(alloc, system, folder, name);
+        if is_stopped(&tried) {
+            return tried;
+        }
+        rest = behind;
+    }
+    Ok(Tried::Gone)
+}
+
+/// Whether something is not gone.
+fn is_stopped(tried: &Result<Tried, AllocError>) -> bool
+    ensures { result ≡ is_stopped tried.now }
+{
+    match tried {
+        Ok(Tried::Gone) => false,
+        Ok(Tried::Folder(_)) => true,
+        Ok(Tried::Refused) => true,
+        Err(_) => true,
+    }
+}
+
+/// Removes the entry of a folder with this name, unless it is a folder. The folder's own entries for itself and its parent are
+/// skipped, and so is an empty name.
+#[tactic(auto, using(crate::proofs::RemovalLemmas::removals))]
+fn remove_name<Y: FileSystem>(
+    alloc: Global,
+    system: &mut Y,
+    folder: &str,
+    name: &str,
+) -> Result<Tried, AllocError>
+    ensures { AnswersTried result folder.now (Y.did system.old) (Y.did system.new) }
+{
+    if name.is_empty() || name == "." || name == ".." {
+        return Ok(Tried::Gone);
+    }
+    let path = match path_within(alloc, folder, name) {
+        Ok(path) => path,
+        Err(error) => return Err(error),
+    };
+    match system.remove_file(path.as_str()) {
+        Ok(Removal::Gone) => Ok(Tried::Gone),
+        Ok(Removal::Folder) => match String::from_str(alloc, name) {
+            Ok(name) => Ok(Tried::Folder(name)),
+            Err(error) => Err(error),
+        },
+        Err(_) => Ok(Tried::Refused),
+    }
+}

@@ -1,6 +1,0 @@
-use Rattle.hfs_catalog_checks.specs.Indexes.{number_of}
-use Rattle.hfs_catalog_checks.proofs.Indexed.{count_more}
-use Rattle.hfs_catalog_checks.proofs.numbers.Numbers.count_more.Goals as goal
-
-pub returns : goal.returns
-returns c = count_more (number_of c.args.self.now) (number_of c.put.new.self) c.args.id c.count-count.result c.args.more c.count-count.ensures c.in_ok-put.ensures

@@ -1,9 +1,0 @@
-use Rattle.std.proofs.Common.{◌∙◌, ap}
-use Rattle.hfs_catalog_checks.specs.Indexes.{Numbered, number_of}
-use Rattle.hfs_catalog_checks.proofs.Ordered.{number_there}
-use Rattle.hfs_catalog_checks.proofs.numbers.Numbers.get.Goals as goal
-
-pub returns : goal.returns
-returns c =
-    c.copied.ensures ∙ c.get.ensures.value ∙ number_there c.self.inside.numbers.entries c.args.id
-    ∙ ap (λ (numbers : Numbered). number_of numbers c.args.id) c.self.view_is

@@ -1,4 +1,0 @@
-pub mod Claimed
-pub mod FreeRuns
-pub mod Pieces
-pub mod Choice

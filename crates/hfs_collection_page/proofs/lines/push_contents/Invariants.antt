@@ -1,7 +1,0 @@
--- what came so far is appended
-use Rattle.std.proofs.Common.{◌≡◌, ◌++◌, take}
-use Rattle.hfs_collection_page.specs.Lines.{contents_text}
-use Rattle.hfs_collection_page.proofs.lines.push_contents.Given as goal
-
-abbrev pub invariant-loop-row : goal.invariant-loop-row
-invariant-loop-row l = l.page.items ≡ l.initial.page.items ++ contents_text (take l.row-index l.rows)

@@ -1,4 +1,0 @@
-pub mod Lines
-pub mod Pages
-pub mod Writing
-pub mod Nested

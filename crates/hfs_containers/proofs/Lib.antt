@@ -1,6 +1,0 @@
-pub mod Shorter
-mod Entries
-mod Counting
-mod SumLemmas
-mod RawLemmas
-mod Handed

@@ -1,9 +1,0 @@
-pub mod Ranges
-pub mod MacBinary
-pub mod DiskCopy
-pub mod PartitionMap
-pub mod Raw
-pub mod Found
-pub mod Asking
-pub mod Sums
-pub mod Memory

@@ -1,0 +1,13 @@
+pub mod SameNumbers
+pub mod ReadParts
+pub mod PutBlocks
+pub mod Mendings
+pub mod SameWork
+pub mod SameTrees
+pub mod AlikeVolumes
+pub mod Carried
+pub mod Copies
+pub mod ReadWork
+pub mod Kept
+pub mod LawsProved
+pub mod KeptBlocks

@@ -1,0 +1,28 @@
+-- The page of a collection, by what its database answers.
+use Rattle.std.specs.Prelude.{◌≡◌, ℕ, List, Option}
+use Rattle.std.specs.Io.KnownBytes.{Appends}
+use Rattle.sqlite.specs.Held.{Held, state}
+use Rattle.sqlite.specs.Store.{Ghosts}
+use Rattle.sqlite_value.specs.Order.{Row}
+use Rattle.hfs_database.specs.declared.listing.Listing.TheVariants.{Volumes, Copies}
+use Rattle.hfs_database.specs.Listing.{IsListed}
+use Rattle.hfs_texts.specs.Writing.{AppendsFront}
+use Rattle.hfs_database.specs.declared.collection_texts.CollectionTexts.{CollectionTexts}
+use Rattle.hfs_database.specs.Pages.{collection_page}
+
+-- the page of the volumes and the contents that the database listed, one listing behind the other
+pub record IsPage {S : Type 0} (g : Ghosts S) (old new : Held S) (texts : CollectionTexts) (page : List ℕ) : Type 0 where
+  pub asked : Held S
+  pub volumes : List Row
+  pub contents : List Row
+  pub lists_volumes : IsListed (state g old) (state g asked) Volumes volumes
+  pub lists_contents : IsListed (state g asked) (state g new) Copies contents
+  pub is : page ≡ collection_page texts volumes contents
+
+-- such a page was written
+abbrev pub WritesPage : {S : Type 0} → Ghosts S → Held S → Held S → CollectionTexts → Option (List ℕ) → Option (List ℕ) → Type 0
+WritesPage g old new texts before after = (page : List ℕ) × IsPage g old new texts page × Appends before after page
+
+-- a part of such a page was written, from its beginning on
+abbrev pub WritesPageFront : {S : Type 0} → Ghosts S → Held S → Held S → CollectionTexts → Option (List ℕ) → Option (List ℕ) → Type 0
+WritesPageFront g old new texts before after = (page : List ℕ) × IsPage g old new texts page × AppendsFront before after page

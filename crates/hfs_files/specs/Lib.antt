@@ -1,3 +1,0 @@
-pub mod Writes
-pub mod WriteLogs
-pub mod Looks

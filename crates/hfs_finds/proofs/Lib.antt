@@ -1,8 +1,0 @@
-pub mod ImageLemmas
-mod SameFiles
-pub mod SameFinds
-mod GatherLemmas
-mod FoundLemmas
-pub mod LawsProved
-mod LookLemmas
-mod VolumeLemmas

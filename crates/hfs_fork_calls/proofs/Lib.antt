@@ -1,4 +1,0 @@
-mod Tested
-pub mod Refusals
-mod Afterwards
-pub mod LawsProved

@@ -1,5 +1,0 @@
-use Rattle.hfs_fork_calls.proofs.LawsProved.{set_eof_resizes}
-use Rattle.hfs_fork_calls.proofs.laws.set_eof_resizes.Goals as goal
-
-pub returns : goal.returns
-returns c = set_eof_resizes

@@ -1,6 +1,0 @@
--- The law, by the laws of the crates below.
-use Rattle.hfs_fork_changes.proofs.LawsProved.{fork_edits_are_set_eof}
-use Rattle.hfs_fork_changes.proofs.laws.fork_edits_are_set_eof.Goals as goal
-
-pub returns : goal.returns
-returns c = fork_edits_are_set_eof

@@ -1,5 +1,0 @@
--- What was put lies within.
-use Rattle.hfs_fork_edits.proofs.bits.claim_over.Goals as goal
-
-pub returns-clause-inside : goal.returns-clause-inside
-returns-clause-inside g c = c.in_ok-claim_extents.ensures.within c.requires.inside

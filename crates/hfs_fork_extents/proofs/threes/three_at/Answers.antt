@@ -1,7 +1,0 @@
--- The extents at three places.
-use Rattle.hfs_fork_extents.specs.Lengthened.{none}
-use Rattle.hfs_fork_extents.proofs.ThreeLemmas.{three-there}
-use Rattle.hfs_fork_extents.proofs.threes.three_at.Goals as goal
-
-pub returns : goal.returns
-returns c = three-there c.args.extents.now c.args.at none c.requires

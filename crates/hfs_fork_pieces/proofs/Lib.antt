@@ -1,4 +1,0 @@
-pub mod PieceLemmas
-pub mod Placed
-pub mod Edited
-mod Read

@@ -1,5 +1,0 @@
-use Rattle.hfs_fork_wants.proofs.WantsProved.{write_fork_wants_are_told}
-use Rattle.hfs_fork_wants.proofs.room.write_fork_wants_are_told.Goals as goal
-
-pub returns : goal.returns
-returns c = write_fork_wants_are_told

@@ -1,0 +1,13 @@
+-- Those that were looked at lie side by side.
+use Rattle.std.specs.Prelude.{◌≡◌, ℕ, ◌+◌, ◌-◌, ◌≤◌, ◌<◌}
+use Rattle.hfs_blocks.specs.Blocks.{AreRunsWithin}
+use Rattle.hfs_image.specs.TreeReads.{LieBeside, block_for}
+use Rattle.hfs_image.proofs.tree_nodes.marked_beside.Given as goal
+
+abbrev pub invariant-loop-m : goal.invariant-loop-m
+invariant-loop-m l = record {
+  first : l.first ≡ block_for l.runs l.n;
+  some : l.n < l.m;
+  beside : LieBeside l.runs l.n (l.m - l.n);
+  inside : (total : ℕ) → AreRunsWithin l.runs total → block_for l.runs l.n + (l.m - l.n) ≤ total;
+}

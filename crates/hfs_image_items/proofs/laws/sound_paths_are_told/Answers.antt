@@ -1,5 +1,0 @@
-use Rattle.hfs_image_items.proofs.LawsProved.{sound_paths_are_told}
-use Rattle.hfs_image_items.proofs.laws.sound_paths_are_told.Goals as goal
-
-pub returns : goal.returns
-returns c = sound_paths_are_told

@@ -1,7 +1,0 @@
-mod Letters
-mod Given
-mod HostNamesRead
-mod PlainTextRead
-mod MacBinaryRead
-mod Entries
-mod AppleDoubleRead

@@ -1,6 +1,0 @@
--- each was shown
-use Rattle.hfs_incoming.proofs.HostNamesRead.{host-names-read}
-use Rattle.hfs_incoming.proofs.laws.host_item_name_laws.Goals as goal
-
-pub returns : goal.returns
-returns c = host-names-read

@@ -1,6 +1,0 @@
--- each was shown
-use Rattle.hfs_incoming.proofs.PlainTextRead.{plain-text-read}
-use Rattle.hfs_incoming.proofs.laws.plain_text_laws.Goals as goal
-
-pub returns : goal.returns
-returns c = plain-text-read

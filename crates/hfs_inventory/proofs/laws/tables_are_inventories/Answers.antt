@@ -1,5 +1,0 @@
-use Rattle.hfs_inventory.proofs.TableLemmas.{tables_are_inventories}
-use Rattle.hfs_inventory.proofs.laws.tables_are_inventories.Goals as goal
-
-pub returns : goal.returns
-returns c = tables_are_inventories

@@ -1,5 +1,0 @@
-pub mod Rows
-pub mod Told
-pub mod Infos
-pub mod Levels
-pub mod Laws

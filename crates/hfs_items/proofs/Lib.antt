@@ -1,0 +1,19 @@
+pub mod FileIds
+pub mod Files
+pub mod Queries
+pub mod Holders
+pub mod DetailLemmas
+pub mod FolderLemmas
+pub mod FoundLemmas
+pub mod NamedFileLemmas
+pub mod ReplyLemmas
+mod ToldLemmas
+pub mod QueryLawsProved
+pub mod QueriesLaws
+pub mod ListLemmas
+pub mod TableLemmas
+pub mod RunLemmas
+pub mod LevelLemmas
+pub mod ToldRowLemmas
+pub mod LawsProved
+pub mod LawTypes

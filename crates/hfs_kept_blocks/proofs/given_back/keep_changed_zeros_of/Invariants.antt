@@ -1,7 +1,0 @@
--- The blocks before the next came.
-use Rattle.std.specs.List.{range_with_len}
-use Rattle.hfs_kept_blocks.specs.GivenBack.{GainsGivenBack}
-use Rattle.hfs_kept_blocks.proofs.given_back.keep_changed_zeros_of.Given as goal
-
-abbrev pub invariant-loop-i : goal.invariant-loop-i
-invariant-loop-i l = GainsGivenBack l.changed (range_with_len l.first l.i) l.initial.kept l.kept

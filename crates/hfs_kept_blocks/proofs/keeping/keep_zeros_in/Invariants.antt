@@ -1,9 +1,0 @@
--- Those of the runs before the next came.
-use Rattle.std.specs.Prelude.{take}
-use Rattle.std.specs.List.{flat_map}
-use Rattle.hfs_blocks.specs.Blocks.{run_of}
-use Rattle.hfs_kept_blocks.specs.Keeping.{GainsZeros}
-use Rattle.hfs_kept_blocks.proofs.keeping.keep_zeros_in.Given as goal
-
-abbrev pub invariant-loop-run : goal.invariant-loop-run
-invariant-loop-run g l = GainsZeros (g.B.Blocks.blocks l.now) (flat_map run_of (take l.run-index l.runs)) l.initial.kept l.kept

@@ -1,6 +1,0 @@
--- Run by run.
-use Rattle.hfs_laid_forks.proofs.ImageLemmas.{laid-in-image}
-use Rattle.hfs_laid_forks.proofs.laws.laid_forks_laws.Goals as goal
-
-pub returns : goal.returns
-returns c = λ start len host items runs file inside apart ends. laid-in-image start len host items runs file inside apart ends

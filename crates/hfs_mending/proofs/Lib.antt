@@ -1,4 +1,0 @@
-pub mod SameNumbers
-pub mod ReadParts
-pub mod PutBlocks
-pub mod Mendings

@@ -1,5 +1,0 @@
-use Rattle.hfs_model.proofs.Leaves.{after_both}
-use Rattle.hfs_model.proofs.laws.after_both.Goals as goal
-
-pub returns : goal.returns
-returns c = after_both

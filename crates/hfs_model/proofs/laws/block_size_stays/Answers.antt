@@ -1,5 +1,0 @@
-use Rattle.hfs_model.proofs.Leaves.{block_size_stays}
-use Rattle.hfs_model.proofs.laws.block_size_stays.Goals as goal
-
-pub returns : goal.returns
-returns c = block_size_stays

@@ -1,5 +1,0 @@
-use Rattle.hfs_model.proofs.Folders.{children_are}
-use Rattle.hfs_model.proofs.laws.children_are.Goals as goal
-
-pub returns : goal.returns
-returns c = children_are

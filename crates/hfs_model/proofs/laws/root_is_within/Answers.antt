@@ -1,5 +1,0 @@
-use Rattle.hfs_model.proofs.Parents.{root_within}
-use Rattle.hfs_model.proofs.laws.root_is_within.Goals as goal
-
-pub returns : goal.returns
-returns c = λ v h steps id. root_within v.items v.next_id h steps id

@@ -1,0 +1,5 @@
+use Rattle.hfs_model.proofs.Leaves.{full_where_wanting}
+use Rattle.hfs_model.proofs.model_laws.full_where_wanting.Goals as goal
+
+pub returns : goal.returns
+returns c = full_where_wanting

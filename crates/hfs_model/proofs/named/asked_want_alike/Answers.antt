@@ -1,0 +1,5 @@
+use Rattle.hfs_model.proofs.NamedItems as items
+use Rattle.hfs_model.proofs.named.asked_want_alike.Goals as goal
+
+pub returns : goal.returns
+returns c = items.asked_want_alike

@@ -1,9 +1,0 @@
-mod Stems
-pub mod Days
-pub mod DayLaw
-mod Codes
-pub mod HostNameLemmas
-pub mod HostPathLemmas
-mod PlainLemmas
-mod HexLemmas
-mod AsciiLemmas

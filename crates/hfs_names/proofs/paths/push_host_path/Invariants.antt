@@ -1,9 +1,0 @@
--- what came so far is appended
-use Rattle.std.proofs.Common.{◌≡◌, ◌++◌, string_bytes, take, ℕ, List}
-use Rattle.std.specs.Prelude.{codes}
-use Rattle.std.specs.List.{flat_map}
-use Rattle.hfs_names.specs.HostNames.{host_name}
-use Rattle.hfs_names.proofs.paths.push_host_path.Given as goal
-
-abbrev pub invariant-loop-name : goal.invariant-loop-name
-invariant-loop-name l = string_bytes l.text ≡ string_bytes l.initial.text ++ flat_map (λ (name : List ℕ). codes "/" ++ host_name name) (take l.name-index l.below)

@@ -1,9 +1,0 @@
-pub mod Gains
-pub mod MacRoman
-pub mod Digits
-pub mod PlainTexts
-pub mod HostNames
-pub mod Paths
-pub mod Calendar
-pub mod Moments
-pub mod Laws

@@ -1,8 +1,0 @@
--- The bytes lie where the runs say.
-use Rattle.std.proofs.Common.{refl}
-use Rattle.hfs_needed.proofs.ForkPlaces.{lies-known}
-use Rattle.hfs_needed.proofs.fork_runs.runs_of_kind.Goals as goal
-
-pub returns-clause-bytes : goal.returns-clause-bytes
-returns-clause-bytes c = lies-known c.args.read.now c.args.count c.requires.sound c.args.file c.args.kind c.args.fork.now c.requires.fork
-    (record { runs = c.in_ok-runs.runs; length = c.args.fork.now.length }) c.in_ok-runs.ensures refl

@@ -1,5 +1,0 @@
-use Rattle.hfs_needed.proofs.LawsProved.{needed_is_enough}
-use Rattle.hfs_needed.proofs.laws.needed_is_enough.Goals as goal
-
-pub returns : goal.returns
-returns c = needed_is_enough

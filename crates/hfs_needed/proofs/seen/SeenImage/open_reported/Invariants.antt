@@ -1,5 +1,0 @@
-use Rattle.hfs_needed.proofs.seen.SeenImage.open_reported.Given as goal
-
--- what may fail at first, of so many bytes
-abbrev pub ghosts-report_noted : goal.ghosts-report_noted
-ghosts-report_noted g a = record { fails = g.S.PlacedBlocks.Fails a.source.blocks; len = a.len }

@@ -1,5 +1,0 @@
-use Rattle.hfs_needed_runs.proofs.ForksOfLines as forks
-use Rattle.hfs_needed_runs.proofs.laws.named_forks_are_the_images.Goals as goal
-
-pub returns : goal.returns
-returns c = forks.named_forks_are_the_images

@@ -1,4 +1,0 @@
-pub mod Naming
-pub mod NamedForks
-pub mod NeededRuns
-pub mod OnImage

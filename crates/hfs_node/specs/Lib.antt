@@ -1,4 +1,0 @@
-pub mod Kind
-pub mod Fault
-pub mod Node
-pub mod Laid

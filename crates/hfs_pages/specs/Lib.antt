@@ -1,2 +1,0 @@
-pub mod ImagePages
-pub mod RefusedPages

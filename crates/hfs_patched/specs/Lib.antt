@@ -1,2 +1,0 @@
-pub mod Patched
-pub mod InFile

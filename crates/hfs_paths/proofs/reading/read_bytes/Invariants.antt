@@ -1,8 +1,0 @@
--- the bytes so far were read
-use Rattle.std.specs.Prelude.{◌≡◌, take}
-use Rattle.std.specs.List.{fold}
-use Rattle.hfs_paths.specs.Paths.{read_byte, read_of}
-use Rattle.hfs_paths.proofs.reading.read_bytes.Given as goal
-
-abbrev pub invariant-loop-byte : goal.invariant-loop-byte
-invariant-loop-byte l = read_of l.reading ≡ fold read_byte (read_of l.initial.reading) (take l.byte-index l.text)

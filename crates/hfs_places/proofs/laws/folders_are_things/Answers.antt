@@ -1,5 +1,0 @@
-use Rattle.hfs_places.proofs.LawsProved.{folders_are_things}
-use Rattle.hfs_places.proofs.laws.folders_are_things.Goals as goal
-
-pub returns : goal.returns
-returns c = folders_are_things

@@ -1,5 +1,0 @@
-use Rattle.hfs_places.proofs.LawsProved.{places_differ}
-use Rattle.hfs_places.proofs.laws.places_differ.Goals as goal
-
-pub returns : goal.returns
-returns c = places_differ

@@ -1,7 +1,0 @@
-use Rattle.std.proofs.Common.{◌≡◌, ◌++◌, take}
-use Rattle.hfs_published.specs.Journals.{changes}
-use Rattle.hfs_published.specs.Pairs.{pair}
-use Rattle.hfs_published.proofs.pair.Pair.add_entries.Given as goal
-
-abbrev pub invariant-loop-at : goal.invariant-loop-at
-invariant-loop-at l = l.self ≡ pair l.initial.self.book (l.initial.self.all ++ changes (take l.at l.entries)) l.initial.self.shown

@@ -1,0 +1,132 @@
+-- The allocation block in which a logical block of a file lies, and who owns it.
+use Rattle.std.proofs.Common.{◌≡◌, inl, inr, ⊎_elim, ℕ, zero, suc, ◌+◌, ◌*◌, ◌<◌, ◌≤◌, Bool, true, false, List, [], ◌∷◌, take, refl, sym, ap, ◌∙◌, arith, true≢false}
+use Rattle.std.specs.Prelude.{◌-◌}
+use Rattle.std.specs.List.{flat_map, range_with_len, sum_by}
+use Rattle.std.proofs.lemmas.Bool.{cases_lt}
+use Rattle.std.proofs.lemmas.List.Sums.{sum_by-cons}
+use Rattle.std.proofs.Math.Nat.{add-mul, suc-mul}
+use Rattle.hfs_fields.specs.declared.mdb.Mdb.{Mdb}
+use Rattle.hfs_fields.specs.declared.extent.Extent.{Extent}
+use Rattle.hfs_fields.specs.Members.{In}
+use Rattle.hfs_fields.proofs.PartLemmas.{in_parts}
+use Rattle.hfs_blocks.specs.Blocks.{run_of}
+use Rattle.hfs_space.specs.Extents.{Overflow, extent_blocks}
+use Rattle.hfs_space.specs.ForkLaws.{block_numbers}
+use Rattle.hfs_space.specs.Forks.{blocks_each, run_in}
+use Rattle.hfs_space.specs.Owners.{owners}
+use Rattle.hfs_space.proofs.OwnerLemmas.{append}
+use Rattle.hfs_catalog.specs.Records.{Record, Catalog}
+use Rattle.hfs_record_edits.proofs.Frames.{block_in}
+use Rattle.hfs_record_edits.proofs.Space.{record_has}
+use Rattle.hfs_volume.proofs.Owned.{owners_in}
+
+-- ---- numbers in a row
+
+in-range : (a k n : ℕ) → In n (range_with_len a k) → (a ≤ n) × (n < a + k)
+in-range a zero n i = absurd i
+in-range a (suc k) n i = ⊎_elim
+    (λ (e : a ≡ n). (omega (arith, e), omega (arith, e)))
+    (λ (there : In n (range_with_len (a + 1) k)). let rest = in-range (a + 1) k n there in (omega (arith, rest.0), omega (arith, rest.1)))
+    i
+
+pub range-in : (a k n : ℕ) → a ≤ n → n < a + k → In n (range_with_len a k)
+range-in a zero n low high = absurd (omega arith)
+range-in a (suc k) n low high = ⊎_elim
+    (λ (more : a < n). inr (range-in (a + 1) k n (omega arith) (omega arith)))
+    (λ none. let e : a ≡ n = omega (arith, none) in inl e)
+    (cases_lt a n)
+
+pub in-take : {A : Type 0} (x : A) (k : ℕ) (xs : List A) → In x (take k xs) → In x xs
+in-take x zero xs i = absurd i
+in-take x (suc k) [] i = absurd i
+in-take x (suc k) (y ∷ xs) i = ⊎_elim (λ (e : y ≡ x). inl e) (λ (there : In x (take k xs)). inr (in-take x k xs there)) i
+
+-- one of those of which the row was made
+pub in-flat : {A B : Type 0} (f : A → List B) (xs : List A) (y : B) → In y (flat_map f xs) → (x : A) × In x xs × In y (f x)
+in-flat f [] y i = absurd i
+in-flat f (x ∷ xs) y i = ⊎_elim
+    (λ (here : In y (f x)). (x, inl refl, here))
+    (λ (there : In y (flat_map f xs)). let rest = in-flat f xs y there in (rest.0, inr rest.1, rest.2))
+    (in_parts y (f x) (flat_map f xs) i)
+
+-- ---- where a logical block lies
+
+-- in so many parts of as many blocks, the part and the place in it
+in-part : (a each count n : ℕ) → a ≤ n → n < a + count * each → (c : ℕ) × (c < count) × (a + c * each ≤ n) × (n < a + c * each + each)
+in-part a each zero n low high = let none : zero * each ≡ 0 = omega arith in absurd (omega (arith, none))
+in-part a each (suc count) n low high = ⊎_elim
+    (λ (here : n < a + each). let none : 0 * each ≡ 0 = omega arith in (0, omega arith, omega (arith, none), omega (arith, none)))
+    (λ past.
+    let rest = in-part (a + each) each count n (omega (arith, past)) (omega (arith, high, suc-mul count each)) in
+    let more : suc rest.0 * each ≡ each + rest.0 * each = omega (arith, suc-mul rest.0 each) in
+    (suc rest.0, omega (arith, rest.1), omega (arith, more, rest.2), omega (arith, more, rest.3)))
+    (cases_lt n (a + each))
+
+-- the logical block is one of an allocation block that these extents have
+pub record IsLocated (mdb : Mdb) (extents : List Extent) (n : ℕ) : Type 0 where
+  pub block : ℕ
+  pub place : ℕ
+  pub within : place < blocks_each mdb
+  pub is : block_in mdb block place ≡ n
+  pub owned : 0 < owners (extent_blocks extents) block
+
+located-first : (mdb : Mdb) (e : Extent) (extents : List Extent) (n : ℕ) → In n (run_of (run_in mdb e)) → IsLocated mdb (e ∷ extents) n
+located-first mdb e extents n i =
+    let each = blocks_each mdb in
+    let within = in-range (mdb.allocation_start + e.first * each) (e.count * each) n i in
+    let c = in-part (mdb.allocation_start + e.first * each) each e.count n within.0 within.1 in
+    let sum : (e.first + c.0) * each ≡ e.first * each + c.0 * each = add-mul e.first c.0 each in
+    record {
+      block = e.first + c.0;
+      place = n - (mdb.allocation_start + (e.first + c.0) * each);
+      within = omega (arith, sum, c.2, c.3);
+      is = omega (arith, sum, c.2);
+      owned = omega (
+        arith,
+        owners_in (e.first + c.0) (range_with_len e.first e.count) (range-in e.first e.count (e.first + c.0) (omega arith) (omega (arith, c.1))),
+        append (e.first + c.0) (range_with_len e.first e.count) (extent_blocks extents),
+      );
+    }
+
+pub located : (mdb : Mdb) (extents : List Extent) (n : ℕ) → In n (block_numbers mdb extents) → IsLocated mdb extents n
+located mdb [] n i = absurd i
+located mdb (e ∷ extents) n i = ⊎_elim
+    (λ (here : In n (run_of (run_in mdb e))). located-first mdb e extents n here)
+    (λ (there : In n (block_numbers mdb extents)).
+    let rest = located mdb extents n there in
+    record {
+      block = rest.block;
+      place = rest.place;
+      within = rest.within;
+      is = rest.is;
+      owned = omega (arith, rest.owned, append rest.block (range_with_len e.first e.count) (extent_blocks extents));
+    })
+    (in_parts n (run_of (run_in mdb e)) (block_numbers mdb extents) i)
+
+-- ---- how often records have an allocation block
+
+module _ (mdb : Mdb) (overflow : Overflow) (b : ℕ) where
+  abbrev has : Record → ℕ
+  has r = record_has mdb overflow b r
+
+  pub one-has : (catalog : Catalog) (r : Record) → In r catalog → has r ≤ sum_by has catalog
+  one-has [] r i = absurd i
+  one-has (x ∷ xs) r i = ⊎_elim
+      (λ (e : x ≡ r). let same : has x ≡ has r = ap has e in omega (arith, same, sum_by-cons has x xs))
+      (λ (there : In r xs). omega (arith, one-has xs r there, sum_by-cons has x xs))
+      i
+
+  -- two records between which a test tells
+  pub two-have : (test : Record → Bool) (catalog : Catalog) (r s : Record) → In r catalog → In s catalog → test r ≡ true → test s ≡ false
+      → has r + has s ≤ sum_by has catalog
+  two-have test [] r s i j passes fails = absurd i
+  two-have test (x ∷ xs) r s i j passes fails = ⊎_elim
+      (λ (e : x ≡ r). ⊎_elim
+      (λ (f : x ≡ s). absurd (true≢false (sym passes ∙ ap test (sym e ∙ f) ∙ fails)))
+      (λ (there : In s xs). let same : has x ≡ has r = ap has e in omega (arith, same, one-has xs s there, sum_by-cons has x xs))
+      j)
+      (λ (here : In r xs). ⊎_elim
+      (λ (f : x ≡ s). let same : has x ≡ has s = ap has f in omega (arith, same, one-has xs r here, sum_by-cons has x xs))
+      (λ (there : In s xs). omega (arith, two-have test xs r s here there passes fails, sum_by-cons has x xs))
+      j)
+      i

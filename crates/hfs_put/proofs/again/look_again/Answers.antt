@@ -1,0 +1,26 @@
+-- Item by item.
+use Rattle.std.proofs.Common.{◌≡◌, ◌∙◌, ap, subst, get_or, inl, inr, arith}
+use Rattle.std.proofs.lemmas.Bool.{cases_lt}
+use Rattle.std.proofs.lemmas.List.{get_or_read}
+use Rattle.hfs_put_sources.specs.Items.{PlannedItem}
+use Rattle.hfs_put.specs.Again.{IsUnchanged}
+use Rattle.hfs_put.proofs.again.look_again.Goals as goal
+
+pub loop-item-preserved : goal.loop-item-preserved
+loop-item-preserved g c =
+    let items = c.args.items.now in
+    let place = c.loop-item.item-index in
+    record {
+      same = λ host held k d lt. elim (cases_lt k place) [
+        | inl less ↦ c.loop-item.invariant.same host (c.in_ok-look_at_item.ensures.held host held) k d less
+        | inr last ↦
+            let here : place ≡ k = omega (arith, lt, last) in
+            subst (λ (item : PlannedItem). IsUnchanged host item)
+            (get_or_read items place c.item-item.result c.loop-item-test.true c.item-item.is d ∙ ap (λ j. get_or items j d) here)
+            (c.in_ok-look_at_item.ensures.same host held)
+      ];
+      held = λ host held. c.loop-item.invariant.held host (c.in_ok-look_at_item.ensures.held host held);
+    }
+
+pub returns-clause-same : goal.returns-clause-same
+returns-clause-same g c = λ host held k d lt. c.loop-item.invariant.same host held k d (omega (arith, lt, c.loop-item-test.false))

@@ -1,0 +1,14 @@
+-- Block after block.
+use Rattle.std.proofs.Common.{arith}
+use Rattle.hfs_put.proofs.BesideRuns.{beside-first, beside-next, beside-all}
+use Rattle.hfs_put.proofs.beside.beside_runs.Goals as goal
+
+pub loop-n-init : goal.loop-n-init
+loop-n-init c = beside-first c.args.runs.now c.args.patch.now c.new-kept.result c.new-kept.ensures
+
+pub loop-n-preserved : goal.loop-n-preserved
+loop-n-preserved c =
+    beside-next c.args.runs.now c.args.patch.now c.loop-n.n c.loop-n.kept c.keep_block.new.kept c.loop-n.invariant c.in_ok-keep_block.ensures
+
+pub returns : goal.returns
+returns c = beside-all c.args.runs.now c.args.patch.now c.loop-n.kept c.args.count c.loop-n.n c.requires.within (omega arith) c.loop-n.invariant

@@ -1,5 +1,0 @@
-use Rattle.hfs_put_calls.proofs.OwnForks as own
-use Rattle.hfs_put_calls.proofs.laws.forks_are_theirs.Goals as goal
-
-pub returns : goal.returns
-returns c = own.forks_are_theirs

@@ -1,5 +1,0 @@
-use Rattle.hfs_put_calls.proofs.PutLists as lists
-use Rattle.hfs_put_calls.proofs.laws.put_is_laid.Goals as goal
-
-pub returns : goal.returns
-returns c = lists.put_is_laid

@@ -1,5 +1,0 @@
-pub mod Accepted
-pub mod WithForks
-pub mod Calls
-pub mod Put
-pub mod Laws

@@ -1,4 +1,0 @@
-mod ComingForks
-mod ComingPlaces
-mod InImages
-pub mod WholeFiles

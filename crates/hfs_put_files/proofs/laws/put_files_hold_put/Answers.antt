@@ -1,5 +1,0 @@
-use Rattle.hfs_put_files.proofs.WholeFiles as proved
-use Rattle.hfs_put_files.proofs.laws.put_files_hold_put.Goals as goal
-
-pub returns : goal.returns
-returns c = proved.put_files_hold_put

@@ -1,3 +1,0 @@
-pub mod LaidRuns
-pub mod Beside
-pub mod PutImages

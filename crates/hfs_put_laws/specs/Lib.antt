@@ -1,3 +1,0 @@
-pub mod Forks
-pub mod Lists
-pub mod Saved

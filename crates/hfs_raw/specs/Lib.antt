@@ -1,2 +1,0 @@
-pub mod Sectors
-pub mod Reading

@@ -1,7 +1,0 @@
--- The places are those of the records so far.
-use Rattle.std.proofs.Common.{take}
-use Rattle.hfs_remains.specs.Chains.{KnowsRecords}
-use Rattle.hfs_remains.proofs.chains.places_of.Given as goal
-
-abbrev pub invariant-loop-i : goal.invariant-loop-i
-invariant-loop-i l = KnowsRecords l.places (take l.i l.records)

@@ -1,0 +1,5 @@
+use Rattle.hfs_remains.proofs.LawsProved.{sound_catalog_is_found}
+use Rattle.hfs_remains.proofs.laws.sound_catalog_is_found.Goals as goal
+
+pub returns : goal.returns
+returns c = sound_catalog_is_found

@@ -1,5 +1,0 @@
-use Rattle.hfs_remains.proofs.LawsProved.{sound_forks_are_whole}
-use Rattle.hfs_remains.proofs.laws.sound_forks_are_whole.Goals as goal
-
-pub returns : goal.returns
-returns c = sound_forks_are_whole

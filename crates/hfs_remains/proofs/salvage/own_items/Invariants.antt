@@ -1,8 +1,0 @@
--- The owners by the items so far are counted.
-use Rattle.std.proofs.Common.{take}
-use Rattle.hfs_remains.specs.Owners.{AddsOwners}
-use Rattle.hfs_remains.specs.Verdicts.{items_used}
-use Rattle.hfs_remains.proofs.salvage.own_items.Given as goal
-
-abbrev pub invariant-loop-item : goal.invariant-loop-item
-invariant-loop-item l = AddsOwners (items_used l.total l.chains l.mdb l.young (take l.item-index l.shares)) l.initial.owners l.owners

@@ -1,0 +1,14 @@
+pub mod Records
+pub mod Chains
+pub mod Forks
+pub mod Owners
+pub mod Verdicts
+pub mod ForkBytes
+pub mod Laws
+pub mod Finds
+pub mod Images
+pub mod Needed
+pub mod FileReads
+pub mod NeededFinds
+pub mod Looks
+pub mod Volumes

@@ -1,5 +1,0 @@
-use Rattle.hfs_rescue.proofs.LawsProved.{blocks_have_few_items}
-use Rattle.hfs_rescue.proofs.laws.blocks_have_few_items.Goals as goal
-
-pub returns : goal.returns
-returns c = blocks_have_few_items

@@ -1,5 +1,0 @@
-use Rattle.hfs_rescue.proofs.LawsProved.{items_are_counted}
-use Rattle.hfs_rescue.proofs.laws.items_are_counted.Goals as goal
-
-pub returns : goal.returns
-returns c = items_are_counted

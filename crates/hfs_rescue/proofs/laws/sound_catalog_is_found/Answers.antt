@@ -1,5 +1,0 @@
-use Rattle.hfs_rescue.proofs.LawsProved.{sound_catalog_is_found}
-use Rattle.hfs_rescue.proofs.laws.sound_catalog_is_found.Goals as goal
-
-pub returns : goal.returns
-returns c = sound_catalog_is_found

@@ -1,5 +1,0 @@
-use Rattle.hfs_rescue.proofs.LawsProved.{sound_items_are_found}
-use Rattle.hfs_rescue.proofs.laws.sound_items_are_found.Goals as goal
-
-pub returns : goal.returns
-returns c = sound_items_are_found

@@ -1,3 +1,0 @@
-pub mod GatherLemmas
-mod ForkLemmas
-mod FirstLemmas

@@ -1,0 +1,22 @@
+-- The nodes of the catalog lie among what was read.
+use Rattle.std.proofs.Common.{◌∙◌, sym, ap, subst}
+use Rattle.hfs_blocks.specs.Blocks.{nodes_in}
+use Rattle.hfs_model.specs.declared.reply.Reply.{Reply}
+use Rattle.hfs_items.proofs.QueryLawsProved.{catalog_answers-sound}
+use Rattle.hfs_items.proofs.ReplyLemmas.{by_nodes}
+use Rattle.hfs_items.specs.Told as told
+use Rattle.hfs_source.specs.Sparse.{sparse}
+use Rattle.hfs_runs.specs.NamedForks.{id_told}
+use Rattle.hfs_runs.proofs.made_files.find_id.Goals as goal
+
+pub get_cat_info-requires : goal.get_cat_info-requires
+get_cat_info-requires c =
+    subst told.IsCatalog (sym ((λ i. nodes_in (sparse (c.volume.ensures.read i)) (c.deref.ensures.value i)) ∙ c.requires.trees.catalog.same))
+    (catalog_answers-sound c.args.count (sparse c.args.read.now) c.requires.sound)
+
+pub returns : goal.returns
+returns c =
+    c.id_told.ensures
+    ∙ ap (λ (reply : Reply). id_told reply.value) (c.get_cat_info.ensures
+    ∙ by_nodes (λ catalog. told.cat_info catalog c.args.dir c.args.name.now) (sparse c.args.read.now) _
+    ((λ i. nodes_in (sparse (c.volume.ensures.read i)) (c.deref.ensures.value i)) ∙ c.requires.trees.catalog.same))

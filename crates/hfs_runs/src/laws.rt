@@ -1,0 +1,20 @@
+//! What a run over a copy of an image says about the image itself, each law as the contract of a function that does nothing.
+ghost use Rattle.hfs_runs.specs.OnImage.{NamedForksAreTheImages, SavedIsMade, WorkersReadTheImage};
+
+/// What was read of an image for a script, with zeros elsewhere, has the image's working blocks, and the forks of all files that
+/// the script's lines name, for every image consistent with the bytes read.
+pub fn named_forks_are_the_images()
+    ensures { NamedForksAreTheImages }
+{}
+
+/// Over such a copy, each reply to a worker is what the image answers after the same calls, even for reads of forks, if these are
+/// calls of the script's lines.
+pub fn workers_read_the_image()
+    ensures { WorkersReadTheImage }
+{}
+
+/// What is written after a run over such a copy makes of the image what the run's calls make of its volume, except for the bytes
+/// of forks of files that no line names.
+pub fn saved_is_made()
+    ensures { SavedIsMade }
+{}

@@ -1,5 +1,0 @@
-use Rattle.hfs_salvage.proofs.LawsProved.{remains_are_found}
-use Rattle.hfs_salvage.proofs.laws.remains_are_found.Goals as goal
-
-pub returns : goal.returns
-returns c = remains_are_found

@@ -1,5 +1,0 @@
-use Rattle.hfs_salvage.proofs.LawsProved.{rescued_paths_are_lawful}
-use Rattle.hfs_salvage.proofs.laws.rescued_paths_are_lawful.Goals as goal
-
-pub returns : goal.returns
-returns c = rescued_paths_are_lawful

@@ -1,5 +1,0 @@
-use Rattle.hfs_scans.proofs.ScanLemmas.{scan_is_first}
-use Rattle.hfs_scans.proofs.laws.scans_are_first.Goals as goal
-
-pub returns : goal.returns
-returns g c = scan_is_first

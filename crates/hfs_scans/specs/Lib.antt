@@ -1,4 +1,0 @@
-pub mod Each
-pub mod Members
-pub mod First
-pub mod Laws

@@ -1,0 +1,42 @@
+-- Run by run.
+use Rattle.std.proofs.Common.{◌∙◌, IsSome, arith}
+use Rattle.hfs_blocks.specs.declared.run.Run.{Run}
+use Rattle.hfs_blocks.specs.Layers.{changes}
+use Rattle.hfs_source.proofs.SparseLemmas.{grown-on}
+use Rattle.hfs_source.proofs.Fetched.{one-run-more, each-runs, stays-later}
+use Rattle.hfs_source.proofs.Seen.{sees_on}
+use Rattle.hfs_source.proofs.fetching.fetch_runs.Goals as goal
+
+-- what a list answers behind its end
+abbrev none : Run
+none = record { first = 0; count = 0; before = 0 }
+
+pub returns-in_err-fetch_range-clause-stays : goal.returns-in_err-fetch_range-clause-stays
+returns-in_err-fetch_range-clause-stays g c =
+    stays-later (g.S.BlockSource.image c.args.source.now) (g.S.BlockSource.image c.loop-run.source) c.args.read.now c.loop-run.read c.fetch_range.new.read
+    c.loop-run.invariant.image c.loop-run.invariant.stays c.in_err-fetch_range.ensures.stays
+
+pub returns-in_err-fetch_range-clause-within : goal.returns-in_err-fetch_range-clause-within
+returns-in_err-fetch_range-clause-within g c = λ total lie within.
+    c.in_err-fetch_range.ensures.within total (lie.within c.loop-run.run-index none c.loop-run-test.true) (c.loop-run.invariant.within total lie within)
+
+pub loop-run-preserved : goal.loop-run-preserved
+loop-run-preserved g c = record {
+  has = one-run-more c.loop-run.read c.fetch_range.new.read c.in_ok-fetch_range.ensures.grown c.args.runs.now c.loop-run.run-index none c.loop-run-test.true
+      c.in_ok-fetch_range.ensures.has c.loop-run.invariant.has;
+  grown = grown-on c.args.read.now c.loop-run.read c.fetch_range.new.read c.loop-run.invariant.grown c.in_ok-fetch_range.ensures.grown;
+  stays = stays-later (g.S.BlockSource.image c.args.source.now) (g.S.BlockSource.image c.loop-run.source) c.args.read.now c.loop-run.read c.fetch_range.new.read
+      c.loop-run.invariant.image c.loop-run.invariant.stays c.in_ok-fetch_range.ensures.stays;
+  within = λ total lie within.
+      c.in_ok-fetch_range.ensures.within total (lie.within c.loop-run.run-index none c.loop-run-test.true) (c.loop-run.invariant.within total lie within);
+  image = c.in_ok-fetch_range.ensures.image ∙ c.loop-run.invariant.image;
+  sees = sees_on c.loop-run.invariant.sees c.in_ok-fetch_range.ensures.sees;
+}
+
+pub returns-clause-has : goal.returns-clause-has
+returns-clause-has g c =
+    each-runs (λ n. IsSome (changes c.loop-run.read n)) c.args.runs.now none
+    (λ i lt. c.loop-run.invariant.has i none (omega (arith, lt, c.loop-run-test.false)))
+
+pub returns-in_err-fetch_range-clause-sees : goal.returns-in_err-fetch_range-clause-sees
+returns-in_err-fetch_range-clause-sees g c = sees_on c.loop-run.invariant.sees c.in_err-fetch_range.ensures.sees

@@ -1,0 +1,25 @@
+-- What is read of the user data of raw sectors.
+use Rattle.std.specs.Prelude.{◌≡◌, ℕ, ◌+◌, ◌*◌, ◌<◌, ◌≤◌, ◌⊎◌, List, length}
+use Rattle.hfs_source.specs.Sectors.{data_of}
+
+-- these bytes are the user data of so many sectors, which lie in the file
+pub record IsDataOf (sectors : ℕ) (file part : List ℕ) : Type 0 where
+  pub inside : sectors * 2352 ≤ length file
+  pub bytes : part ≡ data_of sectors file
+
+-- of one of these files
+abbrev pub IsDataOfOne : (List ℕ → Type 0) → ℕ → List ℕ → Type 0
+IsDataOfOne Holds sectors part = (file : List ℕ) × Holds file × IsDataOf sectors file part
+
+-- some of these bytes of user data are in the sector with this number, counted from 0
+pub record IsInSector (n place count : ℕ) : Type 0 where
+  pub before : n * 2048 < place + count
+  pub behind : place < n * 2048 + 2048
+
+-- a read of user data fails where that of a sector fails in which some of it is
+abbrev pub FailsInSector : (ℕ → ℕ → Type 0) → ℕ → ℕ → Type 0
+FailsInSector Fails place count = (n : ℕ) × IsInSector n place count × Fails (n * 2352) 2352
+
+-- or where it leads past the end of the user data
+abbrev pub FailsInData : (ℕ → ℕ → Type 0) → ℕ → ℕ → ℕ → Type 0
+FailsInData Fails sectors place count = (sectors * 2048 < place + count) ⊎ FailsInSector Fails place count

@@ -1,4 +1,0 @@
-pub mod Walks
-mod EntryOrder
-pub mod WalkLemmas
-pub mod SourceLemmas

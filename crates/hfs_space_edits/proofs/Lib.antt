@@ -1,4 +1,0 @@
-mod Shrunk
-mod FilesKeys
-mod ReleasedMore
-mod BothForks

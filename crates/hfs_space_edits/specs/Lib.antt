@@ -1,3 +1,0 @@
-pub mod Overflows
-pub mod Dropped
-pub mod Released

@@ -1,8 +1,0 @@
-pub mod Fetched
-pub mod Seen
-pub mod Copied
-pub mod SparseLemmas
-pub mod BlockBytes
-pub mod PuttingIn
-pub mod ReadingIn
-pub mod Written

@@ -1,4 +1,0 @@
-pub mod Sparse
-pub mod Held
-pub mod Seen
-pub mod Writing

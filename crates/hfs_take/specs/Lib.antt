@@ -1,9 +1,0 @@
-pub mod Digests
-pub mod Facts
-pub mod Bags
-pub mod Planned
-pub mod Told
-pub mod Opening
-pub mod Faults
-pub mod Folders
-pub mod Placed

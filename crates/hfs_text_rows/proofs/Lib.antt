@@ -1,4 +1,0 @@
-mod Fields
-mod Names
-mod Objects
-mod Going

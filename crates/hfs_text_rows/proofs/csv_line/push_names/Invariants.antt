@@ -1,9 +1,0 @@
--- what came so far is appended
-use Rattle.std.proofs.Common.{◌≡◌, ◌++◌, take}
-use Rattle.std.specs.Prelude.{codes}
-use Rattle.std.specs.List.{flat_map}
-use Rattle.hfs_text_rows.specs.declared.column.Column.{Column}
-use Rattle.hfs_text_rows.proofs.csv_line.push_names.Given as goal
-
-abbrev pub invariant-loop-column : goal.invariant-loop-column
-invariant-loop-column l = l.text.items ≡ l.initial.text.items ++ flat_map (λ (column : Column). codes "," ++ column.name.now) (take l.column-index l.columns)

@@ -1,0 +1,8 @@
+-- what came so far is appended
+use Rattle.std.proofs.Common.{◌≡◌, ◌++◌, string_bytes, take}
+use Rattle.std.specs.List.{flat_map}
+use Rattle.hfs_texts.specs.MacRoman.{character_text}
+use Rattle.hfs_texts.proofs.characters.push_characters.Given as goal
+
+abbrev pub invariant-loop-byte : goal.invariant-loop-byte
+invariant-loop-byte l = string_bytes l.text ≡ string_bytes l.initial.text ++ flat_map character_text (take l.byte-index l.bytes)

@@ -1,3 +1,0 @@
-pub mod Opened
-pub mod Changed
-pub mod Forks

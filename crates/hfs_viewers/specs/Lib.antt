@@ -1,0 +1,12 @@
+pub mod Pieces
+pub mod PieceEdits
+pub mod Stretches
+pub mod Places
+pub mod Tables
+pub mod RowEdits
+pub mod InPlace
+pub mod WrittenForks
+pub mod ForkParts
+pub mod Opened
+pub mod Changed
+pub mod MountedForks

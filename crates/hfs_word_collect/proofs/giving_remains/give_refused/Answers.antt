@@ -1,0 +1,43 @@
+-- By what was found of the volume.
+use Rattle.std.proofs.Common.{◌≡◌, ◌++◌, ℕ, List, None, Some, subst}
+use Rattle.hfs_source.proofs.Written.{on-err as on_err}
+use Rattle.hfs_remains_forks.specs.Finds.{IsFoundIn, found_directory}
+use Rattle.hfs_database.specs.Taken.{IsBeginning}
+use Rattle.hfs_source.specs.Images.{OfEach}
+use Rattle.hfs_word_collect.specs.Refused.{IsFoundOf}
+use Rattle.hfs_word_collect.specs.Volumes.{fault_rows}
+use Rattle.hfs_word_collect.proofs.FoundGiving.{found_of}
+use Rattle.hfs_word_collect.proofs.VolumeGiving.{found_given, unfound_given}
+use Rattle.hfs_word_collect.proofs.giving_remains.give_refused.Goals as goal
+
+pub returns-in_ok-counts-in-Some-clause-whole : goal.returns-in_ok-counts-in-Some-clause-whole
+returns-in_ok-counts-in-Some-clause-whole g c = λ image h.
+    let refused = c.args.image.now in
+    let start = g.T.RowTaker.given c.args.taker.now in
+    let new = g.T.RowTaker.given c.give_found.new.taker in
+    let old = c.in_ok-counts-in-Some.ensures.narrows image h in
+    let long = c.requires.long image old in
+    let is : IsFoundOf c.in-Some.finds c.limit_of-limit.result image =
+    found_of refused.found c.in-Some.finds refused.len c.limit_of-limit.result image c.in-Some.is long (c.requires.found_is image old long) c.limit_of-limit.ensures in
+    found_given image c.args.taken c.args.place.now (λ rows. new ≡ start ++ rows) refused.why c.in-Some.finds is.directory_is (c.in_ok-counts-in-Some.ensures.whole image h is)
+
+pub returns-in_err-counts-in-Some-clause-part : goal.returns-in_err-counts-in-Some-clause-part
+returns-in_err-counts-in-Some-clause-part g c =
+    let refused = c.args.image.now in
+    let start = g.T.RowTaker.given c.args.taker.now in
+    let new = g.T.RowTaker.given c.give_found.new.taker in
+    let part : OfEach (g.S.PlacedBlocks.Holds c.give_found.new.source.blocks) (λ bytes. IsBeginning new (start ++ fault_rows c.args.taken c.args.place.now (Some refused.why) bytes)) =
+    λ image h.
+    let old = c.in_err-counts-in-Some.ensures.narrows image h in
+    let long = c.requires.long image old in
+    let is : IsFoundOf c.in-Some.finds c.limit_of-limit.result image =
+    found_of refused.found c.in-Some.finds refused.len c.limit_of-limit.result image c.in-Some.is long (c.requires.found_is image old long) c.limit_of-limit.ensures in
+    found_given image c.args.taken c.args.place.now (λ rows. IsBeginning new (start ++ rows)) refused.why c.in-Some.finds is.directory_is (c.in_err-counts-in-Some.ensures.part image h is) in
+    on_err _ _ part
+
+pub returns-in_ok-give_volume_row-in-None-clause-whole : goal.returns-in_ok-give_volume_row-in-None-clause-whole
+returns-in_ok-give_volume_row-in-None-clause-whole g c = λ image h.
+    let start = g.T.RowTaker.given c.args.taker.now in
+    let new = g.T.RowTaker.given c.give_volume_row.new.taker in
+    let none : found_directory image ≡ None = subst (IsFoundIn image) c.in-None.is (c.requires.found_is image h (c.requires.long image h)) in
+    unfound_given image c.args.taken c.args.place.now (λ rows. new ≡ start ++ rows) c.args.image.now.why none c.in_ok-give_volume_row-in-None.ensures.whole

@@ -1,0 +1,57 @@
+-- The image's row, and behind it those of its volumes.
+use Rattle.std.proofs.Common.{◌≡◌, ◌++◌, ◌∷◌, [], ◌∙◌, ap}
+use Rattle.hfs_commands.proofs.Rows.{if_ok_then, on_ok_then, on_err_then}
+use Rattle.hfs_source.specs.Found.{found_by}
+use Rattle.hfs_bag.specs.Parts.{content_of}
+use Rattle.hfs_database.specs.declared.value.Table.TheVariants.{Image}
+use Rattle.hfs_database.specs.Taken.{IsBeginning, row_of}
+use Rattle.hfs_word_collect.specs.declared.counts.ImageCounts.{ImageCounts}
+use Rattle.hfs_word_collect.specs.Counts.{all_volume_counts, image_counts}
+use Rattle.hfs_word_collect.specs.Images.{image_rows}
+use Rattle.hfs_word_collect.specs.Volumes.{all_volume_rows}
+use Rattle.hfs_word_collect.proofs.ImageGiving.{image_counted, image_given}
+use Rattle.hfs_word_collect.proofs.image.give_rows.Goals as goal
+
+pub returns-clause-whole : goal.returns-clause-whole
+returns-clause-whole g c =
+    let image = g.K.PickedImage.image in
+    let old = g.T.RowTaker.given c.args.taker.now in
+    let mid = g.T.RowTaker.given c.take.new.self in
+    let new = g.T.RowTaker.given c.give_content.new.taker in
+    let facts = c.args.facts.now in
+    let look = c.in_ok-look.look in
+    let content = content_of look.layout image in
+    let Holds = g.F.ImageFile.Holds c.give_content.new.file image in
+    let first : mid ≡ old ++ row_of Image c.in_ok-values.values.items ∷ [] =
+    c.in_ok-take.ensures.whole ∙ ap (λ values. old ++ row_of Image values ∷ []) c.deref.ensures.value in
+    let step : (Holds → new ≡ mid ++ all_volume_rows facts.takes_digests look.others (found_by look.layout content) content) → (Holds → new ≡ old ++ image_rows facts image) =
+    λ given h. let is = c.in_ok-look.ensures.look image (c.give_content.ensures.held image h) in
+    image_given image facts c.in_ok-values.values.items look.layout look.others old mid (λ rows. new ≡ rows) first (c.in_ok-values.ensures image is.len is.digest) is.layout is.others (given h) in
+    on_ok_then _ _ _ step c.give_content.ensures.whole
+
+pub returns-clause-part : goal.returns-clause-part
+returns-clause-part g c =
+    let image = g.K.PickedImage.image in
+    let old = g.T.RowTaker.given c.args.taker.now in
+    let mid = g.T.RowTaker.given c.take.new.self in
+    let new = g.T.RowTaker.given c.give_content.new.taker in
+    let facts = c.args.facts.now in
+    let look = c.in_ok-look.look in
+    let content = content_of look.layout image in
+    let Holds = g.F.ImageFile.Holds c.give_content.new.file image in
+    let first : mid ≡ old ++ row_of Image c.in_ok-values.values.items ∷ [] =
+    c.in_ok-take.ensures.whole ∙ ap (λ values. old ++ row_of Image values ∷ []) c.deref.ensures.value in
+    let step : (Holds → IsBeginning new (mid ++ all_volume_rows facts.takes_digests look.others (found_by look.layout content) content)) → (Holds → IsBeginning new (old ++ image_rows facts image)) =
+    λ given h. let is = c.in_ok-look.ensures.look image (c.give_content.ensures.held image h) in
+    image_given image facts c.in_ok-values.values.items look.layout look.others old mid (λ rows. IsBeginning new rows) first (c.in_ok-values.ensures image is.len is.digest) is.layout is.others (given h) in
+    on_err_then _ _ _ step c.give_content.ensures.part
+
+pub returns-clause-counted : goal.returns-clause-counted
+returns-clause-counted g c =
+    let image = g.K.PickedImage.image in
+    let look = c.in_ok-look.look in
+    let content = content_of look.layout image in
+    let Holds = g.F.ImageFile.Holds c.give_content.new.file image in
+    let step : (counts : ImageCounts) → (Holds → counts ≡ all_volume_counts (found_by look.layout content) content) → (Holds → counts ≡ image_counts image) =
+    λ counts given h. image_counted image look.layout counts (c.in_ok-look.ensures.look image (c.give_content.ensures.held image h)).layout (given h) in
+    if_ok_then _ _ _ step c.give_content.ensures.counted

@@ -1,0 +1,17 @@
+-- What the faults of others mean where an image's rows are given.
+use Rattle.hfs_database.specs.declared.row_fault.TakerFault.{TakerFault}
+use Rattle.hfs_database.specs.declared.row_fault.TakerFault.TheVariants as taker
+use Rattle.hfs_source.specs.declared.fetching.SparseFault.{SparseFault}
+use Rattle.hfs_source.specs.declared.fetching.SparseFault.TheVariants as sparse
+use Rattle.hfs_word_collect.specs.declared.fault.CollectFault.{CollectFault}
+use Rattle.hfs_word_collect.specs.declared.fault.CollectFault.TheVariants as collect
+
+-- a fault of a read
+abbrev pub reading_fault : SparseFault → CollectFault
+reading_fault sparse.ReadFailed = collect.ReadFailed
+reading_fault sparse.Memory = collect.NoMemory
+
+-- a fault of the taker
+abbrev pub giving_fault : TakerFault → CollectFault
+giving_fault taker.CannotWrite = collect.CannotWrite
+giving_fault taker.NoMemory = collect.NoMemory

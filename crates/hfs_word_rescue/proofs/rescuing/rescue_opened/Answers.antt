@@ -1,0 +1,12 @@
+-- What was looked at before a bag was written.
+use Rattle.hfs_word_rescue.proofs.PlacedLemmas.{not-there, there}
+use Rattle.hfs_word_rescue.proofs.rescuing.rescue_opened.Goals as goal
+
+pub returns-then-is_there-clause-unplaced : goal.returns-then-is_there-clause-unplaced
+returns-then-is_there-clause-unplaced g c =
+    there c.args.words.now c.is_there.result (g.Y.FileSystem.did c.args.system) (g.Y.FileSystem.did c.is_there.new.self) c.if-is_there.true c.is_there.ensures
+
+pub returns-clause-unplaced : goal.returns-clause-unplaced
+returns-clause-unplaced g c =
+    not-there c.args.words.now c.is_there.result (λ back. back.fault) (λ back. g.Y.FileSystem.did back.system) (g.Y.FileSystem.did c.args.system)
+    (g.Y.FileSystem.did c.is_there.new.self) c.write_bag.result c.if-is_there.false c.is_there.ensures c.write_bag.ensures.away

@@ -1,0 +1,130 @@
+//! The image that is asked for, opened once.
+ghost use Rattle.std.specs.Prelude.{◌≡◌, IfErr, IfOk, string_bytes};
+ghost use Rattle.std.specs.Option.{option_map};
+ghost use Rattle.hfs_source.specs.Images.{OfEach};
+ghost use Rattle.hfs_word_take.specs.Opening.{AreBlocksAt, IsLineOf, TellsVolume};
+ghost use Rattle.hfs_word_rescue.specs.Faults.{IsUnfound, IsUnread, told_fault};
+
+use crate::image::{HoldFault, RescuedImage, Unfound};
+use crate::words::RescueWords;
+use hfs_check::MountFault;
+use hfs_commands::{Counted, Fault, OpenedFile, PartBlocks, part_blocks};
+use hfs_source::{BlocksOf, ByteRange, PlacedBlocks, RangeBytes, SeenBlocks};
+use hfs_word_take::{FoundPart, find_part};
+use std::alloc::Global;
+use std::io::{Read, Seek};
+use std::rt::Files;
+
+/// The blocks of a part of a file.
+pub type Part<F> = BlocksOf<RangeBytes<OpenedFile<F>>>;
+
+/// What is asked for and, if it lies in a disk copy, whether that one's sum is right.
+#[derive(Drop)]
+pub(crate) struct LoadedImage<S: PlacedBlocks> {
+    pub(crate) image: RescuedImage<S>,
+    pub(crate) sum: Option<bool>,
+}
+
+/// The fault for an image of which nothing is found, given its file.
+fn fault_of<'a>(fault: HoldFault, words: &RescueWords<'a>) -> Fault<'a>
+    ensures unread { IsUnread words.now result }
+    ensures told { result ≡ told_fault words.now.image fault }
+{
+    match fault {
+        HoldFault::NoDirectory(Some(why)) => Fault::Refused(why),
+        HoldFault::NoDirectory(None) => Fault::CannotRead(words.image),
+        HoldFault::ReadFailed => Fault::CannotRead(words.image),
+        HoldFault::NoMemory => Fault::NoMemory,
+    }
+}
+
+/// Why an image that is asked for isn't rescued, and what it was read from.
+#[derive(Drop)]
+struct Unloaded<'a, S: PlacedBlocks> {
+    fault: Fault<'a>,
+    source: SeenBlocks<S>,
+}
+
+/// What is found in the blocks that are asked for. A fault holds for every image consistent with the bytes read: if there is no
+/// directory, it is the fault of the check.
+fn load_part<'a, S: PlacedBlocks + Drop>(
+    alloc: Global,
+    blocks: SeenBlocks<S>,
+    line: Option<String>,
+    words: &RescueWords<'a>,
+) -> Result<RescuedImage<S>, Unloaded<'a, S>>
+    ensures line { IfOk result (λ image. image.line ≡ line) }
+    ensures narrows { IfOk result (λ image. OfEach (S.Holds image.source.blocks)
+        (S.Holds blocks.blocks)) }
+    ensures unread { IfErr result (λ back. IsUnread words.now back.fault) }
+    ensures told { IfErr result (λ back. IsUnfound words.now.image (S.Holds back.source.blocks)
+        back.fault) }
+{
+    match RescuedImage::open(alloc, blocks, line) {
+        Ok(image) => Ok(image),
+        Err(Unfound { fault, source }) => {
+            let fault = fault_of(fault, words);
+            Err(Unloaded { fault, source })
+        }
+    }
+}
+
+/// What is asked for of an image, to be read, and where it lies.
+#[derive(Drop)]
+struct FoundRange<F: Read + Seek> {
+    source: PartBlocks<F>,
+    /// Where it lies in its file.
+    range: ByteRange,
+    /// The range's line, if it lies inside the file.
+    line: Option<String>,
+    /// Whether the sum of a disk copy is right.
+    sum: Option<bool>,
+}
+
+/// The blocks of what is asked for of an image: those of exactly the range in its line. Faults: as for [`find_part`].
+fn find_range<'a, R: Files + AllocGlobal>(
+    rt: &R,
+    words: &RescueWords<'a>,
+) -> Result<FoundRange<R::File>, Fault<'a>>
+    ensures line { IfOk result (λ found. IsLineOf words.now.volume found.range
+        (option_map string_bytes found.line)) }
+    ensures part { IfOk result (λ found. AreBlocksAt found.range found.source) }
+    ensures fault { IfErr result (IsUnread words.now) }
+{
+    let FoundPart { bytes, line, sum } = find_part(rt, words.image, Counted::Ranges, words.volume)?;
+    let range = bytes.range;
+    Ok(FoundRange {
+        source: part_blocks(bytes),
+        range,
+        line,
+        sum,
+    })
+}
+
+/// The image that is asked for, or the range in it, even one without a volume, and what is found of it. Faults, the first that
+/// holds: it can't be read; `NoVolume`, `SeveralVolumes`; the image's own, if it has no directory; memory was refused.
+pub(crate) fn load_image<'a, R: Files + AllocGlobal>(
+    rt: &R,
+    words: &RescueWords<'a>,
+) -> Result<LoadedImage<Part<R::File>>, Fault<'a>>
+    ensures line { IfOk result (λ loaded. TellsVolume words.now.volume loaded.image.len
+        (option_map string_bytes loaded.image.line)) }
+    ensures fault { IfErr result (IsUnread words.now) }
+{
+    let FoundRange {
+        source,
+        range,
+        line,
+        sum,
+    } = find_range(rt, words)?;
+    match load_part(rt.alloc(), source, line, words) {
+        Ok(image) => {
+            if image.len != range.len {
+                // A range that doesn't lie in its file has no bytes, and nothing is found of it.
+                return Err(Fault::Refused(MountFault::Short));
+            }
+            Ok(LoadedImage { image, sum })
+        }
+        Err(Unloaded { fault, source: _ }) => Err(fault),
+    }
+}

@@ -1,5 +1,0 @@
-use Rattle.hfs_runs.proofs.Small.{script_small}
-use Rattle.hfs_word_run.proofs.running.script_lines.Goals as goal
-
-pub returns-in-Ok-clause-small : goal.returns-in-Ok-clause-small
-returns-in-Ok-clause-small c = script_small c.args.now c.args.bytes.now c.in-Ok.script c.in-Ok.ensures

@@ -1,5 +1,0 @@
-use Rattle.hfs_word_run.proofs.RunNeeded.{started}
-use Rattle.hfs_word_run.proofs.running.start_fault.Goals as goal
-
-pub returns : goal.returns
-returns c = started c.args.fault c.of_run.result c.of_run.ensures c.requires

@@ -1,0 +1,17 @@
+pub mod PieceLemmas
+pub mod ReadLemmas
+pub mod TableLemmas
+pub mod SourceLemmas
+pub mod RootLemmas
+pub mod PlainNames
+pub mod PlacedItemLemmas
+mod NamedLemmas
+pub mod StateLemmas
+pub mod LawsProved
+pub mod DigestLemmas
+pub mod ToldLemmas
+pub mod BagLemmas
+pub mod FaultLemmas
+mod PartLines
+mod SendLemmas
+mod PlacedBagLemmas

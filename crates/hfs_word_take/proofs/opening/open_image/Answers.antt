@@ -1,0 +1,25 @@
+-- A volume that isn't opened is refused, or was not read; the blocks of one that is are those of the range whose sum was told.
+use Rattle.std.proofs.Common.{◌≡◌, Global, rules, string_bytes, subst, sym}
+use Rattle.std.specs.Option.{option_map}
+use Rattle.hfs_commands.specs.OpenedFiles.{images_of}
+use Rattle.hfs_commands.specs.SeenFiles.{parts_of}
+use Rattle.hfs_word_take.specs.Opening.{TellsSumIn}
+use Rattle.hfs_word_take.proofs.FaultLemmas.{of_needed}
+use Rattle.hfs_word_take.proofs.PartLines.{sum_in_part}
+use Rattle.hfs_word_take.proofs.opening.open_image.Goals as goal
+
+pub returns-clause-fault : goal.returns-clause-fault
+returns-clause-fault g c =
+    of_needed c.args.words.now c.in-Err.field-0.fault c.of_needed.result c.of_needed.ensures.read c.of_needed.ensures.memory c.of_needed.ensures.refused
+
+pub returns-in-Ok-clause-sum : goal.returns-in-Ok-clause-sum
+returns-in-Ok-clause-sum g c =
+    let found = c.in_ok-source.field-0 in
+    let image = c.in-Ok.image in
+    let same : image.len ≡ found.range.len = search rules in
+    let told : image.volume ≡ found.line = search rules in
+    subst (λ line. TellsSumIn (parts_of image.opened) c.args.words.now.volume image.len (option_map (string_bytes {Z = Global}) line) found.sum)
+    (sym told)
+    (sum_in_part (images_of found.source.blocks.bytes.bytes) (parts_of image.opened) found.range found.source.blocks.bytes.start
+    found.source.blocks.bytes.len c.in-Ok.ensures.narrows c.in_ok-source.ensures.part image.len image.len_is same
+    c.args.words.now.volume (option_map (string_bytes {Z = Global}) found.line) found.sum c.in_ok-source.ensures.sum)

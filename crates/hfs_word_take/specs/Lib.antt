@@ -1,0 +1,14 @@
+pub mod Items
+pub mod Reading
+pub mod Sources
+pub mod SourceFaults
+pub mod Laws
+pub mod Digests
+pub mod Facts
+pub mod Bags
+pub mod Planned
+pub mod Told
+pub mod Opening
+pub mod TakeFaults
+pub mod Folders
+pub mod Placed

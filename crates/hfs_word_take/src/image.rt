@@ -1,0 +1,63 @@
+//! An image whose volume is to be taken.
+ghost use Rattle.std.proofs.Props.{props};
+ghost use Rattle.std.specs.Prelude.{◌≡◌, IfErr, IfOk};
+ghost use Rattle.hfs_check.specs.Report.{report_of};
+ghost use Rattle.hfs_image.specs.Failing.{SomeReadFails};
+ghost use Rattle.hfs_image.specs.declared.opening.NeededFault.TheVariants.{ReadFailed};
+ghost use Rattle.hfs_image.specs.Seen.{HasNoFault, IsRefusedBy};
+ghost use Rattle.hfs_source.specs.Images.{HasLength, OfEach};
+
+use hfs_check::Report;
+use hfs_image::{SeenImage, Unopened};
+use hfs_source::{PlacedBlocks, SeenBlocks};
+use std::alloc::Global;
+
+/// A sound image that was opened, and what is known of it before its forks are read.
+#[derive(Drop)]
+pub struct TakenImage<S: PlacedBlocks> {
+    pub opened: SeenImage<S>,
+    /// The same image, to be read at the same time, if it was opened a second time.
+    pub beside: Option<SeenBlocks<S>>,
+    /// How many bytes it has.
+    pub len: u64,
+    /// The report of its check.
+    pub report: Report,
+    /// Where it lies in its file, if it was looked for there: its line in the bag.
+    pub volume: Option<String>,
+    ghost len_is: { OfEach (S.Holds opened) (HasLength len) } by { Prim.hlevel props },
+    ghost report_is: { OfEach (S.Holds opened) (λ image. report ≡ report_of image) } by { Prim.hlevel props },
+}
+
+impl<S: PlacedBlocks + Drop> TakenImage<S> {
+    /// Reads the needed blocks of an image, and makes all checks once. Errors, with the source handed back: a read failed, memory
+    /// was refused, or the image is refused.
+    pub fn open(
+        alloc: Global,
+        source: SeenBlocks<S>,
+        beside: Option<SeenBlocks<S>>,
+        volume: Option<String>,
+    ) -> Result<TakenImage<S>, Unopened<S>>
+        ensures narrows { IfOk result (λ image. OfEach (S.Holds image.opened) (S.Holds source.blocks)) }
+        ensures beside { IfOk result (λ image. image.beside ≡ beside) }
+        ensures volume { IfOk result (λ image. image.volume ≡ volume) }
+        ensures sound { IfOk result (λ image. OfEach (S.Holds image.opened) HasNoFault) }
+        ensures refused { IfErr result (λ back. OfEach (S.Holds back.source.blocks)
+            (IsRefusedBy back.fault)) }
+        ensures failed { IfErr result (λ back. back.fault ≡ ReadFailed
+            → SomeReadFails (S.Holds source.blocks) (S.Fails source.blocks)) }
+        ensures back { IfErr result (λ back. OfEach (S.Holds back.source.blocks)
+            (S.Holds source.blocks)) }
+    {
+        let len = source.blocks.len();
+        match SeenImage::open_reported(alloc, source) {
+            Ok((opened, report)) => Ok(TakenImage {
+                opened,
+                beside,
+                len,
+                report,
+                volume,
+            }),
+            Err(back) => Err(back),
+        }
+    }
+}

@@ -1,0 +1,293 @@
+//! Opening what is to be taken, by its path.
+ghost use Rattle.std.specs.Prelude.{◌≡◌, IfErr, IfOk, IfSome, None, string_bytes};
+ghost use Rattle.std.specs.Option.{option_map};
+ghost use Rattle.hfs_commands.specs.Faults.{IsUnopened, IsUnreadFile};
+ghost use Rattle.hfs_commands.specs.OpenedFiles.{AreHeldOthers, held_bytes, images_of, stored_bytes};
+ghost use Rattle.hfs_commands.specs.SeenFiles.{parts_of};
+ghost use Rattle.hfs_image.specs.Seen.{HasNoFault};
+ghost use Rattle.hfs_source.specs.Images.{OfEach};
+ghost use Rattle.hfs_word_take.specs.TakeFaults.{IsImageFault};
+ghost use Rattle.hfs_word_take.specs.Opening.{AreBlocksAt, IsLineOf, IsSumAt, IsToldLine, IsToldPart, TellsSum, TellsSumIn, TellsVolume};
+
+use crate::facts::volume_text;
+use crate::image::TakenImage;
+use crate::words::TakeWords;
+use hfs_check::MountFault;
+use hfs_commands::{
+    Counted, Fault, FilePart, NumberedRange, OpenedFile, PartBlocks, StoredFile, UserData, Window,
+    open_asked, part_blocks,
+};
+use hfs_image::Unopened;
+use hfs_source::{BlocksOf, ByteRange, PlacedBlocks, RangeBytes, sum_told, volume_name};
+use std::alloc::Global;
+use std::fs::{File, Metadata, OpenFile};
+use std::io::{Read, Seek};
+use std::os::unix::fs::MetadataExt;
+use std::rt::Files;
+use std::{fs, io};
+
+/// Bytes that may hold a volume and, if they are a range inside their file, where they lie in it.
+#[derive(Drop)]
+pub struct FoundPart<F: Read + Seek> {
+    pub bytes: Window<OpenedFile<F>>,
+    /// The range's line.
+    pub line: Option<String>,
+    /// Whether the sum of a disk copy is right.
+    pub sum: Option<bool>,
+}
+
+/// The line of a range of a file, and whether its sum is right, if it has one, which takes reading all its bytes. Each raw sector
+/// is looked at. Faults: a read failed, memory was refused.
+fn line_of<'a, F: Read + Seek>(
+    alloc: Global,
+    file: &mut OpenedFile<F>,
+    place: &NumberedRange,
+    path: &'a str,
+) -> Result<(String, Option<bool>), Fault<'a>>
+    ensures line { IfOk result (λ told. IsToldLine (AreHeldOthers file.old) (images_of file.new) place.now (string_bytes told.0) told.1) }
+    ensures sum { IfOk result (λ told. IsSumAt (images_of file.new) (Some place.now) told.1) }
+    ensures fault { IfErr result (IsUnreadFile path.entry) }
+{
+    let others = match file.others() {
+        Ok(others) => others,
+        Err(fault) => return Err(Fault::of_sparse(fault, path)),
+    };
+    let name = match volume_name(file, place.found.range) {
+        Ok(name) => name,
+        Err(fault) => return Err(Fault::of_sparse(fault, path)),
+    };
+    let sum = match sum_told(file, &place.found) {
+        Ok(sum) => sum,
+        Err(fault) => return Err(Fault::of_sparse(fault, path)),
+    };
+    match volume_text(alloc, place.number, &place.found, &name, sum, others) {
+        Ok(line) => Ok((line, sum)),
+        Err(_) => Err(Fault::NoMemory),
+    }
+}
+
+/// A part of a file, and its line. Faults: a read failed, memory was refused.
+fn told_part<'a, F: Read + Seek + Drop>(
+    alloc: Global,
+    part: FilePart<F>,
+    path: &'a str,
+) -> Result<FoundPart<F>, Fault<'a>>
+    ensures range { IfOk result (λ found. found.bytes.range ≡ part.bytes.range) }
+    ensures line { IfOk result (λ found. IsToldPart (AreHeldOthers part.bytes.source) (images_of found.bytes.source) part.place
+        (option_map string_bytes found.line) found.sum) }
+    ensures sum { IfOk result (λ found. IsSumAt (images_of found.bytes.source) part.place found.sum) }
+    ensures fault { IfErr result (IsUnreadFile path.entry) }
+{
+    let FilePart { mut bytes, place } = part;
+    let Some(place) = place else {
+        return Ok(FoundPart {
+            bytes,
+            line: None,
+            sum: None,
+        });
+    };
+    let told = line_of(alloc, &mut bytes.source, &place, path)?;
+    Ok(FoundPart {
+        bytes,
+        line: Some(told.0),
+        sum: told.1,
+    })
+}
+
+/// What is asked for of an image, given the number of a volume in it or none, as [`open_asked`] opens it, and its line. Faults:
+/// as for [`open_asked`].
+#[tactic(auto, using(crate::proofs::PartLines::line_of_part, crate::proofs::PartLines::sum_of_part))]
+pub fn find_part<'a, R: Files + AllocGlobal>(
+    rt: &R,
+    path: &'a str,
+    counted: Counted,
+    volume: Option<u64>,
+) -> Result<FoundPart<R::File>, Fault<'a>>
+    ensures line { IfOk result (λ part. IsLineOf volume part.bytes.range
+        (option_map string_bytes part.line)) }
+    ensures sum { IfOk result (λ part. TellsSum (images_of part.bytes.source) volume
+        part.bytes.range (option_map string_bytes part.line) part.sum) }
+    ensures fault { IfErr result (IsUnopened path.entry volume) }
+{
+    let part = open_asked(rt, path, counted, volume)?;
+    let found = told_part(rt.alloc(), part, path)?;
+    Ok(found)
+}
+
+/// Whether both are the same file of the system.
+fn is_same(one: &Metadata, other: &Metadata) -> bool {
+    one.dev() == other.dev() && one.ino() == other.ino()
+}
+
+/// The file at this path, opened again. None if it can't be opened, or is another file than before.
+fn open_again<R: Files>(rt: &R, path: &str, was: &Metadata) -> Option<StoredFile<R::File>>
+    ensures { IfSome result (λ file. stored_bytes file ≡ None) }
+{
+    let Ok(file) = File::open(rt, path) else {
+        return None;
+    };
+    let Ok(found) = file.metadata() else {
+        return None;
+    };
+    if !is_same(was, &found) {
+        return None;
+    }
+    match StoredFile::sought(file) {
+        Ok(source) => Some(source),
+        Err(_) => None,
+    }
+}
+
+/// The same bytes of a file that was opened again.
+fn source_beside<R: Files>(
+    rt: &R,
+    path: &str,
+    was: &Metadata,
+    found: &OpenedFile<R::File>,
+) -> Option<OpenedFile<R::File>>
+    ensures { IfSome result (λ file. (held_bytes file ≡ None) × (held_bytes found.now ≡ None)) }
+{
+    match found {
+        OpenedFile::Plain(StoredFile::Whole(_)) => None,
+        OpenedFile::Plain(StoredFile::Seekable(_)) => match open_again(rt, path, was) {
+            Some(file) => Some(OpenedFile::Plain(file)),
+            None => None,
+        },
+        OpenedFile::Raw(user) => raw_beside(rt, path, was, user),
+    }
+}
+
+/// The user data of a file of raw sectors that was opened again.
+fn raw_beside<R: Files>(
+    rt: &R,
+    path: &str,
+    was: &Metadata,
+    user: &UserData<StoredFile<R::File>>,
+) -> Option<OpenedFile<R::File>>
+    ensures { IfSome result (λ file. (held_bytes file ≡ None)
+        × (stored_bytes user.now.bytes ≡ None)) }
+{
+    match &user.bytes {
+        StoredFile::Whole(_) => None,
+        StoredFile::Seekable(_) => match open_again(rt, path, was) {
+            Some(source) => Some(OpenedFile::Raw(UserData::new(source))),
+            None => None,
+        },
+    }
+}
+
+/// The blocks of the same bytes, opened a second time to be read at the same time as what was found at this path. None if they
+/// can't be opened again: all bytes are held, such as those of a pipe, or another file has the path.
+fn open_beside<R: Files>(
+    rt: &R,
+    path: &str,
+    was: io::Result<Metadata>,
+    found: &Window<OpenedFile<R::File>>,
+) -> Option<PartBlocks<R::File>>
+    ensures held { IfSome result (λ blocks. held_bytes blocks.blocks.bytes.bytes
+        ≡ held_bytes found.now.source) }
+    ensures range { IfSome result (AreBlocksAt found.now.range) }
+{
+    let Ok(was) = was else {
+        return None;
+    };
+    match source_beside(rt, path, &was, &found.source) {
+        Some(source) => {
+            let range = found.range;
+            Some(part_blocks(Window { source, range }))
+        }
+        None => None,
+    }
+}
+
+/// What is asked for of an image, to be read, and where it lies.
+#[derive(Drop)]
+struct FoundBlocks<F: Read + Seek> {
+    source: PartBlocks<F>,
+    /// The same bytes, opened a second time if their digest is to be made at the same time.
+    beside: Option<PartBlocks<F>>,
+    /// Where they lie in their file.
+    range: ByteRange,
+    /// The range's line, if it lies inside the file.
+    line: Option<String>,
+    /// Whether the sum of a disk copy is right.
+    sum: Option<bool>,
+}
+
+/// The blocks of what is asked for of an image, twice if its digest is to be made at the same time: those of exactly the range in
+/// its line. Faults: as for [`open_asked`].
+fn find_blocks<'a, R: Files + AllocGlobal>(
+    rt: &R,
+    words: &TakeWords<'a>,
+) -> Result<FoundBlocks<R::File>, Fault<'a>>
+    ensures line { IfOk result (λ found. IsLineOf words.now.volume found.range
+        (option_map string_bytes found.line)) }
+    ensures sum { IfOk result (λ found. TellsSum (images_of found.source.blocks.bytes.bytes)
+        words.now.volume found.range (option_map string_bytes found.line) found.sum) }
+    ensures part { IfOk result (λ found. AreBlocksAt found.range found.source) }
+    ensures beside { IfOk result (λ found. IfSome found.beside (AreBlocksAt found.range)) }
+    ensures fault { IfErr result (IsUnopened words.now.image words.now.volume) }
+{
+    let was = fs::metadata(rt, words.image);
+    let FoundPart { bytes, line, sum } = find_part(
+        rt,
+        words.image,
+        Counted::Volumes,
+        words.volume,
+    )?;
+    let beside = if words.is_digested {
+        open_beside(rt, words.image, was, &bytes)
+    } else {
+        None
+    };
+    let range = bytes.range;
+    Ok(FoundBlocks {
+        source: part_blocks(bytes),
+        beside,
+        range,
+        line,
+        sum,
+    })
+}
+
+/// What is to be taken and, if it lies in a disk copy, whether that one's sum is right.
+#[derive(Drop)]
+pub(crate) struct OpenedTake<S: PlacedBlocks> {
+    pub(crate) image: TakenImage<S>,
+    pub(crate) sum: Option<bool>,
+}
+
+/// The blocks of a part of a file, known by what is read of them.
+type PlacedPart<F> = BlocksOf<RangeBytes<OpenedFile<F>>>;
+
+/// Opens what is to be taken, twice if its digest is to be made at the same time, and makes all checks. Faults, the first that
+/// holds: the image can't be read; `NoVolume`, `SeveralVolumes`; the image's own; memory was refused.
+pub(crate) fn open_image<'a, R: Files + AllocGlobal>(
+    rt: &R,
+    words: &TakeWords<'a>,
+) -> Result<OpenedTake<PlacedPart<R::File>>, Fault<'a>>
+    ensures line { IfOk result (λ opened. TellsVolume words.now.volume opened.image.len
+        (option_map string_bytes opened.image.volume)) }
+    ensures sum { IfOk result (λ opened. TellsSumIn (parts_of opened.image.opened)
+        words.now.volume opened.image.len (option_map string_bytes opened.image.volume) opened.sum) }
+    ensures sound { IfOk result (λ opened. OfEach (parts_of opened.image.opened) HasNoFault) }
+    ensures fault { IfErr result (IsImageFault words.now) }
+{
+    let FoundBlocks {
+        source,
+        beside,
+        range,
+        line,
+        sum,
+    } = find_blocks(rt, words)?;
+    match TakenImage::open(rt.alloc(), source, beside, line) {
+        Ok(image) => {
+            if image.len != range.len {
+                // A range that doesn't lie in its file has no bytes, and was refused.
+                return Err(Fault::Refused(MountFault::Short));
+            }
+            Ok(OpenedTake { image, sum })
+        }
+        Err(Unopened { fault, source: _ }) => Err(Fault::of_needed(fault, words.image)),
+    }
+}

@@ -1,8 +1,0 @@
-pub mod SameWork
-pub mod SameTrees
-pub mod AlikeVolumes
-pub mod Carried
-pub mod Copies
-pub mod ReadWork
-pub mod Kept
-pub mod LawsProved

@@ -1,5 +1,0 @@
-use Rattle.hfs_working.proofs.LawsProved as laws
-use Rattle.hfs_working.proofs.laws.kept_forks_are_alike.Goals as goal
-
-pub returns : goal.returns
-returns c = laws.kept_forks_are_alike
