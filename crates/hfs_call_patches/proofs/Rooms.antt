@@ -1,12 +1,10 @@
 -- Extents by their blocks.
-use Rattle.std.proofs.Common.{◌≡◌, inl, inr, ℕ, zero, suc, ◌+◌, ◌*◌, ◌<◌, ◌≤◌, Bool, true, false, cond, eqb, List, [], ◌∷◌, length, length-append, filter, refl, sym, ◌∙◌, ap, subst, arith}
+use Rattle.std.proofs.Common.{◌≡◌, inl, inr, ℕ, zero, suc, ◌+◌, ◌*◌, ◌<◌, ◌≤◌, Bool, true, false, cond, eqb, List, [], ◌∷◌, length, filter, refl, sym, ◌∙◌, ap, subst, arith}
 use Rattle.std.specs.Prelude.{not}
 use Rattle.std.proofs.lemmas.Bool.{cases_lt, eq-eqb}
 use Rattle.std.specs.List.{range_with_len}
 use Rattle.std.proofs.lemmas.Grind.{div_ceil_times}
 use Rattle.std.proofs.lemmas.List.Elements.{All-nil, All-cons}
-use Rattle.std.proofs.lemmas.List.FromFn.{length-range_with_len}
-use Rattle.std.proofs.lemmas.List.Sums.{sum_by-cons}
 use Rattle.hfs_fields.specs.declared.extent.Extent.{Extent}
 use Rattle.hfs_fields.specs.Each.{Each}
 use Rattle.hfs_fields.proofs.ElementLemmas.{each-left, each-mono, each-right}
@@ -19,15 +17,7 @@ use Rattle.hfs_space.proofs.Decided.{each_from_all}
 use Rattle.hfs_space.proofs.OwnedOnce.{each-range}
 use Rattle.hfs_record_edits.proofs.Space.{cons, one, no, owned_each}
 use Rattle.hfs_model.specs.Forks.{blocks}
-
-pub length-blocks : (es : List Extent) → length (extent_blocks es) ≡ block_total es
-length-blocks [] = refl
-length-blocks (e ∷ es) =
-    let parts = length-append (range_with_len e.first e.count) (extent_blocks es) in
-    let here = length-range_with_len e.first e.count in
-    let rest = length-blocks es in
-    let sums = sum_by-cons (λ (x : Extent). x.count) e es in
-    omega (arith, parts, here, rest, sums)
+use Rattle.hfs_space.proofs.Owned.{length-blocks}
 
 -- of a row of numbers that are all below n, the last is
 last_below : (n a k : ℕ) → Each (λ (b : ℕ). b < n) (range_with_len a k) → 0 < k → a + k ≤ n

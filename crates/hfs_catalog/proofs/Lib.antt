@@ -23,3 +23,4 @@ pub mod Ordered
 mod IndexeLemmas
 pub mod CatalogChecksLawsProved
 pub mod CatalogChecksLawTypes
+pub mod FileRecords

@@ -11,3 +11,4 @@ pub mod ReadWork
 pub mod Kept
 pub mod LawsProved
 pub mod KeptBlocks
+pub mod ChangingBlocks

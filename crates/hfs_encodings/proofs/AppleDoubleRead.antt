@@ -13,11 +13,11 @@ use Rattle.hfs_encodings.specs.declared.incoming_apple_double.FoundParts.{FoundP
 use Rattle.hfs_encodings.specs.IncomingAppleDouble.{apple_double_in, apple_double_of, dates_in, entry_place, finder_in, is_apple_double_head, lies_within, no_parts, parts_in, parts_with, with_entries, with_entry}
 use Rattle.hfs_encodings.specs.Laws.{IsAppleDoubleReadBack}
 
-chosen : {A : Type 0} (t : Bool) (x y : A) → t ≡ true → (if t then x else y) ≡ x
+pub chosen : {A : Type 0} (t : Bool) (x y : A) → t ≡ true → (if t then x else y) ≡ x
 chosen t x y e = ap (λ b. if b then x else y) e
 
 -- the layout, the length, the Finder bytes and the fork, one behind the other
-parts : (head : AppleDoubleHead) (fork : List ℕ) → apple_double_head_bytes head ++ fork ≡ apple_double_layout ++ (big_bytes 4 head.resource_length ++ (head.finder ++ fork))
+pub parts : (head : AppleDoubleHead) (fork : List ℕ) → apple_double_head_bytes head ++ fork ≡ apple_double_layout ++ (big_bytes 4 head.resource_length ++ (head.finder ++ fork))
 unfolding apple_double_head_bytes laid row
 parts head fork = laid-append apple_double_layout (big_bytes 4 head.resource_length ∷ head.finder ∷ []) fork
 

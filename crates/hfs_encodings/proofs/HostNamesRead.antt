@@ -20,6 +20,7 @@ use Rattle.hfs_encodings.specs.Names.{given_name, named_letter, renamed}
 use Rattle.hfs_encodings.specs.Spelled.{are_digits, digit_value, digits_byte, host_letters, letter_value, letters_in, roman_byte}
 use Rattle.hfs_encodings.specs.Laws.{AreHostNamesRead}
 use Rattle.hfs_encodings.proofs.Letters.{plain}
+use Rattle.hfs_texts.proofs.HostNameLemmas.{rest-marks, first-marks}
 
 -- ---- what was tried of each byte
 
@@ -96,18 +97,6 @@ word-back true b t xs h free e = ap host_letters (escaped-chars b t h) ∙ escap
 word-back false b t xs h free e = ap host_letters (itself-chars b t h) ∙ itself-letter b (chars t) h free ∙ ap (λ (l : List ℕ). b ∷ l) e
 
 -- ---- a name
-
-rest-marks : (r x : Bool) → ((r || x) || not r) ≡ true
-rest-marks true x = refl
-rest-marks false true = refl
-rest-marks false false = refl
-
-first-marks : (r x y z : Bool) → ((((r || x) || y) || z) || not r) ≡ true
-first-marks true x y z = refl
-first-marks false true y z = refl
-first-marks false false true z = refl
-first-marks false false false true = refl
-first-marks false false false false = refl
 
 no-letters : host_letters (chars []) ≡ []
 unfolding letters_in

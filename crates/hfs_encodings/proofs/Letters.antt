@@ -6,6 +6,7 @@ use Rattle.std.proofs.lemmas.Bool.{lt-ltb, le-ltb, eq-eqb, ne_eqb, and_from, and
 use Rattle.hfs_texts.specs.MacRoman.{high_characters}
 use Rattle.hfs_encodings.specs.declared.spelled.Spelling.{Spelling}
 use Rattle.hfs_encodings.specs.Spelled.{high_byte, roman_byte, mark, are_digits, digits_byte, letters_in, digits_in, seen_letter, seen_letters}
+use Rattle.hfs_encodings.proofs.AppleDoubleRead.{chosen}
 
 -- ---- the letter of one character
 
@@ -27,10 +28,6 @@ other_seen code h =
     high-seen place ∙ ap seen_letter (sym (ap (λ t. if t then code else high_byte place) (le-ltb code 128 h)))
 
 -- ---- the first letter
-
-chosen : {A : Type 0} (t : Bool) (x y : A) → t ≡ true → (if t then x else y) ≡ x
-chosen true x y e = refl
-chosen false x y e = cc
 
 other : {A : Type 0} (t : Bool) (x y : A) → t ≡ false → (if t then x else y) ≡ y
 other true x y e = cc

@@ -7,5 +7,5 @@ mod Given
 mod HostNamesRead
 mod PlainTextRead
 mod MacBinaryRead
-mod Entries
-mod AppleDoubleRead
+pub mod Entries
+pub mod AppleDoubleRead

@@ -1,5 +1,5 @@
 -- What is read of a MacBinary file is what was written.
-use Rattle.std.proofs.Common.{◌≡◌, ◌∙◌, sym, ap, refl, arith, ℕ, ◌+◌, ◌-◌, ◌<◌, ◌≤◌, Bool, true, ◌&&◌, List, [], ◌∷◌, ◌++◌, length, take, drop, replicate, slice_index, Some, None}
+use Rattle.std.proofs.Common.{◌≡◌, ◌∙◌, sym, ap, refl, arith, ℕ, ◌+◌, ◌-◌, ◌<◌, ◌≤◌, true, ◌&&◌, List, [], ◌∷◌, ◌++◌, length, take, drop, replicate, slice_index, Some, None}
 use Rattle.std.specs.Prelude.{◌==◌, nat_le, if◌then◌else◌}
 use Rattle.std.proofs.lemmas.List.{append_assoc, length-append, get_or-take, get_or-drop, take-take, drop-take, drop_at}
 use Rattle.std.proofs.lemmas.Bool.{and_parts, and_from, eqb-true, eq-eqb, leb-true, le-leb}
@@ -16,6 +16,7 @@ use Rattle.hfs_encodings.proofs.WrittenMacBinary.{length-filled}
 use Rattle.hfs_encodings.specs.Names.{given_name}
 use Rattle.hfs_encodings.specs.IncomingMacBinary.{is_version, is_macbinary_head, filled_length, data_place, resource_place, macbinary_end, macbinary_of, macbinary_with, macbinary_in}
 use Rattle.hfs_encodings.specs.Laws.{IsReadBack, macbinary_file_of}
+use Rattle.hfs_encodings.proofs.AppleDoubleRead.{chosen}
 
 -- ---- the first bytes of a file
 
@@ -75,9 +76,6 @@ module _ (head : MacBinaryHead) (rest : List ℕ) (long : length (macbinary_head
   least-there = sym (get_or-drop 122 (macbinary_head_bytes head ++ rest) 1 0) ∙ ap (λ (l : List ℕ). slice_index l 1) from-version
 
 -- ---- all of it
-
-chosen : {A : Type 0} (t : Bool) (x y : A) → t ≡ true → (if t then x else y) ≡ x
-chosen t x y e = ap (λ b. if b then x else y) e
 
 module _ (head : MacBinaryHead) (file : List ℕ) (begins : begins_macbinary file ≡ true) (is : macbinary_head_of file ≡ head) (version : slice_index file 122 ≡ 129) (least : slice_index file 123 ≡ 129) where
   front : List ℕ

@@ -1,19 +1,15 @@
 -- What is read of an AppleDouble file is what was written.
-use Rattle.std.proofs.Common.{◌≡◌, ◌∙◌, ap, arith, ℕ, ◌+◌, ◌^◌, ◌<◌, ◌≤◌, List, [], ◌∷◌, ◌++◌, length, take, drop}
+use Rattle.std.proofs.Common.{◌≡◌, ◌∙◌, ap, arith, ℕ, ◌+◌, ◌^◌, ◌<◌, ◌≤◌, List, ◌++◌, length, take, drop}
 use Rattle.std.proofs.lemmas.List.{length-append, take_all}
 use Rattle.byteorder.specs.Endian.{big_bytes}
-use Rattle.hfs_fields.proofs.LaidLemmas.{behind, next, number-read, bytes-read, laid, row, laid-append}
+use Rattle.hfs_fields.proofs.LaidLemmas.{behind, next, number-read, bytes-read}
 use Rattle.hfs_encodings.specs.declared.apple_double.AppleDoubleHead.{AppleDoubleHead}
 use Rattle.hfs_encodings.specs.AppleDouble.{HoldsAppleDouble, apple_double_layout, apple_double_head_bytes, apple_double_head_of}
+use Rattle.hfs_encodings.proofs.AppleDoubleRead.{parts}
 
 pub length-apple_double_head_bytes : (head : AppleDoubleHead) → length head.finder ≡ 32 → length (apple_double_head_bytes head) ≡ 82
 unfolding apple_double_head_bytes
 length-apple_double_head_bytes head whole = length-append (apple_double_layout ++ big_bytes 4 head.resource_length) head.finder ∙ ap (λ (n : ℕ). 50 + n) whole
-
--- the layout, the length, the Finder bytes and the fork, one behind the other
-parts : (head : AppleDoubleHead) (fork : List ℕ) → apple_double_head_bytes head ++ fork ≡ apple_double_layout ++ (big_bytes 4 head.resource_length ++ (head.finder ++ fork))
-unfolding apple_double_head_bytes laid row
-parts head fork = laid-append apple_double_layout (big_bytes 4 head.resource_length ∷ head.finder ∷ []) fork
 
 head-rebuilt : (head : AppleDoubleHead) (finder : List ℕ) (len : ℕ) → finder ≡ head.finder → len ≡ head.resource_length → record head { finder = finder; resource_length = len } ≡ head
 head-rebuilt head _ _ a b = λ i. record { finder = a i; resource_length = b i }

@@ -1,6 +1,7 @@
 -- Lemmas about the definitions of specs/Members.antt.
-use Rattle.std.proofs.Common.{◌≡◌, ◌⊎◌, inl, inr, ⊎_elim, Bool, true, false, cond, List, [], ◌∷◌, ◌++◌, refl, sym, ◌∙◌, ap, subst, Some}
-use Rattle.std.specs.List.{find}
+use Rattle.std.proofs.Common.{◌≡◌, ◌⊎◌, inl, inr, ⊎_elim, ℕ, zero, suc, ◌<◌, arith, length, get_or, Bool, true, false, cond, List, [], ◌∷◌, ◌++◌, refl, sym, ◌∙◌, ap, subst, Some}
+use Rattle.std.specs.Prelude.{◌||◌}
+use Rattle.std.specs.List.{find, list_any}
 use Rattle.std.proofs.lemmas.Option.{none-some, same_Some}
 use Rattle.hfs_fields.specs.Each.{Each}
 use Rattle.hfs_fields.specs.Members.{In}
@@ -24,3 +25,19 @@ in-left x (y ∷ xs) ys i = ⊎_elim (λ (here : y ≡ x). inl here) (λ (there 
 pub in-right : {A : Type 0} (x : A) (xs ys : List A) → In x ys → In x (xs ++ ys)
 in-right x [] ys i = i
 in-right x (y ∷ xs) ys i = inr (in-right x xs ys i)
+
+pub any-in : {A : Type 0} (p : A → Bool) (xs : List A) (x : A) → In x xs → p x ≡ true → list_any p xs ≡ true
+any-in p [] x i e = absurd i
+any-in {A} p (y ∷ xs) x i e = ⊎_elim
+    (λ (here : y ≡ x). ap (λ (b : Bool). b || list_any p xs) (ap p here ∙ e))
+    (λ (there : In x xs). ap (λ (b : Bool). p y || b) (any-in p xs x there e) ∙ both (p y))
+    i
+  where
+    both : (b : Bool) → (b || true) ≡ true
+    both true = refl
+    both false = refl
+
+pub in-at : {A : Type 0} (xs : List A) (k : ℕ) (d : A) → k < length xs → In (get_or xs k d) xs
+in-at [] k d lt = absurd (omega (arith, lt))
+in-at (x ∷ xs) zero d lt = inl refl
+in-at (x ∷ xs) (suc k) d lt = inr (in-at xs k d (omega (arith, lt)))

@@ -77,7 +77,7 @@ sizes blocks least most =
     }
 
 -- so many nodes are at least those that were asked for
-enough : (factor nodes : ℕ) → 1 ≤ factor → nodes ≤ file_blocks factor nodes * factor
+pub enough : (factor nodes : ℕ) → 1 ≤ factor → nodes ≤ file_blocks factor nodes * factor
 unfolding file_blocks
 enough factor nodes some = let turned = mul_comm factor ((nodes + (factor - 1)) / factor) in omega arith
 

@@ -7,7 +7,7 @@ pub mod FolderLemmas
 pub mod FoundLemmas
 pub mod NamedFileLemmas
 pub mod ReplyLemmas
-mod ToldLemmas
+pub mod ToldLemmas
 pub mod QueryLawsProved
 pub mod QueriesLaws
 pub mod ListLemmas

@@ -198,7 +198,7 @@ none e = numbers 0 33 refl refl (ap steps_below e)
 record OtherCode {A : Type 0} (r : Result A ℤ) : Type 0 where
   other : (code : ℤ) → r ≡ Err code → Other code
 
-code_is : {A : Type 0} (x y : ℤ) → ◌≡◌ {A = Result A ℤ} (Err x) (Err y) → x ≡ y
+pub code_is : {A : Type 0} (x y : ℤ) → ◌≡◌ {A = Result A ℤ} (Err x) (Err y) → x ≡ y
 code_is x y e = cc
 
 no_code : {A : Type 0} (x : A) (y : ℤ) → Ok x ≡ Err y → ⊥

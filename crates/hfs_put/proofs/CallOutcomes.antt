@@ -1,5 +1,5 @@
 -- A call is accepted or refused as the model says, or the volume wants room for it.
-use Rattle.std.proofs.Common.{◌≡◌, ℕ, Bool, true, false, cond, ◌&&◌, List, Option, Some, None, Result, Ok, Err, refl, sym, ◌∙◌, ap, subst, inl, inr}
+use Rattle.std.proofs.Common.{◌≡◌, ℕ, Bool, true, false, cond, ◌&&◌, List, Option, Some, None, Ok, Err, refl, sym, ◌∙◌, ap, subst, inl, inr}
 use Rattle.std.specs.Prelude.{◌⊎◌, ℤ, pos}
 use Rattle.std.specs.Ordering.{int_eq}
 use Rattle.hfs_model.specs.declared.call.Call.{Call}
@@ -17,14 +17,11 @@ use Rattle.hfs_volume.specs.Image.{ImageValue}
 use Rattle.hfs_volume.specs.Serving.{free_in, depth_in, within_nodes, IsForkOutcome, IsOutcomeIn}
 use Rattle.hfs_put_plan.specs.Accepted.{accepted}
 use Rattle.hfs_put.specs.Faults.{IsWanting}
+use Rattle.hfs_put_plan.proofs.AcceptedCalls.{answered}
 
 and-first : (a b : Bool) → (a && b) ≡ true → a ≡ true
 and-first true b h = refl
 and-first false b h = absurd (cc h)
-
--- the volume, or the reply that refuses the call
-abbrev answered : Bool → Outcome → Result Volume Reply
-answered b o = cond b (Ok o.0) (Err o.1)
 
 abbrev unless : Bool → Outcome → Outcome → Outcome
 unless b o p = cond b o p

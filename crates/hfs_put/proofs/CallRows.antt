@@ -4,22 +4,19 @@ use Rattle.std.specs.Prelude.{slice_index_or}
 use Rattle.std.specs.List.{cons_option}
 use Rattle.std.proofs.lemmas.List.{drop_all}
 use Rattle.hfs_model.specs.declared.call.Call.{Call}
-use Rattle.hfs_model.specs.declared.reply.ItemKind.{ItemKind}
-use Rattle.hfs_model.specs.declared.reply.ItemKind.TheVariants.{Folder, File}
 use Rattle.hfs_model.specs.declared.reply.Reply.{Reply}
-use Rattle.hfs_put_plan.specs.declared.over.Placing.{Placing}
-use Rattle.hfs_put_plan.specs.declared.over.Placing.TheVariants.{New, Kept, Replaced, Taken}
 use Rattle.hfs_model.specs.Volume.{Volume}
 use Rattle.hfs_put_plan.specs.Accepted.{next, accepted, all_accepted}
 use Rattle.hfs_put_plan.specs.declared.calls.TheConstants.{MAKING_CALLS, ENDING_CALLS}
 use Rattle.hfs_put_plan.specs.declared.items.PutItem.{PutItem}
-use Rattle.hfs_put_plan.specs.Calls.{somes, making, making_of, folder_ending, ending, ending_of}
+use Rattle.hfs_put_plan.specs.Calls.{somes, making, ending}
 use Rattle.hfs_put_plan.specs.Put.{Refused, at_place}
 use Rattle.hfs_put.specs.Faults.{IsCallFault, IsLayFault, fault_at}
 use Rattle.hfs_put.specs.declared.faults.CallFault.{CallFault}
 use Rattle.hfs_put.specs.declared.faults.CallFault.TheVariants as call_fault
 use Rattle.hfs_put.specs.declared.faults.LayFault.{LayFault}
 use Rattle.hfs_put.specs.declared.faults.LayFault.TheVariants as lay_fault
+use Rattle.hfs_put_plan.proofs.FewCalls.{few-making, few-ending}
 
 -- ---- faults of what comes first are those of all
 
@@ -80,20 +77,6 @@ module _ (xs : List (Option Call)) where
   row-done v₀ v i few before = before ∙ ap (λ (l : List (Option Call)). all_accepted v (somes l)) (drop_all i xs few)
 
 -- ---- no item has more calls than these numbers say
-
-few-making : (kind : ItemKind) (dir : ℕ) (item : PutItem) (now : ℕ) → length (making_of kind dir item now) ≤ MAKING_CALLS
-few-making Folder dir item now = omega arith
-few-making File dir item now = omega arith
-
-few-folder : (dir : ℕ) (item : PutItem) (placing : Placing) (now : ℕ) → length (folder_ending dir item placing now) ≤ ENDING_CALLS
-few-folder dir item New now = omega arith
-few-folder dir item Kept now = omega arith
-few-folder dir item (Replaced locked) now = omega arith
-few-folder dir item Taken now = omega arith
-
-few-ending : (kind : ItemKind) (dir : ℕ) (item : PutItem) (now : ℕ) → length (ending_of kind dir item now) ≤ ENDING_CALLS
-few-ending Folder dir item now = few-folder dir item item.placing now
-few-ending File dir item now = omega arith
 
 pub few-made : (dir : ℕ) (item : PutItem) (now : ℕ) → length (making dir item now) ≤ MAKING_CALLS
 few-made dir item now = few-making item.kind dir item now

@@ -20,7 +20,7 @@ use Rattle.hfs_put_sources.specs.declared.fork_run.ForkRun.{ForkRun}
 use Rattle.hfs_space.specs.Extents.{block_total}
 use Rattle.hfs_put.specs.ForkRuns.{AreFilePlaces, IsFileAt, NotesPlace, file_id, file_runs, fork_runs_of, record_runs, run_at, runs_from}
 
-cons-first : {A : Type 0} (o : Option A) (xs : List A) → cons_option o xs ≡ cons_option o [] ++ xs
+pub cons-first : {A : Type 0} (o : Option A) (xs : List A) → cons_option o xs ≡ cons_option o [] ++ xs
 cons-first None xs = refl
 cons-first (Some x) xs = refl
 

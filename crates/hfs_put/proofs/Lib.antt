@@ -8,7 +8,6 @@ mod Absences
 mod PlacedLists
 mod LockCodes
 mod FittingForks
-mod FileRecords
 pub mod ForkRunLists
 pub mod RunsApart
 pub mod RunMembers

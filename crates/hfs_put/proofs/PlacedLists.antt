@@ -1,5 +1,5 @@
 -- What becomes of a list of items that is to come, item by item.
-use Rattle.std.proofs.Common.{◌≡◌, ℕ, zero, suc, ◌+◌, ◌<◌, ◌≤◌, Bool, get_or, length, drop, List, [], ◌∷◌, ◌++◌, map, Option, Some, None, refl, sym, ◌∙◌, ap, subst}
+use Rattle.std.proofs.Common.{◌≡◌, ℕ, zero, suc, ◌+◌, ◌<◌, ◌≤◌, Bool, get_or, length, drop, List, [], ◌∷◌, ◌++◌, map, Option, Some, None, refl, sym, ◌∙◌, ap}
 use Rattle.std.specs.List.{cons_option}
 use Rattle.std.specs.Prelude.{⊤}
 use Rattle.std.proofs.lemmas.List.{append_assoc, append-nil, drop_all, drop_more}
@@ -21,15 +21,12 @@ use Rattle.hfs_put.specs.declared.decisions.Decision.TheVariants as decided
 use Rattle.hfs_put.specs.declared.decisions.Destination.{Destination}
 use Rattle.hfs_put.specs.declared.decisions.Destination.TheVariants as into
 use Rattle.hfs_put.specs.declared.placing.RefusedItem.{RefusedItem}
+use Rattle.hfs_put.proofs.ForkRunLists.{cons-first}
 
 -- the items that are put
 abbrev pub puts : List Decision → List PutItem
 puts [] = []
 puts (d ∷ ds) = cons_option (item_put d) (puts ds)
-
-cons-first : {A : Type 0} (o : Option A) (xs : List A) → cons_option o xs ≡ cons_option o [] ++ xs
-cons-first None xs = refl
-cons-first (Some x) xs = refl
 
 -- ---- step by step
 

@@ -1,7 +1,7 @@
 -- No byte of a sound volume's image lies in two runs of forks.
-use Rattle.std.proofs.Common.{◌≡◌, ◌⊎◌, inl, inr, ⊎_elim, ℕ, zero, suc, ◌+◌, ◌-◌, ◌*◌, ◌/◌, ◌%◌, ◌<◌, ◌≤◌, Bool, true, false, cond, ◌&&◌, leb, ltb, eqb, get_or, length, drop, take, List, [], ◌∷◌, ◌++◌, map, Option, Some, None, refl, sym, ◌∙◌, ap, subst, arith}
+use Rattle.std.proofs.Common.{◌≡◌, ◌⊎◌, inl, inr, ⊎_elim, ℕ, zero, suc, ◌+◌, ◌-◌, ◌*◌, ◌/◌, ◌%◌, ◌<◌, ◌≤◌, Bool, true, false, cond, ◌&&◌, leb, ltb, eqb, get_or, length, drop, take, List, [], ◌∷◌, ◌++◌, Option, Some, None, refl, ◌∙◌, ap, subst, arith}
 use Rattle.std.specs.Prelude.{if◌then◌else◌, nat_le, nat_lt}
-use Rattle.std.specs.List.{cons_option, flat_map, range_with_len, sum_by, All}
+use Rattle.std.specs.List.{cons_option, flat_map, range_with_len, sum_by}
 use Rattle.std.specs.List.Sorted.{IsNonDecreasingBy, IsPermutation}
 use Rattle.std.proofs.lemmas.Bool.{le-leb, lt-ltb, leb-true, ltb-true, cases_lt, cases_Bool, and_parts, eqb-false}
 use Rattle.std.proofs.lemmas.List.{get_or-take, get_or-drop, length-take-le, length-drop}
@@ -17,7 +17,8 @@ use Rattle.hfs_fields.specs.declared.extent.Extent.{Extent}
 use Rattle.hfs_fields.specs.declared.file_record.FileRecord.{FileRecord}
 use Rattle.hfs_fields.specs.declared.mdb.Mdb.{Mdb}
 use Rattle.hfs_fields.specs.Records.{is_file, file_record_of}
-use Rattle.hfs_call_patches.proofs.Rooms.{length-blocks, room_left, within_each}
+use Rattle.hfs_call_patches.proofs.Rooms.{room_left, within_each}
+use Rattle.hfs_space.proofs.Owned.{length-blocks}
 use Rattle.hfs_model.specs.declared.call.Fork.{Fork}
 use Rattle.hfs_model.specs.declared.call.Fork.TheVariants.{DataFork, ResFork}
 use Rattle.hfs_model.proofs.Members.{contains_from_in, in_from_contains}
@@ -30,10 +31,10 @@ use Rattle.hfs_space.specs.Extents.{AreExtentsWithin, Overflow, block_total, ext
 use Rattle.hfs_space.specs.Forks.{blocks_each, run_in}
 use Rattle.hfs_space.specs.Owners.{Fork as OwnedFork, forks_of_file, owned_blocks, owners}
 use Rattle.hfs_space.specs.Sound.{IsForkSound}
-use Rattle.hfs_space.proofs.OwnerLemmas.{append}
 use Rattle.hfs_volume.specs.Sharing.{file_extents}
-use Rattle.hfs_volume.proofs.Owned.{forks_have, others_have, owners_in, owners_sum, record_has, sum_in}
-use Rattle.hfs_put.specs.ForkRuns.{AreRunsApart, file_runs, fork_runs_of, record_runs, run_at, runs_from}
+use Rattle.hfs_volume.proofs.Owned.{forks_have, owners_in, owners_sum, record_has, sum_in}
+use Rattle.hfs_put.specs.ForkRuns.{AreRunsApart, file_runs, fork_runs_of, record_runs, runs_from}
+use Rattle.hfs_volume.proofs.OwnedStay.{range_in, parts}
 
 -- ---- members, whatever the order
 
@@ -62,13 +63,6 @@ one_for x run = cond (has_byte x run) 1 0
 abbrev pub block_of : Mdb → ℕ → ℕ
 block_of mdb x = (x / 512 - mdb.allocation_start) / blocks_each mdb
 
-range_in : (a k n : ℕ) → a ≤ n → n < a + k → In n (range_with_len a k)
-range_in a zero n low high = absurd (omega arith)
-range_in a (suc k) n low high = ⊎_elim
-    (λ (more : a < n). inr (range_in (a + 1) k n (omega arith) (omega arith)))
-    (λ none. let e : a ≡ n = omega (arith, none) in inl e)
-    (cases_lt a n)
-
 -- a quotient lies between two numbers where what is divided lies between their multiples
 quotient_low : (each f z : ℕ) → 0 < each → f * each ≤ z → f ≤ z / each
 quotient_low each f z some low = ⊎_elim
@@ -88,9 +82,6 @@ quotient_high each k z some high = ⊎_elim
     let parts : z / each * each + z % each ≡ z = omega arith in
     absurd (omega (arith, most, parts, high)))
     (cases_lt (z / each) k)
-
-parts : (e : Extent) (extents : List Extent) (b : ℕ) → owners (extent_blocks (e ∷ extents)) b ≡ owners (range_with_len e.first e.count) b + owners (extent_blocks extents) b
-parts e extents b = append b (range_with_len e.first e.count) (extent_blocks extents)
 
 module _ (mdb : Mdb) (some : 0 < blocks_each mdb) (item : ℕ) (fork : Fork) (x : ℕ) where
   abbrev each : ℕ

@@ -4,7 +4,7 @@ use Rattle.std.specs.Prelude.{◌||◌}
 use Rattle.std.specs.List.{list_any, range_with_len}
 use Rattle.hfs_fields.specs.Each.{Each}
 use Rattle.hfs_fields.specs.Members.{In}
-use Rattle.hfs_fields.proofs.MemberLemmas.{each_in}
+use Rattle.hfs_fields.proofs.MemberLemmas.{each_in, any-in}
 use Rattle.hfs_blocks.specs.Blocks.{block_at, block_count}
 use Rattle.hfs_blocks.specs.Layers.{Numbered, changes, AreWithin, over}
 use Rattle.hfs_space.specs.Forks.{joined, run_in}
@@ -28,17 +28,6 @@ use Rattle.hfs_put.proofs.LaidFiles.{apart-in-turn, are-laid, at-run, inside}
 use Rattle.hfs_put.proofs.RunBlocks.{joined-range}
 
 -- ---- blocks in runs
-
-any-in : {A : Type 0} (p : A → Bool) (xs : List A) (x : A) → In x xs → p x ≡ true → list_any p xs ≡ true
-any-in p [] x i e = absurd i
-any-in {A} p (y ∷ xs) x i e = ⊎_elim
-    (λ (here : y ≡ x). ap (λ (b : Bool). b || list_any p xs) (ap p here ∙ e))
-    (λ (there : In x xs). ap (λ (b : Bool). p y || b) (any-in p xs x there e) ∙ both (p y))
-    i
-  where
-    both : (b : Bool) → (b || true) ≡ true
-    both true = refl
-    both false = refl
 
 none-in : {A : Type 0} (p : A → Bool) (xs : List A) → Each (λ x. p x ≡ false) xs → list_any p xs ≡ false
 none-in p [] h = refl

@@ -46,7 +46,7 @@ all-option v None cs = refl
 all-option v (Some c) cs = all-both v (c ∷ []) cs
 
 -- the volume, or the reply that refuses the call
-abbrev answered : Bool → Outcome → Result Volume Reply
+abbrev pub answered : Bool → Outcome → Result Volume Reply
 answered b o = cond b (Ok o.0) (Err o.1)
 
 -- what an accepted call leads to

@@ -7,11 +7,11 @@ mod PartialBytes
 mod WrittenPieces
 mod MadeFiles
 mod EndedForks
-mod AcceptedCalls
+pub mod AcceptedCalls
 mod CreatedFiles
 mod EndOptions
 mod WrittenForks
-mod FewCalls
+pub mod FewCalls
 mod QuietCalls
 mod ReadyFiles
 mod PutFiles

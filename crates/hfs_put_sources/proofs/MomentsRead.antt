@@ -11,9 +11,7 @@ use Rattle.hfs_texts.specs.Moments.{day_text, time_text, moment}
 use Rattle.hfs_texts.proofs.DayLaw.{day-digits, days-found}
 use Rattle.hfs_put_sources.specs.Moments.{date_in, date_on, dated, day_number, has_marks, is_digit, is_time, seconds_in, two_at, within}
 use Rattle.hfs_put_sources.specs.TagLaws.{AreMomentsRead}
-
-chosen : {A : Type 0} (t : Bool) (x y : A) → t ≡ true → (if t then x else y) ≡ x
-chosen t x y e = ap (λ b. if b then x else y) e
+use Rattle.hfs_encodings.proofs.AppleDoubleRead.{chosen}
 
 -- ---- two digits
 

@@ -115,7 +115,7 @@ none-past file (r ∷ rs) rises past = elim (is_gt (ext_cmp (least file) r.0)) a
 itself : (k : ExtKey) → is_eq (ext_cmp k k) ≡ true
 itself k = ap is_eq (tied_itself ext_cmp_total k)
 
-there-or : (b : Bool) (body : List ℕ) (o : Option (List ℕ)) → IsThere o → IsThere (cond b (Some body) o)
+pub there-or : (b : Bool) (body : List ℕ) (o : Option (List ℕ)) → IsThere o → IsThere (cond b (Some body) o)
 there-or true body o h = tt
 there-or false body o h = h
 

@@ -1,5 +1,5 @@
 -- The records of a fork from a key on among those of the extents tree.
-use Rattle.std.proofs.Common.{◌≡◌, inl, inr, ℕ, suc, ◌+◌, ◌<◌, ◌≤◌, Bool, true, false, cond, List, [], ◌∷◌, Option, Some, None, length, refl, sym, ap, ◌∙◌, subst, arith}
+use Rattle.std.proofs.Common.{◌≡◌, inl, inr, ℕ, ◌<◌, ◌≤◌, Bool, true, false, cond, List, [], ◌∷◌, Option, Some, None, refl, sym, ap, ◌∙◌, subst, arith}
 use Rattle.std.specs.Prelude.{not, ⊤, ◌&&◌, ◌==◌, nat_le}
 use Rattle.std.specs.declared.cmp.Ordering.{Ordering}
 use Rattle.std.specs.declared.cmp.Ordering.TheVariants.{Less, Equal, Greater}
@@ -12,13 +12,13 @@ use Rattle.hfs_fields.specs.Keys.{ext_cmp, ext_cmp_total}
 use Rattle.hfs_fields.proofs.ElementLemmas.{each-mono}
 use Rattle.hfs_btree.specs.Pairs.{lookup, pairs_from, Rises}
 use Rattle.hfs_btree.specs.Lookups.{first_pair}
-use Rattle.hfs_btree.proofs.LookupLemmas.{flipped, le-lt}
 use Rattle.hfs_btree_edits.specs.Conditions.{IsThere}
 use Rattle.hfs_btree_edits.specs.Edits.{without_pair}
 use Rattle.hfs_space.specs.Extents.{Overflow}
 use Rattle.hfs_fields.proofs.OrderLemmas.{eq_is}
 use Rattle.hfs_space.proofs.RunSteps.{Record}
 use Rattle.hfs_record_edits.specs.Cutting.{is_from, without_from, IsBefore, IsRecordFrom}
+use Rattle.hfs_record_edits.proofs.FilesKeys.{there-or}
 
 -- ---- the order of keys
 
@@ -146,10 +146,6 @@ none-past from (r ∷ rs) rises past = elim (is_gt (ext_cmp from r.0)) as (λ (b
   )
 ] refl past
 
-there-or : (b : Bool) (body : List ℕ) (o : Option (List ℕ)) → IsThere o → IsThere (cond b (Some body) o)
-there-or true body o h = tt
-there-or false body o h = h
-
 -- the first one that is found stands there, and isn't below the key
 pub first-there : (from : ExtKey) (r : Record) (rs : Overflow) → first_pair (pairs_from ext_cmp from rs) ≡ Some r → IsThere (lookup ext_cmp r.0 rs) × IsAtMostKey from r.0
 first-there from r [] e = absurd (none-some r e)
@@ -183,11 +179,6 @@ without-own from k own (r ∷ rs) = elim (is_eq (ext_cmp k r.0)) as (λ (b : Boo
   | false ↦ λ e. λ i. cond (not (is_from from r)) (r ∷ without-own from k own rs i) (without-own from k own rs i)
 ] refl
 
-pub one-fewer : (k : ExtKey) (rs : Overflow) → IsThere (lookup ext_cmp k rs) → length (without_pair ext_cmp k rs) + 1 ≡ length rs
-one-fewer k [] there = absurd there
-one-fewer k (r ∷ rs) there = elim (is_eq (ext_cmp k r.0)) as (λ (b : Bool). IsThere (cond b (Some r.1) (lookup ext_cmp k rs)) → length (cond b rs (r ∷ without_pair ext_cmp k rs)) + 1 ≡ length (r ∷ rs)) [
-  | true ↦ λ h. (let one : length rs + 1 ≡ suc (length rs) = omega arith in one)
-  | false ↦ λ h. let rest = one-fewer k rs h in (let one : suc (length (without_pair ext_cmp k rs)) + 1 ≡ suc (length rs) = omega (arith, rest) in one)
 ] there
 
 -- nothing goes where the fork has none

@@ -8,7 +8,8 @@ use Rattle.hfs_space.specs.Extents.{block_total, extent_blocks}
 use Rattle.hfs_record_edits.specs.Lengthened.{none, used_places, last_used, joins, longer, with_place, with_piece, used_with, lengthened}
 use Rattle.hfs_record_edits.specs.Threes.{AreThrees}
 use Rattle.hfs_record_edits.proofs.AddLemmas.{AreUsedTo, HaveBlocks, used_places-used, piece-used, rest-blocks, lengthened-blocks}
-use Rattle.hfs_record_edits.proofs.ThreeLemmas.{length-blocks, threes-set_behind, threes-put_behind}
+use Rattle.hfs_record_edits.proofs.ThreeLemmas.{threes-set_behind, threes-put_behind}
+use Rattle.hfs_space.proofs.Owned.{length-blocks}
 
 -- ---- one piece
 

@@ -1,5 +1,5 @@
 mod Shrunk
-mod FilesKeys
+pub mod FilesKeys
 mod ReleasedMore
 mod BothForks
 pub mod Edits

@@ -1,57 +1,21 @@
 -- The bits of one more extent are clear.
-use Rattle.std.proofs.Common.{◌≡◌, inl, inr, ⊎_elim, ◌⊎◌, ℕ, zero, suc, ◌+◌, ◌<◌, ◌≤◌, Bool, cond, eqb, List, [], ◌∷◌, ◌++◌, length, length-append, take, get_or, refl, sym, ◌∙◌, ap, subst, arith}
+use Rattle.std.proofs.Common.{◌≡◌, inl, inr, ⊎_elim, ◌⊎◌, ℕ, ◌+◌, ◌<◌, ◌≤◌, Bool, cond, List, [], ◌∷◌, ◌++◌, length, take, get_or, refl, sym, ◌∙◌, ap, subst, arith}
 use Rattle.std.specs.List.{range_with_len}
-use Rattle.std.proofs.lemmas.Grind.{flat_map-append}
-use Rattle.std.proofs.lemmas.Bool.{eq-eqb, ne_eqb, cases_lt}
-use Rattle.std.proofs.lemmas.List.Sums.{sum_by-cons}
+use Rattle.std.proofs.lemmas.Bool.{cases_lt}
 use Rattle.std.proofs.lemmas.List.{take_more}
-use Rattle.std.proofs.lemmas.List.FromFn.{length-range_with_len}
 use Rattle.hfs_fields.specs.declared.extent.Extent.{Extent}
 use Rattle.hfs_space.specs.Bitmap.{clear_count, AreClear, KeepsOthers}
 use Rattle.hfs_space.proofs.BitmapLawLemmas.{AreUsed, clear_count-released}
 use Rattle.hfs_space.specs.Extents.{extent_blocks}
 use Rattle.hfs_space.specs.Owners.{owners}
 use Rattle.hfs_record_edits.specs.Released.{HasReleased, AreAlone}
-use Rattle.hfs_space.proofs.OwnerLemmas.{append}
+use Rattle.hfs_space.proofs.NumberLemmas.{outside, inside}
+use Rattle.hfs_space.proofs.ClaimedMore.{blocks-more, length-more}
 
 one_if : Bool → ℕ
 one_if b = cond b 1 0
 
-outside : (a n b : ℕ) → (b < a) ⊎ (a + n ≤ b) → owners (range_with_len a n) b ≡ 0
-outside a zero b apart = refl
-outside a (suc n) b apart =
-    let ne : a ≡ b → ⊥ = λ same. elim apart [ inl low ↦ omega (arith, low, same) | inr high ↦ omega (arith, high, same) ] in
-    let here : ◌≡◌ {A = ℕ} (cond (eqb a b) 1 0) 0 = ap (λ (t : Bool). cond t 1 0) (ne_eqb a b ne) in
-    let rest = outside (a + 1) n b (elim apart [ inl low ↦ inl (omega (arith, low)) | inr high ↦ inr (omega (arith, high)) ]) in
-    let parts = sum_by-cons (λ (o : ℕ). cond (eqb o b) 1 0) a (range_with_len (a + 1) n) in
-    omega (arith, here, rest, parts)
-
-inside : (a n b : ℕ) → a ≤ b → b < a + n → owners (range_with_len a n) b ≡ 1
-inside a zero b low high = absurd (omega (arith, low, high))
-inside a (suc n) b low high =
-    let parts = sum_by-cons (λ (o : ℕ). cond (eqb o b) 1 0) a (range_with_len (a + 1) n) in
-    elim (cases_lt a b) [
-      | inl lt ↦
-          let here : ◌≡◌ {A = ℕ} (cond (eqb a b) 1 0) 0 = ap (λ (t : Bool). cond t 1 0) (ne_eqb a b (λ same. omega (arith, same, lt))) in
-          let rest = inside (a + 1) n b (omega (arith, lt)) (omega (arith, high)) in
-          omega (arith, here, rest, parts)
-      | inr ge ↦
-          let same : a ≡ b = omega (arith, ge, low) in
-          let here : ◌≡◌ {A = ℕ} (cond (eqb a b) 1 0) 1 = ap (λ (t : Bool). cond t 1 0) (eq-eqb a b same) in
-          let rest = outside (a + 1) n b (inl (omega (arith, same))) in
-          omega (arith, here, rest, parts)
-    ]
-
 -- ---- extents
-
-pub blocks-more : (es : List Extent) (e : Extent) (b : ℕ) → owners (extent_blocks (es ++ e ∷ [])) b ≡ owners (extent_blocks es) b + owners (range_with_len e.first e.count) b
-blocks-more es e b =
-    let own = λ (x : Extent). range_with_len x.first x.count in
-    let none : owners [] b ≡ 0 = refl in
-    let all = ap (λ (l : List ℕ). owners l b) (flat_map-append own es (e ∷ [])) in
-    let parts = append b (extent_blocks es) (range_with_len e.first e.count ++ []) in
-    let last = append b (range_with_len e.first e.count) [] in
-    omega (arith, all, parts, last, none)
 
 pub released-none : (start total : ℕ) (blocks : ℕ → List ℕ) → HasReleased start total [] blocks blocks
 released-none start total blocks = record {
@@ -60,17 +24,6 @@ released-none start total blocks = record {
   beside = λ k apart. refl;
   counted = λ h. (let e : clear_count blocks start total ≡ clear_count blocks start total + 0 = omega arith in e);
 }
-
--- how many blocks there are
-length-more : (es : List Extent) (e : Extent) → length (extent_blocks (es ++ e ∷ [])) ≡ length (extent_blocks es) + e.count
-length-more es e =
-    let own = λ (x : Extent). range_with_len x.first x.count in
-    let none : length {A = ℕ} [] ≡ 0 = refl in
-    let all = ap (λ (l : List ℕ). length l) (flat_map-append own es (e ∷ [])) in
-    let parts = length-append (extent_blocks es) (range_with_len e.first e.count ++ []) in
-    let last = length-append (range_with_len e.first e.count) [] in
-    let here = length-range_with_len e.first e.count in
-    omega (arith, all, parts, last, none, here)
 
 -- the blocks of an extent more, and what is counted of them
 module _ (start total : ℕ) (es : List Extent) (e : Extent) (old mid new : ℕ → List ℕ) (released : HasReleased start total (extent_blocks es) old mid)

@@ -10,7 +10,7 @@ use Rattle.hfs_btree.specs.declared.fault.NodeFault.{NodeFault}
 use Rattle.hfs_btree.specs.declared.header.Header.{Header}
 use Rattle.hfs_btree.specs.declared.key.Key.{Ghosts}
 use Rattle.hfs_fields.specs.Each.{Each}
-use Rattle.hfs_btree.specs.Tree.{Store, Spot, node_in, records_in, records_of, children, first_of, level_below, kind_at}
+use Rattle.hfs_btree.specs.Tree.{Store, node_in, records_in, records_of, children, first_of, level_below, kind_at}
 use Rattle.hfs_btree.specs.Header.{header_in, depth_of, root_level}
 use Rattle.hfs_btree.specs.Sound.{IsRight, HasStructure}
 use Rattle.hfs_fields.proofs.PartLemmas.{flat_map-same}
@@ -24,6 +24,7 @@ use Rattle.hfs_btree_edits.proofs.ReplacedLemmas.{each-set}
 use Rattle.hfs_btree_insertion.proofs.Steps.{frame-then}
 use Rattle.hfs_record_edits.specs.Edge.{edge, IsFirstSet, HasSetFirst, HasSetEdge}
 use Rattle.hfs_record_edits.proofs.EdgeLemmas.{edge-root, edge-right, edge-some, edge-entries, edge-among, edge-apart, edge-next}
+use Rattle.hfs_btree_removal.proofs.Ends.{same-value}
 
 -- nothing was set
 pub edge-none : {K : Type 0} (g : Ghosts K) (key : K) (old : Store) (above : ℕ) → HasStructure g old → depth_of old ≤ above + 1 → HasSetEdge g key above old old
@@ -39,9 +40,6 @@ edge-none g key old above structure le = record {
   others = λ n apart. refl;
   bytes = λ n other. refl;
 }
-
-same-value : (u w : Node) (r : Result Node NodeFault) → r ≡ Ok u → r ≡ Ok w → u ≡ w
-same-value u w r a b = cc
 
 module _ {K : Type 0} (g : Ghosts K) (key : K) (above : ℕ) (old mid : Store) (a : HasSetEdge g key above old mid) where
   pub set-depth : depth_of mid ≡ depth_of old

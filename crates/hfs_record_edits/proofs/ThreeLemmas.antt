@@ -3,8 +3,6 @@ use Rattle.std.proofs.Common.{◌≡◌, ℕ, zero, suc, ◌+◌, ◌*◌, ◌<�
 use Rattle.std.proofs.lemmas.Bool.{le-leb}
 use Rattle.std.proofs.lemmas.List.{drop_more, length-append, length-drop, take-take, get_or-drop}
 use Rattle.std.proofs.lemmas.List.Sums.{sum_by-cons, sum_by-append, sum_by-take-drop, sum_by-take-le, sum_by_more}
-use Rattle.std.proofs.lemmas.List.FromFn.{length-range_with_len}
-use Rattle.std.specs.List.{range_with_len}
 use Rattle.hfs_fields.specs.declared.extent.Extent.{Extent}
 use Rattle.hfs_fields.specs.Mdb.{extents_at}
 use Rattle.hfs_fields.specs.RecordForms.{extents_bytes}
@@ -12,6 +10,7 @@ use Rattle.hfs_fields.proofs.RecordFormLemmas.{length-extents_bytes}
 use Rattle.hfs_space.specs.Extents.{block_total, extent_blocks, record_extents}
 use Rattle.hfs_record_edits.specs.Lengthened.{none}
 use Rattle.hfs_record_edits.specs.Threes.{AreThrees, AreLeft}
+use Rattle.hfs_space.proofs.Owned.{length-blocks}
 
 -- ---- blocks
 
@@ -26,15 +25,6 @@ total-parts es i = sum_by-take-drop (λ (x : Extent). x.count) es i
 
 pub total-front : (es : List Extent) (i : ℕ) → block_total (take i es) ≤ block_total es
 total-front es i = sum_by-take-le (λ (x : Extent). x.count) es i
-
-pub length-blocks : (es : List Extent) → length (extent_blocks es) ≡ block_total es
-length-blocks [] = refl
-length-blocks (e ∷ es) =
-    let parts = length-append (range_with_len e.first e.count) (extent_blocks es) in
-    let here = length-range_with_len e.first e.count in
-    let rest = length-blocks es in
-    let sums = total-cons e es in
-    omega (arith, parts, here, rest, sums)
 
 -- extents without blocks
 pub none-blocks : (es : List Extent) → block_total es ≡ 0 → extent_blocks es ≡ []

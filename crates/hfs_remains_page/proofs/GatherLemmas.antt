@@ -1,5 +1,5 @@
 -- What is written of rows while they come.
-use Rattle.std.proofs.Common.{◌≡◌, ◌∙◌, ℕ, suc, ◌+◌, ◌<◌, ◌≤◌, List, [], ◌∷◌, ◌++◌, length, drop, get_or, Option, Result, Ok, Err, OnOk, OnErr, append_assoc, append-nil, refl, sym, ap, subst, arith}
+use Rattle.std.proofs.Common.{◌≡◌, ◌∙◌, ℕ, suc, ◌+◌, ◌<◌, ◌≤◌, List, [], ◌∷◌, ◌++◌, length, drop, get_or, Option, append_assoc, append-nil, sym, ap, subst, arith}
 use Rattle.std.proofs.lemmas.List.{drop_all, drop_more}
 use Rattle.std.proofs.KnownBytes.{Appends-nil, Appends-trans}
 use Rattle.std.specs.Borrow.{Bor}
@@ -11,6 +11,7 @@ use Rattle.hfs_texts.specs.Writing.{AppendsFront}
 use Rattle.hfs_remains_page.specs.declared.steps.Step.{Step}
 use Rattle.hfs_remains_page.specs.Gathers.{Gathers}
 use Rattle.hfs_remains_page.specs.Rows.{open_behind, row_text, rows_text}
+use Rattle.hfs_rescue_items.proofs.GatherLemmas.{IsBegun}
 
 -- ---- a row is gathered
 
@@ -21,17 +22,7 @@ pub row_out : (row old text new : List ℕ) (now later : Option (List ℕ)) → 
 row_out row old text new now later is written none =
     record { out = text; written = written; rest = ap (λ (rest : List ℕ). text ++ rest) none ∙ append-nil text ∙ is }
 
--- nothing went out
-pub nothing_out : (now : Option (List ℕ)) (text : List ℕ) → AppendsFront now now text
-nothing_out now text = (0, Appends-nil now)
-
 -- ---- all rows
-
--- these bytes went out; the text that is gathered and what is still to come make the rest
-pub record IsBegun (start now : Option (List ℕ)) (text left whole : List ℕ) : Type 0 where
-  pub out : List ℕ
-  pub written : Appends start now out
-  pub rest : whole ≡ out ++ (text ++ left)
 
 pub begins : (start : Option (List ℕ)) (text left : List ℕ) → text ≡ [] → IsBegun start start text left left
 begins start text left none = record { out = []; written = Appends-nil start; rest = ap (λ (l : List ℕ). l ++ left) (sym none) }
@@ -91,15 +82,3 @@ module _ (base : Option (Bor (List ℕ))) (found : Found) (steps : List Step) (s
       subst (AppendsFront start later) (sym (all-rest i opened now text end begun)) (front_next start now later begun.out (text ++ closings opened) begun.written part)
 
 -- ---- what holds of a result
-
-pub on_ok_then : {T E : Type 0} (r : Result T E) (P Q : Type 0) → (P → Q) → OnOk r P → OnOk r Q
-on_ok_then (Ok x) P Q f p = f p
-on_ok_then (Err e) P Q f p = tt
-
-pub on_err_then : {T E : Type 0} (r : Result T E) (P Q : Type 0) → (P → Q) → OnErr r P → OnErr r Q
-on_err_then (Ok x) P Q f p = tt
-on_err_then (Err e) P Q f p = f p
-
-pub on_err : {T E : Type 0} (r : Result T E) (P : Type 0) → P → OnErr r P
-on_err (Ok x) P p = tt
-on_err (Err e) P p = p

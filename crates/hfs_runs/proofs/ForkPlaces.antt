@@ -1,13 +1,12 @@
 -- Where the forks of files lie, as more of them come.
-use Rattle.std.proofs.Common.{◌≡◌, ◌⊎◌, inl, inr, ⊎_elim, ℕ, Bool, true, false, cond, List, [], ◌∷◌, ◌++◌, Some, None, is_some, Result, Ok, Err, IfOk, refl, sym, ap, subst, ◌∙◌, true≢false, length, arith, eqb, take, get_or, suc, ◌+◌, ◌<◌, ◌≤◌}
+use Rattle.std.proofs.Common.{◌≡◌, ◌⊎◌, inl, inr, ⊎_elim, ℕ, Bool, true, false, cond, List, [], ◌∷◌, ◌++◌, Some, None, is_some, Result, Ok, Err, IfOk, refl, sym, ap, subst, ◌∙◌, true≢false, length, arith, take, get_or, suc, ◌+◌, ◌<◌, ◌≤◌}
 use Rattle.std.specs.Prelude.{nat_eq, ◌||◌}
-use Rattle.std.specs.List.{flat_map}
 use Rattle.std.specs.Map.{lookup}
-use Rattle.std.proofs.lemmas.Bool.{and_parts, eqb-true}
+use Rattle.std.proofs.lemmas.Bool.{eqb-true}
 use Rattle.std.proofs.lemmas.Grind.{flat_map-append}
 use Rattle.std.proofs.Math.Seq.{take-suc}
 use Rattle.hfs_fields.specs.declared.file_record.FileRecord.{FileRecord}
-use Rattle.hfs_fields.specs.Records.{is_dir, is_file, is_item, item_id, type_byte, dir_record_of, file_record_of}
+use Rattle.hfs_fields.specs.Records.{is_file, is_item, item_id, dir_record_of, file_record_of}
 use Rattle.hfs_fields.specs.Members.{In}
 use Rattle.hfs_fields.proofs.MemberLemmas.{in-left, in-right}
 use Rattle.hfs_fields.proofs.ElementLemmas.{each-append, each-mono}
@@ -26,6 +25,7 @@ use Rattle.hfs_scripts.specs.declared.lines.ScriptLine.{ScriptLine}
 use Rattle.hfs_model.specs.Named.{named_by}
 use Rattle.hfs_copy.specs.Keeping.{GainsRuns, LieIn}
 use Rattle.hfs_runs.specs.NamedForks.{AreAmong, GainForks, HasMet, HaveMet, HaveNamedForks, IsFileOf, OfNamed, blocks_of_runs, file_blocks}
+use Rattle.hfs_catalog.proofs.FileRecords.{not-dir}
 
 -- ---- members
 
@@ -102,13 +102,6 @@ file-is catalog dir name (Err reply) is = tt
 
 -- ---- with distinct IDs
 
-pub not-dir : (body : List ℕ) → is_file body ≡ true → is_dir body ≡ false
-not-dir body file = elim (is_dir body) as (λ (b : Bool). is_dir body ≡ b → b ≡ false) [
-  | true ↦ λ e.
-      let one : length body ≡ 70 = eqb-true (length body) 70 (and_parts (eqb (type_byte body) 1) (eqb (length body) 70) e).1 in
-      let two : length body ≡ 102 = eqb-true (length body) 102 (and_parts (eqb (type_byte body) 2) (eqb (length body) 102) file).1 in
-      absurd (omega (arith, one, two))
-  | false ↦ λ e. refl
 ] refl
 
 pub item-id : (body : List ℕ) → is_file body ≡ true → item_id body ≡ (file_record_of body).id

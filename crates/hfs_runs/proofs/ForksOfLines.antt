@@ -1,15 +1,11 @@
 -- The forks of the files that lines name, where they were read, are those of each image that has what was read.
-use Rattle.std.proofs.Common.{◌≡◌, ◌≢◌, inl, inr, ⊎_elim, ℕ, zero, suc, ◌+◌, ◌-◌, ◌*◌, ◌/◌, ◌<◌, ◌≤◌, Bool, true, false, cond, not, List, [], ◌∷◌, ◌++◌, length, take, map, Option, Some, None, IsSome, Result, Ok, Err, unwrap_or, eqb, leb, refl, sym, ap, subst, ◌∙◌, arith, true≢false}
+use Rattle.std.proofs.Common.{◌≡◌, ◌≢◌, inl, inr, ⊎_elim, ℕ, ◌+◌, ◌-◌, ◌/◌, ◌<◌, Bool, true, false, cond, not, List, [], ◌∷◌, ◌++◌, length, Option, Some, None, Result, Ok, Err, unwrap_or, eqb, leb, refl, sym, ap, subst, ◌∙◌, arith, true≢false}
 use Rattle.std.specs.Prelude.{IfOk, ◌&&◌, ◌||◌, ◌==◌}
 use Rattle.std.specs.FinMap as fin
 use Rattle.std.specs.List.{list_any}
 use Rattle.std.specs.Option.{option_map, option_map_or}
 use Rattle.std.proofs.lemmas.Bool.{and_from, and_parts, or_cases, or_left, or_right, eqb-true, eq-eqb, le-leb, leb-true}
-use Rattle.std.proofs.lemmas.Bool.Decides.{leb_tells}
-use Rattle.std.proofs.lemmas.List.{take-append-le, take_at, drop_at}
-use Rattle.std.proofs.Math.Seq.{take-add}
 use Rattle.hfs_fields.specs.declared.file_record.FileRecord.{FileRecord}
-use Rattle.hfs_fields.specs.declared.file_record.ForkRecord.{ForkRecord}
 use Rattle.hfs_fields.specs.declared.mdb.Mdb.{Mdb}
 use Rattle.hfs_fields.specs.Names.{is_item_name}
 use Rattle.hfs_fields.specs.Order.{same_name}
@@ -17,16 +13,15 @@ use Rattle.hfs_fields.specs.Records.{is_dir, is_file, is_item, item_id, dir_reco
 use Rattle.hfs_fields.specs.Each.{Each}
 use Rattle.hfs_fields.specs.Members.{In}
 use Rattle.hfs_fields.proofs.ElementLemmas.{each-left, each-right}
-use Rattle.hfs_fields.proofs.MemberLemmas.{each_in}
+use Rattle.hfs_fields.proofs.MemberLemmas.{each_in, any-in}
 use Rattle.hfs_model.specs.declared.call.Call.{Call}
 use Rattle.hfs_model.specs.declared.item.Item.{Item}
 use Rattle.hfs_model.specs.declared.reply.Reply.{Reply}
 use Rattle.hfs_model.specs.declared.codes.TheConstants.{BAD_NAME, NOT_FOUND, NOT_A_FOLDER}
 use Rattle.hfs_model.specs.Replies.{refusal}
 use Rattle.hfs_model.specs.Volume.{Volume}
-use Rattle.hfs_blocks.specs.Blocks.{block_at, block_count, nodes_in, length-block_at}
-use Rattle.hfs_blocks.specs.Layers.{Numbered, changes}
-use Rattle.hfs_space.specs.declared.fork_kind.ForkKind.{ForkKind}
+use Rattle.hfs_blocks.specs.Blocks.{block_at, block_count}
+use Rattle.hfs_blocks.specs.Layers.{Numbered}
 use Rattle.hfs_space.specs.declared.fork_kind.ForkKind.TheVariants.{Data, Resource}
 use Rattle.hfs_space.specs.Extents.{Overflow, fork_extents, fork_byte}
 use Rattle.hfs_space.specs.ForkLaws.{block_numbers}
@@ -42,7 +37,7 @@ use Rattle.hfs_catalog.proofs.NameOrder.{found_by_id}
 use Rattle.hfs_check.specs.declared.trees.VolumeTrees.{VolumeTrees}
 use Rattle.hfs_check.specs.Parts.{Blocks, mdb_in, overflow_in, catalog_in}
 use Rattle.hfs_check.specs.Sound.{IsImageLength}
-use Rattle.hfs_check.specs.VolumeOf.{bytes_in, contents_in, volume_in, volume_of}
+use Rattle.hfs_check.specs.VolumeOf.{contents_in, volume_in, volume_of}
 use Rattle.hfs_check.proofs.LawsProved.{catalog_is_sound}
 use Rattle.hfs_image.specs.Needed.{AgreeOn}
 use Rattle.hfs_items.specs.Told.{is_folder, only_file, file_named}
@@ -63,7 +58,8 @@ use Rattle.hfs_scripts.specs.declared.lines.ScriptLine.{ScriptLine}
 use Rattle.hfs_runs.specs.NamedForks.{HasNamedForks, OfNamed, file_blocks, fork_blocks}
 use Rattle.hfs_runs.specs.Naming.{line_calls}
 use Rattle.hfs_runs.specs.OnImage.{NamedForksAreTheImages, ShareForks}
-use Rattle.hfs_runs.proofs.ForkPlaces.{not-dir, item-is}
+use Rattle.hfs_runs.proofs.ForkPlaces.{item-is}
+use Rattle.hfs_catalog.proofs.FileRecords.{not-dir}
 use Rattle.hfs_runs.proofs.SameNames.{name-kept}
 
 -- ---- the file of a name
@@ -108,13 +104,6 @@ names item c = option_map_or (λ (place : ℕ × List ℕ). eqb item.parent plac
 -- whether one of the calls names the item of that ID, or it is still to be made
 abbrev pub keeps : List Call → Volume → ℕ → Bool
 keeps calls v id = leb v.next_id id || option_map_or (λ (item : Item). list_any (names item) calls) (fin.get v.items id) false
-
-any-in : {A : Type 0} (p : A → Bool) (xs : List A) (x : A) → In x xs → p x ≡ true → list_any p xs ≡ true
-any-in p [] x i e = absurd i
-any-in p (y ∷ ys) x i e = ⊎_elim
-    (λ (same : y ≡ x). or_left (p y) (list_any p ys) (ap p same ∙ e))
-    (λ (there : In x ys). or_right (p y) (list_any p ys) (any-in p ys x there e))
-    i
 
 any-found : {A : Type 0} (p : A → Bool) (xs : List A) → list_any p xs ≡ true → (x : A) × In x xs × (p x ≡ true)
 any-found p [] e = absurd (true≢false (sym e))

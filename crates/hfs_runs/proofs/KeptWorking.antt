@@ -1,66 +1,36 @@
 -- What goes out of a run over a copy, laid over the image.
-use Rattle.std.proofs.Common.{◌≡◌, ◌≢◌, ◌⊎◌, inl, inr, ⊎_elim, ℕ, zero, suc, ◌+◌, ◌/◌, ◌<◌, ◌≤◌, Bool, true, false, List, [], ◌∷◌, ◌++◌, drop, length, take, Option, Some, None, IsSome, is_some, unwrap_or, refl, sym, ap, subst, ◌∙◌, arith, true≢false}
-use Rattle.std.proofs.lemmas.Bool.{cases_eq}
+use Rattle.std.proofs.Common.{◌≡◌, ◌≢◌, ◌⊎◌, inl, inr, ⊎_elim, ℕ, ◌+◌, ◌/◌, ◌<◌, Bool, true, List, [], ◌∷◌, ◌++◌, length, Option, Some, None, IsSome, is_some, unwrap_or, refl, sym, ap, subst, ◌∙◌}
 use Rattle.hfs_fields.specs.declared.mdb.Mdb.{Mdb}
 use Rattle.hfs_fields.specs.Records.{is_file, item_id, file_record_of}
 use Rattle.hfs_fields.specs.Each.{Each}
 use Rattle.hfs_fields.specs.Members.{In}
-use Rattle.hfs_fields.proofs.ElementLemmas.{each-append, each-left, each-mono, each-right}
+use Rattle.hfs_fields.proofs.ElementLemmas.{each-append, each-left, each-right}
 use Rattle.hfs_fields.proofs.MemberLemmas.{each_in}
 use Rattle.hfs_blocks.specs.Blocks.{block_at, block_count, length-block_at}
 use Rattle.hfs_blocks.specs.Layers.{Numbered, changes, AreWithin}
-use Rattle.hfs_btree.specs.Header.{header_in}
 use Rattle.hfs_btree.specs.Sound.{IsOther}
-use Rattle.hfs_space.specs.ForkLaws.{block_numbers}
-use Rattle.hfs_space.specs.TreeFiles.{node_count, tree_blocks}
 use Rattle.hfs_catalog.specs.Records.{Record, Catalog}
 use Rattle.hfs_check.specs.declared.trees.VolumeTrees.{VolumeTrees}
-use Rattle.hfs_check.specs.Agree.{AgreesBut, IsBesideAll, bitmap_blocks, node_blocks, changing_blocks}
-use Rattle.hfs_check.specs.Parts.{Blocks, mdb_in, overflow_in, catalog_in, catalog_blocks, catalog_extents, catalog_nodes, extents_blocks, extents_nodes}
-use Rattle.hfs_check.specs.Sound.{AreBlocksSound, IsSound, IsImageLength}
+use Rattle.hfs_check.specs.Agree.{AgreesBut, IsBesideAll, changing_blocks}
+use Rattle.hfs_check.specs.Parts.{Blocks, catalog_in}
+use Rattle.hfs_check.specs.Sound.{IsSound, IsImageLength}
 use Rattle.hfs_check.specs.VolumeOf.{volume_of}
 use Rattle.hfs_image.specs.Needed.{AgreeOn}
-use Rattle.hfs_source.specs.Sparse.{sparse, zero_block, IsOf}
+use Rattle.hfs_source.specs.Sparse.{zero_block, IsOf}
 use Rattle.hfs_volume.specs.Image.{patched, copy_of}
 use Rattle.hfs_volume.proofs.CopyLemmas.{block-copy, length-copy}
 use Rattle.hfs_model.specs.Alike.{AreAlike}
 use Rattle.hfs_copy.specs.Opened.{IsWorking}
-use Rattle.hfs_copy.specs.Working.{working_blocks, AreChangesBut, CarriesOverBut, HasForksOf, IsWorkingCopy, SameForks}
+use Rattle.hfs_copy.specs.Working.{AreChangesBut, CarriesOverBut, HasForksOf, IsWorkingCopy, SameForks}
 use Rattle.hfs_copy.proofs.LawsProved.{kept_forks_are_alike}
 use Rattle.hfs_copy.proofs.Carried as carried
 use Rattle.hfs_copy.proofs.Copies.{is-copy, each-image}
-use Rattle.hfs_copy.proofs.Kept.{each-take}
 use Rattle.hfs_copy.specs.Keeping.{AreKept}
 use Rattle.hfs_runs.specs.NamedForks.{AreAmong, file_blocks}
 use Rattle.hfs_runs.proofs.ForksOfLines.{same-forks}
+use Rattle.hfs_copy.proofs.ChangingBlocks.{changing-each, among-or-other}
 
 -- ---- which blocks calls change
-
--- what holds of each working block holds of each block that calls change
-changing-each : (P : ℕ → Type 0) (total : ℕ) (blocks : Blocks) → AreBlocksSound total blocks → Each P (working_blocks total blocks) → Each P (changing_blocks blocks)
-unfolding working_blocks changing_blocks extents_blocks catalog_blocks tree_blocks
-changing-each P total blocks sound has =
-    let mdb = mdb_in blocks in
-    let extents = take (node_count mdb.extents_file_size) (block_numbers mdb mdb.extents_file) in
-    let catalog = take (node_count mdb.catalog_file_size) (block_numbers mdb (catalog_extents blocks)) in
-    let trees = each-right P (bitmap_blocks mdb) (extents ++ catalog) has.1.1 in
-    let first = each-take P (header_in (extents_nodes blocks)).nodes (node_count mdb.extents_file_size) (block_numbers mdb mdb.extents_file)
-    (omega (arith, sound.extents.shape.within)) (each-left P extents catalog trees) in
-    let second = each-take P (header_in (catalog_nodes blocks)).nodes (node_count mdb.catalog_file_size) (block_numbers mdb (catalog_extents blocks))
-    (omega (arith, sound.catalog.shape.within)) (each-right P extents catalog trees) in (
-      has.0,
-      each-append P (bitmap_blocks mdb ++ node_blocks mdb mdb.extents_file (extents_nodes blocks)) (node_blocks mdb (catalog_extents blocks) (catalog_nodes blocks))
-          (each-append P (bitmap_blocks mdb) (node_blocks mdb mdb.extents_file (extents_nodes blocks))
-          (each-left P (bitmap_blocks mdb) (extents ++ catalog) has.1.1) first) second,
-    )
-
--- a number is among these, or another than each
-among-or-other : (n : ℕ) (ns : List ℕ) → In n ns ⊎ Each (IsOther n) ns
-among-or-other n [] = inr tt
-among-or-other n (m ∷ ns) = ⊎_elim
-    (λ (same : m ≡ n). inl (inl same))
-    (λ (other : m ≡ n → ⊥). ⊎_elim (λ (there : In n ns). inl (inr there)) (λ (others : Each (IsOther n) ns). inr (other, others)) (among-or-other n ns))
-    (cases_eq m n)
 
 -- none of these is this number
 not-in : (n : ℕ) (ns : List ℕ) → Each (IsOther n) ns → In n ns → ⊥

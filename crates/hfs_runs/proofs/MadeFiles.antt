@@ -1,6 +1,6 @@
 -- The files that lines name in a volume.
-use Rattle.std.proofs.Common.{◌≡◌, ◌≢◌, ◌⊎◌, inl, inr, ⊎_elim, ℕ, ◌+◌, ◌<◌, ◌≤◌, Bool, true, false, cond, not, List, [], ◌∷◌, ◌++◌, length, take, get_or, Option, Some, None, IsSome, is_some, leb, refl, sym, ap, subst, ◌∙◌, arith, true≢false, suc}
-use Rattle.std.specs.Prelude.{IfSome, ◌&&◌, ◌==◌, nat_eq}
+use Rattle.std.proofs.Common.{◌≡◌, ◌≢◌, ◌⊎◌, inl, inr, ⊎_elim, ℕ, ◌+◌, ◌<◌, ◌≤◌, Bool, true, false, cond, not, List, [], ◌∷◌, ◌++◌, length, take, get_or, Option, Some, None, is_some, leb, refl, sym, ap, subst, ◌∙◌, arith, true≢false, suc}
+use Rattle.std.specs.Prelude.{IfSome, ◌==◌, nat_eq}
 use Rattle.std.specs.FinMap as fin
 use Rattle.std.specs.List.{list_any}
 use Rattle.std.specs.Map.{lookup}
@@ -10,22 +10,18 @@ use Rattle.std.proofs.lemmas.Bool.Decides.{leb_tells}
 use Rattle.std.proofs.Math.Seq.{take-suc}
 use Rattle.hfs_fields.specs.Names.{is_item_name}
 use Rattle.hfs_fields.specs.Order.{same_name}
-use Rattle.hfs_fields.specs.Records.{is_dir, is_item, item_id, dir_record_of, file_record_of}
-use Rattle.hfs_fields.specs.Each.{Each}
+use Rattle.hfs_fields.specs.Records.{is_item, item_id}
 use Rattle.hfs_fields.specs.Members.{In}
 use Rattle.hfs_fields.proofs.ElementLemmas.{each-append, each-mono}
 use Rattle.hfs_fields.proofs.MemberLemmas.{each_in, found_in}
 use Rattle.hfs_model.specs.declared.call.Call.{Call}
 use Rattle.hfs_model.specs.declared.codes.TheConstants.{BAD_NAME, NOT_FOUND, NOT_A_FOLDER}
 use Rattle.hfs_model.specs.declared.item.Item.{Item}
-use Rattle.hfs_model.specs.declared.reply.Reply.{Reply}
 use Rattle.hfs_model.specs.Replies.{refusal}
-use Rattle.hfs_model.specs.Volume.{Volume}
 use Rattle.hfs_blocks.specs.Blocks.{block_at, block_count}
-use Rattle.hfs_catalog.specs.declared.item.ItemRecord.TheVariants.{Folder, File}
 use Rattle.hfs_catalog.specs.Items.{Contents, item_of}
-use Rattle.hfs_catalog.specs.Lookups.{catalog_item, child_named, is_child_named, record_of}
-use Rattle.hfs_catalog.specs.Records.{Record, Catalog, has_id, has_thread, is_child_of, item_with}
+use Rattle.hfs_catalog.specs.Lookups.{child_named, is_child_named}
+use Rattle.hfs_catalog.specs.Records.{Record, Catalog, has_id, is_child_of, item_with}
 use Rattle.hfs_catalog.specs.Sound.{IsSoundCatalog, IsRoot, IsGiven}
 use Rattle.hfs_catalog.proofs.DistinctLemmas.{later_from_distinct}
 use Rattle.hfs_catalog.proofs.Found.{only}
@@ -35,7 +31,7 @@ use Rattle.hfs_check.specs.Parts.{mdb_in, catalog_in}
 use Rattle.hfs_check.specs.Sound.{IsSound}
 use Rattle.hfs_check.specs.VolumeOf.{contents_in, volume_in, volume_of}
 use Rattle.hfs_check.proofs.LawsProved.{catalog_is_sound}
-use Rattle.hfs_items.specs.Told.{body_info, cat_info, file_info, folder_info, is_folder, item_info, one, told}
+use Rattle.hfs_items.specs.Told.{is_folder, one, told}
 use Rattle.hfs_items.proofs.Holders.{is_folder-holder}
 use Rattle.hfs_model.specs.Named.{named_by}
 use Rattle.hfs_scripts.specs.declared.lines.ScriptLine.{ScriptLine}
@@ -44,17 +40,9 @@ use Rattle.hfs_runs.specs.declared.made_files.ScriptFiles.{ScriptFiles}
 use Rattle.hfs_runs.specs.Naming.{line_calls}
 use Rattle.hfs_runs.proofs.ForksOfLines.{IsNamedBy, item-place, keeps, keeps-found, keeps-named, names}
 use Rattle.hfs_runs.proofs.SameNames.{name-kept}
+use Rattle.hfs_items.proofs.ToldLemmas.{told-id}
 
 -- ---- an item is told of by each name that is its own
-
-told-id : (catalog : Catalog) (r : Record) → (told catalog r).id ≡ item_id r.1
-unfolding catalog_item folder_info file_info
-told-id catalog r =
-    elim (is_dir r.1)
-    as (λ (b : Bool). (body_info catalog r.0 (cond b (Folder (dir_record_of r.1)) (File (file_record_of r.1)))).id ≡ cond b (dir_record_of r.1).id (file_record_of r.1).id) [
-      | true ↦ refl
-      | false ↦ refl
-    ]
 
 module _ (next : ℕ) (catalog : Catalog) (sound : IsSoundCatalog next catalog) where
   found-id : (r : Record) (dir : ℕ) (name : List ℕ) → In r catalog → is_item r.1 ≡ true → 16 ≤ item_id r.1 → r.0.parent ≡ dir → same_name r.0.name name ≡ true

@@ -1,15 +1,13 @@
 -- The forks that files have after a run.
-use Rattle.std.proofs.Common.{◌≡◌, inl, inr, ⊎_elim, ℕ, zero, suc, ◌+◌, ◌<◌, ◌≤◌, Bool, true, false, cond, List, [], ◌∷◌, ◌++◌, length, map, take, get_or, Option, Some, None, refl, sym, ap, subst, ◌∙◌, arith, true≢false}
+use Rattle.std.proofs.Common.{◌≡◌, ⊎_elim, ℕ, zero, suc, ◌+◌, ◌<◌, ◌≤◌, Bool, true, false, cond, List, [], ◌∷◌, ◌++◌, length, map, take, get_or, Some, None, refl, sym, ap, subst, ◌∙◌, arith, true≢false}
 use Rattle.std.specs.List.{flat_map}
 use Rattle.std.proofs.lemmas.Grind.{flat_map-append}
 use Rattle.std.proofs.lemmas.List.Concat.{flat_map-cons}
 use Rattle.std.proofs.Math.Seq.{take-suc}
-use Rattle.std.proofs.lemmas.Bool.{or_cases}
 use Rattle.hfs_fields.specs.declared.file_record.FileRecord.{FileRecord}
 use Rattle.hfs_fields.specs.declared.extent.Extent.{Extent}
 use Rattle.hfs_fields.specs.declared.mdb.Mdb.{Mdb}
 use Rattle.hfs_fields.specs.declared.dir_record.DirRecord.{DirRecord}
-use Rattle.hfs_fields.specs.declared.key.CatKey.{CatKey}
 use Rattle.hfs_fields.specs.Records.{is_dir, is_file, is_item, item_id, dir_record_of, file_record_of}
 use Rattle.hfs_model.specs.declared.call.Fork.{Fork as ModelFork}
 use Rattle.hfs_model.specs.declared.call.Fork.TheVariants.{DataFork, ResFork}
@@ -21,7 +19,7 @@ use Rattle.hfs_blocks.specs.declared.run.Run.{Run}
 use Rattle.hfs_blocks.specs.Blocks.{block_count, run_of}
 use Rattle.hfs_catalog.specs.declared.item.CatalogItem.{CatalogItem}
 use Rattle.hfs_catalog.specs.declared.item.ItemRecord.TheVariants.{Folder, File}
-use Rattle.hfs_catalog.specs.Lookups.{catalog_item, record_of}
+use Rattle.hfs_catalog.specs.Lookups.{record_of}
 use Rattle.hfs_catalog.specs.Records.{Record, Catalog}
 use Rattle.hfs_catalog.specs.Sound.{IsGiven, IsRoot}
 use Rattle.hfs_check.specs.Parts.{Blocks, mdb_in, overflow_in, catalog_in}
@@ -30,12 +28,13 @@ use Rattle.hfs_image.specs.Forks.{AreForksIn}
 use Rattle.hfs_space.specs.declared.fork_kind.ForkKind.TheVariants.{Data, Resource}
 use Rattle.hfs_space.specs.Extents.{AreExtentsWithin}
 use Rattle.hfs_space.specs.Forks.{HasArea, run_in}
-use Rattle.hfs_space.specs.Owners.{Fork, forks_of, forks_of_file}
+use Rattle.hfs_space.specs.Owners.{Fork, forks_of_file}
 use Rattle.hfs_space.specs.Sound.{IsForkSound}
 use Rattle.hfs_volume.specs.Sharing.{file_extents}
 use Rattle.hfs_copy.specs.Keeping.{GainsExtents, GainsRuns, LieIn}
 use Rattle.hfs_runs.specs.NamedForks.{AreAmong, AreForksOf, GainsForksOf, HasForksOf, IsForkBlock, IsForkBlockOf, file_blocks, fork_blocks}
-use Rattle.hfs_runs.proofs.ForkPlaces.{among-itself, among-left, among-right, item-is, not-dir}
+use Rattle.hfs_runs.proofs.ForkPlaces.{among-itself, among-left, among-right, item-is}
+use Rattle.hfs_catalog.proofs.FileRecords.{not-dir}
 
 -- ---- runs that came
 
@@ -145,11 +144,6 @@ forks-next blocks Kept total records i r old new lt there before came = record {
     one-more : (n : ℕ) → suc n ≡ n + 1
     one-more n = omega arith
 
-pub in-at : {A : Type 0} (xs : List A) (k : ℕ) (d : A) → k < length xs → In (get_or xs k d) xs
-in-at [] k d lt = absurd (omega (arith, lt))
-in-at (x ∷ xs) zero d lt = inl refl
-in-at (x ∷ xs) (suc k) d lt = inr (in-at xs k d (omega (arith, lt)))
-
 pub take-all : {A : Type 0} (xs : List A) (n : ℕ) → length xs ≤ n → take n xs ≡ xs
 take-all [] zero le = refl
 take-all [] (suc n) le = refl
@@ -193,31 +187,6 @@ area-few mdb image len area = omega (arith, area, few-count image len)
 pub no-item : (r : Record) → is_item r.1 ≡ false → is_file r.1 ≡ true → ⊥
 no-item r none file = true≢false (sym (item-is r.1 file) ∙ none)
 
-pub some-item : (r : Record) (key : CatKey) (body : List ℕ) (item : CatalogItem) → key ≡ r.0 → body ≡ r.1
-    → Some item ≡ cond (is_item body) (Some (catalog_item (key, body))) None → item.body ≡ record_of r.1
-unfolding catalog_item
-some-item r key body item same_key same_body found = by (is_item body) found
-  where
-    by : (b : Bool) → Some item ≡ cond b (Some (catalog_item (key, body))) None → item.body ≡ record_of r.1
-    by true e = ap (λ (i : CatalogItem). i.body) (same item (catalog_item (key, body)) e) ∙ ap record_of same_body
-      where
-        same : (x y : CatalogItem) → Some x ≡ Some y → x ≡ y
-        same x y e = cc
-    by false e = absurd (none-some item (sym e))
-      where
-        none-some : (x : CatalogItem) → None ≡ Some x → ⊥
-        none-some x e = cc
-
-some-is : (body : List ℕ) (item other : CatalogItem) → Some item ≡ cond (is_item body) (Some other) None → is_item body ≡ true
-some-is body item other found = by (is_item body) found
-  where
-    none-some : (x : CatalogItem) → None ≡ Some x → ⊥
-    none-some x e = cc
-
-    by : (b : Bool) → Some item ≡ cond b (Some other) None → b ≡ true
-    by true e = refl
-    by false e = absurd (none-some item (sym e))
-
 pub none-is : (body : List ℕ) (other : CatalogItem) → None ≡ cond (is_item body) (Some other) None → is_item body ≡ false
 none-is body other found = by (is_item body) found
   where
@@ -228,19 +197,6 @@ none-is body other found = by (is_item body) found
     by true e = absurd (none-some other e)
     by false e = refl
 
-is-file-record : (r : Record) (file : FileRecord) → File file ≡ record_of r.1 → is_item r.1 ≡ true → (is_file r.1 ≡ true) × (file ≡ file_record_of r.1)
-is-file-record r file e item = by (is_dir r.1) refl e
-  where
-    by : (b : Bool) → is_dir r.1 ≡ b → File file ≡ cond b (Folder (dir_record_of r.1)) (File (file_record_of r.1)) → (is_file r.1 ≡ true) × (file ≡ file_record_of r.1)
-    by true d e = absurd (folder-file e)
-      where
-        folder-file : File file ≡ Folder (dir_record_of r.1) → ⊥
-        folder-file e = cc
-    by false d e = (⊎_elim (λ (dir : is_dir r.1 ≡ true). absurd (true≢false (sym dir ∙ d))) (λ f. f) (or_cases (is_dir r.1) (is_file r.1) item), same e)
-      where
-        same : File file ≡ File (file_record_of r.1) → file ≡ file_record_of r.1
-        same e = cc
-
 pub folder-no-file : (r : Record) (folder : DirRecord) → Folder folder ≡ record_of r.1 → is_file r.1 ≡ true → ⊥
 folder-no-file r folder e file = by (is_dir r.1) refl e
   where
@@ -250,9 +206,3 @@ folder-no-file r folder e file = by (is_dir r.1) refl e
       where
         folder-file : Folder folder ≡ File (file_record_of r.1) → ⊥
         folder-file e = cc
-
-pub entry-file : (r : Record) (key : CatKey) (body : List ℕ) (item : CatalogItem) (file : FileRecord) → key ≡ r.0 → body ≡ r.1
-    → Some item ≡ cond (is_item body) (Some (catalog_item (key, body))) None → item.body ≡ File file → (is_file r.1 ≡ true) × (file ≡ file_record_of r.1)
-entry-file r key body item file same_key same_body found is =
-    is-file-record r file (sym is ∙ some-item r key body item same_key same_body found)
-    (ap is_item (sym same_body) ∙ some-is body item (catalog_item (key, body)) found)

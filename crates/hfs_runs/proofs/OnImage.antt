@@ -31,7 +31,7 @@ use Rattle.hfs_shared.specs.Works.{IsWork}
 use Rattle.hfs_runs.specs.Naming.{line_calls, read_forks, uses_fork}
 use Rattle.hfs_runs.specs.OnImage.{AreOfWhereRead, IsForkReplyIn, IsLinesCopy, IsReplyIn, IsReplyOnImage, IsSomeReplyOnImage, SavedIsMade, WorkersReadTheImage}
 use Rattle.hfs_runs.proofs.Answered.{fork-outcome, other-outcome}
-use Rattle.hfs_runs.proofs.MadeForks.{in-at}
+use Rattle.hfs_fields.proofs.MemberLemmas.{in-at}
 
 -- ---- calls of lines
 

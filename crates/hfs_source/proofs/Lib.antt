@@ -13,6 +13,6 @@ pub mod Fillings
 pub mod Shorter
 mod Entries
 mod Counting
-mod SumLemmas
+pub mod SumLemmas
 mod RawLemmas
 mod Handed

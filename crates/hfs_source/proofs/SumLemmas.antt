@@ -30,7 +30,7 @@ pub sum-end : (sum : ℕ) (bytes : List ℕ) (n : ℕ) → length bytes < 2 * n 
 sum-end sum bytes n end = short-sum sum (drop (2 * n) bytes) (omega (arith, length-drop (2 * n) bytes, end))
 
 -- bytes behind words
-sum-append : (k sum : ℕ) (front back : List ℕ) → length front ≡ 2 * k → sum_from sum (front ++ back) ≡ sum_from (sum_from sum front) back
+pub sum-append : (k sum : ℕ) (front back : List ℕ) → length front ≡ 2 * k → sum_from sum (front ++ back) ≡ sum_from (sum_from sum front) back
 unfolding sum_from
 sum-append zero sum [] back e = refl
 sum-append zero sum (x ∷ front) back e = absurd (omega (arith, e))

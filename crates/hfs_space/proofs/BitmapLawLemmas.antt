@@ -8,11 +8,11 @@ use Rattle.hfs_space.proofs.CountingLemmas.{count_below-suc, count_below-same, c
 abbrev pub AreUsed : (ℕ → List ℕ) → ℕ → ℕ → ℕ → Type 0
 AreUsed blocks start first count = (n : ℕ) → first ≤ n → n < first + count → is_used blocks start n ≡ true
 
-every : (p : ℕ → Bool) (n : ℕ) → ((k : ℕ) → k < n → p k ≡ true) → count_below p n ≡ n
+pub every : (p : ℕ → Bool) (n : ℕ) → ((k : ℕ) → k < n → p k ≡ true) → count_below p n ≡ n
 every p zero h = refl
 every p (suc n) h = count_below-suc p n ∙ (λ i. every p n (λ k lt. h k (omega arith)) i + (if h n (omega arith) i then 1 else 0)) ∙ (let e : n + 1 ≡ suc n = omega arith in e)
 
-none : (p : ℕ → Bool) (n : ℕ) → ((k : ℕ) → k < n → p k ≡ false) → count_below p n ≡ 0
+pub none : (p : ℕ → Bool) (n : ℕ) → ((k : ℕ) → k < n → p k ≡ false) → count_below p n ≡ 0
 none p zero h = refl
 none p (suc n) h = count_below-suc p n ∙ (λ i. none p n (λ k lt. h k (omega arith)) i + (if h n (omega arith) i then 1 else 0)) ∙ (let e : 0 + 0 ≡ 0 = omega arith in e)
 

@@ -11,10 +11,10 @@ use Rattle.hfs_space.proofs.Counted.{clear_count-claimed}
 use Rattle.hfs_space.proofs.Owned.{sides, owners-outside, owners-inside, blocks-append, blocks-one, length-blocks}
 use Rattle.std.proofs.lemmas.List.Sums.{sum_by_push}
 
-blocks-more : (es : List Extent) (e : Extent) (b : ℕ) → owners (extent_blocks (es ++ e ∷ [])) b ≡ owners (extent_blocks es) b + owners (range_with_len e.first e.count) b
+pub blocks-more : (es : List Extent) (e : Extent) (b : ℕ) → owners (extent_blocks (es ++ e ∷ [])) b ≡ owners (extent_blocks es) b + owners (range_with_len e.first e.count) b
 blocks-more es e b = let all = blocks-append es (e ∷ []) b in let one = blocks-one e b in omega (arith, all, one)
 
-length-more : (es : List Extent) (e : Extent) → length (extent_blocks (es ++ e ∷ [])) ≡ length (extent_blocks es) + e.count
+pub length-more : (es : List Extent) (e : Extent) → length (extent_blocks (es ++ e ∷ [])) ≡ length (extent_blocks es) + e.count
 length-more es e =
     let all = length-blocks (es ++ e ∷ []) in
     let front = length-blocks es in

@@ -11,10 +11,10 @@ pub record IsClaiming (old new : ℕ → List ℕ) (start first end i : ℕ) : T
   pub bits : (n : ℕ) → (n < first) ⊎ (end ≤ n) → is_used new start n ≡ is_used old start n
   pub blocks : (k : ℕ) → (k < start + first / 4096) ⊎ (start + i ≤ k) → new k ≡ old k
 
-same-block : (blocks : ℕ → List ℕ) (n : ℕ) (b : List ℕ) → with_block blocks n b n ≡ b
+pub same-block : (blocks : ℕ → List ℕ) (n : ℕ) (b : List ℕ) → with_block blocks n b n ≡ b
 same-block blocks n b = ap (λ t. cond t b (blocks n)) (eq-eqb n n refl)
 
-other-block : (blocks : ℕ → List ℕ) (n k : ℕ) (b : List ℕ) → n ≢ k → with_block blocks n b k ≡ blocks k
+pub other-block : (blocks : ℕ → List ℕ) (n k : ℕ) (b : List ℕ) → n ≢ k → with_block blocks n b k ≡ blocks k
 other-block blocks n k b ne = ap (λ t. cond t b (blocks k)) (ne_eqb n k ne)
 
 module _ (old new next : ℕ → List ℕ) (start first end i from to : ℕ) (bytes : List ℕ) (is_next : next ≡ with_block new (start + i) bytes)

@@ -6,18 +6,11 @@ use Rattle.std.proofs.lemmas.Bool.{le-leb, lt-leb, lt-ltb, le-ltb, and_left, and
 use Rattle.std.proofs.lemmas.List.Sums.{length-filter}
 use Rattle.hfs_fields.specs.declared.extent.Extent.{Extent}
 use Rattle.hfs_space.specs.Bitmap.{is_used, count_below, clear_count, KeepsOthers}
-use Rattle.hfs_space.proofs.CountingLemmas.{count_below-suc, count_below-same, count_below-add}
+use Rattle.hfs_space.proofs.CountingLemmas.{count_below-same, count_below-add}
 use Rattle.hfs_space.specs.Claimed.{AreSet}
 use Rattle.hfs_space.specs.FreeRuns.{free_blocks, is_in, is_taken}
 use Rattle.hfs_space.specs.Choice.{free_count}
-
-every : (p : ℕ → Bool) (n : ℕ) → ((k : ℕ) → k < n → p k ≡ true) → count_below p n ≡ n
-every p zero h = refl
-every p (suc n) h = count_below-suc p n ∙ (λ i. every p n (λ k lt. h k (omega arith)) i + (if h n (omega arith) i then 1 else 0)) ∙ (let e : n + 1 ≡ suc n = omega arith in e)
-
-none : (p : ℕ → Bool) (n : ℕ) → ((k : ℕ) → k < n → p k ≡ false) → count_below p n ≡ 0
-none p zero h = refl
-none p (suc n) h = count_below-suc p n ∙ (λ i. none p n (λ k lt. h k (omega arith)) i + (if h n (omega arith) i then 1 else 0)) ∙ (let e : 0 + 0 ≡ 0 = omega arith in e)
+use Rattle.hfs_space.proofs.BitmapLawLemmas.{every, none}
 
 -- two tests that agree but for a row of numbers that the first passes and the second fails
 pub fewer-pass : (p q : ℕ → Bool) (first count total : ℕ) → ((k : ℕ) → first ≤ k → k < first + count → p k ≡ true) → ((k : ℕ) → first ≤ k → k < first + count → q k ≡ false)

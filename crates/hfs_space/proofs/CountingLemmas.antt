@@ -7,7 +7,7 @@ use Rattle.std.proofs.lemmas.List.Sums.{count_by-le-length, sum_by_push}
 use Rattle.hfs_space.specs.Bitmap.{count_below}
 
 -- one more number
-range-more : (a n : ℕ) → range_with_len a (suc n) ≡ range_with_len a n ++ (a + n) ∷ []
+pub range-more : (a n : ℕ) → range_with_len a (suc n) ≡ range_with_len a n ++ (a + n) ∷ []
 range-more a zero = ap (λ x. x ∷ []) (let e : a ≡ a + 0 = omega arith in e)
 range-more a (suc n) =
     let e : a + 1 + n ≡ a + suc n = omega arith in

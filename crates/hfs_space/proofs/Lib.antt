@@ -31,11 +31,11 @@ pub mod OwnerLemmas
 pub mod LawsProved
 pub mod LawTypes
 mod SetBits
-mod Claims
+pub mod Claims
 mod LowestRuns
-mod Owned
+pub mod Owned
 mod Counted
-mod ClaimedMore
+pub mod ClaimedMore
 mod Running
 mod Firsts
 mod RowLemmas
@@ -45,7 +45,7 @@ pub mod PartLemmas
 mod PartSteps
 mod Puts
 mod JoinedLemmas
-mod NumberLemmas
+pub mod NumberLemmas
 pub mod ForkLemmas
 mod ZeroLemmas
 mod ZeroSteps

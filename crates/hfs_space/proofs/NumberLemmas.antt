@@ -20,7 +20,7 @@ use Rattle.hfs_space.specs.Written.{AreDifferent}
 
 -- ---- how many times a number stands in a list
 
-owners-cons : (x : ℕ) (xs : List ℕ) (b : ℕ) → owners (x ∷ xs) b ≡ cond (eqb x b) 1 0 + owners xs b
+pub owners-cons : (x : ℕ) (xs : List ℕ) (b : ℕ) → owners (x ∷ xs) b ≡ cond (eqb x b) 1 0 + owners xs b
 owners-cons x xs b = sum_by-cons (λ (o : ℕ). cond (eqb o b) 1 0) x xs
 
 owners-here : (x : ℕ) (xs : List ℕ) (b : ℕ) → x ≡ b → owners (x ∷ xs) b ≡ 1 + owners xs b

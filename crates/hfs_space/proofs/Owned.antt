@@ -11,6 +11,7 @@ use Rattle.hfs_space.specs.Extents.{extent_blocks, block_total}
 use Rattle.hfs_space.specs.Owners.{owners}
 use Rattle.hfs_space.proofs.OwnerLemmas.{append}
 use Rattle.hfs_space.proofs.ForkLawLemmas.{range-add}
+use Rattle.hfs_space.proofs.NumberLemmas.{owners-cons}
 
 -- where a block stands beside so many, or among them
 pub sides : (first count b : ℕ) → ((b < first) ⊎ (first + count ≤ b)) ⊎ ((first ≤ b) × (b < first + count))
@@ -65,9 +66,6 @@ owners-fewer a m n b le =
     omega (arith, all)
 
 -- ---- those of a list that pass a test
-
-owners-cons : (x : ℕ) (xs : List ℕ) (b : ℕ) → owners (x ∷ xs) b ≡ cond (eqb x b) 1 0 + owners xs b
-owners-cons x xs b = sum_by-cons (λ (o : ℕ). cond (eqb o b) 1 0) x xs
 
 pub owners-filter : (p : ℕ → Bool) (xs : List ℕ) (b : ℕ) → owners (filter p xs) b ≤ owners xs b
 owners-filter p [] b = omega arith

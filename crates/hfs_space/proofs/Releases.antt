@@ -1,21 +1,16 @@
 -- Clearing the bits of one more block of the bitmap.
-use Rattle.std.proofs.Common.{◌≡◌, ◌≢◌, ℕ, ◌+◌, ◌-◌, ◌*◌, ◌/◌, ◌%◌, ◌<◌, ◌≤◌, ◌⊎◌, inl, inr, ⊎_elim, false, List, cond, sym, ap, ◌∙◌, arith, refl}
+use Rattle.std.proofs.Common.{◌≡◌, ℕ, ◌+◌, ◌-◌, ◌*◌, ◌/◌, ◌%◌, ◌<◌, ◌≤◌, ◌⊎◌, inl, inr, ⊎_elim, false, List, sym, ap, ◌∙◌, arith}
 use Rattle.std.specs.Prelude.{min, max}
-use Rattle.std.proofs.lemmas.Bool.{cases_eq, eq-eqb, ne_eqb}
+use Rattle.std.proofs.lemmas.Bool.{cases_eq}
 use Rattle.hfs_blocks.proofs.LayerLemmas.{with_block}
 use Rattle.hfs_space.specs.Bitmap.{is_marked, is_used}
+use Rattle.hfs_space.proofs.Claims.{same-block, other-block}
 
 -- the bits from first up to end are clear below the bits of block i of the bitmap, and everything else is as it was
 pub record IsReleasing (old new : ℕ → List ℕ) (start first end i : ℕ) : Type 0 where
   pub clear : (n : ℕ) → first ≤ n → n < end → n < 4096 * i → is_used new start n ≡ false
   pub bits : (n : ℕ) → (n < first) ⊎ (end ≤ n) → is_used new start n ≡ is_used old start n
   pub blocks : (k : ℕ) → (k < start + first / 4096) ⊎ (start + i ≤ k) → new k ≡ old k
-
-same-block : (blocks : ℕ → List ℕ) (n : ℕ) (b : List ℕ) → with_block blocks n b n ≡ b
-same-block blocks n b = ap (λ t. cond t b (blocks n)) (eq-eqb n n refl)
-
-other-block : (blocks : ℕ → List ℕ) (n k : ℕ) (b : List ℕ) → n ≢ k → with_block blocks n b k ≡ blocks k
-other-block blocks n k b ne = ap (λ t. cond t b (blocks k)) (ne_eqb n k ne)
 
 module _ (old new next : ℕ → List ℕ) (start first end i from to : ℕ) (bytes : List ℕ) (is_next : next ≡ with_block new (start + i) bytes)
     (is_from : from ≡ max first (i * 4096) - i * 4096) (is_to : to ≡ min end ((i + 1) * 4096) - i * 4096)

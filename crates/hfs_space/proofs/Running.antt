@@ -10,13 +10,7 @@ use Rattle.hfs_fields.specs.declared.extent.Extent.{Extent}
 use Rattle.hfs_space.specs.Extents.{extent_blocks}
 use Rattle.hfs_space.specs.FreeRuns.{free_blocks, IsWhole, AreFreeRuns, IsRunning, run_before, is_taken}
 use Rattle.hfs_space.proofs.Counted.{taken-nothing}
-
--- one more number
-range-more : (a n : ℕ) → range_with_len a (suc n) ≡ range_with_len a n ++ (a + n) ∷ []
-range-more a zero = ap (λ x. x ∷ []) (let e : a ≡ a + 0 = omega arith in e)
-range-more a (suc n) =
-    let e : a + 1 + n ≡ a + suc n = omega arith in
-    ap (λ l. a ∷ l) (range-more (a + 1) n) ∙ ap (λ x. a ∷ range_with_len (a + 1) n ++ x ∷ []) e
+use Rattle.hfs_space.proofs.CountingLemmas.{range-more}
 
 range-more-at : (a n m : ℕ) → m ≡ n + 1 → range_with_len a m ≡ range_with_len a n ++ (a + n) ∷ []
 range-more-at a n m e = ap (range_with_len a) (let s : m ≡ suc n = omega (arith, e) in s) ∙ range-more a n

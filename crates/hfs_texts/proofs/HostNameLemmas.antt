@@ -121,12 +121,12 @@ folded-facts escaped c h =
 
 -- ---- what a host name spells
 
-rest-marks : (r x : Bool) → ((r || x) || not r) ≡ true
+pub rest-marks : (r x : Bool) → ((r || x) || not r) ≡ true
 rest-marks true x = refl
 rest-marks false true = refl
 rest-marks false false = refl
 
-first-marks : (r x y z : Bool) → ((((r || x) || y) || z) || not r) ≡ true
+pub first-marks : (r x y z : Bool) → ((((r || x) || y) || z) || not r) ≡ true
 first-marks true x y z = refl
 first-marks false true y z = refl
 first-marks false false true z = refl

@@ -1,5 +1,5 @@
 -- Rows whose forks were written.
-use Rattle.std.proofs.Common.{◌≡◌, ⊎_elim, ℕ, ◌+◌, ◌*◌, ◌<◌, ◌≤◌, Bool, true, false, cond, List, ◌++◌, length, take, drop, refl, sym, ◌∙◌, ap, subst, arith, eqb, Option, Some, None, Result, Ok, Err, ℤ, Bor}
+use Rattle.std.proofs.Common.{◌≡◌, ⊎_elim, ℕ, ◌*◌, ◌≤◌, Bool, cond, List, length, refl, sym, ◌∙◌, ap, subst, arith, Option, Some, None, Result, Ok, ℤ, Bor}
 use Rattle.std.specs.Ordering.{nat_cmp}
 use Rattle.std.specs.Prelude.{OnErr}
 use Rattle.std.specs.Cmp.{nat_cmp_total, unsigned_ties}
@@ -7,7 +7,6 @@ use Rattle.std.specs.Option.{option_map}
 use Rattle.std.specs.FinMap as map
 use Rattle.std.specs.BTreeMap as tree
 use Rattle.std.proofs.lemmas.Bool.{cases_eq, eq-eqb, ne_eqb}
-use Rattle.hfs_fields.specs.declared.mdb.Mdb.{Mdb}
 use Rattle.hfs_model.specs.declared.call.Fork.{Fork}
 use Rattle.hfs_model.specs.declared.call.Fork.TheVariants.{DataFork, ResFork}
 use Rattle.hfs_model.specs.declared.item.Item.{Item}
@@ -267,7 +266,3 @@ may_write t is fork offset bytes found has may r at = by fork r.kind same (is.ro
         let long = size_is t is f.resource h.1 in
         let there = subst (λ (k : Kind). offset ≤ length (fork_bytes ResFork k)) e within in
         (h.1.pieces, (omega (arith, there, long), may.small))
-
-pub on_err : {T E : Type 0} (r : Result T E) (P : Type 0) → P → OnErr r P
-on_err (Ok x) P p = tt
-on_err (Err e) P p = p

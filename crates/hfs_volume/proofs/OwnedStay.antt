@@ -47,7 +47,7 @@ in_range a (suc k) n i = ⊎_elim
     (λ (there : In n (range_with_len (a + 1) k)). let rest = in_range (a + 1) k n there in (omega (arith, rest.0), omega (arith, rest.1)))
     i
 
-range_in : (a k n : ℕ) → a ≤ n → n < a + k → In n (range_with_len a k)
+pub range_in : (a k n : ℕ) → a ≤ n → n < a + k → In n (range_with_len a k)
 range_in a zero n low high = absurd (omega arith)
 range_in a (suc k) n low high = ⊎_elim
     (λ (more : a < n). inr (range_in (a + 1) k n (omega arith) (omega arith)))
@@ -103,7 +103,7 @@ located_in mdb e n i =
     let sum : (e.first + c.0) * each ≡ e.first * each + c.0 * each = add-mul e.first c.0 each in
     (e.first + c.0, (omega (arith, sum, c.2), omega (arith, sum, c.3)), range_in e.first e.count (e.first + c.0) (omega arith) (omega (arith, c.1)))
 
-parts : (e : Extent) (extents : List Extent) (b : ℕ) → owners (extent_blocks (e ∷ extents)) b ≡ owners (range_with_len e.first e.count) b + owners (extent_blocks extents) b
+pub parts : (e : Extent) (extents : List Extent) (b : ℕ) → owners (extent_blocks (e ∷ extents)) b ≡ owners (range_with_len e.first e.count) b + owners (extent_blocks extents) b
 parts e extents b = append b (range_with_len e.first e.count) (extent_blocks extents)
 
 located : (mdb : Mdb) (extents : List Extent) (n : ℕ) → In n (block_numbers mdb extents) → Located mdb extents n

@@ -1,15 +1,16 @@
 -- Pieces of a range of a file, with changed blocks laid over them.
 use Rattle.std.specs.Prelude.{⊤}
-use Rattle.std.proofs.Common.{◌≡◌, ◌∙◌, refl, sym, ap, subst, arith, ℕ, zero, suc, ◌+◌, ◌*◌, ◌/◌, ◌%◌, ◌≤◌, List, [], ◌∷◌, ◌++◌, length, take, drop, Ok, length-take}
+use Rattle.std.proofs.Common.{◌≡◌, ◌∙◌, refl, sym, ap, subst, arith, ℕ, ◌+◌, ◌*◌, ◌/◌, ◌%◌, ◌≤◌, List, [], length, take, drop, Ok, length-take}
 use Rattle.std.proofs.Math.Seq.{take-add}
 use Rattle.hfs_blocks.specs.Layers.{Numbered}
 use Rattle.hfs_source.specs.declared.ranges.ByteRange.{ByteRange}
-use Rattle.hfs_source.specs.Sums.{sum_from, with_word}
+use Rattle.hfs_source.specs.Sums.{sum_from}
 use Rattle.hfs_source.specs.Images.{HasAt, IsRangeOf, OfEach}
 use Rattle.hfs_source.proofs.Ranges.{reads-within}
 use Rattle.hfs_volume.specs.Patched.{patched_from}
 use Rattle.hfs_volume.specs.InFile.{OfRangePiece}
 use Rattle.hfs_volume.proofs.Pieces.{of-piece}
+use Rattle.hfs_source.proofs.SumLemmas.{sum-append}
 
 -- what is read of the file is read of the range
 seen-within : (Holds : List ℕ → Type 0) (start len place : ℕ) (bytes : List ℕ) → place + length bytes ≤ len
@@ -31,15 +32,6 @@ range-piece Holds range changed first count place into laid Fact at within fits 
     (seen-within Holds range.start range.len (512 * first) into inside (subst (λ (p : ℕ). OfEach Holds (HasAt p into)) there own)) fact
 
 -- ---- sums
-
--- bytes behind words
-sum-append : (k sum : ℕ) (front back : List ℕ) → length front ≡ 2 * k → sum_from sum (front ++ back) ≡ sum_from (sum_from sum front) back
-unfolding sum_from
-sum-append zero sum [] back e = refl
-sum-append zero sum (x ∷ front) back e = absurd (omega (arith, e))
-sum-append (suc k) sum [] back e = absurd (omega (arith, e))
-sum-append (suc k) sum (x ∷ []) back e = absurd (omega (arith, e))
-sum-append (suc k) sum (high ∷ low ∷ front) back e = sum-append k (with_word sum (high * 256 + low)) front back (omega (arith, e))
 
 -- the sum of the first bytes, which goes on over those behind them
 pub sum-next : (sum more done count : ℕ) (bytes : List ℕ) → done % 512 ≡ 0 → done ≤ length bytes → sum ≡ sum_from 0 (take done bytes)

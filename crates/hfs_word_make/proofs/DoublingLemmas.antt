@@ -1,21 +1,16 @@
 -- The nodes of a catalog aren't doubled 31 times: no volume has as many.
-use Rattle.std.proofs.Common.{◌≡◌, ℕ, ◌+◌, ◌-◌, ◌*◌, ◌/◌, ◌≤◌, length, None, arith}
-use Rattle.std.proofs.Math.Nat.{mul_comm}
+use Rattle.std.proofs.Common.{◌≡◌, ℕ, ◌-◌, ◌*◌, ◌≤◌, length, None, arith}
 use Rattle.std.proofs.lemmas.Nat.{mul-le}
 use Rattle.hfs_format.specs.declared.format_plan.FormatPlan.{FormatPlan}
 use Rattle.hfs_format.specs.declared.planned_image.PlannedImage.{PlannedImage}
-use Rattle.hfs_format.specs.Plan.{block_factor, file_blocks, format_fault, layout_of}
+use Rattle.hfs_format.specs.Plan.{block_factor, format_fault, layout_of}
 use Rattle.hfs_format.proofs.NewVolume.{is_layout-new}
-use Rattle.hfs_format.proofs.PlanFacts.{is_new_volume-planned}
+use Rattle.hfs_format.proofs.PlanFacts.{is_new_volume-planned, enough}
 use Rattle.hfs_format.specs.declared.new_volume.NewVolume.{NewVolume}
 use Rattle.hfs_format.specs.Catalogs.{record_nodes, records_bytes, with_map_nodes}
 use Rattle.hfs_format.specs.Plans.{nodes_of}
 use Rattle.hfs_format.proofs.CatalogLemmas.{catalog_nodes-some}
 use Rattle.hfs_word_make.specs.Planned.{IsDoubled}
-
-enough : (factor nodes : ℕ) → 1 ≤ factor → nodes ≤ file_blocks factor nodes * factor
-unfolding file_blocks
-enough factor nodes some = let turned = mul_comm factor ((nodes + (factor - 1)) / factor) in omega arith
 
 some-factor : (blocks : ℕ) → 1 ≤ block_factor blocks
 unfolding block_factor

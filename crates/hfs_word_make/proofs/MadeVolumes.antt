@@ -1,13 +1,13 @@
 -- What the file of a new volume is to hold, by its parts.
-use Rattle.std.proofs.Common.{◌≡◌, ◌∙◌, ◌≤◌, ◌<◌, ◌/◌, ◌*◌, ◌^◌, ℕ, List, [], Option, None, Ok, Result, Vec, Global, false, length, refl, sym, subst, ap, arith}
+use Rattle.std.proofs.Common.{◌≡◌, ◌∙◌, ◌<◌, ◌/◌, ◌*◌, ◌^◌, ℕ, List, [], None, Ok, Result, Vec, Global, false, length, refl, sym, subst, ap, arith}
 use Rattle.std.proofs.lemmas.List.{take_all}
 use Rattle.hfs_blocks.specs.Layers.{changes, AreWithin}
 use Rattle.hfs_check.specs.VolumeOf.{volume_of}
 use Rattle.hfs_source.specs.Ranges.{bytes_in}
 use Rattle.hfs_format.specs.declared.format_plan.FormatPlan.{FormatPlan}
 use Rattle.hfs_format.specs.declared.planned_image.PlannedImage.{PlannedImage}
-use Rattle.hfs_format.specs.FormatLaws.{planned_volume, volume_of_root}
-use Rattle.hfs_format.specs.Image.{image_bytes, new_image}
+use Rattle.hfs_format.specs.FormatLaws.{volume_of_root}
+use Rattle.hfs_format.specs.Image.{image_bytes}
 use Rattle.hfs_format.specs.Plan.{block_factor}
 use Rattle.hfs_format.proofs.NewImage.{new_images-hold}
 use Rattle.hfs_put.specs.Files.{IsReadOf, ReadTree}
@@ -18,7 +18,7 @@ use Rattle.hfs_put.specs.Arrivals.{arrivals_of}
 use Rattle.hfs_put.specs.PutFiles.{IsFilePut, IsImageOf, IsPutList, put_file}
 use Rattle.hfs_put.proofs.WholeFiles.{put_files_hold_put}
 use Rattle.hfs_put_sources.specs.Items.{PlannedItem}
-use Rattle.hfs_put_sources.specs.Trees.{OfEachTree, Tree}
+use Rattle.hfs_put_sources.specs.Trees.{Tree}
 use Rattle.hfs_copy.specs.Working.{IsWorkingCopy}
 use Rattle.hfs_word_make.specs.declared.order.MakeOrder.{MakeOrder}
 use Rattle.hfs_word_make.specs.declared.settled_image.SettledImage.{SettledImage}
@@ -29,6 +29,7 @@ use Rattle.hfs_word_put.specs.declared.placing.PlacedList.{PlacedList}
 use Rattle.hfs_word_put.specs.declared.putting.PutImage.{PutImage}
 use Rattle.hfs_word_put.specs.declared.putting.PutList.{PutList}
 use Rattle.hfs_word_put.specs.Files.{place_of}
+use Rattle.hfs_word_put.proofs.MadeFiles.{unopened}
 
 -- ---- fewer trees
 
@@ -41,12 +42,6 @@ narrowed Hosts Then order items planned list fewer is = record {
   filled = is.filled;
   verified = λ host h. is.verified host (fewer host h);
 }
-
--- a tree of which no file is open
-pub unopened : {T F : Type 0} (Hosts : T → Tree → Type 0) (Bytes : F → List ℕ → Type 0) (files : ReadTree T F) (tree : T) → files ≡ record { tree = tree; path = []; file = None }
-    → (host : Tree) → IsReadOf Hosts Bytes files host → Hosts tree host
-unopened Hosts Bytes files tree e host h =
-    let opened = subst (λ (read : ReadTree _ _). IsReadOf Hosts Bytes read host) e h in opened.1
 
 -- ---- the image
 

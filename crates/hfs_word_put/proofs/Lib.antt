@@ -1,5 +1,5 @@
 mod Copies
 mod PathTargets
 mod Places
-mod MadeFiles
+pub mod MadeFiles
 mod Spared

@@ -35,7 +35,7 @@ from-narrowed Range Hosts Then order len items put sums fewer is =
     record { copy = is.copy; copied = is.copied; done = narrowed Hosts Then order is.copy items put sums fewer is.done }
 
 -- a tree of which no file is open
-unopened : {T F : Type 0} (Hosts : T → Tree → Type 0) (Bytes : F → List ℕ → Type 0) (files : ReadTree T F) (tree : T) → files ≡ record { tree = tree; path = []; file = None }
+pub unopened : {T F : Type 0} (Hosts : T → Tree → Type 0) (Bytes : F → List ℕ → Type 0) (files : ReadTree T F) (tree : T) → files ≡ record { tree = tree; path = []; file = None }
     → (host : Tree) → IsReadOf Hosts Bytes files host → Hosts tree host
 unopened Hosts Bytes files tree e host h =
     let opened = subst (λ (read : ReadTree _ _). IsReadOf Hosts Bytes read host) e h in opened.1

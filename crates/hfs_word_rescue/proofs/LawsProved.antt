@@ -19,11 +19,8 @@ use Rattle.hfs_word_rescue.specs.Bags.{rescued_items}
 use Rattle.hfs_word_rescue.proofs.JoinLemmas.{payloads-same}
 use Rattle.hfs_word_rescue.proofs.TakenPathLemmas.{taken-paths}
 use Rattle.hfs_word_rescue.proofs.BagSumLemmas.{sums_of_bag}
-use Rattle.hfs_word_rescue.proofs.ThereLemmas.{found-there}
+use Rattle.hfs_word_rescue.proofs.ThereLemmas.{found-there, same-directory}
 use Rattle.hfs_word_rescue.specs.Laws.{RemainsAreFound, RescuedPathsAreLawful, SoundPayloadsAreVolumes, SumsAreOfBags, TakenPathsAreLawful}
-
-same-directory : (x y : Mdb) → Some x ≡ Some y → x ≡ y
-same-directory x y same = cc
 
 -- what is found of an image of bytes by its directory are things
 are-things : (image : List ℕ) (mdb : Mdb) → IsTrue (is_bytes image) → (place : Option ℕ) → directory_of image ≡ place → option_map (mdb_at (block_at image)) place ≡ Some mdb → AreThings (found_things image mdb)

@@ -17,7 +17,7 @@ mod JoinLemmas
 mod TakenPathLemmas
 pub mod LawsProved
 mod PlacedLemmas
-mod ThereLemmas
+pub mod ThereLemmas
 mod BagSumLemmas
 mod ShownLemmas
 mod PagedLemmas

@@ -15,6 +15,7 @@ use Rattle.hfs_word_rescue.specs.Found.{IsFoundOf, OfFound}
 use Rattle.hfs_word_rescue.specs.Lists.{Gathers, TellsRemains, TellsRemainsFront}
 use Rattle.hfs_word_rescue.specs.Words.{limit_of}
 use Rattle.hfs_word_rescue.proofs.SameLemmas.{Seen, same_seen}
+use Rattle.hfs_rescue_items.proofs.GatherLemmas.{IsBegun}
 
 -- ---- a line is gathered
 
@@ -26,12 +27,6 @@ line_out line old text new now later is written none =
     record { out = text; written = written; rest = ap (λ (rest : List ℕ). text ++ rest) none ∙ append-nil text ∙ is }
 
 -- ---- all lines
-
--- these bytes went out; the text that is gathered and what is still to come make the rest
-pub record IsBegun (start now : Option (List ℕ)) (text left whole : List ℕ) : Type 0 where
-  pub out : List ℕ
-  pub written : Appends start now out
-  pub rest : whole ≡ out ++ (text ++ left)
 
 pub begins : (start : Option (List ℕ)) (whole : List ℕ) → IsBegun start start [] whole whole
 begins start whole = record { out = []; written = Appends-nil start; rest = refl }

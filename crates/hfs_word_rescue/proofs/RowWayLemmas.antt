@@ -7,7 +7,7 @@ use Rattle.std.proofs.lemmas.Option.{get_or_from_slice_get, same_Some, slice_get
 use Rattle.hfs_fields.specs.declared.key.CatKey.{CatKey}
 use Rattle.hfs_fields.specs.declared.dir_record.DirRecord.{DirRecord}
 use Rattle.hfs_fields.specs.declared.file_record.FileRecord.{FileRecord}
-use Rattle.hfs_fields.specs.Records.{is_dir, is_item, item_id, dir_record_of, file_record_of}
+use Rattle.hfs_fields.specs.Records.{is_item, item_id}
 use Rattle.hfs_btree.specs.Sound.{IsDistinct, IsOther}
 use Rattle.hfs_fields.specs.Each.{Each}
 use Rattle.hfs_fields.specs.Members as scans
@@ -19,8 +19,7 @@ use Rattle.hfs_model.specs.Volume.{Entry, Volume}
 use Rattle.hfs_model.specs.declared.reply.Info.{Info}
 use Rattle.hfs_model.proofs.Members.{In, in_from_contains}
 use Rattle.hfs_catalog.specs.Items.{entry_of}
-use Rattle.hfs_catalog.specs.declared.item.ItemRecord.TheVariants.{Folder, File}
-use Rattle.hfs_catalog.specs.Lookups.{catalog_item, children_of}
+use Rattle.hfs_catalog.specs.Lookups.{children_of}
 use Rattle.hfs_catalog.specs.Records.{Record, Catalog, has_thread, is_child_of, item_ids, items_of as items_in}
 use Rattle.hfs_catalog.specs.Sound.{AreIdsSound, IsGiven, IsRoot}
 use Rattle.hfs_catalog.proofs.Held.{has_item}
@@ -29,7 +28,7 @@ use Rattle.hfs_check.specs.Parts.{Blocks, catalog_in, mdb_in}
 use Rattle.hfs_check.specs.Sound.{AreBlocksSound}
 use Rattle.hfs_check.specs.VolumeOf.{contents_in, volume_in}
 use Rattle.hfs_check.proofs.LawsProved.{catalog_is_sound}
-use Rattle.hfs_items.specs.Told.{body_info, file_info, folder_info, told}
+use Rattle.hfs_items.specs.Told.{file_info, folder_info, told}
 use Rattle.hfs_items.specs.Queries.{AreEntries}
 use Rattle.hfs_items.proofs.QueriesLaws.{AreWholeBlocks}
 use Rattle.hfs_items.proofs.QueryLawsProved.{catalog_answers-entries}
@@ -45,6 +44,7 @@ use Rattle.hfs_remains_places.specs.Laws.{HasWay}
 use Rattle.hfs_remains_forks.specs.Laws.{HasSomeWay, things_in}
 use Rattle.hfs_remains_forks.proofs.RemainsLawsProved.{sound_items_have_ways}
 use Rattle.hfs_word_rescue.proofs.ItemWayLemmas.{item-with, item-of, not-one, not-root, one-place, one-way, place-in, right-id, thing-is, under-one, up-item}
+use Rattle.hfs_items.proofs.ToldLemmas.{told-id}
 
 -- ---- children
 
@@ -89,14 +89,6 @@ folder-id key r = refl
 file-id : (has_thread : Bool) (key : CatKey) (r : FileRecord) → (file_info has_thread key r).id ≡ r.id
 unfolding file_info
 file-id has_thread key r = refl
-
-told-id : (catalog : Catalog) (r : Record) → (told catalog r).id ≡ item_id r.1
-unfolding catalog_item folder_info file_info
-told-id catalog r = by (is_dir r.1)
-  where
-    by : (b : Bool) → (body_info catalog r.0 (cond b (Folder (dir_record_of r.1)) (File (file_record_of r.1)))).id ≡ cond b (dir_record_of r.1).id (file_record_of r.1).id
-    by true = folder-id r.0 (dir_record_of r.1)
-    by false = file-id (has_thread catalog (file_record_of r.1).id) r.0 (file_record_of r.1)
 
 -- ---- rows
 

@@ -63,7 +63,7 @@ module _ (image : List ℕ) (limit : ℕ) (mdb : Mdb) (some : 1 ≤ blocks_each 
     shares_are = refl;
   }
 
-same-directory : (x y : Mdb) → Some x ≡ Some y → x ≡ y
+pub same-directory : (x y : Mdb) → Some x ≡ Some y → x ≡ y
 same-directory x y same = cc
 
 pub found-there : RemainsAreFound

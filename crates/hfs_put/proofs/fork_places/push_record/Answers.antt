@@ -12,7 +12,7 @@ use Rattle.hfs_space.specs.Extents.{block_total}
 use Rattle.hfs_volume.specs.Sharing.{file_extents}
 use Rattle.hfs_put.specs.ForkRuns.{fork_runs_of, record_runs}
 use Rattle.hfs_fields.proofs.OutcomeLemmas.{on_ok}
-use Rattle.hfs_put.proofs.FileRecords.{entry-file, folder-no-file, some-item}
+use Rattle.hfs_catalog.proofs.FileRecords.{entry-file, folder-no-file, some-item}
 use Rattle.hfs_put.proofs.ForkRunLists.{no-runs-of-other, no-runs-unplaced, both-forks}
 use Rattle.hfs_put.proofs.RunsApart.{blocks-few}
 use Rattle.hfs_put.proofs.fork_places.push_record.Goals as goal

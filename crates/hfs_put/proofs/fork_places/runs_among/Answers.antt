@@ -1,11 +1,9 @@
 -- Each record is one of the catalog's.
-use Rattle.std.proofs.Common.{◌≡◌, sym, subst, get_or}
-use Rattle.hfs_blocks.specs.Blocks.{block_at}
+use Rattle.std.proofs.Common.{sym, subst}
 use Rattle.hfs_catalog.specs.Records.{Catalog, Record}
-use Rattle.hfs_check.specs.Parts.{catalog_in}
 use Rattle.hfs_fields.specs.Members.{In}
-use Rattle.hfs_put.proofs.FileRecords.{in-at}
 use Rattle.hfs_put.proofs.fork_places.runs_among.Goals as goal
+use Rattle.hfs_fields.proofs.MemberLemmas.{in-at}
 
 pub push_record-requires-clause-there : goal.push_record-requires-clause-there
 push_record-requires-clause-there c =

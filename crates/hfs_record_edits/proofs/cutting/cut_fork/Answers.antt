@@ -3,7 +3,8 @@ use Rattle.hfs_space.specs.TreeKeys.{ext_keys, overflow_of}
 use Rattle.hfs_space.specs.Extents.{Overflow}
 use Rattle.hfs_record_edits.specs.Cutting.{IsBefore, without_from}
 use Rattle.hfs_record_edits.proofs.Shrinks.{shrunk-none, shrunk-more, none-depth, none-free}
-use Rattle.hfs_record_edits.proofs.ForkRecords.{from-own, without-own, one-fewer, all-kept, own-other}
+use Rattle.hfs_record_edits.proofs.ForkRecords.{from-own, without-own, all-kept, own-other}
+use Rattle.hfs_record_edits.proofs.FilesKeys.{one-fewer}
 use Rattle.hfs_record_edits.proofs.cutting.cut_fork.Goals as goal
 
 pub loop-key-init : goal.loop-key-init

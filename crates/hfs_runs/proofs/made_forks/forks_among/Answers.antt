@@ -6,7 +6,8 @@ use Rattle.hfs_fields.specs.Members.{In}
 use Rattle.hfs_check.specs.Parts.{catalog_in}
 use Rattle.hfs_catalog.specs.Records.{Record, Catalog}
 use Rattle.hfs_runs.specs.NamedForks.{AreForksOf, GainsForksOf, IsScriptFile}
-use Rattle.hfs_runs.proofs.MadeForks.{forks-next, forks-none, in-at, take-all}
+use Rattle.hfs_runs.proofs.MadeForks.{forks-next, forks-none, take-all}
+use Rattle.hfs_fields.proofs.MemberLemmas.{in-at}
 use Rattle.hfs_runs.proofs.made_forks.forks_among.Goals as goal
 
 pub loop-entry-init : goal.loop-entry-init

@@ -3,7 +3,8 @@ use Rattle.std.proofs.Common.{◌/◌, ◌∙◌, ℕ, refl, ap, subst, arith, i
 use Rattle.hfs_blocks.specs.Layers.{changes, AreWithin}
 use Rattle.hfs_commands.specs.declared.fault.Fault.{Fault}
 use Rattle.hfs_word_put.specs.declared.fault.PutFault.TheVariants.{Image}
-use Rattle.hfs_word_make.proofs.MadeVolumes.{made-file, unopened}
+use Rattle.hfs_word_make.proofs.MadeVolumes.{made-file}
+use Rattle.hfs_word_put.proofs.MadeFiles.{unopened}
 use Rattle.hfs_word_make.proofs.making.make_volume.Goals as goal
 
 pub returns-in-Err-clause-fault : goal.returns-in-Err-clause-fault

@@ -3,7 +3,8 @@ use Rattle.std.proofs.Common.{ℕ, List, refl, subst, sym, arith}
 use Rattle.hfs_bag.proofs.Growing.{on_err}
 use Rattle.hfs_commands.proofs.Rows.{on_err_then, on_ok_then}
 use Rattle.hfs_rescue_items.specs.Lines.{remains_line, remains_text}
-use Rattle.hfs_word_rescue.proofs.ListLemmas.{IsBegun, all_out, begins, last_front, line_front, line_more}
+use Rattle.hfs_word_rescue.proofs.ListLemmas.{all_out, begins, last_front, line_front, line_more}
+use Rattle.hfs_rescue_items.proofs.GatherLemmas.{IsBegun}
 use Rattle.hfs_word_rescue.proofs.listing.write_lines.Goals as goal
 
 pub loop-i-init : goal.loop-i-init

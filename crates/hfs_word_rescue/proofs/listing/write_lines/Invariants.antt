@@ -1,7 +1,7 @@
 -- what went out, what is gathered and the lines that are still to come make all
 use Rattle.std.proofs.Common.{drop}
 use Rattle.hfs_rescue_items.specs.Lines.{lines_of, remains_line, remains_text}
-use Rattle.hfs_word_rescue.proofs.ListLemmas.{IsBegun}
+use Rattle.hfs_rescue_items.proofs.GatherLemmas.{IsBegun}
 use Rattle.hfs_word_rescue.proofs.listing.write_lines.Given as goal
 
 abbrev pub invariant-loop-i : goal.invariant-loop-i

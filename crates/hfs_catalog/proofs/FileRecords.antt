@@ -1,5 +1,5 @@
--- A record of the catalog that is one of a file, as its item is read. The lemmas of hfs_needed_runs say the same, but stand above this crate.
-use Rattle.std.proofs.Common.{◌≡◌, inl, inr, ⊎_elim, ℕ, zero, suc, ◌<◌, Bool, true, false, cond, eqb, List, [], ◌∷◌, length, get_or, Option, Some, None, refl, sym, ap, subst, ◌∙◌, arith, true≢false}
+-- A record of the catalog that is one of a file, as its item is read.
+use Rattle.std.proofs.Common.{◌≡◌, ⊎_elim, ℕ, Bool, true, false, cond, eqb, List, length, Some, None, refl, sym, ap, ◌∙◌, arith, true≢false}
 use Rattle.std.proofs.lemmas.Bool.{and_parts, eqb-true, or_cases}
 use Rattle.hfs_catalog.specs.declared.item.CatalogItem.{CatalogItem}
 use Rattle.hfs_catalog.specs.declared.item.ItemRecord.TheVariants.{Folder, File}
@@ -9,7 +9,6 @@ use Rattle.hfs_fields.specs.declared.dir_record.DirRecord.{DirRecord}
 use Rattle.hfs_fields.specs.declared.file_record.FileRecord.{FileRecord}
 use Rattle.hfs_fields.specs.declared.key.CatKey.{CatKey}
 use Rattle.hfs_fields.specs.Records.{is_dir, is_file, is_item, type_byte, dir_record_of, file_record_of}
-use Rattle.hfs_fields.specs.Members.{In}
 
 pub not-dir : (body : List ℕ) → is_file body ≡ true → is_dir body ≡ false
 not-dir body file = elim (is_dir body) as (λ (b : Bool). is_dir body ≡ b → b ≡ false) [
@@ -35,7 +34,7 @@ some-item r key body item same_key same_body found = by (is_item body) found
         none-some : (x : CatalogItem) → None ≡ Some x → ⊥
         none-some x e = cc
 
-some-is : (body : List ℕ) (item other : CatalogItem) → Some item ≡ cond (is_item body) (Some other) None → is_item body ≡ true
+pub some-is : (body : List ℕ) (item other : CatalogItem) → Some item ≡ cond (is_item body) (Some other) None → is_item body ≡ true
 some-is body item other found = by (is_item body) found
   where
     none-some : (x : CatalogItem) → None ≡ Some x → ⊥
@@ -45,7 +44,7 @@ some-is body item other found = by (is_item body) found
     by true e = refl
     by false e = absurd (none-some item (sym e))
 
-is-file-record : (r : Record) (file : FileRecord) → File file ≡ record_of r.1 → is_item r.1 ≡ true → (is_file r.1 ≡ true) × (file ≡ file_record_of r.1)
+pub is-file-record : (r : Record) (file : FileRecord) → File file ≡ record_of r.1 → is_item r.1 ≡ true → (is_file r.1 ≡ true) × (file ≡ file_record_of r.1)
 is-file-record r file e item = by (is_dir r.1) refl e
   where
     by : (b : Bool) → is_dir r.1 ≡ b → File file ≡ cond b (Folder (dir_record_of r.1)) (File (file_record_of r.1)) → (is_file r.1 ≡ true) × (file ≡ file_record_of r.1)
@@ -73,8 +72,3 @@ pub entry-file : (r : Record) (key : CatKey) (body : List ℕ) (item : CatalogIt
 entry-file r key body item file same_key same_body found is =
     is-file-record r file (sym is ∙ some-item r key body item same_key same_body found)
     (ap is_item (sym same_body) ∙ some-is body item (catalog_item (key, body)) found)
-
-pub in-at : {A : Type 0} (xs : List A) (k : ℕ) (d : A) → k < length xs → In (get_or xs k d) xs
-in-at [] k d lt = absurd (omega (arith, lt))
-in-at (x ∷ xs) zero d lt = inl refl
-in-at (x ∷ xs) (suc k) d lt = inr (in-at xs k d (omega (arith, lt)))
