@@ -12,7 +12,7 @@ pub mod Written
 pub mod Fillings
 pub mod Shorter
 mod Entries
-mod CountingLemmas
+mod CandidateCounts
 pub mod SumLemmas
 mod RawLemmas
 mod Handed
