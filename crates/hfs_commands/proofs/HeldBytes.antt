@@ -37,9 +37,10 @@ held_alone {F = F} (Raw user) = by user.bytes user.sectors
     by : (file : StoredFile F) (sectors : ℕ) → IfSome (option_map user_data_of (stored_bytes file))
         (λ content. OfEach (IsDataOfOne (stored_images file)) (λ image. image ≡ content) × (FailsInData (stored_failures file) sectors 0 0 → ⊥))
     by (Seekable file) sectors = tt
-    by (Whole bytes) sectors =
-        (λ image of. of.2 ∙ ap user_data_of of.1,
-        ⊎_elim (λ past. omega (arith, past)) (⊎_elim (λ sector. omega (arith, sector.1.before)) (λ nothing. omega (arith, nothing.1))))
+    by (Whole bytes) sectors = (
+      λ image of. of.2 ∙ ap user_data_of of.1,
+      ⊎_elim (λ past. omega (arith, past)) (⊎_elim (λ sector. omega (arith, sector.1.before)) (λ nothing. omega (arith, nothing.1))),
+    )
 
 -- and where no image is another, and a read of no bytes never fails, they are held
 alone_held : {F : Type 0} (new : OpenedFile F) (content : List ℕ) → OfEach (images_of new) (λ image. image ≡ content) → (failures_of new 0 0 → ⊥)
