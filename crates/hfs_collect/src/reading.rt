@@ -3,7 +3,7 @@
 use crate::reading_page::{PageWords, page_command, page_words};
 use crate::reading_rows::{RowsWords, rows_command, rows_words};
 use clap::{ArgMatches, Command, Error};
-use hfs_console::{Argument, NoValue, Program, Takes, VERSION, Word, WordsFault, with_word};
+use hfs_console::{Argument, Declaration, NoValue, Program, Takes, VERSION, WordsFault, with_word};
 use std::alloc::{AllocError, Global};
 
 /// What the program is asked for.
@@ -92,9 +92,10 @@ Examples:
 
 /// The program, without its words.
 const COLLECT: Program = Program {
-    word: Word {
+    declaration: Declaration {
         name: "hfs_collect",
         about: "Collects images of Macintosh disks, their HFS volumes and all items in one SQLite database, or compares them with it",
+        usage: None,
         after_help: Some(COLLECTIONS),
         arguments: &[DATABASE, IMAGES, NO_DIGEST, COMPARE],
     },

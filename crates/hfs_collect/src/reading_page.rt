@@ -1,7 +1,7 @@
 //! The word `page`, from the command line to what it asks for.
 
 use clap::{ArgMatches, Command};
-use hfs_console::{Argument, NoValue, Takes, Word};
+use hfs_console::{Argument, Declaration, NoValue, Takes};
 use std::alloc::{AllocError, Global};
 
 /// A database whose page is printed.
@@ -42,9 +42,10 @@ as hfs_tool page prints it. If an image has several volumes, that of the
 N-th is URL/images/disk.img.N.html.";
 
 /// The word `page`.
-const PAGE: Word = Word {
+const PAGE: Declaration = Declaration {
     name: "page",
     about: "Prints a page for a browser: the volumes of a collection, and what is on several of them",
+    usage: None,
     after_help: Some(PAGE_HELP),
     arguments: &[DATABASE, BASE],
 };

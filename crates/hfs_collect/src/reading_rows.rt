@@ -1,7 +1,7 @@
 //! The word `rows`, from the command line to what it asks for.
 
 use clap::{Arg, ArgAction, ArgMatches, Command};
-use hfs_console::{Argument, NoValue, Takes, Word, WordsFault};
+use hfs_console::{Argument, Declaration, NoValue, Takes, WordsFault};
 use hfs_word_collect::{Form, Table};
 use std::alloc::{AllocError, Global};
 
@@ -63,9 +63,10 @@ An image that can't be read is reported on standard error, the next one
 is read, and the status is 4 at the end.";
 
 /// The word `rows`.
-const ROWS: Word = Word {
+const ROWS: Declaration = Declaration {
     name: "rows",
     about: "Prints the rows of images, their volumes and all items as text, for any database",
+    usage: None,
     after_help: Some(ROWS_HELP),
     arguments: &[FORMAT, NO_DIGEST],
 };

@@ -1,8 +1,24 @@
 //! Where a word finds what it reads: an image, a volume in it, and an item on that by its path.
 
-use crate::words::PathWords;
 use clap::ArgMatches;
 use hfs_console::{Argument, NoValue, Takes};
+
+/// An image that a word looks at.
+#[derive(Clone, Copy)]
+pub struct ImageWords<'a> {
+    /// Its path.
+    pub path: &'a str,
+    /// The number of the volume in it, if one is asked for.
+    pub volume: Option<u64>,
+}
+
+/// An item, by its path in an image.
+#[derive(Clone, Copy)]
+pub struct PathWords<'a> {
+    pub image: ImageWords<'a>,
+    /// The path of the item.
+    pub path: &'a str,
+}
 
 /// The image of a volume, by its path: the volume itself, or a file in which the only volume is looked for.
 pub const IMAGE: Argument = Argument {
@@ -36,6 +52,14 @@ pub const PATH: Argument = Argument {
     excludes: &["DIR"],
 };
 
+/// The file that is written, whatever it has.
+pub const FILE: Argument = Argument {
+    name: "FILE",
+    takes: Takes::Text,
+    help: "The file to write; what it has is replaced",
+    excludes: &[],
+};
+
 /// The folder of a bag, by its path.
 pub const FOLDER: Argument = Argument {
     name: "FOLDER",
@@ -67,22 +91,21 @@ pub const NOW: Argument = Argument {
 pub const OUT_HELP: &str =
     "The file for the changed image; what it has is replaced; it may be the image";
 
+/// The image that is asked for, by the argument that has its path.
+pub fn image_words<'a>(
+    argument: Argument,
+    matches: &ArgMatches<'a>,
+) -> Result<ImageWords<'a>, NoValue> {
+    Ok(ImageWords {
+        path: argument.text(matches)?,
+        volume: volume_of(matches)?,
+    })
+}
+
 /// The number of the volume in an image, if one is given.
 pub fn volume_of(matches: &ArgMatches<'_>) -> Result<Option<u64>, NoValue> {
     match VOLUME.given_number(matches)? {
         Some(number) => Ok(Some(u64::from(number))),
         None => Ok(None),
     }
-}
-
-/// The item that a path leads to, if a path is given.
-pub fn path_words<'a>(matches: &ArgMatches<'a>) -> Result<Option<PathWords<'a>>, NoValue> {
-    let Some(path) = PATH.given_text(matches) else {
-        return Ok(None);
-    };
-    Ok(Some(PathWords {
-        image: IMAGE.text(matches)?,
-        volume: volume_of(matches)?,
-        path,
-    }))
 }
