@@ -6,15 +6,14 @@ pub const PROGRAM: &str = "hfs_tool 1.0.0";
 /// What follows the help text.
 pub const AFTER_HELP: &str = "Exit statuses:
   0  done
-  1  the words are refused
+  1  the command line is refused
   2  the image is refused, or the plan of a new volume, or a script
-  3  ls or cat met a code other than 0: -37 bad name, -43 not found,
-     -120 not a folder; rescue found something damaged; something can't
-     be put
+  3  ls or cat got a code other than 0: -37 bad name, -43 not found,
+     -120 not a folder; rescue found damage; something can't be put
   4  a file could not be read or written, or the file of extract or the
-     folder of take or rescue is there already
-  5  out of memory, no place for a viewer, or a line of a script not
-     answered
+     folder of take or rescue already exists
+  5  out of memory, no place for a viewer, or a line of a script has no
+     answer
 
 Examples:
   hfs_tool info disk.img
@@ -36,11 +35,11 @@ Examples:
   hfs_tool run disk.img calls.txt --now 3000000000 --out disk.img
   hfs_tool put disk.img Letters game.bin --macbinary --out disk.img
 
-The text of a fault is printed where the result would have been: test
-the status.
+The text of a fault is printed in place of the result: test the exit
+status.
 
-What new, repair, put and run --out write goes to FILE.0.new next to
-FILE, which is renamed over FILE when it is complete: after a fault FILE
-is as it was. FILE keeps its permissions, and its owner and group if the
-system allows it. It is not written if nobody may write to it, or if it
-is a link to no file.";
+What new, make, repair, put and run --out write goes to FILE.0.new next
+to FILE, which is renamed to FILE when it is complete: after a fault
+FILE is as it was. FILE keeps its permissions, and its owner and group
+if the system allows it. It is not written if nobody may write to it, or
+if it is a link to no file.";

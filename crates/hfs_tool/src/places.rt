@@ -24,7 +24,7 @@ pub struct PathWords<'a> {
 pub const IMAGE: Argument = Argument {
     name: "IMAGE",
     takes: Takes::Text,
-    help: "The image: the bare volume, or a file in which one volume lies",
+    help: "The image: a bare volume, or a file with volumes inside",
     excludes: &[],
 };
 
@@ -32,7 +32,7 @@ pub const IMAGE: Argument = Argument {
 pub const BARE_IMAGE: Argument = Argument {
     name: "IMAGE",
     takes: Takes::Text,
-    help: "The image of the bare volume, beginning with its boot blocks",
+    help: "The image: a bare volume, or with --volume a file with volumes inside",
     excludes: &[],
 };
 
@@ -40,7 +40,7 @@ pub const BARE_IMAGE: Argument = Argument {
 pub const VOLUME: Argument = Argument {
     name: "volume",
     takes: Takes::GivenNumberOption { value: "N" },
-    help: "The N-th of the volumes that volumes IMAGE lists; 0 is the image as it is",
+    help: "The number of the volume, as hfs_tool volumes prints it; 0 for the image as it is",
     excludes: &[],
 };
 
@@ -48,7 +48,7 @@ pub const VOLUME: Argument = Argument {
 pub const PATH: Argument = Argument {
     name: "path",
     takes: Takes::AnyTextOption { value: "PATH" },
-    help: "The item by its path, as items prints it (D:Folder:File); the volume's name may be left out (:Folder:File)",
+    help: "The item's path, as hfs_tool items prints it (Disk:Folder:File), or without the volume's name (:Folder:File)",
     excludes: &["DIR"],
 };
 
@@ -56,7 +56,7 @@ pub const PATH: Argument = Argument {
 pub const FILE: Argument = Argument {
     name: "FILE",
     takes: Takes::Text,
-    help: "The file to write; what it has is replaced",
+    help: "The file to write; its contents are replaced",
     excludes: &[],
 };
 
@@ -64,7 +64,7 @@ pub const FILE: Argument = Argument {
 pub const FOLDER: Argument = Argument {
     name: "FOLDER",
     takes: Takes::Text,
-    help: "The folder to make; nothing of that name may exist",
+    help: "The folder to make; it must not exist yet",
     excludes: &[],
 };
 
@@ -72,7 +72,7 @@ pub const FOLDER: Argument = Argument {
 pub const NO_DIGEST: Argument = Argument {
     name: "no-digest",
     takes: Takes::Flag,
-    help: "Leaves out the digest of the image, for which all of it is read",
+    help: "Leaves out the image's SHA-256 digest, for which the whole image is read",
     excludes: &[],
 };
 
@@ -83,13 +83,13 @@ pub const NOW: Argument = Argument {
         value: "N",
         default: "0",
     },
-    help: "The moment, in seconds since midnight of 1 January 1904",
+    help: "The time to record, in seconds since midnight, 1 January 1904",
     excludes: &[],
 };
 
 /// What the help says about the file that gets a changed image.
 pub const OUT_HELP: &str =
-    "The file for the changed image; what it has is replaced; it may be the image";
+    "The file for the changed image; its contents are replaced; it may be IMAGE";
 
 /// The image that is asked for, by the argument that has its path.
 pub fn image_words<'a>(

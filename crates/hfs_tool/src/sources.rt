@@ -11,7 +11,7 @@ use std::time::SystemTime;
 pub const MACBINARY: Argument = Argument {
     name: "macbinary",
     takes: Takes::Flag,
-    help: "Takes MacBinary files apart: name, type, creator, lock, dates and both forks",
+    help: "Unpacks MacBinary files: name, type, creator, lock, dates and both forks",
     excludes: &[],
 };
 
@@ -19,7 +19,7 @@ pub const MACBINARY: Argument = Argument {
 pub const RENAME: Argument = Argument {
     name: "rename",
     takes: Takes::Flag,
-    help: "Makes an item name of any other: _ for each character that none has, cut to 31",
+    help: "Changes names that HFS doesn't allow: bad characters become _, and what exceeds 31 characters is cut off",
     excludes: &[],
 };
 
@@ -27,7 +27,7 @@ pub const RENAME: Argument = Argument {
 pub const CLOCK_NOW: Argument = Argument {
     name: "now",
     takes: Takes::GivenNumberOption { value: "N" },
-    help: "The moment, in seconds since midnight of 1 January 1904; the clock's if left out",
+    help: "The time to record, in seconds since midnight, 1 January 1904; the current time if left out",
     excludes: &[],
 };
 

@@ -19,7 +19,7 @@ use std::thread::Threads;
 const DIR: Argument = Argument {
     name: "DIR",
     takes: Takes::Number,
-    help: "The ID of the folder that holds the file",
+    help: "The ID of the folder that the file is in",
     excludes: &[],
 };
 
@@ -41,7 +41,7 @@ const FILE_PATH: Argument = Argument {
 const RESOURCE: Argument = Argument {
     name: "resource",
     takes: Takes::Flag,
-    help: "The resource fork instead of the data fork",
+    help: "Prints the resource fork instead of the data fork",
     excludes: &[],
 };
 
@@ -49,8 +49,16 @@ const RESOURCE: Argument = Argument {
 const MACBINARY: Argument = Argument {
     name: "macbinary",
     takes: Takes::Flag,
-    help: "Both forks with name, type, creator and dates, as one MacBinary file",
+    help: "Prints a MacBinary file: both forks with name, type, creator and dates",
     excludes: &["resource"],
+};
+
+const COMMAND: Declaration = Declaration {
+    name: "cat",
+    about: "Prints the bytes of a file's fork, or the whole file as MacBinary, and nothing else",
+    usage: Some("hfs_tool cat [OPTIONS] <IMAGE> [<DIR> <NAME> | --path <PATH>]"),
+    after_help: None,
+    arguments: &[IMAGE, DIR, NAME, FILE_PATH, RESOURCE, MACBINARY, VOLUME],
 };
 
 /// `cat IMAGE [DIR NAME | --path PATH] [--resource | --macbinary] [--volume N]`.
@@ -80,13 +88,7 @@ enum FilePart {
 }
 
 impl<'a> Word<'a> for Cat<'a> {
-    const DECLARATION: Declaration = Declaration {
-        name: "cat",
-        about: "Writes the bytes of a file's fork, or of the file with both forks, and nothing else",
-        usage: Some("hfs_tool cat [OPTIONS] <IMAGE> [<DIR> <NAME> | --path <PATH>]"),
-        after_help: None,
-        arguments: &[IMAGE, DIR, NAME, FILE_PATH, RESOURCE, MACBINARY, VOLUME],
-    };
+    const DECLARATION: Declaration = COMMAND;
 
     fn read(_alloc: Global, matches: &ArgMatches<'a>) -> Result<Cat<'a>, WordsFault> {
         Ok(Cat {

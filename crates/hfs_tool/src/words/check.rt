@@ -12,17 +12,25 @@ use std::sync::Wait;
 use std::thread::Threads;
 
 /// What the numbers of checks mean.
-const CHECKS: &str = "What is printed if the volume is not sound:
+const CHECKS: &str = "If the volume is not sound, one of these lines is printed:
   refused bad master directory block M1 (-60)   M1 to M5: that block
-  refused check C3 at N                         the first check to fail:
+  refused check C3 at N                         the first failed check:
   C3   extents tree              C8   order, parents, threads
   C4   shape of the catalog      C9   valences (a folder's children)
   C5   records                   C10  counts
   C6   IDs                       C11  extents
-  C7   names (with characters that this program doesn't accept: no
-       fault of the disk)
+  C7   names (the disk may be undamaged, with a name that this program
+       doesn't accept)
   C12  space
-docs/CHECKS.md says what each requires, and what N counts.";
+docs/CHECKS.md describes each check, and what its N counts.";
+
+const COMMAND: Declaration = Declaration {
+    name: "check",
+    about: "Checks the volume, and prints its counts or its first fault",
+    usage: None,
+    after_help: Some(CHECKS),
+    arguments: &[IMAGE, VOLUME],
+};
 
 /// `check IMAGE [--volume N]`.
 #[derive(Clone, Copy)]
@@ -31,13 +39,7 @@ pub struct Check<'a> {
 }
 
 impl<'a> Word<'a> for Check<'a> {
-    const DECLARATION: Declaration = Declaration {
-        name: "check",
-        about: "Checks a volume, and prints its counts or its first fault",
-        usage: None,
-        after_help: Some(CHECKS),
-        arguments: &[IMAGE, VOLUME],
-    };
+    const DECLARATION: Declaration = COMMAND;
 
     fn read(_alloc: Global, matches: &ArgMatches<'a>) -> Result<Check<'a>, WordsFault> {
         Ok(Check {

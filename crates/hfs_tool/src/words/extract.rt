@@ -17,7 +17,7 @@ use std::thread::Threads;
 const FILE: Argument = Argument {
     name: "FILE",
     takes: Takes::Text,
-    help: "The file that the volume lies in; it may be a device",
+    help: "The file that the volume is in; it may be a device",
     excludes: &[],
 };
 
@@ -25,18 +25,26 @@ const FILE: Argument = Argument {
 const OUT: Argument = Argument {
     name: "OUT",
     takes: Takes::Text,
-    help: "The file to make; nothing of that name may exist",
+    help: "The file to make; it must not exist yet",
     excludes: &[],
 };
 
 /// What the help of the word `extract` says besides its arguments.
-const EXTRACTS: &str = "Without --volume that is a bare volume as it is, or else the only one
-inside; if the file holds none, or several, nothing is written. With
+const EXTRACTS: &str = "Without --volume the volume is a bare one as it is, or else the only one
+inside; if the file has none, or several, nothing is written. With
 --volume N it is the N-th that volumes lists, even one with 'no volume',
 and with --volume 0 the file as it is. Nothing is checked.
 
-OUT is written as OUT.0.new next to it, and gets its name when it is
-complete: after a fault it isn't there. No file is overwritten.";
+OUT is written as OUT.0.new next to it, and renamed when it is complete:
+after a fault there is no OUT. No file is overwritten.";
+
+const COMMAND: Declaration = Declaration {
+    name: "extract",
+    about: "Copies a volume inside a file to a file of its own",
+    usage: None,
+    after_help: Some(EXTRACTS),
+    arguments: &[FILE, OUT, VOLUME],
+};
 
 /// `extract FILE OUT [--volume N]`.
 #[derive(Clone, Copy)]
@@ -47,13 +55,7 @@ pub struct Extract<'a> {
 }
 
 impl<'a> Word<'a> for Extract<'a> {
-    const DECLARATION: Declaration = Declaration {
-        name: "extract",
-        about: "Writes the bytes of a volume inside a file to a file of its own",
-        usage: None,
-        after_help: Some(EXTRACTS),
-        arguments: &[FILE, OUT, VOLUME],
-    };
+    const DECLARATION: Declaration = COMMAND;
 
     fn read(_alloc: Global, matches: &ArgMatches<'a>) -> Result<Extract<'a>, WordsFault> {
         Ok(Extract {

@@ -12,6 +12,14 @@ use std::io::Read;
 use std::sync::Wait;
 use std::thread::Threads;
 
+const COMMAND: Declaration = Declaration {
+    name: "info",
+    about: "Prints the fields of the volume's master directory block",
+    usage: None,
+    after_help: None,
+    arguments: &[BARE_IMAGE, VOLUME],
+};
+
 /// `info IMAGE [--volume N]`.
 #[derive(Clone, Copy)]
 pub struct Info<'a> {
@@ -19,13 +27,7 @@ pub struct Info<'a> {
 }
 
 impl<'a> Word<'a> for Info<'a> {
-    const DECLARATION: Declaration = Declaration {
-        name: "info",
-        about: "Prints the fields of a volume's master directory block",
-        usage: None,
-        after_help: None,
-        arguments: &[BARE_IMAGE, VOLUME],
-    };
+    const DECLARATION: Declaration = COMMAND;
 
     fn read(_alloc: Global, matches: &ArgMatches<'a>) -> Result<Info<'a>, WordsFault> {
         Ok(Info {

@@ -19,36 +19,44 @@ const FORMAT: Argument = Argument {
         choices: &["tab", "csv", "json"],
         default: "tab",
     },
-    help: "Fields separated by tabs, CSV with a header, or a JSON object for each item",
+    help: "Tab-separated fields, CSV with a header, or a JSON object per line",
     excludes: &[],
 };
 
 /// What the columns of the table are.
 const COLUMNS: &str = "The columns:
   path                        names from the volume down to the item,
-                              with colons between
+                              separated by colons
   kind, id, parent            folder or file; its ID; its folder's ID
   type, creator               of a file, four characters each
   flags                       the Finder's flags, four hex digits
   locked, file_id             of a file: yes or no
-  created, modified, backup   as 1999-12-31T23:59:59, in no zone; empty
-                              for no date
-  items                       of a folder: how many items it holds
+  created, modified, backup   as 1999-12-31T23:59:59, without a time
+                              zone; empty for no date
+  items                       of a folder: how many items are in it
   data_bytes, resource_bytes  of a file: the lengths of its forks
   finder                      all 32 bytes of the Finder, hexadecimal
 
-In tables a character below 32, DEL and the backslash are a backslash
-and two hexadecimal digits. In JSON path, type and creator hold the
-characters themselves, numbers are numbers, yes and no are true and
-false, and an empty field is null.
+In tab and CSV a character below 32, DEL and the backslash are printed
+as a backslash and two hexadecimal digits. In JSON path, type and
+creator have the characters themselves, numbers are numbers, yes and no
+are true and false, and an empty field is null.
 
-For a refused disk there is a row for each item that rescue finds, and
-after them, on standard error, why it is refused; the status is that of
-rescue. Items and file_id are empty there, and so is the path of what
-is old or lost.
+If the volume is refused, there is a row for each item that rescue
+finds, and then, on standard error, why it is refused; the exit status
+is that of rescue. The columns items and file_id are empty then, and so
+is the path of an item that is old or lost.
 
-A spreadsheet runs a name that begins with = + - or @ as a formula:
-import the file with its columns as text.";
+A spreadsheet takes a name that begins with = + - or @ for a formula:
+import the columns of the file as text.";
+
+const COMMAND: Declaration = Declaration {
+    name: "items",
+    about: "Prints a table of all items of the volume: the root first, and each folder followed by what is in it",
+    usage: None,
+    after_help: Some(COLUMNS),
+    arguments: &[IMAGE, FORMAT, VOLUME],
+};
 
 /// `items IMAGE [--format tab|csv|json] [--volume N]`.
 #[derive(Clone, Copy)]
@@ -58,13 +66,7 @@ pub struct Items<'a> {
 }
 
 impl<'a> Word<'a> for Items<'a> {
-    const DECLARATION: Declaration = Declaration {
-        name: "items",
-        about: "Prints a line for each item of the volume: the root first, after each folder what is in it",
-        usage: None,
-        after_help: Some(COLUMNS),
-        arguments: &[IMAGE, FORMAT, VOLUME],
-    };
+    const DECLARATION: Declaration = COMMAND;
 
     fn read(_alloc: Global, matches: &ArgMatches<'a>) -> Result<Items<'a>, WordsFault> {
         Ok(Items {

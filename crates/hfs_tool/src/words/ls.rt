@@ -17,8 +17,16 @@ use std::thread::Threads;
 const DIR: Argument = Argument {
     name: "DIR",
     takes: Takes::NumberOr("2"),
-    help: "The ID of the folder",
+    help: "The folder's ID; 2 is the root",
     excludes: &[],
+};
+
+const COMMAND: Declaration = Declaration {
+    name: "ls",
+    about: "Prints a line for each item in a folder: kind, ID, number of items or data length, 0 or resource length, name",
+    usage: Some("hfs_tool ls [OPTIONS] <IMAGE> [DIR | --path <PATH>]"),
+    after_help: None,
+    arguments: &[IMAGE, DIR, PATH, VOLUME],
 };
 
 /// `ls IMAGE [DIR | --path PATH] [--volume N]`.
@@ -38,13 +46,7 @@ enum Folder<'a> {
 }
 
 impl<'a> Word<'a> for Ls<'a> {
-    const DECLARATION: Declaration = Declaration {
-        name: "ls",
-        about: "Prints a line for each child of a folder: kind, ID, valence or data length, 0 or resource length, name",
-        usage: Some("hfs_tool ls [OPTIONS] <IMAGE> [DIR | --path <PATH>]"),
-        after_help: None,
-        arguments: &[IMAGE, DIR, PATH, VOLUME],
-    };
+    const DECLARATION: Declaration = COMMAND;
 
     fn read(_alloc: Global, matches: &ArgMatches<'a>) -> Result<Ls<'a>, WordsFault> {
         let image = image_words(IMAGE, matches)?;

@@ -20,7 +20,7 @@ use std::thread::Threads;
 const SOURCE: Argument = Argument {
     name: "SOURCE",
     takes: Takes::SomeTexts,
-    help: "What is put on the volume: a file; a folder with all in it, or what lies in it if it is the only SOURCE; or a bag, of which what lies in data",
+    help: "What to put on the volume: a file, a folder with everything in it, or a bag, of which the contents of data; of an only folder its contents alone",
     excludes: &[],
 };
 
@@ -28,7 +28,7 @@ const SOURCE: Argument = Argument {
 const NAME: Argument = Argument {
     name: "name",
     takes: Takes::AnyTextOption { value: "NAME" },
-    help: "The volume's name, 1 to 27 characters; that of the one bag or folder if left out",
+    help: "The volume's name, 1 to 27 characters; that of the only bag or folder if left out",
     excludes: &[],
 };
 
@@ -36,21 +36,30 @@ const NAME: Argument = Argument {
 const SIZE: Argument = Argument {
     name: "size",
     takes: Takes::AnyTextOption { value: "SIZE" },
-    help: "Bytes, or with K, M or G behind (of 1,024), whole blocks of 512, 64K to 2G; if left out, what comes and a tenth more",
+    help: "The size, 64K to 2G in whole blocks of 512 bytes: in bytes, or followed by K, M or G (powers of 1,024); if left out, what SOURCE needs and a tenth more",
     excludes: &[],
 };
 
 /// What the help of the word `make` says besides its arguments.
-const MAKES: &str = "The volume gets what put would put into its root, by the same lines.
-Of one folder that is no bag what lies in it comes. Its name: NAME; else
-the one that the one bag tells of its disk; else the last part of the
-one folder's path. Its catalog has room for what comes and more. Nothing
-is written, and the status is 2, at:
-  bad name   not 1 to 27 characters of an item name, or none at all
+const MAKES: &str = "The volume gets what put would put into its root, with the same lines
+for what can't be put. If a folder is the only SOURCE, and no bag, only
+its contents are put. The volume's name is NAME, or else the one that
+the only bag has for its disk, or else the last part of the only
+folder's path. The catalog has room for what is put, and more. Nothing
+is written, and the exit status is 2, at:
+  bad name   not 1 to 27 characters that HFS allows, or no name at all
   bad size   not whole blocks of 512 bytes, 64K to 2G
   no room    no size up to 2G is enough; or SIZE is too small for the
              two trees alone
-When FILE is written: made, and the lines of put.";
+When FILE is written, made is printed, and the lines of put.";
+
+const COMMAND: Declaration = Declaration {
+    name: "make",
+    about: "Makes a new volume with files and folders on it, which replaces the contents of the file",
+    usage: Some("hfs_tool make [OPTIONS] <FILE> <SOURCE>..."),
+    after_help: Some(MAKES),
+    arguments: &[FILE, SOURCE, NAME, SIZE, CLOCK_NOW, MACBINARY, RENAME],
+};
 
 /// `make FILE SOURCE.. [--name NAME] [--size SIZE] [--now N] [--macbinary] [--rename]`.
 #[derive(Drop)]
@@ -70,13 +79,7 @@ pub struct Make<'a> {
 }
 
 impl<'a> Word<'a> for Make<'a> {
-    const DECLARATION: Declaration = Declaration {
-        name: "make",
-        about: "Writes a new volume with files and folders on it, which replaces what the file has",
-        usage: Some("hfs_tool make [OPTIONS] <FILE> <SOURCE>..."),
-        after_help: Some(MAKES),
-        arguments: &[FILE, SOURCE, NAME, SIZE, CLOCK_NOW, MACBINARY, RENAME],
-    };
+    const DECLARATION: Declaration = COMMAND;
 
     fn read(alloc: Global, matches: &ArgMatches<'a>) -> Result<Make<'a>, WordsFault> {
         let file = FILE.text(matches)?;

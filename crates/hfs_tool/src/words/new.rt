@@ -23,7 +23,7 @@ const NAME: Argument = Argument {
 const BLOCKS: Argument = Argument {
     name: "BLOCKS",
     takes: Takes::Text,
-    help: "Blocks of 512 bytes (not bytes), 8 to 4194304; or 800K or 1440K",
+    help: "The size, in blocks of 512 bytes, 8 to 4194304; or 800K or 1440K",
     excludes: &[],
 };
 
@@ -34,7 +34,7 @@ const NO_BLOCKS: NoValue = NoValue("<BLOCKS>: a number of blocks, or 800K, or 14
 const NODES: Argument = Argument {
     name: "NODES",
     takes: Takes::MaybeNumber,
-    help: "Nodes of the catalog, at least 2; if left out, drNmAlBlks / 128",
+    help: "Nodes of the catalog, at least 2; drNmAlBlks / 128 if left out",
     excludes: &[],
 };
 
@@ -42,8 +42,16 @@ const NODES: Argument = Argument {
 const EXTENTS: Argument = Argument {
     name: "EXTENTS",
     takes: Takes::MaybeNumber,
-    help: "Nodes of the extents file, at least 1; if left out, drNmAlBlks / 128",
+    help: "Nodes of the extents file, at least 1; drNmAlBlks / 128 if left out",
     excludes: &[],
+};
+
+const COMMAND: Declaration = Declaration {
+    name: "new",
+    about: "Makes a new, empty volume, which replaces the contents of the file",
+    usage: None,
+    after_help: None,
+    arguments: &[FILE, NAME, BLOCKS, NODES, EXTENTS, NOW],
 };
 
 /// `new FILE NAME BLOCKS [NODES] [EXTENTS] [--now N]`.
@@ -64,13 +72,7 @@ pub struct New<'a> {
 }
 
 impl<'a> Word<'a> for New<'a> {
-    const DECLARATION: Declaration = Declaration {
-        name: "new",
-        about: "Writes a new, empty volume, which replaces what the file has",
-        usage: None,
-        after_help: None,
-        arguments: &[FILE, NAME, BLOCKS, NODES, EXTENTS, NOW],
-    };
+    const DECLARATION: Declaration = COMMAND;
 
     fn read(_alloc: Global, matches: &ArgMatches<'a>) -> Result<New<'a>, WordsFault> {
         let blocks = blocks_in(matches)?;

@@ -25,7 +25,7 @@ use std::thread::Threads;
 const BASE: Argument = Argument {
     name: "base",
     takes: Takes::TextOption { value: "URL" },
-    help: "Each file's name is a link into the bag at this URL, which begins with http: or https:, or is relative",
+    help: "Links each file's name to the bag at this URL, which begins with http: or https:, or is relative",
     excludes: &[],
 };
 
@@ -33,7 +33,7 @@ const BASE: Argument = Argument {
 const DIGEST: Argument = Argument {
     name: "digest",
     takes: Takes::Flag,
-    help: "The page has the SHA-256 digest of the image, for which all of it is read",
+    help: "Adds the image's SHA-256 digest, for which the whole image is read",
     excludes: &[],
 };
 
@@ -41,15 +41,22 @@ const DIGEST: Argument = Argument {
 const PAGES: &str = "The page is one self-contained HTML document: it loads nothing from
 elsewhere, and can be put on a web site as it is. The picture has a
 square for each allocation block, or for several if there are more than
-4,096: of what the blocks are used for, it shows the first that its
-legend names.
+4,096; it shows the first use in the legend that one of these has.
 
-For a refused disk the page says why, and shows what rescue finds: each
-item, with what is known about its forks. Why goes to standard error,
-too, and the status is that of rescue.
+If the volume is refused, the page says why, and shows what rescue
+finds: each item, with what is known about its forks. The reason is also
+printed on standard error, and the exit status is that of rescue.
 
---base URL says where the bag is that take made: --base disk if it is
-in the folder disk next to the page.";
+--base URL is where the bag is that take made: --base disk if it is in
+the folder disk next to the page.";
+
+const COMMAND: Declaration = Declaration {
+    name: "page",
+    about: "Prints an HTML page about the volume, with its items and a picture of its blocks",
+    usage: None,
+    after_help: Some(PAGES),
+    arguments: &[IMAGE, VOLUME, BASE, DIGEST],
+};
 
 /// `page IMAGE [--volume N] [--base URL] [--digest]`.
 #[derive(Clone, Copy)]
@@ -62,13 +69,7 @@ pub struct Page<'a> {
 }
 
 impl<'a> Word<'a> for Page<'a> {
-    const DECLARATION: Declaration = Declaration {
-        name: "page",
-        about: "Prints a page for a browser: what the volume is, its items, a picture of its blocks",
-        usage: None,
-        after_help: Some(PAGES),
-        arguments: &[IMAGE, VOLUME, BASE, DIGEST],
-    };
+    const DECLARATION: Declaration = COMMAND;
 
     fn read(_alloc: Global, matches: &ArgMatches<'a>) -> Result<Page<'a>, WordsFault> {
         Ok(Page {

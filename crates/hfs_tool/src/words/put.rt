@@ -21,7 +21,7 @@ use std::thread::Threads;
 const SOURCE: Argument = Argument {
     name: "SOURCE",
     takes: Takes::SomeTexts,
-    help: "What is put on the volume: a file; a folder with all in it; or a bag, of which what lies in data",
+    help: "What to put on the volume: a file, a folder with everything in it, or a bag, of which the contents of data",
     excludes: &[],
 };
 
@@ -37,7 +37,7 @@ const OUT: Argument = Argument {
 const TO: Argument = Argument {
     name: "to",
     takes: Takes::AnyTextOption { value: "PATH" },
-    help: "The folder on the volume, by its path as items prints it (D:Folder or :Folder); the root if left out",
+    help: "The folder to put it into, by its path as hfs_tool items prints it (Disk:Folder or :Folder); the root if left out",
     excludes: &[],
 };
 
@@ -45,38 +45,49 @@ const TO: Argument = Argument {
 const REPLACE: Argument = Argument {
     name: "replace",
     takes: Takes::Flag,
-    help: "Replaces files of the same name, locked ones too",
+    help: "Replaces files of the same name, even locked ones",
     excludes: &[],
 };
 
 /// What the help of the word `put` says besides its arguments.
-const PUTS: &str = "SOURCEs come in their order, and what is in a folder in the order of
+const PUTS: &str = "SOURCEs are put in their order, and what is in a folder in the order of
 its names. ._X next to X is read as AppleDouble: type, creator, the
-Finder's bytes, dates and the resource fork of X. .DS_Store stays
-behind. In a name = and two hexadecimal digits are a byte, as take
-writes them; any other is read as UTF-8. A folder that is there takes
-what comes; a file that is there is refused, unless it is replaced.
+Finder's bytes, dates and the resource fork of X. .DS_Store is left out.
+In a name, = and two hexadecimal digits stand for a byte, as take writes
+them; all else is read as UTF-8. A folder of the same name takes what is
+put; a file of the same name is refused, unless it is replaced.
 
-All is looked at before anything is written. For each item that can't
-be put a line is printed, at most 100, and FILE is not written:
+Everything is looked at before anything is written. For each item that
+can't be put a line is printed, at most 100, and FILE is not written:
   cannot put PATH: not a file          a link, or a device
   cannot put PATH: too large           more than 2,147,483,647 bytes
   cannot put PATH: not AppleDouble     PATH is that of ._X
-  cannot put PATH: name                no item name
+  cannot put PATH: name                HFS doesn't allow the name
   cannot put PATH: two of one name     in one folder
-  cannot put PATH: code N              -48 if something has its name;
-                                       -44 or -46 of a locked volume
+  cannot put PATH: code N              -48: its name is taken; -44 or
+                                       -46: the volume is locked
   cannot put PATH: digest              of a bag: not what its manifest
                                        says
-  cannot put PATH: room FREE WANTED    the free blocks, and those that
-                                       all of it wants
+  cannot put PATH: room FREE WANTED    the free blocks, and those needed
+                                       for everything
   cannot put PATH: full FREE DEPTH     a tree has too few free nodes
   cannot put PATH: a name in it is not UTF-8
   code N                               --to leads to no folder
   cannot read PATH                     nothing is looked at after it
 
-When FILE is written: put, and how many files came, how many folders
-were made, how many bytes the forks have, how many blocks are free.";
+When FILE is written, put is printed, and how many files were put, how
+many folders were made, how many bytes are in the forks, and how many
+blocks are free.";
+
+const COMMAND: Declaration = Declaration {
+    name: "put",
+    about: "Puts files and folders on the volume, with types, creators, dates and resource forks if these are known",
+    usage: Some("hfs_tool put [OPTIONS] --out <FILE> <IMAGE> <SOURCE>..."),
+    after_help: Some(PUTS),
+    arguments: &[
+        BARE_IMAGE, SOURCE, OUT, TO, MACBINARY, REPLACE, RENAME, CLOCK_NOW, VOLUME,
+    ],
+};
 
 /// `put IMAGE SOURCE.. --out FILE [--to PATH] [--macbinary] [--replace] [--rename] [--now N] [--volume N]`.
 #[derive(Drop)]
@@ -97,15 +108,7 @@ pub struct Put<'a> {
 }
 
 impl<'a> Word<'a> for Put<'a> {
-    const DECLARATION: Declaration = Declaration {
-        name: "put",
-        about: "Puts files and folders on the volume, with types, creators, dates and resource forks where they are known",
-        usage: Some("hfs_tool put [OPTIONS] --out <FILE> <IMAGE> <SOURCE>..."),
-        after_help: Some(PUTS),
-        arguments: &[
-            BARE_IMAGE, SOURCE, OUT, TO, MACBINARY, REPLACE, RENAME, CLOCK_NOW, VOLUME,
-        ],
-    };
+    const DECLARATION: Declaration = COMMAND;
 
     fn read(alloc: Global, matches: &ArgMatches<'a>) -> Result<Put<'a>, WordsFault> {
         let image = image_words(BARE_IMAGE, matches)?;

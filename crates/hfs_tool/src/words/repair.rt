@@ -19,8 +19,16 @@ use std::thread::Threads;
 const FILE: Argument = Argument {
     name: "FILE",
     takes: Takes::Text,
-    help: "The file to write; what it has is replaced; it may be the image",
+    help: "The file for the repaired image; its contents are replaced; it may be IMAGE",
     excludes: &[],
+};
+
+const COMMAND: Declaration = Declaration {
+    name: "repair",
+    about: "Repairs a volume's counts, if nothing else is wrong, and writes the image",
+    usage: None,
+    after_help: None,
+    arguments: &[BARE_IMAGE, FILE, VOLUME],
 };
 
 /// `repair IMAGE FILE [--volume N]`.
@@ -32,13 +40,7 @@ pub struct Repair<'a> {
 }
 
 impl<'a> Word<'a> for Repair<'a> {
-    const DECLARATION: Declaration = Declaration {
-        name: "repair",
-        about: "Writes a volume with its counts mended, if nothing else is wrong",
-        usage: None,
-        after_help: None,
-        arguments: &[BARE_IMAGE, FILE, VOLUME],
-    };
+    const DECLARATION: Declaration = COMMAND;
 
     fn read(_alloc: Global, matches: &ArgMatches<'a>) -> Result<Repair<'a>, WordsFault> {
         Ok(Repair {

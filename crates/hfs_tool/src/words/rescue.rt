@@ -18,7 +18,7 @@ use std::thread::Threads;
 const LIST: Argument = Argument {
     name: "list",
     takes: Takes::Flag,
-    help: "Prints the lines of rescue.tsv, and writes nothing",
+    help: "Prints the lines of rescue.tsv, and makes no folder",
     excludes: &["FOLDER", "no-digest"],
 };
 
@@ -26,7 +26,7 @@ const LIST: Argument = Argument {
 const LIMIT: Argument = Argument {
     name: "limit",
     takes: Takes::CountOption { value: "BYTES" },
-    help: "The most bytes of forks to take, instead of four times those of the image",
+    help: "The most bytes of forks to copy; four times those of the image if left out",
     excludes: &[],
 };
 
@@ -35,22 +35,30 @@ const RESCUES: &str = "FOLDER becomes a bag like that of take, with what can sti
 whatever is wrong with the volume:
   data/=lost/N/NAME     what was in folder N, of which nothing is left
   data/=old/NAME        what is in a part of the catalog that is no
-                        longer used: mostly deleted, or moved since
+                        longer used: mostly deleted or moved since
   rescue.tsv            a line for each item: path, number, ID, and
                         the verdicts on the data and resource forks
 
-whole is about a fork's blocks, not about what they hold: HFS keeps no
-checksums of its data. The other verdicts:
+The verdict whole is about a fork's blocks, not about their contents:
+HFS keeps no checksums of its data. The other verdicts:
   cut N        there are blocks for only N bytes
   missing N    N of the bytes are zeros, since their blocks are missing
-  shared       a block is another fork's as well, so one of the two has
+  shared       a block is also in another fork, so one of the two has
                bytes that are not its own
-  left         the fork is not written, because of --limit
+  left         the fork is not copied, because of --limit
 
 The lines: the image's fault as check prints it, the block of its
 directory (unsure if it is a guess), files, folders, the bytes of all,
-how many files are whole, and how many are damaged. The status is 3 if
-one of them is damaged, or the catalog is.";
+how many files are whole, and how many are damaged. The exit status is 3
+if one of them is damaged, or the catalog is.";
+
+const COMMAND: Declaration = Declaration {
+    name: "rescue",
+    about: "Copies what remains of a damaged volume into a new folder, a bag (RFC 8493), or lists it",
+    usage: Some("hfs_tool rescue [OPTIONS] <IMAGE> [FOLDER | --list]"),
+    after_help: Some(RESCUES),
+    arguments: &[IMAGE, FOLDER, LIST, LIMIT, VOLUME, NO_DIGEST],
+};
 
 /// `rescue IMAGE [FOLDER | --list] [--limit BYTES] [--volume N] [--no-digest]`.
 #[derive(Clone, Copy)]
@@ -62,13 +70,7 @@ pub enum Rescue<'a> {
 }
 
 impl<'a> Word<'a> for Rescue<'a> {
-    const DECLARATION: Declaration = Declaration {
-        name: "rescue",
-        about: "Takes what remains off a damaged volume, into a new folder: a bag (RFC 8493), or lists it",
-        usage: Some("hfs_tool rescue [OPTIONS] <IMAGE> [FOLDER | --list]"),
-        after_help: Some(RESCUES),
-        arguments: &[IMAGE, FOLDER, LIST, LIMIT, VOLUME, NO_DIGEST],
-    };
+    const DECLARATION: Declaration = COMMAND;
 
     fn read(_alloc: Global, matches: &ArgMatches<'a>) -> Result<Rescue<'a>, WordsFault> {
         let words = RescueWords {

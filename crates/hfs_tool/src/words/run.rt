@@ -40,22 +40,28 @@ const RUNS: &str = "Each line of the script is answered by a line: who called, t
 of the call among the caller's own, the code, and a value. With --out
 the changed image is written before the first answer is printed.
 
-With --volume N it runs on that volume in IMAGE, and FILE is IMAGE with
-the volume changed: no other byte is, but the checksum of a disk copy,
-which is made anew.
+With --volume N the script runs on that volume in IMAGE, and FILE is
+IMAGE with the volume changed: no other byte is, except for the checksum
+of a disk copy, which is computed anew.
 
-Faults, in the order in which they are looked for; each is printed
-alone:
+Faults, in the order in which they are checked; each is printed alone:
   cannot read IMAGE, or image too large
-  no volume N        or not written here, where it lies in raw sectors
+  no volume N        or not written here, if it is in raw sectors
   sum wrong          the checksum of a disk copy isn't that of its data
   cannot read SCRIPT, or script too large
   script line N      the first line that isn't valid, counted from 1;
                      no call was made
-  what check prints  the volume of the image is refused; no call was
-                     made
+  what check prints  the volume is refused; no call was made
   no place for a viewer
   cannot write FILE  the file is as it was";
+
+const COMMAND: Declaration = Declaration {
+    name: "run",
+    about: "Runs a script of calls, with several workers and viewers at once, and prints the answers",
+    usage: None,
+    after_help: Some(RUNS),
+    arguments: &[BARE_IMAGE, SCRIPT, NOW, OUT, VOLUME],
+};
 
 /// `run IMAGE SCRIPT [--now N] [--out FILE] [--volume N]`.
 #[derive(Clone, Copy)]
@@ -70,13 +76,7 @@ pub struct Run<'a> {
 }
 
 impl<'a> Word<'a> for Run<'a> {
-    const DECLARATION: Declaration = Declaration {
-        name: "run",
-        about: "Runs a script of calls by several workers and viewers at once, and prints the answers",
-        usage: None,
-        after_help: Some(RUNS),
-        arguments: &[BARE_IMAGE, SCRIPT, NOW, OUT, VOLUME],
-    };
+    const DECLARATION: Declaration = COMMAND;
 
     fn read(_alloc: Global, matches: &ArgMatches<'a>) -> Result<Run<'a>, WordsFault> {
         Ok(Run {

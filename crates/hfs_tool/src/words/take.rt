@@ -18,17 +18,25 @@ const TAKES: &str = "FOLDER becomes a bag:
                         the volume
   data/._NAME           an AppleDouble file: type, creator, the
                         Finder's bytes and the resource fork
-  manifest-sha256.txt   the digest of each file below data
-  items.csv             the table of items, and where each lies in data
+  manifest-sha256.txt   the digest of each file in data
+  items.csv             the table of items, with where each is in data
   volume.txt            the lines of info and of check
   bag-info.txt, bagit.txt, tagmanifest-sha256.txt
 
 In NAME a character that some file system doesn't allow is = and two
-hexadecimal digits. A data fork has the file's date, in no zone, from
-1970 on. FOLDER is written as FOLDER.0.new and renamed when it is
-complete. Check a bag with sha256sum -c manifest-sha256.txt inside it,
-before it is copied to a Macintosh, which joins the AppleDouble files
-to theirs.";
+hexadecimal digits. A data fork has the file's date, without a time
+zone, if that is 1970 or later. FOLDER is written as FOLDER.0.new and
+renamed when it is complete. Check a bag by sha256sum -c
+manifest-sha256.txt inside it, before it is copied to a Macintosh, which
+joins the AppleDouble files to their data forks.";
+
+const COMMAND: Declaration = Declaration {
+    name: "take",
+    about: "Copies all files and folders off the volume into a new folder: a bag (RFC 8493) with AppleDouble files",
+    usage: None,
+    after_help: Some(TAKES),
+    arguments: &[IMAGE, FOLDER, VOLUME, NO_DIGEST],
+};
 
 /// `take IMAGE FOLDER [--volume N] [--no-digest]`.
 #[derive(Clone, Copy)]
@@ -37,13 +45,7 @@ pub struct Take<'a> {
 }
 
 impl<'a> Word<'a> for Take<'a> {
-    const DECLARATION: Declaration = Declaration {
-        name: "take",
-        about: "Takes all files and folders off the volume, into a new folder: a bag (RFC 8493) with AppleDouble files",
-        usage: None,
-        after_help: Some(TAKES),
-        arguments: &[IMAGE, FOLDER, VOLUME, NO_DIGEST],
-    };
+    const DECLARATION: Declaration = COMMAND;
 
     fn read(_alloc: Global, matches: &ArgMatches<'a>) -> Result<Take<'a>, WordsFault> {
         let words = TakeWords {

@@ -14,12 +14,12 @@ use std::thread::Threads;
 const FILE: Argument = Argument {
     name: "FILE",
     takes: Takes::Text,
-    help: "The file to look for volumes in; it may be a device",
+    help: "The file to search for volumes; it may be a device",
     excludes: &[],
 };
 
 /// What the help of the word `volumes` says besides its arguments.
-const VOLUMES: &str = "How a volume lies in the file:
+const VOLUMES: &str = "The containers of a volume:
   bare       it is the whole file
   macbinary  it is the data fork of a MacBinary file
   disk copy  it is the data of a Disk Copy 4.2 file, which may be the
@@ -29,19 +29,27 @@ const VOLUMES: &str = "How a volume lies in the file:
              of 512 or 2,048 bytes
   raw 2352   it is bare, or a partition, in the user data of raw CD
              sectors; 'other mode N' says that N sectors have none
-A disk copy or a partition without a volume is listed, too, with
+A disk copy or a partition without a volume is listed too, with
 'no volume' at the end of the line.
 
-The words info, check, ls, items, page, cat, extract, take and rescue
-read the N-th of them with --volume N, and the file as it is with
---volume 0. Without --volume they take a bare volume as it is, or else
-the only volume inside, and rescue the only line, even one with 'no
-volume'; if there are several, none. info, run, repair and put take the
-file as it is, and so does every word that reads a pipe. With --volume N
-run, repair and put write the file with that volume changed.
+A command with the option --volume takes the N-th of them with
+--volume N, and the file as it is with --volume 0. Without --volume,
+info, run, repair and put take the file as it is, and so does every
+command that reads a pipe. All others take a bare volume as it is, or
+else the only volume inside; rescue takes the only line, even one with
+'no volume'. If there are several, they take none. With --volume N run,
+repair and put write the file with that volume changed.
 
-Not looked for: a map within a map or within a disk copy, Disk Copy 6
-and other compressed forms, MFS, and HFS Plus without a wrapper.";
+Not searched: a map within a map or within a disk copy, Disk Copy 6 and
+other compressed formats, MFS, and HFS Plus without a wrapper.";
+
+const COMMAND: Declaration = Declaration {
+    name: "volumes",
+    about: "Prints a line for each HFS volume in a file: number, container, first byte, bytes, name",
+    usage: None,
+    after_help: Some(VOLUMES),
+    arguments: &[FILE],
+};
 
 /// `volumes FILE`.
 #[derive(Clone, Copy)]
@@ -50,13 +58,7 @@ pub struct Volumes<'a> {
 }
 
 impl<'a> Word<'a> for Volumes<'a> {
-    const DECLARATION: Declaration = Declaration {
-        name: "volumes",
-        about: "Prints a line for each HFS volume in a file: number, how it lies, first byte, bytes, name",
-        usage: None,
-        after_help: Some(VOLUMES),
-        arguments: &[FILE],
-    };
+    const DECLARATION: Declaration = COMMAND;
 
     fn read(_alloc: Global, matches: &ArgMatches<'a>) -> Result<Volumes<'a>, WordsFault> {
         Ok(Volumes {
