@@ -11,13 +11,14 @@ use std::thread::Threads;
 
 /// A word of the program, with what its command line asks for. Each word is one type, in a file of `words/`.
 pub trait Word<'a>: Sized + Drop {
-    /// Its name, help and arguments, as its command is declared to clap.
+    /// Its name, help and arguments, as its command is declared to clap. It is the name of a constant of the word's file: no constant
+    /// inside an impl holds a list.
     const DECLARATION: Declaration;
 
-    /// What it is asked for, by the values of its arguments. Faults: out of memory, a value that is none, the program's own.
+    /// What it is asked for, by the values of its arguments. Faults: out of memory, a text that is no value, the program's own.
     fn read(alloc: Global, matches: &ArgMatches<'a>) -> Result<Self, WordsFault>;
 
-    /// The image that it looks at; None if it makes a volume. If that is refused, a terminal is told what it looks like.
+    /// The image that it looks at; None if it makes a volume. If that is refused, a terminal is shown what it looks like.
     fn looked_at(&self) -> Option<ImageWords<'a>>;
 
     /// Does what it is asked for, with threads if it has many callers, and returns the exit status. The `requires` says again that T
