@@ -2,7 +2,7 @@ pub mod Laid
 pub mod FirstBits
 pub mod Rounding
 pub mod MapNodes
-pub mod Blocks
+pub mod BlockLemmas
 pub mod NodesRead
 pub mod BitsRead
 pub mod NewVolume
