@@ -48,7 +48,7 @@ use volumes::Volumes;
 const TOOL: Program = Program {
     declaration: Declaration {
         name: "hfs_tool",
-        about: "Reads, checks, repairs and makes HFS volumes, the disks of old Macintoshes, copies files off them and onto them, and runs scripts on them. Without a command it prints the info of standard input",
+        about: "Reads, checks, repairs and makes HFS volumes, the disks of old Macintoshes, and copies files off and onto them. Without a command it prints the info of standard input",
         usage: None,
         after_help: Some(AFTER_HELP),
         arguments: &[],

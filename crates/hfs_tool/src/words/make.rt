@@ -20,7 +20,7 @@ use std::thread::Threads;
 const SOURCE: Argument = Argument {
     name: "SOURCE",
     takes: Takes::SomeTexts,
-    help: "What to put on the volume: a file, a folder with everything in it, or a bag, of which the contents of data; of an only folder its contents alone",
+    help: "What to put on the volume: a file, a folder (what is in it, if it is the only SOURCE), or a bag, of which the contents of data",
     excludes: &[],
 };
 
@@ -36,7 +36,7 @@ const NAME: Argument = Argument {
 const SIZE: Argument = Argument {
     name: "size",
     takes: Takes::AnyTextOption { value: "SIZE" },
-    help: "The size, 64K to 2G in whole blocks of 512 bytes: in bytes, or followed by K, M or G (powers of 1,024); if left out, what SOURCE needs and a tenth more",
+    help: "The size, 64K to 2G: bytes, or with K, M or G (powers of 1,024), in blocks of 512; if left out, what SOURCE needs and a tenth more",
     excludes: &[],
 };
 
@@ -55,7 +55,7 @@ When FILE is written, made is printed, and the lines of put.";
 
 const COMMAND: Declaration = Declaration {
     name: "make",
-    about: "Makes a new volume with files and folders on it, which replaces the contents of the file",
+    about: "Makes a new volume with files and folders on it",
     usage: Some("hfs_tool make [OPTIONS] <FILE> <SOURCE>..."),
     after_help: Some(MAKES),
     arguments: &[FILE, SOURCE, NAME, SIZE, CLOCK_NOW, MACBINARY, RENAME],
@@ -99,8 +99,8 @@ impl<'a> Word<'a> for Make<'a> {
         None
     }
 
-    /// Makes the volume, and prints how much was put on it. It is written first; if that fails, or something can't be put, only that
-    /// is printed.
+    /// Makes the volume, and prints how much was put on it. It is written first; if that fails, or something can't be put, only
+    /// that is printed.
     fn obey<T: Threads + Wait + Sync>(
         &self,
         rt: &HostRuntime,

@@ -48,7 +48,7 @@ const EXTENTS: Argument = Argument {
 
 const COMMAND: Declaration = Declaration {
     name: "new",
-    about: "Makes a new, empty volume, which replaces the contents of the file",
+    about: "Makes a new, empty volume",
     usage: None,
     after_help: None,
     arguments: &[FILE, NAME, BLOCKS, NODES, EXTENTS, NOW],

@@ -37,7 +37,7 @@ const OUT: Argument = Argument {
 const TO: Argument = Argument {
     name: "to",
     takes: Takes::AnyTextOption { value: "PATH" },
-    help: "The folder to put it into, by its path as hfs_tool items prints it (Disk:Folder or :Folder); the root if left out",
+    help: "The destination folder, by its path as hfs_tool items prints it (Disk:Folder or :Folder); the root if left out",
     excludes: &[],
 };
 
