@@ -199,6 +199,8 @@ wants 0 '' new "$small" D 64 6 2
 [ "$(stat -c %s "$small")" = 32768 ] || fail 'the length of a new volume'
 wants 0 'sound\nfiles 0\nfolders 0\nfree 50\nalternate same\nunowned 0\n' check "$small"
 wants 0 '' ls "$small"
+wants 0 'D\n' tree "$small"
+wants 4 "cannot read $folder/none.img\n" tree "$folder/none.img"
 wants 3 'code -120\n' ls "$small" 99
 wants 3 'code -43\n' cat "$small" 2 q
 wants 3 'code -120\n' cat "$small" 3 q

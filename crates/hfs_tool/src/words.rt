@@ -14,6 +14,7 @@ mod repair;
 mod rescue;
 mod run;
 mod take;
+mod tree;
 mod volumes;
 
 use crate::help::AFTER_HELP;
@@ -42,6 +43,7 @@ use std::io::IsTerminal;
 use std::sync::Wait;
 use std::thread::Threads;
 use take::Take;
+use tree::Tree;
 use volumes::Volumes;
 
 /// The program, without its words.
@@ -62,6 +64,7 @@ fn command<'a>(alloc: Global) -> Result<Command<'a>, AllocError> {
     let command = with::<Check<'_>>(command, alloc);
     let command = with::<Ls<'_>>(command, alloc);
     let command = with::<Items<'_>>(command, alloc);
+    let command = with::<Tree<'_>>(command, alloc);
     let command = with::<Page<'_>>(command, alloc);
     let command = with::<Cat<'_>>(command, alloc);
     let command = with::<Volumes<'_>>(command, alloc);
@@ -95,6 +98,7 @@ fn answer_word<T: Threads + Wait + Sync>(
         "check" => answer::<Check<'_>, T>(rt, threads, matches),
         "ls" => answer::<Ls<'_>, T>(rt, threads, matches),
         "items" => answer::<Items<'_>, T>(rt, threads, matches),
+        "tree" => answer::<Tree<'_>, T>(rt, threads, matches),
         "page" => answer::<Page<'_>, T>(rt, threads, matches),
         "cat" => answer::<Cat<'_>, T>(rt, threads, matches),
         "volumes" => answer::<Volumes<'_>, T>(rt, threads, matches),
