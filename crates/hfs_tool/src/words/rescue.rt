@@ -90,14 +90,10 @@ impl<'a> Word<'a> for Rescue<'a> {
     }
 
     fn looked_at(&self) -> Option<ImageWords<'a>> {
-        let words = match self {
-            Rescue::Bag(bag) => &bag.words,
-            Rescue::List(words) => words,
-        };
-        Some(ImageWords {
-            path: words.image,
-            volume: words.volume,
-        })
+        match self {
+            Rescue::Bag(bag) => Some(image_of(&bag.words)),
+            Rescue::List(words) => Some(image_of(words)),
+        }
     }
 
     fn obey<T: Threads + Wait + Sync>(
@@ -109,6 +105,14 @@ impl<'a> Word<'a> for Rescue<'a> {
             Rescue::Bag(words) => rescue_volume(rt, words),
             Rescue::List(words) => list_remains(rt, words),
         }
+    }
+}
+
+/// The image that is looked at.
+fn image_of<'a>(words: &RescueWords<'a>) -> ImageWords<'a> {
+    ImageWords {
+        path: words.image,
+        volume: words.volume,
     }
 }
 
