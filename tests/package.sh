@@ -142,24 +142,27 @@ for word in '' $("$tool" --help | awk '/^Commands:/ { inside = 1; next } /^$/ { 
     done
 done
 
-# What bash offers behind this program and these words.
+# What bash offers after this program and these words: hfs_tool's own help says it.
 offered() {
-    bash -c '. "$1"; shift; COMP_WORDS=("$@"); COMP_CWORD=$(($# - 1)); _"$1"; printf "%s\n" "${COMPREPLY[@]}" | sort | tr "\n" " "' _ \
+    PATH=$(dirname "$tool"):$PATH bash -c '. "$1"; shift; COMP_WORDS=("$@"); COMP_CWORD=$(($# - 1)); _"$1"; printf "%s\n" "${COMPREPLY[@]}" | sort | tr "\n" " "' _ \
         "$share/bash-completion/completions/$1" "$@"
 }
 [ "$(offered hfs_tool re)" = 'repair rescue ' ] || fail 'the completion of a word'
 [ "$(offered hfs_tool ex)" = 'extract ' ] && [ "$(offered hfs_tool extract --)" = '--help --volume ' ] || fail 'the completion of extract'
 [ "$(offered hfs_tool run --)" = '--help --now --out --volume ' ] || fail "the completion of an option: $(offered hfs_tool run --)"
+[ "$(offered hfs_tool page --)" = '--base --digest --help --volume ' ] || fail 'the completion of page'
 [ "$(offered hfs_tool put --)" = '--help --macbinary --now --out --rename --replace --to --volume ' ] || fail 'the completion of put'
 [ "$(offered hfs_tool ma)" = 'make ' ] && [ "$(offered hfs_tool make --)" = '--help --macbinary --name --now --rename --size ' ] || fail 'the completion of make'
 [ "$(offered hfs_collect --)" = '--compare --help --no-digest --version ' ] || fail 'the completion of an option of hfs_collect'
 [ "$(offered hfs_tool items disk.img --format '')" = 'csv json tab ' ] || fail 'the completion of a format'
 [ "$(offered hfs_tool items disk.img --format j)" = 'json ' ] || fail 'the completion of a format that was begun'
-[ "$(PATH=$(dirname "$tool"):$PATH offered hfs_tool ls tests/volumes/hfsutils-800k.img --volume '')" = '1 ' ] || fail 'the completion of a volume'
-[ -z "$(PATH=$(dirname "$tool"):$PATH offered hfs_tool ls tests/package.sh --volume '' | tr -d ' ')" ] || fail 'the completion of a volume where there is none'
+[ "$(offered hfs_tool help re)" = 'repair rescue ' ] || fail 'the completion after help'
+[ "$(offered hfs_tool ls --path :A tests/volumes/hfsutils-800k.img --volume '')" = '1 ' ] || fail "the completion of a volume after an option's value"
+[ "$(offered hfs_tool ls tests/volumes/hfsutils-800k.img --volume '')" = '1 ' ] || fail 'the completion of a volume'
+[ -z "$(offered hfs_tool ls tests/package.sh --volume '' | tr -d ' ')" ] || fail 'the completion of a volume where there is none'
 [ "$(offered hfs_collect page --)" = '--base --help ' ] || fail 'the completion of an option of hfs_collect page'
 [ "$(offered hfs_collect rows --)" = '--format --help --no-digest --table ' ] || fail 'the completion of an option of hfs_collect rows'
 for program in 'hfs_tool check' hfs_collect; do
-    [ -n "$(offered $program tests/vol)" ] || fail "the completion of a path behind $program"
+    [ -n "$(offered $program tests/vol)" ] || fail "the completion of a path after $program"
 done
 echo "the package agrees: $(dpkg-deb -c "$package" | grep -vc '/$') files"

@@ -587,7 +587,9 @@ done
 [[ $("$tool" cat --help) == *'Usage: hfs_tool cat [OPTIONS] <IMAGE> [<DIR> <NAME> | --path <PATH>]'* ]] || fail 'the usage of cat'
 [[ $("$tool" ls --help) == *'Usage: hfs_tool ls [OPTIONS] <IMAGE> [DIR | --path <PATH>]'* ]] || fail 'the usage of ls'
 [[ $("$tool" rescue --help) == *'Usage: hfs_tool rescue [OPTIONS] <IMAGE> [FOLDER | --list]'* ]] || fail 'the usage of rescue'
-[[ $("$tool" volumes --help | tr '\n' ' ') == *'info, check, ls, items, page, cat, extract, take and rescue'* ]] || fail 'the words that take a volume by its number'
+for word in info check ls items page cat extract take rescue repair run put; do
+    "$tool" "$word" --help | grep -q '^ *--volume <N> ' || fail "$word does not take a volume by its number"
+done
 
 # Each word is read in its place: a name and a number with a hyphen and zeros in front, the moment, the folder, the fork.
 "$tool" new "$folder/words.img" -D 1600 007 2 --now 100

@@ -3,7 +3,7 @@
 use crate::reading_page::{PageWords, page_command, page_words};
 use crate::reading_rows::{RowsWords, rows_command, rows_words};
 use clap::{ArgMatches, Command, Error};
-use hfs_console::{Argument, NoValue, Program, Takes, VERSION, Word, WordsFault, with_word};
+use hfs_console::{Argument, Declaration, NoValue, Program, Takes, VERSION, WordsFault, with_word};
 use std::alloc::{AllocError, Global};
 
 /// What the program is asked for.
@@ -34,7 +34,7 @@ pub struct CollectWords<'a> {
 const DATABASE: Argument = Argument {
     name: "DATABASE",
     takes: Takes::Text,
-    help: "The SQLite file; it is made if there is none",
+    help: "The SQLite file; it is made if it doesn't exist",
     excludes: &[],
 };
 
@@ -42,7 +42,7 @@ const DATABASE: Argument = Argument {
 const IMAGES: Argument = Argument {
     name: "IMAGE",
     takes: Takes::Texts { unless: "compare" },
-    help: "The images, by their paths; with --compare, all in the database if none is given",
+    help: "The images, by their paths; with --compare, all that are in the database if none is given",
     excludes: &[],
 };
 
@@ -50,7 +50,7 @@ const IMAGES: Argument = Argument {
 const NO_DIGEST: Argument = Argument {
     name: "no-digest",
     takes: Takes::Flag,
-    help: "No SHA-256 digests of the images and of the forks",
+    help: "Leaves out the SHA-256 digests of images and forks",
     excludes: &[],
 };
 
@@ -58,29 +58,30 @@ const NO_DIGEST: Argument = Argument {
 const COMPARE: Argument = Argument {
     name: "compare",
     takes: Takes::Flag,
-    help: "Only reports which images are missing, new, changed or the same; changes no row",
+    help: "Reports which images are missing, new, changed or the same, and changes no row",
     excludes: &["no-digest"],
 };
 
 /// What the help says after the arguments.
 const COLLECTIONS: &str = "For each image a line is printed: its path, how many volumes it has, how
 many of these are refused, how many files there are, and how many of
-them are damaged. An image that was collected before, under the same
-path, is read anew. For a volume that is refused, the database has what
-hfs_tool rescue finds of it, with a verdict on each fork.
+them are damaged. An image that was collected before, by the same path,
+is read again. Of a volume that is refused, the database has what
+hfs_tool rescue finds, with a verdict on each fork.
 
 The tables are image, volume and item; docs/MANUAL.md has questions that
-they answer. An image in which seeking is impossible, such as a pipe, is
-held in memory while it is collected.
+they answer. An image that can't be read out of order, such as a pipe,
+is held in memory while it is collected.
 
-With --compare there is a line for each image: missing, new, changed,
+With --compare a line is printed for each image: missing, new, changed,
 same, or 'same length' if the database has no digest of it.
 
 Exit statuses:
   0  done
-  1  the words are refused
+  1  the command line is refused
   3  with --compare an image is missing or changed
-  4  an image could not be read, or the database not opened or written
+  4  an image could not be read, or the database could not be opened or
+     written
   5  out of memory
 
 Examples:
@@ -92,9 +93,10 @@ Examples:
 
 /// The program, without its words.
 const COLLECT: Program = Program {
-    word: Word {
+    declaration: Declaration {
         name: "hfs_collect",
-        about: "Collects images of Macintosh disks, their HFS volumes and all items in one SQLite database, or compares them with it",
+        about: "Collects images of Macintosh disks, with their HFS volumes and all items, in one SQLite database, or compares them with it",
+        usage: None,
         after_help: Some(COLLECTIONS),
         arguments: &[DATABASE, IMAGES, NO_DIGEST, COMPARE],
     },

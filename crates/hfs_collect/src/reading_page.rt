@@ -1,7 +1,7 @@
 //! The word `page`, from the command line to what it asks for.
 
 use clap::{ArgMatches, Command};
-use hfs_console::{Argument, NoValue, Takes, Word};
+use hfs_console::{Argument, Declaration, NoValue, Takes};
 use std::alloc::{AllocError, Global};
 
 /// A database whose page is printed.
@@ -17,7 +17,7 @@ pub struct PageWords<'a> {
 const DATABASE: Argument = Argument {
     name: "DATABASE",
     takes: Takes::Text,
-    help: "The SQLite file that has the collection",
+    help: "The SQLite file that the images were collected in",
     excludes: &[],
 };
 
@@ -25,7 +25,7 @@ const DATABASE: Argument = Argument {
 const BASE: Argument = Argument {
     name: "base",
     takes: Takes::TextOption { value: "URL" },
-    help: "Each image's path is a link to its page below this URL, which begins with http: or https:, or is relative",
+    help: "Links each image's path to its page below this URL, which begins with http: or https:, or is relative",
     excludes: &[],
 };
 
@@ -34,17 +34,18 @@ const PAGE_HELP: &str = "The page is one self-contained HTML document: it loads 
 elsewhere, and can be put on a web site as it is. It has a line for each
 volume: its image, its name, how many files there are and how many of
 them are damaged, its free space, when it was created and modified, and
-its verdict. Below them are the fork contents that are on the most
-volumes, 1,000 at most: one path of each, its bytes and its digest.
+its verdict. Below is a list of the fork contents that are on the most
+volumes, at most 1,000: one path of each, its bytes and its digest.
 
 With --base URL the page of images/disk.img is URL/images/disk.img.html,
-as hfs_tool page prints it. If an image has several volumes, that of the
+made by hfs_tool page. If an image has several volumes, the page of the
 N-th is URL/images/disk.img.N.html.";
 
 /// The word `page`.
-const PAGE: Word = Word {
+const PAGE: Declaration = Declaration {
     name: "page",
-    about: "Prints a page for a browser: the volumes of a collection, and what is on several of them",
+    about: "Prints an HTML page about a collection: its volumes, and what is on several of them",
+    usage: None,
     after_help: Some(PAGE_HELP),
     arguments: &[DATABASE, BASE],
 };

@@ -1,7 +1,7 @@
 //! The word `rows`, from the command line to what it asks for.
 
 use clap::{Arg, ArgAction, ArgMatches, Command};
-use hfs_console::{Argument, NoValue, Takes, Word, WordsFault};
+use hfs_console::{Argument, Declaration, NoValue, Takes, WordsFault};
 use hfs_word_collect::{Form, Table};
 use std::alloc::{AllocError, Global};
 
@@ -32,7 +32,7 @@ const FORMAT: Argument = Argument {
         choices: &["csv", "jsonl"],
         default: "jsonl",
     },
-    help: "JSON, one object per line, or CSV of one table with a header",
+    help: "A JSON object per line, or CSV of one table with a header",
     excludes: &[],
 };
 
@@ -46,26 +46,27 @@ const TABLES: &[&str] = &["image", "volume", "item"];
 const NO_DIGEST: Argument = Argument {
     name: "no-digest",
     takes: Takes::Flag,
-    help: "No SHA-256 digests of the images and of the forks",
+    help: "Leaves out the SHA-256 digests of images and forks",
     excludes: &[],
 };
 
 /// What the help says after the arguments.
-const ROWS_HELP: &str = "The rows are those that the database would have, with keys that hold
-without one: image_path and image_sha256 of volumes and items, and
-volume_number of items. Without --table an image's lines come together,
-each with its table first, and after them one of the table end: whole
-is 1, or 0 if reading the image failed on the way. So load only what has
-an end that is whole. What is NULL in the database is null, and in CSV
-an empty field; an empty text is \"\".
+const ROWS_HELP: &str = "The rows are those that the database would have, with keys that are
+valid without one: image_path and image_sha256 of volumes and items, and
+volume_number of items. Without --table the lines of an image come
+together, each with its table first, followed by a line of the table
+end: there whole is 1, or 0 if the image could be read only in part. So
+load only images whose whole is 1. What is NULL in the database is null,
+and in CSV an empty field; an empty text is \"\".
 
-An image that can't be read is reported on standard error, the next one
-is read, and the status is 4 at the end.";
+An image that can't be read is reported on standard error, and the next
+one is read; the exit status is 4.";
 
 /// The word `rows`.
-const ROWS: Word = Word {
+const ROWS: Declaration = Declaration {
     name: "rows",
-    about: "Prints the rows of images, their volumes and all items as text, for any database",
+    about: "Prints the rows of images, their volumes and all items as text, for other databases",
+    usage: None,
     after_help: Some(ROWS_HELP),
     arguments: &[FORMAT, NO_DIGEST],
 };
@@ -87,7 +88,7 @@ fn several<'a>(argument: Arg<'a>) -> Arg<'a> {
 /// The table as an argument, which CSV requires.
 fn table_argument<'a>(alloc: Global) -> Result<Arg<'a>, AllocError> {
     Arg::new(alloc, TABLE)
-        .help("Only the rows of this table; needed for CSV")
+        .help("Prints only the rows of this table; required for CSV")
         .long(TABLE)
         .value_name("TABLE")
         .value_parser(TABLES)

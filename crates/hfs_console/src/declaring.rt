@@ -1,17 +1,17 @@
 //! Programs, words and arguments, as they are declared to clap.
 
-use crate::words::{Argument, Program, Takes, Word};
+use crate::declaration::{Argument, Declaration, Program, Takes};
 use clap::{Arg, ArgAction, Command, value_parser};
 use std::alloc::{AllocError, Global};
 
 impl Program {
     /// The program's command, with its version and its own arguments, and no words yet. Error: out of memory.
     pub fn command<'a>(&self, alloc: Global) -> Result<Command<'a>, AllocError> {
-        Ok(self.word.command(alloc)?.version(self.version))
+        Ok(self.declaration.command(alloc)?.version(self.version))
     }
 }
 
-impl Word {
+impl Declaration {
     /// The word's command, with its arguments. Error: out of memory.
     pub fn command<'a>(&self, alloc: Global) -> Result<Command<'a>, AllocError> {
         let mut command = Ok(bare_command(alloc, self));
@@ -39,10 +39,18 @@ fn with_argument<'a>(
 }
 
 /// The command of a word without its arguments.
-fn bare_command<'a>(alloc: Global, word: &Word) -> Command<'a> {
-    let command = Command::new(alloc, word.name).about(word.about);
+fn bare_command<'a>(alloc: Global, word: &Declaration) -> Command<'a> {
+    let command = with_usage(Command::new(alloc, word.name).about(word.about), word.usage);
     match word.after_help {
         Some(text) => command.after_help(text),
+        None => command,
+    }
+}
+
+/// A command with how it is used, if that is given.
+fn with_usage<'a>(command: Command<'a>, usage: Option<&'static str>) -> Command<'a> {
+    match usage {
+        Some(usage) => command.override_usage(usage),
         None => command,
     }
 }

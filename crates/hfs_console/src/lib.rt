@@ -6,6 +6,7 @@
 //! What a program prints, and the exit statuses after that.
 #![tactic(auto)]
 
+mod declaration;
 mod declaring;
 mod glance;
 mod hints;
@@ -17,8 +18,8 @@ mod progress;
 mod reading;
 mod reasons;
 mod refusing;
-mod words;
 
+pub use crate::declaration::{Argument, Declaration, Program, Takes};
 pub use crate::declaring::with_word;
 pub use crate::glance::{Beside, Glance, Piece};
 pub use crate::hints::{tell_hint, tell_sum};
@@ -29,4 +30,3 @@ pub use crate::progress::Progress;
 pub use crate::reading::NoValue;
 pub use crate::reasons::{tell_more, tell_unread};
 pub use crate::refusing::{WordsFault, refused, refused_words};
-pub use crate::words::{Argument, Program, Takes, Word};

@@ -5,7 +5,7 @@ ghost use Rattle.std.specs.Option.{option_map_or};
 ghost use Rattle.std.specs.Str.Parse.{digits_value, false_text, true_text, without_leading_plus};
 ghost use Rattle.clap.specs.Matches.{first_value, found_of, matched_of, one_text, raw_values};
 
-use crate::words::Argument;
+use crate::declaration::Argument;
 use clap::ArgMatches;
 use std::alloc::{AllocError, Global};
 

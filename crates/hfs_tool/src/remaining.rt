@@ -1,7 +1,7 @@
 //! What is found of a refused image, shown as the words show a sound one.
 
-use crate::commands::print_code;
-use crate::words::{ForkPathWords, PathWords};
+use crate::places::{ImageWords, PathWords};
+use crate::printing::print_code;
 use hfs_check::MountFault;
 use hfs_commands::{
     Counted, Fault, FilePart, Format, OpenedFile, PartImage, SeenImage, StoredFile, Unopened,
@@ -61,19 +61,15 @@ fn choose_range<'a>(
 
 /// What is looked at of an image: the volume that is asked for, or that is the only one in it; if there is none, what `rescue`
 /// would take.
-pub fn choose<'a>(
-    rt: &HostRuntime,
-    path: &'a str,
-    volume: Option<u64>,
-) -> Result<Chosen, Fault<'a>> {
-    let FilePart { bytes, place } = open_asked(rt, path, Counted::Volumes, volume)?;
-    if volume.is_some() || place.is_some() || is_held(&bytes.source) {
+pub fn choose<'a>(rt: &HostRuntime, image: ImageWords<'a>) -> Result<Chosen, Fault<'a>> {
+    let FilePart { bytes, place } = open_asked(rt, image.path, Counted::Volumes, image.volume)?;
+    if image.volume.is_some() || place.is_some() || is_held(&bytes.source) {
         return Ok(Chosen {
             part: bytes,
             is_one: true,
         });
     }
-    choose_range(rt.alloc(), bytes, path)
+    choose_range(rt.alloc(), bytes, image.path)
 }
 
 /// Opens something that holds several ranges and no volume, which is refused.
@@ -90,26 +86,22 @@ fn open_several<'a>(
 
 /// Looks at an image, or at the volume in it that is asked for: opens it once, makes all checks, and, if it is refused, finds
 /// what remains of it.
-pub fn look_at<'a>(
-    rt: &HostRuntime,
-    path: &'a str,
-    volume: Option<u64>,
-) -> Result<Looked, Fault<'a>> {
-    let Chosen { part, is_one } = choose(rt, path, volume)?;
+pub fn look_at<'a>(rt: &HostRuntime, image: ImageWords<'a>) -> Result<Looked, Fault<'a>> {
+    let Chosen { part, is_one } = choose(rt, image)?;
     if !is_one {
-        return open_several(rt, part, path);
+        return open_several(rt, part, image.path);
     }
     match look(rt.alloc(), part_blocks(part)) {
         Ok(looked) => Ok(looked),
-        Err(fault) => Err(Fault::of_sparse(fault, path)),
+        Err(fault) => Err(Fault::of_sparse(fault, image.path)),
     }
 }
 
 /// What is looked for in a refused image.
-fn rescue_words<'a>(image: &'a str, volume: Option<u64>) -> RescueWords<'a> {
+fn rescue_words<'a>(image: ImageWords<'a>) -> RescueWords<'a> {
     RescueWords {
-        image,
-        volume,
+        image: image.path,
+        volume: image.volume,
         limit: None,
     }
 }
@@ -146,12 +138,11 @@ fn find(rt: &HostRuntime, refused: RefusedImage<Part>) -> Result<Remains<Part>, 
 /// Prints the table of what is found of a refused image, and then on standard error why it is refused.
 pub fn show_items<'a>(
     rt: &HostRuntime,
-    image: &'a str,
-    volume: Option<u64>,
+    image: ImageWords<'a>,
     format: Format,
     refused: RefusedImage<Part>,
 ) -> Result<u8, Fault<'a>> {
-    let words = rescue_words(image, volume);
+    let words = rescue_words(image);
     let why = refused.why;
     let remains = find(rt, refused)?;
     let status = remains.write_items(rt.alloc(), &mut rt.stdout(), &words, format)?;
@@ -162,12 +153,11 @@ pub fn show_items<'a>(
 /// and then nothing is printed.
 pub fn show_page<S: PlacedBlocks + Drop>(
     rt: &HostRuntime,
-    image: &str,
-    volume: Option<u64>,
+    image: ImageWords<'_>,
     texts: &RemainsTexts<'_>,
     refused: RefusedImage<S>,
 ) -> Result<Option<u8>, Fault<'static>> {
-    let words = rescue_words(image, volume);
+    let words = rescue_words(image);
     let why = refused.why;
     match remains_of(rt.alloc(), refused) {
         Ok(Some(remains)) => {
@@ -187,7 +177,7 @@ pub fn show_folder<'a>(
     place: &PathWords<'a>,
     refused: RefusedImage<Part>,
 ) -> Result<u8, Fault<'a>> {
-    let words = rescue_words(place.image, place.volume);
+    let words = rescue_words(place.image);
     let why = refused.why;
     let remains = find(rt, refused)?;
     let told = remains.write_folder(rt.alloc(), &mut rt.stdout(), &words, place.path)?;
@@ -207,14 +197,14 @@ fn kind_of(fork: Fork) -> ForkKind {
 /// path; then prints on standard error why the image is refused.
 pub fn show_fork<'a>(
     rt: &HostRuntime,
-    file: &ForkPathWords<'a>,
+    place: &PathWords<'a>,
+    fork: Fork,
     refused: RefusedImage<Part>,
 ) -> Result<u8, Fault<'a>> {
-    let place = &file.place;
-    let words = rescue_words(place.image, place.volume);
+    let words = rescue_words(place.image);
     let why = refused.why;
     let remains = find(rt, refused)?;
-    let kind = kind_of(file.fork);
+    let kind = kind_of(fork);
     let ShownFork { told, source: _ } = remains.write_fork(
         rt.alloc(),
         &mut rt.stdout(),
@@ -227,6 +217,6 @@ pub fn show_fork<'a>(
             let status = print_end(rt, told)?;
             tell_refused(rt, why, status)
         }
-        Err(fault) => Err(Fault::of_copy(fault, place.image)),
+        Err(fault) => Err(Fault::of_copy(fault, place.image.path)),
     }
 }

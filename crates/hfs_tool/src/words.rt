@@ -1,263 +1,234 @@
-//! What the program's words ask for, as typed commands.
+//! The program's words: the command that is made of them, and which one does what a command line asks for.
 
-use hfs_commands::Format;
-use hfs_model::Fork;
-use hfs_put_sources::PutOptions;
-use hfs_word_rescue::{BagWords, RescueWords};
-use hfs_word_take::TakeWords;
+mod cat;
+mod check;
+mod extract;
+mod info;
+mod items;
+mod ls;
+mod make;
+mod new;
+mod page;
+mod put;
+mod repair;
+mod rescue;
+mod run;
+mod take;
+mod volumes;
 
-/// What the words ask for.
-#[derive(Drop)]
-pub enum Words<'a> {
-    /// No words: the fields of the master directory block on standard input.
-    StandardInput,
-    /// `info IMAGE [--volume N]`: the fields of the master directory block.
-    Info {
-        image: &'a str,
-        volume: Option<u64>,
+use crate::help::AFTER_HELP;
+use crate::word::Word;
+use cat::Cat;
+use check::Check;
+use clap::{ArgMatches, Command, Error};
+use extract::Extract;
+use hfs_commands::Status;
+use hfs_console::{
+    Declaration, Program, VERSION, WordsFault, refused, refused_words, tell_kind, tell_more,
+    with_word,
+};
+use info::{Info, print_info};
+use items::Items;
+use ls::Ls;
+use make::Make;
+use new::New;
+use page::Page;
+use put::Put;
+use repair::Repair;
+use rescue::Rescue;
+use run::Run;
+use std::alloc::{AllocError, Global};
+use std::io::IsTerminal;
+use std::sync::Wait;
+use std::thread::Threads;
+use take::Take;
+use volumes::Volumes;
+
+/// The program, without its words.
+const TOOL: Program = Program {
+    declaration: Declaration {
+        name: "hfs_tool",
+        about: "Reads, checks, repairs and makes HFS volumes, the disks of old Macintoshes, and copies files off and onto them. Without a command it prints the info of standard input",
+        usage: None,
+        after_help: Some(AFTER_HELP),
+        arguments: &[],
     },
-    /// `check IMAGE [--volume N]`: the report on the image.
-    Check {
-        image: &'a str,
-        volume: Option<u64>,
-    },
-    /// `ls IMAGE [DIR] [--volume N]`: a line for each child of the folder with that ID.
-    List {
-        image: &'a str,
-        volume: Option<u64>,
-        dir: u32,
-    },
-    /// `ls IMAGE --path PATH [--volume N]`: the same for the folder that the path leads to.
-    ListAt(PathWords<'a>),
-    /// `items IMAGE [--format tab|csv|json] [--volume N]`: a line for each item of the volume.
-    Items {
-        image: &'a str,
-        volume: Option<u64>,
-        format: Format,
-    },
-    /// `page IMAGE [--volume N] [--base URL] [--digest]`: a page of the volume, as an HTML document.
-    Page(PageWords<'a>),
-    /// `cat IMAGE DIR NAME [--resource] [--volume N]`: the bytes of a file's fork.
-    Cat(ForkWords<'a>),
-    /// `cat IMAGE --path PATH [--resource] [--volume N]`: the same for the file that the path leads to.
-    CatAt(ForkPathWords<'a>),
-    /// `cat IMAGE DIR NAME --macbinary [--volume N]`: a file with both forks.
-    MacBinary(FileWords<'a>),
-    /// `cat IMAGE --path PATH --macbinary [--volume N]`: the same for the file that the path leads to.
-    MacBinaryAt(PathWords<'a>),
-    /// `volumes FILE`: a line for each volume inside a file.
-    Volumes {
-        file: &'a str,
-    },
-    /// `extract FILE OUT [--volume N]`: the bytes of a volume as a file of its own.
-    Extract(ExtractWords<'a>),
-    /// `take IMAGE FOLDER [--volume N] [--no-digest]`: all items of the volume as a bag.
-    Take(TakeWords<'a>),
-    /// `rescue IMAGE FOLDER [--volume N] [--limit BYTES] [--no-digest]`: what remains of a damaged volume as a bag.
-    Rescue(BagWords<'a>),
-    /// `rescue IMAGE --list [--volume N] [--limit BYTES]`: a line for each item that remains.
-    RescueList(RescueWords<'a>),
-    /// `new FILE NAME BLOCKS NODES EXTENTS [--now N]`: a new volume.
-    New(NewVolume<'a>),
-    /// `make FILE SOURCE.. [--name NAME] [--size SIZE] [--now N] [--macbinary] [--rename]`: a new volume with files and folders.
-    Make(MakeWords<'a>),
-    /// `repair IMAGE FILE [--volume N]`: the image with its counts mended.
-    Repair(RepairWords<'a>),
-    /// `run IMAGE SCRIPT [--now N] [--out FILE] [--volume N]`: the calls of a script.
-    Run(RunWords<'a>),
-    /// `put IMAGE SOURCE.. --out FILE [--to PATH] [--macbinary] [--replace] [--rename] [--now N] [--volume N]`: files and folders put on a volume.
-    Put(PutWords<'a>),
+    version: VERSION,
+};
+
+/// The program's command, with its words in the order of its help.
+fn command<'a>(alloc: Global) -> Result<Command<'a>, AllocError> {
+    let command = with::<Info<'_>>(TOOL.command(alloc), alloc);
+    let command = with::<Check<'_>>(command, alloc);
+    let command = with::<Ls<'_>>(command, alloc);
+    let command = with::<Items<'_>>(command, alloc);
+    let command = with::<Page<'_>>(command, alloc);
+    let command = with::<Cat<'_>>(command, alloc);
+    let command = with::<Volumes<'_>>(command, alloc);
+    let command = with::<Extract<'_>>(command, alloc);
+    let command = with::<Take<'_>>(command, alloc);
+    let command = with::<Rescue<'_>>(command, alloc);
+    let command = with::<New<'_>>(command, alloc);
+    let command = with::<Repair<'_>>(command, alloc);
+    let command = with::<Run<'_>>(command, alloc);
+    let command = with::<Put<'_>>(command, alloc);
+    with::<Make<'_>>(command, alloc)
 }
 
-/// A page of a volume.
-#[derive(Clone, Copy)]
-pub struct PageWords<'a> {
-    /// The path of the image.
-    pub image: &'a str,
-    /// The number of the volume in it, if one is asked for.
-    pub volume: Option<u64>,
-    /// The URL of the bag that the volume was taken into, if files are to be links.
-    pub base: Option<&'a str>,
-    /// Whether the page has the image's digest.
-    pub is_digested: bool,
+/// A command with this word as its last.
+fn with<'a, 'w, W: Word<'w>>(
+    command: Result<Command<'a>, AllocError>,
+    alloc: Global,
+) -> Result<Command<'a>, AllocError> {
+    with_word(command, W::DECLARATION.command(alloc))
 }
 
-/// An image that is looked at.
-#[derive(Clone, Copy)]
-pub struct LookedAt<'a> {
-    /// The path of the image.
-    pub path: &'a str,
-    /// The number of the volume in it, if one is asked for.
-    pub volume: Option<u64>,
-}
-
-impl<'a> Words<'a> {
-    /// Whether only standard input is to be read.
-    pub fn is_standard_input(&self) -> bool {
-        matches!(self, Words::StandardInput)
-    }
-
-    /// The image that the words look at; None if they read standard input, or make a volume.
-    pub fn looked_at(&self) -> Option<LookedAt<'a>> {
-        let (path, volume) = match self {
-            Words::StandardInput | Words::New(_) | Words::Make(_) => return None,
-            Words::Info { image, volume }
-            | Words::Check { image, volume }
-            | Words::List { image, volume, .. }
-            | Words::Items { image, volume, .. } => (*image, *volume),
-            Words::Page(words) => (words.image, words.volume),
-            Words::ListAt(place) | Words::MacBinaryAt(place) => (place.image, place.volume),
-            Words::Cat(file) => (file.image, file.volume),
-            Words::MacBinary(file) => (file.image, file.volume),
-            Words::CatAt(words) => (words.place.image, words.place.volume),
-            Words::Volumes { file } => (*file, None),
-            Words::Extract(words) => (words.file, words.volume),
-            Words::Take(words) => (words.image, words.volume),
-            Words::Rescue(words) => (words.words.image, words.words.volume),
-            Words::RescueList(words) => (words.image, words.volume),
-            Words::Repair(words) => (words.image, words.volume),
-            Words::Run(run) => (run.image, run.volume),
-            Words::Put(words) => (words.image, words.volume),
-        };
-        Some(LookedAt { path, volume })
+/// Does what the word of this name is asked for, and returns the exit status.
+fn answer_word<T: Threads + Wait + Sync>(
+    rt: &HostRuntime,
+    threads: &T,
+    name: &str,
+    matches: &ArgMatches<'_>,
+) -> u8 {
+    match name {
+        "info" => answer::<Info<'_>, T>(rt, threads, matches),
+        "check" => answer::<Check<'_>, T>(rt, threads, matches),
+        "ls" => answer::<Ls<'_>, T>(rt, threads, matches),
+        "items" => answer::<Items<'_>, T>(rt, threads, matches),
+        "page" => answer::<Page<'_>, T>(rt, threads, matches),
+        "cat" => answer::<Cat<'_>, T>(rt, threads, matches),
+        "volumes" => answer::<Volumes<'_>, T>(rt, threads, matches),
+        "extract" => answer::<Extract<'_>, T>(rt, threads, matches),
+        "take" => answer::<Take<'_>, T>(rt, threads, matches),
+        "rescue" => answer::<Rescue<'_>, T>(rt, threads, matches),
+        "new" => answer::<New<'_>, T>(rt, threads, matches),
+        "repair" => answer::<Repair<'_>, T>(rt, threads, matches),
+        "run" => answer::<Run<'_>, T>(rt, threads, matches),
+        "put" => answer::<Put<'_>, T>(rt, threads, matches),
+        "make" => answer::<Make<'_>, T>(rt, threads, matches),
+        _ => refused_words(rt, &WordsFault::NoValue("COMMAND")),
     }
 }
 
-/// A fork of a file, by the place of the file in an image.
-#[derive(Clone, Copy)]
-pub struct ForkWords<'a> {
-    /// The path of the image.
-    pub image: &'a str,
-    /// The number of the volume in it, if one is asked for.
-    pub volume: Option<u64>,
-    /// The ID of the folder that holds the file.
-    pub dir: u32,
-    /// The file's name.
-    pub name: &'a str,
-    /// Which of its forks.
-    pub fork: Fork,
+/// Does what the command line asks for, whose first word is the program's own name, and returns the exit status.
+pub fn answer_words<T: Threads + Wait + Sync>(
+    rt: &HostRuntime,
+    threads: &T,
+    words: &[String],
+) -> u8 {
+    if is_collect(words) {
+        return refused_words(
+            rt,
+            &WordsFault::Moved {
+                word: "collect",
+                program: "hfs_collect",
+            },
+        );
+    }
+    match matches_of(rt.alloc(), words) {
+        Ok(matches) => answer_matches(rt, threads, &matches),
+        Err(error) => refuse(rt, words, &WordsFault::Clap(error)),
+    }
 }
 
-/// A file, by its place in an image.
-#[derive(Clone, Copy)]
-pub struct FileWords<'a> {
-    /// The path of the image.
-    pub image: &'a str,
-    /// The number of the volume in it, if one is asked for.
-    pub volume: Option<u64>,
-    /// The ID of the folder that holds the file.
-    pub dir: u32,
-    /// The file's name.
-    pub name: &'a str,
+/// Whether the first word is that of another program, whatever follows it.
+fn is_collect(words: &[String]) -> bool {
+    match words.get(1) {
+        Some(word) => word.as_str() == "collect",
+        None => false,
+    }
 }
 
-/// An item, by its path in an image.
-#[derive(Clone, Copy)]
-pub struct PathWords<'a> {
-    /// The path of the image.
-    pub image: &'a str,
-    /// The number of the volume in it, if one is asked for.
-    pub volume: Option<u64>,
-    /// The path of the item.
-    pub path: &'a str,
+/// What the program's command finds in the command line.
+fn matches_of<'a>(alloc: Global, words: &'a [String]) -> Result<ArgMatches<'a>, Error> {
+    command(alloc)?.try_get_matches_from(words)
 }
 
-/// A fork of a file, by the path of the file in an image.
-#[derive(Clone, Copy)]
-pub struct ForkPathWords<'a> {
-    pub place: PathWords<'a>,
-    /// Which of its forks.
-    pub fork: Fork,
+/// Does what was found in the command line.
+fn answer_matches<T: Threads + Wait + Sync>(
+    rt: &HostRuntime,
+    threads: &T,
+    matches: &ArgMatches<'_>,
+) -> u8 {
+    match matches.subcommand() {
+        Some((name, inner)) => answer_word(rt, threads, name, inner),
+        None => answer_no_word(rt),
+    }
 }
 
-/// A volume, and the file that is made of it.
-#[derive(Clone, Copy)]
-pub struct ExtractWords<'a> {
-    /// The path of the file that it lies in.
-    pub file: &'a str,
-    /// The path of the file that is made.
-    pub out: &'a str,
-    /// The number of the volume, if one is asked for.
-    pub volume: Option<u64>,
+/// Does what a word is asked for and, at a terminal, prints what a refused image looks like.
+fn answer<'a, W: Word<'a>, T: Threads + Wait + Sync>(
+    rt: &HostRuntime,
+    threads: &T,
+    matches: &ArgMatches<'a>,
+) -> u8 {
+    let word = match W::read(rt.alloc(), matches) {
+        Ok(word) => word,
+        Err(fault) => return refused_words(rt, &fault),
+    };
+    let status = obey(rt, threads, &word);
+    if status == Status::ImageRefused.number()
+        && let Some(image) = word.looked_at()
+    {
+        tell_kind(rt, image.path, image.volume);
+    }
+    status
 }
 
-/// A new volume, and the file that it is written to.
-#[derive(Clone, Copy)]
-pub struct NewVolume<'a> {
-    /// The path of the file, whose contents are replaced.
-    pub file: &'a str,
-    /// The volume's name.
-    pub name: &'a str,
-    /// How many logical blocks of 512 bytes it has.
-    pub blocks: u32,
-    /// How many nodes the catalog file has.
-    pub catalog_nodes: u32,
-    /// How many nodes the extents file has.
-    pub extents_nodes: u32,
-    /// The moment when it is made, in seconds since midnight, 1 January 1904.
-    pub now: u32,
+/// Does what a word is asked for, and prints the fault if it isn't done, with what else there is to say about it at a terminal.
+fn obey<'a, W: Word<'a>, T: Threads + Wait + Sync>(rt: &HostRuntime, threads: &T, word: &W) -> u8 {
+    match word.obey(rt, threads) {
+        Ok(status) => status,
+        Err(fault) => {
+            let status = refused(rt, &fault);
+            tell_more(rt, &fault);
+            status
+        }
+    }
 }
 
-/// An image whose counts are mended.
-#[derive(Clone, Copy)]
-pub struct RepairWords<'a> {
-    /// The path of the image.
-    pub image: &'a str,
-    /// The number of the volume in it, if one is asked for.
-    pub volume: Option<u64>,
-    /// The path of the file that the mended image is written to.
-    pub file: &'a str,
+/// Without a word, prints the master directory block of standard input. A terminal gets the help: nobody types a volume there.
+fn answer_no_word(rt: &HostRuntime) -> u8 {
+    if rt.stdin().is_terminal() {
+        return print_help(rt);
+    }
+    match print_info(rt, &mut rt.stdin(), "stdin") {
+        Ok(status) => status,
+        Err(fault) => refused(rt, &fault),
+    }
 }
 
-/// A script that is run on an image.
-#[derive(Clone, Copy)]
-pub struct RunWords<'a> {
-    /// The path of the image.
-    pub image: &'a str,
-    /// The number of the volume in it, if one is asked for.
-    pub volume: Option<u64>,
-    /// The path of the script.
-    pub script: &'a str,
-    /// The moment of every change, in seconds since midnight, 1 January 1904.
-    pub now: u32,
-    /// The path of the file that the changed image is written to.
-    pub out: Option<&'a str>,
+/// What the program's command answers when its help is asked for.
+fn help_of<'a>(alloc: Global) -> Result<ArgMatches<'a>, Error> {
+    command(alloc)?.try_get_matches_from(&["hfs_tool", "--help"])
 }
 
-/// Files and folders that are put on a volume.
-#[derive(Drop)]
-pub struct PutWords<'a> {
-    /// The path of the image.
-    pub image: &'a str,
-    /// The number of the volume in it, if one is asked for.
-    pub volume: Option<u64>,
-    /// The paths of the sources, in order.
-    pub sources: Vec<&'a str>,
-    /// The path of the file that the changed image is written to.
-    pub out: &'a str,
-    /// The path of the folder on the volume into which they are put; the root if none is given.
-    pub to: Option<&'a str>,
-    /// How the sources are read.
-    pub how: PutOptions,
-    /// Whether files of the same name are replaced.
-    pub replace: bool,
-    /// The moment of every change, in seconds since midnight, 1 January 1904; the clock's if none is given.
-    pub now: Option<u32>,
+/// Prints the program's help, and returns the exit status.
+fn print_help(rt: &HostRuntime) -> u8 {
+    match help_of(rt.alloc()) {
+        Ok(_matches) => Status::Done.number(),
+        Err(error) => refused_words(rt, &WordsFault::Clap(error)),
+    }
 }
 
-/// A new volume that is made of files and folders.
-#[derive(Drop)]
-pub struct MakeWords<'a> {
-    /// The path of the file that it is written to.
-    pub file: &'a str,
-    /// The paths of what comes, in order.
-    pub sources: Vec<&'a str>,
-    /// Its name; where it isn't given, that of what comes.
-    pub name: Option<&'a str>,
-    /// Its size; where it isn't given, the least that suffices.
-    pub size: Option<&'a str>,
-    /// How what comes is looked at.
-    pub how: PutOptions,
-    /// The moment of every change, in seconds since midnight of 1 January 1904; the clock's where it isn't given.
-    pub now: Option<u32>,
+/// Prints why the command line is refused, or the help that was asked for; and how an item is named by its path, if a path is in
+/// place of an ID.
+fn refuse(rt: &HostRuntime, words: &[String], fault: &WordsFault) -> u8 {
+    let status = refused_words(rt, fault);
+    if status == Status::WordsRefused.number() && has_bare_path(words) {
+        return Status::WordsRefused.after(println!(rt;
+            "tip: --path names an item by its path: hfs_tool ls disk.img --path :Games"
+        ));
+    }
+    status
+}
+
+/// Whether a path follows the image of `ls` or `cat`, where the ID of a folder is wanted.
+fn has_bare_path(words: &[String]) -> bool {
+    match (words.get(1), words.get(3)) {
+        (Some(word), Some(place)) => {
+            (word.as_str() == "ls" || word.as_str() == "cat") && place.as_str().contains(':')
+        }
+        _ => false,
+    }
 }

@@ -1,20 +1,22 @@
-//! What a word takes, and what its help says.
+//! What a program's words take, and what their help says.
 
 /// A program: its name, texts and arguments, and its version. The words that it knows are added one by one, since a constant with
 /// all of them would be too long for one proof.
 #[derive(Clone, Copy)]
 pub struct Program {
-    pub word: Word,
+    pub declaration: Declaration,
     pub version: &'static str,
 }
 
-/// A word that a program knows, or the program itself.
+/// What clap is told of a word that a program knows, or of the program itself.
 #[derive(Clone, Copy)]
-pub struct Word {
+pub struct Declaration {
     /// What is typed.
     pub name: &'static str,
     /// What it does, in a line of help.
     pub about: &'static str,
+    /// How it is used, if its arguments alone don't say.
+    pub usage: Option<&'static str>,
     /// What its help says after its arguments.
     pub after_help: Option<&'static str>,
     /// Its arguments, in the order of its help.
