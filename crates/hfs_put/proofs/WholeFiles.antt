@@ -2,11 +2,13 @@
 use Rattle.std.proofs.Common.{◌≡◌, ℕ, ◌+◌, ◌/◌, ◌<◌, ◌≤◌, List, [], ◌++◌, length, take, drop, Option, Some, None, refl, sym, ap, subst, ◌∙◌, arith}
 use Rattle.std.proofs.lemmas.List.{append_assoc, length-append, length-drop, length-take, drop_at, take_at}
 use Rattle.std.specs.Int.{w32, to_be_bytes}
-use Rattle.hfs_blocks.specs.Blocks.{block_count}
+use Rattle.hfs_blocks.specs.Blocks.{block_at, block_count}
 use Rattle.hfs_blocks.specs.Layers.{Numbered, changes, AreWithin}
+use Rattle.hfs_check.specs.Parts.{mdb_in}
 use Rattle.hfs_check.specs.VolumeOf.{volume_of}
 use Rattle.hfs_source.specs.Ranges.{bytes_in}
 use Rattle.hfs_source.specs.Sums.{sum_of}
+use Rattle.hfs_fields.specs.declared.mdb.Mdb.{Mdb}
 use Rattle.hfs_put.specs.Laid as forks
 use Rattle.hfs_put.specs.Laws.{IsLaidInImage}
 use Rattle.hfs_volume.specs.InFile.{changed_head, changed_in, head_with}
@@ -14,6 +16,7 @@ use Rattle.hfs_volume.specs.declared.in_file.ImagePlace.{ImagePlace}
 use Rattle.hfs_put_plan.specs.declared.items.PutItem.{PutItem}
 use Rattle.hfs_put_plan.specs.Put.{Arrival}
 use Rattle.hfs_put.specs.LaidRuns as image
+use Rattle.hfs_put.specs.PutImages.{HasDirectory}
 use Rattle.hfs_put.specs.Saved.{IsPut}
 use Rattle.hfs_fields.specs.Each.{Each}
 use Rattle.hfs_put_sources.specs.Items.{PlannedItem}
@@ -22,7 +25,7 @@ use Rattle.hfs_put_sources.specs.declared.fork_run.ForkRun.{ForkRun}
 use Rattle.hfs_volume.specs.Image.{patched}
 use Rattle.hfs_volume.proofs.SavedPieces.{length-laid_over}
 use Rattle.hfs_put.specs.Arrivals.{arrivals_of}
-use Rattle.hfs_put.specs.PutFiles.{IsFilePut, IsImageOf, IsPutList, IsSumBefore, PutFilesHoldPut, put_file}
+use Rattle.hfs_put.specs.PutFiles.{IsFilePut, IsImageOf, IsPutList, IsSumBefore, PutFilesHaveDirectory, PutFilesHoldPut, put_file}
 use Rattle.hfs_put.proofs.ComingForks.{laid_forks_are_arrivals}
 use Rattle.hfs_put.proofs.ComingPlaces.{ArePlacesOf, are-places, arrivals-whole, items-arrivals, length-places}
 use Rattle.hfs_put.proofs.InImages.{IsWithin, laid-in-range, no-fewer, runs-within}
@@ -154,6 +157,16 @@ module _ (copy : List ℕ) (target now : ℕ) (items : List PlannedItem) (places
     behind = ap (drop (start + len)) saved-is ∙ drop-middle head middle behind start len long-head length-middle;
   }
 
+  pub directory-is : (directory : Mdb) → HasDirectory copy places patch runs directory
+      → mdb_in (block_at (bytes_in place.range (put_file place patch host items runs file))) ≡ directory
+  directory-is directory has =
+      ap (λ (bytes : List ℕ). mdb_in (block_at bytes)) image-is
+      ∙ has arrivals own (items-arrivals host items places same) (arrivals-whole host items places are) is.copied
+
 pub put_files_hold_put : PutFilesHoldPut
 put_files_hold_put = λ copy target now items places patch runs ids place file host list within is.
     is-file-put copy target now items places patch runs ids place file host list within is
+
+pub put_files_have_directory : PutFilesHaveDirectory
+put_files_have_directory = λ copy target now items places patch runs ids place file host directory list within is has.
+    directory-is copy target now items places patch runs ids place file host list within is directory has

@@ -1,7 +1,10 @@
--- What a file holds in which a list was put on the volume of an image. The law is what a function of src/laws.rt ensures.
+-- What a file holds in which a list was put on the volume of an image. Each law is what a function of src/laws.rt ensures.
 use Rattle.std.specs.Prelude.{◌≡◌, ℕ, ◌+◌, ◌/◌, ◌≤◌, Bool, List, map, take, drop, Option, Some, None, ⊤}
+use Rattle.hfs_blocks.specs.Blocks.{block_at}
 use Rattle.hfs_blocks.specs.Layers.{Numbered, changes, AreWithin}
+use Rattle.hfs_check.specs.Parts.{mdb_in}
 use Rattle.hfs_check.specs.VolumeOf.{volume_of}
+use Rattle.hfs_fields.specs.declared.mdb.Mdb.{Mdb}
 use Rattle.hfs_source.specs.Ranges.{bytes_in}
 use Rattle.hfs_put.specs.Laid.{laid}
 use Rattle.hfs_volume.specs.InFile.{file_with, head_with, LiesIn}
@@ -9,7 +12,7 @@ use Rattle.hfs_volume.specs.declared.in_file.ImagePlace.{ImagePlace}
 use Rattle.hfs_put.specs.PlacedSources.{decisions, item_put}
 use Rattle.hfs_put_plan.specs.declared.items.PutItem.{PutItem}
 use Rattle.hfs_put_plan.specs.Put.{Arrival}
-use Rattle.hfs_put.specs.PutImages.{IsPutOver}
+use Rattle.hfs_put.specs.PutImages.{HasDirectory, IsPutOver}
 use Rattle.hfs_put.specs.Saved.{IsPut}
 use Rattle.hfs_put_sources.specs.Items.{PlannedItem}
 use Rattle.hfs_put_sources.specs.Trees.{Tree}
@@ -52,7 +55,7 @@ pub record IsFilePut (target now : ℕ) (arrivals : List Arrival) (ids : List �
   pub before : take place.range.start saved ≡ head_with place.sum_at (bytes_in place.range saved) (take place.range.start file)
   pub behind : drop (place.range.start + place.range.len) saved ≡ drop (place.range.start + place.range.len) file
 
--- ---- the law
+-- ---- the laws
 
 -- so it is of each file with such an image, and of each tree of which the list is
 abbrev pub PutFilesHoldPut : Type 0
@@ -61,3 +64,11 @@ PutFilesHoldPut =
     (place : ImagePlace) (file : List ℕ) (host : Tree) → IsPutList copy target now items places patch runs ids
     → AreWithin (changes patch) (place.range.len / 512) → IsImageOf copy place file
     → IsFilePut target now (arrivals_of host items places) ids place file (put_file place patch host items runs file)
+
+-- and where the volume's master directory block is told that is saved, it stands in the image's place
+abbrev pub PutFilesHaveDirectory : Type 0
+PutFilesHaveDirectory =
+    (copy : List ℕ) (target now : ℕ) (items : List PlannedItem) (places : List PutItem) (patch : Numbered) (runs : List ForkRun) (ids : List ℕ)
+    (place : ImagePlace) (file : List ℕ) (host : Tree) (directory : Mdb) → IsPutList copy target now items places patch runs ids
+    → AreWithin (changes patch) (place.range.len / 512) → IsImageOf copy place file → HasDirectory copy places patch runs directory
+    → mdb_in (block_at (bytes_in place.range (put_file place patch host items runs file))) ≡ directory

@@ -1,7 +1,7 @@
 //! What holds for a file in which a list was put on the volume of an image, each law as the contract of a function that does
 //! nothing.
 ghost use Rattle.hfs_put.specs.Arrivals.{LaidForksAreArrivals, WholeForksCome};
-ghost use Rattle.hfs_put.specs.PutFiles.{PutFilesHoldPut};
+ghost use Rattle.hfs_put.specs.PutFiles.{PutFilesHaveDirectory, PutFilesHoldPut};
 
 /// A fork of which a tree has as many bytes as were planned is put as it is there.
 pub fn whole_forks_come()
@@ -19,4 +19,9 @@ pub fn laid_forks_are_arrivals()
 /// tree gives, and every other byte is the file's own except for that sum.
 pub fn put_files_hold_put()
     ensures { PutFilesHoldPut }
+{}
+
+/// In such a file the image has the master directory block that was told of what is put: so as many allocation blocks are free.
+pub fn put_files_have_directory()
+    ensures { PutFilesHaveDirectory }
 {}

@@ -33,7 +33,9 @@ mod reading;
 
 pub use crate::again::look_again;
 pub use crate::faults::LayFault;
-pub use crate::file_laws::{laid_forks_are_arrivals, put_files_hold_put, whole_forks_come};
+pub use crate::file_laws::{
+    laid_forks_are_arrivals, put_files_have_directory, put_files_hold_put, whole_forks_come,
+};
 pub use crate::files::{HostFiles, PlacedFiles};
 pub use crate::fork_places::fork_runs;
 pub use crate::image_laws::{

@@ -25,7 +25,7 @@ module _ (order : MakeOrder) (items : List PlannedItem) (image copy : List ℕ) 
       copy = copy;
       copied = copied;
       current = current;
-      done = record { list = list; placed = placed; over = laid.over; sums_are = laid.sums_are };
+      done = record { list = list; placed = placed; over = laid.over; directory = laid.directory; sums_are = laid.sums_are };
     }
 
     pub unlaid-in : (left : List ℕ) (told : PutFault) → IsUnlaid list order.now items (wants_of (block_at copy) list.places.items) (volume_of copy) left told

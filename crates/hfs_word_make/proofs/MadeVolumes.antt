@@ -1,9 +1,12 @@
 -- What the file of a new volume is to hold, by its parts.
 use Rattle.std.proofs.Common.{◌≡◌, ◌∙◌, ◌<◌, ◌/◌, ◌*◌, ◌^◌, ℕ, List, [], None, Ok, Result, Vec, Global, false, length, refl, sym, subst, ap, arith}
 use Rattle.std.proofs.lemmas.List.{take_all}
+use Rattle.hfs_blocks.specs.Blocks.{block_at}
 use Rattle.hfs_blocks.specs.Layers.{changes, AreWithin}
+use Rattle.hfs_check.specs.Parts.{mdb_in}
 use Rattle.hfs_check.specs.VolumeOf.{volume_of}
 use Rattle.hfs_source.specs.Ranges.{bytes_in}
+use Rattle.hfs_fields.specs.declared.mdb.Mdb.{Mdb}
 use Rattle.hfs_format.specs.declared.format_plan.FormatPlan.{FormatPlan}
 use Rattle.hfs_format.specs.declared.planned_image.PlannedImage.{PlannedImage}
 use Rattle.hfs_format.specs.FormatLaws.{volume_of_root}
@@ -16,7 +19,7 @@ use Rattle.hfs_format.specs.declared.volume_name.VolumeName.{VolumeName}
 use Rattle.hfs_model.specs.declared.reply.Reply.{Reply}
 use Rattle.hfs_put.specs.Arrivals.{arrivals_of}
 use Rattle.hfs_put.specs.PutFiles.{IsFilePut, IsImageOf, IsPutList, put_file}
-use Rattle.hfs_put.proofs.WholeFiles.{put_files_hold_put}
+use Rattle.hfs_put.proofs.WholeFiles.{put_files_have_directory, put_files_hold_put}
 use Rattle.hfs_put_sources.specs.Items.{PlannedItem}
 use Rattle.hfs_put_sources.specs.Trees.{Tree}
 use Rattle.hfs_copy.specs.Working.{IsWorkingCopy}
@@ -25,6 +28,7 @@ use Rattle.hfs_word_make.specs.declared.settled_image.SettledImage.{SettledImage
 use Rattle.hfs_word_make.specs.Filled.{IsPutIn}
 use Rattle.hfs_word_make.specs.Made.{IsMadeFile, IsMadeOf, IsMadeVolume, own_place}
 use Rattle.hfs_word_make.proofs.MadeLists.{listed-then}
+use Rattle.hfs_word_put.specs.declared.lines.PutSums.{PutSums}
 use Rattle.hfs_word_put.specs.declared.placing.PlacedList.{PlacedList}
 use Rattle.hfs_word_put.specs.declared.putting.PutImage.{PutImage}
 use Rattle.hfs_word_put.specs.declared.putting.PutList.{PutList}
@@ -78,6 +82,15 @@ module _ (Hosts : Tree → Type 0) (order : MakeOrder) (items : List PlannedItem
       (put_files_hold_put put.copy placed.target order.now items placed.places.items list.blocks.patch list.blocks.runs.items list.blocks.ids.items (own_place planned) image host
       is-list within is-image)
 
+  free : (host : Tree)
+      → (mdb_in (block_at (bytes_in (own_place planned).range
+      (put_file (own_place planned) list.blocks.patch host items list.blocks.runs.items image)))).free_blocks ≡ list.sums.free
+  free host =
+      ap (λ (mdb : Mdb). mdb.free_blocks)
+      (put_files_have_directory put.copy placed.target order.now items placed.places.items list.blocks.patch list.blocks.runs.items list.blocks.ids.items (own_place planned)
+      image host (mdb_in (block_at put.current)) is-list within is-image put.done.directory)
+      ∙ sym (ap (λ (told : PutSums). told.free) put.done.sums_are)
+
   abbrev plan : FormatPlan
   plan = is.filled.filled.image.made.0
 
@@ -94,7 +107,7 @@ module _ (Hosts : Tree → Type 0) (order : MakeOrder) (items : List PlannedItem
       ∙ (λ i. volume_of_root (name-is i) (now-is i) (512 * block_factor plan.blocks)))
 
   made-volume : IsMadeVolume Hosts order items planned list
-  made-volume = record { from = is; new = new; holds = holds }
+  made-volume = record { from = is; new = new; holds = holds; free = free }
 
 -- ---- the file
 

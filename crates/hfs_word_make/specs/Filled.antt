@@ -10,7 +10,7 @@ use Rattle.hfs_model.specs.declared.reply.Value.TheVariants as value
 use Rattle.hfs_put.specs.Laying.{IsFaultOfLaying}
 use Rattle.hfs_put.specs.declared.faults.LayFault.{LayFault}
 use Rattle.hfs_put.specs.declared.faults.LayFault.TheVariants as lay_fault
-use Rattle.hfs_put.specs.PutImages.{IsPutOver}
+use Rattle.hfs_put.specs.PutImages.{HasDirectory, IsPutOver}
 use Rattle.hfs_put_sources.specs.Items.{PlannedItem}
 use Rattle.hfs_copy.specs.Working.{IsWorkingCopy}
 use Rattle.hfs_word_make.specs.declared.order.MakeOrder.{MakeOrder}
@@ -55,6 +55,8 @@ pub record IsFullOn (list : PlacedList) (now : ℕ) (v : Volume) : Type 0 where
 -- the list was put on the volume of the copy, which is this one then: these blocks go out, and so much was put
 pub record IsLaidOn (list : PlacedList) (now : ℕ) (copy current : List ℕ) (put : PutList) : Type 0 where
   pub over : IsPutOver copy list.target now list.places.items put.blocks.patch put.blocks.runs.items put.blocks.ids.items
+  -- what is saved has that volume's master directory block
+  pub directory : HasDirectory copy list.places.items put.blocks.patch put.blocks.runs.items (mdb_in (block_at current))
   pub sums_are : put.sums ≡ put_sums list.places.items (mdb_in (block_at current)).free_blocks
 
 -- ---- a list on a new volume

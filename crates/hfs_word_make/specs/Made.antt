@@ -3,7 +3,10 @@ use Rattle.std.specs.Prelude.{◌≡◌, ◌⊎◌, ℕ, ◌*◌, List, length, 
 use Rattle.std.specs.Borrow.{Bor}
 use Rattle.hfs_put_sources.specs.Digests.{first_wrong}
 use Rattle.hfs_put_sources.specs.Later.{Entries, told_at}
+use Rattle.hfs_blocks.specs.Blocks.{block_at}
+use Rattle.hfs_check.specs.Parts.{mdb_in}
 use Rattle.hfs_check.specs.VolumeOf.{volume_of}
+use Rattle.hfs_source.specs.Ranges.{bytes_in}
 use Rattle.hfs_commands.specs.declared.fault.Fault.TheVariants as why
 use Rattle.hfs_format.specs.declared.planned_image.PlannedImage.{PlannedImage}
 use Rattle.hfs_format.specs.FormatLaws.{volume_of_root}
@@ -69,6 +72,10 @@ pub record IsMadeVolume (Hosts : Tree → Type 0) (order : MakeOrder) (items : L
   pub holds : (host : Tree)
       → IsFilePut 2 order.now (arrivals_of host items from.filled.filled.done.done.list.places.items) list.blocks.ids.items (own_place planned)
       (image_bytes planned) (put_file (own_place planned) list.blocks.patch host items list.blocks.runs.items (image_bytes planned))
+  -- as many allocation blocks are free then as are told
+  pub free : (host : Tree)
+      → (mdb_in (block_at (bytes_in (own_place planned).range
+      (put_file (own_place planned) list.blocks.patch host items list.blocks.runs.items (image_bytes planned))))).free_blocks ≡ list.sums.free
 
 -- The file is to hold these blocks in the place of the new volume's, and the bytes of forks of what comes in their runs.
 pub record IsMadeFile {H W : Type 0} (Hosts : H → Tree → Type 0) (order : MakeOrder) (made : PutImage SettledImage H W) : Type 0 where

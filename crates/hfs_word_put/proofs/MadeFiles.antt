@@ -1,12 +1,15 @@
 -- What a file is to hold, by its parts.
 use Rattle.std.proofs.Common.{◌≡◌, ◌∙◌, ℕ, ◌/◌, List, [], Option, None, Vec, Global, length, drop, refl, sym, subst, ap, arith, length-take, length-drop}
+use Rattle.hfs_blocks.specs.Blocks.{block_at}
 use Rattle.hfs_blocks.specs.Layers.{changes, AreWithin}
+use Rattle.hfs_check.specs.Parts.{mdb_in}
 use Rattle.hfs_source.specs.Ranges.{bytes_in}
+use Rattle.hfs_fields.specs.declared.mdb.Mdb.{Mdb}
 use Rattle.hfs_put.specs.Files.{IsReadOf, ReadTree}
 use Rattle.hfs_volume.specs.InFile.{LiesIn}
 use Rattle.hfs_volume.specs.declared.in_file.ImagePlace.{ImagePlace}
 use Rattle.hfs_put.specs.PutFiles.{IsImageOf, IsPutList, IsSumBefore}
-use Rattle.hfs_put.proofs.WholeFiles.{put_files_hold_put}
+use Rattle.hfs_put.proofs.WholeFiles.{put_files_have_directory, put_files_hold_put}
 use Rattle.hfs_put.specs.declared.putting.PutBlocks.{PutBlocks}
 use Rattle.hfs_source.specs.Images.{IsRangeOf}
 use Rattle.hfs_put_sources.specs.Items.{PlannedItem}
@@ -66,6 +69,11 @@ module _ (Files : List ℕ → Type 0) (Hosts : Tree → Type 0) (order : PutOrd
     holds = λ file host of lies before.
         put_files_hold_put from.copy list.target order.now items list.places.items put.patch put.runs.items put.ids.items place file host is-list within
         (is-image file of lies before);
+    free = λ file host of lies before.
+        ap (λ (mdb : Mdb). mdb.free_blocks)
+        (put_files_have_directory from.copy list.target order.now items list.places.items put.patch put.runs.items put.ids.items place file host
+        (mdb_in (block_at from.done.current)) is-list within (is-image file of lies before) from.done.done.directory)
+        ∙ sym (ap (λ (told : PutSums). told.free) from.done.done.sums_are);
   }
 
 pub put-file : {S T F W : Type 0} (Files : S → List ℕ → Type 0) (Hosts : T → Tree → Type 0) (Bytes : F → List ℕ → Type 0) (order : PutOrder) (len : ℕ) (sum_at : Option ℕ)

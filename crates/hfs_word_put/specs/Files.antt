@@ -1,6 +1,8 @@
 -- What a file is to hold in which something was put on a volume.
 use Rattle.std.specs.Prelude.{◌≡◌, ℕ, List, Option}
-use Rattle.hfs_source.specs.Ranges.{range_of}
+use Rattle.hfs_blocks.specs.Blocks.{block_at}
+use Rattle.hfs_check.specs.Parts.{mdb_in}
+use Rattle.hfs_source.specs.Ranges.{bytes_in, range_of}
 use Rattle.hfs_volume.specs.declared.in_file.ImagePlace.{ImagePlace}
 use Rattle.hfs_volume.specs.InFile.{LiesIn}
 use Rattle.hfs_put.specs.Arrivals.{arrivals_of}
@@ -27,6 +29,9 @@ pub record IsPutInFile (Files : List ℕ → Type 0) (Hosts : Tree → Type 0) (
   pub holds : (file : List ℕ) (host : Tree) → Files file → LiesIn place.range file → IsSumBefore place.sum_at place.range.start
       → IsFilePut from.done.done.list.target order.now (arrivals_of host items from.done.done.list.places.items) put.ids.items place file
       (put_file place put.patch host items put.runs.items file)
+  -- as many allocation blocks are free there as are told
+  pub free : (file : List ℕ) (host : Tree) → Files file → LiesIn place.range file → IsSumBefore place.sum_at place.range.start
+      → (mdb_in (block_at (bytes_in place.range (put_file place put.patch host items put.runs.items file)))).free_blocks ≡ sums.free
 
 -- The file is to hold these blocks in the place of the image's, and the bytes of forks of what comes in their runs.
 pub record IsPutFile {S H W : Type 0} (Files : S → List ℕ → Type 0) (Hosts : H → Tree → Type 0) (order : PutOrder) (len : ℕ) (sum_at : Option ℕ) (made : PutImage S H W) : Type 0 where

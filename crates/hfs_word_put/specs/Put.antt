@@ -11,7 +11,7 @@ use Rattle.hfs_commands.specs.declared.fault.Fault.{Fault}
 use Rattle.hfs_commands.specs.declared.fault.Fault.TheVariants as why
 use Rattle.hfs_commands.specs.declared.watched_range.WatchedRange.{WatchedRange}
 use Rattle.hfs_check.specs.declared.mount_fault.MountFault.{MountFault}
-use Rattle.hfs_put.specs.PutImages.{IsPutOver}
+use Rattle.hfs_put.specs.PutImages.{HasDirectory, IsPutOver}
 use Rattle.hfs_put.specs.declared.putting.PutBlocks.{PutBlocks}
 use Rattle.hfs_source.specs.Images.{FailsInRange, IsRangeOf, OfEach}
 use Rattle.hfs_put_sources.specs.Items.{PlannedItem}
@@ -51,6 +51,8 @@ pub record IsPutOn (order : PutOrder) (copy current : List ℕ) (items : List Pl
   pub list : PlacedList
   pub placed : IsPlaced (volume_of copy) order items list
   pub over : IsPutOver copy list.target order.now list.places.items put.patch put.runs.items put.ids.items
+  -- what is saved has that volume's master directory block
+  pub directory : HasDirectory copy list.places.items put.patch put.runs.items (mdb_in (block_at current))
   pub sums_are : sums ≡ put_sums list.places.items (mdb_in (block_at current)).free_blocks
 
 -- a call that puts the list was refused

@@ -3,7 +3,8 @@ ghost use Rattle.std.specs.Prelude.{◌≡◌, IfErr, IfOk};
 ghost use Rattle.hfs_blocks.specs.Blocks.{block_at, block_count};
 ghost use Rattle.hfs_check.specs.VolumeOf.{volume_of};
 ghost use Rattle.hfs_blocks.specs.Layers.{changes, AreWithin};
-ghost use Rattle.hfs_put.specs.PutImages.{IsPutOver};
+ghost use Rattle.hfs_check.specs.Parts.{mdb_in};
+ghost use Rattle.hfs_put.specs.PutImages.{HasDirectory, IsPutOver};
 ghost use Rattle.hfs_word_put.specs.Laid.{IsUnlaid, TellsLay, reply_reason, wants_of};
 
 use crate::fault::PutFault;
@@ -92,6 +93,8 @@ pub fn lay_all(
     requires { volume.old.current ≡ volume.old.base }
     ensures put { IfOk result (λ put. IsPutOver volume.old.base list.now.target now
         list.now.places.items put.patch put.runs.items put.ids.items) }
+    ensures directory { IfOk result (λ put. HasDirectory volume.old.base list.now.places.items
+        put.patch put.runs.items (mdb_in (block_at volume.new.current))) }
     ensures within { IfOk result (λ put. AreWithin (changes put.patch) (block_count volume.old.base)) }
     ensures fault { IfErr result (IsUnlaid list.now now items.now
         (wants_of (block_at volume.old.current) list.now.places.items)

@@ -12,7 +12,7 @@ pub returns-in-Ok-clause-put : goal.returns-in-Ok-clause-put
 returns-in-Ok-clause-put c =
     let sums : c.sums_of-sums.result ≡ put_sums c.in_ok-list.list.places.items (mdb_in (block_at c.lay_all.new.volume.current)).free_blocks = search rules in
     let placed = subst (λ (image : List ℕ). IsPlaced (volume_of image) c.args.order.now c.args.items.now c.in_ok-list.list) c.requires c.in_ok-list.ensures in
-    record { list = c.in_ok-list.list; placed = placed; over = c.in-Ok.ensures.put; sums_are = sums }
+    record { list = c.in_ok-list.list; placed = placed; over = c.in-Ok.ensures.put; directory = c.in-Ok.ensures.directory; sums_are = sums }
 
 pub returns-clause-fault : goal.returns-clause-fault
 returns-clause-fault c =
