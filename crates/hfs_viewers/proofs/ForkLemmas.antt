@@ -1,5 +1,5 @@
 -- Rows whose forks were written.
-use Rattle.std.proofs.Common.{◌≡◌, ⊎_elim, ℕ, ◌*◌, ◌≤◌, Bool, cond, List, length, refl, sym, ◌∙◌, ap, subst, arith, Option, Some, None, Result, Ok, ℤ, Bor}
+use Rattle.std.proofs.Common.{◌≡◌, ⊎_elim, ℕ, ◌*◌, ◌≤◌, Bool, cond, List, length, refl, sym, ◌∙◌, ap, subst, arith, Option, Some, None, Result, Ok, ℤ, Bor, Err}
 use Rattle.std.specs.Ordering.{nat_cmp}
 use Rattle.std.specs.Prelude.{OnErr}
 use Rattle.std.specs.Cmp.{nat_cmp_total, unsigned_ties}
@@ -266,3 +266,7 @@ may_write t is fork offset bytes found has may r at = by fork r.kind same (is.ro
         let long = size_is t is f.resource h.1 in
         let there = subst (λ (k : Kind). offset ≤ length (fork_bytes ResFork k)) e within in
         (h.1.pieces, (omega (arith, there, long), may.small))
+
+pub on_err : {T E : Type 0} (r : Result T E) (P : Type 0) → P → OnErr r P
+on_err (Ok x) P p = tt
+on_err (Err e) P p = p

@@ -1,5 +1,6 @@
 -- What was asked of the database, and what is told of a file by it.
 use Rattle.std.proofs.Common.{◌≡◌, ◌≢◌, ◌∙◌, inl, inr, refl, sym, ap, ℕ, Bool, true, false, cond, List, [], ◌∷◌, length, Option, Some, None, Result, Ok, Err}
+use Rattle.std.specs.Prelude.{OnErr}
 use Rattle.std.specs.Prelude.{IfErr, IfOk, ◌&&◌, ◌==◌, is_some, nat_eq, String, string_bytes}
 use Rattle.hex.specs.Hex.{encode_lower}
 use Rattle.sha2.specs.Sha256.{sha256}
@@ -123,3 +124,7 @@ pub fails_by_memory : {X : Type 0} (old new : State) (path : List ℕ) (r : Resu
     → IfErr r (FailsToCompare old new path)
 fails_by_memory old new path (Ok x) known is none = tt
 fails_by_memory old new path (Err fault) known is none = inr (none, (known, is))
+
+pub on_err : {T E : Type 0} (r : Result T E) (P : Type 0) → P → OnErr r P
+on_err (Ok x) P p = tt
+on_err (Err e) P p = p

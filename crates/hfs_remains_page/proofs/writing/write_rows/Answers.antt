@@ -1,10 +1,9 @@
 -- Row by row.
 use Rattle.std.proofs.Common.{refl, arith}
 use Rattle.hfs_remains_page.specs.Rows.{rows_text}
-use Rattle.hfs_remains_page.proofs.GatherLemmas.{all_out, last_front, row_front, row_more}
+use Rattle.hfs_remains_page.proofs.GatherLemmas.{all_out, last_front, row_front, row_more, on_err}
 use Rattle.hfs_rescue_items.proofs.GatherLemmas.{on_err_then}
 use Rattle.hfs_rescue_items.proofs.GatherLemmas.{on_ok_then}
-use Rattle.hfs_encodings.proofs.Entries.{on_err}
 use Rattle.hfs_remains_page.proofs.writing.write_rows.Goals as goal
 
 pub returns-in_err-gather_row-clause-part : goal.returns-in_err-gather_row-clause-part

@@ -7,8 +7,7 @@ use Rattle.hfs_viewers.specs.RowEdits.{chosen_of}
 use Rattle.hfs_viewers.specs.ForkParts.{MayWrite}
 use Rattle.hfs_viewers.specs.Tables.{item_of, volume_of}
 use Rattle.hfs_viewers.proofs.Left.{refused}
-use Rattle.hfs_viewers.proofs.ForkLemmas.{edited, kept, may_write}
-use Rattle.hfs_encodings.proofs.Entries.{on_err}
+use Rattle.hfs_viewers.proofs.ForkLemmas.{edited, kept, may_write, on_err}
 use Rattle.hfs_viewers.proofs.table.Table.write_fork.Goals as goal
 
 pub returns-in-Err-clause-ok : goal.returns-in-Err-clause-ok
