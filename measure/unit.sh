@@ -21,7 +21,7 @@ if [ ! -d "$folder/.git" ]; then
     git -C "$folder" checkout --quiet --detach "$commit"
 fi
 cd "$folder"
-python3 scripts/build_libraries.py "$("$root/scripts/lanes.sh")" 1 hfs_fields hfs_btree hfs_blocks hfs_fields
+python3 scripts/build_libraries.py "$("$root/scripts/lanes.sh")" 1 hfs_fields hfs_node hfs_blocks hfs_scans
 
 sums=()
 for ((run = 1; run <= runs; run++)); do

@@ -5,7 +5,7 @@ pub mod RemovalLemmas
 pub mod PlacingLemmas
 mod StoredLemmas
 pub mod Moves
-pub mod Files
+pub mod FileLemmas
 pub mod Growing
 pub mod GivingLemmas
 pub mod ListingLemmas

@@ -6,14 +6,14 @@ use Rattle.hfs_source.specs.Ranges.{bytes_in, range_of}
 use Rattle.hfs_source.specs.declared.ranges.Layout.{Layout}
 use Rattle.hfs_source.specs.declared.ranges.Layout.TheVariants.{Plain, Raw}
 use Rattle.hfs_source.specs.Reading.{IsDataOfOne}
-use Rattle.hfs_source.specs.Sectors.{sector_count, user_data_of}
-use Rattle.hfs_source.proofs.DataLemmas.{length-data_of}
+use Rattle.hfs_source.specs.Sectors.{user_data_of}
+use Rattle.hfs_source.proofs.DataLemmas.{length-user_data_of}
 use Rattle.hfs_source.specs.Images.{HasAt, HasLength, OfEach}
 use Rattle.hfs_bag.specs.Parts.{IsPartOf, PartValue, content_of}
 
 -- how many bytes of user data there are
 pub raw_long : (file : List ℕ) (len result : ℕ) → length file ≡ len → result ≡ len / 2352 * 2048 → length (user_data_of file) ≡ result
-raw_long file len result whole is = length-data_of (length file / 2352) file (omega arith) ∙ ap (λ (n : ℕ). n / 2352 * 2048) whole ∙ sym is
+raw_long file len result whole is = length-user_data_of file ∙ ap (λ (n : ℕ). n / 2352 * 2048) whole ∙ sym is
 
 -- a range has as many bytes as it says, where it lies in the content
 pub part_long : (start len : ℕ) (content bytes : List ℕ) → start + len ≤ length content → bytes ≡ bytes_in (range_of start len) content → HasLength len bytes
@@ -27,14 +27,6 @@ part_read start len place content bytes into within is read =
     ∙ sym (take-take (length into) (len - place) (drop place (drop start content)) (omega (arith, within)))
     ∙ ap (take (length into)) (sym (drop-take place (len - place) (drop start content)) ∙ ap (λ (n : ℕ). drop place (take n (drop start content))) room ∙ ap (drop place) (sym is))
 
--- what is read of the user data, as it is told for any number of sectors
-pub data_read : (Holds : List ℕ → Type 0) (image into : List ℕ) (place count : ℕ) → Holds image → count ≡ length into → place + length into ≤ length (user_data_of image)
-    → ((sectors : ℕ) → place + count ≤ sectors * 2048 → OfEach (IsDataOfOne Holds sectors) (HasAt place into)) → HasAt place into (user_data_of image)
-data_read Holds image into place count h size within each =
-    let sectors : ℕ = sector_count image in
-    let whole : sectors * 2352 ≤ length image = omega arith in
-    each sectors (omega (arith, size, within, length-data_of sectors image whole)) (user_data_of image) (image, h, record { inside = whole; bytes = refl })
-
 -- what is read of a part
 pub plain_read : {S T E : Type 0} (Holds : S → List ℕ → Type 0) (image : List ℕ) (part : PartValue S) (place : ℕ) (into : List ℕ) (r : Result T E) → part.layout ≡ Plain → place + length into ≤ part.len
     → OnOk r (OfEach (Holds part.source) (HasAt (part.start + place) into)) → OnOk r (OfEach (IsPartOf Holds image part) (HasAt place into))
@@ -44,16 +36,12 @@ plain_read Holds image part place into (Ok x) plain within each = λ bytes own.
     (subst (λ (layout : Layout). HasAt (part.start + place) into (content_of layout image)) (sym plain) (each image own.has))
 
 -- of one of user data
-pub raw_read : {S T E : Type 0} (Holds : S → List ℕ → Type 0) (image : List ℕ) (part : PartValue S) (old : S) (place count : ℕ) (into : List ℕ) (r : Result T E) → part.layout ≡ Raw → place + length into ≤ part.len
-    → count ≡ length into → OfEach (Holds part.source) (Holds old) → (Holds old image → part.start + part.len ≤ length (content_of part.layout image))
-    → OnOk r ((sectors : ℕ) → part.start + place + count ≤ sectors * 2048 → OfEach (IsDataOfOne (Holds part.source) sectors) (HasAt (part.start + place) into))
-    → OnOk r (OfEach (IsPartOf Holds image part) (HasAt place into))
-raw_read Holds image part old place count into (Err e) raw within size held inside each = tt
-raw_read Holds image part old place count into (Ok x) raw within size held inside each = λ bytes own.
-    let room = subst (λ (layout : Layout). part.start + part.len ≤ length (content_of layout image)) raw (inside (held image own.has)) in
+pub raw_read : {S T E : Type 0} (Holds : S → List ℕ → Type 0) (image : List ℕ) (part : PartValue S) (place : ℕ) (into : List ℕ) (r : Result T E) → part.layout ≡ Raw → place + length into ≤ part.len
+    → OnOk r (OfEach (IsDataOfOne (Holds part.source)) (HasAt (part.start + place) into)) → OnOk r (OfEach (IsPartOf Holds image part) (HasAt place into))
+raw_read Holds image part place into (Err e) raw within each = tt
+raw_read Holds image part place into (Ok x) raw within each = λ bytes own.
     part_read part.start part.len place (content_of part.layout image) bytes into within own.is
-    (subst (λ (layout : Layout). HasAt (part.start + place) into (content_of layout image)) (sym raw)
-    (data_read (Holds part.source) image into (part.start + place) count own.has size (omega (arith, within, room)) each))
+    (subst (λ (layout : Layout). HasAt (part.start + place) into (content_of layout image)) (sym raw) (each (user_data_of image) (image, own.has, refl)))
 
 -- the range of all bytes has all of them
 all-bytes : (content : List ℕ) (len : ℕ) → length content ≡ len → bytes_in (range_of 0 len) content ≡ content

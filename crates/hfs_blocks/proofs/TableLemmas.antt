@@ -10,7 +10,7 @@ use Rattle.std.proofs.lemmas.Option.{none-some, same_Some}
 use Rattle.hfs_blocks.specs.Layers.{Numbered, Changes, changes, numbers, with_change, over, AreWhole, AreWithin, HasChangesOf, HasJoined, IsLaid}
 use Rattle.hfs_blocks.proofs.LaidLemmas.{settled, over_or, within_or}
 use Rattle.hfs_blocks.specs.Places.{place_in, HasRow, HaveNone, HaveSamePlaces, ArePlaced}
-use Rattle.hfs_blocks.specs.Tables.{AreBlocks, IsTable, HaveRoom, UsesRoom, HasNumbers, HasLaid, AreBlocksOf, FollowFrom, HaveRowsFor}
+use Rattle.hfs_blocks.specs.Tables.{AreBlocks, HasPlaces, IsPlaceAmong, IsTable, HaveRoom, UsesRoom, HasNumbers, HasLaid, AreBlocksOf, FollowFrom, HaveRowsFor}
 
 -- ---- what a table has of a number
 
@@ -384,6 +384,22 @@ place-is ns bs rows n place t is some =
     let at : place_in rows n ≡ suc (place - 1) = sym is ∙ (let e : place ≡ suc (place - 1) = omega (arith, some) in e) in
     let there = t.placed n (place - 1) at in
     (at, omega (arith, there.0, t.len))
+
+pub places-of-table : (ns : List ℕ) (bs : List (List ℕ)) (rows : Numbered) → IsTable ns bs rows → HasPlaces ns rows
+places-of-table ns bs rows t = (t.placed, t.stands)
+
+-- what is found among the numbers is what the rows say
+pub place-among : (ns : List ℕ) (rows : Numbered) (n place : ℕ) → HasPlaces ns rows → IsPlaceAmong ns n place → place ≡ place_in rows n
+place-among ns rows n zero has found = by (place_in rows n) refl
+  where
+    by : (p : ℕ) → place_in rows n ≡ p → zero ≡ place_in rows n
+    by zero e = sym e
+    by (suc i) e = let at = has.0 n i e in absurd (found.nowhere refl i at.0 at.1)
+place-among ns rows n (suc i) has found =
+    let at = found.there (omega arith) in
+    let same : suc i - 1 ≡ i = omega arith in
+    let lt : i < length ns = omega (arith, at.0) in
+    sym (subst (λ q. place_in rows q ≡ suc i) (ap (λ j. get_or ns j 0) (sym same) ∙ at.1) (has.1 i lt))
 
 -- ---- tables that are the same
 

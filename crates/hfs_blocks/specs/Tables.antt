@@ -1,5 +1,5 @@
 -- Blocks in a row with their numbers, and where each of them stands.
-use Rattle.std.specs.Prelude.{◌≡◌, ℕ, suc, ◌+◌, ◌<◌, ◌≤◌, List, [], length, Vec, vec_len, vec_capacity, Some, None, slice_index, slice_index_or, zip}
+use Rattle.std.specs.Prelude.{◌≡◌, ◌≢◌, ℕ, suc, ◌+◌, ◌-◌, ◌<◌, ◌≤◌, List, [], length, Vec, vec_len, vec_capacity, Some, None, slice_index, slice_index_or, zip}
 use Rattle.std.specs.declared.alloc.Global.{Global}
 use Rattle.hfs_blocks.specs.Layers.{Numbered, Changes, changes}
 use Rattle.hfs_blocks.specs.Places.{place_in, HasRow}
@@ -14,6 +14,16 @@ pub record IsTable (numbers : List ℕ) (blocks : List (List ℕ)) (rows : Numbe
   pub placed : (n i : ℕ) → place_in rows n ≡ suc i → (i < length numbers) × (slice_index numbers i ≡ n)
   pub stands : (i : ℕ) → i < length numbers → place_in rows (slice_index numbers i) ≡ suc i
   pub whole : AreBlocks blocks
+
+-- each number that has a place stands there, and each stands where its place is
+abbrev pub HasPlaces : List ℕ → Numbered → Type 0
+HasPlaces numbers rows =
+    ((n i : ℕ) → place_in rows n ≡ suc i → (i < length numbers) × (slice_index numbers i ≡ n)) × ((i : ℕ) → i < length numbers → place_in rows (slice_index numbers i) ≡ suc i)
+
+-- the number stands at this place, counted from 1, or nowhere where it is 0
+pub record IsPlaceAmong (numbers : List ℕ) (n place : ℕ) : Type 0 where
+  pub there : 0 < place → (place - 1 < length numbers) × (slice_index numbers (place - 1) ≡ n)
+  pub nowhere : place ≡ 0 → (i : ℕ) → i < length numbers → slice_index numbers i ≢ n
 
 -- there is room for `count` more
 pub record HaveRoom (numbers : Vec ℕ Global) (blocks : Vec (List ℕ) Global) (count : ℕ) : Type 0 where

@@ -8,8 +8,8 @@ ghost use Rattle.hfs_blocks.specs.Tables.{HasLaid, HasNoneOf};
 
 use crate::blocks::Blocks;
 use crate::patched::Patched;
-use crate::places::{add_row, add_rows, is_any_placed, place_of};
-use crate::table::{add_rows_for, lay_all, lay_one, lay_run, make_room};
+use crate::places::{add_row, add_rows, is_any_placed};
+use crate::table::{add_rows_for, lay_all, lay_one, lay_run, make_room, place_in_table};
 use indexmap::IndexMap;
 use std::alloc::{AllocError, Global};
 use std::marker::Model;
@@ -62,7 +62,7 @@ impl Patch {
         ensures value { option_copied result ≡ changes self.now n }
         ensures whole { AreWhole (changes self.now) }
     {
-        let place = place_of(&self.places, n);
+        let place = place_in_table(&self.numbers, &self.places, n);
         if place == 0 {
             return None;
         }
@@ -85,6 +85,11 @@ impl Patch {
             (changes self.new ≡ with_change (changes self.old) n block.now) }
         ensures kept { OnErr result (self.new ≡ self.old) }
     {
+        let place = place_in_table(&self.numbers, &self.places, n);
+        if place > 0 {
+            self.blocks[place as usize - 1] = *block;
+            return Ok(());
+        }
         make_room(&mut self.numbers, &mut self.blocks, 1)?;
         add_row(&mut self.places, n)?;
         lay_one(

@@ -2,12 +2,39 @@
 
 ghost use Rattle.std.specs.Prelude.{◌≡◌, ℕ, ◌+◌, ◌^◌, ◌<◌, ◌≤◌, ◌≢◌, length, vec_len, vec_capacity, slice_index, zip, OnOk};
 ghost use Rattle.hfs_blocks.specs.Layers.{changes, with_change, HasChangesOf};
-ghost use Rattle.hfs_blocks.specs.Places.{KeepsRows, HaveRows, HaveNone, HasRow, HaveSamePlaces};
+ghost use Rattle.hfs_blocks.specs.Places.{place_in, KeepsRows, HaveRows, HaveNone, HasRow, HaveSamePlaces};
 ghost use Rattle.hfs_blocks.specs.Tables as spec;
 
 use crate::places::{Places, add_rows, is_any_placed, place_of, set_places};
 use std::alloc::AllocError;
 use std::slice;
+
+/// How many numbers are looked at one by one, which is less work than to look one up.
+const FEW: usize = 8;
+
+/// The place of a number among these, counted from 1; 0 where it isn't one of them.
+fn place_among(numbers: &[u32], n: u32) -> u32
+    requires { length numbers.now ≤ 8 }
+    ensures { spec.IsPlaceAmong numbers.now n result }
+{
+    for i in 0..numbers.len() {
+        if numbers[i] == n {
+            return i as u32 + 1;
+        }
+    }
+    0
+}
+
+/// The place of block `n` in a table, counted from 1; 0 where it has none.
+pub(crate) fn place_in_table(numbers: &[u32], places: &Places, n: u32) -> u32
+    requires { spec.HasPlaces numbers.now places.now.entries }
+    ensures { result ≡ place_in places.now.entries n }
+{
+    if numbers.len() <= FEW {
+        return place_among(numbers, n);
+    }
+    place_of(places, n)
+}
 
 /// Makes room for `count` blocks more.
 pub(crate) fn make_room(
@@ -85,7 +112,7 @@ pub(crate) fn lay_one(
     ensures rows { KeepsRows places.old.entries places.new.entries }
     ensures room { spec.UsesRoom numbers.old blocks.old 1 numbers.new blocks.new }
 {
-    let place = place_of(places, n);
+    let place = place_in_table(numbers, places, n);
     if place == 0 {
         append(numbers, blocks, places, n, slice::from_ref(block));
         return;
@@ -113,7 +140,7 @@ pub(crate) fn lay_run(
     ensures rows { KeepsRows places.old.entries places.new.entries }
     ensures room { spec.UsesRoom numbers.old blocks.old (length run.now) numbers.new blocks.new }
 {
-    if !is_any_placed(places, first, run.len()) {
+    if run.len() > 1 && !is_any_placed(places, first, run.len()) {
         append(numbers, blocks, places, first, run);
         return;
     }

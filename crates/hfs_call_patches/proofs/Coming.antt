@@ -9,7 +9,7 @@ use Rattle.hfs_fields.specs.declared.extent.Extent.{Extent}
 use Rattle.hfs_fields.specs.Each.{Each}
 use Rattle.hfs_space.specs.Extents.{block_total, extent_blocks}
 use Rattle.hfs_space.proofs.Decided.{each_from_all}
-use Rattle.hfs_space.proofs.Owned.{length-blocks}
+use Rattle.hfs_space.proofs.OwnedLemmas.{length-blocks}
 use Rattle.hfs_record_edits.specs.Growing.{records_coming}
 use Rattle.hfs_record_edits.specs.Lengthened.{none, used_places, last_used, joins, longer, lengthened}
 

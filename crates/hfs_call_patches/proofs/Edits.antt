@@ -53,7 +53,7 @@ use Rattle.hfs_call_patches.specs.Files.{kind_of, fork_of, file_with}
 use Rattle.hfs_call_patches.specs.Edits.{byte_of, extents_of, blocks_of}
 use Rattle.hfs_call_patches.specs.CallEdits.{SetsFork}
 use Rattle.hfs_call_patches.proofs.Rooms.{extents_within, within_each}
-use Rattle.hfs_space.proofs.Owned.{length-blocks}
+use Rattle.hfs_space.proofs.OwnedLemmas.{length-blocks}
 use Rattle.hfs_call_patches.proofs.SoundForks as sounds
 use Rattle.hfs_call_patches.specs.Settings.{IsBody, IsFileUnder}
 use Rattle.hfs_call_patches.proofs.Different.{different}

@@ -25,7 +25,7 @@ use Rattle.hfs_call_patches.specs.Files.{fork_of}
 use Rattle.hfs_call_patches.specs.Edits.{extents_of, blocks_of}
 use Rattle.hfs_call_patches.specs.Laid.{AreZeros}
 use Rattle.hfs_call_patches.proofs.Laid.{numbers_long}
-use Rattle.hfs_space.proofs.Owned.{length-blocks}
+use Rattle.hfs_space.proofs.OwnedLemmas.{length-blocks}
 use Rattle.hfs_call_patches.specs.Calls.{IsForkVolume, HasPlaces}
 use Rattle.hfs_call_patches.specs.Found.{IsFoundFile}
 use Rattle.hfs_call_patches.specs.Gaining.{IsNodesWanted}

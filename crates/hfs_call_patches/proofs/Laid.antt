@@ -37,7 +37,7 @@ use Rattle.hfs_call_patches.proofs.Beside.{fork_in, other_fork, both_have}
 use Rattle.hfs_call_patches.proofs.BesideTrees.{is_beside}
 use Rattle.hfs_call_patches.proofs.Moves.{HasBlocks}
 use Rattle.hfs_call_patches.proofs.Rooms.{extents_within}
-use Rattle.hfs_space.proofs.Owned.{length-blocks}
+use Rattle.hfs_space.proofs.OwnedLemmas.{length-blocks}
 use Rattle.hfs_call_patches.proofs.SoundForks.{own, forks_r, own_owns, own_once, own_sound, own_within}
 
 -- how many blocks of 512 bytes extents have

@@ -32,7 +32,7 @@ use Rattle.hfs_record_edits.specs.Growing.{HasRoomFor}
 use Rattle.hfs_call_patches.specs.Files.{kind_of, fork_of}
 use Rattle.hfs_call_patches.specs.Edits.{extents_of, blocks_of}
 use Rattle.hfs_call_patches.proofs.Rooms.{room_left, within_each}
-use Rattle.hfs_space.proofs.Owned.{length-blocks}
+use Rattle.hfs_space.proofs.OwnedLemmas.{length-blocks}
 use Rattle.hfs_call_patches.proofs.SoundForks as sounds
 
 -- ---- how many bytes there are

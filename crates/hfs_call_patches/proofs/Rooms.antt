@@ -17,7 +17,7 @@ use Rattle.hfs_space.proofs.Decided.{each_from_all}
 use Rattle.hfs_space.proofs.OwnedOnce.{each-range}
 use Rattle.hfs_record_edits.proofs.Space.{cons, one, no, owned_each}
 use Rattle.hfs_model.specs.Forks.{blocks}
-use Rattle.hfs_space.proofs.Owned.{length-blocks}
+use Rattle.hfs_space.proofs.OwnedLemmas.{length-blocks}
 
 -- of a row of numbers that are all below n, the last is
 last_below : (n a k : ℕ) → Each (λ (b : ℕ). b < n) (range_with_len a k) → 0 < k → a + k ≤ n

@@ -1,10 +1,11 @@
 -- What is known of a file that was opened.
 use Rattle.std.specs.Prelude.{◌≡◌, ⊤, ℕ, ◌+◌, ◌*◌, ◌/◌, ◌<◌, List, length, IfSome, Option, None, Some}
+use Rattle.std.specs.Option.{option_map}
 use Rattle.std.specs.Arc.{arc_value}
 use Rattle.hfs_source.specs.Images.{OfEach}
 use Rattle.hfs_source.specs.Steps.{IsReadFrom}
 use Rattle.hfs_source.specs.Reading.{FailsInData, IsDataOfOne}
-use Rattle.hfs_source.specs.Sectors.{other_count, sector_count}
+use Rattle.hfs_source.specs.Sectors.{other_count, sector_count, user_data_of}
 use Rattle.hfs_source.specs.declared.ranges.ByteRange.{ByteRange}
 use Rattle.hfs_source.specs.declared.ranges.Layout.{Layout}
 use Rattle.hfs_source.specs.declared.ranges.Layout.TheVariants as layout
@@ -24,6 +25,11 @@ abbrev pub held_bytes : {F : Type 0} → OpenedFile F → Option (List ℕ)
 held_bytes (Plain file) = stored_bytes file
 held_bytes (Raw user) = stored_bytes user.bytes
 
+-- the bytes in which volumes are looked for, where all of the file are held
+abbrev pub held_content : {F : Type 0} → OpenedFile F → Option (List ℕ)
+held_content (Plain file) = stored_bytes file
+held_content (Raw user) = option_map user_data_of (stored_bytes user.bytes)
+
 -- bytes that were held are held
 abbrev pub StaysHeld : Option (List ℕ) → Option (List ℕ) → Type 0
 StaysHeld old new = IfSome old (λ bytes. new ≡ Some bytes)
@@ -41,7 +47,7 @@ stored_failures (Whole bytes) place count = length (arc_value bytes).items < pla
 -- the bytes in which volumes are looked for, of each file that has the bytes which were read
 abbrev pub images_of : {F : Type 0} → OpenedFile F → List ℕ → Type 0
 images_of (Plain file) image = stored_images file image
-images_of (Raw user) image = IsDataOfOne (stored_images user.bytes) user.sectors image
+images_of (Raw user) image = IsDataOfOne (stored_images user.bytes) image
 
 -- the files themselves
 abbrev pub files_of : {F : Type 0} → OpenedFile F → List ℕ → Type 0

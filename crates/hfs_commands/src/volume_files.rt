@@ -3,7 +3,7 @@ ghost use Rattle.std.specs.Prelude.{◌≡◌, IfErr, IfOk, IfSome, None, Some};
 ghost use Rattle.std.specs.Option.{is_some};
 ghost use Rattle.hfs_source.specs.Asking.{IsAnswerTo, asked_in};
 ghost use Rattle.hfs_commands.specs.Faults.{IsUnopened, IsUnreadFile};
-ghost use Rattle.hfs_commands.specs.OpenedFiles.{held_bytes, images_of, opened_layout, stored_bytes, stored_images};
+ghost use Rattle.hfs_commands.specs.OpenedFiles.{StaysHeld, held_bytes, held_content, images_of, opened_layout, stored_bytes, stored_images};
 ghost use Rattle.hfs_commands.specs.Parts.{IsRangeAt, asked_at};
 ghost use Rattle.hfs_source.specs.Images.{FailsWhere, HasLength, OfEach};
 
@@ -165,6 +165,7 @@ pub(crate) fn place_asked<'a, S: PlacedBytes>(
 /// The part of an opened file that is asked for, given the number of a range in it or none, as [`find_asked`] says. Faults:
 /// `NoVolume` if there is no such range; `SeveralVolumes` if no number is given and there are several candidates; a read failed,
 /// memory was refused.
+#[tactic(auto, using(crate::proofs::HeldBytes::content_stays))]
 pub fn part_of<'a, F: Read + Seek + Drop>(
     alloc: Global,
     file: Window<OpenedFile<F>>,
@@ -179,6 +180,8 @@ pub fn part_of<'a, F: Read + Seek + Drop>(
     ensures whole { IfOk result (λ part. part.place ≡ None → part.bytes.range ≡ file.range) }
     ensures held { IfOk result (λ part. OfEach (images_of part.bytes.source)
         (images_of file.source)) }
+    ensures stays { IfOk result (λ part. StaysHeld (held_content file.source)
+        (held_content part.bytes.source)) }
     ensures fault { IfErr result (IsUnopened path.entry volume) }
 {
     let Window { mut source, range } = file;

@@ -1,6 +1,6 @@
 -- The blocks of a volume that calls read and write, but for the bytes of forks, and what follows where these alone were read of an image.
 -- Each law is what a function of src/laws.rt ensures.
-use Rattle.std.specs.Prelude.{◌≡◌, ◌≢◌, ℕ, ◌-◌, if◌then◌else◌, Bool, true, List, ◌∷◌, ◌++◌, length, Option, None, IsSome, is_some}
+use Rattle.std.specs.Prelude.{◌≡◌, ℕ, ◌-◌, Bool, true, List, ◌∷◌, ◌++◌, length, IsSome}
 use Rattle.hfs_model.specs.Alike.{AreAlike, no_file}
 use Rattle.hfs_fields.specs.declared.file_record.FileRecord.{FileRecord}
 use Rattle.hfs_fields.specs.Records.{is_file, item_id, file_record_of}
@@ -12,12 +12,12 @@ use Rattle.hfs_blocks.specs.Layers.{Numbered, changes, AreWithin}
 use Rattle.hfs_btree.specs.Sound.{IsOther}
 use Rattle.hfs_check.specs.Agree.{AgreesBut, bitmap_blocks}
 use Rattle.hfs_check.specs.Parts.{Blocks, mdb_in, extents_blocks, catalog_blocks, catalog_in}
-use Rattle.hfs_check.specs.Sound.{IsImageLength, AreBlocksSound, IsSound}
+use Rattle.hfs_check.specs.Sound.{IsSound}
 use Rattle.hfs_check.specs.VolumeOf.{contents_in, volume_of}
 use Rattle.hfs_image.specs.Laws.{volume_with, blocks_of_fork}
 use Rattle.hfs_image.specs.Needed.{AgreeOn}
-use Rattle.hfs_source.specs.Sparse.{sparse, HasEach, IsOf}
-use Rattle.hfs_volume.specs.Image.{patched, copy_of}
+use Rattle.hfs_source.specs.Sparse.{sparse, HasEach}
+use Rattle.hfs_volume.specs.Image.{patched}
 
 -- of a volume of so many blocks: the master directory block, its copy, the bitmap, and the files of both trees, free nodes and all
 unfoldable pub working_blocks : ℕ → Blocks → List ℕ
@@ -68,29 +68,6 @@ HasForksOf keep old new r = is_file r.1 ≡ true → keep (item_id r.1) ≡ true
 abbrev pub HasWorking : ℕ → Numbered → Type 0
 HasWorking total read = HasEach read (working_blocks total (sparse read))
 
--- ---- the changed blocks that were read
-
--- a block that was changed and read
-abbrev pub kept_block : Numbered → Numbered → ℕ → Option (List ℕ)
-kept_block read changed n = if is_some (changes read n) then changes changed n else None
-
--- these are those of the changed blocks that were read
-abbrev pub AreKeptTo : Numbered → Numbered → Numbered → Type 0
-AreKeptTo read changed kept = (n : ℕ) → changes kept n ≡ kept_block read changed n
-
--- block n came, if it is one of these and wasn't there, and no other
-pub record PutsKept (read changed : Numbered) (n : ℕ) (old new : Numbered) : Type 0 where
-  pub here : changes old n ≡ None → changes new n ≡ kept_block read changed n
-  pub others : (k : ℕ) → k ≢ n → changes new k ≡ changes old k
-
--- the blocks that were read of an image are its working blocks, and those of a sound volume
-pub record AreWorkingOf (read : Numbered) (image : List ℕ) : Type 0 where
-  pub len : IsImageLength (length image)
-  pub within : AreWithin (changes read) (block_count image)
-  pub of : IsOf image read
-  pub working : HasWorking (block_count image) read
-  pub sound : AreBlocksSound (block_count image) (sparse read)
-
 -- ---- the laws
 
 abbrev pub CopiesAnswer : Type 0
@@ -105,11 +82,3 @@ KeptForksAreAlike =
 abbrev pub ChangesCarryOver : Type 0
 ChangesCarryOver =
     (copy image written : List ℕ) (changed : Numbered) → IsWorkingCopy copy image → AreChangesBut written changed copy image → CarriesOverBut written changed copy image
-
--- where the blocks of forks that were written were read
-abbrev pub KeptChangesCarryOver : Type 0
-KeptChangesCarryOver =
-    (read changed kept : Numbered) (image written : List ℕ) → AreWorkingOf read image → AreWithin (changes changed) (block_count image) → AreKeptTo read changed kept
-    → HasEach read written
-    → AgreesBut written (copy_of read (length image)) (patched changed (copy_of read (length image)))
-    → (patched kept (copy_of read (length image)) ≡ patched changed (copy_of read (length image))) × CarriesOverBut written kept (copy_of read (length image)) image

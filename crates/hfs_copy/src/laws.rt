@@ -1,5 +1,5 @@
 //! What the working blocks imply, each law as the contract of a function that does nothing.
-ghost use Rattle.hfs_copy.specs.Working.{ChangesCarryOver, CopiesAnswer, KeptChangesCarryOver, KeptForksAreAlike};
+ghost use Rattle.hfs_copy.specs.Working.{ChangesCarryOver, CopiesAnswer, KeptForksAreAlike};
 
 /// If a copy with an image's working blocks is sound, so is the image, and both hold the same volume except for the bytes of
 /// forks.
@@ -17,11 +17,4 @@ pub fn kept_forks_are_alike()
 /// changed block must be one whose bytes in the copy were the image's.
 pub fn changes_carry_over()
     ensures { ChangesCarryOver }
-{}
-
-/// If the copy is what was read, with zeros elsewhere, and the blocks of forks that calls wrote were read, then the changed
-/// blocks that were read are all that have changed: they make of the copy what all changed blocks make of it, and carry over to
-/// the image.
-pub fn kept_changes_carry_over()
-    ensures { KeptChangesCarryOver }
 {}

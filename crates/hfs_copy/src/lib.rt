@@ -15,14 +15,10 @@ mod mending;
 mod mounting;
 mod noted;
 mod opening;
-mod read_blocks;
 
 pub use crate::keeping::kept_blocks;
-pub use crate::laws::{
-    changes_carry_over, copies_answer, kept_changes_carry_over, kept_forks_are_alike,
-};
+pub use crate::laws::{changes_carry_over, copies_answer, kept_forks_are_alike};
 pub use crate::mending::{Mended, mend_needed};
 pub use crate::mounting::mount_read;
 pub use crate::noted::FailingBlocks;
 pub use crate::opening::{WorkingVolume, open_source, open_working};
-pub use crate::read_blocks::kept_to;

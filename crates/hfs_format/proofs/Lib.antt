@@ -2,10 +2,10 @@ pub mod Laid
 pub mod FirstBits
 pub mod Rounding
 pub mod MapNodes
-pub mod Blocks
+pub mod BlockLemmas
 pub mod NodesRead
 pub mod BitsRead
-pub mod NewVolume
+pub mod NewVolumeLemmas
 pub mod NewBlocks
 pub mod HeaderRead
 pub mod SmallTrees
@@ -13,7 +13,7 @@ pub mod NewFiles
 pub mod NewCatalog
 pub mod NewSpace
 pub mod PlanFacts
-pub mod NewImage
+pub mod NewImageLemmas
 pub mod Ranges
 mod BitRowLemmas
 mod NodeNumbers

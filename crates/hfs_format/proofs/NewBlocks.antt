@@ -19,7 +19,7 @@ use Rattle.hfs_format.proofs.BitRowLemmas.{length-bit_row}
 use Rattle.hfs_format.specs.NewTrees.{map_node_count, header_record, header_node, map_node, IsNewTree, tree_block, root_directory, root_record, root_thread, root_leaf}
 use Rattle.hfs_format.specs.Image.{is_mdb_block, extents_start, catalog_start, extents_tree, catalog_tree, new_block, volume_image}
 use Rattle.hfs_format.proofs.MapNodes.{few-map_nodes, is_new_tree-empty, is_new_tree-one_leaf, next_map_node-most}
-use Rattle.hfs_format.proofs.NewVolume.{IsNewVolume, files-within, length-new_mdb_block}
+use Rattle.hfs_format.proofs.NewVolumeLemmas.{IsNewVolume, files-within, length-new_mdb_block}
 use Rattle.hfs_format.proofs.NodesRead.{IsNodeValue, length-node_bytes}
 
 -- ---- the nodes fit

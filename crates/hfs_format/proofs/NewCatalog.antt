@@ -19,7 +19,7 @@ use Rattle.hfs_catalog.specs.Sound.{EachFolder, IsRecord, AreIdsSound, AreNamesS
 use Rattle.hfs_format.specs.declared.layout.Layout.{Layout}
 use Rattle.hfs_format.specs.NewMdb.{new_mdb}
 use Rattle.hfs_format.specs.NewTrees.{root_directory}
-use Rattle.hfs_format.proofs.NewVolume.{IsNewVolume}
+use Rattle.hfs_format.proofs.NewVolumeLemmas.{IsNewVolume}
 use Rattle.hfs_format.proofs.NewBlocks.{root_directory-value, root_thread-value}
 use Rattle.hfs_format.proofs.NewFiles.{root_pair, root_thread_pair, new_catalog, new_catalog-rises}
 

@@ -33,7 +33,7 @@ use Rattle.hfs_btree.specs.declared.header.Header.{Header}
 use Rattle.hfs_format.specs.NewTrees.{map_node_count, empty_tree, one_leaf_tree, header_node, map_node, tree_block, root_directory, root_record, root_thread, root_leaf, node_bytes}
 use Rattle.hfs_format.specs.Image.{is_mdb_block, catalog_start, extents_tree, catalog_tree, catalog_block, new_block, volume_image}
 use Rattle.hfs_format.proofs.MapNodes.{room-map_nodes, room-no_leaf, few-map_nodes}
-use Rattle.hfs_format.proofs.NewVolume.{IsNewVolume, files-within}
+use Rattle.hfs_format.proofs.NewVolumeLemmas.{IsNewVolume, files-within}
 use Rattle.hfs_format.proofs.NodesRead.{IsNodeValue, node_of-node_bytes}
 use Rattle.hfs_format.proofs.NewBlocks.{header_node-value, map_node-value, root_directory-value, root_thread-value, root_leaf-value, block_at-volume_image}
 use Rattle.hfs_format.proofs.SmallTrees.{HoldsNoLeaf, no_leaf-content, no_leaf-shaped, no_leaf-ordered, HoldsOneLeaf, one_leaf-content, one_leaf-shaped, one_leaf-ordered}

@@ -19,7 +19,7 @@ use Rattle.hfs_format.specs.Plan.{used_blocks}
 use Rattle.hfs_format.specs.BitRow.{bit_row}
 use Rattle.hfs_format.proofs.BitsRead.{is_used-bit_rows, clear_count-bit_rows}
 use Rattle.hfs_format.specs.NewMdb.{one_run, new_mdb}
-use Rattle.hfs_format.proofs.NewVolume.{IsNewVolume, files-within}
+use Rattle.hfs_format.proofs.NewVolumeLemmas.{IsNewVolume, files-within}
 use Rattle.hfs_format.proofs.NewBlocks.{block_at-volume_image}
 use Rattle.hfs_format.proofs.NewFiles.{image_block, root_pair, root_thread_pair, new_catalog, new_block-bitmap}
 use Rattle.hfs_format.proofs.NewCatalog.{root-no_file, thread-no_file}

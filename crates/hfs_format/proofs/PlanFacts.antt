@@ -10,7 +10,7 @@ use Rattle.hfs_format.specs.declared.format_fault.FormatFault.TheVariants.{BadNa
 use Rattle.hfs_format.specs.Plan.{block_factor, bitmap_blocks, allocation_start, allocation_blocks, file_blocks, layout_of, is_volume_name, is_volume_size, are_node_counts, has_room, format_fault}
 use Rattle.hfs_format.specs.declared.layout.Layout.{Layout}
 use Rattle.hfs_format.specs.Plan.{IsLayout, IsLaidOut}
-use Rattle.hfs_format.proofs.NewVolume.{IsNewVolume, is_layout-new}
+use Rattle.hfs_format.proofs.NewVolumeLemmas.{IsNewVolume, is_layout-new}
 
 -- ---- the tests of a plan
 

@@ -19,8 +19,8 @@ use Rattle.hfs_format.specs.declared.planned_image.PlannedImage.{PlannedImage}
 use Rattle.hfs_format.specs.declared.format_plan.FormatPlan.{FormatPlan}
 use Rattle.hfs_format.specs.Plan.{IsLayout, IsLaidOut, IsPlanned}
 use Rattle.hfs_format.specs.Image.{new_block, volume_image, image_bytes}
-use Rattle.hfs_format.proofs.Blocks.{flat_map-range-last}
-use Rattle.hfs_format.proofs.NewVolume.{IsNewVolume, is_layout-new}
+use Rattle.hfs_format.proofs.BlockLemmas.{flat_map-range-last}
+use Rattle.hfs_format.proofs.NewVolumeLemmas.{IsNewVolume, is_layout-new}
 use Rattle.hfs_format.proofs.NewBlocks.{length-new_block, length-blocks, length-volume_image}
 use Rattle.hfs_format.proofs.PlanFacts.{is_new_volume-planned}
 

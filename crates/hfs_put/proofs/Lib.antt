@@ -19,7 +19,7 @@ pub mod Located
 mod FileBlocks
 mod MappedItems
 mod SameOwn
-mod LaidForks
+mod LaidForkLemmas
 mod Differences
 pub mod CameForks
 pub mod SavedPuts

@@ -31,7 +31,7 @@ use Rattle.hfs_put.proofs.AlikeLists.{SamePut, put-alike}
 use Rattle.hfs_put.proofs.CameForks.{are-long}
 use Rattle.hfs_put.proofs.Differences.{carries}
 use Rattle.hfs_put.proofs.FileBlocks.{own_blocks}
-use Rattle.hfs_put.proofs.LaidForks as laid
+use Rattle.hfs_put.proofs.LaidForkLemmas as laid
 use Rattle.hfs_put.proofs.Results.{Related, related-ok}
 use Rattle.hfs_put.proofs.SameOwn as own
 

@@ -1,6 +1,6 @@
 mod SetLemmas
 mod TwinLemmas
-mod Items
+mod ItemLemmas
 mod EntryOrder
 mod ForkMaps
 mod PartialBytes

@@ -4,8 +4,8 @@ ghost use Rattle.csv.specs.Records.{fields_of};
 ghost use Rattle.hfs_put_sources.specs.Later.{Tells};
 ghost use Rattle.hfs_put_sources.specs.Told.{facts_of, path_field, told_by_row, told_by_table};
 
-use crate::bag_paths::path_behind;
 use crate::by_path::ByPath;
+use crate::tag_paths::path_behind;
 use crate::{HostFault, ItemRow, bag_path, item_row};
 use csv::{ByteRecord, ReaderBuilder};
 use hfs_put_plan::ToldFacts;

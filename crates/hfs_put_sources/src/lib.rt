@@ -8,7 +8,6 @@
 
 mod bag_facts;
 mod bag_laws;
-mod bag_paths;
 mod by_path;
 mod contents;
 mod disk_name;
@@ -31,12 +30,13 @@ mod rows;
 mod sources;
 mod system_tree;
 mod tag_laws;
+mod tag_paths;
 mod tag_text;
 mod told;
 mod tree;
 mod twins;
-mod walk_laws;
 mod walking;
+mod walking_laws;
 mod wrong_files;
 
 pub use crate::bag_facts::BagFacts;
@@ -62,6 +62,6 @@ pub use crate::tag_laws::{
 };
 pub use crate::told::{NothingTold, ToldItems};
 pub use crate::tree::HostTree;
-pub use crate::walk_laws::walk_laws;
 pub use crate::walking::walk;
+pub use crate::walking_laws::walk_laws;
 pub use crate::wrong_files::first_wrong_file;

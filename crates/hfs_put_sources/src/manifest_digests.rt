@@ -4,8 +4,8 @@ ghost use Rattle.hfs_put_sources.specs.Trees.{OfEachTree};
 ghost use Rattle.hfs_put_sources.specs.Digests.{AreDigestsOf, digest_by_line, digest_by_lines, digest_by_source};
 ghost use Rattle.hfs_put_sources.specs.Later.{Tells, told_at};
 
-use crate::bag_paths::path_behind;
 use crate::by_path::ByPath;
+use crate::tag_paths::path_behind;
 use crate::tag_text::{tag_text, without_return};
 use crate::{HostFault, HostTree, entry_path, manifest_line, next_line};
 use std::alloc::{AllocError, Global};

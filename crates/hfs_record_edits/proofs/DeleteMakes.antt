@@ -37,7 +37,7 @@ use Rattle.hfs_record_edits.proofs.RemovalLaws.{HasDroppedItem, HoldsStep, witho
 use Rattle.hfs_record_edits.proofs.Dropped.{near, dropped_items}
 use Rattle.hfs_record_edits.proofs.Removal.{sound, under, dropped, fewer, leaves_files}
 use Rattle.hfs_record_edits.proofs.Space.{record_has, forks_have}
-use Rattle.hfs_record_edits.proofs.Forks.{forks_kept, owners_kept}
+use Rattle.hfs_record_edits.proofs.ForkLemmas.{forks_kept, owners_kept}
 use Rattle.hfs_record_edits.proofs.KeptSpace.{no_file_forks, thread_no_dir, thread_no_file}
 use Rattle.hfs_record_edits.proofs.CatalogEdits.{keeps_contents}
 use Rattle.hfs_record_edits.proofs.Made.{dir-not_file, file-not_dir, folder_touched}

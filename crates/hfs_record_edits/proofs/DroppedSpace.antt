@@ -17,7 +17,7 @@ use Rattle.hfs_space.specs.Sound.{IsForkSound, IsOverflowSound, AreForksSound}
 use Rattle.hfs_catalog.specs.Records.{Record, Catalog}
 use Rattle.hfs_record_edits.specs.Swaps.{one_if}
 use Rattle.hfs_record_edits.proofs.FromLawful.{each_of}
-use Rattle.hfs_record_edits.proofs.Forks.{any_in, any_counts, counts_any}
+use Rattle.hfs_record_edits.proofs.ForkLemmas.{any_in, any_counts, counts_any}
 use Rattle.hfs_space.proofs.RunSteps.{Record as ExtRecord}
 use Rattle.hfs_record_edits.proofs.NoForks.{has_key, run_misses}
 use Rattle.hfs_record_edits.specs.Overflows.{is_of_other, without_file}

@@ -179,8 +179,6 @@ without-own from k own (r ∷ rs) = elim (is_eq (ext_cmp k r.0)) as (λ (b : Boo
   | false ↦ λ e. λ i. cond (not (is_from from r)) (r ∷ without-own from k own rs i) (without-own from k own rs i)
 ] refl
 
-] there
-
 -- nothing goes where the fork has none
 pub all-kept : (from : ExtKey) (rs : Overflow) → IsBefore from rs → without_from from rs ≡ rs
 all-kept from [] h = refl

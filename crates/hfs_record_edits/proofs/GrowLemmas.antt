@@ -9,7 +9,7 @@ use Rattle.hfs_record_edits.specs.Lengthened.{none, used_places, last_used, join
 use Rattle.hfs_record_edits.specs.Threes.{AreThrees}
 use Rattle.hfs_record_edits.proofs.AddLemmas.{AreUsedTo, HaveBlocks, used_places-used, piece-used, rest-blocks, lengthened-blocks}
 use Rattle.hfs_record_edits.proofs.ThreeLemmas.{threes-set_behind, threes-put_behind}
-use Rattle.hfs_space.proofs.Owned.{length-blocks}
+use Rattle.hfs_space.proofs.OwnedLemmas.{length-blocks}
 
 -- ---- one piece
 

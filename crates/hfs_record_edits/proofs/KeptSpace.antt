@@ -22,7 +22,7 @@ use Rattle.hfs_record_edits.proofs.ChangesLaws.{IsItsThread, HasAdded}
 use Rattle.hfs_record_edits.proofs.ChangeLemmas.{HasSet}
 use Rattle.hfs_catalog.proofs.Held.{with_id}
 use Rattle.hfs_record_edits.proofs.Space.{record_has}
-use Rattle.hfs_record_edits.proofs.Forks.{forks_kept, owners_kept}
+use Rattle.hfs_record_edits.proofs.ForkLemmas.{forks_kept, owners_kept}
 use Rattle.hfs_record_edits.proofs.NoForks.{no_run}
 use Rattle.hfs_record_edits.proofs.Made.{dir-not_file}
 use Rattle.hfs_record_edits.proofs.Added.{one_more_count, added_sum}

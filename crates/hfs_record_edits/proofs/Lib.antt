@@ -23,7 +23,7 @@ pub mod Needs
 pub mod Adds
 pub mod Shrinks
 pub mod ForkRecords
-pub mod Bodies
+pub mod BodyRowLemmas
 pub mod CutLemmas
 mod AddLemmas
 pub mod RecordLemmas
@@ -49,7 +49,7 @@ pub mod Added
 pub mod Dropped
 pub mod Made
 pub mod Space
-pub mod Forks
+pub mod ForkLemmas
 pub mod NoForks
 pub mod KeptSpace
 pub mod Frames

@@ -44,7 +44,7 @@ use Rattle.hfs_record_edits.proofs.MovedItem.{threads2, moved_near, moved_items}
 use Rattle.hfs_record_edits.proofs.Rekeyed.{threads_after}
 use Rattle.hfs_record_edits.proofs.RenameMakes.{rekeyed_forks, threaded}
 use Rattle.hfs_record_edits.proofs.Space.{record_has, forks_have}
-use Rattle.hfs_record_edits.proofs.Forks.{forks_kept, owners_kept}
+use Rattle.hfs_record_edits.proofs.ForkLemmas.{forks_kept, owners_kept}
 use Rattle.hfs_record_edits.proofs.KeptSpace.{no_file_forks, thread_no_dir, thread_no_file}
 use Rattle.hfs_record_edits.proofs.CatalogEdits.{keeps_contents}
 use Rattle.hfs_record_edits.proofs.Maps.{folder_item as dir_item}

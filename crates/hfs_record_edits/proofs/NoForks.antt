@@ -18,7 +18,7 @@ use Rattle.hfs_space.specs.Owners.{Fork, forks_of_file, forks_of, catalog_fork, 
 use Rattle.hfs_space.specs.Sound.{AreForksSound}
 use Rattle.hfs_catalog.specs.Records.{Record, Catalog}
 use Rattle.hfs_catalog.specs.Sound.{IsRoot, IsGiven, IsSoundCatalog}
-use Rattle.hfs_record_edits.proofs.Forks.{any_in}
+use Rattle.hfs_record_edits.proofs.ForkLemmas.{any_in}
 use Rattle.hfs_record_edits.proofs.Made.{file_id, file-not_dir}
 use Rattle.hfs_space.proofs.RunSteps.{Record as ExtRecord}
 

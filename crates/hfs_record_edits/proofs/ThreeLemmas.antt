@@ -10,7 +10,7 @@ use Rattle.hfs_fields.proofs.RecordFormLemmas.{length-extents_bytes}
 use Rattle.hfs_space.specs.Extents.{block_total, extent_blocks, record_extents}
 use Rattle.hfs_record_edits.specs.Lengthened.{none}
 use Rattle.hfs_record_edits.specs.Threes.{AreThrees, AreLeft}
-use Rattle.hfs_space.proofs.Owned.{length-blocks}
+use Rattle.hfs_space.proofs.OwnedLemmas.{length-blocks}
 
 -- ---- blocks
 

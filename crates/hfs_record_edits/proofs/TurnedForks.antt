@@ -20,7 +20,7 @@ use Rattle.hfs_catalog.proofs.Held.{with_id}
 use Rattle.hfs_record_edits.proofs.Linked.{with_thread}
 use Rattle.hfs_record_edits.proofs.Turned.{HasTurned, item_way}
 use Rattle.hfs_record_edits.proofs.Space.{record_has, forks_have}
-use Rattle.hfs_record_edits.proofs.Forks.{forks_kept, owners_kept}
+use Rattle.hfs_record_edits.proofs.ForkLemmas.{forks_kept, owners_kept}
 use Rattle.hfs_record_edits.proofs.KeptSpace.{no_file_forks, thread_no_file}
 
 -- ---- records that are counted

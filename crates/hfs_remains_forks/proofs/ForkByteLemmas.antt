@@ -5,7 +5,7 @@ use Rattle.std.proofs.Math.Seq.{take-nil}
 use Rattle.std.proofs.lemmas.List.{drop-replicate, drop_all, drop_min, drop_more, length-map, length-replicate, length-take-le, take-replicate}
 use Rattle.hfs_fields.specs.declared.mdb.Mdb.{Mdb}
 use Rattle.hfs_space.specs.Extents.{Overflow}
-use Rattle.hfs_space.proofs.Pieces.{read-append, read-take, take_past}
+use Rattle.hfs_space.proofs.PieceLemmas.{read-append, read-take, take_past}
 use Rattle.hfs_remains.specs.Allocation.{start_of}
 use Rattle.hfs_remains.specs.TreeFiles.{FileBlocks}
 use Rattle.hfs_remains_forks.specs.declared.forks.Fork.{Fork}

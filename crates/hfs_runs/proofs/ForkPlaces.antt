@@ -102,8 +102,6 @@ file-is catalog dir name (Err reply) is = tt
 
 -- ---- with distinct IDs
 
-] refl
-
 pub item-id : (body : List ℕ) → is_file body ≡ true → item_id body ≡ (file_record_of body).id
 item-id body file = ap (λ (b : Bool). cond b (dir_record_of body).id (file_record_of body).id) (not-dir body file)
 

@@ -21,7 +21,7 @@ mod needed_running;
 mod numbering;
 mod pieces;
 mod replies;
-mod run_fault;
+mod run_faults;
 mod run_image;
 mod running;
 mod script_fault;
@@ -37,7 +37,7 @@ pub use hfs_shared::Gate;
 pub use numbering::Asked;
 pub use pieces::{Answers, Piece};
 pub use replies::Replies;
-pub use run_fault::run_fault;
+pub use run_faults::run_fault;
 pub use run_image::{RanImage, RefusedRun, RunImage, script_lines};
 pub use running::{
     Ran, RanInPieces, run_script, run_script_at, run_volume_at, run_volume_in_pieces,

@@ -11,7 +11,7 @@ ghost use Rattle.hfs_runs.specs.Running.{IsNeededFault, IsNeededRunOf, IsScriptF
 ghost use Rattle.hfs_image.specs.Failing.{SomeFailsWithin};
 ghost use Rattle.hfs_source.specs.Images.{OfEach};
 
-use crate::run_fault::run_fault;
+use crate::run_faults::run_fault;
 use crate::{Answers, Gate, NeededRan, ScriptFault, fetch_named_forks, run_needed_at};
 use hfs_check::MountFault;
 use hfs_commands::{Fault, PatchedImage};

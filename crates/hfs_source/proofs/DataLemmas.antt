@@ -1,13 +1,13 @@
 -- Pieces of the user data of sectors.
-use Rattle.std.proofs.Common.{◌≡◌, ◌∙◌, ℕ, ◌+◌, ◌-◌, ◌*◌, ◌<◌, ◌≤◌, Bool, true, false, cond, List, ◌++◌, length, take, drop, Option, Some, None, Result, Ok, Err, ap, sym, replicate, arith, refl, zero, suc}
-use Rattle.std.specs.Prelude.{IfSome, OnOk}
+use Rattle.std.proofs.Common.{◌≡◌, ◌∙◌, ℕ, ◌+◌, ◌-◌, ◌*◌, ◌<◌, ◌≤◌, Bool, true, false, cond, List, ◌++◌, length, take, drop, Option, Some, None, ap, sym, replicate, arith, refl, zero, suc}
+use Rattle.std.specs.Prelude.{IfSome}
 use Rattle.std.proofs.lemmas.List.{length-take, length-drop, length-replicate, length-append, take-append-le, drop-append-le, drop-drop, drop-take, take-take, drop-replicate, take-replicate}
 use Rattle.std.proofs.lemmas.Slice.{take-put_mid}
 use Rattle.std.proofs.Math.Seq.{take-add, drop-append-add}
 use borrow.Rule.Slice.PartMut.{put_mid}
 use Rattle.hfs_fields.specs.Mdb.{bytes_at}
 use Rattle.hfs_source.specs.Images.{HasAt}
-use Rattle.hfs_source.specs.Sectors.{count_without, sector_count, other_count, data_from, data_of, data_start, others_of, sector_data, start_by_mode, is_mode_2_form_1, has_pattern}
+use Rattle.hfs_source.specs.Sectors.{count_without, sector_count, other_count, user_data_of, data_from, data_of, data_start, others_of, sector_data, start_by_mode, is_mode_2_form_1, has_pattern}
 
 -- ---- one sector
 
@@ -57,14 +57,20 @@ first-whole m file inside = length-sector_data (take 2352 file) (omega (arith, l
 rest-inside : (m : ℕ) (file : List ℕ) → suc m * 2352 ≤ length file → m * 2352 ≤ length (drop 2352 file)
 rest-inside m file inside = omega (arith, length-drop 2352 file, inside)
 
-pub length-data_of : (m : ℕ) (file : List ℕ) → m * 2352 ≤ length file → length (data_of m file) ≡ m * 2048
+length-data_of : (m : ℕ) (file : List ℕ) → m * 2352 ≤ length file → length (data_of m file) ≡ m * 2048
 unfolding data_of
 length-data_of zero file inside = refl
 length-data_of (suc m) file inside =
     omega (arith, length-append (sector_data (take 2352 file)) (data_of m (drop 2352 file)), first-whole m file inside, length-data_of m (drop 2352 file) (rest-inside m file inside))
 
+sectors-inside : (file : List ℕ) → sector_count file * 2352 ≤ length file
+sectors-inside file = omega arith
+
+pub length-user_data_of : (file : List ℕ) → length (user_data_of file) ≡ sector_count file * 2048
+length-user_data_of file = length-data_of (sector_count file) file (sectors-inside file)
+
 -- what lies in one sector
-pub piece : (n m from k : ℕ) (file : List ℕ) → n < m → m * 2352 ≤ length file → from + k ≤ 2048
+piece : (n m from k : ℕ) (file : List ℕ) → n < m → m * 2352 ≤ length file → from + k ≤ 2048
     → take k (drop (n * 2048 + from) (data_of m file)) ≡ take k (drop from (sector_data (take 2352 (drop (n * 2352) file))))
 unfolding data_of
 piece zero zero from k file lt inside within = absurd (omega (arith, lt))
@@ -87,17 +93,24 @@ piece (suc n) (suc m) from k file lt inside within =
     ∙ piece n m from k (drop 2352 file) (omega (arith, lt)) (rest-inside m file inside) within
     ∙ ap (λ l. take k (drop from (sector_data (take 2352 l)))) (drop-drop (n * 2352) 2352 file ∙ ap (λ i. drop i file) next)
 
+-- a sector that was read is one of the file's
+sector-there : (n : ℕ) (sector file : List ℕ) → length sector ≡ 2352 → HasAt (n * 2352) sector file → n < sector_count file
+sector-there n sector file whole own =
+    let cut : 2352 ≡ length (take 2352 (drop (n * 2352) file)) = sym whole ∙ ap length own ∙ ap (λ k. length (take k (drop (n * 2352) file))) whole in
+    omega (arith, cut, length-take 2352 (drop (n * 2352) file), length-drop (n * 2352) file)
+
 -- what was laid goes on to the next piece
-pub laid-more : (m n from place done count room : ℕ) (sector old part file : List ℕ) → m * 2352 ≤ length file → n < m → n * 2048 + from ≡ place + done → from + count ≤ 2048
+pub laid-more : (n from place done count room : ℕ) (sector old part file : List ℕ) → n * 2048 + from ≡ place + done → from + count ≤ 2048
     → length sector ≡ 2352 → HasAt (n * 2352) sector file → length part ≡ count → part ≡ bytes_at from count (sector_data sector) → done ≤ length old
-    → take done old ≡ take done (drop place (data_of m file)) → take (done + count) (put_mid done room old part) ≡ take (done + count) (drop place (data_of m file))
-laid-more m n from place done count room sector old part file inside lt here within whole own long is few before =
+    → take done old ≡ take done (drop place (user_data_of file)) → take (done + count) (put_mid done room old part) ≡ take (done + count) (drop place (user_data_of file))
+laid-more n from place done count room sector old part file here within whole own long is few before =
     let same : sector ≡ take 2352 (drop (n * 2352) file) = own ∙ ap (λ k. take k (drop (n * 2352) file)) whole in
-    let laid : part ≡ take count (drop done (drop place (data_of m file))) =
-    is ∙ ap (λ s. bytes_at from count (sector_data s)) same ∙ sym (piece n m from count file lt inside within)
-    ∙ ap (λ i. take count (drop i (data_of m file))) here ∙ ap (take count) (sym (drop-drop done place (data_of m file))) in
+    let laid : part ≡ take count (drop done (drop place (user_data_of file))) =
+    is ∙ ap (λ s. bytes_at from count (sector_data s)) same
+    ∙ sym (piece n (sector_count file) from count file (sector-there n sector file whole own) (sectors-inside file) within)
+    ∙ ap (λ i. take count (drop i (user_data_of file))) here ∙ ap (take count) (sym (drop-drop done place (user_data_of file))) in
     take-put_mid done room old part (done + count) (omega (arith, long)) few
-    ∙ (λ i. before i ++ laid i) ∙ sym (take-add done count (drop place (data_of m file)))
+    ∙ (λ i. before i ++ laid i) ∙ sym (take-add done count (drop place (user_data_of file)))
 
 -- ---- sectors without user data
 
@@ -120,8 +133,3 @@ others-end n m count file end whole own =
     let nothing : others_of (m - n) (drop (n * 2352) file) ≡ 0 = ap (λ k. others_of k (drop (n * 2352) file)) none in
     let all : others_of m file ≡ other_count file = ap (λ k. others_of k file) whole in
     omega (arith, own, nothing, all)
-
--- what holds of any number of sectors with room holds of these
-pub of-sectors : {T E : Type 0} (r : Result T E) (sectors end : ℕ) (F : ℕ → Type 0) → end ≤ sectors * 2048 → OnOk r ((m : ℕ) → end ≤ m * 2048 → F m) → OnOk r (F sectors)
-of-sectors (Err e) sectors end F fits own = tt
-of-sectors (Ok x) sectors end F fits own = own sectors fits

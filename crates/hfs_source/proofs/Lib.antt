@@ -1,5 +1,5 @@
 pub mod Walks
-pub mod Ranges
+pub mod RangeLemmas
 pub mod DataLemmas
 pub mod Fetched
 pub mod Seen
@@ -12,7 +12,7 @@ pub mod Written
 pub mod Fillings
 pub mod Shorter
 mod Entries
-mod Counting
+mod CandidateCounts
 pub mod SumLemmas
 mod RawLemmas
 mod Handed

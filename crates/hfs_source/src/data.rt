@@ -16,7 +16,7 @@ use std::io::ErrorKind;
 pub struct UserData<S> {
     /// The bytes of the sectors.
     pub bytes: S,
-    /// How many sectors there are.
+    /// How many sectors there are. A read past them fails.
     pub sectors: u64,
     ghost few: { sectors * 2352 < 2 ^ 64 },
 }
@@ -33,12 +33,12 @@ impl<S: PlacedBytes> UserData<S> {
 }
 
 impl<S: PlacedBytes> PlacedBytes for UserData<S> {
-    ghost Holds = { λ s. IsDataOfOne (S.Holds s.bytes) s.sectors };
+    ghost Holds = { λ s. IsDataOfOne (S.Holds s.bytes) };
 
     ghost Fails = { λ s. FailsInData (S.Fails s.bytes) s.sectors };
 
     fn len(&self) -> u64 {
-        self.sectors * DATA
+        self.bytes.len() / SECTOR * DATA
     }
 
     fn read_at(&mut self, place: u64, into: &mut [u8]) -> io::Result<()> {

@@ -1,5 +1,5 @@
 //! Pieces of user data, sector by sector.
-ghost use Rattle.std.specs.Prelude.{◌+◌, ◌*◌, ◌<◌, ◌≤◌, ◌^◌, ℕ, IfOk, OnErr, OnOk, length};
+ghost use Rattle.std.specs.Prelude.{◌+◌, ◌*◌, ◌<◌, ◌^◌, IfOk, OnErr, OnOk, length};
 ghost use Rattle.hfs_source.specs.Reading.{FailsInSector, IsDataOfOne};
 ghost use Rattle.hfs_source.specs.Images.{FailsWhere, HasAt, OfEach};
 
@@ -23,8 +23,7 @@ fn sector_at<S: PlacedBytes>(bytes: &mut S, n: u64) -> io::Result<[u8; 2352]>
 /// Reads user data from byte `place` on, as much as there is room for, with one read of each sector that has some of it.
 pub fn read_data<S: PlacedBytes>(bytes: &mut S, place: u64, into: &mut [u8]) -> io::Result<()>
     requires { (place + length into.old) * 2352 < 2 ^ 64 * 2048 }
-    ensures read { OnOk result ((sectors : ℕ) → place + length into.old ≤ sectors * 2048
-        → OfEach (IsDataOfOne (S.Holds bytes.new) sectors) (HasAt place into.new)) }
+    ensures read { OnOk result (OfEach (IsDataOfOne (S.Holds bytes.new)) (HasAt place into.new)) }
     ensures held { OfEach (S.Holds bytes.new) (S.Holds bytes.old) }
     ensures fails { OnErr result (FailsInSector (S.Fails bytes.old) place (length into.old)) }
     ensures later { FailsWhere (S.Fails bytes.new) (S.Fails bytes.old) }

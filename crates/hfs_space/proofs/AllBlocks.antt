@@ -17,7 +17,7 @@ use Rattle.hfs_space.specs.Zeros.{is_of_run, zero_blocks, AreAmong}
 use Rattle.hfs_space.specs.Clearing.{patched}
 use Rattle.hfs_space.specs.Flags.{is_flagged, flagged, zeros_if, AreSameFlags, IsFlaggedAt, AreWhole-flagged}
 use Rattle.hfs_space.specs.Laying.{shown, is_changed}
-use Rattle.hfs_space.proofs.Runs.{in_total}
+use Rattle.hfs_space.proofs.RunLemmas.{in_total}
 use Rattle.hfs_space.specs.Changed.{is_zeros, blocks_below, all_blocks, laid_changes}
 
 -- ---- numbers

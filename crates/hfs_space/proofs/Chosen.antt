@@ -12,7 +12,7 @@ use Rattle.hfs_space.specs.Extents.{extent_blocks, block_total, AreExtentsWithin
 use Rattle.hfs_space.specs.Owners.{owners}
 use Rattle.hfs_space.specs.FreeRuns.{free_blocks, is_in, is_taken, AreFreeRuns, IsWhole}
 use Rattle.hfs_space.specs.Choice.{IsRowAfter, AreBeside, some_of, AreChosen, AreFreeOnce, IsRoom, free_count}
-use Rattle.hfs_space.proofs.Owned.{owners-inside, owners-once, owned-among, owners-filter, owned-passes, blocks-cons, blocks-append, blocks-one, length-blocks}
+use Rattle.hfs_space.proofs.OwnedLemmas.{owners-inside, owners-once, owned-among, owners-filter, owned-passes, blocks-cons, blocks-append, blocks-one, length-blocks}
 use Rattle.hfs_space.proofs.Counted.{taken-inside, taken-nothing, free_count-beside, free_count-same, length-free_blocks}
 use Rattle.hfs_space.proofs.Firsts.{HaveBlocks, taken-of-runs}
 

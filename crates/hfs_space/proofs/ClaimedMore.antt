@@ -8,7 +8,7 @@ use Rattle.hfs_space.specs.Extents.{extent_blocks}
 use Rattle.hfs_space.specs.Owners.{owners}
 use Rattle.hfs_space.specs.Claimed.{HasClaimed, AreFree, AreSet}
 use Rattle.hfs_space.proofs.Counted.{clear_count-claimed}
-use Rattle.hfs_space.proofs.Owned.{sides, owners-outside, owners-inside, blocks-append, blocks-one, length-blocks}
+use Rattle.hfs_space.proofs.OwnedLemmas.{sides, owners-outside, owners-inside, blocks-append, blocks-one, length-blocks}
 use Rattle.std.proofs.lemmas.List.Sums.{sum_by_push}
 
 pub blocks-more : (es : List Extent) (e : Extent) (b : ℕ) → owners (extent_blocks (es ++ e ∷ [])) b ≡ owners (extent_blocks es) b + owners (range_with_len e.first e.count) b

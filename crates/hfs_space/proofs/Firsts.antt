@@ -15,7 +15,7 @@ use Rattle.hfs_fields.specs.declared.extent.Extent.{Extent}
 use Rattle.hfs_space.specs.Extents.{extent_blocks, block_total}
 use Rattle.hfs_space.specs.Owners.{owners}
 use Rattle.hfs_space.specs.Pieces.{first_of, first_blocks, first_with, by_length, AreOfLongest, AreOfRuns}
-use Rattle.hfs_space.proofs.Owned.{owners-fewer, owners-blocks, blocks-cons, blocks-one}
+use Rattle.hfs_space.proofs.OwnedLemmas.{owners-fewer, owners-blocks, blocks-cons, blocks-one}
 
 -- runs that have a block each
 abbrev pub HaveBlocks : List Extent → Type 0

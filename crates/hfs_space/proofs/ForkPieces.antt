@@ -8,7 +8,7 @@ use Rattle.hfs_space.specs.Extents.{IsExtentWithin}
 use Rattle.hfs_space.specs.ForkLengths.{all_bytes, all_bytes-cons, all_bytes-nil}
 use Rattle.hfs_space.proofs.ForkLengthLemmas.{length-extent_bytes}
 use Rattle.hfs_space.specs.Forks.{HasArea, blocks_each, extent_bytes, fork_bytes, read_from}
-use Rattle.hfs_space.proofs.Pieces.{drop_past, read-append, read-take}
+use Rattle.hfs_space.proofs.PieceLemmas.{drop_past, read-append, read-take}
 
 -- an extent that has a byte has a block
 pub some-block : (n each from count : ℕ) → 0 < count → from + count ≤ 512 * (n * each) → 0 < n

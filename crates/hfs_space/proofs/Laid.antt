@@ -7,7 +7,7 @@ use Rattle.hfs_space.specs.Zeros.{AreAmong}
 use Rattle.hfs_space.specs.Flags.{is_flagged, AreSameFlags}
 use Rattle.hfs_space.specs.Laying.{shown, IsLaidWith, IsShownStill, HasBlocks, IsFlaggedAmong}
 use Rattle.hfs_space.specs.Changed.{all_blocks, laid_changes, HasBlocksOf}
-use Rattle.hfs_space.proofs.Runs.{in_total}
+use Rattle.hfs_space.proofs.RunLemmas.{in_total}
 use Rattle.hfs_space.proofs.AllBlocks.{shown-all, shown-same, patched-laid, patched-same, is_changed-all, is_laid, kept-within, flags-within, all-within}
 
 module _ (now : Numbered) (kept : Numbered) (flags mid : List Bool) (view_is : all_blocks kept flags ≡ now) (same : AreSameFlags flags mid) where

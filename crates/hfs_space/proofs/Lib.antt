@@ -1,7 +1,7 @@
 pub mod Marks
 pub mod Clears
 pub mod Releases
-pub mod Pieces
+pub mod PieceLemmas
 pub mod ForkPieces
 pub mod GoingOn
 pub mod Decided
@@ -33,7 +33,7 @@ pub mod LawTypes
 mod SetBits
 pub mod Claims
 mod LowestRuns
-pub mod Owned
+pub mod OwnedLemmas
 mod Counted
 pub mod ClaimedMore
 mod Running
@@ -54,7 +54,7 @@ mod FromLemmas
 pub mod WholeLemmas
 mod BlockSteps
 pub mod Walks
-pub mod Runs
+pub mod RunLemmas
 pub mod AllBlocks
 pub mod Joined
 pub mod Laid

@@ -16,7 +16,7 @@ use Rattle.hfs_blocks.specs.Blocks.{run_of, total_of, AreCounted}
 use Rattle.hfs_space.specs.ForkLaws.{block_numbers}
 use Rattle.hfs_space.specs.Forks.{blocks_each, run_in}
 use Rattle.hfs_space.specs.TreeFiles.{node_count}
-use Rattle.hfs_space.proofs.Pieces.{take_past}
+use Rattle.hfs_space.proofs.PieceLemmas.{take_past}
 
 map-id : (ns : List ℕ) → map (λ n. n) ns ≡ ns
 map-id [] = refl

@@ -6,7 +6,7 @@ ghost use Rattle.hfs_space.specs.Extents.{block_total};
 ghost use Rattle.hfs_space.specs.Choice as spec;
 
 use crate::Bitmap;
-use crate::free_runs::free_runs_beside;
+use crate::free_run_lists::free_runs_beside;
 use crate::lowest::lowest_run;
 use crate::pieces::pieces_of;
 use crate::rows::row_after;

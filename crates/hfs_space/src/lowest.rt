@@ -6,7 +6,7 @@ ghost use Rattle.hfs_space.specs.Choice.{IsLowest};
 ghost use Rattle.hfs_space.specs.FreeRuns as spec;
 
 use crate::Bitmap;
-use crate::free_runs::{is_taken, meets};
+use crate::free_run_lists::{is_taken, meets};
 use crate::rows::{BITS, turn_to};
 use hfs_blocks::Blocks;
 use hfs_fields::Extent;

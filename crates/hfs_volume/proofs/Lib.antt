@@ -28,4 +28,4 @@ pub mod InFiles
 pub mod Pieces
 pub mod RangePieces
 pub mod Spans
-pub mod Written
+pub mod WrittenLemmas

@@ -6,7 +6,7 @@ use Rattle.hfs_blocks.specs.Layers.{Numbered}
 use Rattle.hfs_source.specs.declared.ranges.ByteRange.{ByteRange}
 use Rattle.hfs_source.specs.Sums.{sum_from}
 use Rattle.hfs_source.specs.Images.{HasAt, IsRangeOf, OfEach}
-use Rattle.hfs_source.proofs.Ranges.{reads-within}
+use Rattle.hfs_source.proofs.RangeLemmas.{reads-within}
 use Rattle.hfs_volume.specs.Patched.{patched_from}
 use Rattle.hfs_volume.specs.InFile.{OfRangePiece}
 use Rattle.hfs_volume.proofs.Pieces.{of-piece}

@@ -4,7 +4,7 @@ use Rattle.std.proofs.lemmas.Nat.{mul-le}
 use Rattle.hfs_format.specs.declared.format_plan.FormatPlan.{FormatPlan}
 use Rattle.hfs_format.specs.declared.planned_image.PlannedImage.{PlannedImage}
 use Rattle.hfs_format.specs.Plan.{block_factor, format_fault, layout_of}
-use Rattle.hfs_format.proofs.NewVolume.{is_layout-new}
+use Rattle.hfs_format.proofs.NewVolumeLemmas.{is_layout-new}
 use Rattle.hfs_format.proofs.PlanFacts.{is_new_volume-planned, enough}
 use Rattle.hfs_format.specs.declared.new_volume.NewVolume.{NewVolume}
 use Rattle.hfs_format.specs.Catalogs.{record_nodes, records_bytes, with_map_nodes}

@@ -9,7 +9,7 @@ use Rattle.hfs_format.specs.declared.planned_image.PlannedImage.{PlannedImage}
 use Rattle.hfs_format.specs.FormatLaws.{volume_of_root}
 use Rattle.hfs_format.specs.Image.{image_bytes}
 use Rattle.hfs_format.specs.Plan.{block_factor}
-use Rattle.hfs_format.proofs.NewImage.{new_images-hold}
+use Rattle.hfs_format.proofs.NewImageLemmas.{new_images-hold}
 use Rattle.hfs_put.specs.Files.{IsReadOf, ReadTree}
 use Rattle.hfs_format.specs.declared.new_image.NewImage.{NewImage}
 use Rattle.hfs_format.specs.declared.volume_name.VolumeName.{VolumeName}

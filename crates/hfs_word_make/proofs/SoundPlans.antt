@@ -8,7 +8,7 @@ use Rattle.hfs_check.proofs.LawsProved.{no_image_fault}
 use Rattle.hfs_format.specs.declared.layout.Layout.{Layout}
 use Rattle.hfs_format.specs.declared.planned_image.PlannedImage.{PlannedImage}
 use Rattle.hfs_format.specs.Image.{image_bytes, new_image, volume_image}
-use Rattle.hfs_format.proofs.NewImage.{new_images-sound}
+use Rattle.hfs_format.proofs.NewImageLemmas.{new_images-sound}
 use Rattle.hfs_image.specs.declared.opening.NeededFault.{NeededFault}
 use Rattle.hfs_image.specs.declared.opening.NeededFault.TheVariants.{Refused}
 use Rattle.hfs_image.specs.Opened.{IsRefusedFor}

@@ -3,7 +3,7 @@ use Rattle.hfs_bag.specs.Entries.{IsBeginning, file}
 use Rattle.hfs_bag.proofs.Beginnings.{begins_appended}
 use Rattle.hfs_bag.specs.Filling.{with_dated_file}
 use Rattle.hfs_bag.specs.Sources.{stream_bytes}
-use Rattle.hfs_bag.proofs.Files.{part_unmade, part_headless, part_streamed, whole_file}
+use Rattle.hfs_bag.proofs.FileLemmas.{part_unmade, part_headless, part_streamed, whole_file}
 use Rattle.hfs_bag.proofs.Growing.{each_err}
 use Rattle.hfs_bag.proofs.filling.put_file.Goals as goal
 

@@ -1,6 +1,6 @@
 use Rattle.std.proofs.Common.{List, ℕ, ap, ◌∙◌, subst}
 use Rattle.hfs_bag.specs.Entries.{IsBeginning, with_piece}
-use Rattle.hfs_bag.proofs.Files.{part_unmade, part_text, whole_text}
+use Rattle.hfs_bag.proofs.FileLemmas.{part_unmade, part_text, whole_text}
 use Rattle.hfs_bag.proofs.Growing.{on_err}
 use Rattle.hfs_bag.proofs.filling.put_text.Goals as goal
 

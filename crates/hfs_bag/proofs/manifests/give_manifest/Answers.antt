@@ -5,7 +5,7 @@ use Rattle.hfs_bag.proofs.Beginnings.{begins_appended}
 use Rattle.hfs_bag.specs.Items.{BagItem}
 use Rattle.hfs_bag.specs.Bags.{items_entries, manifest}
 use Rattle.hfs_bag.specs.Filling.{with_whole_file}
-use Rattle.hfs_bag.proofs.Files.{part_unmade, part_text, whole_text}
+use Rattle.hfs_bag.proofs.FileLemmas.{part_unmade, part_text, whole_text}
 use Rattle.hfs_bag.proofs.Growing.{each_err}
 use Rattle.hfs_bag.proofs.ListingLemmas.{told_again}
 use Rattle.hfs_bag.proofs.manifests.give_manifest.Goals as goal

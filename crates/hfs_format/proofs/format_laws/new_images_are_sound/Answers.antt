@@ -1,4 +1,4 @@
-use Rattle.hfs_format.proofs.NewImage.{new_images-sound}
+use Rattle.hfs_format.proofs.NewImageLemmas.{new_images-sound}
 use Rattle.hfs_format.proofs.format_laws.new_images_are_sound.Goals as goal
 
 pub returns : goal.returns

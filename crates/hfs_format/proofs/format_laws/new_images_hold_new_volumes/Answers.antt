@@ -1,4 +1,4 @@
-use Rattle.hfs_format.proofs.NewImage.{new_images-hold}
+use Rattle.hfs_format.proofs.NewImageLemmas.{new_images-hold}
 use Rattle.hfs_format.proofs.format_laws.new_images_hold_new_volumes.Goals as goal
 
 pub returns : goal.returns

@@ -1,6 +1,6 @@
 use Rattle.std.proofs.Common.{sym, ◌++◌, ◌∙◌, arith}
 use Rattle.hfs_format.specs.Image.{new_block}
-use Rattle.hfs_format.proofs.Blocks.{flat_map-range-more}
+use Rattle.hfs_format.proofs.BlockLemmas.{flat_map-range-more}
 use Rattle.hfs_format.proofs.formatting.volume_image.Goals as goal
 
 pub loop-k-preserved : goal.loop-k-preserved

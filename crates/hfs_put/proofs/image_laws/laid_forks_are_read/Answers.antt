@@ -1,4 +1,4 @@
-use Rattle.hfs_put.proofs.LaidForks as proved
+use Rattle.hfs_put.proofs.LaidForkLemmas as proved
 use Rattle.hfs_put.proofs.image_laws.laid_forks_are_read.Goals as goal
 
 pub returns : goal.returns

@@ -1,5 +1,5 @@
 -- By the places of the entries that were looked at.
-use Rattle.hfs_put_plan.proofs.Items.{first_at, last_at, pair_at}
+use Rattle.hfs_put_plan.proofs.ItemLemmas.{first_at, last_at, pair_at}
 use Rattle.hfs_put_plan.proofs.entries.first_item.Goals as goal
 
 pub returns-in-len1-clause-item : goal.returns-in-len1-clause-item

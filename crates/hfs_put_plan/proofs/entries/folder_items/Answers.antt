@@ -2,7 +2,7 @@
 use Rattle.std.proofs.Common.{drop, arith}
 use Rattle.std.proofs.lemmas.List.{length-drop}
 use Rattle.hfs_put_plan.specs.Entries.{items_from}
-use Rattle.hfs_put_plan.proofs.Items.{items-done}
+use Rattle.hfs_put_plan.proofs.ItemLemmas.{items-done}
 use Rattle.hfs_put_plan.proofs.entries.folder_items.Goals as goal
 
 pub returns : goal.returns

@@ -1,4 +1,4 @@
-use Rattle.hfs_record_edits.proofs.Bodies.{body-fits}
+use Rattle.hfs_record_edits.proofs.BodyRowLemmas.{body-fits}
 use Rattle.hfs_record_edits.proofs.changing.change.Goals as goal
 
 pub replace-requires-clause-there : goal.replace-requires-clause-there

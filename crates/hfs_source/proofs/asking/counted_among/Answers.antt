@@ -1,5 +1,5 @@
 -- Range by range.
-use Rattle.hfs_source.proofs.Counting.{counted_more, counted_end}
+use Rattle.hfs_source.proofs.CandidateCounts.{counted_more, counted_end}
 use Rattle.hfs_source.proofs.asking.counted_among.Goals as goal
 
 pub loop-i-preserved : goal.loop-i-preserved

@@ -1,6 +1,6 @@
 -- Those so far, and those that are still to come.
 use Rattle.hfs_source.specs.Images.{FailsWhere, OfEach}
-use Rattle.hfs_source.proofs.Counting.{CountedLeft}
+use Rattle.hfs_source.proofs.CandidateCounts.{CountedLeft}
 use Rattle.hfs_source.proofs.asking.counted_among.Given as goal
 
 abbrev pub invariant-loop-i : goal.invariant-loop-i

@@ -19,11 +19,10 @@ loop-done-preserved g c =
     record {
       long = long ∙ c.loop-done.invariant.long;
       few = omega (arith, long, size, c.loop-done-test.true);
-      laid = λ file holds sectors room inside.
-          laid-more sectors (at / 2048) (at % 2048) c.args.place done count (done + count - done) c.in_ok-sector.sector c.loop-done.into c.put_data.new.part file
-          inside (omega (arith, room, long, c.loop-done-test.true)) (omega arith) (omega (arith, size)) whole (c.in_ok-sector.ensures.read file holds) filled is
-          c.loop-done.invariant.few
-          (c.loop-done.invariant.laid file (c.in_ok-sector.ensures.held file holds) sectors (omega (arith, room, long)) inside);
+      laid = λ file holds.
+          laid-more (at / 2048) (at % 2048) c.args.place done count (done + count - done) c.in_ok-sector.sector c.loop-done.into c.put_data.new.part file
+          (omega arith) (omega (arith, size)) whole (c.in_ok-sector.ensures.read file holds) filled is
+          c.loop-done.invariant.few (c.loop-done.invariant.laid file (c.in_ok-sector.ensures.held file holds));
       held = λ file holds. c.loop-done.invariant.held file (c.in_ok-sector.ensures.held file holds);
       later = λ place count fails. c.loop-done.invariant.later place count (c.in_ok-sector.ensures.later place count fails);
     }

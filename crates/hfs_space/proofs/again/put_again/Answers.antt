@@ -2,7 +2,7 @@
 use Rattle.std.proofs.Common.{◌≡◌, ◌+◌, ◌∙◌, false, ap, sym, subst, arith, rules}
 use Rattle.std.specs.Prelude.{is_some}
 use Rattle.hfs_blocks.specs.Layers.{Numbered, changes}
-use Rattle.hfs_space.proofs.Runs.{GainsUpTo, copied_some, gains_nothing, gains_put, gains_not}
+use Rattle.hfs_space.proofs.RunLemmas.{GainsUpTo, copied_some, gains_nothing, gains_put, gains_not}
 use Rattle.hfs_space.proofs.again.put_again.Goals.{then-is_some+in_ok-put, else-is_some}
 use Rattle.hfs_space.proofs.again.put_again.Goals as goal
 

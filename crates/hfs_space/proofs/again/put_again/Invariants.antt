@@ -1,6 +1,6 @@
 -- The blocks before this one came.
 use Rattle.std.proofs.Common.{◌≤◌}
-use Rattle.hfs_space.proofs.Runs.{GainsUpTo}
+use Rattle.hfs_space.proofs.RunLemmas.{GainsUpTo}
 use Rattle.hfs_space.proofs.again.put_again.Given as goal
 
 abbrev pub invariant-loop-n : goal.invariant-loop-n

@@ -1,6 +1,6 @@
 -- The blocks of one run more came.
 use Rattle.hfs_blocks.specs.declared.run.Run.{Run}
-use Rattle.hfs_space.proofs.Runs.{again_more}
+use Rattle.hfs_space.proofs.RunLemmas.{again_more}
 use Rattle.hfs_space.proofs.again.zeros_again.Goals as goal
 
 abbrev none : Run

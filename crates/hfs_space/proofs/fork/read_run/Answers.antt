@@ -1,7 +1,7 @@
 -- A piece of one block is a piece of the run.
 use Rattle.std.proofs.Common.{◌≡◌, ℕ, ◌-◌, ◌++◌, take, drop, ap, ◌∙◌, arith}
 use Rattle.hfs_space.specs.Forks.{run_bytes}
-use Rattle.hfs_space.proofs.Pieces.{run-more, read-nothing}
+use Rattle.hfs_space.proofs.PieceLemmas.{run-more, read-nothing}
 use Rattle.hfs_space.proofs.fork.read_run.Goals as goal
 
 pub loop-at-init : goal.loop-at-init

@@ -3,7 +3,7 @@ use Rattle.std.proofs.Common.{sym, subst}
 use Rattle.hfs_blocks.specs.Layers.{Numbered, changes, over, AreWithin, HasJoined, IsLaid}
 use Rattle.hfs_space.specs.Flags.{flagged}
 use Rattle.hfs_space.proofs.Joined.{has_blocks, laid_with}
-use Rattle.hfs_space.proofs.Runs.{again_within}
+use Rattle.hfs_space.proofs.RunLemmas.{again_within}
 use Rattle.hfs_space.proofs.laying.lay_change.Goals as goal
 
 pub lay_over-requires : goal.lay_over-requires

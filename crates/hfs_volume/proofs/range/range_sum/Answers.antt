@@ -5,7 +5,7 @@ use Rattle.hfs_source.specs.Sums.{sum_from, sum_of}
 use Rattle.hfs_source.specs.Images.{IsRangeOf}
 use Rattle.hfs_volume.specs.InFile.{OfRangePiece}
 use Rattle.hfs_volume.proofs.RangePieces.{range-narrows, sum-next, sum-none}
-use Rattle.hfs_volume.proofs.Written.{fact-next, fact-all}
+use Rattle.hfs_volume.proofs.WrittenLemmas.{fact-next, fact-all}
 use Rattle.hfs_volume.proofs.range.range_sum.Goals as goal
 
 pub loop-done-init : goal.loop-done-init

@@ -7,7 +7,7 @@ use Rattle.hfs_texts.specs.Writing.{AppendsFront}
 use Rattle.hfs_volume.specs.InFile.{OfRangePiece}
 use Rattle.hfs_volume.proofs.Fronts.{on_err}
 use Rattle.hfs_volume.proofs.RangePieces.{range-narrows}
-use Rattle.hfs_volume.proofs.Written.{written-next, written-part, written-all}
+use Rattle.hfs_volume.proofs.WrittenLemmas.{written-next, written-part, written-all}
 use Rattle.hfs_volume.proofs.range.write_range.Goals as goal
 
 pub returns-in_err-write_piece-clause-part : goal.returns-in_err-write_piece-clause-part

@@ -1,7 +1,7 @@
 -- What was written so far.
 use Rattle.std.specs.Prelude.{◌≡◌, ◌-◌, ◌%◌, ◌<◌, ◌≤◌, length}
 use Rattle.hfs_source.specs.Images.{IsRangeOf, OfEach}
-use Rattle.hfs_volume.proofs.Written.{HasWritten}
+use Rattle.hfs_volume.proofs.WrittenLemmas.{HasWritten}
 use Rattle.hfs_volume.proofs.range.write_range.Given as goal
 
 abbrev pub invariant-loop-done : goal.invariant-loop-done

@@ -1,7 +1,7 @@
 -- Piece by piece.
 use Rattle.std.proofs.Common.{◌≡◌, ◌+◌, ◌/◌, ◌%◌, ◌≤◌, refl, ◌∙◌, arith}
 use Rattle.hfs_source.proofs.Written.{on-err}
-use Rattle.hfs_volume.proofs.Written.{written-next, written-part, written-all}
+use Rattle.hfs_volume.proofs.WrittenLemmas.{written-next, written-part, written-all}
 use Rattle.hfs_volume.proofs.writing.write_pieces.Goals as goal
 
 pub returns-in_err-write_piece-clause-part : goal.returns-in_err-write_piece-clause-part

@@ -14,6 +14,5 @@ pub returns-in-Raw-clause-read : goal.returns-in-Raw-clause-read
 returns-in-Raw-clause-read g c =
     let part = c.self.inside in
     let within : c.args.place + length c.read_data.new.into ≤ part.len = omega arith in
-    let size : length c.args.into.now ≡ length c.read_data.new.into = omega arith in
-    raw_read g.S.PlacedBytes.Holds g.K.PickedImage.image (record { source = c.read_data.new.bytes; layout = part.layout; start = part.start; len = part.len }) part.source c.args.place (length c.args.into.now)
-    c.read_data.new.into c.read_data.result c.in-Raw.is within size c.read_data.ensures.held c.self.invariant.inside c.read_data.ensures.read
+    raw_read g.S.PlacedBytes.Holds g.K.PickedImage.image (record { source = c.read_data.new.bytes; layout = part.layout; start = part.start; len = part.len }) c.args.place c.read_data.new.into c.read_data.result
+    c.in-Raw.is within c.read_data.ensures.read

@@ -1,5 +1,8 @@
 -- Room and a row change no block.
-use Rattle.hfs_blocks.proofs.TableLemmas.{table-same}
+use Rattle.std.proofs.Common.{◌≡◌, ◌-◌, ◌<◌, length, refl, sym, ap, ◌∙◌, subst, arith, rules}
+use Rattle.hfs_blocks.specs.Layers.{Numbered, changes, with_change}
+use Rattle.hfs_blocks.specs.Tables.{HasPlaces}
+use Rattle.hfs_blocks.proofs.TableLemmas.{table-same, place-is, places-of-table, changes-overwritten}
 use Rattle.hfs_blocks.proofs.patch.Patch.put.Goals as goal
 
 pub invariant_of-self-in_err-add_row : goal.invariant_of-self-in_err-add_row
@@ -7,3 +10,19 @@ invariant_of-self-in_err-add_row c = table-same _ _ _ _ _ _ c.self.invariant c.i
 
 pub lay_one-requires-clause-table : goal.lay_one-requires-clause-table
 lay_one-requires-clause-table c = table-same _ _ _ _ _ _ c.self.invariant c.in_ok-make_room.ensures.numbers c.in_ok-make_room.ensures.blocks c.in_ok-add_row.ensures.same
+
+pub place_in_table-place-requires : goal.place_in_table-place-requires
+place_in_table-place-requires c = subst (λ ns. HasPlaces ns c.self.inside.places.entries) (sym c.deref.ensures.value) (places-of-table _ _ _ c.self.invariant)
+
+pub index_mut-requires : goal.index_mut-requires
+index_mut-requires c =
+    let some : 0 < c.place_in_table-place.result = search rules in
+    let at = place-is c.self.inside.numbers.items c.self.inside.blocks.items c.self.inside.places.entries c.args.n c.place_in_table-place.result c.self.invariant c.place_in_table-place.ensures some in
+    omega (arith, at.1, c.self.inside.blocks.ok.0)
+
+pub returns-then-place-gt0-clause-written : goal.returns-then-place-gt0-clause-written
+returns-then-place-gt0-clause-written c =
+    let some : 0 < c.place_in_table-place.result = search rules in
+    let long : length c.args.block.now ≡ 512 = search rules in
+    let at = place-is c.self.inside.numbers.items c.self.inside.blocks.items c.self.inside.places.entries c.args.n c.place_in_table-place.result c.self.invariant c.place_in_table-place.ensures some in
+    changes-overwritten c.self.inside.numbers.items c.self.inside.blocks.items _ c.self.inside.places.entries c.args.n (c.place_in_table-place.result - 1) c.args.block.now c.self.invariant at.0 refl long ∙ ap (λ (l : Numbered). with_change (changes l) c.args.n c.args.block.now) c.self.view_is

@@ -6,7 +6,7 @@ use Rattle.hfs_blocks.specs.Layers.{changes, AreWithin, ShowsLaid, ShowsSame}
 use Rattle.hfs_space.specs.Changed.{all_blocks, laid_changes, HasBlocksOf}
 use Rattle.hfs_space.specs.Zeros.{AreAmong}
 use Rattle.hfs_space.specs.Flags.{is_flagged}
-use Rattle.hfs_space.proofs.Runs.{among_more}
+use Rattle.hfs_space.proofs.RunLemmas.{among_more}
 use Rattle.hfs_space.proofs.Laid.{same_flags_shown, flags_kept_within, laid_over_all, joined_all, still_shown, within_all}
 use Rattle.hfs_space.proofs.changed.ChangedBlocks.lay.Goals as goal
 

@@ -5,8 +5,8 @@ use Rattle.hfs_space.specs.Bitmap.{is_used}
 use Rattle.hfs_space.specs.FreeRuns.{IsRunning, is_in, is_taken, run_before}
 use Rattle.hfs_space.proofs.Running.{running-free, running-used}
 use Rattle.hfs_space.proofs.ByteLemmas.{marked-here}
-use Rattle.hfs_space.proofs.free_runs.pass_bits.Goals.{then-is_taken+in_ok-push_run, else-is_taken}
-use Rattle.hfs_space.proofs.free_runs.pass_bits.Goals as goal
+use Rattle.hfs_space.proofs.free_run_lists.pass_bits.Goals.{then-is_taken+in_ok-push_run, else-is_taken}
+use Rattle.hfs_space.proofs.free_run_lists.pass_bits.Goals as goal
 
 pub push_run-requires : goal.push_run-requires
 push_run-requires g c = c.loop-bit.invariant.running.few

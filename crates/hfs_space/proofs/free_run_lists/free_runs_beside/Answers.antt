@@ -5,7 +5,7 @@ use Rattle.hfs_space.specs.Bitmap.{is_used}
 use Rattle.hfs_space.specs.FreeRuns.{AreFreeRuns, is_taken}
 use Rattle.hfs_space.proofs.Running.{running-all}
 use Rattle.hfs_space.proofs.Chosen.{runs-few}
-use Rattle.hfs_space.proofs.free_runs.free_runs_beside.Goals as goal
+use Rattle.hfs_space.proofs.free_run_lists.free_runs_beside.Goals as goal
 
 pub returns-clause-runs : goal.returns-clause-runs
 returns-clause-runs g c =

@@ -2,7 +2,7 @@
 use Rattle.std.proofs.Common.{◌+◌}
 use Rattle.hfs_space.specs.Bitmap.{is_used}
 use Rattle.hfs_space.specs.FreeRuns.{IsRunning, is_taken}
-use Rattle.hfs_space.proofs.free_runs.pass_bits.Given as goal
+use Rattle.hfs_space.proofs.free_run_lists.pass_bits.Given as goal
 
 abbrev pub invariant-loop-bit : goal.invariant-loop-bit
 invariant-loop-bit g l = record {

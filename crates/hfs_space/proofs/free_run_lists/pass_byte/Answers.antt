@@ -6,7 +6,7 @@ use Rattle.hfs_space.specs.Bitmap.{is_used}
 use Rattle.hfs_space.specs.FreeRuns.{IsRunning, is_taken, meets, run_before}
 use Rattle.hfs_space.proofs.Running.{running-frees, running-useds}
 use Rattle.hfs_space.proofs.ByteLemmas.{byte-free, byte-used, taken-free, taken-used}
-use Rattle.hfs_space.proofs.free_runs.pass_byte.Goals as goal
+use Rattle.hfs_space.proofs.free_run_lists.pass_byte.Goals as goal
 
 pub returns-then-byte : goal.returns-then-byte
 returns-then-byte g c =

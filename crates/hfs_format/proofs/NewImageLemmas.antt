@@ -26,7 +26,7 @@ use Rattle.hfs_check.specs.Parts.{mdb_in, extents_nodes, overflow_in, catalog_ex
 use Rattle.hfs_check.specs.Sound.{IsMdbSound, IsForkKey, EachKey, IsExtentsSound, IsCatalogFileSound, AreCatalogNamesSound, AreCatalogPlacesSound, AreBlocksSound, IsSound}
 use Rattle.hfs_check.specs.VolumeOf.{contents_in, volume_in, volume_of}
 use Rattle.hfs_format.specs.FormatLaws.{root_item, volume_of_root, NewImagesAreSound, NewImagesHoldNewVolumes}
-use Rattle.hfs_format.proofs.NewVolume.{IsNewVolume, files-within, mdb_of-new}
+use Rattle.hfs_format.proofs.NewVolumeLemmas.{IsNewVolume, files-within, mdb_of-new}
 use Rattle.hfs_format.proofs.NewBlocks.{block_at-volume_image, block_count-volume_image, length-volume_image}
 use Rattle.hfs_format.proofs.SmallTrees.{no_leaf-turn, one_leaf-turn}
 use Rattle.hfs_format.proofs.NewFiles.{image_block, tree_nodes-one_run, new_extents_nodes, new_catalog_nodes, new_block-mdb, root_key, root_pair, root_records, new_catalog, extents-holds, catalog-holds, overflow_of-new, extents-shaped, extents-ordered, catalog_of-new, catalog-shaped, catalog-ordered}

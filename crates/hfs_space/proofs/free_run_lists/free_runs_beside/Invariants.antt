@@ -2,7 +2,7 @@
 use Rattle.std.proofs.Common.{◌≡◌, ◌≢◌, ◌+◌, ◌*◌, ◌/◌, ◌%◌, min}
 use Rattle.hfs_space.specs.Bitmap.{is_used}
 use Rattle.hfs_space.specs.FreeRuns.{IsRunning, is_taken}
-use Rattle.hfs_space.proofs.free_runs.free_runs_beside.Given as goal
+use Rattle.hfs_space.proofs.free_run_lists.free_runs_beside.Given as goal
 
 abbrev pub invariant-loop-byte : goal.invariant-loop-byte
 invariant-loop-byte g l = record {

@@ -1,5 +1,0 @@
-use Rattle.hfs_copy.proofs.LawsProved as laws
-use Rattle.hfs_copy.proofs.laws.kept_changes_carry_over.Goals as goal
-
-pub returns : goal.returns
-returns c = laws.kept_changes_carry_over
