@@ -14,7 +14,7 @@ use Rattle.hfs_texts.specs.Writing.{AppendsFront}
 use Rattle.hfs_database.specs.declared.collection_texts.CollectionTexts.{CollectionTexts}
 use Rattle.hfs_database.specs.Pages.{collection_page}
 
--- the page of the volumes and the contents that the database listed, one listing behind the other
+-- the page of the volumes and the contents that the database listed, one listing after the other
 pub record IsPage {S : Type 0} (g : Ghosts S) (old new : Held S) (texts : CollectionTexts) (page : List ℕ) : Type 0 where
   pub asked : Held S
   pub volumes : List Row
@@ -35,8 +35,8 @@ WritesPageFront g old new texts before after = (page : List ℕ) × IsPage g old
 abbrev pub FailsToList : {S : Type 0} → Ghosts S → Held S → Held S → Listing → DatabaseFault → Type 0
 FailsToList g old new listing fault = FailsToShow (state g old) (state g new) (listing_text listing) [] fault
 
--- the volumes were listed, and behind them the contents were not, for this fault
-pub record IsUnlistedBehind {S : Type 0} (g : Ghosts S) (old new : Held S) (fault : DatabaseFault) : Type 0 where
+-- the volumes were listed, and after them the contents were not, for this fault
+pub record IsUnlistedAfter {S : Type 0} (g : Ghosts S) (old new : Held S) (fault : DatabaseFault) : Type 0 where
   pub asked : Held S
   pub volumes : List Row
   pub lists_volumes : IsListed (state g old) (state g asked) Volumes volumes
@@ -44,4 +44,4 @@ pub record IsUnlistedBehind {S : Type 0} (g : Ghosts S) (old new : Held S) (faul
 
 -- why there is no page: the volumes were not listed, or behind them the contents were not, or memory was refused
 abbrev pub HasNoPage : {S : Type 0} → Ghosts S → Held S → Held S → DatabaseFault → Type 0
-HasNoPage g old new fault = FailsToList g old new Volumes fault ⊎ (IsUnlistedBehind g old new fault ⊎ (fault ≡ NoMemory))
+HasNoPage g old new fault = FailsToList g old new Volumes fault ⊎ (IsUnlistedAfter g old new fault ⊎ (fault ≡ NoMemory))
