@@ -42,6 +42,6 @@ pub record IsUnlistedAfter {S : Type 0} (g : Ghosts S) (old new : Held S) (fault
   pub lists_volumes : IsListed (state g old) (state g asked) Volumes volumes
   pub unlisted : FailsToList g asked new Copies fault
 
--- why there is no page: the volumes were not listed, or behind them the contents were not, or memory was refused
+-- why there is no page: the volumes were not listed, or after them the contents were not, or memory was refused
 abbrev pub HasNoPage : {S : Type 0} → Ghosts S → Held S → Held S → DatabaseFault → Type 0
 HasNoPage g old new fault = FailsToList g old new Volumes fault ⊎ (IsUnlistedAfter g old new fault ⊎ (fault ≡ NoMemory))
