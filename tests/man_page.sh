@@ -9,7 +9,7 @@ import sys
 
 NAME, TOOL = sys.argv[1:]
 DOES = {
-    'hfs_tool': 'reads, checks, mends and makes HFS volumes, the disks of old Macintosh computers',
+    'hfs_tool': 'reads, checks, repairs and makes HFS volumes, the disks of old Macintosh computers',
     'hfs_collect': 'collects HFS images of Macintosh disks in one database, and compares them with it',
 }
 OTHER = {'hfs_tool': 'hfs_collect', 'hfs_collect': 'hfs_tool'}

@@ -127,7 +127,7 @@ if command -v man > /dev/null; then
     grep -qx COMMANDS <<< "$page" || fail 'hfs_tool.1 has no COMMANDS'
     grep -q '^ *hfs_tool repair$' <<< "$page" || fail 'hfs_tool.1 says nothing of repair'
     page=$(man_page hfs_collect 80)
-    grep -q 'With --compare there is a line for each image' <<< "$page" || fail 'the man page of hfs_collect'
+    grep -q 'With --compare a line is printed for each image' <<< "$page" || fail 'the man page of hfs_collect'
 else
     echo 'the package: its man page was not read, since man is missing'
 fi

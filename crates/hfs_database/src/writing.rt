@@ -1,7 +1,7 @@
 //! The page of a collection, from its database.
 ghost use Rattle.std.specs.Prelude.{◌≡◌, Err, IfErr, IfOk, OnOk};
 ghost use Rattle.hfs_database.specs.Pages.{collection_page};
-ghost use Rattle.hfs_database.specs.Writing.{IsPage, WritesPage, WritesPageFront};
+ghost use Rattle.hfs_database.specs.Writing.{HasNoPage, IsPage, WritesPage, WritesPageFront};
 
 use crate::collection_texts::CollectionTexts;
 use crate::page::collection_page;
@@ -27,8 +27,9 @@ fn page_with(
     volumes: &[Row],
     contents: &[Row],
 ) -> Result<Vec<u8>, DatabaseFault>
-    ensures { IfOk result (λ page. page.items ≡
+    ensures page { IfOk result (λ page. page.items ≡
         collection_page texts.now volumes.now contents.now) }
+    ensures memory { IfErr result (λ fault. fault ≡ DatabaseFault.NoMemory) }
 {
     match collection_page(alloc, texts, volumes, contents) {
         Ok(page) => Ok(page),
@@ -42,8 +43,9 @@ fn page_of<S: Alter>(
     collection: &mut Collection<S>,
     texts: &CollectionTexts<'_>,
 ) -> Result<Vec<u8>, DatabaseFault>
-    ensures { IfOk result (λ page. IsPage S.Store collection.old.conn collection.new.conn
+    ensures page { IfOk result (λ page. IsPage S.Store collection.old.conn collection.new.conn
         texts.now page.items) }
+    ensures fault { IfErr result (HasNoPage S.Store collection.old.conn collection.new.conn) }
 {
     let volumes = listed(collection, Listing::Volumes)?;
     let contents = listed(collection, Listing::Copies)?;
@@ -67,6 +69,8 @@ pub fn write_collection_page<S: Alter, W: Write>(
         (W.contents writer.new) }
     ensures untouched { (fault : DatabaseFault) → result ≡ Err (CollectionFault.Database fault)
         → W.contents writer.new ≡ W.contents writer.old }
+    ensures fault { (fault : DatabaseFault) → result ≡ Err (CollectionFault.Database fault)
+        → HasNoPage S.Store collection.old.conn collection.new.conn fault }
 {
     match page_of(alloc, collection, texts) {
         Ok(page) => match put(writer, &page) {
