@@ -29,7 +29,7 @@ fn put_text<W: Write>(writer: &mut W, text: &mut Vec<u8>) -> Result<(), PageFaul
 }
 
 /// Appends the row of a node to a text, and writes the text if it has become long.
-#[tactic(auto, using(crate::proofs::GatherLemmas::row_kept, crate::proofs::GatherLemmas::row_out, crate::proofs::GatherLemmas::nothing_out))]
+#[tactic(auto, using(crate::proofs::GatherLemmas::row_kept, crate::proofs::GatherLemmas::row_out, hfs_rescue_items::proofs::GatherLemmas::nothing_out))]
 fn gather_row<W: Write>(
     alloc: Global,
     writer: &mut W,
@@ -54,7 +54,7 @@ fn gather_row<W: Write>(
 }
 
 /// Appends the ends of the open folders to a text, and writes it.
-#[tactic(auto, using(crate::proofs::GatherLemmas::nothing_out))]
+#[tactic(auto, using(hfs_rescue_items::proofs::GatherLemmas::nothing_out))]
 fn put_ends<W: Write>(writer: &mut W, text: &mut Vec<u8>, opened: usize) -> Result<(), PageFault>
     ensures written { OnOk result (Appends (W.contents writer.old) (W.contents writer.new)
         (text.old.items ++ closings opened)) }
