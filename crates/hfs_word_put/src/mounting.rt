@@ -5,7 +5,7 @@ ghost use Rattle.hfs_check.specs.declared.mount_fault.MountFault.{MountFault};
 ghost use Rattle.hfs_image.specs.Failing.{SomeFailsWithin};
 ghost use Rattle.hfs_source.specs.Images.{OfEach};
 ghost use Rattle.hfs_volume.specs.Image.{copy_of};
-ghost use Rattle.hfs_copy.specs.Opened.{IsWorkingOf};
+ghost use Rattle.hfs_copy.specs.Opened.{IsRunnable, IsWorkingOf};
 ghost use Rattle.hfs_word_put.specs.Put.{IsCopyOfEach, IsRefusedImage, IsUnmounted};
 
 use hfs_commands::Fault;
