@@ -11,3 +11,4 @@ mod Noting
 mod PartGiving
 mod WrittenImages
 mod Comparisons
+mod FailingReads

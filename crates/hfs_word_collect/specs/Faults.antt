@@ -1,4 +1,6 @@
 -- What the faults of others mean where an image's rows are given.
+use Rattle.std.specs.Prelude.{◌≡◌, ℕ, List}
+use Rattle.hfs_bag.specs.Failing.{SomeFail}
 use Rattle.hfs_database.specs.declared.row_fault.TakerFault.{TakerFault}
 use Rattle.hfs_database.specs.declared.row_fault.TakerFault.TheVariants as taker
 use Rattle.hfs_source.specs.declared.fetching.SparseFault.{SparseFault}
@@ -15,3 +17,7 @@ reading_fault sparse.Memory = collect.NoMemory
 abbrev pub giving_fault : TakerFault → CollectFault
 giving_fault taker.CannotWrite = collect.CannotWrite
 giving_fault taker.NoMemory = collect.NoMemory
+
+-- where the fault is that of a read, a read of some bytes that each of these images has may fail
+abbrev pub FailsToRead : (List ℕ → Type 0) → (ℕ → ℕ → Type 0) → CollectFault → Type 0
+FailsToRead Holds Fails fault = fault ≡ collect.ReadFailed → SomeFail Holds Fails

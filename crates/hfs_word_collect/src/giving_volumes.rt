@@ -1,5 +1,5 @@
 //! The row of a volume, and those of its items.
-ghost use Rattle.std.specs.Prelude.{◌≡◌, ◌++◌, ◌∷◌, length, None, Some, IfOk, OnErr, OnOk};
+ghost use Rattle.std.specs.Prelude.{◌≡◌, ◌++◌, ◌∷◌, length, None, Some, IfErr, IfOk, OnErr, OnOk};
 ghost use Rattle.hfs_model.specs.Children.{entries_of};
 ghost use Rattle.hfs_check.specs.Faults.{fault_of};
 ghost use Rattle.hfs_check.specs.VolumeOf.{volume_of};
@@ -8,8 +8,9 @@ ghost use Rattle.hfs_source.specs.Ranges.{bytes_in};
 ghost use Rattle.hfs_items.specs.ToldRows.{told_rows};
 ghost use Rattle.hfs_database.specs.declared.value.Table.TheVariants as table;
 ghost use Rattle.hfs_database.specs.Taken.{IsBeginning, row_of};
-ghost use Rattle.hfs_source.specs.Images.{OfEach};
+ghost use Rattle.hfs_source.specs.Images.{FailsWhere, OfEach};
 ghost use Rattle.hfs_word_collect.specs.Counts.{file_total, lost_counts, range_counts, volume_counts};
+ghost use Rattle.hfs_word_collect.specs.Faults.{FailsToRead};
 ghost use Rattle.hfs_word_collect.specs.Giving.{IsDirectoryOf};
 ghost use Rattle.hfs_word_collect.specs.Items.{item_rows};
 ghost use Rattle.hfs_word_collect.specs.Volumes.{lost_place, lost_rows, place_in, range_rows, volume_rows, volume_values};
@@ -29,6 +30,7 @@ use hfs_source::{BlocksOf, FoundRange, Layout, PlacedBlocks, PlacedBytes, SeenBl
 use std::alloc::Global;
 
 /// Gives the row of a sound volume and those of its items, and returns how many files are among them.
+#[tactic(auto, using(crate::proofs::FailingReads::read_told_on))]
 fn give_sound<S: PlacedBlocks + Drop, T: RowTaker>(
     alloc: Global,
     taker: &mut T,
@@ -47,6 +49,8 @@ fn give_sound<S: PlacedBlocks + Drop, T: RowTaker>(
     ensures counted { IfOk result (λ files. OfEach (S.Holds image.new) (λ bytes.
         files ≡ file_total (told_rows (entries_of (volume_of bytes))))) }
     ensures narrows { OfEach (S.Holds image.new) (S.Holds image.old) }
+    ensures failed { IfErr result (FailsToRead (S.Holds image.new) (S.Fails image.old)) }
+    ensures later { FailsWhere (S.Fails image.new) (S.Fails image.old) }
     ensures reference { T.reference taker.new ≡ T.reference taker.old }
     ensures place { T.place taker.new ≡ T.place taker.old }
 {
@@ -59,6 +63,8 @@ fn give_sound<S: PlacedBlocks + Drop, T: RowTaker>(
 fn directory<S: PlacedBlocks>(blocks: &mut S) -> Result<Mdb, CollectFault>
     ensures directory { IfOk result (λ mdb. OfEach (S.Holds blocks.new) (IsDirectoryOf mdb)) }
     ensures narrows { OfEach (S.Holds blocks.new) (S.Holds blocks.old) }
+    ensures failed { IfErr result (FailsToRead (S.Holds blocks.new) (S.Fails blocks.old)) }
+    ensures later { FailsWhere (S.Fails blocks.new) (S.Fails blocks.old) }
 {
     let mut block = [0; 512];
     if blocks.len() < 1_536 {

@@ -1,8 +1,9 @@
 //! The rows of an image.
 ghost use Rattle.std.specs.Prelude.{◌≡◌, ◌++◌, ℕ, List, length, IfErr, IfOk, OnErr, OnOk};
 ghost use Rattle.hfs_database.specs.Taken.{IsBeginning};
-ghost use Rattle.hfs_source.specs.Images.{OfEach};
+ghost use Rattle.hfs_source.specs.Images.{FailsWhere, OfEach};
 ghost use Rattle.hfs_word_collect.specs.Counts.{image_counts};
+ghost use Rattle.hfs_word_collect.specs.Faults.{FailsToRead};
 ghost use Rattle.hfs_word_collect.specs.Images.{image_rows, image_values};
 ghost use Rattle.hfs_word_collect.specs.Looking.{IsFaultOf, IsLook, others_by};
 ghost use Rattle.hfs_word_collect.specs.Values.{digest_value, where_taken};
@@ -43,6 +44,7 @@ pub(crate) struct Look {
 }
 
 /// The digest of an image as its row has it, if it is to be taken.
+#[tactic(auto, using(crate::proofs::FailingReads::read_by_memory))]
 fn digest_of<S: PlacedBytes>(
     alloc: Global,
     source: &mut S,
@@ -51,6 +53,8 @@ fn digest_of<S: PlacedBytes>(
     ensures digest { IfOk result (λ value. OfEach (S.Holds source.new)
         (λ file. value ≡ where_taken taken (digest_value file))) }
     ensures held { OfEach (S.Holds source.new) (S.Holds source.old) }
+    ensures failed { IfErr result (FailsToRead (S.Holds source.new) (S.Fails source.old)) }
+    ensures later { FailsWhere (S.Fails source.new) (S.Fails source.old) }
 {
     if !taken {
         return Ok(RowValue::Empty);
