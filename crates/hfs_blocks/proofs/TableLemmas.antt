@@ -1,5 +1,5 @@
 -- Lemmas about the definitions of specs/Tables.antt.
-use Rattle.std.proofs.Common.{◌≡◌, ◌≢◌, ℕ, zero, suc, ◌+◌, ◌-◌, ◌<◌, ◌≤◌, Bool, true, false, cond, List, [], ◌∷◌, ◌++◌, length, length-append, length-set, get_or, get_or-set_same, get_or-set_other, get_or-append-add, take, drop, set, Option, Some, None, IsSome, unwrap_or, nat_eq, refl, sym, ap, ◌∙◌, subst, arith, ⊎_elim, inl, inr, ne_eqb, eq-eqb, eqb-true, true≢false}
+use Rattle.std.proofs.Common.{◌≡◌, ℕ, zero, suc, ◌+◌, ◌-◌, ◌<◌, ◌≤◌, Bool, true, false, cond, List, [], ◌∷◌, ◌++◌, length, length-append, length-set, get_or, get_or-set_same, get_or-set_other, get_or-append-add, take, drop, set, Option, Some, None, IsSome, unwrap_or, nat_eq, refl, sym, ap, ◌∙◌, subst, arith, ⊎_elim, inl, inr, ne_eqb, eq-eqb, eqb-true, true≢false}
 use Rattle.std.specs.Prelude.{zip, ◌⊎◌, Vec, vec_len, vec_capacity}
 use Rattle.std.specs.declared.alloc.Global.{Global}
 use Rattle.std.specs.List.{IsDistinct, AllByRecursion}

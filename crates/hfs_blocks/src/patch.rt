@@ -9,10 +9,11 @@ ghost use Rattle.hfs_blocks.specs.Tables.{HasLaid, HasNoneOf};
 use crate::blocks::Blocks;
 use crate::patched::Patched;
 use crate::places::{add_row, add_rows, is_any_placed};
-use crate::table::{add_rows_for, lay_all, lay_one, lay_run, make_room, place_in_table};
+use crate::table::{add_rows_for, append, lay_all, lay_run, make_room, place_in_table};
 use indexmap::IndexMap;
 use std::alloc::{AllocError, Global};
 use std::marker::Model;
+use std::slice;
 
 /// Blocks of 512 bytes by number, to be laid over the blocks of a volume: the edits of one call.
 #[derive(Drop)]
@@ -92,12 +93,12 @@ impl Patch {
         }
         make_room(&mut self.numbers, &mut self.blocks, 1)?;
         add_row(&mut self.places, n)?;
-        lay_one(
+        append(
             &mut self.numbers,
             &mut self.blocks,
             &mut self.places,
             n,
-            block,
+            slice::from_ref(block),
         );
         Ok(())
     }

@@ -67,7 +67,7 @@ fn push_numbers(numbers: &mut Vec<u32>, first: u32, count: usize)
 }
 
 /// Adds blocks that follow one another, none of which is there, behind the others. There is room for them.
-fn append(
+pub(crate) fn append(
     numbers: &mut Vec<u32>,
     blocks: &mut Vec<[u8; 512]>,
     places: &mut Places,
@@ -96,7 +96,7 @@ fn append(
 }
 
 /// Lays block `n`, in place of the one that is there. There is room for it.
-pub(crate) fn lay_one(
+fn lay_one(
     numbers: &mut Vec<u32>,
     blocks: &mut Vec<[u8; 512]>,
     places: &mut Places,
