@@ -3,6 +3,7 @@ use Rattle.std.proofs.Common.{◌≡◌, ℕ, zero, suc, ◌+◌, ◌-◌, ◌*�
 use Rattle.std.specs.List.{AllClonesOf, AppendsClonesOf}
 use Rattle.std.proofs.Math.Seq.{take-nil}
 use Rattle.std.proofs.lemmas.List.{drop_more, length-replicate, take_min, take-replicate, take-append-le, take-take}
+use Rattle.hfs_source.proofs.Written.{take-append}
 use Rattle.hfs_bag.specs.declared.piece.Piece.{Piece}
 use Rattle.hfs_bag.specs.Forks.{BeginsIn, ReadsOn, first_bytes, piece_bytes, pieces_bytes}
 
@@ -22,15 +23,6 @@ zeros_put old new count none appended =
     whole ∙ all-same 0 ys appended.2 ∙ ap (λ (n : ℕ). replicate n 0) (sym (ap length whole))
 
 -- ---- parts of bytes
-
--- of some bytes and others behind them, the first so many
-take-both : (n : ℕ) (xs ys : List ℕ) → take n (xs ++ ys) ≡ take n xs ++ take (n - length xs) ys
-take-both zero [] ys = ap (λ m. take m ys) (let e : 0 ≡ 0 - 0 = omega arith in e)
-take-both zero (x ∷ xs) ys = ap (λ m. take m ys) (let e : zero ≡ zero - suc (length xs) = omega arith in e)
-take-both (suc n) [] ys = ap (λ m. take m ys) (let e : suc n ≡ suc n - 0 = omega arith in e)
-take-both (suc n) (x ∷ xs) ys =
-    let less : n - length xs ≡ suc n - suc (length xs) = omega arith in
-    ap (λ l. x ∷ l) (take-both n xs ys ∙ ap (λ m. take n xs ++ take m ys) less)
 
 -- the first of the bytes that a read gave are those of the image
 pub held_first : (image into : List ℕ) (place len : ℕ) → len ≤ length into → into ≡ take (length into) (drop place image) → take len into ≡ take (length (take len into)) (drop place image)
@@ -93,7 +85,7 @@ module _ (pieces : List Piece) (next : ℕ) (piece : Piece) (left left' len : �
       record {
         bytes =
             ap (λ (ps : List Piece). take left (pieces_bytes fills image ps)) split
-            ∙ take-both left all rest
+            ∙ take-append left all rest
             ∙ ap (λ (l : List ℕ). l ++ take (left - length all) rest) (sym (take_min left all) ∙ ap (λ (n : ℕ). take n all) first ∙ start.first)
             ∙ ap (λ (n : ℕ). new ++ take n rest) fewer;
         none = λ e. absurd (omega (arith, ap length e, long, least, some, begun));

@@ -34,10 +34,6 @@ module _ (g0 g1 done : List ShelfEntry) (was : g1 ≡ g0 ++ done) where
   whole_next now next given = given ∙ ap (λ (xs : List ShelfEntry). xs ++ next) was ∙ append_assoc g0 done next
 
 -- what holds holds at an error
-pub on_err : {A E : Type 0} (result : Result A E) {P : Type 0} → P → OnErr result P
-on_err (Ok x) p = tt
-on_err (Err e) p = p
-
 -- and so does what holds of each image
 pub each_err : {A E : Type 0} (result : Result A E) (Holds : List ℕ → Type 0) {P : List ℕ → Type 0} → ((image : List ℕ) → Holds image → P image) → OnErr result (OfEach Holds P)
 each_err (Ok x) Holds p = tt

@@ -1,4 +1,3 @@
-pub mod Walks
 pub mod Beginnings
 pub mod FolderLemmas
 pub mod RemovalLemmas

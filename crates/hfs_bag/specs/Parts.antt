@@ -1,8 +1,14 @@
 -- Parts of an image that is picked.
 use Rattle.std.specs.Prelude.{◌≡◌, ℕ, ◌+◌, ◌<◌, ◌≤◌, ◌^◌, List, length}
 use Rattle.hfs_source.specs.declared.ranges.Layout.{Layout}
-pub use Rattle.hfs_source.specs.Raw.{content_of}
+use Rattle.hfs_source.specs.declared.ranges.Layout.TheVariants.{Plain, Raw}
 use Rattle.hfs_source.specs.Ranges.{bytes_in, range_of}
+use Rattle.hfs_source.specs.Sectors.{user_data_of}
+
+-- the bytes in which volumes lie: a file's own, or the user data of its raw sectors
+abbrev pub content_of : Layout → List ℕ → List ℕ
+content_of Plain file = file
+content_of Raw file = user_data_of file
 
 -- where it reads from, what that is, and which range of the content it is
 pub record PartValue (S : Type 0) : Type 0 where

@@ -1,4 +1,4 @@
-mod LaidLemmas
+pub mod LaidLemmas
 mod FileRuns
 pub mod LayerLemmas
 mod PlaceLemmas

@@ -320,7 +320,7 @@ pub first-none : (a b : Option ℕ) → (a or_else b) ≡ None → (a ≡ None) 
 first-none None b h = (refl, h)
 first-none (Some n) b h = absurd (let no = h in cc)
 
-unless-none : (b : Bool) → unless b ≡ None → b ≡ true
+pub unless-none : (b : Bool) → unless b ≡ None → b ≡ true
 unless-none true h = refl
 unless-none false h = absurd (let no = h in cc)
 

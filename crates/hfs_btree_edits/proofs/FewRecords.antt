@@ -37,7 +37,7 @@ search-for m (x ∷ xs) =
           ]
     ]
 
-distinct-without : (xs : List ℕ) (m : ℕ) (ys : List ℕ) → IsDistinct (xs ++ m ∷ ys) → IsDistinct (xs ++ ys)
+pub distinct-without : (xs : List ℕ) (m : ℕ) (ys : List ℕ) → IsDistinct (xs ++ m ∷ ys) → IsDistinct (xs ++ ys)
 distinct-without [] m ys h = h.1
 distinct-without (x ∷ xs) m ys h = (each-append (IsOther x) xs ys (each-left (IsOther x) xs (m ∷ ys) h.0) (each-right (IsOther x) xs (m ∷ ys) h.0).1, distinct-without xs m ys h.1)
 

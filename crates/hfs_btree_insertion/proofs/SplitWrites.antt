@@ -1,4 +1,5 @@
 -- The writes of a node that comes behind another, one after the other.
+use Rattle.hfs_btree_edits.proofs.ReleasedLemmas.{apart}
 use Rattle.hfs_btree_insertion.specs.Cut.{IsCut, IsParted, IsSplit}
 use Rattle.hfs_btree_edits.specs.LevelParts.{entry_key}
 use Rattle.std.proofs.Common.{◌≡◌, ◌≢◌, ℕ, suc, ◌<◌, ◌≤◌, List, [], ◌∷◌, ◌++◌, length, get_or, take, drop, refl, sym, ap, ◌∙◌, subst, arith, inl, inr}
@@ -30,11 +31,6 @@ each-all P (x ∷ xs) f = (f x, each-all P xs f)
 zipped : (a : ℕ) (o t : List ℕ) → Each (IsOther a) t → Each (λ x. Each (IsOther x) o) t → Each (λ x. Each (IsOther x) (a ∷ o)) t
 zipped a o [] other rest = tt
 zipped a o (x ∷ t) other rest = ((λ e. other.0 (sym e), rest.0), zipped a o t other.1 rest.1)
-
--- in two lists with no number twice each number of the second is another than those of the first
-pub apart-lists : (o t : List ℕ) → IsDistinct (o ++ t) → Each (λ x. Each (IsOther x) o) t
-apart-lists [] t h = each-all (λ x. Each (IsOther x) []) t (λ x. tt)
-apart-lists (a ∷ o) t h = zipped a o t (each-right (IsOther a) o t h.0) (apart-lists o t h.1)
 
 pub first-in : (P : ℕ → Type 0) (h : List ℕ) → Each P h → first_of h ≢ 0 → P (first_of h)
 first-in P [] each some = absurd (some refl)
@@ -90,7 +86,7 @@ module _ {K : Type 0} (g : Ghosts K) (old : Store) (i k p n m q : ℕ) (a : IsCu
   r-m some = first-in (IsOther m) hn' (each-right (IsOther m) bn' (n ∷ hn') m-in-level).1 some
 
   tree-own : Each (λ x. Each (IsOther x) (own_nodes old)) (up ++ (above ++ (level ++ low)))
-  tree-own = apart-lists (own_nodes old) (up ++ (above ++ (level ++ low))) (distinct g old i k p n m q a structure)
+  tree-own = apart (own_nodes old) (up ++ (above ++ (level ++ low))) (distinct g old i k p n m q a structure)
 
   two-own : Each (λ x. Each (IsOther x) (own_nodes old)) (above ++ (level ++ low))
   two-own = each-right (λ x. Each (IsOther x) (own_nodes old)) up (above ++ (level ++ low)) tree-own

@@ -8,6 +8,7 @@ use Rattle.hfs_fields.specs.Each.{Each}
 use Rattle.hfs_fields.proofs.ElementLemmas.{each-append, each-left, each-right}
 use Rattle.hfs_btree.specs.Tree.{Store, Spot, records_in, children, first_of, spots, turn, level_below}
 use Rattle.hfs_btree.specs.Sound.{IsOther, IsDistinct}
+use Rattle.hfs_btree_edits.proofs.FewRecords.{distinct-without as distinct-skip}
 use Rattle.hfs_btree_edits.proofs.LevelPartLemmas.{numbers, numbers-spots, KeepsRecords, flat-kept}
 pub use Rattle.hfs_btree_removal.proofs.RemovalLemmas.{only_child}
 
@@ -103,11 +104,6 @@ module _ {K : Type 0} (g : Ghosts K) (old new : Store) where
   level-without (suc k) front n back h = ap (level_below g new k) (below-both front back h.0) ∙ level-without k _ (only_child g old n) _ h.1
 
 -- ---- the numbers of the levels
-
-pub distinct-skip : (xs : List ℕ) (n : ℕ) (ys : List ℕ) → IsDistinct (xs ++ n ∷ ys) → IsDistinct (xs ++ ys)
-distinct-skip [] n ys h = h.1
-distinct-skip (x ∷ xs) n ys h =
-    (each-append (IsOther x) xs ys (each-left (IsOther x) xs (n ∷ ys) h.0) (each-right (IsOther x) xs (n ∷ ys) h.0).1, distinct-skip xs n ys h.1)
 
 numbers-with : (cut : Cut) (rest : List Spot) → numbers (with_node cut ++ rest) ≡ (cut.front ++ cut.n ∷ cut.back) ++ numbers rest
 numbers-with cut rest =

@@ -10,7 +10,8 @@ use Rattle.hfs_fields.proofs.ElementLemmas.{each-mono, each-left, each-right, ea
 use Rattle.hfs_btree.specs.Tree.{Store, Spot, records_of, children, first_of, last_of, spots, turn, last_level, pairs}
 use Rattle.hfs_btree.specs.Header.{header_in, root_level, leaves, own_nodes, tree_content, tree_turn, tree_nodes}
 use Rattle.hfs_btree.specs.Sound.{IsOther, IsDistinct, IsRight, IsSound, IsExact, IsStray, AreKeysInOrder, AreKeysExact}
-use Rattle.hfs_btree_removal.proofs.Chains.{only_child, below-cut, distinct-skip}
+use Rattle.hfs_btree_edits.proofs.FewRecords.{distinct-without}
+use Rattle.hfs_btree_removal.proofs.Chains.{only_child, below-cut}
 use Rattle.hfs_btree_removal.proofs.KeysKept.{HaveKeys, all-have}
 use Rattle.hfs_btree_edits.specs.KeptKeys.{tree_keys, EachKey}
 use Rattle.hfs_btree_edits.proofs.KeptKeyLemmas.{hold-keys}
@@ -92,7 +93,7 @@ module _ {K : Type 0} (g : Ghosts K) (old new : Store) (k : ℕ) (d : IsLowered 
   distinct =
       let P : List ℕ → Type 0 = λ xs. IsDistinct xs in
       subst P (ap (λ (xs : List ℕ). own_nodes old ++ xs) (sym new-nodes) ∙ ap (λ (xs : List ℕ). xs ++ tree_nodes g new) (sym (own_nodes-is g old new d.head)))
-      (distinct-skip (own_nodes old) r ns (subst P (ap (λ (xs : List ℕ). own_nodes old ++ xs) old-nodes) sound.structure.levels.different))
+      (distinct-without (own_nodes old) r ns (subst P (ap (λ (xs : List ℕ). own_nodes old ++ xs) old-nodes) sound.structure.levels.different))
 
   pub lowered-sound : IsSound g new
   lowered-sound = record {

@@ -281,7 +281,7 @@ skip-with others (cut ∷ cs) h =
     let low = Rattle.hfs_btree_removal.proofs.Chains.other-without cut.n cs (each-right (IsOther cut.n) cut.back W back) in
     let here = each-append (IsOther cut.n) others ((cut.front ++ cut.back) ++ V) (each-left (IsOther cut.n) others cut.front front)
     (each-append (IsOther cut.n) (cut.front ++ cut.back) V (each-append (IsOther cut.n) cut.front cut.back (each-right (IsOther cut.n) others cut.front front) (each-left (IsOther cut.n) cut.back W back)) low) in
-    let two = subst P (two-is others cut.front cut.back W) (Rattle.hfs_btree_removal.proofs.Chains.distinct-skip (others ++ cut.front) cut.n (cut.back ++ W) a) in
+    let two = subst P (two-is others cut.front cut.back W) (Rattle.hfs_btree_edits.proofs.FewRecords.distinct-without (others ++ cut.front) cut.n (cut.back ++ W) a) in
     let rest = skip-with (others ++ (cut.front ++ cut.back)) cs two in
     let R : List ℕ → Type 0 = λ xs. Each (λ (x : Cut). Each (IsOther x.n) xs) cs in (
       subst Q (sym (ap (λ (xs : List ℕ). others ++ xs) without-is)) here,

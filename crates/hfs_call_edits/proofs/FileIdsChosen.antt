@@ -18,6 +18,7 @@ use Rattle.hfs_model.specs.Choices.{and_then, child_to_change}
 use Rattle.hfs_model.specs.Choices as model
 use Rattle.hfs_model.specs.FileIds.{unless_has_thread, if_has_thread, file_of_id, to_create_file_id, to_delete_file_id}
 use Rattle.hfs_model.specs.Replies as told
+use Rattle.hfs_catalog.proofs.FileRecords.{not-dir}
 use Rattle.hfs_catalog.specs.Records.{Record, Catalog, item_with, has_thread}
 use Rattle.hfs_catalog.specs.Items.{Contents, folder_of, file_of, item_of, entry_of}
 use Rattle.hfs_catalog.specs.Lookups.{thread_of}
@@ -40,7 +41,6 @@ use Rattle.hfs_call_edits.specs.ChoosingFileIds.{unless_threaded, if_threaded, f
 use Rattle.hfs_record_edits.proofs.Chosen.{same_ok}
 use Rattle.hfs_model.proofs.KeepsCalls.{err_is_ok as err_ok}
 use Rattle.hfs_call_edits.proofs.Chosen.{child_same, child_is, chosen_file}
-use Rattle.hfs_record_edits.proofs.Made.{file-not_dir as file_no_dir}
 use Rattle.hfs_call_patches.proofs.ChosenFileLemmas.{file_id_is}
 use Rattle.hfs_call_edits.proofs.ChosenPlaces.{locked_code}
 
@@ -153,7 +153,7 @@ some_is : (o : Option Record) (code : ℤ) (q : Record) → ok_or o code ≡ Ok 
 some_is None code q e = absurd (err_ok code q e)
 some_is (Some p) code q e = ap Some (same_ok p q e)
 
-unlocked_is : (o : Option ℤ) (x : Result Record ℤ) (q : Record) → unless_code o x ≡ Ok q → x ≡ Ok q
+pub unlocked_is : (o : Option ℤ) (x : Result Record ℤ) (q : Record) → unless_code o x ≡ Ok q → x ≡ Ok q
 unlocked_is None x q e = e
 unlocked_is (Some code) x q e = absurd (err_ok code q e)
 
@@ -247,7 +247,7 @@ module _ (total : ℕ) (old : Blocks) (sound : AreBlocksSound total old) where
       let same = file_id_is old _ f.0 f.1 c in
       let least = id_least c.of with.there with.item in
       record {
-        folder = subst (λ (k : CatKey). 2 ≤ k.parent) c.own_key (parent_least c.of with.there with.item (file_no_dir c.of.1 c.is));
+        folder = subst (λ (k : CatKey). 2 ≤ k.parent) c.own_key (parent_least c.of with.there with.item (not-dir c.of.1 c.is));
         id = omega (arith, same, least, with.same);
         unthreaded = ap (thread_of (catalog_in old)) same ∙ law total dir name c.of old sound c.choice;
       }

@@ -2,6 +2,7 @@
 use Rattle.std.proofs.Common.{◌≡◌, Bool, true, false, cond, ◌∷◌, inl, refl, sym, ap, subst, Some, None}
 use Rattle.std.specs.Option.{option_map}
 use Rattle.std.proofs.lemmas.Option.{none-some, same_Some}
+use Rattle.hfs_fields.proofs.MemberLemmas.{in-right}
 use Rattle.hfs_fields.specs.declared.key.CatKey.{CatKey}
 use Rattle.hfs_fields.specs.Keys.{cat_cmp_total}
 use Rattle.hfs_fields.specs.Records.{is_item}
@@ -16,7 +17,6 @@ use Rattle.hfs_catalog.specs.declared.item.CatalogItem.{CatalogItem}
 use Rattle.hfs_catalog.specs.Records.{Record, Catalog}
 use Rattle.hfs_catalog.specs.Lookups.{catalog_item, item_at, item_named}
 use Rattle.hfs_catalog.specs.Tree.{IsCatalogTree, cat_keys, catalog_of}
-use Rattle.hfs_record_edits.proofs.KeepLemmas.{in_right}
 use Rattle.hfs_record_edits.proofs.NamedLemmas.{record_at-child, other-child, no-child}
 
 module _ (nodes : Store) (tree : IsCatalogTree nodes) (key : CatKey) where
@@ -30,7 +30,7 @@ module _ (nodes : Store) (tree : IsCatalogTree nodes) (key : CatKey) where
     there : In r (catalog_of nodes)
     there =
         let between = content-between cat_keys cat_cmp_total nodes key place h tree in
-        subst (λ (c : Catalog). In r c) (sym between.split) (in_right r between.before (r ∷ between.behind) (inl refl))
+        subst (λ (c : Catalog). In r c) (sym between.split) (in-right r between.before (r ∷ between.behind) (inl refl))
 
     pub item-named : item_at (Some r) ≡ item_named (catalog_of nodes) key.parent key.name
     item-named = elim (is_item r.1) as (λ (b : Bool). is_item r.1 ≡ b → cond b (Some (catalog_item r)) None ≡ item_named (catalog_of nodes) key.parent key.name) [

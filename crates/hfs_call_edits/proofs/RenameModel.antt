@@ -30,6 +30,7 @@ use Rattle.hfs_items.specs.Queries.{AreEntries}
 use Rattle.hfs_items.specs.Told.{only_folder}
 use Rattle.hfs_items.specs.Told as told
 use Rattle.hfs_call_patches.specs.declared.rekeying.Rekeying.{Rekeying}
+use Rattle.hfs_call_edits.proofs.FileIdsChosen.{unlocked_is}
 use Rattle.hfs_call_edits.specs.Choosing.{map_ok, unless_code, unless_locked, item_to_set}
 use Rattle.hfs_call_edits.specs.Choosing as records
 use Rattle.hfs_call_edits.specs.ChoosingRenaming.{is_taken, unless_taken, item_to_rename, renaming, IsRenaming, ChoosesRenaming}
@@ -38,7 +39,7 @@ use Rattle.hfs_model.proofs.KeepsCalls.{err_is_ok as err_ok}
 use Rattle.hfs_call_edits.proofs.Chosen.{by_lock, by_test, next_same, item_same, here}
 use Rattle.hfs_call_edits.proofs.Taken.{taken_is}
 use Rattle.hfs_call_edits.proofs.ChosenPlaces.{locked_code}
-use Rattle.hfs_model.proofs.Facts.{not_not}
+use Rattle.hfs_model.proofs.Facts.{not_not, not_refused}
 
 -- ---- the same choice
 
@@ -74,15 +75,6 @@ module _ (contents : Contents) (catalog : Catalog) (v : Volume) (h : AreEntries 
 
 -- ---- what was chosen
 
--- a code that is none of these
-unless : {A : Type 0} (b : Bool) (code : ℤ) (x : Result A ℤ) (r : A) → cond b (Err code) x ≡ Ok r → (b ≡ false) × (x ≡ Ok r)
-unless true code x r e = absurd (err_ok code r e)
-unless false code x r e = (refl, e)
-
-unlocked : (o : Option ℤ) (x : Result Record ℤ) (r : Record) → unless_code o x ≡ Ok r → x ≡ Ok r
-unlocked None x r e = e
-unlocked (Some code) x r e = absurd (err_ok code r e)
-
 next : (x : Result Record ℤ) (f : Record → Result Record ℤ) (r : Record) → ((q : Record) → f q ≡ Ok r → q ≡ r) → and_then x f ≡ Ok r → x ≡ Ok r
 next (Ok q) f r same e = ap Ok (same q e)
 next (Err code) f r same e = absurd (err_ok code r e)
@@ -99,16 +91,16 @@ pub record IsNamedChild (catalog : Catalog) (dir : ℕ) (name : List ℕ) (r : R
 
 pub child_parts : (mdb : Mdb) (catalog : Catalog) (dir : ℕ) (name : List ℕ) (r : Record) → records.child_to_change mdb catalog dir name ≡ Ok r → IsNamedChild catalog dir name r
 child_parts mdb catalog dir name r e =
-    let named = unless (not (is_item_name name)) BAD_NAME _ r (unlocked (records.lock_code mdb) _ r e) in
-    let folder = unless (not (told.is_folder catalog dir)) NOT_A_FOLDER _ r named.1 in
+    let named = not_refused (not (is_item_name name)) BAD_NAME _ r (unlocked_is (records.lock_code mdb) _ r e) in
+    let folder = not_refused (not (told.is_folder catalog dir)) NOT_A_FOLDER _ r named.1 in
     record { named = not_not (is_item_name name) named.0; folder = not_not (told.is_folder catalog dir) folder.0; found = there (lookups.child_named catalog dir name) r folder.1 }
 
 rename_parts : (mdb : Mdb) (catalog : Catalog) (dir : ℕ) (name new_name : List ℕ) (r : Record) → item_to_rename mdb catalog dir name new_name ≡ Ok r
     → IsNamedChild catalog dir name r × (is_item_name new_name ≡ true)
 rename_parts mdb catalog dir name new_name r e =
-    let named = unless (not (is_item_name new_name)) BAD_NAME _ r (unlocked (records.lock_code mdb) _ r e) in
-    let set = next (item_to_set mdb catalog dir name) (unless_taken catalog dir new_name) r (λ q f. same_ok q r (unless (is_taken catalog dir new_name (item_id q.1)) DUPLICATE (Ok q) r f).1) named.1 in
-    let child = next (records.child_to_change mdb catalog dir name) unless_locked r (λ q f. same_ok q r (unless (records.is_locked q) FILE_LOCKED (Ok q) r f).1) set in
+    let named = not_refused (not (is_item_name new_name)) BAD_NAME _ r (unlocked_is (records.lock_code mdb) _ r e) in
+    let set = next (item_to_set mdb catalog dir name) (unless_taken catalog dir new_name) r (λ q f. same_ok q r (not_refused (is_taken catalog dir new_name (item_id q.1)) DUPLICATE (Ok q) r f).1) named.1 in
+    let child = next (records.child_to_change mdb catalog dir name) unless_locked r (λ q f. same_ok q r (not_refused (records.is_locked q) FILE_LOCKED (Ok q) r f).1) set in
     (child_parts mdb catalog dir name r child, not_not (is_item_name new_name) named.0)
 
 -- the folder of an ID

@@ -10,6 +10,7 @@ use Rattle.hfs_fields.specs.Each.{Each}
 use Rattle.hfs_fields.proofs.ElementLemmas.{each-append, each-mono}
 use Rattle.hfs_fields.proofs.PartLemmas.{flat-each}
 use Rattle.hfs_btree.specs.Sound.{IsOther}
+use Rattle.hfs_space.proofs.OwnedLemmas.{blocks-append}
 use Rattle.hfs_space.specs.Bitmap.{is_used}
 use Rattle.hfs_space.specs.Extents.{Overflow, extent_blocks, IsExtentWithin, AreExtentsWithin}
 use Rattle.hfs_space.specs.Forks.{blocks_each}
@@ -28,7 +29,7 @@ use Rattle.hfs_check.proofs.LawTypes.{CatalogIsSound}
 use Rattle.hfs_record_edits.proofs.CatalogEdits.{part_of_sum}
 use Rattle.hfs_record_edits.proofs.DeletedFrames.{once}
 use Rattle.hfs_record_edits.proofs.Frames.{each_range, block_in, beside_file}
-use Rattle.hfs_record_edits.proofs.Space.{record_has, forks_have, extents_parts, owners_sum, owned_each, each_owned}
+use Rattle.hfs_record_edits.proofs.Space.{record_has, forks_have, owners_sum, owned_each, each_owned}
 use Rattle.hfs_call_patches.proofs.Different.{numbers-are}
 use Rattle.hfs_call_patches.specs.Edits.{extents_of, blocks_of}
 use Rattle.hfs_call_patches.proofs.SoundForks as sounds
@@ -69,12 +70,12 @@ fork_part mdb old b DataFork f =
     let one = extents_of old DataFork f in
     let two = extents_of old ResFork f in
     let none : owners (extent_blocks []) b ≡ 0 = refl in
-    omega (arith, extents_parts one (two ++ []) b, extents_parts two [] b, none)
+    omega (arith, blocks-append one (two ++ []) b, blocks-append two [] b, none)
 fork_part mdb old b ResFork f =
     let one = extents_of old DataFork f in
     let two = extents_of old ResFork f in
     let none : owners (extent_blocks []) b ≡ 0 = refl in
-    omega (arith, extents_parts one (two ++ []) b, extents_parts two [] b, none)
+    omega (arith, blocks-append one (two ++ []) b, blocks-append two [] b, none)
 
 module _ (catalogs : CatalogIsSound) (total id : ℕ) (fork : Fork) (r : Record) (old : Blocks) (h : AreBlocksSound total old) (was : item_with (catalog_in old) id ≡ Some r) (is : is_file r.1 ≡ true)
     (wanted : ℕ) (pieces : List Extent) (free : AreFreeOnce (is_used old (mdb_in old).bitmap_start) (mdb_in old).allocation_blocks wanted pieces)

@@ -89,7 +89,7 @@ numbers_same mdb xs ys e = numbers-are mdb ys ∙ ap (λ (l : List ℕ). flat_ma
 
 -- ---- the file's record
 
-first_of : (size : ℕ) (fork : Fork) (len : ℕ) (first : List Extent) (now : ℕ) (f : FileRecord) → (fork_of fork (file_with size fork len first now f)).extents ≡ first
+pub first_of : (size : ℕ) (fork : Fork) (len : ℕ) (first : List Extent) (now : ℕ) (f : FileRecord) → (fork_of fork (file_with size fork len first now f)).extents ≡ first
 first_of size DataFork len first now f = refl
 first_of size ResFork len first now f = refl
 

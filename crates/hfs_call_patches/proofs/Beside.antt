@@ -10,16 +10,18 @@ use Rattle.hfs_fields.specs.Records.{is_dir, is_file, is_item, item_id, file_rec
 use Rattle.hfs_fields.specs.Each.{Each}
 use Rattle.hfs_fields.specs.Members.{In}
 use Rattle.hfs_fields.proofs.MemberLemmas.{each_in}
+use Rattle.hfs_space.proofs.OwnedLemmas.{blocks-append}
 use Rattle.hfs_space.specs.Extents.{Overflow, block_total, extent_blocks, AreExtentsWithin}
 use Rattle.hfs_space.specs.Owners.{Fork as ForkOf, forks_of_file, forks_of, extents_in, owners}
 use Rattle.hfs_space.specs.Sound.{IsForkSound}
 use Rattle.hfs_model.specs.declared.call.Fork.{Fork}
 use Rattle.hfs_model.specs.declared.call.Fork.TheVariants.{DataFork, ResFork}
+use Rattle.hfs_catalog.proofs.FileRecords.{not-dir}
 use Rattle.hfs_catalog.specs.Records.{Record, Catalog, has_id}
 use Rattle.hfs_record_edits.proofs.FromLawful.{each_of}
-use Rattle.hfs_record_edits.proofs.Made.{file_id, file-not_dir}
+use Rattle.hfs_record_edits.proofs.Made.{file_id}
 use Rattle.hfs_record_edits.proofs.OnceLemmas.{counted}
-use Rattle.hfs_record_edits.proofs.Space.{record_has, forks_have, extents_parts}
+use Rattle.hfs_record_edits.proofs.Space.{record_has, forks_have}
 use Rattle.hfs_record_edits.specs.Records.{of_fork}
 use Rattle.hfs_call_patches.specs.Files.{fork_of, file_with}
 use Rattle.hfs_call_patches.specs.Edits.{byte_of}
@@ -68,12 +70,12 @@ both_have mdb overflow b DataFork f =
     let one = extents_in overflow (fork_in DataFork f) in
     let two = extents_in overflow (fork_in ResFork f) in
     let none : owners (extent_blocks []) b ≡ 0 = refl in
-    omega (arith, extents_parts one (two ++ []) b, extents_parts two [] b, none)
+    omega (arith, blocks-append one (two ++ []) b, blocks-append two [] b, none)
 both_have mdb overflow b ResFork f =
     let one = extents_in overflow (fork_in DataFork f) in
     let two = extents_in overflow (fork_in ResFork f) in
     let none : owners (extent_blocks []) b ≡ 0 = refl in
-    omega (arith, extents_parts one (two ++ []) b, extents_parts two [] b, none)
+    omega (arith, blocks-append one (two ++ []) b, blocks-append two [] b, none)
 
 pub file_forks : (r : Record) → is_file r.1 ≡ true → forks_of r ≡ forks_of_file (file_record_of r.1)
 file_forks r e = ap (λ (b : Bool). cond b (forks_of_file (file_record_of r.1)) []) e
@@ -98,7 +100,7 @@ abbrev pub IsOtherFile : ℕ → Record → Type 0
 IsOtherFile id x = is_file x.1 ≡ true → (file_record_of x.1).id ≡ id → ⊥
 
 file-has_id : (id : ℕ) (x : Record) → is_file x.1 ≡ true → (file_record_of x.1).id ≡ id → has_id id x ≡ true
-file-has_id id x file same = λ i. is_item_file x file i && eq-eqb (item_id x.1) id (file_id x.1 (file-not_dir x.1 file) ∙ same) i
+file-has_id id x file same = λ i. is_item_file x file i && eq-eqb (item_id x.1) id (file_id x.1 (not-dir x.1 file) ∙ same) i
   where
     or_true : (b : Bool) → (b || true) ≡ true
     or_true true = refl

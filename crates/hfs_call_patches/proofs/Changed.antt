@@ -4,6 +4,7 @@ use Rattle.std.specs.List.{flat_map, sum_by, find}
 use Rattle.std.specs.Ordering.{is_eq}
 use Rattle.std.proofs.lemmas.Bool.{true≢false, eq-eqb, cases_lt}
 use Rattle.std.proofs.lemmas.List.Sums.{sum_by-append, sum_by-cons}
+use Rattle.hfs_fields.proofs.MemberLemmas.{in-left, in-right}
 use Rattle.hfs_fields.specs.declared.mdb.Mdb.{Mdb}
 use Rattle.hfs_fields.specs.declared.extent.Extent.{Extent}
 use Rattle.hfs_fields.specs.declared.file_record.FileRecord.{FileRecord}
@@ -25,18 +26,18 @@ use Rattle.hfs_space.proofs.OwnerLemmas.{append}
 use Rattle.hfs_space.proofs.RunSteps.{Record as ExtRecord}
 use Rattle.hfs_model.specs.declared.call.Fork.{Fork}
 use Rattle.hfs_model.specs.declared.call.Fork.TheVariants.{DataFork, ResFork}
+use Rattle.hfs_catalog.proofs.FileRecords.{not-dir}
 use Rattle.hfs_catalog.specs.Records.{Record, Catalog, has_id, item_with}
 use Rattle.hfs_catalog.specs.Sound.{IsSoundCatalog}
 use Rattle.hfs_catalog.proofs.Held.{with_id}
 use Rattle.hfs_record_edits.specs.Swaps.{Swaps}
-use Rattle.hfs_record_edits.proofs.KeepLemmas.{in_left, in_right}
 use Rattle.hfs_record_edits.proofs.EditedLemmas.{at_equal_key, with_replaced-swaps}
 use Rattle.hfs_check.specs.Parts.{Blocks, mdb_in, extents_nodes, overflow_in, catalog_extents, catalog_in, owned_in}
 use Rattle.hfs_check.specs.Sound.{IsForkKey, EachKey, AreBlocksSound}
 use Rattle.hfs_check.proofs.LawTypes.{CatalogIsSound}
 use Rattle.hfs_record_edits.proofs.ChangesLaws.{IsAlike}
 use Rattle.hfs_record_edits.proofs.Linked.{sound_once}
-use Rattle.hfs_record_edits.proofs.Made.{file_alike, file-is, file-read, file-not_dir}
+use Rattle.hfs_record_edits.proofs.Made.{file_alike, file-is, file-read}
 use Rattle.hfs_record_edits.proofs.Space.{record_has, forks_have, others_have, owners_sum, each_owned, owned_each}
 use Rattle.hfs_record_edits.specs.Whole.{IsKeyOfOr}
 use Rattle.hfs_record_edits.specs.Records.{of_fork}
@@ -102,7 +103,7 @@ module _ (catalogs : CatalogIsSound) (total id : ℕ) (fork : Fork) (r : Record)
   alike = file_alike r g d.was d.set.value g_id
 
   pub valence : is_dir r.1 ≡ true → (dir_record_of s.1).valence ≡ (dir_record_of r.1).valence
-  valence e = absurd (true≢false (sym e ∙ file-not_dir r.1 d.was))
+  valence e = absurd (true≢false (sym e ∙ not-dir r.1 d.was))
 
   abbrev before : Catalog
   before = swap.before
@@ -210,15 +211,15 @@ module _ (catalogs : CatalogIsSound) (total id : ℕ) (fork : Fork) (r : Record)
 
     carry_file : (x : ForkOf) → (x.file ≡ g.id → x.fork ≡ byte_of fork → ⊥) → (y : Record) → In y (before ++ (r ∷ behind)) → In x (forks_of y) → In x (flat_map forks_of (catalog_in new))
     carry_file x far y there is = ⊎_elim
-        (λ (front : In y before). of_new x y (in_left y before (s ∷ behind) front) is)
+        (λ (front : In y before). of_new x y (in-left y before (s ∷ behind) front) is)
         (λ (rest : In y (r ∷ behind)). ⊎_elim
         (λ (here : r ≡ y). let of_f : In x (forks_of_file f) = subst (In x) forks_r (subst (λ (z : Record). In x (forks_of z)) (sym here) is) in ⊎_elim
         (λ (one : fork_in fork f ≡ x). absurd (far (sym (ap (λ (z : ForkOf). z.file) one) ∙ sym g_id) (sym (ap (λ (z : ForkOf). z.fork) one))))
         (λ (two : fork_in (other_fork fork) f ≡ x).
-        of_new x s (in_right s before (s ∷ behind) (inl refl))
+        of_new x s (in-right s before (s ∷ behind) (inl refl))
         (subst (λ (z : ForkOf). In z (forks_of s)) (other_is ∙ two) (subst (In (fork_in (other_fork fork) g)) (sym forks_s) (fork_there (other_fork fork) g))))
         (which_fork fork f x of_f))
-        (λ (back : In y behind). of_new x y (in_right y before (s ∷ behind) (inr back)) is)
+        (λ (back : In y behind). of_new x y (in-right y before (s ∷ behind) (inr back)) is)
         rest)
         (in_parts y before (r ∷ behind) there)
 
@@ -235,7 +236,7 @@ module _ (catalogs : CatalogIsSound) (total id : ℕ) (fork : Fork) (r : Record)
         there
 
     own_there : In (fork_in fork g) (all_forks m (catalog_in new))
-    own_there = inr (of_new (fork_in fork g) s (in_right s before (s ∷ behind) (inl refl)) (subst (In (fork_in fork g)) (sym forks_s) (fork_there fork g)))
+    own_there = inr (of_new (fork_in fork g) s (in-right s before (s ∷ behind) (inl refl)) (subst (In (fork_in fork g)) (sym forks_s) (fork_there fork g)))
 
     whole_run : of_fork g.id (byte_of fork) p ≡ run_on g.id (byte_of fork) (block_total (fork_of fork g).extents) p
     unfolding overflow_in

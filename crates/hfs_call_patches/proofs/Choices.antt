@@ -12,11 +12,12 @@ use Rattle.hfs_model.specs.declared.call.Fork.TheVariants.{DataFork, ResFork}
 use Rattle.hfs_model.specs.declared.item.Item.{Item}
 use Rattle.hfs_model.specs.Choices.{and_then}
 use Rattle.hfs_model.specs.Volume.{Entry}
+use Rattle.hfs_catalog.proofs.FileRecords.{not-dir}
 use Rattle.hfs_catalog.specs.Records.{Record, has_thread}
 use Rattle.hfs_catalog.specs.Items.{file_of, item_of}
 use Rattle.hfs_check.specs.Parts.{Blocks, catalog_in}
 use Rattle.hfs_check.specs.VolumeOf.{contents_in, volume_in}
-use Rattle.hfs_record_edits.proofs.Made.{file_item, file-not_dir}
+use Rattle.hfs_record_edits.proofs.Made.{file_item}
 use Rattle.hfs_items.specs.Told.{pick}
 use Rattle.hfs_items.proofs.FolderLemmas.{found_with}
 use Rattle.hfs_items.proofs.Queries.{AreLong, files_are_long}
@@ -40,7 +41,7 @@ module _ (total : ℕ) (old : Blocks) (h : AreWholeSound total old) (chosen : Re
 
   bytes_are : (fork : Fork) → fork_bytes fork entry.1.kind ≡ pick fork (contents_in old (file_record_of r.1))
   unfolding file_of
-  bytes_are fork = ap (λ (x : Item). fork_bytes fork x.kind) (file_item (contents_in old) (catalog_in old) r (file-not_dir r.1 found.choice.is)) ∙ by fork
+  bytes_are fork = ap (λ (x : Item). fork_bytes fork x.kind) (file_item (contents_in old) (catalog_in old) r (not-dir r.1 found.choice.is)) ∙ by fork
     where
       by : (k : Fork) → fork_bytes k (file_of (has_thread (catalog_in old) (file_record_of r.1).id) (contents_in old (file_record_of r.1)) r.0 (file_record_of r.1)).kind ≡ pick k (contents_in old (file_record_of r.1))
       by DataFork = refl

@@ -13,6 +13,7 @@ use Rattle.hfs_btree.specs.Header.{header_in}
 use Rattle.hfs_btree.specs.Sound.{IsOther, KeepsFrame}
 use Rattle.hfs_btree.specs.Tree.{Store}
 use Rattle.hfs_btree_checks.specs.Order.{index_keys}
+use Rattle.hfs_btree_edits.proofs.ApartLemmas.{each-take}
 use Rattle.hfs_btree_edits.specs.Files.{is_one_of, beside, AreWithin}
 use Rattle.hfs_btree_edits.proofs.WrittenLemmas.{at_other, at_own, untouched, put_within}
 use Rattle.hfs_fields.specs.Each.{Each}
@@ -30,7 +31,6 @@ use Rattle.hfs_call_patches.specs.CatalogPatch.{KeepsNamed, HasCatalog}
 use Rattle.hfs_call_patches.specs.TreeFiles.{IsCatalogFile}
 use Rattle.hfs_call_patches.specs.Settings.{PutsCounts}
 use Rattle.hfs_call_patches.proofs.IndexNames.{kept_names}
-use Rattle.hfs_record_edits.proofs.CatalogEdits.{each_take}
 use Rattle.hfs_call_patches.proofs.Placed.{IsAt, place_of, behind_first, at_place}
 use Rattle.hfs_record_edits.proofs.CatalogEdits.{below_area}
 
@@ -96,7 +96,7 @@ module _ {X : Type 0} (blocks : X → Blocks) (totals : X → ℕ) (x y : X) (ru
   numbers_are = at.numbers
 
   two_apart : Each (IsOther 2) ns
-  two_apart = subst (Each (IsOther 2)) (sym numbers_are) (each_take _ _ (block_numbers (mdb_in old) (catalog_extents old)) (below_area (mdb_in old) (catalog_extents old) 2 (omega (arith, h.mdb.bitmap_behind, h.mdb.bitmap_before))))
+  two_apart = subst (Each (IsOther 2)) (sym numbers_are) (each-take _ _ (block_numbers (mdb_in old) (catalog_extents old)) (below_area (mdb_in old) (catalog_extents old) 2 (omega (arith, h.mdb.bitmap_behind, h.mdb.bitmap_before))))
 
   nodes_new : nodes_in new runs ≡ nodes_in mid runs
   unfolding nodes_in

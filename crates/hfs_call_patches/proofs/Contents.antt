@@ -13,6 +13,7 @@ use Rattle.hfs_fields.proofs.MemberLemmas.{each_in}
 use Rattle.hfs_fields.proofs.ElementLemmas.{each-append}
 use Rattle.hfs_fields.proofs.PartLemmas.{in_parts}
 use Rattle.hfs_btree.specs.Sound.{IsOther}
+use Rattle.hfs_space.proofs.OwnedLemmas.{blocks-append}
 use Rattle.hfs_space.specs.Bitmap.{is_used}
 use Rattle.hfs_space.specs.Extents.{Overflow, extent_blocks}
 use Rattle.hfs_space.specs.Forks.{blocks_each, fork_bytes}
@@ -33,7 +34,7 @@ use Rattle.hfs_record_edits.proofs.DeletedFrames.{once, record_owns}
 use Rattle.hfs_record_edits.proofs.Frames.{block_in, beside_file, same_bytes}
 use Rattle.hfs_record_edits.proofs.FromLawful.{each_of}
 use Rattle.hfs_record_edits.proofs.Made.{file_id}
-use Rattle.hfs_record_edits.proofs.Space.{record_has, forks_have, extents_parts, owned_each}
+use Rattle.hfs_record_edits.proofs.Space.{record_has, forks_have, owned_each}
 use Rattle.hfs_call_patches.specs.Edits.{byte_of, extents_of, blocks_of, bytes_of, ChangesFork}
 use Rattle.hfs_call_patches.proofs.Files.{with_content}
 use Rattle.hfs_call_patches.proofs.Beside.{fork_in, other_fork, both_have, file_forks}
@@ -76,7 +77,7 @@ module _ (catalogs : CatalogIsSound) (total id : ℕ) (fork : Fork) (r : Record)
   touched = extents_of new fork g ++ (catalog_extents old ++ mdb.extents_file)
 
   touched_parts : (a : ℕ) → owners (extent_blocks touched) a ≡ owners (blocks_of new fork g) a + (owners (extent_blocks (catalog_extents old)) a + owners (extent_blocks mdb.extents_file) a)
-  touched_parts a = omega (arith, extents_parts (extents_of new fork g) (catalog_extents old ++ mdb.extents_file) a, extents_parts (catalog_extents old) mdb.extents_file a)
+  touched_parts a = omega (arith, blocks-append (extents_of new fork g) (catalog_extents old ++ mdb.extents_file) a, blocks-append (catalog_extents old) mdb.extents_file a)
 
   -- ---- the logical blocks of other allocation blocks
 

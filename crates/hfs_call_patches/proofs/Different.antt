@@ -24,7 +24,7 @@ use Rattle.hfs_record_edits.proofs.Frames.{each_range}
 
 -- ---- lists in which no number stands twice
 
-each-take : (P : ℕ → Type 0) (n : ℕ) (xs : List ℕ) → Each P xs → Each P (take n xs)
+pub each-take : (P : ℕ → Type 0) (n : ℕ) (xs : List ℕ) → Each P xs → Each P (take n xs)
 each-take P zero [] h = tt
 each-take P zero (x ∷ xs) h = tt
 each-take P (suc n) [] h = tt

@@ -35,6 +35,7 @@ use Rattle.hfs_space.proofs.ForkLemmas.{with_part-nothing}
 use Rattle.hfs_model.specs.Forks.{blocks, resized, written, fork_bytes}
 use Rattle.hfs_model.specs.ForkCalls.{file_to_write, unless_past_end, to_set_eof, to_write_fork}
 use Rattle.hfs_model.proofs.ForkLemmas.{length-resized, length-written}
+use Rattle.hfs_call_patches.proofs.Assembled.{first_of}
 use Rattle.hfs_call_patches.specs.Files.{fork_of, file_with}
 use Rattle.hfs_call_patches.specs.Edits.{extents_of, blocks_of, bytes_of, ChangesFork, SetsVolume}
 use Rattle.hfs_call_patches.specs.Laws.{ForkEditsAreSetEof, ForkEditsAreWriteFork}
@@ -45,11 +46,6 @@ use Rattle.hfs_call_patches.proofs.Bytes.{zeros_resize, laid_write, zeros_reach,
 use Rattle.hfs_call_patches.proofs.Moves.{HasBlocks, has_blocks}
 use Rattle.hfs_call_patches.proofs.Whole.{is_file_bytes}
 use Rattle.hfs_call_patches.proofs.Laid.{bytes_by, bytes_were, laid_stays, had_long, has_long, same, front, held, either}
-
--- the record has these first extents
-first_same : (size : ℕ) (fork : Fork) (len : ℕ) (first : List Extent) (now : ℕ) (f : FileRecord) → (fork_of fork (file_with size fork len first now f)).extents ≡ first
-first_same size DataFork len first now f = refl
-first_same size ResFork len first now f = refl
 
 module _ (catalogs : CatalogIsSound) (total : ℕ) (chosen : Result Entry ℤ) (fork : Fork) (r : Record) (len now offset : ℕ) (part wrote : List ℕ) (old new : Blocks) (h : AreBlocksSound total old) (full : AreFull total old)
     (c : IsChoice old chosen r) (s : SetsFork fork r len now offset part wrote old new) where
@@ -78,7 +74,7 @@ module _ (catalogs : CatalogIsSound) (total : ℕ) (chosen : Result Entry ℤ) (
   long = ap (λ (x : FileRecord). (fork_of fork x).length) s.file_is ∙ len_same size fork len s.first now f
 
   moved : HasBlocks fork f s.file n old new
-  moved = has_blocks catalogs total c.id fork r n s.first s.file old new h c.was s.was number (ap (λ (x : FileRecord). (fork_of fork x).extents) s.file_is ∙ first_same size fork len s.first now f) s.gets
+  moved = has_blocks catalogs total c.id fork r n s.first s.file old new h c.was s.was number (ap (λ (x : FileRecord). (fork_of fork x).extents) s.file_is ∙ first_of size fork len s.first now f) s.gets
 
   abbrev had : List ℕ
   had = all_bytes old mdb (extents_of old fork f)

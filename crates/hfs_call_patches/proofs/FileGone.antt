@@ -18,6 +18,7 @@ use Rattle.hfs_btree.specs.Header.{header_in}
 use Rattle.hfs_btree.specs.Sound.{IsOther, KeepsFrame}
 use Rattle.hfs_btree.specs.Tree.{Store}
 use Rattle.hfs_btree_checks.specs.Order.{index_keys}
+use Rattle.hfs_btree_edits.proofs.ApartLemmas.{each-take}
 use Rattle.hfs_btree_edits.specs.Files.{beside}
 use Rattle.hfs_btree_edits.proofs.WrittenLemmas.{at_other, at_own}
 use Rattle.hfs_space.specs.Bitmap.{bitmap_len, is_used, is_marked, clear_count}
@@ -42,7 +43,6 @@ use Rattle.hfs_call_patches.specs.Settings.{PutsCounts}
 use Rattle.hfs_call_patches.proofs.EditedNodes.{first_only, behind_drop, same_on}
 use Rattle.hfs_call_patches.proofs.FileParts.{outside_range, in_area, catalog_apart, extents_apart}
 use Rattle.hfs_call_patches.proofs.IndexNames.{kept_names}
-use Rattle.hfs_record_edits.proofs.CatalogEdits.{each_take}
 use Rattle.hfs_record_edits.proofs.CatalogEdits.{below_area}
 
 module _ (total : ℕ) (old : Blocks) (h : AreBlocksSound total old) (extents catalog : List Run) (ext : IsExtentsFile extents total old) (cat : IsCatalogFile catalog total old) where
@@ -80,11 +80,11 @@ module _ (total : ℕ) (old : Blocks) (h : AreBlocksSound total old) (extents ca
   -- nodes are the same where each block of their file is
   same_extents : (f g : Blocks) → Each (λ n. g n ≡ f n) E → nodes_in g extents ≡ nodes_in f extents
   unfolding nodes_in
-  same_extents f g each = same_on f g es (subst (Each (λ n. g n ≡ f n)) (sym es_is) (each_take (λ n. g n ≡ f n) (node_count mdb.extents_file_size) E each))
+  same_extents f g each = same_on f g es (subst (Each (λ n. g n ≡ f n)) (sym es_is) (each-take (λ n. g n ≡ f n) (node_count mdb.extents_file_size) E each))
 
   same_catalog : (f g : Blocks) → Each (λ n. g n ≡ f n) C → nodes_in g catalog ≡ nodes_in f catalog
   unfolding nodes_in
-  same_catalog f g each = same_on f g cs (subst (Each (λ n. g n ≡ f n)) (sym cs_is) (each_take (λ n. g n ≡ f n) (node_count mdb.catalog_file_size) C each))
+  same_catalog f g each = same_on f g cs (subst (Each (λ n. g n ≡ f n)) (sym cs_is) (each-take (λ n. g n ≡ f n) (node_count mdb.catalog_file_size) C each))
 
   low_bits : mdb.bitmap_start + bitmap_len mdb.allocation_blocks ≤ mdb.allocation_start
   low_bits = h.mdb.bitmap_before
@@ -111,7 +111,7 @@ module _ (total : ℕ) (old : Blocks) (h : AreBlocksSound total old) (extents ca
       only_extents = first_only es E (node_count mdb.extents_file_size) (header_in (extents_nodes old)).nodes es_is b1 b2 side behind_tree
 
       not_extents : (n : ℕ) → Each (IsOther n) E → b2 n ≡ b1 n
-      not_extents n other = only_extents n (each_take (IsOther n) (header_in (extents_nodes old)).nodes E other)
+      not_extents n other = only_extents n (each-take (IsOther n) (header_in (extents_nodes old)).nodes E other)
 
       pub catalog_second : nodes_in b2 catalog ≡ catalog_nodes old
       catalog_second =
@@ -131,7 +131,7 @@ module _ (total : ℕ) (old : Blocks) (h : AreBlocksSound total old) (extents ca
         only_catalog = first_only cs C (node_count mdb.catalog_file_size) (header_in (catalog_nodes old)).nodes cs_is b2 b3 cat_side behind_catalog
 
         not_catalog : (n : ℕ) → Each (IsOther n) C → b3 n ≡ b2 n
-        not_catalog n other = only_catalog n (each_take (IsOther n) (header_in (catalog_nodes old)).nodes C other)
+        not_catalog n other = only_catalog n (each-take (IsOther n) (header_in (catalog_nodes old)).nodes C other)
 
         -- ---- the counts
 

@@ -28,7 +28,7 @@ use Rattle.hfs_check.proofs.LawTypes.{CatalogIsSound}
 use Rattle.hfs_record_edits.proofs.CatalogEdits.{part_of_sum}
 use Rattle.hfs_record_edits.proofs.DeletedFrames.{once}
 use Rattle.hfs_record_edits.proofs.Frames.{block_in, same_file}
-use Rattle.hfs_record_edits.proofs.Space.{record_has, forks_have, owners_sum, extents_parts, owned_each, each_owned}
+use Rattle.hfs_record_edits.proofs.Space.{record_has, forks_have, owners_sum, owned_each, each_owned}
 use Rattle.hfs_space.proofs.WholeLemmas.{all-length}
 use Rattle.hfs_call_patches.specs.Files.{fork_of}
 use Rattle.hfs_call_patches.specs.Edits.{extents_of, blocks_of, bytes_of}
@@ -37,7 +37,7 @@ use Rattle.hfs_call_patches.proofs.Beside.{fork_in, other_fork, both_have}
 use Rattle.hfs_call_patches.proofs.BesideTrees.{is_beside}
 use Rattle.hfs_call_patches.proofs.Moves.{HasBlocks}
 use Rattle.hfs_call_patches.proofs.Rooms.{extents_within}
-use Rattle.hfs_space.proofs.OwnedLemmas.{length-blocks}
+use Rattle.hfs_space.proofs.OwnedLemmas.{length-blocks, blocks-append}
 use Rattle.hfs_call_patches.proofs.SoundForks.{own, forks_r, own_owns, own_once, own_sound, own_within}
 
 -- how many blocks of 512 bytes extents have
@@ -121,13 +121,13 @@ module _ (catalogs : CatalogIsSound) (total id : ℕ) (fork : Fork) (r : Record)
   trees = catalog_extents old ++ mdb.extents_file
 
   trees_none : (a : ℕ) → 0 < owners (blocks_of new fork now) a → owners (extent_blocks trees) a ≡ 0
-  trees_none a some = let none = no_tree a some in let one = none.0 in let two = none.1 in omega (arith, one, two, extents_parts (catalog_extents old) mdb.extents_file a)
+  trees_none a some = let none = no_tree a some in let one = none.0 in let two = none.1 in omega (arith, one, two, blocks-append (catalog_extents old) mdb.extents_file a)
 
   -- what is laid over them, no other edit changes
   pub laid_stays : (laid later : Blocks) → ChangesAsCallsDo old laid later → all_bytes later mdb es ≡ all_bytes laid mdb es
   laid_stays laid later others =
       ap joined (same_file laid later mdb trees
-      (λ a j low none. others (block_in mdb a j) (is_beside total old h a j low (omega (arith, none, extents_parts (catalog_extents old) mdb.extents_file a)) (omega (arith, none, extents_parts (catalog_extents old) mdb.extents_file a))))
+      (λ a j low none. others (block_in mdb a j) (is_beside total old h a j low (omega (arith, none, blocks-append (catalog_extents old) mdb.extents_file a)) (omega (arith, none, blocks-append (catalog_extents old) mdb.extents_file a))))
       es trees_none)
 
   -- ---- the bytes of before

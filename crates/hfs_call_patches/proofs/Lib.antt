@@ -24,7 +24,7 @@ pub mod CreationAnswerLemmas
 mod DeletingLemmas
 mod Files
 mod TreeKeys
-mod Overflows
+pub mod Overflows
 pub mod Beside
 mod BesideTrees
 pub mod Rooms

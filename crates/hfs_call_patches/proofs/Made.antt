@@ -17,10 +17,6 @@ use Rattle.hfs_record_edits.proofs.SettingLaws.{HasSetBody, HasSetFile, HasSetFo
 use Rattle.hfs_call_patches.specs.declared.settings.ItemSettings.{ItemSettings}
 use Rattle.hfs_call_patches.specs.Settings.{HasSetRecord, MakesSetFInfo, MakesSetFileInfo, MakesSetFolderInfo, MakesSetLock}
 
-pub if_ok : {A E : Type 0} (r : Result A E) (P Q : A → Type 0) → ((x : A) → P x → Q x) → IfOk r P → IfOk r Q
-if_ok (Ok x) P Q f h = f x h
-if_ok (Err e) P Q f h = h
-
 module _ (total now : ℕ) (mdb counts : Mdb) (key : CatKey) (old new : Blocks) (h : AreBlocksSound total old) (own : mdb ≡ mdb_in old) (at : counts ≡ at_time now mdb) where
   counts_are : counts ≡ at_time now (mdb_in old)
   counts_are = at ∙ ap (at_time now) own

@@ -11,29 +11,22 @@ use Rattle.hfs_fields.specs.declared.key.ExtKey.{ExtKey}
 use Rattle.hfs_fields.specs.Keys.{ext_cmp}
 use Rattle.hfs_fields.specs.Each.{Each}
 use Rattle.hfs_fields.specs.Members.{In}
-use Rattle.hfs_fields.proofs.MemberLemmas.{each_in}
+use Rattle.hfs_fields.proofs.MemberLemmas.{each_in, any-in, in-left, in-right}
 use Rattle.hfs_fields.proofs.PartLemmas.{in_parts}
+use Rattle.hfs_space.proofs.OwnedLemmas.{blocks-append}
 use Rattle.hfs_space.specs.Extents.{Overflow, block_total, extent_blocks, record_extents, AreExtentsWithin, goes_on, run_on}
 use Rattle.hfs_space.specs.Owners.{Fork, extents_in, records_in, is_bad_blocks, goes_on_with, bad_extents, owners}
 use Rattle.hfs_space.specs.Runs.{is_of_fork}
 use Rattle.hfs_space.specs.Sound.{IsOverflowSound}
 use Rattle.hfs_space.proofs.RunSteps.{Record as ExtRecord}
-use Rattle.hfs_record_edits.proofs.KeepLemmas.{in_left, in_right}
+use Rattle.hfs_record_edits.proofs.FilesKeys.{itself}
 use Rattle.hfs_check.specs.Sound.{IsForkKey}
 use Rattle.hfs_record_edits.proofs.FromLawful.{each_of}
 use Rattle.hfs_record_edits.proofs.NoForks.{has_key}
-use Rattle.hfs_record_edits.proofs.Space.{extents_parts}
 use Rattle.hfs_record_edits.specs.Records.{of_fork}
 use Rattle.hfs_record_edits.proofs.RecordLemmas.{run_on-of_fork, same-records}
 
 -- ---- elements that pass
-
-pub in_any : {X : Type 0} (p : X → Bool) (xs : List X) (x : X) → In x xs → p x ≡ true → list_any p xs ≡ true
-in_any p [] x there is = absurd there
-in_any p (y ∷ ys) x there is = ⊎_elim
-    (λ (here : y ≡ x). or_left _ _ (ap p here ∙ is))
-    (λ (later : In x ys). or_right _ _ (in_any p ys x later is))
-    there
 
 pub any_one : {X : Type 0} (p : X → Bool) (xs : List X) → list_any p xs ≡ true → (x : X) × In x xs × (p x ≡ true)
 any_one p [] e = absurd (true≢false (sym e))
@@ -77,8 +70,8 @@ in_flat {X} f (x ∷ xs) y there = ⊎_elim
 pub flat_in : {X Y : Type 0} (f : X → List Y) (xs : List X) (x : X) (y : Y) → In x xs → In y (f x) → In y (flat_map f xs)
 flat_in f [] x y there is = absurd there
 flat_in f (z ∷ xs) x y there is = ⊎_elim
-    (λ (here : z ≡ x). in_left y (f z) (flat_map f xs) (subst (λ w. In y (f w)) (sym here) is))
-    (λ (later : In x xs). in_right y (f z) (flat_map f xs) (flat_in f xs x y later is))
+    (λ (here : z ≡ x). in-left y (f z) (flat_map f xs) (subst (λ w. In y (f w)) (sym here) is))
+    (λ (later : In x xs). in-right y (f z) (flat_map f xs) (flat_in f xs x y later is))
     there
 
 -- ---- keys
@@ -101,9 +94,6 @@ then_own : (o p : Ordering) → is_eq o ≡ true → is_eq p ≡ true → is_eq 
 then_own Less p e f = absurd (true≢false (sym e))
 then_own Equal p e f = f
 then_own Greater p e f = absurd (true≢false (sym e))
-
-own_key : (x : ExtKey) → is_eq (ext_cmp x x) ≡ true
-own_key x = then_own (nat_cmp x.file x.file) _ (own_number x.file) (then_own (nat_cmp x.fork x.fork) (nat_cmp x.block x.block) (own_number x.fork) (own_number x.block))
 
 -- ---- a record that a fork goes on with
 
@@ -135,7 +125,7 @@ abbrev one_has : ℕ → ExtRecord → ℕ
 one_has b x = owners (extent_blocks (record_extents x.1)) b
 
 have_if : (b : ℕ) (t : Bool) (x : ExtRecord) (ys : Overflow) → have b (cond t (x ∷ ys) ys) ≡ cond t (one_has b x) 0 + have b ys
-have_if b true x ys = extents_parts (record_extents x.1) (flat_map (λ r. record_extents r.1) ys) b
+have_if b true x ys = blocks-append (record_extents x.1) (flat_map (λ r. record_extents r.1) ys) b
 have_if b false x ys = omega arith
 
 parted : (h : ℕ) (t u v : Bool) → ((u ≡ true) × (v ≡ false)) ⊎ ((u ≡ false) × (v ≡ true)) → cond t h 0 ≡ cond (t && u) h 0 + cond (t && v) h 0
@@ -183,7 +173,7 @@ module _ (file fork : ℕ) (o p : Overflow) (keeps : (f k : ℕ) → (f ≡ file
       (carry : (f : Fork) → In f old_forks → IsAway f → In f new_forks) (own : Fork) (there : In own new_forks) (whole : of_fork file fork p ≡ records_in p own) where
     using_one : (q : ExtRecord) (f : Fork) → In f new_forks → In q (records_in p f) → goes_on_with p new_forks q ≡ true
     unfolding goes_on_with
-    using_one q f stands goes = in_any (λ f. list_any (has_key q) (records_in p f)) new_forks f stands (in_any (has_key q) (records_in p f) q goes (own_key q.0))
+    using_one q f stands goes = any-in (λ f. list_any (has_key q) (records_in p f)) new_forks f stands (any-in (has_key q) (records_in p f) q goes (itself q.0))
 
     of_own : (q : ExtRecord) → In q p → is_of_fork file fork q ≡ true → IsOverflowSound m p new_forks q
     of_own q stands is =
@@ -211,7 +201,7 @@ module _ (file fork : ℕ) (o p : Overflow) (keeps : (f k : ℕ) → (f ≡ file
     still q other e =
         let one = any_one (λ f. list_any (has_key q) (records_in o f)) old_forks e in
         let far = away q one.0 other one.2 in
-        in_any (λ f. list_any (has_key q) (records_in p f)) new_forks one.0 (carry one.0 one.1 far) (ap (list_any (has_key q)) (same_run one.0 far) ∙ one.2)
+        any-in (λ f. list_any (has_key q) (records_in p f)) new_forks one.0 (carry one.0 one.1 far) (ap (list_any (has_key q)) (same_run one.0 far) ∙ one.2)
 
     was_there : (q : ExtRecord) → In q p → is_of_fork file fork q ≡ false → In q o
     was_there q stands other =

@@ -11,6 +11,7 @@ use Rattle.hfs_blocks.specs.Blocks.{nodes_in}
 use Rattle.hfs_fields.proofs.MemberLemmas.{each_in}
 use Rattle.hfs_btree.specs.Header.{header_in}
 use Rattle.hfs_btree.specs.Tree.{Store}
+use Rattle.hfs_space.proofs.OwnedOnce.{distinct-once}
 use Rattle.hfs_space.specs.declared.fork_kind.ForkKind.{ForkKind}
 use Rattle.hfs_fields.specs.declared.file_record.ForkRecord.{ForkRecord}
 use Rattle.hfs_space.specs.Extents.{AreExtentsWithin, extent_blocks, block_total, fork_byte, fork_extents}
@@ -25,7 +26,7 @@ use Rattle.hfs_check.specs.Parts.{Blocks, mdb_in, extents_nodes, extents_blocks,
 use Rattle.hfs_check.specs.Sound.{AreBlocksSound}
 use Rattle.hfs_check.proofs.LawTypes.{CatalogIsSound}
 use Rattle.hfs_check.proofs.LawsProved.{trees_are_sound}
-use Rattle.hfs_record_edits.proofs.Space.{owners_sum, owned_distinct}
+use Rattle.hfs_record_edits.proofs.Space.{owners_sum}
 use Rattle.hfs_call_patches.specs.TreeFiles.{IsExtentsFile}
 use Rattle.hfs_call_patches.proofs.FileDeleted.{blocks_counted}
 use Rattle.hfs_record_edits.specs.Growing.{HasRoomFor}
@@ -87,7 +88,7 @@ size_small total old h most =
     let es = (mdb_in old).extents_file in
     let n = (mdb_in old).allocation_blocks in
     let size = (mdb_in old).allocation_block_size in
-    let once : (b : ℕ) → owners (extent_blocks es) b ≤ 1 = λ b. (let trees = tree_owned old b in let one = owned_distinct (owned_in old) h.space.once b in omega (arith, trees, one)) in
+    let once : (b : ℕ) → owners (extent_blocks es) b ≤ 1 = λ b. (let trees = tree_owned old b in let one = distinct-once (owned_in old) h.space.once b in omega (arith, trees, one)) in
     let every : ℕ → Bool = λ b. true in
     let left = room_left every n (extent_blocks es) once (λ b some. within_each n b es h.extents.file.within some) (λ b some. refl) in
     let few : block_total es ≤ n = (let same = length-blocks es in omega (arith, left, same)) in

@@ -13,6 +13,7 @@ use Rattle.hfs_fields.specs.Each.{Each}
 use Rattle.hfs_fields.specs.Members.{In}
 use Rattle.hfs_fields.proofs.MemberLemmas.{each_in}
 use Rattle.hfs_btree.specs.Pairs.{Rises}
+use Rattle.hfs_space.proofs.OwnedOnce.{distinct-once}
 use Rattle.hfs_space.specs.Bitmap.{is_used}
 use Rattle.hfs_space.specs.Extents.{Overflow, block_total, record_extents, goes_on, run_on}
 use Rattle.hfs_space.specs.Owners.{Fork as ForkOf, forks_of_file, forks_of, catalog_fork, all_forks, records_in, is_bad_blocks, goes_on_with, owners}
@@ -21,6 +22,7 @@ use Rattle.hfs_space.specs.Sound.{IsForkSound, IsOverflowSound}
 use Rattle.hfs_space.proofs.RunSteps.{Record as ExtRecord}
 use Rattle.hfs_model.specs.declared.call.Fork.{Fork}
 use Rattle.hfs_model.proofs.Facts.{same_some}
+use Rattle.hfs_catalog.proofs.FileRecords.{not-dir}
 use Rattle.hfs_catalog.specs.Records.{Record, item_with}
 use Rattle.hfs_catalog.specs.Sound.{IsRoot, IsGiven, IsSoundCatalog}
 use Rattle.hfs_catalog.proofs.Held.{with_id}
@@ -29,10 +31,10 @@ use Rattle.hfs_check.specs.Sound.{AreBlocksSound}
 use Rattle.hfs_check.proofs.LawTypes.{CatalogIsSound}
 use Rattle.hfs_record_edits.proofs.DeletedFrames.{record_owns}
 use Rattle.hfs_record_edits.proofs.Linked.{sound_once}
-use Rattle.hfs_record_edits.proofs.Made.{file_id, file-not_dir}
+use Rattle.hfs_record_edits.proofs.Made.{file_id}
 use Rattle.hfs_record_edits.proofs.NoForks.{has_key}
 use Rattle.hfs_record_edits.proofs.OnceLemmas.{item_found}
-use Rattle.hfs_record_edits.proofs.Space.{record_has, forks_have, owned_each, owned_distinct}
+use Rattle.hfs_record_edits.proofs.Space.{record_has, forks_have, owned_each}
 use Rattle.hfs_record_edits.specs.Records.{of_fork}
 use Rattle.hfs_record_edits.specs.Whole.{IsWhole}
 use Rattle.hfs_call_patches.specs.Files.{fork_of}
@@ -121,14 +123,14 @@ module _ (catalogs : CatalogIsSound) (total id : ℕ) (fork : Fork) (r : Record)
   own = with_id (catalog_in old) id r was
 
   pub f_id : f.id ≡ id
-  f_id = sym (file_id r.1 (file-not_dir r.1 is)) ∙ own.2
+  f_id = sym (file_id r.1 (not-dir r.1 is)) ∙ own.2
 
   pub given : 16 ≤ f.id
   given =
       let item = own.2 in
       let same = f_id in
       ⊎_elim
-      (λ (root : IsRoot r). absurd (true≢false (sym root.folder ∙ file-not_dir r.1 is)))
+      (λ (root : IsRoot r). absurd (true≢false (sym root.folder ∙ not-dir r.1 is)))
       (λ (some : IsGiven mdb.next_id r). let low = some.least in omega (arith, low, item, same))
       (each_in _ (catalog_in old) r sound.ids.each own.0 own.1)
 
@@ -136,7 +138,7 @@ module _ (catalogs : CatalogIsSound) (total id : ℕ) (fork : Fork) (r : Record)
   own_record : (y : Record) → In y (catalog_in old) → is_file y.1 ≡ true → (file_record_of y.1).id ≡ f.id → y ≡ r
   own_record y there file same =
       let item : is_item y.1 ≡ true = or_right (is_dir y.1) (is_file y.1) file in
-      let number : item_id y.1 ≡ id = file_id y.1 (file-not_dir y.1 file) ∙ same ∙ f_id in
+      let number : item_id y.1 ≡ id = file_id y.1 (not-dir y.1 file) ∙ same ∙ f_id in
       same_some y r (sym (item_found (catalog_in old) y (sound_once mdb.next_id (catalog_in old) sound).items there item) ∙ ap (item_with (catalog_in old)) number ∙ was)
 
   -- ---- its blocks
@@ -158,7 +160,7 @@ module _ (catalogs : CatalogIsSound) (total id : ℕ) (fork : Fork) (r : Record)
       omega (arith, all, forks, two)
 
   pub own_once : (b : ℕ) → owners (blocks_of old fork f) b ≤ 1
-  own_once b = omega (arith, own_owns b, owned_distinct (owned_in old) h.space.once b)
+  own_once b = omega (arith, own_owns b, distinct-once (owned_in old) h.space.once b)
 
   pub own_marked : (b : ℕ) → 0 < owners (blocks_of old fork f) b → is_used old mdb.bitmap_start b ≡ true
   own_marked b some = owned_each (λ (x : ℕ). is_used old mdb.bitmap_start x ≡ true) (owned_in old) h.space.marked b (omega (arith, own_owns b, some))

@@ -7,6 +7,8 @@ use Rattle.hfs_btree.specs.Header.{depth_of, free_nodes}
 use Rattle.hfs_space.specs.Bitmap.{is_used}
 use Rattle.hfs_space.specs.Choice.{AreChosen, AreFreeOnce, IsRoom}
 use Rattle.hfs_space.specs.declared.choosing.Room.{Room}
+use Rattle.hfs_record_edits.proofs.Needs.{need-none}
+use Rattle.hfs_record_edits.proofs.WantsProved.{some-records}
 use Rattle.hfs_record_edits.specs.Need.{extents_need, HasNodesFor}
 use Rattle.hfs_model.specs.declared.call.Fork.{Fork}
 use Rattle.hfs_model.specs.declared.journal.Want.TheVariants as want
@@ -46,27 +48,18 @@ none_chosen used n (Some first) = record {
   parts = refl;
 }
 
--- no record wants a node
-none_wanted : (d r : ℕ) → extents_need 0 d r ≡ 0
-unfolding extents_need
-none_wanted d r = refl
-
 -- and no record comes without pieces
 none_coming : (es : List Extent) → records_coming es [] ≡ 0
 none_coming es = omega arith
 
 -- ---- which want is told
 
-some_coming : (n d r free : ℕ) → free < extents_need n d r → 1 ≤ n
-some_coming zero d r free less = absurd (let none = none_wanted d r in omega (arith, less, none))
-some_coming (suc n) d r free less = omega arith
-
 nodes_told : (most : ℕ) (es pieces : List Extent) (store : Store) (nodes : NodesWanted) → IsWantOfNodes (records_coming es pieces) store nodes → records_coming es pieces ≤ div_ceil most 3 → IsForkWant most (want.ExtentNodes nodes.free nodes.depth)
 nodes_told most es pieces store nodes is few = (
   records_coming es pieces,
   length (overflow_of store),
   record {
-    some = some_coming (records_coming es pieces) (depth_of store) (length (overflow_of store)) (free_nodes store) is.few;
+    some = some-records (records_coming es pieces) (depth_of store) (length (overflow_of store)) (free_nodes store) is.few;
     few = few;
     empty = λ none. ap (λ (o : Overflow). length o) (empty-content store (sym is.depth ∙ none));
     wanting = (let need = ap (λ (d : ℕ). extents_need (records_coming es pieces) d (length (overflow_of store))) is.depth in let less = is.few in let free = is.free in omega (arith, need, less, free));
@@ -137,6 +130,6 @@ module _ (total : ℕ) (old : Blocks) (h : AreBlocksSound total old) (fork : For
     is =
         sym (ap (λ (b : Bool). cond b (Some (want.ExtentNodes (free_nodes (extents_nodes old)) (depth_of (extents_nodes old)))) None)
         (le-ltb (free_nodes (extents_nodes old)) (extents_need (records_coming (extents_of old fork f) []) (depth_of (extents_nodes old)) (length (overflow_in old)))
-        (let need = ap (λ (k : ℕ). extents_need k (depth_of (extents_nodes old)) (length (overflow_in old))) (none_coming (extents_of old fork f)) ∙ none_wanted (depth_of (extents_nodes old)) (length (overflow_in old)) in omega (arith, need))))
+        (let need = ap (λ (k : ℕ). extents_need k (depth_of (extents_nodes old)) (length (overflow_in old))) (none_coming (extents_of old fork f)) ∙ need-none (depth_of (extents_nodes old)) (length (overflow_in old)) in omega (arith, need))))
         ∙ sym (enough_blocks (supply_in old) (growth_of wanted (extents_of old fork f) []) (omega (arith, none)));
   }

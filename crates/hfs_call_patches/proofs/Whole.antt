@@ -12,6 +12,7 @@ use Rattle.hfs_fields.specs.declared.file_record.FileRecord.{FileRecord}
 use Rattle.hfs_fields.specs.Keys.{cat_cmp}
 use Rattle.hfs_fields.specs.Records.{is_file, is_bit_set, file_record_of}
 use Rattle.hfs_btree.specs.Pairs.{Rises}
+use Rattle.hfs_space.proofs.OwnedOnce.{distinct-once}
 use Rattle.hfs_space.specs.Bitmap.{bitmap_len, is_used, clear_count}
 use Rattle.hfs_space.specs.Owners.{catalog_fork, extents_in, owned_blocks, owners, is_stray_block}
 use Rattle.hfs_space.specs.Sound.{IsTreeFile, AreForksSound, IsSpaceSound}
@@ -23,6 +24,7 @@ use Rattle.hfs_model.specs.Volume.{Volume, Items, Entry}
 use Rattle.hfs_model.specs.Lawful.{AreLawful, IsLawful, Has}
 use Rattle.hfs_model.specs.Changes.{change, changed_to}
 use Rattle.hfs_model.proofs.KeepsCalls.{edit_keeps, same_entry}
+use Rattle.hfs_catalog.proofs.FileRecords.{not-dir}
 use Rattle.hfs_catalog.specs.Records.{Record, has_id, item_with, has_thread}
 use Rattle.hfs_catalog.specs.Lookups.{thread_of}
 use Rattle.hfs_catalog.specs.Items.{file_of, item_of, items_in}
@@ -38,12 +40,12 @@ use Rattle.hfs_record_edits.specs.Sound.{IsNearlySound}
 use Rattle.hfs_record_edits.specs.SettingLaws.{IsChoice}
 use Rattle.hfs_record_edits.proofs.FromLawful.{sound}
 use Rattle.hfs_record_edits.proofs.Items.{has_item}
-use Rattle.hfs_record_edits.proofs.Made.{file_item, file_set, file-not_dir}
+use Rattle.hfs_record_edits.proofs.Made.{file_item, file_set}
 use Rattle.hfs_record_edits.proofs.Maps.{get_put, same_item_at}
 use Rattle.hfs_record_edits.proofs.SetItems as setting
 use Rattle.hfs_record_edits.proofs.SetMakes.{set_numbers}
 use Rattle.hfs_record_edits.proofs.Linked.{sound_once}
-use Rattle.hfs_record_edits.proofs.Space.{owned_each, each_owned, owned_distinct, distinct_owned}
+use Rattle.hfs_record_edits.proofs.Space.{owned_each, each_owned, distinct_owned}
 use Rattle.hfs_record_edits.specs.Swaps.{Swaps}
 use Rattle.hfs_record_edits.proofs.SwapLemmas.{swapped_find}
 use Rattle.hfs_model.specs.Forks.{resized, written, fork_bytes, item_with_fork}
@@ -65,13 +67,13 @@ space_moved : (blocks after : ℕ → List ℕ) (old new : Mdb) (owned now_owned
 space_moved blocks after old new owned now_owned come go moved once none set others free h = record {
   once = distinct_owned now_owned (λ b. elim (cases_lt 0 (owners come b)) [
     | inl some ↦ omega (arith, moved b, once b, none b some)
-    | inr none_came ↦ omega (arith, moved b, none_came, owned_distinct owned h.once b)
+    | inr none_came ↦ omega (arith, moved b, none_came, distinct-once owned h.once b)
   ]);
   marked = each_owned _ now_owned (λ b some. elim (cases_lt 0 (owners come b)) [
     | inl came ↦ set b came
     | inr none_came ↦
         let before : 0 < owners owned b = omega (arith, moved b, none_came, some) in
-        let stays : owners go b ≡ 0 = omega (arith, moved b, none_came, some, owned_distinct owned h.once b) in
+        let stays : owners go b ≡ 0 = omega (arith, moved b, none_came, some, distinct-once owned h.once b) in
         others b before (omega (arith, none_came)) stays ∙ owned_each _ owned h.marked b before
   ]);
   counted = free;
@@ -104,7 +106,7 @@ stray_moved blocks after old new owned now_owned came went b moved once none cle
 -- a fork of the record's item has the bytes of the file's
 pub is_file_bytes : (old : Blocks) (fork : Fork) (r : Record) → is_file r.1 ≡ true → fork_bytes fork (item_of (contents_in old) (catalog_in old) r).kind ≡ bytes_of old fork (file_record_of r.1)
 unfolding file_of contents_in
-is_file_bytes old fork r is = ap (λ (x : Item). fork_bytes fork x.kind) (file_item (contents_in old) (catalog_in old) r (file-not_dir r.1 is)) ∙ by fork
+is_file_bytes old fork r is = ap (λ (x : Item). fork_bytes fork x.kind) (file_item (contents_in old) (catalog_in old) r (not-dir r.1 is)) ∙ by fork
   where
     by : (k : Fork) → fork_bytes k (file_of (has_thread (catalog_in old) (file_record_of r.1).id) (contents_in old (file_record_of r.1)) r.0 (file_record_of r.1)).kind ≡ bytes_of old k (file_record_of r.1)
     by DataFork = refl
@@ -261,7 +263,7 @@ module _ (law : OwnedAreWithin) (records : ItemsAreRecords) (catalogs : CatalogI
 
   stray_same : (b : ℕ) → b < mdb.allocation_blocks → is_stray_in new b ≡ is_stray_in old b
   stray_same b within =
-      stray_moved old new mdb (mdb_in new) (owned_in old) (owned_in new) (owners d.come b) (owners d.go b) b (owned_same b) (owned_distinct (owned_in old) h.space.once b) (unmarked b)
+      stray_moved old new mdb (mdb_in new) (owned_in old) (owned_in new) (owners d.come b) (owners d.go b) b (owned_same b) (distinct-once (owned_in old) h.space.once b) (unmarked b)
       (d.moves.free b) (λ some. here b ∙ d.bits.clear b some)
       (λ some. let owns = gone_owned b in contents.none_come catalogs total id fork r bytes now wrote old new h was d b (omega (arith, owns, some)))
       (λ none stays. here b ∙ d.bits.others b (omega (arith, within)) none stays)
@@ -329,7 +331,7 @@ module _ (law : OwnedAreWithin) (records : ItemsAreRecords) (catalogs : CatalogI
       (contents.own_contents catalogs total id fork r bytes now wrote old new h was d)
       ∙ ap (file_of (has_thread (catalog_in old) f.id) (with_content fork bytes (contents_in old f)) r.0) d.file_is
       ∙ changed_item (has_thread (catalog_in old) f.id) (contents_in old f) r.0 f mdb.allocation_block_size fork bytes d.first now
-      ∙ ap (item_with_fork mdb.allocation_block_size fork bytes now) (sym (file_item (contents_in old) (catalog_in old) r (file-not_dir r.1 d.was)))
+      ∙ ap (item_with_fork mdb.allocation_block_size fork bytes now) (sym (file_item (contents_in old) (catalog_in old) r (not-dir r.1 d.was)))
 
   pub held : items_in (contents_in new) (catalog_in new) ≡ map.insert (items_in (contents_in old) (catalog_in old)) id (item_with_fork mdb.allocation_block_size fork bytes now item)
   held = kept_items ∙ ap (map.insert (items_in (contents_in old) (catalog_in old)) id) item_now

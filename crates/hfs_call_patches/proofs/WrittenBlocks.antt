@@ -51,14 +51,6 @@ module _ (ns : List ℕ) (from count offset given a b : ℕ) (first_zero : 0 < c
           let high = last t.has.some in
           subst (λ (x : ℕ). In x (drop a (take b ns))) t.is (in_part ns a b p (omega (arith, low, starts)) (omega (arith, ends, high)) t.within)
 
--- runs within fewer blocks lie within more
-pub runs_small : (runs : List Run) (total most : ℕ) → total ≤ most → AreRunsWithin runs total → AreRunsWithin runs most
-runs_small runs total most le h = record {
-  within = All-weaker (λ (r : Run). r.first + r.count ≤ total) (λ (r : Run). r.first + r.count ≤ most) (λ r fits. omega (arith, fits, le)) runs h.within;
-  few = h.few;
-  counted = h.counted;
-}
-
 -- the blocks from that of the first to that of the last
 pub written_by : (from end offset given first last : ℕ) → first ≡ first_written from end offset given → last ≡ last_written from end offset given → from ≤ end
     → (ns xs ys : List ℕ) → ys ≡ drop (first / 512) xs → xs ≡ take (node_count last) ns → AreWritten ns from (end - from) offset given ys

@@ -132,7 +132,7 @@ thread_first catalog id h records names =
 
 -- ---- an item by its thread
 
-missed : (test : Record → Bool) (catalog : Catalog) (r : Record) → find test catalog ≡ None → In r catalog → test r ≡ true → ⊥
+pub missed : (test : Record → Bool) (catalog : Catalog) (r : Record) → find test catalog ≡ None → In r catalog → test r ≡ true → ⊥
 missed test [] r none i e = i
 missed test (q ∷ rest) r none i e = elim (test q) as (λ (b : Bool). test q ≡ b → cond b (Some q) (find test rest) ≡ None → ⊥) [
   | true ↦ λ passes some. none_some q some

@@ -74,7 +74,7 @@ module _ (contents : Contents) (whole : Catalog) (d : ℕ) where
 
 -- ---- where all children are one item
 
-id_cons : (k x : ℕ) (xs : List ℕ) → count_by (λ (z : ℕ). eqb z k) (x ∷ xs) ≡ cond (eqb x k) 1 0 + count_by (λ (z : ℕ). eqb z k) xs
+pub id_cons : (k x : ℕ) (xs : List ℕ) → count_by (λ (z : ℕ). eqb z k) (x ∷ xs) ≡ cond (eqb x k) 1 0 + count_by (λ (z : ℕ). eqb z k) xs
 id_cons k x xs = sum_by-cons (λ (z : ℕ). cond (eqb z k) 1 0) x xs
 
 pub none_same : (k : ℕ) (xs : List ℕ) → Each (IsOther k) xs → count_by (λ (z : ℕ). eqb z k) xs ≡ 0

@@ -9,6 +9,7 @@ use Rattle.std.proofs.lemmas.List.Sums.{sum_by-cons, length-filter, count_by-le-
 use Rattle.hfs_fields.specs.Records.{is_item, item_id}
 use Rattle.hfs_model.specs.Chains.{Leads}
 use Rattle.hfs_model.proofs.ChainLemmas.{Ends, no_longer}
+use Rattle.hfs_catalog.proofs.Lawful.{id_cons}
 use Rattle.hfs_catalog.specs.Records.{Record, Catalog, item_with, items_of, item_ids}
 use Rattle.hfs_catalog.specs.Parents.{parent_in, ReachesRoot, reaches_root}
 use Rattle.hfs_catalog.proofs.Held.{none_some}
@@ -18,17 +19,14 @@ same_some o x y e f = cc
 
 -- ---- the IDs of a catalog
 
-cons : (x y : ℕ) (ys : List ℕ) → count_by (λ (z : ℕ). eqb z x) (y ∷ ys) ≡ cond (eqb y x) 1 0 + count_by (λ (z : ℕ). eqb z x) ys
-cons x y ys = sum_by-cons (λ (z : ℕ). cond (eqb z x) 1 0) y ys
-
 listed : (catalog : Catalog) (x : ℕ) (r : Record) → item_with catalog x ≡ Some r → 0 < count_by (λ (z : ℕ). eqb z x) (item_ids catalog)
 listed [] x r is = absurd (none_some r is)
 listed (s ∷ rest) x r is = elim (is_item s.1) as (λ (b : Bool). cond (b && eqb (item_id s.1) x) (Some s) (item_with rest x) ≡ Some r → 0 < count_by (λ (z : ℕ). eqb z x) (map (λ (q : Record). item_id q.1) (cond b (s ∷ items_of rest) (items_of rest)))) [
   | true ↦ λ found. elim (eqb (item_id s.1) x) as (λ (b : Bool). eqb (item_id s.1) x ≡ b → cond b (Some s) (item_with rest x) ≡ Some r → 0 < count_by (λ (z : ℕ). eqb z x) (item_id s.1 ∷ item_ids rest)) [
     | true ↦ λ e here.
         let one : ◌≡◌ {A = ℕ} (cond (eqb (item_id s.1) x) 1 0) 1 = ap (λ (b : Bool). cond b 1 0) e in
-        omega (arith, cons x (item_id s.1) (item_ids rest), one)
-    | false ↦ λ e later. omega (arith, cons x (item_id s.1) (item_ids rest), listed rest x r later)
+        omega (arith, id_cons x (item_id s.1) (item_ids rest), one)
+    | false ↦ λ e later. omega (arith, id_cons x (item_id s.1) (item_ids rest), listed rest x r later)
   ] refl found
   | false ↦ λ later. listed rest x r later
 ] is

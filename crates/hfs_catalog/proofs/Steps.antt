@@ -126,7 +126,7 @@ none_under dir (r ∷ rest) h =
     let other : is_child_of dir r ≡ false = and_right (is_item r.1) (eqb r.0.parent dir) (ne_eqb r.0.parent dir (λ (e : r.0.parent ≡ dir). omega (arith, h.0))) in
     ap (λ (b : Bool). cond b (r ∷ children_of rest dir) (children_of rest dir)) other ∙ none_under dir rest h.1
 
-all_above : (dir : ℕ) (r : Record) (rest : Catalog) → dir < r.0.parent → Each (λ q. cat_cmp r.0 q.0 ≡ Less) rest → Each (λ q. dir < q.0.parent) rest
+pub all_above : (dir : ℕ) (r : Record) (rest : Catalog) → dir < r.0.parent → Each (λ q. cat_cmp r.0 q.0 ≡ Less) rest → Each (λ q. dir < q.0.parent) rest
 all_above dir r [] lt h = tt
 all_above dir r (q ∷ rest) lt h = (omega (arith, parents_rise r.0 q.0 h.0), all_above dir r rest lt h.1)
 

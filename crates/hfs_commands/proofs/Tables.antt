@@ -2,6 +2,7 @@
 use Rattle.std.proofs.Common.{◌≡◌, ◌∙◌, sym, ap, subst, ℕ, Bool, true, false, List, [], ◌++◌, Option, Result, Ok, Err, OnOk, OnErr, append_assoc}
 use Rattle.std.specs.Io.KnownBytes.{Appends}
 use Rattle.std.proofs.KnownBytes.{Appends-nil}
+use Rattle.hfs_texts.proofs.FrontLemmas.{front_first, front_next}
 use Rattle.hfs_items.specs.ToldRows.{ToldRow, told_rows}
 use Rattle.hfs_table.specs.Lines.{head_text}
 use Rattle.hfs_table.specs.declared.format.Format.{Format}
@@ -10,7 +11,6 @@ use Rattle.hfs_items.specs.Levels.{Going}
 use Rattle.hfs_source.specs.Images.{OfEach}
 use Rattle.hfs_commands.specs.Entries.{entries_in}
 use Rattle.hfs_commands.specs.Items.{MovesRow, WritesItems, WritesItemsFront, items_text, rows_text, table_text}
-use Rattle.hfs_volume.proofs.Fronts.{front_first, front_next}
 use Rattle.hfs_commands.proofs.Rows.{whole_next}
 
 -- these bytes went out; the text that is gathered and the lines of the rows that are to come make the rest

@@ -18,11 +18,6 @@ pub taken_before-next : (path : List ℕ) (told : Option (List ℕ)) (number : �
 taken_before-next path told number more told_is =
     told_is ∙ taken_before-later path number (omega (arith, more)) ∙ sym (taken_before-later path (number + 1) (omega arith))
 
--- what holds at success gives another fact at success
-pub if_ok : {A E : Type 0} (result : Result A E) (P Q : A → Type 0) → ((x : A) → P x → Q x) → IfOk result P → IfOk result Q
-if_ok (Ok x) P Q f h = f x h
-if_ok (Err e) P Q f h = tt
-
 -- a name is laid piece by piece
 pub path_beside-pieces : {name : List ℕ} (path : List ℕ) (number : ℕ) → name ≡ path ++ (codes "." ++ (decimal number ++ codes ".new")) → name ≡ path_beside path number
 unfolding path_beside

@@ -1,10 +1,10 @@
 -- A header and two forks that are written one behind the other are a MacBinary file.
 use Rattle.std.proofs.Common.{◌≡◌, ap, subst, ℕ, List, ◌++◌, Option}
 use Rattle.std.specs.Io.KnownBytes.{Appends}
+use Rattle.hfs_texts.proofs.FrontLemmas.{front_first, front_next}
 use Rattle.hfs_encodings.specs.MacBinary.{filled, macbinary_bytes, macbinary_head_bytes}
 use Rattle.hfs_encodings.specs.declared.macbinary.MacBinaryHead.{MacBinaryHead}
 use Rattle.hfs_texts.specs.Writing.{AppendsFront}
-use Rattle.hfs_volume.proofs.Fronts.{front_first, front_next}
 use Rattle.hfs_commands.proofs.Rows.{whole_next}
 
 module _ (header : MacBinaryHead) (data_fork resource_fork head : List ℕ) (head-is : head ≡ macbinary_head_bytes header) where

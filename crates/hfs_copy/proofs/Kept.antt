@@ -2,10 +2,6 @@
 use Rattle.std.proofs.Common.{ℕ, zero, suc, ◌≤◌, List, [], ◌∷◌, take, Result, Ok, Err, OnOk, arith}
 use Rattle.hfs_fields.specs.Each.{Each}
 
-pub on-ok : {T E : Type 0} (r : Result T E) (P Q : Type 0) → (P → Q) → OnOk r P → OnOk r Q
-on-ok (Ok x) P Q f p = f p
-on-ok (Err e) P Q f p = tt
-
 pub each-take : (P : ℕ → Type 0) (a b : ℕ) (xs : List ℕ) → a ≤ b → Each P (take b xs) → Each P (take a xs)
 each-take P zero b xs le h = tt
 each-take P (suc a) zero xs le h = absurd (omega (arith, le))

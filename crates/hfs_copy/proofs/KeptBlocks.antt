@@ -15,6 +15,7 @@ use Rattle.hfs_blocks.specs.Layers.{Numbered, Changes, changes, numbers, with_ch
 use Rattle.hfs_space.proofs.AllBlocks.{has-numbers}
 use Rattle.hfs_check.specs.Sound.{IsImageLength}
 use Rattle.hfs_source.specs.Sparse.{zero_block}
+use Rattle.hfs_volume.proofs.OwnedStay.{in_range, range_in}
 use Rattle.hfs_volume.specs.Image.{ImageValue, is_changed, patched}
 use Rattle.hfs_volume.specs.Laid.{laid, laid_from}
 use Rattle.hfs_volume.proofs.Laid.{AreBlocks-over, block_at-laid}
@@ -132,22 +133,8 @@ module _ (new : ℕ → List ℕ) (Goes Stays : ℕ → Type 0) where
 
 -- ---- the numbers of blocks
 
-in-range : (a c n : ℕ) → In n (range_with_len a c) → (a ≤ n) × (n < a + c)
-in-range a zero n i = absurd i
-in-range a (suc c) n i = ⊎_elim
-    (λ (here : a ≡ n). (omega (arith, here), omega (arith, here)))
-    (λ (there : In n (range_with_len (a + 1) c)). let h = in-range (a + 1) c n there in (omega (arith, h.0), omega (arith, h.1)))
-    i
-
 in-first : (c n : ℕ) → In n (range_with_len 0 c) → n < c
-in-first c n i = omega (arith, (in-range 0 c n i).1)
-
-range-in : (a c n : ℕ) → a ≤ n → n < a + c → In n (range_with_len a c)
-range-in a zero n low high = absurd (omega (arith, low, high))
-range-in a (suc c) n low high = ⊎_elim
-    (λ (same : a ≡ n). inl same)
-    (λ (other : a ≡ n → ⊥). inr (range-in (a + 1) c n (omega (arith, low, other)) (omega (arith, high))))
-    (cases_eq a n)
+in-first c n i = omega (arith, (in_range 0 c n i).1)
 
 range-below : (total a c : ℕ) → a + c ≤ total → Each (λ n. n < total) (range_with_len a c)
 range-below total a zero le = tt
@@ -290,7 +277,7 @@ module _ (changed : Numbered) (base current : List ℕ) (listed : List ℕ) (fir
         (λ (came : changes first n ≡ Some (new n)). absurd (none-is (new n) (sym none ∙ some-kept n came)))
         (λ (stays : new n ≡ block_at base n). shown n below ∙ stays)
         (each_in (λ m. (changes first m ≡ Some (new m)) ⊎ (new m ≡ block_at base m)) (range_with_len 0 (block_count base)) n differ.all
-        (range-in 0 (block_count base) n (omega arith) (omega (arith, below))));
+        (range_in 0 (block_count base) n (omega arith) (omega (arith, below))));
     zeros = each-mono (λ n. (n < block_count base) × ((changes kept n ≡ Some (new n)) ⊎ (new n ≢ zero_block)))
         (λ n. changes kept n ≡ None → block_at current n ≢ zero_block) listed
         (λ n h none e. ⊎_elim

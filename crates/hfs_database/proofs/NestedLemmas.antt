@@ -3,10 +3,11 @@ use Rattle.std.proofs.Common.{◌≡◌, refl, ℕ, List, [], ◌∷◌, ◌++�
 use Rattle.std.specs.Prelude.{◌==◌, ◌%◌, ◌+◌, Option, codes}
 use Rattle.std.specs.Borrow.{Bor}
 use Rattle.sqlite_value.specs.Order.{Row, column}
+use Rattle.hfs_page.proofs.EscapeLemmas.{no-delimiters}
 use Rattle.hfs_page.specs.Escapes.{escaped}
 use Rattle.hfs_page.specs.Markup.{Leads}
 use Rattle.hfs_page.proofs.MarkupLemmas.{Passes, ◌▹◌, at, constant, goes-if, inside, nested, text-goes}
-use Rattle.hfs_page.proofs.NestedItems.{escaped-passes, escaped-plain, link-end-passes, link-start-passes, linked}
+use Rattle.hfs_page.proofs.NestedItems.{escaped-passes, link-end-passes, link-start-passes, linked}
 use Rattle.hfs_page.proofs.NestedPages.{body, page-head-passes}
 use Rattle.hfs_database.specs.declared.collection_texts.CollectionTexts.{CollectionTexts}
 use Rattle.hfs_database.specs.PageLines.{break_text, content_text, contents_text, counts_text, dates_text, span_text, text_of, volume_head, volume_text, volumes_text}
@@ -73,7 +74,7 @@ module _ (texts : CollectionTexts) (dress : IsCollectionDress texts) where
   front-passes : Passes [] volume-list (front_text texts)
   unfolding front_text
   front-passes =
-      page-head-passes (texts.shared_style.now ++ texts.style.now) (escaped texts.name.now) style-leads (escaped-plain texts.name.now)
+      page-head-passes (texts.shared_style.now ++ texts.style.now) (escaped texts.name.now) style-leads (no-delimiters texts.name.now)
       ▹ inside body [] (codes "ul" ∷ codes "div" ∷ codes "section" ∷ []) texts.columns.now dress.columns
 
   end-passes : Passes content-list [] (end_text texts)

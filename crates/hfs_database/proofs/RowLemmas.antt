@@ -33,9 +33,6 @@ puts_one_more g (r ∷ rows) row old mid new first before after puts one =
 pub puts_none : {S : Type 0} (g : Ghosts S) (start : Held S) (rows : List TakenRow) → rows ≡ [] → HasPutSince g start rows start no_rows
 puts_none g start rows none = subst (λ (rows : List TakenRow). HasPutSince g start rows start no_rows) (sym none) (refl, refl)
 
-pub has_not : {X : Type 0} → true ≡ false → X
-has_not is = absurd (true≢false is)
-
 -- the taker was given all rows, and none before them
 pub puts_all : {S : Type 0} (g : Ghosts S) (Gives : List TakenRow → List TakenRow → Type 0) (start begun now : Held S) (before rows : List TakenRow) (last : LastRows) (failed : Bool)
     → before ≡ [] → begun ≡ start → Gives before rows → failed ≡ false → ∥ (failed ≡ false → HasPutSince g begun rows now last) ∥₁ → PutsAll g (Gives []) start now

@@ -15,10 +15,6 @@ use Rattle.hfs_encodings.specs.IncomingAppleDouble.{PartLies, PartsLie, apple_do
 
 -- ---- reads that fail
 
-pub on_err : {T E : Type 0} (r : Result T E) (P : Type 0) → P → OnErr r P
-on_err (Ok x) P p = tt
-on_err (Err e) P p = p
-
 -- what fails later failed before
 pub some_fail_later : (Holds : List ℕ → Type 0) (new old : ℕ → ℕ → Type 0) → FailsWhere new old → SomeFail Holds new → SomeFail Holds old
 some_fail_later Holds new old later some = ∥∥₁_map some (λ f. (f.0, f.1, f.2, later f.0 f.1 f.3))

@@ -18,16 +18,12 @@ use Rattle.hfs_btree.specs.Sound.{part_of}
 use Rattle.hfs_btree_checks.specs.Shape.{unless, ◌or_else◌, first_fault, is_header_node, is_header_record, has_header, is_within, is_map_result, is_map_node, chain_fault, has_map, is_result_at, is_right, is_own, turn_fault, levels_fault, names_ends, has_ends, has_counts, structure_fault}
 use Rattle.hfs_btree_checks.specs.Order.{first_node, rise_fault, pair_leaves, leaf_order_fault, are_parts_in_order, are_keys_in_order, is_keyed, index_order_fault, has_keys, key_fault, index_keys_at, index_keys}
 use Rattle.hfs_image.specs.Marked.{where_right, chain_of, map_chain, marked_of, needed_of_map, needed_of_tree, IsSameNode, AgreeOnMarked, HoldSameTree, TreesAnswerSame}
-use Rattle.hfs_btree_checks.proofs.ShapeLawLemmas.{first-none}
+use Rattle.hfs_btree_checks.proofs.ShapeLawLemmas.{first-none, unless-none}
 use Rattle.hfs_fields.proofs.PartLemmas.{flat_map-same}
 
 first_node-same : (p q : Spot → Bool) (ss : List Spot) → Each (λ s. p s ≡ q s) ss → first_node p ss ≡ first_node q ss
 first_node-same p q [] each = refl
 first_node-same p q (s ∷ ss) each = λ i. if each.0 i then first_node-same p q ss each.1 i else Some s.n
-
-pub unless-none : (t : Bool) → unless t ≡ None → t ≡ true
-unless-none true e = refl
-unless-none false e = absurd (none-some 0 (sym e))
 
 pub or-same : (a b c d : Option ℕ) → b ≡ a → (a ≡ None → d ≡ c) → (b or_else d) ≡ (a or_else c)
 or-same None b c d e f = ap (λ (o : Option ℕ). o or_else d) e ∙ f refl

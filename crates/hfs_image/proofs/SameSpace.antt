@@ -9,6 +9,7 @@ use Rattle.hfs_fields.specs.declared.mdb.Mdb.{Mdb}
 use Rattle.hfs_fields.specs.Each.{Each}
 use Rattle.hfs_fields.proofs.ElementLemmas.{each-at}
 use Rattle.hfs_fields.specs.First.{first_failing}
+use Rattle.hfs_source.proofs.Fetched.{range-at}
 use Rattle.hfs_space.specs.Bitmap.{bitmap_len, is_marked, is_used, count_below, clear_count}
 use Rattle.hfs_space.specs.Faults.{block_fault, free_fault, space_fault, stray_count}
 use Rattle.hfs_space.specs.Owners.{owners, is_block_sound, is_stray_block}
@@ -20,10 +21,6 @@ use Rattle.hfs_image.specs.Needed.{AgreeOn}
 each-range : (P : ℕ → Type 0) (a n : ℕ) → ((k : ℕ) → k < a + n → P k) → Each P (range_with_len a n)
 each-range P a zero f = tt
 each-range P a (suc n) f = (f a (omega arith), each-range P (a + 1) n (λ k lt. f k (omega arith)))
-
-range-each : (P : ℕ → Type 0) (a n : ℕ) → Each P (range_with_len a n) → (k : ℕ) → k < n → P (a + k)
-range-each P a n h k lt =
-    subst P (get_or-range_with_len a n k 0 lt) (each-at P (range_with_len a n) k 0 h (omega (arith, length-range_with_len a n, lt)))
 
 -- ---- tests that answer the same
 
@@ -50,7 +47,7 @@ module _ (old new : Blocks) (mdb : Mdb) (h : AgreeOn (range_with_len mdb.bitmap_
   pub bit-same : (k : ℕ) → k < mdb.allocation_blocks → is_used new mdb.bitmap_start k ≡ is_used old mdb.bitmap_start k
   bit-same k lt =
       ap (λ (block : List ℕ). is_marked block (k % 4096))
-      (range-each (λ n. new n ≡ old n) mdb.bitmap_start (bitmap_len mdb.allocation_blocks) h (k / 4096) (omega arith))
+      (range-at (λ n. new n ≡ old n) mdb.bitmap_start (bitmap_len mdb.allocation_blocks) h (k / 4096) (omega arith))
 
   pub clear-same : clear_count new mdb.bitmap_start mdb.allocation_blocks ≡ clear_count old mdb.bitmap_start mdb.allocation_blocks
   clear-same = below-same (λ k. not (is_used new mdb.bitmap_start k)) (λ k. not (is_used old mdb.bitmap_start k)) mdb.allocation_blocks (λ k lt. ap not (bit-same k lt))

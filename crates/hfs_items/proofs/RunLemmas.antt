@@ -11,7 +11,7 @@ use Rattle.hfs_btree.specs.Pairs.{Rises}
 use Rattle.hfs_catalog.specs.Records.{Record, Catalog, has_thread}
 use Rattle.hfs_catalog.specs.Lookups.{children_of}
 use Rattle.hfs_items.specs.Levels.{first_under}
-use Rattle.hfs_catalog.proofs.Steps.{parents_rise}
+use Rattle.hfs_catalog.proofs.Steps.{parents_rise, all_above}
 
 least : (r : Record) (rest : Catalog) (j : ℕ) (d : Record) → Each (λ q. cat_cmp r.0 q.0 ≡ Less) rest → j < length rest → r.0.parent ≤ (get_or rest j d).0.parent
 least r [] j d h lt = absurd (omega arith)
@@ -45,17 +45,13 @@ none_later id (q ∷ ps) h =
     ap (λ (b : Bool). cond b (q ∷ filter (of_id id) ps) (filter (of_id id) ps)) (ne_eqb q.0.parent id (λ (same : q.0.parent ≡ id). omega (arith, h.0, same)))
     ∙ none_later id ps h.1
 
-all_later : (id : ℕ) (r : Record) (ps : Catalog) → id < r.0.parent → Each (λ q. cat_cmp r.0 q.0 ≡ Less) ps → Each (λ q. id < q.0.parent) ps
-all_later id r [] lt h = tt
-all_later id r (q ∷ ps) lt h = (omega (arith, lt, parents_rise r.0 q.0 h.0), all_later id r ps lt h.1)
-
 from_here : (id : ℕ) (ps : Catalog) → Rises cat_cmp ps → ((k : ℕ) (d : Record) → k < length ps → id ≤ (get_or ps k d).0.parent) → first_under id ps ≡ filter (of_id id) ps
 from_here id [] h from = refl
 from_here id (r ∷ ps) h from = elim (eqb r.0.parent id) as (λ (b : Bool). eqb r.0.parent id ≡ b → cond b (r ∷ first_under id ps) [] ≡ cond b (r ∷ filter (of_id id) ps) (filter (of_id id) ps)) [
   | true ↦ λ is. ap (λ (l : Catalog). r ∷ l) (from_here id ps h.1 (λ k d lt. from (suc k) d (omega arith)))
   | false ↦ λ other.
       let above : id < r.0.parent = strict r.0.parent (from 0 r (omega arith)) other in
-      sym (none_later id ps (all_later id r ps above h.0))
+      sym (none_later id ps (all_above id r ps above h.0))
 ] refl
   where
     strict : (p : ℕ) → id ≤ p → eqb p id ≡ false → id < p

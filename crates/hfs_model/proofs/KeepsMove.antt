@@ -15,7 +15,7 @@ use Rattle.hfs_model.specs.Lawful.{Has, IsFolder, AreLawful, IsLawful, LiesIn, p
 use Rattle.hfs_model.specs.Choices.{to_move, is_bad_move, lies_in}
 use Rattle.hfs_model.specs.Changes.{cat_move, moved, change}
 use Rattle.hfs_model.proofs.Counts.{count_added}
-use Rattle.hfs_model.proofs.Facts.{same_some, true_false, not_refused, found_folder, folder_is, not_held, not_full}
+use Rattle.hfs_model.proofs.Facts.{same_some, true_false, not_refused, folder_is, not_held, not_full, not_not}
 use Rattle.hfs_model.proofs.Parents.{has_parent, parent_has, no_item, lies_in_is}
 use Rattle.hfs_model.proofs.Keeps.{get_here, get_there, found_in, still_has, still_folder, turned_name}
 use Rattle.hfs_model.proofs.KeepsCalls.{kept_touched, IsChild, child_chosen, chained, same_entry}
@@ -134,7 +134,7 @@ cat_move_keeps v dir name new_dir now h = elim (to_move v dir name new_dir) as (
       let g = not_refused _ FOLDER_FULL _ e f.1 in
       let same = same_entry a.0 e g.1 in
       let child = subst (λ (x : Entry). IsChild v dir name x) same (child_chosen v dir name a.0 a.1) in
-      let into = folder_is v.items new_dir (found_folder _ b.0) in
+      let into = folder_is v.items new_dir (not_not _ b.0) in
       let fine = subst (λ (x : Entry). is_bad_move (entries_of v) x new_dir ≡ false) same c.0 in
       kept_touched _ _ new_dir now (kept_touched _ _ dir now (kept_moved v.items v.next_id e.0 new_dir e.1 h child.has
       (not_the_root v dir name e h child) into

@@ -201,7 +201,7 @@ record OtherCode {A : Type 0} (r : Result A ℤ) : Type 0 where
 pub code_is : {A : Type 0} (x y : ℤ) → ◌≡◌ {A = Result A ℤ} (Err x) (Err y) → x ≡ y
 code_is x y e = cc
 
-no_code : {A : Type 0} (x : A) (y : ℤ) → Ok x ≡ Err y → ⊥
+pub no_code : {A : Type 0} (x : A) (y : ℤ) → Ok x ≡ Err y → ⊥
 no_code x y e = cc
 
 fine : {A : Type 0} (x : A) → OtherCode {A = A} (Ok x)

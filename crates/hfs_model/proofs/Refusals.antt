@@ -11,7 +11,7 @@ use Rattle.hfs_model.specs.Choices.{and_then, is_locked, lock_code, child_to_cha
 use Rattle.hfs_model.specs.Changes.{change}
 use Rattle.hfs_model.proofs.Facts.{true_false}
 use Rattle.hfs_model.specs.ForkCalls.{to_set_eof, to_write_fork, unless_past_end}
-use Rattle.hfs_model.proofs.Leaves.{code_is}
+use Rattle.hfs_model.proofs.Leaves.{code_is, no_code}
 
 -- a code that is neither 0 nor -34
 pub is_told : ℤ → Bool
@@ -21,9 +21,6 @@ is_told (negsuc n) = not (eqb n 33)
 -- a choice, or such a code
 pub record IsTold {A : Type 0} (r : Result A ℤ) : Type 0 where
   pub told : (code : ℤ) → r ≡ Err code → is_told code ≡ true
-
-no_code : {A : Type 0} (x : A) (y : ℤ) → Ok x ≡ Err y → ⊥
-no_code x y e = cc
 
 fine : {A : Type 0} (x : A) → IsTold {A = A} (Ok x)
 fine x = record { told = λ code e. absurd (no_code x code e) }

@@ -7,7 +7,7 @@ use Rattle.hfs_model.specs.declared.call.Fork.{Fork}
 use Rattle.hfs_model.specs.Volume.{Volume, Entry}
 use Rattle.hfs_model.specs.Children.{entries_of, child_named, is_folder, is_folder_kind}
 use Rattle.hfs_model.specs.Choices.{child_to_change, file_to_change, unless_locked_file, and_then, is_locked, lock_code}
-use Rattle.hfs_model.proofs.Facts.{not_refused, not_not, neither}
+use Rattle.hfs_model.proofs.Facts.{not_refused, not_not, either}
 use Rattle.hfs_model.proofs.KeepsCalls.{same_entry, err_is_ok, chained, unlocked_is}
 use Rattle.hfs_model.specs.ForkCalls.{to_set_eof, to_write_fork}
 
@@ -22,7 +22,7 @@ pub record IsFileNamed (v : Volume) (dir : ℕ) (name : List ℕ) (e : Entry) : 
   pub item : IsNamed v dir name e
   pub file : is_folder_kind e.1.kind ≡ false
 
-child_is : (v : Volume) (dir : ℕ) (name : List ℕ) (e : Entry) → child_to_change v dir name ≡ Ok e → IsNamed v dir name e
+pub child_is : (v : Volume) (dir : ℕ) (name : List ℕ) (e : Entry) → child_to_change v dir name ≡ Ok e → IsNamed v dir name e
 unfolding child_to_change
 child_is v dir name e is =
     let a = not_refused (is_locked v) (lock_code v) _ e is in
@@ -63,5 +63,5 @@ write_fork_tested v dir name fork offset bytes e is =
     let within = not_refused _ _ _ e step.2 in
     record {
       file = subst (λ (x : Entry). IsFileNamed v dir name x) (same_entry step.0 e within.1) (open_is v dir name step.0 step.1);
-      few = (neither _ _ test.0).0;
+      few = (either _ _ test.0).0;
     }

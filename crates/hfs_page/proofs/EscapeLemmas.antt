@@ -57,7 +57,7 @@ text-read (b ∷ rest) =
     read-by (b == 0x26) (b == 0x3C) (b == 0x3E) (b == 0x22) (b == 0x27) b (escaped rest) refl refl refl refl refl
     ∙ ap (λ t. b ∷ t) (text-read rest)
 
-no-delimiters : (text : List ℕ) → list_all is_no_delimiter (escaped text) ≡ true
+pub no-delimiters : (text : List ℕ) → list_all is_no_delimiter (escaped text) ≡ true
 unfolding escaped escaped_byte word-by
 no-delimiters [] = refl
 no-delimiters (b ∷ rest) =

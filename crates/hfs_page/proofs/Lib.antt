@@ -1,4 +1,4 @@
-mod EscapeLemmas
+pub mod EscapeLemmas
 pub mod MarkupLemmas
 pub mod NestedItems
 pub mod NestedPages

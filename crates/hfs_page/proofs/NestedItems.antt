@@ -16,23 +16,16 @@ use Rattle.hfs_page.specs.Sizes.{size_text, tenths_text, told_size}
 use Rattle.hfs_page.specs.Texts.{date_text, told_date, told_number, told_text}
 use Rattle.hfs_page.specs.Items as item
 use Rattle.hfs_page.specs.Items.{closings, depth_in, item_by, open_by, open_behind, rows_text}
-use Rattle.hfs_page.proofs.EscapeLemmas.{texts-escaped}
+use Rattle.hfs_page.proofs.EscapeLemmas.{texts-escaped, no-delimiters}
 use Rattle.hfs_page.proofs.MarkupLemmas.{Passes, ◌▹◌, at, constant, decimal-plain, goes-if, in-tag, tag-goes, text-goes}
 
 -- ---- texts
 
-pub escaped-plain : (t : List ℕ) → list_all is_no_delimiter (escaped t) ≡ true
-escaped-plain t = texts-escaped.no_delimiter t
-
 pub escaped-passes : (names : List (List ℕ)) (t : List ℕ) → Passes names names (escaped t)
-escaped-passes names t = text-goes names (escaped t) (escaped-plain t)
+escaped-passes names t = text-goes names (escaped t) (no-delimiters t)
 
 pub decimal-passes : (names : List (List ℕ)) (n : ℕ) → Passes names names (decimal n)
 decimal-passes names n = text-goes names (decimal n) (decimal-plain n)
-
--- a text between tags
-pub label-passes : (names : List (List ℕ)) (label : List ℕ) → list_all is_no_delimiter label ≡ true → Passes names names label
-label-passes names label plain = text-goes names label plain
 
 pub number-passes : (a b : List (List ℕ)) (label : List ℕ) (n : ℕ) → Passes a b label → Passes a b (told_number label n)
 unfolding told_number
@@ -46,20 +39,20 @@ pub date-passes : (names : List (List ℕ)) (date : ℕ) → Passes names names 
 unfolding date_text
 date-passes names date =
     goes-if (date == 0) (constant (at names) (at names) [] (λ outer. refl))
-    (escaped-passes names (take 10 (moment date)) ▹ label-passes names (codes " ") refl ▹ escaped-passes names (drop 11 (moment date)))
+    (escaped-passes names (take 10 (moment date)) ▹ text-goes names (codes " ") refl ▹ escaped-passes names (drop 11 (moment date)))
 
 tenths-pass : (names : List (List ℕ)) (tenths : ℕ) → Passes names names (tenths_text tenths)
 unfolding tenths_text
 tenths-pass names tenths =
     goes-if (tenths % 10 == 0) (decimal-passes names (tenths / 10))
-    (decimal-passes names (tenths / 10) ▹ number-passes names names (codes ".") (tenths % 10) (label-passes names (codes ".") refl))
+    (decimal-passes names (tenths / 10) ▹ number-passes names names (codes ".") (tenths % 10) (text-goes names (codes ".") refl))
 
 pub size-passes : (names : List (List ℕ)) (bytes : ℕ) → Passes names names (size_text bytes)
 unfolding size_text
 size-passes names bytes =
-    goes-if (nat_lt bytes 1024) (decimal-passes names bytes ▹ label-passes names (codes " B") refl)
-    (goes-if (nat_lt bytes 1048576) (tenths-pass names ((bytes * 10 + 512) / 1024) ▹ label-passes names (codes " KB") refl)
-    (tenths-pass names ((bytes * 10 + 524288) / 1048576) ▹ label-passes names (codes " MB") refl))
+    goes-if (nat_lt bytes 1024) (decimal-passes names bytes ▹ text-goes names (codes " B") refl)
+    (goes-if (nat_lt bytes 1048576) (tenths-pass names ((bytes * 10 + 512) / 1024) ▹ text-goes names (codes " KB") refl)
+    (tenths-pass names ((bytes * 10 + 524288) / 1048576) ▹ text-goes names (codes " MB") refl))
 
 -- ---- what is told of an item
 
@@ -101,7 +94,7 @@ module _ (names : List (List ℕ)) where
   link-start-passes None path = constant (at bold) (at bold) [] (λ outer. refl)
   link-start-passes (Some base) path =
       constant (at bold) (in-tag (codes "a") bold) (codes "<a href=\"") (λ outer. refl)
-      ▹ tag-goes (codes "a") bold (escaped (url_text base.now path)) (escaped-plain (url_text base.now path))
+      ▹ tag-goes (codes "a") bold (escaped (url_text base.now path)) (no-delimiters (url_text base.now path))
       ▹ constant (in-tag (codes "a") bold) (at (codes "a" ∷ bold)) (codes "\">") (λ outer. refl)
 
   pub link-end-passes : (base : Option (Bor (List ℕ))) → Passes (linked base) bold (link_end base)
@@ -118,15 +111,15 @@ module _ (names : List (List ℕ)) where
   unfolding item.sizes_text told_size
   sizes-pass info =
       (constant (at names) (at span) (codes "<span>") (λ outer. refl) ▹ size-passes span (info.data_len + info.res_len))
-      ▹ number-passes span span (codes "\n(data fork ") info.data_len (label-passes span (codes "\n(data fork ") refl)
-      ▹ number-passes span span (codes " bytes, resource fork ") info.res_len (label-passes span (codes " bytes, resource fork ") refl)
+      ▹ number-passes span span (codes "\n(data fork ") info.data_len (text-goes span (codes "\n(data fork ") refl)
+      ▹ number-passes span span (codes " bytes, resource fork ") info.res_len (text-goes span (codes " bytes, resource fork ") refl)
       ▹ constant (at span) (at names) (codes " bytes)</span>") (λ outer. refl)
 
   pub type-passes : (info : Info) → Passes names names (item.type_text info)
   unfolding item.type_text
   type-passes info =
       told-passes names span (codes "<span>") (take 4 info.finder) (constant (at names) (at span) (codes "<span>") (λ outer. refl))
-      ▹ told-passes span span (codes " ") (take 4 (drop 4 info.finder)) (label-passes span (codes " ") refl)
+      ▹ told-passes span span (codes " ") (take 4 (drop 4 info.finder)) (text-goes span (codes " ") refl)
       ▹ constant (at span) (at names) (codes "\n(type, creator)</span>") (λ outer. refl)
 
   file-passes : (base : Option (Bor (List ℕ))) (path : List (List ℕ)) (info : Info) → Passes names names (item.file_text base path info)

@@ -13,6 +13,7 @@ use Rattle.hfs_texts.specs.PlainTexts.{plain_text}
 use Rattle.hfs_items.specs.Levels.{catalog_rows}
 use Rattle.hfs_items.specs.ToldRows.{ToldRow}
 use Rattle.hfs_check.specs.Parts.{Blocks, catalog_in, mdb_in}
+use Rattle.hfs_page.proofs.EscapeLemmas.{no-delimiters}
 use Rattle.hfs_page.specs.declared.cells.Cell.{Cell}
 use Rattle.hfs_page.specs.declared.page_image.PageImage.{PageImage}
 use Rattle.hfs_page.specs.declared.page_texts.PageTexts.{PageTexts}
@@ -36,7 +37,7 @@ use Rattle.hfs_page.specs.Picture as drawn
 use Rattle.hfs_page.specs.Picture.{cells_text, fork_text, name_of, owner_text, part_text, picture_text}
 use Rattle.hfs_page.specs.Texts.{shown, told_number}
 use Rattle.hfs_page.proofs.MarkupLemmas.{At, Goes, Passes, ◌▹◌, at, constant, decimal-plain, goes-if, in-tag, inside, nested, tag-goes, text-goes}
-use Rattle.hfs_page.proofs.NestedItems.{date-passes, decimal-passes, escaped-passes, escaped-plain, label-passes, number-passes, rows-pass, size-passes}
+use Rattle.hfs_page.proofs.NestedItems.{date-passes, decimal-passes, escaped-passes, number-passes, rows-pass, size-passes}
 
 -- ---- facts
 
@@ -65,7 +66,7 @@ module _ (names : List (List ℕ)) where
   size-row-passes : (label : List ℕ) (bytes : ℕ) → list_all is_no_delimiter label ≡ true → Passes names names (fact.size_row label bytes)
   unfolding fact.size_row
   size-row-passes label bytes plain =
-      head-passes label plain ▹ size-passes row bytes ▹ number-passes row row (codes " (") bytes (label-passes row (codes " (") refl)
+      head-passes label plain ▹ size-passes row bytes ▹ number-passes row row (codes " (") bytes (text-goes row (codes " (") refl)
       ▹ constant (at row) (at names) (codes " bytes)</dd></div>\n") (λ outer. refl)
 
   text-row-passes : (label text : List ℕ) → list_all is_no_delimiter label ≡ true → Passes names names (fact.text_row label text)
@@ -162,9 +163,9 @@ use-passes names catalog used = part-passes names used.part ▹ owner-passes nam
 pub range-passes : (names : List (List ℕ)) (first last : ℕ) → Passes names names (drawn.blocks_text first last)
 unfolding drawn.blocks_text
 range-passes names first last =
-    goes-if (first == last) (number-passes names names (codes "Block ") first (label-passes names (codes "Block ") refl))
-    (number-passes names names (codes "Blocks ") first (label-passes names (codes "Blocks ") refl)
-    ▹ number-passes names names (codes " to ") last (label-passes names (codes " to ") refl))
+    goes-if (first == last) (number-passes names names (codes "Block ") first (text-goes names (codes "Block ") refl))
+    (number-passes names names (codes "Blocks ") first (text-goes names (codes "Blocks ") refl)
+    ▹ number-passes names names (codes " to ") last (text-goes names (codes " to ") refl))
 
 module _ (names : List (List ℕ)) where
   abbrev tag : At
@@ -219,9 +220,9 @@ owned-passes : (names : List (List ℕ)) (fork : Option FileFork) (e : Extent) �
 unfolding placed_text
 owned-passes names None e = text-goes names [] refl
 owned-passes names (Some fork) e =
-    number-passes names names (codes " ") fork.file (label-passes names (codes " ") refl)
-    ▹ number-passes names names (codes ":") e.first (label-passes names (codes ":") refl)
-    ▹ number-passes names names (codes "+") e.count (label-passes names (codes "+") refl)
+    number-passes names names (codes " ") fork.file (text-goes names (codes " ") refl)
+    ▹ number-passes names names (codes ":") e.first (text-goes names (codes ":") refl)
+    ▹ number-passes names names (codes "+") e.count (text-goes names (codes "+") refl)
 
 extent-passes : (names : List (List ℕ)) (h : Holding) → Passes names names (extent_text h)
 extent-passes names h = goes-if (h.extent.count == 0) (text-goes names [] refl) (owned-passes names h.used.fork h.extent)
@@ -249,7 +250,7 @@ module _ (texts : PageTexts) (dress : IsDress texts) where
   items = codes "ul" ∷ codes "section" ∷ body
 
   title-plain : (mdb : Mdb) → list_all is_no_delimiter (shown (volume_name mdb.volume_name)) ≡ true
-  title-plain mdb = escaped-plain (plain_text (volume_name mdb.volume_name))
+  title-plain mdb = no-delimiters (plain_text (volume_name mdb.volume_name))
 
   front-passes : (total : ℕ) (mdb : Mdb) → Passes [] items (front_text texts total mdb)
   unfolding front_text

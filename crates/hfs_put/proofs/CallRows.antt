@@ -6,6 +6,7 @@ use Rattle.std.proofs.lemmas.List.{drop_all}
 use Rattle.hfs_model.specs.declared.call.Call.{Call}
 use Rattle.hfs_model.specs.declared.reply.Reply.{Reply}
 use Rattle.hfs_model.specs.Volume.{Volume}
+use Rattle.hfs_put_plan.proofs.AcceptedCalls.{all-option}
 use Rattle.hfs_put_plan.specs.Accepted.{next, accepted, all_accepted}
 use Rattle.hfs_put_plan.specs.declared.calls.TheConstants.{MAKING_CALLS, ENDING_CALLS}
 use Rattle.hfs_put_plan.specs.declared.items.PutItem.{PutItem}
@@ -45,20 +46,12 @@ somes-at (x ∷ xs) zero = refl
 somes-at (x ∷ xs) (suc i) = let on : suc i + 1 ≡ suc (i + 1) = omega arith in
     somes-at xs i ∙ ap (λ (k : ℕ). cons_option (slice_index_or xs i None) (somes (drop k (x ∷ xs)))) (sym on)
 
-option-first : (v : Volume) (o : Option Call) (cs : List Call) → all_accepted v (cons_option o cs) ≡ next (all_accepted v (cons_option o [])) (λ w. all_accepted w cs)
-option-first v None cs = refl
-option-first v (Some c) cs = by (accepted v c)
-  where
-    by : (r : Result Volume Reply) → next r (λ w. all_accepted w cs) ≡ next (next r (λ w. all_accepted w [])) (λ w. all_accepted w cs)
-    by (Ok w) = refl
-    by (Err reply) = refl
-
 module _ (xs : List (Option Call)) where
   abbrev pub rest : Volume → ℕ → Result Volume Reply
   rest v i = all_accepted v (somes (drop i xs))
 
   first-of : (v : Volume) (i : ℕ) → rest v i ≡ next (all_accepted v (cons_option (slice_index_or xs i None) [])) (λ w. rest w (i + 1))
-  first-of v i = ap (all_accepted v) (somes-at xs i) ∙ option-first v (slice_index_or xs i None) (somes (drop (i + 1) xs))
+  first-of v i = ap (all_accepted v) (somes-at xs i) ∙ all-option v (slice_index_or xs i None) (somes (drop (i + 1) xs))
 
   pub row-step : (v₀ v w : Volume) (i : ℕ) (o : Option Call) → o ≡ slice_index_or xs i None → all_accepted v (cons_option o []) ≡ Ok w
       → all_accepted v₀ (somes xs) ≡ rest v i → all_accepted v₀ (somes xs) ≡ rest w (i + 1)

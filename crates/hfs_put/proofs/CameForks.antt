@@ -10,6 +10,7 @@ use Rattle.hfs_fields.specs.declared.file_record.FileRecord.{FileRecord}
 use Rattle.hfs_fields.specs.Each.{Each}
 use Rattle.hfs_fields.specs.Members.{In}
 use Rattle.hfs_fields.proofs.MemberLemmas.{each_in}
+use Rattle.hfs_model.proofs.Keeps.{same_item}
 use Rattle.hfs_blocks.specs.Blocks.{block_at, block_count, length-block_at}
 use Rattle.hfs_model.specs.declared.item.Item.{Item}
 use Rattle.hfs_model.specs.declared.item.Kind.{Kind}
@@ -18,12 +19,12 @@ use Rattle.hfs_model.specs.declared.reply.ItemKind.{ItemKind}
 use Rattle.hfs_model.specs.declared.reply.ItemKind.TheVariants.{Folder, File}
 use Rattle.hfs_model.specs.Volume.{Items, Volume}
 use Rattle.hfs_model.proofs.MappedEntries.{mapped_item, mapped_items, get-mapped}
+use Rattle.hfs_catalog.proofs.FileRecords.{not-dir}
 use Rattle.hfs_catalog.specs.Records.{Record, Catalog, has_thread, item_with}
 use Rattle.hfs_catalog.specs.Items.{Contents, folder_of, file_of, item_of, items_in}
 use Rattle.hfs_catalog.proofs.DistinctLemmas.{later_from_distinct}
 use Rattle.hfs_catalog.proofs.Held.{items_are_records}
 use Rattle.hfs_catalog.proofs.NameOrder.{found_by_id}
-use Rattle.hfs_record_edits.proofs.Made.{file-not_dir}
 use Rattle.hfs_check.specs.Parts.{Blocks, catalog_in}
 use Rattle.hfs_check.specs.Sound.{IsSound}
 use Rattle.hfs_check.specs.VolumeOf.{contents_in, volume_in, volume_of}
@@ -72,9 +73,6 @@ resource_of : Kind → List ℕ
 resource_of (kind.File file) = file.resource
 resource_of (kind.Folder kept) = []
 
-same-item : (x y : Item) → Some x ≡ Some y → x ≡ y
-same-item x y e = cc
-
 module _ (contents : Contents) (catalog : Catalog) (forks : List FileForks) (r : Record) (own : FileForks) where
   abbrev f : FileRecord
   f = file_record_of r.1
@@ -85,7 +83,7 @@ module _ (contents : Contents) (catalog : Catalog) (forks : List FileForks) (r :
   -- the item of the record's file
   of-file : is_file r.1 ≡ true → item_of contents catalog r ≡ file_of (has_thread catalog f.id) (contents f) r.0 f
   unfolding item_of
-  of-file file = ap (λ (b : Bool). cond b (folder_of r.0 (dir_record_of r.1)) (file_of (has_thread catalog f.id) (contents f) r.0 f)) (file-not_dir r.1 file)
+  of-file file = ap (λ (b : Bool). cond b (folder_of r.0 (dir_record_of r.1)) (file_of (has_thread catalog f.id) (contents f) r.0 f)) (not-dir r.1 file)
 
   data-is : (has : Bool) → data_of (file_of has (contents f) r.0 f).kind ≡ (contents f).0
   unfolding data_of file_of
@@ -112,7 +110,7 @@ module _ (contents : Contents) (catalog : Catalog) (forks : List FileForks) (r :
     got = items_are_records contents catalog (item_id r.1) ∙ ap (option_map (item_of contents catalog)) found
 
     item-given : item_of contents catalog r ≡ given (item_of contents catalog r)
-    item-given = same-item (item_of contents catalog r) (given (item_of contents catalog r))
+    item-given = same_item (item_of contents catalog r) (given (item_of contents catalog r))
         (sym got ∙ ap (λ (m : Items). fin.get m (item_id r.1)) (sym holds) ∙ get-mapped (by_forks forks) items (item_id r.1) ∙ ap (option_map given) got)
 
     as-given : file_of (has_thread catalog f.id) (contents f) r.0 f ≡ given (file_of (has_thread catalog f.id) (contents f) r.0 f)
@@ -157,7 +155,7 @@ module _ (target now : ℕ) (arrivals : List Arrival) (ids copy current : List �
       )
     where
       file-item : (body : List ℕ) → is_file body ≡ true → is_item body ≡ true
-      file-item body file = ap (λ (b : Bool). b || is_file body) (file-not_dir body file) ∙ file
+      file-item body file = ap (λ (b : Bool). b || is_file body) (not-dir body file) ∙ file
 
   pub are-long : OfTheirFiles (came arrivals ids []) AreLongAs (catalog_in blocks)
   are-long = each_of _ (catalog_in blocks) one-long

@@ -38,6 +38,3 @@ told-part New Old fault at n place count behind before later told = elim told [
 ]
 
 -- what holds at any error holds at one
-pub on_err : {T E P : Type 0} (r : Result T E) → P → OnErr r P
-on_err (Ok x) p = tt
-on_err (Err e) p = p

@@ -12,6 +12,8 @@ use Rattle.hfs_fields.proofs.ElementLemmas.{each-append}
 use Rattle.hfs_fields.proofs.MemberLemmas.{each_in}
 use Rattle.hfs_fields.proofs.PartLemmas.{in_parts, flat-each}
 use Rattle.hfs_btree.specs.Sound.{IsOther}
+use Rattle.hfs_space.proofs.OwnedOnce.{distinct-once}
+use Rattle.hfs_space.proofs.OwnedLemmas.{blocks-append}
 use Rattle.hfs_space.specs.declared.fork_kind.ForkKind.TheVariants.{Data, Resource}
 use Rattle.hfs_space.specs.Bitmap.{bitmap_len}
 use Rattle.hfs_space.specs.Extents.{Overflow, extent_blocks, fork_byte, fork_extents}
@@ -24,11 +26,13 @@ use Rattle.hfs_check.specs.Agree.{bitmap_blocks}
 use Rattle.hfs_check.specs.Parts.{Blocks, mdb_in, overflow_in, extents_blocks, catalog_extents, catalog_blocks, catalog_in, owned_in}
 use Rattle.hfs_check.specs.Sound.{AreBlocksSound}
 use Rattle.hfs_record_edits.proofs.Frames.{block_in, beside_file, each_range}
-use Rattle.hfs_record_edits.proofs.Space.{extents_parts, forks_have, others_have, owned_distinct, owners_sum, record_has}
+use Rattle.hfs_record_edits.proofs.Space.{forks_have, others_have, owners_sum, record_has}
 use Rattle.hfs_image.specs.Laws.{blocks_of_fork}
+use Rattle.hfs_call_patches.proofs.Overflows.{in_flat}
+use Rattle.hfs_call_patches.proofs.Different.{each-take}
 use Rattle.hfs_volume.proofs.OwnedStay.{each_of}
 use Rattle.hfs_put.specs.Forks.{file_blocks, record_blocks, blocks_of_files}
-use Rattle.hfs_put.proofs.Located.{in-flat, in-take, located, one-has, two-have}
+use Rattle.hfs_put.proofs.Located.{located, one-has, two-have}
 
 -- the blocks from which all is read but the bytes of forks
 abbrev pub own_blocks : Blocks → List ℕ
@@ -37,9 +41,6 @@ own_blocks blocks = 2 ∷ bitmap_blocks (mdb_in blocks) ++ (extents_blocks block
 -- no number of the one list is in the other
 pub other-way : (n : ℕ) (ns : List ℕ) → ((m : ℕ) → In m ns → n ≡ m → ⊥) → Each (IsOther n) ns
 other-way n ns apart = each_of (IsOther n) ns (λ m i (e : m ≡ n). apart m i (sym e))
-
-each-take : (P : ℕ → Type 0) (k : ℕ) (xs : List ℕ) → Each P xs → Each P (take k xs)
-each-take P k xs h = each_of P (take k xs) (λ n i. each_in P xs n h (in-take n k xs i))
 
 module _ (total : ℕ) (blocks : Blocks) (sound : AreBlocksSound total blocks) where
   abbrev mdb : Mdb
@@ -72,8 +73,8 @@ module _ (total : ℕ) (blocks : Blocks) (sound : AreBlocksSound total blocks) w
   both-have r b file =
       let f = file_record_of r.1 in
       ap (λ (t : Bool). forks_have mdb overflow b (cond t (forks_of_file f) [])) file
-      ∙ extents_parts (data_extents f) (resource_extents f ++ []) b
-      ∙ ap (λ (k : ℕ). owners (extent_blocks (data_extents f)) b + k) (extents_parts (resource_extents f) [] b ∙ plus (owners (extent_blocks (resource_extents f)) b))
+      ∙ blocks-append (data_extents f) (resource_extents f ++ []) b
+      ∙ ap (λ (k : ℕ). owners (extent_blocks (data_extents f)) b + k) (blocks-append (resource_extents f) [] b ∙ plus (owners (extent_blocks (resource_extents f)) b))
     where
       plus : (k : ℕ) → k + owners (extent_blocks []) b ≡ k
       plus k = omega arith
@@ -92,7 +93,7 @@ module _ (total : ℕ) (blocks : Blocks) (sound : AreBlocksSound total blocks) w
   -- nobody else has it
   at-most-one : (b : ℕ) → owners (owned_blocks mdb overflow catalog) b ≤ 1
   unfolding owned_in
-  at-most-one b = owned_distinct (owned_blocks mdb overflow catalog) sound.space.once b
+  at-most-one b = distinct-once (owned_blocks mdb overflow catalog) sound.space.once b
 
   no-tree : (r : Record) (b : ℕ) → In r catalog → 0 < record_has mdb overflow b r → others_have mdb overflow b ≡ 0
   no-tree r b there some = omega (arith, some, one-has mdb overflow b catalog r there, owners_sum mdb overflow b catalog, at-most-one b)
@@ -135,7 +136,7 @@ module _ (total : ℕ) (blocks : Blocks) (sound : AreBlocksSound total blocks) w
 
     is-theirs : (n : ℕ) → In n (blocks_of_files ids blocks) → IsTheirs n
     is-theirs n i =
-        let at = in-flat (record_blocks ids blocks) catalog n i in
+        let at = in_flat (record_blocks ids blocks) catalog n i in
         by at.0 at.1 (test at.0) refl at.2
       where
         by : (r : Record) → In r catalog → (b : Bool) → test r ≡ b → In n (cond b (file_blocks blocks (file_record_of r.1)) []) → IsTheirs n

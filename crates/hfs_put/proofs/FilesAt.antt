@@ -5,18 +5,14 @@ use Rattle.std.specs.List.{cons_option}
 use Rattle.std.proofs.lemmas.Bool.{eqb-true}
 use Rattle.hfs_model.specs.declared.reply.ItemKind.{ItemKind}
 use Rattle.hfs_model.specs.declared.reply.ItemKind.TheVariants.{Folder, File}
+use Rattle.hfs_catalog.proofs.Held.{none_some}
+use Rattle.hfs_catalog.proofs.Indexed.{same_some}
 use Rattle.hfs_put.specs.ForkRuns.{file_id_by, file_id, IsFileAt}
 use Rattle.hfs_put.specs.Laying.{item_of}
 use Rattle.hfs_put_plan.specs.Laws.{AreTheirs}
 use Rattle.hfs_put_plan.specs.Put.{Arrival, file_forks, came}
 use Rattle.hfs_put_plan.specs.WithForks.{FileForks, forks_of}
 use Rattle.hfs_put_plan.specs.declared.items.PutItem.{PutItem}
-
-none-some : {A : Type 0} (x : A) → None ≡ Some x → ⊥
-none-some x e = cc
-
-same-id : (x y : ℕ) → Some x ≡ Some y → x ≡ y
-same-id x y e = cc
 
 pub same-forks : (x y : FileForks) → Some x ≡ Some y → x ≡ y
 same-forks x y e = cc
@@ -31,27 +27,27 @@ pub record IsArrivalAt (arrivals : List Arrival) (forks : List FileForks) (place
   pub are : forks_of forks id ≡ Some (forks_for id a)
 
 no-file : (kind : ItemKind) (id : ℕ) → file_id_by kind None ≡ Some id → ⊥
-no-file Folder id e = none-some id e
-no-file File id e = none-some id e
+no-file Folder id e = none_some id e
+no-file File id e = none_some id e
 
 first-file : (a : Arrival) (more : List Arrival) (forks : List FileForks) (kind : ItemKind) (own id : ℕ) → file_id_by kind (Some own) ≡ Some id
     → IfSome (file_forks kind a own) (λ (f : FileForks). forks_of forks own ≡ Some f) → IsArrivalAt (a ∷ more) forks zero id
-first-file a more forks Folder own id e theirs = absurd (none-some id e)
+first-file a more forks Folder own id e theirs = absurd (none_some id e)
 first-file a more forks File own id e theirs = record {
   a = a;
   there = refl;
-  are = subst (λ (n : ℕ). forks_of forks n ≡ Some (forks_for n a)) (same-id own id e) theirs;
+  are = subst (λ (n : ℕ). forks_of forks n ≡ Some (forks_for n a)) (same_some own id e) theirs;
 }
 
 pub arrival-at : (forks : List FileForks) (arrivals : List Arrival) (ids : List ℕ) → AreTheirs forks arrivals ids → (place id : ℕ)
     → IsFileAt (map item_of arrivals) ids place id → IsArrivalAt arrivals forks place id
-arrival-at forks [] ids theirs zero id e = absurd (none-some id e)
-arrival-at forks [] ids theirs (suc place) id e = absurd (none-some id e)
+arrival-at forks [] ids theirs zero id e = absurd (none_some id e)
+arrival-at forks [] ids theirs (suc place) id e = absurd (none_some id e)
 arrival-at forks (a ∷ more) [] theirs zero id e = absurd (no-file a.item.kind id e)
 arrival-at forks (a ∷ more) [] theirs (suc place) id e = absurd (no-id (slice_get (map item_of more) place) e)
   where
     no-id : (o : Option PutItem) → file_id o None ≡ Some id → ⊥
-    no-id None e = none-some id e
+    no-id None e = none_some id e
     no-id (Some item) e = no-file item.kind id e
 arrival-at forks (a ∷ more) (own ∷ ids) theirs zero id e = first-file a more forks a.item.kind own id e theirs.0
 arrival-at forks (a ∷ more) (own ∷ ids) theirs (suc place) id e =
@@ -88,5 +84,5 @@ came-from (a ∷ more) (own ∷ ids) forks id f e = ⊎_elim
 pub somewhere : (arrivals : List Arrival) (ids : List ℕ) (id : ℕ) (f : FileForks) → forks_of (came arrivals ids []) id ≡ Some f → (place : ℕ) × IsFileAt (map item_of arrivals) ids place id
 somewhere arrivals ids id f e = ⊎_elim
     (λ (at : IsSomewhere (map item_of arrivals) ids id). (at.place, at.at))
-    (λ (none : forks_of [] id ≡ Some f). absurd (none-some f none))
+    (λ (none : forks_of [] id ≡ Some f). absurd (none_some f none))
     (came-from arrivals ids [] id f e)

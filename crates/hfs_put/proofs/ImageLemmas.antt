@@ -14,11 +14,11 @@ use Rattle.hfs_put.proofs.LaidLemmas.{from-last_end, length-filled, length-laid}
 
 -- ---- one piece
 
-take-laid_at : (n place : ℕ) (bytes file : List ℕ) → n ≤ place → place ≤ length file → take n (laid_at place bytes file) ≡ take n file
+pub take-laid_at : (n place : ℕ) (bytes file : List ℕ) → n ≤ place → place ≤ length file → take n (laid_at place bytes file) ≡ take n file
 take-laid_at n place bytes file le inside =
     take-append-le n (take place file) (bytes ++ drop (place + length bytes) file) (omega (arith, length-take place file, le, inside)) ∙ take-take n place file le
 
-drop-laid_at : (n place : ℕ) (bytes file : List ℕ) → place + length bytes ≤ n → place ≤ length file → drop n (laid_at place bytes file) ≡ drop n file
+pub drop-laid_at : (n place : ℕ) (bytes file : List ℕ) → place + length bytes ≤ n → place ≤ length file → drop n (laid_at place bytes file) ≡ drop n file
 drop-laid_at n place bytes file le inside =
     let front : List ℕ = take place file in
     let post : List ℕ = drop (place + length bytes) file in
@@ -32,7 +32,7 @@ drop-laid_at n place bytes file le inside =
     ∙ drop-drop e (place + length bytes) file
     ∙ ap (λ k. drop k file) again
 
-image-laid_at : (start len place : ℕ) (bytes file : List ℕ) → place + length bytes ≤ len → start + len ≤ length file
+pub image-laid_at : (start len place : ℕ) (bytes file : List ℕ) → place + length bytes ≤ len → start + len ≤ length file
     → take len (drop start (laid_at (start + place) bytes file)) ≡ laid_at place bytes (take len (drop start file))
 image-laid_at start len place bytes file le inside =
     let front : List ℕ = take (start + place) file in

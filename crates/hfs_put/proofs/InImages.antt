@@ -4,6 +4,7 @@ use Rattle.std.specs.Prelude.{slice_get}
 use Rattle.std.proofs.lemmas.Bool.{cases_lt}
 use Rattle.std.proofs.lemmas.List.{length-take, length-drop, length-append, take-append-drop, take-append-le, drop-append-le, drop-drop, drop-take, take-take}
 use Rattle.std.proofs.Math.Seq.{drop-append-add, take-append-add}
+use Rattle.hfs_put.proofs.ImageLemmas.{take-laid_at, drop-laid_at, image-laid_at}
 use Rattle.hfs_put.specs.Laid as forks
 use Rattle.hfs_put.specs.Laid.{bytes_of, laid_at}
 use Rattle.hfs_put.specs.Laws.{IsLaidInImage}
@@ -67,48 +68,6 @@ laid_at-none place [] file e =
     ap (λ (n : ℕ). take place file ++ drop n file) (let none : place + 0 ≡ place = omega arith in none) ∙ take-append-drop place file
 laid_at-none place (x ∷ bytes) file e = absurd (omega (arith, e))
 
-front-laid_at : (n place : ℕ) (bytes file : List ℕ) → n ≤ place → place ≤ length file → take n (laid_at place bytes file) ≡ take n file
-front-laid_at n place bytes file le inside =
-    take-append-le n (take place file) (bytes ++ drop (place + length bytes) file) (omega (arith, length-take place file, le, inside)) ∙ take-take n place file le
-
-rest-laid_at : (n place : ℕ) (bytes file : List ℕ) → place + length bytes ≤ n → place ≤ length file → drop n (laid_at place bytes file) ≡ drop n file
-rest-laid_at n place bytes file le inside =
-    let front : List ℕ = take place file in
-    let post : List ℕ = drop (place + length bytes) file in
-    let e = n - (place + length bytes) in
-    let long : length front ≡ place = omega (arith, length-take place file, inside) in
-    let there : n ≡ length front + (length bytes + e) = omega (arith, long, le) in
-    let again : place + length bytes + e ≡ n = omega (arith, le) in
-    ap (λ k. drop k (front ++ (bytes ++ post))) there
-    ∙ drop-append-add front (bytes ++ post) (length bytes + e)
-    ∙ drop-append-add bytes post e
-    ∙ drop-drop e (place + length bytes) file
-    ∙ ap (λ k. drop k file) again
-
-range-laid_at : (start len place : ℕ) (bytes file : List ℕ) → place + length bytes ≤ len → start + len ≤ length file
-    → take len (drop start (laid_at (start + place) bytes file)) ≡ laid_at place bytes (take len (drop start file))
-range-laid_at start len place bytes file le inside =
-    let front : List ℕ = take (start + place) file in
-    let post : List ℕ = drop (start + place + length bytes) file in
-    let own : List ℕ = take place (drop start file) in
-    let left = len - (place + length bytes) in
-    let long : length front ≡ start + place = omega (arith, length-take (start + place) file, inside, le) in
-    let cut : drop start front ≡ own = drop-take start place file in
-    let size : length own ≡ place = omega (arith, length-take place (drop start file), length-drop start file, inside, le) in
-    let room : len ≡ length own + (length bytes + left) = omega (arith, size, le) in
-    let whole : place + length bytes + left ≡ len = omega (arith, le) in
-    let behind : take left post ≡ drop (place + length bytes) (take len (drop start file)) =
-    ap (λ k. take left (drop k file)) (let e : start + place + length bytes ≡ start + (place + length bytes) = omega arith in e)
-    ∙ ap (take left) (sym (drop-drop (place + length bytes) start file))
-    ∙ sym (drop-take (place + length bytes) left (drop start file))
-    ∙ ap (λ k. drop (place + length bytes) (take k (drop start file))) whole in
-    ap (take len) (drop-append-le start front (bytes ++ post) (omega (arith, long)))
-    ∙ (λ i. take len (cut i ++ (bytes ++ post)))
-    ∙ ap (λ k. take k (own ++ (bytes ++ post))) room
-    ∙ take-append-add own (bytes ++ post) (length bytes + left)
-    ∙ ap (λ l. own ++ l) (take-append-add bytes post left)
-    ∙ (λ i. sym (take-take place len (drop start file) (omega (arith, le))) i ++ (bytes ++ behind i))
-
 -- ---- all of them
 
 module _ (start len : ℕ) (host : Tree) (items : List PlannedItem) (file : List ℕ) (inside : start + len ≤ length file) where
@@ -150,10 +109,10 @@ module _ (start len : ℕ) (host : Tree) (items : List PlannedItem) (file : List
       })
       (λ (fits : run.place + run.len ≤ len).
       record {
-        before = front-laid_at start (start + run.place) bytes rest (omega arith) (omega (arith, long, fits, inside)) ∙ others.before;
-        image = range-laid_at start len run.place bytes rest (omega (arith, size, fits)) (omega (arith, long, inside))
+        before = take-laid_at start (start + run.place) bytes rest (omega arith) (omega (arith, long, fits, inside)) ∙ others.before;
+        image = image-laid_at start len run.place bytes rest (omega (arith, size, fits)) (omega (arith, long, inside))
             ∙ ap (λ (l : List ℕ). laid_at run.place bytes l) others.image
             ∙ ap (λ (k : ℕ). laid_at k bytes below) (let e : run.place ≡ 0 + run.place = omega arith in e);
-        behind = rest-laid_at (start + len) (start + run.place) bytes rest (omega (arith, size, fits)) (omega (arith, long, fits, inside)) ∙ others.behind;
+        behind = drop-laid_at (start + len) (start + run.place) bytes rest (omega (arith, size, fits)) (omega (arith, long, fits, inside)) ∙ others.behind;
       })
       within.0

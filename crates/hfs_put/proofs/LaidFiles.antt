@@ -22,14 +22,15 @@ use Rattle.hfs_space.specs.Forks.{blocks_each, run_in}
 use Rattle.hfs_space.specs.Owners.{forks_of_file}
 use Rattle.hfs_space.specs.Sound.{IsForkSound}
 use Rattle.hfs_space.proofs.Decided.{each_from_all}
+use Rattle.hfs_catalog.proofs.FileRecords.{not-dir}
 use Rattle.hfs_catalog.specs.Records.{Record}
-use Rattle.hfs_record_edits.proofs.Made.{file-not_dir}
 use Rattle.hfs_check.specs.Parts.{Blocks, mdb_in, overflow_in, catalog_in}
 use Rattle.hfs_check.specs.Sound.{AreBlocksSound}
 use Rattle.hfs_image.specs.Laws.{blocks_of_fork}
+use Rattle.hfs_call_patches.proofs.Overflows.{flat_in}
 use Rattle.hfs_volume.specs.Mounted.{fork_record}
 use Rattle.hfs_volume.specs.Sharing.{file_extents}
-use Rattle.hfs_volume.proofs.OwnedStay.{each_of}
+use Rattle.hfs_volume.proofs.OwnedStay.{each_of, range_in}
 use Rattle.hfs_put.specs.ForkRuns.{fork_runs_of, IsForkRun, HaveForksOf, AreRunsApart, AreForkRuns}
 use Rattle.hfs_put.specs.Laying.{item_of}
 use Rattle.hfs_put_plan.specs.Laws.{AreTheirs}
@@ -37,7 +38,6 @@ use Rattle.hfs_put_plan.specs.Put.{Arrival, came}
 use Rattle.hfs_put_plan.specs.WithForks.{FileForks, forks_of}
 use Rattle.hfs_put_sources.specs.declared.fork_run.ForkRun.{ForkRun}
 use Rattle.hfs_put.specs.Forks.{file_blocks, record_blocks, blocks_of_files, has_forks, OfTheirFiles, AreLongAs, HoldBytes, HoldForks, AreForksLaid}
-use Rattle.hfs_put.proofs.Located.{range-in}
 use Rattle.hfs_put.specs.LaidRuns.{fork_bytes}
 use Rattle.hfs_put.proofs.Filled.{pad, pad-whole}
 use Rattle.hfs_put.proofs.FilesAt.{arrival-at, forks_for, same-forks, somewhere}
@@ -54,13 +54,6 @@ apart-in-turn (run ∷ runs) apart = (
 )
 
 -- ---- members
-
-in-flat : {A B : Type 0} (f : A → List B) (xs : List A) (x : A) (y : B) → In x xs → In y (f x) → In y (flat_map f xs)
-in-flat f [] x y i j = absurd i
-in-flat {A} f (z ∷ xs) x y i j = ⊎_elim
-    (λ (here : z ≡ x). in-left y (f z) (flat_map f xs) (subst (λ (a : A). In y (f a)) (sym here) j))
-    (λ (there : In x xs). in-right y (f z) (flat_map f xs) (in-flat f xs x y there j))
-    i
 
 in-numbers : (mdb : Mdb) (es : List Extent) (e : Extent) (n : ℕ) → In e es → In n (run_of (run_in mdb e)) → In n (block_numbers mdb es)
 in-numbers mdb [] e n i j = absurd i
@@ -80,7 +73,7 @@ module _ (total : ℕ) (blocks : Blocks) (sound : AreBlocksSound total blocks) (
   forks = came arrivals ids []
 
   item-id : (r : Record) → is_file r.1 ≡ true → item_id r.1 ≡ (file_record_of r.1).id
-  item-id r file = ap (λ (b : Bool). cond b (dir_record_of r.1).id (file_record_of r.1).id) (file-not_dir r.1 file)
+  item-id r file = ap (λ (b : Bool). cond b (dir_record_of r.1).id (file_record_of r.1).id) (not-dir r.1 file)
 
   -- ---- a fork's extents
 
@@ -138,7 +131,7 @@ module _ (total : ℕ) (blocks : Blocks) (sound : AreBlocksSound total blocks) (
     among-files : (n : ℕ) → In n (run_of (run_in mdb at-run.e)) → In n (blocks_of_files (has_forks forks) blocks)
     among-files n i =
         let here = in-numbers mdb es at-run.e n at-run.there i in
-        in-flat (record_blocks (has_forks forks) blocks) (catalog_in blocks) of.r n of.there
+        flat_in (record_blocks (has_forks forks) blocks) (catalog_in blocks) of.r n of.there
         (subst (λ (b : Bool). In n (cond b (file_blocks blocks (file_record_of of.r.1)) [])) (sym (λ j. of.kind j && theirs-too j))
         (each_in (λ m. In m (file_blocks blocks (file_record_of of.r.1))) (block_numbers mdb es) n (fork-numbers (file_record_of of.r.1) run.fork) here))
 
@@ -148,7 +141,7 @@ module _ (total : ℕ) (blocks : Blocks) (sound : AreBlocksSound total blocks) (
         (λ from. ⊎_elim
         (λ (here : n < (run_in mdb at-run.e).first + (run_in mdb at-run.e).count).
         absurd (each_in (IsOther n) (blocks_of_files (has_forks forks) blocks) n apart
-        (among-files n (range-in (run_in mdb at-run.e).first (run_in mdb at-run.e).count n from here)) refl))
+        (among-files n (range_in (run_in mdb at-run.e).first (run_in mdb at-run.e).count n from here)) refl))
         (λ behind. inr (omega (arith, behind, at-run.place, at-run.len)))
         (cases_lt n ((run_in mdb at-run.e).first + (run_in mdb at-run.e).count)))
         (cases_lt n (run_in mdb at-run.e).first)

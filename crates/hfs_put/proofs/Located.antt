@@ -18,49 +18,12 @@ use Rattle.hfs_space.proofs.OwnerLemmas.{append}
 use Rattle.hfs_catalog.specs.Records.{Record, Catalog}
 use Rattle.hfs_record_edits.proofs.Frames.{block_in}
 use Rattle.hfs_record_edits.proofs.Space.{record_has}
+use Rattle.hfs_volume.proofs.OwnedStay.{find_block, in_range, range_in}
 use Rattle.hfs_volume.proofs.Owned.{owners_in}
 
 -- ---- numbers in a row
 
-in-range : (a k n : ℕ) → In n (range_with_len a k) → (a ≤ n) × (n < a + k)
-in-range a zero n i = absurd i
-in-range a (suc k) n i = ⊎_elim
-    (λ (e : a ≡ n). (omega (arith, e), omega (arith, e)))
-    (λ (there : In n (range_with_len (a + 1) k)). let rest = in-range (a + 1) k n there in (omega (arith, rest.0), omega (arith, rest.1)))
-    i
-
-pub range-in : (a k n : ℕ) → a ≤ n → n < a + k → In n (range_with_len a k)
-range-in a zero n low high = absurd (omega arith)
-range-in a (suc k) n low high = ⊎_elim
-    (λ (more : a < n). inr (range-in (a + 1) k n (omega arith) (omega arith)))
-    (λ none. let e : a ≡ n = omega (arith, none) in inl e)
-    (cases_lt a n)
-
-pub in-take : {A : Type 0} (x : A) (k : ℕ) (xs : List A) → In x (take k xs) → In x xs
-in-take x zero xs i = absurd i
-in-take x (suc k) [] i = absurd i
-in-take x (suc k) (y ∷ xs) i = ⊎_elim (λ (e : y ≡ x). inl e) (λ (there : In x (take k xs)). inr (in-take x k xs there)) i
-
--- one of those of which the row was made
-pub in-flat : {A B : Type 0} (f : A → List B) (xs : List A) (y : B) → In y (flat_map f xs) → (x : A) × In x xs × In y (f x)
-in-flat f [] y i = absurd i
-in-flat f (x ∷ xs) y i = ⊎_elim
-    (λ (here : In y (f x)). (x, inl refl, here))
-    (λ (there : In y (flat_map f xs)). let rest = in-flat f xs y there in (rest.0, inr rest.1, rest.2))
-    (in_parts y (f x) (flat_map f xs) i)
-
 -- ---- where a logical block lies
-
--- in so many parts of as many blocks, the part and the place in it
-in-part : (a each count n : ℕ) → a ≤ n → n < a + count * each → (c : ℕ) × (c < count) × (a + c * each ≤ n) × (n < a + c * each + each)
-in-part a each zero n low high = let none : zero * each ≡ 0 = omega arith in absurd (omega (arith, none))
-in-part a each (suc count) n low high = ⊎_elim
-    (λ (here : n < a + each). let none : 0 * each ≡ 0 = omega arith in (0, omega arith, omega (arith, none), omega (arith, none)))
-    (λ past.
-    let rest = in-part (a + each) each count n (omega (arith, past)) (omega (arith, high, suc-mul count each)) in
-    let more : suc rest.0 * each ≡ each + rest.0 * each = omega (arith, suc-mul rest.0 each) in
-    (suc rest.0, omega (arith, rest.1), omega (arith, more, rest.2), omega (arith, more, rest.3)))
-    (cases_lt n (a + each))
 
 -- the logical block is one of an allocation block that these extents have
 pub record IsLocated (mdb : Mdb) (extents : List Extent) (n : ℕ) : Type 0 where
@@ -73,8 +36,8 @@ pub record IsLocated (mdb : Mdb) (extents : List Extent) (n : ℕ) : Type 0 wher
 located-first : (mdb : Mdb) (e : Extent) (extents : List Extent) (n : ℕ) → In n (run_of (run_in mdb e)) → IsLocated mdb (e ∷ extents) n
 located-first mdb e extents n i =
     let each = blocks_each mdb in
-    let within = in-range (mdb.allocation_start + e.first * each) (e.count * each) n i in
-    let c = in-part (mdb.allocation_start + e.first * each) each e.count n within.0 within.1 in
+    let within = in_range (mdb.allocation_start + e.first * each) (e.count * each) n i in
+    let c = find_block (mdb.allocation_start + e.first * each) each e.count n within.0 within.1 in
     let sum : (e.first + c.0) * each ≡ e.first * each + c.0 * each = add-mul e.first c.0 each in
     record {
       block = e.first + c.0;
@@ -83,7 +46,7 @@ located-first mdb e extents n i =
       is = omega (arith, sum, c.2);
       owned = omega (
         arith,
-        owners_in (e.first + c.0) (range_with_len e.first e.count) (range-in e.first e.count (e.first + c.0) (omega arith) (omega (arith, c.1))),
+        owners_in (e.first + c.0) (range_with_len e.first e.count) (range_in e.first e.count (e.first + c.0) (omega arith) (omega (arith, c.1))),
         append (e.first + c.0) (range_with_len e.first e.count) (extent_blocks extents),
       );
     }

@@ -92,7 +92,3 @@ module _ (volume : ImageValue) (target now : ℕ) (items : List PutItem) (patch 
 
   pub has-directory : HasDirectory volume.base items kept runs (mdb_in (block_at volume.current))
   has-directory = directory
-
-pub if-ok : {T E : Type 0} (r : Result T E) (P Q : T → Type 0) → ((x : T) → P x → Q x) → IfOk r P → IfOk r Q
-if-ok (Ok x) P Q f p = f x p
-if-ok (Err e) P Q f p = tt

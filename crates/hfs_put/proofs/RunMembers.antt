@@ -12,6 +12,7 @@ use Rattle.hfs_fields.specs.declared.mdb.Mdb.{Mdb}
 use Rattle.hfs_fields.specs.Records.{is_file, file_record_of}
 use Rattle.hfs_model.specs.declared.call.Fork.{Fork}
 use Rattle.hfs_model.specs.declared.call.Fork.TheVariants.{DataFork, ResFork}
+use Rattle.hfs_record_edits.proofs.FromLawful.{each_of}
 use Rattle.hfs_put_plan.specs.declared.items.PutItem.{PutItem}
 use Rattle.hfs_fields.specs.Each.{Each}
 use Rattle.hfs_fields.specs.Members.{In}
@@ -22,10 +23,6 @@ use Rattle.hfs_put.specs.ForkRuns.{AreFilePlaces, AreForkRuns, ArePlacesInOrder,
 use Rattle.hfs_space.specs.Forks.{blocks_each, run_in}
 use Rattle.hfs_volume.specs.Sharing.{file_extents}
 use Rattle.hfs_put.proofs.RunsApart.{all_once, all_some, each_permutation, in_permutation, sorted_apart}
-
-each-of : {A : Type 0} (P : A → Type 0) (xs : List A) → ((x : A) → In x xs → P x) → Each P xs
-each-of P [] f = tt
-each-of P (x ∷ xs) f = (f x (inl refl), each-of P xs (λ y i. f y (inr i)))
 
 -- ---- the runs of a fork are of that fork
 
@@ -55,7 +52,7 @@ module _ (blocks : Blocks) (items : List PutItem) (ids : List ℕ) (place_of : �
       → Each (IsForkRun blocks items ids) (fork_runs_of blocks place fork (file_record_of r.1))
   fork-only r there file place is fork =
       let runs = fork_runs_of blocks place fork (file_record_of r.1) in
-      each-of (IsForkRun blocks items ids) runs (λ run i.
+      each_of (IsForkRun blocks items ids) runs (λ run i.
       let own = each_in (IsOf place fork) runs run (runs-of (mdb_in blocks) place fork 0 (file_extents blocks fork (file_record_of r.1))) i in
       record {
         r = r;
@@ -113,7 +110,7 @@ module _ (blocks : Blocks) (items : List PutItem) (ids : List ℕ) (place_of : �
         found.0,
         places.only (file_record_of r.1).id found.0 found.1,
         λ fork.
-            each-of (λ (run : ForkRun). In run runs) (fork_runs_of blocks found.0 fork (file_record_of r.1)) (λ run i.
+            each_of (λ (run : ForkRun). In run runs) (fork_runs_of blocks found.0 fork (file_record_of r.1)) (λ run i.
             in_permutation (flat_map (record_runs blocks place_of) (catalog_in blocks)) runs run same
             (in-flat (catalog_in blocks) r run there (in-record r found.0 run file found.1 (in-file found.0 (file_record_of r.1) fork run i)))),
       )
@@ -126,6 +123,6 @@ fork_runs_are image items ids place_of runs sorted sound places are order =
     let same : IsPermutation all sorted = subst (λ (l : List ForkRun). IsPermutation l sorted) are order.same in
     record {
       only = each_permutation (IsForkRun blocks items ids) all sorted same (all-only blocks items ids place_of places (catalog_in blocks) (λ r i. i));
-      all = each-of (HaveFileOf blocks items ids sorted) (catalog_in blocks) (has-file blocks items ids place_of places sorted same);
+      all = each_of (HaveFileOf blocks items ids sorted) (catalog_in blocks) (has-file blocks items ids place_of places sorted same);
       apart = sorted_apart all sorted same order.order (all_some image sound place_of (catalog_in blocks)) (all_once image sound place_of);
     }

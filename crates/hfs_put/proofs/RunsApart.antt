@@ -9,8 +9,8 @@ use Rattle.std.proofs.lemmas.List.Sums.{sum_by-cons, sum_by-append, sum_by-take-
 use Rattle.std.proofs.lemmas.List.Sorted.{sum_by-IsPermutation, Contains-permutation, IsPermutation-sym}
 use Rattle.std.proofs.Math.Nat.{add-mul, mul-le-mul_left, mul-le-mul_right}
 use Rattle.hfs_blocks.specs.Blocks.{block_at}
+use Rattle.hfs_space.proofs.OwnedOnce.{distinct-once}
 use Rattle.hfs_catalog.specs.Records.{Catalog, Record}
-use Rattle.hfs_record_edits.proofs.Space.{extents_parts, owned_distinct}
 use Rattle.hfs_check.specs.Parts.{Blocks, catalog_in, mdb_in, overflow_in, owned_in}
 use Rattle.hfs_check.specs.Sound.{IsSound}
 use Rattle.hfs_fields.specs.declared.extent.Extent.{Extent}
@@ -18,7 +18,7 @@ use Rattle.hfs_fields.specs.declared.file_record.FileRecord.{FileRecord}
 use Rattle.hfs_fields.specs.declared.mdb.Mdb.{Mdb}
 use Rattle.hfs_fields.specs.Records.{is_file, file_record_of}
 use Rattle.hfs_call_patches.proofs.Rooms.{room_left, within_each}
-use Rattle.hfs_space.proofs.OwnedLemmas.{length-blocks}
+use Rattle.hfs_space.proofs.OwnedLemmas.{length-blocks, blocks-cons, blocks-append}
 use Rattle.hfs_model.specs.declared.call.Fork.{Fork}
 use Rattle.hfs_model.specs.declared.call.Fork.TheVariants.{DataFork, ResFork}
 use Rattle.hfs_model.proofs.Members.{contains_from_in, in_from_contains}
@@ -34,7 +34,7 @@ use Rattle.hfs_space.specs.Sound.{IsForkSound}
 use Rattle.hfs_volume.specs.Sharing.{file_extents}
 use Rattle.hfs_volume.proofs.Owned.{forks_have, owners_in, owners_sum, record_has, sum_in}
 use Rattle.hfs_put.specs.ForkRuns.{AreRunsApart, file_runs, fork_runs_of, record_runs, runs_from}
-use Rattle.hfs_volume.proofs.OwnedStay.{range_in, parts}
+use Rattle.hfs_volume.proofs.OwnedStay.{range_in}
 
 -- ---- members, whatever the order
 
@@ -69,8 +69,8 @@ quotient_low each f z some low = ⊎_elim
     (λ (less : z / each < f).
     let next : (z / each + 1) * each ≤ f * each = mul-le-mul_right each (omega (arith, less)) in
     let sum : (z / each + 1) * each ≡ z / each * each + 1 * each = add-mul (z / each) 1 each in
-    let parts : z / each * each + z % each ≡ z = omega arith in
-    absurd (omega (arith, next, sum, parts, low)))
+    let blocks-cons : z / each * each + z % each ≡ z = omega arith in
+    absurd (omega (arith, next, sum, blocks-cons, low)))
     (λ more. more)
     (cases_lt (z / each) f)
 
@@ -79,8 +79,8 @@ quotient_high each k z some high = ⊎_elim
     (λ (less : z / each < k). less)
     (λ more.
     let most : k * each ≤ z / each * each = mul-le-mul_right each more in
-    let parts : z / each * each + z % each ≡ z = omega arith in
-    absurd (omega (arith, most, parts, high)))
+    let blocks-cons : z / each * each + z % each ≡ z = omega arith in
+    absurd (omega (arith, most, blocks-cons, high)))
     (cases_lt (z / each) k)
 
 module _ (mdb : Mdb) (some : 0 < blocks_each mdb) (item : ℕ) (fork : Fork) (x : ℕ) where
@@ -128,9 +128,9 @@ module _ (mdb : Mdb) (some : 0 < blocks_each mdb) (item : ℕ) (fork : Fork) (x 
     where
       by : (t : Bool) → sum_by (one_for x) (runs_from mdb item fork (before + e.count) es) ≤ owners (extent_blocks es) (block_of mdb x)
           → sum_by (one_for x) (cons_option (cond t None (Some (run_of before e))) (runs_from mdb item fork (before + e.count) es)) ≤ owners (extent_blocks (e ∷ es)) (block_of mdb x)
-      by true rest = let all = parts e es (block_of mdb x) in omega (arith, rest, all)
+      by true rest = let all = blocks-cons e es (block_of mdb x) in omega (arith, rest, all)
       by false rest =
-          let all = parts e es (block_of mdb x) in
+          let all = blocks-cons e es (block_of mdb x) in
           let own = one-extent before e in
           let sum = sum_by-cons (one_for x) (run_of before e) (runs_from mdb item fork (before + e.count) es) in
           omega (arith, rest, all, own, sum)
@@ -169,13 +169,13 @@ module _ (image : List ℕ) (sound : IsSound image) where
   unfolding file_extents forks_of_file
   both_have file b = omega (
     arith,
-    extents_parts (file_extents blocks DataFork file) (file_extents blocks ResFork file ++ []) b,
-    extents_parts (file_extents blocks ResFork file) [] b,
+    blocks-append (file_extents blocks DataFork file) (file_extents blocks ResFork file ++ []) b,
+    blocks-append (file_extents blocks ResFork file) [] b,
   )
 
   once : (b : ℕ) → sum_by (record_has mdb overflow b) (catalog_in blocks) ≤ 1
   unfolding owned_in
-  once b = omega (arith, owners_sum mdb overflow b (catalog_in blocks), owned_distinct (owned_blocks mdb overflow (catalog_in blocks)) sound.blocks.space.once b)
+  once b = omega (arith, owners_sum mdb overflow b (catalog_in blocks), distinct-once (owned_blocks mdb overflow (catalog_in blocks)) sound.blocks.space.once b)
 
   record_is : (r : Record) (b : ℕ) → is_file r.1 ≡ true → record_has mdb overflow b r ≡ forks_have mdb overflow b (forks_of_file (file_record_of r.1))
   record_is r b file = ap (λ (t : Bool). forks_have mdb overflow b (cond t (forks_of_file (file_record_of r.1)) [])) file

@@ -6,7 +6,6 @@ mod RowsRead
 mod LinesRead
 mod DigestLines
 mod TagsRead
-pub mod Walks
 mod EntryOrder
 pub mod WalkLemmas
 pub mod SourceLemmas

@@ -10,6 +10,7 @@ use Rattle.hfs_model.specs.declared.reply.ItemKind.TheVariants.{Folder, File}
 use Rattle.hfs_texts.specs.Calendar.{day_since_1904}
 use Rattle.hfs_texts.specs.NameLaws.{is_bytes}
 use Rattle.hfs_texts.specs.Moments.{day_text, moment, time_text}
+use Rattle.hfs_table.proofs.Dates.{date_text}
 use Rattle.hfs_table.specs.Cells.{Cell, empty, word, flag, cell_text}
 use Rattle.hfs_table.specs.Columns.{columns, kind_word, moment_cell, of_file, of_folder}
 use Rattle.hfs_table.specs.Lines.{bag_end, bag_path, csv_fields, field_text}
@@ -43,13 +44,6 @@ moment-none : (date : ℕ) → (date == 0) ≡ true → moment date ≡ []
 unfolding moment
 moment-none date e = ap (λ t. if t then [] else day_text (day_since_1904 (date / 86400)) ++ codes "T" ++ time_text (date % 86400)) e
 
-moment-text : (date : ℕ) → cell_text (moment_cell date) ≡ moment date
-moment-text date = by (date == 0) refl
-  where
-    by : (t : Bool) → (date == 0) ≡ t → cell_text (moment_cell date) ≡ moment date
-    by true e = ap (λ t. cell_text (if t then empty else word (moment date))) e ∙ sym (moment-none date e)
-    by false e = ap (λ t. cell_text (if t then empty else word (moment date))) e
-
 -- the numbers of an item that its row has
 pub record AreSmall (info : Info) : Type 0 where
   pub id : info.id < 2 ^ 64
@@ -65,7 +59,7 @@ module _ (names : List (List ℕ)) (info : Info) (bytes : list_all is_bytes name
   kind-clean File = refl
 
   date-clean : (date : ℕ) → are_clean (cell_text (moment_cell date)) ≡ true
-  date-clean date = ap are_clean (moment-text date) ∙ moment-clean date
+  date-clean date = ap are_clean (date_text date) ∙ moment-clean date
 
   column-clean : (c : Column) → are_clean (field_text names info c) ≡ true
   column-clean column.Path = mac_path-clean names bytes
@@ -93,7 +87,7 @@ lock-back File true = refl
 lock-back File false = refl
 
 date-read : (date : ℕ) → date < 2 ^ 32 → date_in (cell_text (moment_cell date)) ≡ Some date
-date-read date small = ap date_in (moment-text date) ∙ moment-back date small
+date-read date small = ap date_in (date_text date) ∙ moment-back date small
 
 dates-with : ItemKind → Option Bool → Option ℕ → Option ℕ → Option ℕ → Option ItemRow
 dates-with kind locked created modified backup =

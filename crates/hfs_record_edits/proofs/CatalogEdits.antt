@@ -10,6 +10,9 @@ use Rattle.hfs_fields.specs.Records.{is_file, file_record_of}
 use Rattle.hfs_fields.specs.Each.{Each}
 use Rattle.hfs_fields.specs.Members.{In}
 use Rattle.hfs_btree.specs.Sound.{IsOther}
+use Rattle.hfs_btree_edits.proofs.ApartLemmas.{each-take}
+use Rattle.hfs_space.proofs.OwnedOnce.{distinct-once}
+use Rattle.hfs_space.proofs.OwnedLemmas.{blocks-append}
 use Rattle.hfs_space.specs.Bitmap.{bitmap_len, is_used, is_marked, count_below, clear_count}
 use Rattle.hfs_space.proofs.CountingLemmas.{count_below-same}
 use Rattle.hfs_blocks.specs.Blocks.{run_of}
@@ -28,14 +31,8 @@ use Rattle.hfs_check.specs.VolumeOf.{bytes_in, contents_in}
 use Rattle.hfs_record_edits.proofs.ChangesLaws.{KeepsContents}
 use Rattle.hfs_record_edits.specs.OnBlocks.{EditsCatalog}
 use Rattle.hfs_catalog.proofs.Held.{with_id}
-use Rattle.hfs_record_edits.proofs.Space.{extents_parts, record_has, owners_sum, owned_distinct}
+use Rattle.hfs_record_edits.proofs.Space.{record_has, owners_sum}
 use Rattle.hfs_record_edits.proofs.Frames.{each_range, block_in, beside_file, same_bytes, same_nodes}
-
-pub each_take : {X : Type 0} (P : X → Type 0) (n : ℕ) (xs : List X) → Each P xs → Each P (take n xs)
-each_take P zero [] h = tt
-each_take P zero (x ∷ xs) h = tt
-each_take P (suc n) [] h = tt
-each_take P (suc n) (x ∷ xs) h = (h.0, each_take P n xs h.1)
 
 pub part_of_sum : {X : Type 0} (f : X → ℕ) (xs : List X) (x : X) → In x xs → f x ≤ sum_by f xs
 part_of_sum f [] x there = absurd there
@@ -72,13 +69,13 @@ module _ (counts : Mdb) (total : ℕ) (old new : Blocks) (h : AreBlocksSound tot
 
   beside : (a j : ℕ) → j < blocks_each mdb → owners (extent_blocks file) a ≡ 0 → new (block_in mdb a j) ≡ old (block_in mdb a j)
   beside a j low none =
-      edit.others (block_in mdb a j) (λ (two : block_in mdb a j ≡ 2). let b = behind a j in omega (arith, b, two)) (each_take _ _ (block_numbers mdb file) (beside_file mdb file a j low none))
+      edit.others (block_in mdb a j) (λ (two : block_in mdb a j ≡ 2). let b = behind a j in omega (arith, b, two)) (each-take _ _ (block_numbers mdb file) (beside_file mdb file a j low none))
 
   -- ---- who owns a block owns it alone
 
   once : (a : ℕ) → owners (extent_blocks file) a + (owners (extent_blocks mdb.extents_file) a + owners (extent_blocks (bad_extents overflow)) a) + sum_by (record_has mdb overflow a) (catalog_in old) ≤ 1
   unfolding owned_in catalog_extents
-  once a = omega (arith, owned_distinct (owned_in old) h.space.once a, owners_sum mdb overflow a (catalog_in old))
+  once a = omega (arith, distinct-once (owned_in old) h.space.once a, owners_sum mdb overflow a (catalog_in old))
 
   extents_apart : (a : ℕ) → 0 < owners (extent_blocks mdb.extents_file) a → owners (extent_blocks file) a ≡ 0
   extents_apart a some = let o = once a in omega (arith, o, some)
@@ -113,7 +110,7 @@ module _ (counts : Mdb) (total : ℕ) (old new : Blocks) (h : AreBlocksSound tot
   bitmap_stays n within =
       let k : ℕ = mdb.bitmap_start + n / 4096 in
       let low : k < mdb.allocation_start = omega (arith, within, h.mdb.bitmap_before) in
-      let same : new k ≡ old k = edit.others k (λ (two : k ≡ 2). omega (arith, two, h.mdb.bitmap_behind)) (each_take _ _ (block_numbers mdb file) (below_area mdb file k low)) in
+      let same : new k ≡ old k = edit.others k (λ (two : k ≡ 2). omega (arith, two, h.mdb.bitmap_behind)) (each-take _ _ (block_numbers mdb file) (below_area mdb file k low)) in
       ap (λ (b : List ℕ). is_marked b (n % 4096)) same
 
   pub clear_stays : clear_count new mdb.bitmap_start mdb.allocation_blocks ≡ clear_count old mdb.bitmap_start mdb.allocation_blocks
@@ -139,7 +136,7 @@ module _ (counts : Mdb) (total : ℕ) (old new : Blocks) (h : AreBlocksSound tot
         let rest_extents = fork_extents overflow f.id 255 f.resource.extents in
         let forks : record_has mdb overflow a r ≡ owners (extent_blocks (data_extents ++ (rest_extents ++ []))) a = ap (λ (b : Bool). owners (extent_blocks (flat_map (extents_in overflow) (cond b (forks_of_file f) []))) a) is in
         let none : owners (extent_blocks []) a ≡ 0 = refl in
-        omega (arith, part_of_sum (record_has mdb overflow a) (catalog_in old) r there, forks, extents_parts data_extents (rest_extents ++ []) a, extents_parts rest_extents [] a, none)
+        omega (arith, part_of_sum (record_has mdb overflow a) (catalog_in old) r there, forks, blocks-append data_extents (rest_extents ++ []) a, blocks-append rest_extents [] a, none)
 
     pub contents_stay : contents_in new f ≡ contents_in old f
     unfolding contents_in bytes_in

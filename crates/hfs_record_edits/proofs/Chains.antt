@@ -3,6 +3,7 @@ use Rattle.std.proofs.Common.{◌≡◌, ℕ, zero, suc, ◌+◌, ◌*◌, ◌<�
 use Rattle.std.specs.Prelude.{filter, ⊤}
 use Rattle.std.specs.List.{flat_map}
 use Rattle.std.proofs.lemmas.Bool.{eqb-true, eq-eqb, lt-ltb, ltb-true, cases_Bool, and_parts}
+use Rattle.hfs_fields.proofs.DecisionLemmas.{both_true}
 use Rattle.hfs_fields.specs.Mdb.{extents_at}
 use Rattle.hfs_fields.specs.declared.extent.Extent.{Extent}
 use Rattle.hfs_fields.specs.Each.{Each}
@@ -15,7 +16,6 @@ use Rattle.hfs_record_edits.specs.Records.{of_fork, begins_before}
 use Rattle.hfs_record_edits.specs.Threes.{AreThrees}
 use Rattle.hfs_record_edits.specs.Whole.{HasExtents}
 use Rattle.hfs_record_edits.proofs.RecordLemmas.{run_on-of_fork}
-use Rattle.hfs_record_edits.proofs.OwnRecords.{both-true}
 use Rattle.hfs_record_edits.proofs.ThreeLemmas.{total-append}
 
 -- the blocks of a record, and the extents of several
@@ -63,9 +63,9 @@ module _ (file fork : ℕ) where
 
   goes-on : (block : ℕ) (r : Record) → is_of_fork file fork r ≡ true → IsLink block r → goes_on file fork block r ≡ true
   goes-on block r own link =
-      both-true (is_of_fork file fork r && eqb r.0.block block && ltb block 65536) (ltb 0 (blocks_in r))
-      (both-true (is_of_fork file fork r && eqb r.0.block block) (ltb block 65536)
-      (both-true (is_of_fork file fork r) (eqb r.0.block block) own (eq-eqb r.0.block block link.begins))
+      both_true (is_of_fork file fork r && eqb r.0.block block && ltb block 65536) (ltb 0 (blocks_in r))
+      (both_true (is_of_fork file fork r && eqb r.0.block block) (ltb block 65536)
+      (both_true (is_of_fork file fork r) (eqb r.0.block block) own (eq-eqb r.0.block block link.begins))
       (lt-ltb block 65536 link.short))
       (lt-ltb 0 (blocks_in r) link.some)
 

@@ -8,6 +8,7 @@ use Rattle.std.proofs.lemmas.List.{append-nil, append_assoc, take_more_set, drop
 use Rattle.std.proofs.lemmas.List.Elements.{All-head, All-tail}
 use Rattle.std.proofs.lemmas.List.FromFn.{length-range_with_len}
 use Rattle.hfs_fields.specs.declared.extent.Extent.{Extent}
+use Rattle.hfs_space.proofs.FromLemmas.{cut as range-behind}
 use Rattle.hfs_space.specs.Extents.{extent_blocks, IsExtentWithin, AreExtentsWithin}
 use Rattle.hfs_space.proofs.ForkLawLemmas.{range-add}
 use Rattle.hfs_space.proofs.TreeRuns.{take-range}
@@ -34,15 +35,6 @@ cut-part n e lt =
     by (suc n) =
         ap (λ (b : Bool). let x : Extent = cond b (record { first = 0; count = 0 }) (record { first = e.first; count = suc n }) in range_with_len x.first x.count)
         (ne_eqb (suc n) 0 (λ same. omega (arith, same)))
-
--- the blocks behind the first n of an extent
-range-behind : (a c n : ℕ) → n ≤ c → drop n (range_with_len a c) ≡ range_with_len (a + n) (c - n)
-range-behind a c n le =
-    ap (λ m. drop n (range_with_len a m)) (let e : c ≡ n + (c - n) = omega (arith, le) in e) ∙ ap (drop n) (range-add a n (c - n))
-    ∙ drop-at n (range_with_len a n) (range_with_len (a + n) (c - n)) (length-range_with_len a n)
-  where
-    drop-at : (k : ℕ) (xs ys : List ℕ) → length xs ≡ k → drop k (xs ++ ys) ≡ ys
-    drop-at k xs ys long = ap (λ m. drop m (xs ++ ys)) (sym long) ∙ drop-append_seam xs ys
 
 -- ---- extents
 

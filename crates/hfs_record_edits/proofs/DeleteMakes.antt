@@ -16,6 +16,7 @@ use Rattle.hfs_model.specs.Volume.{Items, Entry}
 use Rattle.hfs_model.specs.Choices.{to_delete}
 use Rattle.hfs_model.specs.Changes.{change, delete, touched}
 use Rattle.hfs_model.specs.Step.{step}
+use Rattle.hfs_catalog.proofs.FileRecords.{not-dir}
 use Rattle.hfs_catalog.specs.Records.{Record}
 use Rattle.hfs_catalog.specs.Lookups.{thread_of}
 use Rattle.hfs_catalog.specs.Sound.{is_file_in, is_folder_in, counts_of, AreCountsSound}
@@ -40,7 +41,7 @@ use Rattle.hfs_record_edits.proofs.Space.{record_has, forks_have}
 use Rattle.hfs_record_edits.proofs.ForkLemmas.{forks_kept, owners_kept}
 use Rattle.hfs_record_edits.proofs.KeptSpace.{no_file_forks, thread_no_dir, thread_no_file}
 use Rattle.hfs_record_edits.proofs.CatalogEdits.{keeps_contents}
-use Rattle.hfs_record_edits.proofs.Made.{dir-not_file, file-not_dir, folder_touched}
+use Rattle.hfs_record_edits.proofs.Made.{dir-not_file, folder_touched}
 
 module _ (law : ItemsAreRecords) (catalogs : CatalogIsSound) (total now dir : ℕ) (name : List ℕ) (item r : Record) (old new : Blocks) (h : AreBlocksSound total old)
     (c : IsChoice old (to_delete (volume_in old) dir name) item) (d : HasDroppedItem c.id dir item r now (catalog_in old) (catalog_in new)) where
@@ -172,7 +173,7 @@ module _ (law : ItemsAreRecords) (catalogs : CatalogIsSound) (total now dir : �
 
   module _ (file : is_file item.1 ≡ true) (free : ℕ) where
     no_folder : is_dir item.1 ≡ false
-    no_folder = file-not_dir item.1 file
+    no_folder = not-dir item.1 file
 
     file_numbers : AreCountsSound (without_file dir free now (mdb_in old)) (catalog_in new)
     unfolding counts_of

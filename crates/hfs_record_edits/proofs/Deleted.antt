@@ -9,6 +9,7 @@ use Rattle.hfs_fields.specs.declared.extent.Extent.{Extent}
 use Rattle.hfs_fields.specs.Counts.{with_counts}
 use Rattle.hfs_fields.specs.Records.{is_bit_set}
 use Rattle.hfs_btree_edits.proofs.KeptKeyLemmas.{keys-hold}
+use Rattle.hfs_space.proofs.OwnedOnce.{distinct-once}
 use Rattle.hfs_space.specs.Bitmap.{bitmap_len, is_used, clear_count}
 use Rattle.hfs_space.specs.Extents.{Overflow}
 use Rattle.hfs_space.specs.Owners.{owned_blocks, owners}
@@ -36,7 +37,7 @@ use Rattle.hfs_record_edits.specs.Laws.{IsStepped}
 use Rattle.hfs_record_edits.proofs.FromLawful.{sound}
 use Rattle.hfs_catalog.proofs.Held.{with_id}
 use Rattle.hfs_record_edits.proofs.Maps.{same_item_at}
-use Rattle.hfs_record_edits.proofs.Space.{owned_each, each_owned, owned_distinct, distinct_owned}
+use Rattle.hfs_record_edits.proofs.Space.{owned_each, each_owned, distinct_owned}
 use Rattle.hfs_record_edits.proofs.DroppedSpace.{stray_same}
 use Rattle.hfs_record_edits.proofs.DeletedFrames.{overflow_is, catalog_file_stays, contents_kept}
 
@@ -57,10 +58,10 @@ space_less : (blocks after : ℕ → List ℕ) (old new : Mdb) (owned now_owned 
     → ((b : ℕ) → 0 < owners owned b → owners freed b ≡ 0 → is_used after new.bitmap_start b ≡ is_used blocks old.bitmap_start b)
     → new.free_blocks ≡ clear_count after new.bitmap_start new.allocation_blocks → IsSpaceSound blocks old owned → IsSpaceSound after new now_owned
 space_less blocks after old new owned now_owned freed fewer bits free h = record {
-  once = distinct_owned now_owned (λ b. omega (arith, fewer b, owned_distinct owned h.once b));
+  once = distinct_owned now_owned (λ b. omega (arith, fewer b, distinct-once owned h.once b));
   marked = each_owned _ now_owned (λ b some.
       let before : 0 < owners owned b = omega (arith, fewer b, some) in
-      let none : owners freed b ≡ 0 = omega (arith, some, fewer b, owned_distinct owned h.once b) in
+      let none : owners freed b ≡ 0 = omega (arith, some, fewer b, distinct-once owned h.once b) in
       bits b before none ∙ owned_each _ owned h.marked b before);
   counted = free;
 }

@@ -11,6 +11,9 @@ use Rattle.hfs_fields.specs.Each.{Each}
 use Rattle.hfs_fields.proofs.ElementLemmas.{each-append}
 use Rattle.hfs_fields.specs.Members.{In}
 use Rattle.hfs_btree.specs.Sound.{IsOther}
+use Rattle.hfs_btree_edits.proofs.ApartLemmas.{each-take}
+use Rattle.hfs_space.proofs.OwnedOnce.{distinct-once}
+use Rattle.hfs_space.proofs.OwnedLemmas.{blocks-append}
 use Rattle.hfs_space.specs.Bitmap.{bitmap_len}
 use Rattle.hfs_space.specs.Extents.{Overflow, extent_blocks, fork_extents}
 use Rattle.hfs_space.specs.Forks.{blocks_each, fork_bytes}
@@ -26,16 +29,16 @@ use Rattle.hfs_check.specs.Agree.{bitmap_blocks, node_blocks, changing_blocks}
 use Rattle.hfs_record_edits.proofs.ChangesLaws.{KeepsContents}
 use Rattle.hfs_record_edits.specs.Deletion.{EditsVolume, AreOtherFiles}
 use Rattle.hfs_catalog.proofs.Held.{with_id}
-use Rattle.hfs_record_edits.proofs.Space.{extents_parts, record_has, owners_sum, owned_distinct}
+use Rattle.hfs_record_edits.proofs.Space.{record_has, owners_sum}
 use Rattle.hfs_record_edits.proofs.Frames.{each_range, block_in, beside_file, same_bytes}
 use Rattle.hfs_record_edits.proofs.DroppedForks.{extents_kept}
-use Rattle.hfs_record_edits.proofs.CatalogEdits.{each_take, part_of_sum}
+use Rattle.hfs_record_edits.proofs.CatalogEdits.{part_of_sum}
 
 -- who owns a block of a sound volume owns it alone
 module _ (total : ℕ) (old : Blocks) (h : AreBlocksSound total old) where
   pub once : (a : ℕ) → owners (extent_blocks (catalog_extents old)) a + (owners (extent_blocks (mdb_in old).extents_file) a + owners (extent_blocks (bad_extents (overflow_in old))) a) + sum_by (record_has (mdb_in old) (overflow_in old) a) (catalog_in old) ≤ 1
   unfolding owned_in catalog_extents
-  once a = omega (arith, owned_distinct (owned_in old) h.space.once a, owners_sum (mdb_in old) (overflow_in old) a (catalog_in old))
+  once a = omega (arith, distinct-once (owned_in old) h.space.once a, owners_sum (mdb_in old) (overflow_in old) a (catalog_in old))
 
   pub record_once : (r : Record) → In r (catalog_in old) → (a : ℕ) → record_has (mdb_in old) (overflow_in old) a r ≤ 1
   record_once r there a = let o = once a in let part = part_of_sum (record_has (mdb_in old) (overflow_in old) a) (catalog_in old) r there in omega (arith, o, part)
@@ -66,13 +69,13 @@ module _ (counts : Mdb) (total id : ℕ) (old new : Blocks) (h : AreBlocksSound 
   beside : (a j : ℕ) → j < blocks_each mdb → owners (extent_blocks file) a ≡ 0 → new (block_in mdb a j) ≡ old (block_in mdb a j)
   unfolding changing_blocks
   beside a j low none =
-      let parts = extents_parts (catalog_extents old) mdb.extents_file a in
+      let parts = blocks-append (catalog_extents old) mdb.extents_file a in
       let n = block_in mdb a j in
       let far = behind a j in
       let apart : IsOther n 2 = λ (two : 2 ≡ n). (let third = h.mdb.bitmap_behind in omega (arith, far, two, third)) in
       let bits : Each (IsOther n) (bitmap_blocks mdb) = each_range (IsOther n) mdb.bitmap_start (bitmap_len mdb.allocation_blocks) (λ k lt same. omega (arith, far, lt, same)) in
-      let one : Each (IsOther n) (node_blocks mdb mdb.extents_file (extents_nodes old)) = each_take _ _ (block_numbers mdb mdb.extents_file) (beside_file mdb mdb.extents_file a j low (omega (arith, parts, none))) in
-      let two : Each (IsOther n) (node_blocks mdb (catalog_extents old) (catalog_nodes old)) = each_take _ _ (block_numbers mdb (catalog_extents old)) (beside_file mdb (catalog_extents old) a j low (omega (arith, parts, none))) in
+      let one : Each (IsOther n) (node_blocks mdb mdb.extents_file (extents_nodes old)) = each-take _ _ (block_numbers mdb mdb.extents_file) (beside_file mdb mdb.extents_file a j low (omega (arith, parts, none))) in
+      let two : Each (IsOther n) (node_blocks mdb (catalog_extents old) (catalog_nodes old)) = each-take _ _ (block_numbers mdb (catalog_extents old)) (beside_file mdb (catalog_extents old) a j low (omega (arith, parts, none))) in
       edit.others n (
         apart,
         each-append (IsOther n) (bitmap_blocks mdb ++ node_blocks mdb mdb.extents_file (extents_nodes old)) (node_blocks mdb (catalog_extents old) (catalog_nodes old))
@@ -118,13 +121,13 @@ module _ (counts : Mdb) (total id : ℕ) (old new : Blocks) (h : AreBlocksSound 
         let rest_extents = fork_extents overflow f.id 255 f.resource.extents in
         let forks : record_has mdb overflow a r ≡ owners (extent_blocks (data_extents ++ (rest_extents ++ []))) a = ap (λ (b : Bool). owners (extent_blocks (flat_map (extents_in overflow) (cond b (forks_of_file f) []))) a) is in
         let none : owners (extent_blocks []) a ≡ 0 = refl in
-        omega (arith, part_of_sum (record_has mdb overflow a) (catalog_in old) r there, forks, extents_parts data_extents (rest_extents ++ []) a, extents_parts rest_extents [] a, none)
+        omega (arith, part_of_sum (record_has mdb overflow a) (catalog_in old) r there, forks, blocks-append data_extents (rest_extents ++ []) a, blocks-append rest_extents [] a, none)
 
     contents_stay : contents_in new f ≡ contents_in old f
     unfolding contents_in bytes_in
     contents_stay =
-        let one = fork_same f.id 0 f.«data».length f.«data».extents other (λ a some. let o = once total old h a in let b = both_have a in let parts = extents_parts (catalog_extents old) mdb.extents_file a in omega (arith, o, b, some, parts)) (mdb_in new) edit.mdb in
-        let two = fork_same f.id 255 f.resource.length f.resource.extents other (λ a some. let o = once total old h a in let b = both_have a in let parts = extents_parts (catalog_extents old) mdb.extents_file a in omega (arith, o, b, some, parts)) (mdb_in new) edit.mdb in
+        let one = fork_same f.id 0 f.«data».length f.«data».extents other (λ a some. let o = once total old h a in let b = both_have a in let parts = blocks-append (catalog_extents old) mdb.extents_file a in omega (arith, o, b, some, parts)) (mdb_in new) edit.mdb in
+        let two = fork_same f.id 255 f.resource.length f.resource.extents other (λ a some. let o = once total old h a in let b = both_have a in let parts = blocks-append (catalog_extents old) mdb.extents_file a in omega (arith, o, b, some, parts)) (mdb_in new) edit.mdb in
         λ i. (one i, two i)
 
   -- the forks of each file that is left have the bytes that they had

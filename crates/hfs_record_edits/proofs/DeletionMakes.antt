@@ -17,6 +17,7 @@ use Rattle.hfs_btree.specs.Pairs.{Rises}
 use Rattle.hfs_space.specs.Extents.{Overflow, IsExtentWithin, AreExtentsWithin, extent_blocks}
 use Rattle.hfs_space.specs.Owners.{Fork, forks_of, extents_in, owned_blocks, owners}
 use Rattle.hfs_space.specs.Sound.{IsForkSound, AreForksSound}
+use Rattle.hfs_catalog.proofs.FileRecords.{not-dir}
 use Rattle.hfs_record_edits.specs.Overflows.{without_file}
 use Rattle.hfs_model.specs.declared.call.Call.TheVariants as call
 use Rattle.hfs_model.specs.Choices.{to_delete}
@@ -45,7 +46,7 @@ use Rattle.hfs_record_edits.proofs.FromLawful.{each_of}
 use Rattle.hfs_catalog.proofs.Held.{with_id}
 use Rattle.hfs_record_edits.proofs.KeptSpace.{no_file_forks, thread_no_dir, thread_no_file}
 use Rattle.hfs_record_edits.proofs.Linked.{with_thread}
-use Rattle.hfs_record_edits.proofs.Made.{file_id, file-not_dir, dir-not_file, folder_touched, touched_record}
+use Rattle.hfs_record_edits.proofs.Made.{file_id, dir-not_file, folder_touched, touched_record}
 use Rattle.hfs_record_edits.proofs.Space.{record_has, owned_each}
 
 -- ---- what stands in a list of which one element went
@@ -142,13 +143,13 @@ module _ (law : ItemsAreRecords) (catalogs : CatalogIsSound) (total dir clear no
   own = with_id (catalog_in old) id a c.was
 
   file_is : (file_record_of a.1).id ≡ id
-  file_is = sym (file_id a.1 (file-not_dir a.1 d.file)) ∙ own.2
+  file_is = sym (file_id a.1 (not-dir a.1 d.file)) ∙ own.2
 
   given : 16 ≤ id
   given =
       let is = own.2 in
       ⊎_elim
-      (λ (root : IsRoot a). absurd (true≢false (sym root.folder ∙ file-not_dir a.1 d.file)))
+      (λ (root : IsRoot a). absurd (true≢false (sym root.folder ∙ not-dir a.1 d.file)))
       (λ (one : IsGiven next a). let low = one.least in omega (arith, low, is))
       (each_in _ (catalog_in old) a sound.ids.each own.0 own.1)
 
@@ -190,7 +191,7 @@ module _ (law : ItemsAreRecords) (catalogs : CatalogIsSound) (total dir clear no
       let other : eqb dir id ≡ false = ne_eqb dir id (λ (e : dir ≡ id). not_in_itself next id (catalog_in old) a sound c.was (d.dropped.parent ∙ e)) in
       let none : item_with (catalog_in new) id ≡ None = items3 law next id dir a thread r s (catalog_in old) (catalog_in new) sound d.dropped id
       ∙ ap (λ (b : Bool). cond b (Some s) (cond (eqb id id) None (item_with (catalog_in old) id))) other ∙ ap (λ (b : Bool). cond b None (item_with (catalog_in old) id)) (eq-eqb id id refl) in
-      let is : has_id id x ≡ true = λ i. is_item_file x file i && (eq-eqb (item_id x.1) id (file_id x.1 (file-not_dir x.1 file) ∙ same)) i in
+      let is : has_id id x ≡ true = λ i. is_item_file x file i && (eq-eqb (item_id x.1) id (file_id x.1 (not-dir x.1 file) ∙ same)) i in
       none_with (catalog_in new) id x none there is
 
   files : AreOtherFiles id (catalog_in old) (catalog_in new)
@@ -245,10 +246,10 @@ module _ (law : ItemsAreRecords) (catalogs : CatalogIsSound) (total dir clear no
         let here : ◌≡◌ {A = ℕ} (one_if (is_file_in 2 a)) (one_if (eqb dir 2)) = λ j. one_if (d.file j && parent_is j) in
         omega (arith, here, h.counts.root_files, fewer (is_file_in 2) (λ j. d.dropped.edit.alike.file j && eqb (d.dropped.edit.alike.key j).parent 2) (λ x none folder. and_off (is_file x.1) (eqb x.0.parent 2) none));
     root_folders =
-        let here : ◌≡◌ {A = ℕ} (one_if (is_folder_in 2 a)) 0 = ap one_if (and_off (is_dir a.1) (eqb a.0.parent 2) (file-not_dir a.1 d.file)) in
+        let here : ◌≡◌ {A = ℕ} (one_if (is_folder_in 2 a)) 0 = ap one_if (and_off (is_dir a.1) (eqb a.0.parent 2) (not-dir a.1 d.file)) in
         omega (arith, here, h.counts.root_folders, fewer (is_folder_in 2) (λ j. d.dropped.edit.alike.dir j && eqb (d.dropped.edit.alike.key j).parent 2) (λ x none folder. and_off (is_dir x.1) (eqb x.0.parent 2) folder));
     files = omega (arith, yes (is_file a.1) d.file, h.counts.files, fewer (λ x. is_file x.1) d.dropped.edit.alike.file (λ x none folder. none));
-    folders = omega (arith, no (is_dir a.1) (file-not_dir a.1 d.file), h.counts.folders, fewer (λ x. is_dir x.1) d.dropped.edit.alike.dir (λ x none folder. folder));
+    folders = omega (arith, no (is_dir a.1) (not-dir a.1 d.file), h.counts.folders, fewer (λ x. is_dir x.1) d.dropped.edit.alike.dir (λ x none folder. folder));
   }
 
   -- ---- the whole

@@ -27,6 +27,7 @@ use Rattle.hfs_model.specs.Changes.{change}
 use Rattle.hfs_model.specs.FileIds.{with_thread_bit, with_thread, set_thread, to_create_file_id, change_to_id, create_file_id, delete_file_id}
 use Rattle.hfs_model.specs.Choices.{child_to_change}
 use Rattle.hfs_model.specs.Step.{step}
+use Rattle.hfs_catalog.proofs.FileRecords.{not-dir}
 use Rattle.hfs_catalog.specs.Records.{Record, Catalog, item_with, has_thread}
 use Rattle.hfs_catalog.specs.Lookups.{thread_of}
 use Rattle.hfs_catalog.specs.Sound.{IsRecord, is_file_in, is_folder_in, counts_of, AreCountsSound, IsSoundCatalog}
@@ -60,7 +61,7 @@ use Rattle.hfs_record_edits.proofs.Turned.{HasTurned, threads_after, renamed_nea
 use Rattle.hfs_record_edits.proofs.TurnedForks.{as_many, turned_forks, turned_owners}
 use Rattle.hfs_record_edits.proofs.KeptSpace.{thread_no_dir, thread_no_file}
 use Rattle.hfs_record_edits.proofs.CatalogEdits.{keeps_contents}
-use Rattle.hfs_record_edits.proofs.Made.{kept_with, file-no_dir, file-is, file_id, file_item, file-not_dir, file-read, file_alike}
+use Rattle.hfs_record_edits.proofs.Made.{kept_with, file-no_dir, file-is, file_id, file_item, file-read, file_alike}
 
 -- ---- bit 1 of the flags
 
@@ -131,7 +132,7 @@ module _ (law : ItemsAreRecords) (catalogs : CatalogIsSound) (total now k : ℕ)
   -- ---- the item
 
   own_id : f.id ≡ k
-  own_id = sym (file_id r.1 (file-not_dir r.1 file)) ∙ (with_id (catalog_in old) k r moved.was).2
+  own_id = sym (file_id r.1 (not-dir r.1 file)) ∙ (with_id (catalog_in old) k r moved.was).2
 
   known : (o : Option Record) → is_some o ≡ is_there o
   known None = refl
@@ -147,9 +148,9 @@ module _ (law : ItemsAreRecords) (catalogs : CatalogIsSound) (total now k : ℕ)
   made_item =
       file_item (contents_in new) (catalog_in new) s (file-no_dir g)
       ∙ ap (λ (x : FileRecord). file_of (has_thread (catalog_in new) x.id) (contents_in new x) r.0 x) (file-read g ok)
-      ∙ (λ j. file_of (threaded j) ((flag_contents new there f ∙ contents_kept k r moved.was (file-not_dir r.1 file)) j) r.0 g)
+      ∙ (λ j. file_of (threaded j) ((flag_contents new there f ∙ contents_kept k r moved.was (not-dir r.1 file)) j) r.0 g)
       ∙ flagged (has_thread (catalog_in old) f.id) there (contents_in old f) r.0 f
-      ∙ ap (λ (y : Item). record y { kind = with_thread there y.kind }) (sym (file_item (contents_in old) (catalog_in old) r (file-not_dir r.1 file)))
+      ∙ ap (λ (y : Item). record y { kind = with_thread there y.kind }) (sym (file_item (contents_in old) (catalog_in old) r (not-dir r.1 file)))
 
   -- ---- counts and forks
 
@@ -218,9 +219,9 @@ module _ (next k : ℕ) (r : Record) (there : Bool) (thread turned : Option Reco
         id = alike.id;
         name = each_in (λ (x : Record). is_item x.1 ≡ true → IsTrue (is_item_name x.0.name)) old r h.names.items own.0 own.1;
         record_form = form;
-        valence = λ d. absurd (true≢false (sym d ∙ file-not_dir r.1 file));
+        valence = λ d. absurd (true≢false (sym d ∙ not-dir r.1 file));
         its = its;
-        threaded = λ d. absurd (true≢false (sym d ∙ file-not_dir r.1 file));
+        threaded = λ d. absurd (true≢false (sym d ∙ not-dir r.1 file));
       }
 
 -- ---- CreateFileId
@@ -264,7 +265,7 @@ create_file_id_steps law catalogs total now dir name r old new h c d =
     let alike : IsAlike r s = file_alike r (with_thread_flag true f) d.was d.value refl in
     let named : is_item_name r.0.name ≡ true = each_in (λ (x : Record). is_item x.1 ≡ true → IsTrue (is_item_name x.0.name)) catalog r sound.names.items own.0 own.1 in
     let th = thread_record c.id (new_thread File r.0.parent r.0.name) in
-    let its : IsItsThread c.id s th = new_thread_is File c.id s (sym (alike.dir ∙ file-not_dir r.1 d.was)) named d.thread_value in
+    let its : IsItsThread c.id s th = new_thread_is File c.id s (sym (alike.dir ∙ not-dir r.1 d.was)) named d.thread_value in
     thread_makes law catalogs total now c.id r true None (Some th) old new h d.was d.value
     (turned_in_place (mdb_in old).next_id c.id r true None (Some th) catalog d.second (catalog_in new) sound d.was d.value was d.file_set d.thread_came its own c.was)
     refl d.tree (call.CreateFileId dir name now)

@@ -15,6 +15,7 @@ use Rattle.hfs_btree.specs.Pairs.{lookup, pairs_from, Rises}
 use Rattle.hfs_btree.specs.Lookups.{first_pair}
 use Rattle.hfs_btree_edits.specs.Conditions.{IsThere}
 use Rattle.hfs_btree_edits.specs.Edits.{without_pair}
+use Rattle.hfs_space.proofs.Copied.{zero_first}
 use Rattle.hfs_space.specs.Extents.{Overflow}
 use Rattle.hfs_record_edits.specs.Overflows.{is_of_other, without_file, AreOfOthers, IsKeyOf}
 use Rattle.hfs_fields.proofs.OrderLemmas.{eq_is}
@@ -44,14 +45,6 @@ first-of-less a c rest e =
     (λ equal h. omega arith)
     (λ greater h. absurd (let no : Greater ≡ Less = sym (ap (λ o. ordering_then o rest) greater) ∙ e in cc))
 
--- no number is below 0
-least-number : (b : ℕ) (rest : Ordering) → is_gt rest ≡ false → is_gt (ordering_then (nat_cmp 0 b) rest) ≡ false
-least-number b rest e =
-    by_ranked (0 < b) (0 ≡ b) (b < 0) (nat_cmp 0 b) (ranked 0 b (nat_cmp 0 b) refl)
-    (λ less h. ap (λ o. is_gt (ordering_then o rest)) less)
-    (λ equal h. ap (λ o. is_gt (ordering_then o rest)) equal ∙ e)
-    (λ greater h. absurd (omega arith))
-
 abbrev pub least : ℕ → ExtKey
 least file = record { fork = 0; file = file; block = 0 }
 
@@ -59,7 +52,7 @@ least file = record { fork = 0; file = file; block = 0 }
 file-before : (file : ℕ) (k : ExtKey) → is_gt (ext_cmp (least file) k) ≡ true → k.file < file
 file-before file k e =
     let rest = ordering_then (nat_cmp 0 k.fork) (nat_cmp 0 k.block) in
-    let low : is_gt rest ≡ false = least-number k.fork (nat_cmp 0 k.block) (last k.block) in
+    let low : is_gt rest ≡ false = zero_first k.fork (nat_cmp 0 k.block) (last k.block) in
     by_ranked (file < k.file) (file ≡ k.file) (k.file < file) (nat_cmp file k.file) (ranked file k.file (nat_cmp file k.file) refl)
     (λ less h. absurd (true≢false (sym e ∙ ap (λ o. is_gt (ordering_then o rest)) less)))
     (λ equal h. absurd (true≢false (sym e ∙ ap (λ o. is_gt (ordering_then o rest)) equal ∙ low)))
@@ -112,7 +105,7 @@ none-past file (r ∷ rs) rises past = elim (is_gt (ext_cmp (least file) r.0)) a
       (other file r apart, all-above file r rs above rises.0)
 ] refl past
 
-itself : (k : ExtKey) → is_eq (ext_cmp k k) ≡ true
+pub itself : (k : ExtKey) → is_eq (ext_cmp k k) ≡ true
 itself k = ap is_eq (tied_itself ext_cmp_total k)
 
 pub there-or : (b : Bool) (body : List ℕ) (o : Option (List ℕ)) → IsThere o → IsThere (cond b (Some body) o)

@@ -14,6 +14,7 @@ use Rattle.hfs_btree.specs.Pairs.{lookup, pairs_from, Rises}
 use Rattle.hfs_btree.specs.Lookups.{first_pair}
 use Rattle.hfs_btree_edits.specs.Conditions.{IsThere}
 use Rattle.hfs_btree_edits.specs.Edits.{without_pair}
+use Rattle.hfs_space.proofs.LookupLemmas.{nat_equal}
 use Rattle.hfs_space.specs.Extents.{Overflow}
 use Rattle.hfs_fields.proofs.OrderLemmas.{eq_is}
 use Rattle.hfs_space.proofs.RunSteps.{Record}
@@ -51,13 +52,6 @@ first-equal a c rest e =
     (λ equal h. (h, sym (ap (λ o. ordering_then o rest) equal) ∙ e))
     (λ greater h. absurd (let no : Greater ≡ Equal = sym (ap (λ o. ordering_then o rest) greater) ∙ e in cc))
 
-last-equal : (a c : ℕ) → nat_cmp a c ≡ Equal → a ≡ c
-last-equal a c e =
-    by_ranked (a < c) (a ≡ c) (c < a) (nat_cmp a c) (ranked a c (nat_cmp a c) refl)
-    (λ less h. absurd (let no : Less ≡ Equal = sym less ∙ e in cc))
-    (λ equal h. h)
-    (λ greater h. absurd (let no : Greater ≡ Equal = sym greater ∙ e in cc))
-
 -- a key that is at most another of the same fork
 abbrev IsAtMostKey : ExtKey → ExtKey → Type 0
 IsAtMostKey a b = is_gt (ext_cmp a b) ≡ false
@@ -76,7 +70,7 @@ same-key : (a b : ExtKey) → is_eq (ext_cmp a b) ≡ true → (a.file ≡ b.fil
 same-key a b e =
     let one = first-equal a.file b.file (ordering_then (nat_cmp a.fork b.fork) (nat_cmp a.block b.block)) (eq_is (ext_cmp a b) e) in
     let two = first-equal a.fork b.fork (nat_cmp a.block b.block) one.1 in
-    (one.0, two.0, last-equal a.block b.block two.1)
+    (one.0, two.0, nat_equal a.block b.block two.1)
 
 -- ---- the records from a key on
 

@@ -3,7 +3,7 @@ use Rattle.std.proofs.Common.{◌≡◌, ◌⊎◌, inl, inr, ⊎_elim, List, []
 use Rattle.hfs_fields.specs.declared.key.CatKey.{CatKey}
 use Rattle.hfs_fields.specs.Each.{Each}
 use Rattle.hfs_fields.specs.Members.{In}
-use Rattle.hfs_fields.proofs.MemberLemmas.{each_in}
+use Rattle.hfs_fields.proofs.MemberLemmas.{each_in, in-left, in-right}
 use Rattle.hfs_btree.specs.Tree.{Store}
 use Rattle.hfs_btree_edits.specs.Edits.{KeepsTree}
 use Rattle.hfs_btree_edits.proofs.BehindLemmas.{node-behind}
@@ -14,14 +14,6 @@ use Rattle.hfs_record_edits.specs.Keeps.{KeepsCatalog}
 use Rattle.hfs_fields.proofs.PartLemmas.{in_parts}
 
 -- ---- elements of lists laid together
-
-pub in_left : {A : Type 0} (x : A) (xs ys : List A) → In x xs → In x (xs ++ ys)
-in_left x [] ys there = absurd there
-in_left x (y ∷ xs) ys there = ⊎_elim (λ (e : y ≡ x). inl e) (λ (later : In x xs). inr (in_left x xs ys later)) there
-
-pub in_right : {A : Type 0} (x : A) (xs ys : List A) → In x ys → In x (xs ++ ys)
-in_right x [] ys there = there
-in_right x (y ∷ xs) ys there = inr (in_right x xs ys there)
 
 three_parts : {A : Type 0} (x : A) (xs ys zs : List A) → In x (xs ++ (ys ++ zs)) → In x ((xs ++ ys) ++ zs)
 three_parts x [] ys zs there = there
@@ -84,7 +76,7 @@ keeps_then first second old middle new a b = record {
 }
   where
     own : Each (λ k. In k ((second ++ first) ++ tree_keys cat_keys old)) second
-    own = each_of second (λ k here. three_parts k second first (tree_keys cat_keys old) (in_left k second (first ++ tree_keys cat_keys old) here))
+    own = each_of second (λ k here. three_parts k second first (tree_keys cat_keys old) (in-left k second (first ++ tree_keys cat_keys old) here))
       where
         each_of : (xs : List CatKey) → ((k : CatKey) → In k xs → In k ((second ++ first) ++ tree_keys cat_keys old)) → Each (λ k. In k ((second ++ first) ++ tree_keys cat_keys old)) xs
         each_of [] f = tt
@@ -93,7 +85,7 @@ keeps_then first second old middle new a b = record {
     was : EachKey cat_keys (λ k. In k ((second ++ first) ++ tree_keys cat_keys old)) middle
     was =
         each-key-mono cat_keys old middle (λ k. In k (first ++ tree_keys cat_keys old)) (λ k. In k ((second ++ first) ++ tree_keys cat_keys old))
-        (λ k there. three_parts k second first (tree_keys cat_keys old) (in_right k second (first ++ tree_keys cat_keys old) there)) a.keys
+        (λ k there. three_parts k second first (tree_keys cat_keys old) (in-right k second (first ++ tree_keys cat_keys old) there)) a.keys
 
 -- more keys than came may be named
 pub keeps_more : (more given : List CatKey) (old new : Store) → KeepsCatalog given old new → KeepsCatalog (more ++ given) old new
@@ -105,7 +97,7 @@ keeps_more more given old new h = record {
   behind = h.behind;
   keys =
       each-key-mono cat_keys old new (λ k. In k (given ++ tree_keys cat_keys old)) (λ k. In k ((more ++ given) ++ tree_keys cat_keys old))
-      (λ k there. three_parts k more given (tree_keys cat_keys old) (in_right k more (given ++ tree_keys cat_keys old) there)) h.keys;
+      (λ k there. three_parts k more given (tree_keys cat_keys old) (in-right k more (given ++ tree_keys cat_keys old) there)) h.keys;
 }
 
 -- the keys that came may be named in another turn
@@ -123,7 +115,7 @@ keeps_turned first second old new h = record {
     by k there =
         ⊎_elim
         (λ (came : In k (first ++ second)).
-        in_left k (second ++ first) (tree_keys cat_keys old)
-        (⊎_elim (λ (here : In k first). in_right k second first here) (λ (here : In k second). in_left k second first here) (in_parts k first second came)))
-        (λ (was : In k (tree_keys cat_keys old)). in_right k (second ++ first) (tree_keys cat_keys old) was)
+        in-left k (second ++ first) (tree_keys cat_keys old)
+        (⊎_elim (λ (here : In k first). in-right k second first here) (λ (here : In k second). in-left k second first here) (in_parts k first second came)))
+        (λ (was : In k (tree_keys cat_keys old)). in-right k (second ++ first) (tree_keys cat_keys old) was)
         (in_parts k (first ++ second) (tree_keys cat_keys old) there)

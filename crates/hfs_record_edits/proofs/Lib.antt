@@ -38,7 +38,7 @@ mod AddedRecords
 mod WholeLemmas
 mod ExtentsRoomLemmas
 mod ShortLemmas
-mod WantsProved
+pub mod WantsProved
 pub mod Items
 pub mod FromLawful
 pub mod Linked

@@ -12,6 +12,7 @@ use Rattle.hfs_fields.proofs.RecordFormLemmas.{is_dir-written, dir_record_of-wri
 use Rattle.hfs_model.specs.declared.item.Kind.TheVariants as kind
 use Rattle.hfs_model.specs.Changes as model
 use Rattle.hfs_model.specs.Changes.{new_item, with_lock}
+use Rattle.hfs_catalog.proofs.FileRecords.{not-dir}
 use Rattle.hfs_catalog.specs.Records.{Record, Catalog, has_thread}
 use Rattle.hfs_catalog.specs.Lookups.{thread_of}
 use Rattle.hfs_catalog.specs.Items.{Contents, folder_of, folder_kept, no_finder_info, fork_kept, file_of, file_kept, item_of}
@@ -42,9 +43,6 @@ dir_id body e = ap (λ (b : Bool). cond b (dir_record_of body).id (file_record_o
 pub no_both : (body : List ℕ) → is_file body ≡ true → is_dir body ≡ true → ⊥
 no_both body f d = omega (arith, eqb-true (type_byte body) 2 (and_parts (eqb (type_byte body) 2) (eqb (length body) 102) f).0, eqb-true (type_byte body) 1 (and_parts (eqb (type_byte body) 1) (eqb (length body) 70) d).0)
 
-pub file-not_dir : (body : List ℕ) → is_file body ≡ true → is_dir body ≡ false
-file-not_dir body f = elim (is_dir body) as (λ (b : Bool). is_dir body ≡ b → b ≡ false) [ true ↦ λ d. absurd (no_both body f d) | false ↦ λ d. refl ] refl
-
 pub dir-not_file : (body : List ℕ) → is_dir body ≡ true → is_file body ≡ false
 dir-not_file body d = elim (is_file body) as (λ (b : Bool). is_file body ≡ b → b ≡ false) [ true ↦ λ f. absurd (no_both body f d) | false ↦ λ f. refl ] refl
 
@@ -70,9 +68,9 @@ module _ (r : Record) (g : FileRecord) (file : is_file r.1 ≡ true) (ok : IsFil
   pub file_alike : IsAlike r s
   file_alike = record {
     key = refl;
-    dir = file-no_dir g ∙ sym (file-not_dir r.1 file);
+    dir = file-no_dir g ∙ sym (not-dir r.1 file);
     file = file-is g ok ∙ sym file;
-    id = file_id (file_record_bytes g) (file-no_dir g) ∙ ap (λ (f : FileRecord). f.id) (file-read g ok) ∙ id ∙ sym (file_id r.1 (file-not_dir r.1 file));
+    id = file_id (file_record_bytes g) (file-no_dir g) ∙ ap (λ (f : FileRecord). f.id) (file-read g ok) ∙ id ∙ sym (file_id r.1 (not-dir r.1 file));
   }
 
   -- its item, where the thread and the forks are as they were

@@ -4,10 +4,8 @@ use Rattle.std.specs.Prelude.{◌==◌, ◌&&◌, nat_le, nat_lt}
 use Rattle.std.proofs.Math.Nat.{mul-suc, suc-mul}
 use Rattle.std.proofs.lemmas.Bool.{cases_eq, cases_lt, cond-true, cond-false, le-leb, ne_eqb}
 use Rattle.std.proofs.lemmas.Bool.Decides.{leb_tells}
+use Rattle.hfs_fields.proofs.DecisionLemmas.{both_true}
 use Rattle.hfs_record_edits.specs.Need.{extents_need}
-
-both : (a b : Bool) → a ≡ true → b ≡ true → (a && b) ≡ true
-both a b p q = ap (λ (x : Bool). x && b) p ∙ q
 
 not-first : (a b : Bool) → a ≡ false → (a && b) ≡ false
 not-first a b p = ap (λ (x : Bool). x && b) p
@@ -39,7 +37,7 @@ need-none d r = refl
 pub need-leaf : (n d r : ℕ) → 0 < n → d ≤ 1 → r + n ≤ 22 → extents_need n d r ≡ 1 - d
 unfolding extents_need
 need-leaf n d r some flat few =
-    cond-false (n == 0) 0 _ (some-no n some) ∙ cond-true (nat_le d 1 && nat_le (r + n) 22) (1 - d) _ (both (nat_le d 1) (nat_le (r + n) 22) (le-leb d 1 flat) (le-leb (r + n) 22 few))
+    cond-false (n == 0) 0 _ (some-no n some) ∙ cond-true (nat_le d 1 && nat_le (r + n) 22) (1 - d) _ (both_true (nat_le d 1) (nat_le (r + n) 22) (le-leb d 1 flat) (le-leb (r + n) 22 few))
 
 pub need-many : (n d r : ℕ) → 0 < n → IsOver n d r → 16 < d + n → extents_need n d r ≡ 4294967296
 unfolding extents_need

@@ -16,10 +16,11 @@ use Rattle.hfs_fields.proofs.MemberLemmas.{each_in}
 use Rattle.hfs_space.specs.Extents.{Overflow, block_total, record_extents, goes_on, run_on}
 use Rattle.hfs_space.specs.Owners.{Fork, forks_of_file, forks_of, catalog_fork, all_forks, records_in, is_bad_blocks, goes_on_with}
 use Rattle.hfs_space.specs.Sound.{AreForksSound}
+use Rattle.hfs_catalog.proofs.FileRecords.{not-dir}
 use Rattle.hfs_catalog.specs.Records.{Record, Catalog}
 use Rattle.hfs_catalog.specs.Sound.{IsRoot, IsGiven, IsSoundCatalog}
 use Rattle.hfs_record_edits.proofs.ForkLemmas.{any_in}
-use Rattle.hfs_record_edits.proofs.Made.{file_id, file-not_dir}
+use Rattle.hfs_record_edits.proofs.Made.{file_id}
 use Rattle.hfs_space.proofs.RunSteps.{Record as ExtRecord}
 
 then_differs : (o p : Ordering) → is_eq o ≡ false → is_eq (ordering_then o p) ≡ false
@@ -55,7 +56,7 @@ module _ (mdb : Mdb) (overflow : Overflow) (next : ℕ) (old : Catalog) (least :
   -- no file has the next ID
   file_below : (r : Record) → In r old → is_file r.1 ≡ true → (next ≡ (file_record_of r.1).id → ⊥)
   file_below r there file same =
-      let own : item_id r.1 ≡ (file_record_of r.1).id = file_id r.1 (file-not_dir r.1 file) in
+      let own : item_id r.1 ≡ (file_record_of r.1).id = file_id r.1 (not-dir r.1 file) in
       ⊎_elim
       (λ (root : IsRoot r). omega (arith, root.id, own, same, least))
       (λ (given : IsGiven next r). omega (arith, given.given, own, same))

@@ -4,10 +4,11 @@ use Rattle.std.specs.declared.cmp.Ordering.TheVariants.{Less, Equal, Greater}
 use Rattle.std.specs.Ordering.{nat_cmp, ordering_then, is_eq, is_gt}
 use Rattle.std.proofs.lemmas.Cmp.{ranked, by_ranked, tied_itself}
 use Rattle.std.proofs.lemmas.Bool.{eqb-true, eq-eqb, cases_Bool, and_parts, true≢false}
+use Rattle.hfs_fields.proofs.DecisionLemmas.{both_true}
 use Rattle.hfs_fields.specs.declared.key.ExtKey.{ExtKey}
 use Rattle.hfs_fields.specs.Keys.{ext_cmp, ext_cmp_total}
-use Rattle.hfs_fields.proofs.KeyOrder.{ext_key_order}
-use Rattle.hfs_fields.proofs.OrderLemmas.{eq_is}
+use Rattle.hfs_fields.proofs.KeyOrder.{ext_key_order, same}
+use Rattle.hfs_fields.proofs.OrderLemmas.{eq_is, more}
 use Rattle.hfs_fields.specs.Each.{Each}
 use Rattle.hfs_fields.proofs.ElementLemmas.{each-mono}
 use Rattle.hfs_btree.specs.Pairs.{lookup, Rises}
@@ -21,26 +22,9 @@ use Rattle.hfs_record_edits.specs.Records.{of_fork}
 
 -- ---- keys
 
-tied : (a c : ℕ) → a ≡ c → nat_cmp a c ≡ Equal
-tied a c same =
-    by_ranked (a < c) (a ≡ c) (c < a) (nat_cmp a c) (ranked a c (nat_cmp a c) refl)
-    (λ less h. absurd (omega (arith, h, same)))
-    (λ equal h. equal)
-    (λ greater h. absurd (omega (arith, h, same)))
-
-above : (a c : ℕ) → c < a → nat_cmp a c ≡ Greater
-above a c lt =
-    by_ranked (a < c) (a ≡ c) (c < a) (nat_cmp a c) (ranked a c (nat_cmp a c) refl)
-    (λ less h. absurd (omega (arith, h, lt)))
-    (λ equal h. absurd (omega (arith, h, lt)))
-    (λ greater h. greater)
-
-pub both-true : (a b : Bool) → a ≡ true → b ≡ true → (a && b) ≡ true
-both-true a b p q = ap (λ (x : Bool). x && b) p ∙ q
-
 -- the record is of the fork of its own key
 key-own : (key : ExtKey) (body : List ℕ) → is_of_fork key.file key.fork (key, body) ≡ true
-key-own key body = both-true (eqb key.file key.file) (eqb key.fork key.fork) (eq-eqb key.file key.file refl) (eq-eqb key.fork key.fork refl)
+key-own key body = both_true (eqb key.file key.file) (eqb key.fork key.fork) (eq-eqb key.file key.file refl) (eq-eqb key.fork key.fork refl)
 
 key-other : (f k : ℕ) (key : ExtKey) (body : List ℕ) → (f ≡ key.file → k ≡ key.fork → ⊥) → is_of_fork f k (key, body) ≡ false
 key-other f k key body apart = elim (cases_Bool (is_of_fork f k (key, body))) [
@@ -52,9 +36,9 @@ key-other f k key body apart = elim (cases_Bool (is_of_fork f k (key, body))) [
 pub own-above : (key : ExtKey) (r : Record) → is_of_fork key.file key.fork r ≡ true → r.0.block < key.block → ext_cmp key r.0 ≡ Greater
 own-above key r own lt =
     let parts = and_parts (eqb r.0.file key.file) (eqb r.0.fork key.fork) own in
-    let a = tied key.file r.0.file (sym (eqb-true r.0.file key.file parts.0)) in
-    let b = tied key.fork r.0.fork (sym (eqb-true r.0.fork key.fork parts.1)) in
-    let c = above key.block r.0.block lt in
+    let a = same key.file r.0.file (sym (eqb-true r.0.file key.file parts.0)) in
+    let b = same key.fork r.0.fork (sym (eqb-true r.0.fork key.fork parts.1)) in
+    let c = more key.block r.0.block lt in
     λ i. ordering_then (a i) (ordering_then (b i) (c i))
 
 -- a record with an equal key has the same key
@@ -74,7 +58,7 @@ module _ (key : ExtKey) (body : List ℕ) where
 
   -- ---- one that comes
 
-  -- where all of the fork's records are earlier, none is above the key
+  -- where all of the fork's records are earlier, none is more the key
   none-above : (ys : Overflow) → Each (λ (y : Record). is_gt (ext_cmp key y.0) ≡ false) ys → Each IsEarlier (of ys) → of ys ≡ []
   none-above [] high early = refl
   none-above (y ∷ ys) high early = elim (is_of_fork key.file key.fork y)

@@ -11,7 +11,7 @@ use Rattle.hfs_fields.specs.Keys.{cat_cmp}
 use Rattle.hfs_fields.specs.Order.{name_cmp}
 use Rattle.hfs_fields.specs.Records.{is_item, item_id}
 use Rattle.hfs_fields.specs.Members.{In}
-use Rattle.hfs_fields.proofs.MemberLemmas.{each_in, found_in}
+use Rattle.hfs_fields.proofs.MemberLemmas.{each_in, found_in, in-left, in-right}
 use Rattle.hfs_btree.specs.Pairs.{Rises}
 use Rattle.hfs_btree_edits.specs.Edits.{IsAboveFirst}
 use Rattle.hfs_catalog.specs.Records.{Record, Catalog, has_id}
@@ -19,7 +19,6 @@ use Rattle.hfs_catalog.specs.Sound.{HasRightId, AreIdsSound, IsRoot, IsGiven}
 use Rattle.hfs_record_edits.specs.Swaps.{Swaps, list_of}
 use Rattle.hfs_record_edits.specs.Roots.{HasRoot}
 use Rattle.hfs_catalog.proofs.Steps.{parents_rise}
-use Rattle.hfs_record_edits.proofs.KeepLemmas.{in_left, in_right}
 use Rattle.hfs_fields.proofs.PartLemmas.{in_parts}
 
 -- a sound catalog has it
@@ -43,11 +42,11 @@ module _ {X : Type 0} (went come : Option X) (old new : List X) (swap : Swaps we
   swapped_in x other there =
       subst (In x) (sym swap.is)
       (⊎_elim
-      (λ (before : In x swap.before). in_left x swap.before (list_of come ++ swap.behind) before)
+      (λ (before : In x swap.before). in-left x swap.before (list_of come ++ swap.behind) before)
       (λ (rest : In x (list_of went ++ swap.behind)).
       ⊎_elim
       (λ (is : In x (list_of went)). absurd (other is))
-      (λ (behind : In x swap.behind). in_right x swap.before (list_of come ++ swap.behind) (in_right x (list_of come) swap.behind behind))
+      (λ (behind : In x swap.behind). in-right x swap.before (list_of come ++ swap.behind) (in-right x (list_of come) swap.behind behind))
       (in_parts x (list_of went) swap.behind rest))
       (in_parts x swap.before (list_of went ++ swap.behind) (subst (In x) swap.was there)))
 
@@ -63,11 +62,11 @@ root_stays went come old new swap other has = record {
 pub root_set : (r s : Record) (old new : Catalog) → Swaps (Some r) (Some s) old new → s.0.parent ≡ r.0.parent → HasRoot old → HasRoot new
 root_set r s old new swap same has =
     ⊎_elim
-    (λ (before : In has.root swap.before). kept (in_left has.root swap.before (s ∷ swap.behind) before))
+    (λ (before : In has.root swap.before). kept (in-left has.root swap.before (s ∷ swap.behind) before))
     (λ (rest : In has.root (r ∷ swap.behind)).
     ⊎_elim
-    (λ (is : r ≡ has.root). record { root = s; there = subst (In s) (sym swap.is) (in_right s swap.before (s ∷ swap.behind) (inl refl)); parent = same ∙ ap (λ (q : Record). q.0.parent) is ∙ has.parent })
-    (λ (behind : In has.root swap.behind). kept (in_right has.root swap.before (s ∷ swap.behind) (inr behind)))
+    (λ (is : r ≡ has.root). record { root = s; there = subst (In s) (sym swap.is) (in-right s swap.before (s ∷ swap.behind) (inl refl)); parent = same ∙ ap (λ (q : Record). q.0.parent) is ∙ has.parent })
+    (λ (behind : In has.root swap.behind). kept (in-right has.root swap.before (s ∷ swap.behind) (inr behind)))
     rest)
     (in_parts has.root swap.before (r ∷ swap.behind) (subst (In has.root) swap.was has.there))
   where

@@ -12,6 +12,7 @@ use Rattle.hfs_fields.specs.declared.key.CatKey.{CatKey}
 use Rattle.std.specs.List.{find}
 use Rattle.std.specs.Ordering.{is_eq}
 use Rattle.std.proofs.lemmas.Option.{none-some, same_Some}
+use Rattle.hfs_catalog.proofs.FileRecords.{not-dir}
 use Rattle.hfs_record_edits.proofs.EditedLemmas.{at_equal_key, with_replaced-swaps}
 use Rattle.hfs_catalog.proofs.Held.{with_id}
 use Rattle.hfs_fields.specs.Records.{is_dir, is_file, dir_record_of, file_record_of}
@@ -42,7 +43,7 @@ use Rattle.hfs_record_edits.proofs.SetItems as setting
 use Rattle.hfs_record_edits.proofs.KeptSpace.{set_forks, set_owners}
 use Rattle.hfs_record_edits.proofs.CatalogEdits.{keeps_contents}
 use Rattle.hfs_record_edits.proofs.Maps.{folder_item as dir_item}
-use Rattle.hfs_record_edits.proofs.Made.{file_alike, file-is, file_item, file_set, file-not_dir, file-read, dir_alike, dir-not_file, dir-read}
+use Rattle.hfs_record_edits.proofs.Made.{file_alike, file-is, file_item, file_set, file-read, dir_alike, dir-not_file, dir-read}
 use Rattle.hfs_fields.proofs.OrderLemmas.{equal-own}
 
 -- ---- counts
@@ -115,7 +116,7 @@ module _ (law : ItemsAreRecords) (catalogs : CatalogIsSound) (total now i : ℕ)
   module _ (swap : Swaps (Some r) (Some s) (catalog_in old) (catalog_in new)) (t : HasTree (at_time now (mdb_in old)) old new)
       (id : g.id ≡ f.id) (forks : forks_of_file g ≡ forks_of_file f) (contents : contents_in new g ≡ contents_in new f) where
     set : HasSet i r s (catalog_in old) (catalog_in new)
-    set = record { swap = swap; was = was; alike = file_alike r g file ok id; valence = λ d. absurd (true≢false (sym d ∙ file-not_dir r.1 file)) }
+    set = record { swap = swap; was = was; alike = file_alike r g file ok id; valence = λ d. absurd (true≢false (sym d ∙ not-dir r.1 file)) }
 
     same_forks : forks_of s ≡ forks_of r
     same_forks =
@@ -126,14 +127,14 @@ module _ (law : ItemsAreRecords) (catalogs : CatalogIsSound) (total now i : ℕ)
     made_item =
         file_set r g file ok id (contents_in old) (contents_in new) (catalog_in old) (catalog_in new)
         (setting.threads law (mdb_in old).next_id i r s (catalog_in old) (catalog_in new) (catalogs total old h) (rises law catalogs total now i r s old new h t set same_forks) set)
-        (contents ∙ keeps_contents (at_time now (mdb_in old)) total old new h t.edits i r was (file-not_dir r.1 file))
+        (contents ∙ keeps_contents (at_time now (mdb_in old)) total old new h t.edits i r was (not-dir r.1 file))
 
     pub file_makes : (c : Call) (told : Item → Item) → file_of threaded (contents_in old f) r.0 g ≡ told (file_of threaded (contents_in old f) r.0 f)
         → (step (volume_in old) c).0 ≡ record (volume_in old) { items = map.insert (items_in (contents_in old) (catalog_in old)) i (told item); next_id = (mdb_in old).next_id; changed = now }
         → MakesStep c (at_time now (mdb_in old)) old new
     file_makes c told is made =
         set_makes law catalogs total now i r s old new h t set same_forks c (told item)
-        (made_item ∙ is ∙ ap told (sym (file_item (contents_in old) (catalog_in old) r (file-not_dir r.1 file)))) made
+        (made_item ∙ is ∙ ap told (sym (file_item (contents_in old) (catalog_in old) r (not-dir r.1 file)))) made
 
 -- ---- a folder's record
 

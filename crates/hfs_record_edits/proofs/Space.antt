@@ -8,6 +8,8 @@ use Rattle.hfs_fields.specs.declared.mdb.Mdb.{Mdb}
 use Rattle.hfs_fields.specs.declared.extent.Extent.{Extent}
 use Rattle.hfs_fields.specs.Each.{Each}
 use Rattle.hfs_btree.specs.Sound.{IsDistinct, IsOther}
+use Rattle.hfs_space.proofs.OwnedOnce.{distinct-once}
+use Rattle.hfs_space.proofs.OwnedLemmas.{blocks-append}
 use Rattle.hfs_space.specs.Extents.{Overflow, extent_blocks}
 use Rattle.hfs_space.specs.Owners.{Fork, forks_of, catalog_fork, all_forks, extents_in, bad_extents, owned_extents, owned_blocks, owners}
 use Rattle.hfs_space.specs.Bitmap.{is_used, clear_count}
@@ -45,13 +47,6 @@ distinct_owned (x ∷ xs) h = (
   distinct_owned xs (λ b. omega (arith, h b, cons b x xs)),
 )
 
-pub owned_distinct : (xs : List ℕ) → IsDistinct xs → (b : ℕ) → owners xs b ≤ 1
-owned_distinct [] h b = omega arith
-owned_distinct (x ∷ xs) h b = elim (eqb x b) as (λ (t : Bool). eqb x b ≡ t → owners (x ∷ xs) b ≤ 1) [
-  | true ↦ λ e. omega (arith, cons b x xs, one (eqb x b) e, none_other b xs (subst (λ (y : ℕ). Each (IsOther y) xs) (eqb-true x b e) h.0))
-  | false ↦ λ e. omega (arith, cons b x xs, no (eqb x b) e, owned_distinct xs h.1 b)
-] refl
-
 -- a fact of each number that stands there
 pub each_owned : (P : ℕ → Type 0) (xs : List ℕ) → ((b : ℕ) → 0 < owners xs b → P b) → Each P xs
 each_owned P [] h = tt
@@ -69,9 +64,6 @@ owned_each P (x ∷ xs) h b some = elim (eqb x b) as (λ (t : Bool). eqb x b ≡
 
 -- ---- the blocks of forks
 
-pub extents_parts : (xs ys : List Extent) (b : ℕ) → owners (extent_blocks (xs ++ ys)) b ≡ owners (extent_blocks xs) b + owners (extent_blocks ys) b
-extents_parts xs ys b = ap (λ l. owners l b) (flat_map-append (λ (e : Extent). range_with_len e.first e.count) xs ys) ∙ append b (extent_blocks xs) (extent_blocks ys)
-
 module _ (mdb : Mdb) (overflow : Overflow) (b : ℕ) where
   -- how often a record's forks have the block
   abbrev pub forks_have : List Fork → ℕ
@@ -85,7 +77,7 @@ module _ (mdb : Mdb) (overflow : Overflow) (b : ℕ) where
   others_have = owners (extent_blocks (extents_in overflow (catalog_fork mdb))) b + (owners (extent_blocks mdb.extents_file) b + owners (extent_blocks (bad_extents overflow)) b)
 
   forks_parts : (fs gs : List Fork) → forks_have (fs ++ gs) ≡ forks_have fs + forks_have gs
-  forks_parts fs gs = ap (λ l. owners (extent_blocks l) b) (flat_map-append (extents_in overflow) fs gs) ∙ extents_parts (flat_map (extents_in overflow) fs) (flat_map (extents_in overflow) gs) b
+  forks_parts fs gs = ap (λ l. owners (extent_blocks l) b) (flat_map-append (extents_in overflow) fs gs) ∙ blocks-append (flat_map (extents_in overflow) fs) (flat_map (extents_in overflow) gs) b
 
   catalog_has : (catalog : Catalog) → forks_have (flat_map forks_of catalog) ≡ sum_by record_has catalog
   catalog_has [] = refl
@@ -97,9 +89,9 @@ module _ (mdb : Mdb) (overflow : Overflow) (b : ℕ) where
       let forks = flat_map (extents_in overflow) (all_forks mdb catalog) in
       omega (
         arith,
-        extents_parts (forks ++ mdb.extents_file) (bad_extents overflow) b,
-        extents_parts forks mdb.extents_file b,
-        extents_parts (extents_in overflow (catalog_fork mdb)) (flat_map (extents_in overflow) (flat_map forks_of catalog)) b,
+        blocks-append (forks ++ mdb.extents_file) (bad_extents overflow) b,
+        blocks-append forks mdb.extents_file b,
+        blocks-append (extents_in overflow (catalog_fork mdb)) (flat_map (extents_in overflow) (flat_map forks_of catalog)) b,
         catalog_has catalog,
       )
 
@@ -110,7 +102,7 @@ pub space_same : (blocks after : ℕ → List ℕ) (old new : Mdb) (owned now_ow
     → ((b : ℕ) → 0 < owners owned b → is_used after new.bitmap_start b ≡ is_used blocks old.bitmap_start b) → clear_count after new.bitmap_start new.allocation_blocks ≡ clear_count blocks old.bitmap_start old.allocation_blocks
     → new.free_blocks ≡ old.free_blocks → IsSpaceSound blocks old owned → IsSpaceSound after new now_owned
 space_same blocks after old new owned now_owned same bits clear free h = record {
-  once = distinct_owned now_owned (λ b. omega (arith, same b, owned_distinct owned h.once b));
+  once = distinct_owned now_owned (λ b. omega (arith, same b, distinct-once owned h.once b));
   marked = each_owned _ now_owned (λ b some. let before : 0 < owners owned b = omega (arith, same b, some) in bits b before ∙ owned_each _ owned h.marked b before);
   counted = free ∙ h.counted ∙ sym clear;
 }
@@ -120,9 +112,9 @@ pub space_fewer : (blocks after : ℕ → List ℕ) (old new : Mdb) (owned now_o
     → ((b : ℕ) → freed b ≡ 0 → is_used after new.bitmap_start b ≡ is_used blocks old.bitmap_start b) → new.free_blocks ≡ clear_count after new.bitmap_start new.allocation_blocks
     → IsSpaceSound blocks old owned → IsSpaceSound after new now_owned
 space_fewer blocks after old new owned now_owned freed fewer bits free h = record {
-  once = distinct_owned now_owned (λ b. omega (arith, fewer b, owned_distinct owned h.once b));
+  once = distinct_owned now_owned (λ b. omega (arith, fewer b, distinct-once owned h.once b));
   marked = each_owned _ now_owned (λ b some.
-      let none : freed b ≡ 0 = omega (arith, some, fewer b, owned_distinct owned h.once b) in
+      let none : freed b ≡ 0 = omega (arith, some, fewer b, distinct-once owned h.once b) in
       bits b none ∙ owned_each _ owned h.marked b (omega (arith, fewer b, some)));
   counted = free;
 }

@@ -4,6 +4,7 @@ use Rattle.std.specs.Prelude.{IfSome, Option}
 use Rattle.hfs_model.specs.Forks.{blocks}
 use Rattle.std.proofs.lemmas.Bool.{ltb-true, ltb-false}
 use Rattle.std.specs.Int.{div_ceil}
+use Rattle.hfs_record_edits.proofs.Needs.{need-none}
 use Rattle.hfs_record_edits.specs.Need.{extents_need}
 use Rattle.hfs_model.specs.declared.journal.Want.{Want}
 use Rattle.hfs_model.specs.declared.journal.Want.TheVariants as want
@@ -11,18 +12,13 @@ use Rattle.hfs_record_edits.specs.declared.room.Supply.{Supply}
 use Rattle.hfs_record_edits.specs.declared.room.Growth.{Growth}
 use Rattle.hfs_record_edits.specs.Wants.{want_of, IsWantOfNodes, IsForkWant, IsGrowthOf, ForkWantsAreTold, IsSetEofWant, SetEofWantsAreTold, IsWriteForkWant, WriteForkWantsAreTold, length_written}
 
--- no record wants no node
-none-wanted : (d r : ℕ) → extents_need 0 d r ≡ 0
-unfolding extents_need
-none-wanted d r = refl
-
 nothing-below : (free k : ℕ) → free < k → k ≡ 0 → ⊥
 nothing-below free k less none = omega arith
 
 no-records : (n d r free : ℕ) → free < extents_need n d r → n ≡ 0 → ⊥
-no-records n d r free less none = nothing-below free (extents_need 0 d r) (subst (λ (k : ℕ). free < extents_need k d r) none less) (none-wanted d r)
+no-records n d r free less none = nothing-below free (extents_need 0 d r) (subst (λ (k : ℕ). free < extents_need k d r) none less) (need-none d r)
 
-some-records : (n d r free : ℕ) → free < extents_need n d r → 1 ≤ n
+pub some-records : (n d r free : ℕ) → free < extents_need n d r → 1 ≤ n
 some-records n d r free less = elim (ltb 0 n) as (λ (b : Bool). ltb 0 n ≡ b → 1 ≤ n) [
   | true ↦ λ e. let some : 0 < n = ltb-true 0 n e in omega arith
   | false ↦ λ e. let most : n ≤ 0 = ltb-false 0 n e in absurd (no-records n d r free less (omega arith))

@@ -88,9 +88,6 @@ beside-places read mdb file i b step beside has = λ k least lt.
     subst (λ (n : ℕ). IsSome (changes read n)) number
     (range-at (λ n. IsSome (changes read n)) (start_of mdb b) (step * each) has (j * each + r) (omega (arith, upper, more, below)))))
 
-pub some-number : (a b : ℕ) → Some a ≡ Some b → a ≡ b
-some-number a b e = cc
-
 -- so many blocks in a row were read
 pub row-read : (read : Numbered) (mdb : Mdb) (file : FileBlocks) (i b step start behind : ℕ) → 1 ≤ step → LieBeside file i b step → start ≡ start_of mdb b
     → behind ≡ start_of mdb (b + (step - 1)) + blocks_each mdb → HasEach read (range_with_len start (behind - start)) → HasPlaces read mdb file i (i + step)

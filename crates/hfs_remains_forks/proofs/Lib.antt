@@ -21,5 +21,5 @@ pub mod SameFinds
 mod GatherLemmas
 mod FoundLemmas
 pub mod FindsLawsProved
-mod LookLemmas
+pub mod LookLemmas
 mod VolumeLemmas

@@ -29,7 +29,7 @@ some_found Holds len (Some finds) is = is
 
 -- ---- a look that finds
 
-refused-report : (image : List ℕ) (why : MountFault) → fault_of image ≡ Some why → report_of image ≡ refused_report why
+pub refused-report : (image : List ℕ) (why : MountFault) → fault_of image ≡ Some why → report_of image ≡ refused_report why
 unfolding report_of
 refused-report image why e = ap (report_with image) e
 

@@ -10,6 +10,7 @@ use Rattle.hfs_fields.proofs.ElementLemmas.{each-at}
 use Rattle.hfs_fields.proofs.MemberLemmas.{found_in}
 use Rattle.hfs_btree.specs.Sound.{IsDistinct, IsOther}
 use Rattle.hfs_model.specs.Chains.{Leads}
+use Rattle.hfs_catalog.proofs.Indexed.{same_some}
 use Rattle.hfs_catalog.specs.Records.{Record, Catalog, has_id, item_with, item_ids, items_of as items_in}
 use Rattle.hfs_catalog.specs.Parents.{parent_in}
 use Rattle.hfs_catalog.specs.Sound.{HasPlace, EachItem}
@@ -75,9 +76,6 @@ one-with-id (r ∷ records) once i d within = by (is_item r.1) refl once i withi
 some-is : (o : Option Record) (p : ℕ) → option_map (λ (r : Record). r.0.parent) o ≡ Some p → (r : Record) × (o ≡ Some r)
 some-is None p e = cc
 some-is (Some r) p e = (r, refl)
-
-same-parent : (a b : ℕ) → Some a ≡ Some b → a ≡ b
-same-parent a b e = cc
 
 dir-of : (o : Option Record) (r : Record) → o ≡ Some r → option_map_or (λ (q : Record). is_dir q.1) o false ≡ true → is_dir r.1 ≡ true
 dir-of o r is dir = sym (ap (λ (x : Option Record). option_map_or (λ (q : Record). is_dir q.1) x false) is) ∙ dir
@@ -168,7 +166,7 @@ module _ (catalog : Catalog) (once : IsDistinct (item_ids catalog)) (parents : E
           let p = place.0 in
           let above = above-id i within other inner p place.1 in
           let own : parent_in catalog (item-at i).0.parent ≡ Some (item-at p).0.parent = ap (parent_in catalog) (sym above.1) ∙ own-parent p above.0 in
-          let same : leads.0 ≡ (item-at p).0.parent = same-parent leads.0 (item-at p).0.parent (sym leads.1 ∙ own) in
+          let same : leads.0 ≡ (item-at p).0.parent = same_some leads.0 (item-at p).0.parent (sym leads.1 ∙ own) in
           let found-way = rest p above.0 (λ e. inner (sym above.1 ∙ e)) (subst (λ (z : ℕ). Leads (parent_in catalog) n z 2) same leads.2) in
           with-name (things_in catalog) i p (up-is-place i within other inner p place.1) found-way.names found-way.way
 
@@ -176,7 +174,7 @@ module _ (catalog : Catalog) (once : IsDistinct (item_ids catalog)) (parents : E
   from-chain : (i : ℕ) → i < length (items_in catalog) → item_id (item-at i).1 ≢ 2 → (steps : ℕ) → Leads (parent_in catalog) steps (item_id (item-at i).1) 2 → HasSomeWay (things_in catalog) i
   from-chain i within other zero leads = absurd (other leads)
   from-chain i within other (suc n) leads =
-      let same : leads.0 ≡ (item-at i).0.parent = same-parent leads.0 (item-at i).0.parent (sym leads.1 ∙ own-parent i within) in
+      let same : leads.0 ≡ (item-at i).0.parent = same_some leads.0 (item-at i).0.parent (sym leads.1 ∙ own-parent i within) in
       way-from n i within other (subst (λ (z : ℕ). Leads (parent_in catalog) n z 2) same leads.2)
 
 pub ways-are : SoundItemsHaveWays

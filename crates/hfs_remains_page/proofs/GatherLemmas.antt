@@ -5,9 +5,9 @@ use Rattle.std.proofs.lemmas.List.{drop_all, drop_more}
 use Rattle.std.proofs.KnownBytes.{Appends-nil, Appends-trans}
 use Rattle.std.specs.Borrow.{Bor}
 use Rattle.std.specs.Io.KnownBytes.{Appends}
+use Rattle.hfs_texts.proofs.FrontLemmas.{front_first, front_next}
 use Rattle.hfs_page.specs.Items.{closings}
 use Rattle.hfs_rescue_items.specs.declared.found.Found.{Found}
-use Rattle.hfs_rescue_items.proofs.WritingLemmas.{front_first, front_next}
 use Rattle.hfs_texts.specs.Writing.{AppendsFront}
 use Rattle.hfs_remains_page.specs.declared.steps.Step.{Step}
 use Rattle.hfs_remains_page.specs.Gathers.{Gathers}
@@ -84,6 +84,3 @@ module _ (base : Option (Bor (List ℕ))) (found : Found) (steps : List Step) (s
 
 -- ---- what holds of a result
 
-pub on_err : {T E : Type 0} (r : Result T E) (P : Type 0) → P → OnErr r P
-on_err (Ok x) P p = tt
-on_err (Err e) P p = p

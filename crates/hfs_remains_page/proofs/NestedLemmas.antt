@@ -9,6 +9,7 @@ use Rattle.hfs_model.specs.declared.reply.ItemKind.{ItemKind}
 use Rattle.hfs_model.specs.declared.reply.ItemKind.TheVariants.{Folder, File}
 use Rattle.hfs_texts.specs.PlainTexts.{plain_text}
 use Rattle.hfs_fields.specs.declared.mdb.Mdb.{Mdb}
+use Rattle.hfs_page.proofs.EscapeLemmas.{no-delimiters}
 use Rattle.hfs_page.specs.declared.cells.Cell.{Cell}
 use Rattle.hfs_page.specs.declared.page_image.PageImage.{PageImage}
 use Rattle.hfs_page.specs.declared.parts.BlockUse.{BlockUse}
@@ -20,7 +21,7 @@ use Rattle.hfs_page.specs.Laws.{is_no_delimiter}
 use Rattle.hfs_page.specs.Markup.{Leads}
 use Rattle.hfs_page.specs.Texts.{date_text, shown, told_number}
 use Rattle.hfs_page.proofs.MarkupLemmas.{Goes, Passes, ◌▹◌, at, constant, decimal-plain, goes-if, in-tag, inside, nested, tag-goes, text-goes}
-use Rattle.hfs_page.proofs.NestedItems.{bold, closings-pass, date-passes, decimal-passes, escaped-passes, escaped-plain, folders, folders-close, items-pass, label-passes, line, link-end-passes, link-start-passes, linked, number-passes, opening-passes, sizes-pass, span, summary, type-passes}
+use Rattle.hfs_page.proofs.NestedItems.{bold, closings-pass, date-passes, decimal-passes, escaped-passes, folders, folders-close, items-pass, line, link-end-passes, link-start-passes, linked, number-passes, opening-passes, sizes-pass, span, summary, type-passes}
 use Rattle.hfs_page.proofs.NestedPages.{body, count-row-passes, dates-pass, extents-pass, facts, fork-passes, image-rows-pass, in-rect, page-head-passes, part-passes, range-passes, rect-passes, version-passes}
 use Rattle.hfs_remains_places.specs.declared.things.Thing.{Thing}
 use Rattle.hfs_remains_places.specs.Folders.{thing_at}
@@ -53,7 +54,7 @@ module _ (names : List (List ℕ)) where
   unfolding damaged_text
   damaged-passes forks =
       constant (at names) (at said) (codes "<em class=\"damaged\">data fork ") (λ outer. refl) ▹ escaped-passes said (verdict_text forks.0)
-      ▹ label-passes said (codes "; resource fork ") refl ▹ escaped-passes said (verdict_text forks.1) ▹ constant (at said) (at names) (codes "</em>") (λ outer. refl)
+      ▹ text-goes said (codes "; resource fork ") refl ▹ escaped-passes said (verdict_text forks.1) ▹ constant (at said) (at names) (codes "</em>") (λ outer. refl)
 
   forks-pass : (forks : Option (Verdict × Verdict)) → Passes names names (forks_text forks)
   forks-pass None = text-goes names [] refl
@@ -297,7 +298,7 @@ module _ (texts : RemainsTexts) (dress : IsRemainsDress texts) where
   style-leads = (inside [] [] [] texts.page.style.now dress.shared_style ▹ inside [] [] [] texts.style.now dress.style).goes
 
   title-plain : (found : Found) → list_all is_no_delimiter (shown (field_name found.mdb.now.volume_name)) ≡ true
-  title-plain found = escaped-plain (plain_text (field_name found.mdb.now.volume_name))
+  title-plain found = no-delimiters (plain_text (field_name found.mdb.now.volume_name))
 
   front-passes : (refusal meaning : List ℕ) (found : Found) → Passes [] items (front_text texts refusal meaning found)
   unfolding front_text

@@ -88,7 +88,7 @@ pub endless-is : (ups jumps : List (Option ℕ)) → LeadBy (2 ^ 32) ups jumps �
 unfolding is_endless
 endless-is ups jumps lead i = ap is_some (lead i)
 
-none-where : (o : Option ℕ) → is_some o ≡ false → o ≡ None
+pub none-where : (o : Option ℕ) → is_some o ≡ false → o ≡ None
 none-where None e = refl
 none-where (Some n) e = cc
 

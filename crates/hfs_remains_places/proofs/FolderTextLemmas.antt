@@ -4,6 +4,7 @@ use Rattle.std.specs.Fmt.{decimal}
 use Rattle.std.proofs.lemmas.Bool.{true≢false, and_parts, cases_Bool, leb-true, ne_eqb}
 use Rattle.std.proofs.lemmas.List.{append_cancel_left}
 use Rattle.hfs_fields.specs.Order.{fold_letter, folded}
+use Rattle.hfs_texts.proofs.HostPathLemmas.{first-is, rest-is}
 use Rattle.hfs_catalog.specs.Indexes.{is_place}
 use Rattle.hfs_remains_places.specs.declared.things.Thing.{Thing}
 use Rattle.hfs_remains_places.specs.Folders.{thing_at}
@@ -33,26 +34,20 @@ pub slash-folded : (text : List ℕ) → has-slash (folded text) ≡ has-slash t
 slash-folded [] = refl
 slash-folded (c ∷ text) = λ i. if slash-letter c i then true else slash-folded text i
 
-same-head : (c d : ℕ) (xs ys : List ℕ) → c ∷ xs ≡ d ∷ ys → c ≡ d
-same-head c d xs ys e = cc
-
-same-tail : (c d : ℕ) (xs ys : List ℕ) → c ∷ xs ≡ d ∷ ys → xs ≡ ys
-same-tail c d xs ys e = cc
-
 -- a text behind a word and a slash is parted there, or behind it
 abbrev pub Parted : List ℕ → List ℕ → List ℕ → List ℕ → Type 0
 Parted word behind text rest = (text ≡ word) ⊎ ((body : List ℕ) × (text ≡ word ++ 47 ∷ body) × (behind ≡ body ++ 47 ∷ rest))
 
 pub parted : (word behind text rest : List ℕ) → has-slash word ≡ false → word ++ 47 ∷ behind ≡ text ++ 47 ∷ rest → Parted word behind text rest
 parted [] behind [] rest none same = inl refl
-parted [] behind (d ∷ text) rest none same = inr (text, λ i. sym (same-head 47 d behind (text ++ 47 ∷ rest) same) i ∷ text, same-tail 47 d behind (text ++ 47 ∷ rest) same)
+parted [] behind (d ∷ text) rest none same = inr (text, λ i. sym (first-is 47 d behind (text ++ 47 ∷ rest) same) i ∷ text, rest-is 47 d behind (text ++ 47 ∷ rest) same)
 parted (c ∷ word) behind [] rest none same =
-    absurd (true≢false (sym (ap (λ (d : ℕ). d == 47) (same-head c 47 (word ++ 47 ∷ behind) rest same)) ∙ (slash-parts (c == 47) (has-slash word) none).0))
+    absurd (true≢false (sym (ap (λ (d : ℕ). d == 47) (first-is c 47 (word ++ 47 ∷ behind) rest same)) ∙ (slash-parts (c == 47) (has-slash word) none).0))
 parted (c ∷ word) behind (d ∷ text) rest none same =
-    more (parted word behind text rest (slash-parts (c == 47) (has-slash word) none).1 (same-tail c d (word ++ 47 ∷ behind) (text ++ 47 ∷ rest) same))
+    more (parted word behind text rest (slash-parts (c == 47) (has-slash word) none).1 (rest-is c d (word ++ 47 ∷ behind) (text ++ 47 ∷ rest) same))
   where
     head : d ≡ c
-    head = sym (same-head c d (word ++ 47 ∷ behind) (text ++ 47 ∷ rest) same)
+    head = sym (first-is c d (word ++ 47 ∷ behind) (text ++ 47 ∷ rest) same)
 
     more : Parted word behind text rest → Parted (c ∷ word) behind (d ∷ text) rest
     more (inl is) = inl (λ i. head i ∷ is i)

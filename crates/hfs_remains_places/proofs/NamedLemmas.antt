@@ -4,6 +4,7 @@ use Rattle.std.specs.List.{position_from}
 use Rattle.std.specs.Option.{is_some, option_map_or, unwrap_or}
 use Rattle.std.proofs.lemmas.Bool.{cases_lt, true≢false, eq-eqb, or_parts}
 use Rattle.std.proofs.lemmas.List.{get_or_push, get_or_append_left, length_push}
+use Rattle.hfs_remains_places.proofs.ChainLemmas.{none-where}
 use Rattle.hfs_remains_places.specs.declared.things.Thing.{Thing}
 use Rattle.hfs_remains_places.specs.Folders.{thing_at, nothing, is_folder_of, place_of}
 use Rattle.hfs_remains_places.specs.Things.{is_taken, with_numbered, with_named, named_behind, things_of}
@@ -30,10 +31,6 @@ module _ {X : Type 0} (p : X → Bool) where
   position-none k (x ∷ xs) d none zero within = (none-first (p x) k (position_from p (k + 1) xs) none).0
   position-none k (x ∷ xs) d none (suc i) within = position-none (k + 1) xs d (none-first (p x) k (position_from p (k + 1) xs) none).1 i (omega (arith, within))
 
-none-of : (o : Option ℕ) → is_some o ≡ false → o ≡ None
-none-of None e = refl
-none-of (Some n) e = absurd (true≢false e)
-
 some-number : (o : Option ℕ) (n : ℕ) → is_some o ≡ true → unwrap_or o 0 ≡ n → o ≡ Some n
 some-number None n some is = absurd (true≢false (sym some))
 some-number (Some m) n some is = ap Some is
@@ -59,7 +56,7 @@ module _ (things : List Thing) (thing : Thing) where
         let number-is : unwrap_or thing.folder 0 ≡ number = ap (λ (o : Option ℕ). unwrap_or o 0) folder in
         let has : (thing_at things i).folder ≡ Some number = some-number (thing_at things i).folder number (once.some i within named) (same ∙ number-is) in
         let so : is_folder_of number (thing_at things i) ≡ true = ap (λ (o : Option ℕ). option_map_or (λ n. n == number) o false) has ∙ eq-eqb number number refl in
-        let no : is_folder_of number (thing_at things i) ≡ false = position-none (is_folder_of number) 0 things nothing (none-of (place_of things number) free) i within in
+        let no : is_folder_of number (thing_at things i) ≡ false = position-none (is_folder_of number) 0 things nothing (none-where (place_of things number) free) i within in
         true≢false (sym so ∙ no)
 
     some-more : (i : ℕ) → Place i → (thing_at (things ++ thing ∷ []) i).named ≡ true → is_some (thing_at (things ++ thing ∷ []) i).folder ≡ true

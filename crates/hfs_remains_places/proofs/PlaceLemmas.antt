@@ -5,6 +5,7 @@ use Rattle.std.proofs.lemmas.Bool.{true≢false, eqb-true}
 use Rattle.std.proofs.lemmas.Fmt.{decimal_injective}
 use Rattle.std.proofs.lemmas.List.{append_cancel_left, map-append}
 use Rattle.hfs_fields.specs.Order.{fold_letter, folded}
+use Rattle.hfs_catalog.proofs.Indexed.{same_some}
 use Rattle.hfs_catalog.specs.Indexes.{is_place}
 use Rattle.hfs_remains_places.specs.declared.things.Thing.{Thing}
 use Rattle.hfs_remains_places.specs.Folders.{thing_at}
@@ -68,9 +69,6 @@ folded-lost : (parent : ℕ) (entry : List ℕ) → parent < 2 ^ 64 → folded (
 unfolding lost
 folded-lost parent entry few =
     ap (λ (l : List ℕ). codes "=LOST/" ++ l) (map-append fold_letter (decimal parent) (codes "/" ++ entry) ∙ ap (λ (ds : List ℕ). ds ++ 47 ∷ folded entry) (folded-decimal parent few))
-
-some_same : (p q : ℕ) → Some p ≡ Some q → p ≡ q
-some_same p q e = cc
 
 module _ (things : List Thing) (are : AreThings things) where
   pub few-parent : (i : ℕ) → i < length things → (thing_at things i).parent < 2 ^ 64
@@ -185,7 +183,7 @@ module _ (things : List Thing) (are : AreThings things) where
           sym (looks-inner i p a) ∙ same ∙ looks-inner j q b in
           let one : p ≡ q = fewer q (up-is things j q up-j).below (same-above i j (folded (path things p)) (folded (path things q)) first second e) in
           let parents : (thing_at things i).parent ≡ (thing_at things j).parent =
-          some_same (thing_at things i).parent (thing_at things j).parent
+          same_some (thing_at things i).parent (thing_at things j).parent
           (sym (number-above i p first up-i) ∙ ap (λ (k : ℕ). (thing_at things k).folder) one ∙ number-above j q second up-j) in
           same-folder i j (folded (path things p)) (folded (path things q)) first second parents e
 

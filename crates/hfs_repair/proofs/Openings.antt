@@ -1,4 +1,5 @@
 -- The two trees of a volume, read with their counts right.
+use Rattle.hfs_fields.proofs.CommonLemmas.{none-true}
 use Rattle.hfs_space.specs.Extents.{AreExtentsWithin}
 use Rattle.hfs_space.specs.Faults.{is_tree_file}
 use Rattle.hfs_space.proofs.LawsProved.{no_tree_file_fault}
@@ -31,10 +32,6 @@ use Rattle.hfs_fields.proofs.DecisionLemmas.{both_true}
 use Rattle.hfs_check.proofs.CommonLemmas.{none-mapped}
 
 -- ---- tests of faults
-
-pub none-of : {X : Type 0} (o : Option X) → is_none o ≡ true → o ≡ None
-none-of None e = refl
-none-of (Some x) e = absurd (let no = e in cc)
 
 some-of : {X : Type 0} (o : Option X) (x : X) → o ≡ Some x → o ≡ None → ⊥
 some-of o x a b = let no : Some x ≡ None = sym a ∙ b in cc
@@ -94,7 +91,7 @@ module _ (blocks : Blocks) (mdb : Mdb) where
   unfolding is_extents_right
   order-right e =
       let both = and_parts (is_tree_right ext_keys blocks mdb mdb.extents_file mdb.extents_file_size) (are_extents_in_order (extents_of blocks mdb)) e in
-      none-of _ (and_parts (is_none (key_fault ext_keys (extents_of blocks mdb) is_fork_key)) (is_none (order_fault ext_keys (extents_of blocks mdb))) both.1).1
+      none-true _ (and_parts (is_none (key_fault ext_keys (extents_of blocks mdb) is_fork_key)) (is_none (order_fault ext_keys (extents_of blocks mdb))) both.1).1
 
   pub extents-wrong : is_tree_right ext_keys blocks mdb mdb.extents_file mdb.extents_file_size ≡ false → is_extents_right blocks mdb ≡ false
   unfolding is_extents_right

@@ -7,6 +7,7 @@ use Rattle.std.proofs.lemmas.Bool.{and_parts, cases_lt}
 use Rattle.std.proofs.lemmas.Bool.Decides.{nat_tests}
 use Rattle.byteorder.specs.Endian.{big_bytes}
 use Rattle.byteorder.specs.Numbers.{length-bytes_high_first}
+use Rattle.hfs_fields.proofs.CommonLemmas.{none-true}
 use Rattle.hfs_fields.specs.declared.extent.Extent.{Extent}
 use Rattle.hfs_fields.specs.declared.mdb.Mdb.{Mdb}
 use Rattle.hfs_fields.specs.Keys.{is_cat_leaf, is_cat_body_len, cat_body_start, cat_body_of}
@@ -50,7 +51,7 @@ use Rattle.hfs_repair.specs.Placed.{is_wrong, placed_in_mdb, placed_in_header, p
 use Rattle.hfs_repair.specs.Puts.{puts_from, number_puts, puts_of, AreInBlocks}
 use Rattle.hfs_repair.specs.Wrong.{wrong_in_blocks, placed_of}
 use Rattle.hfs_repair.proofs.Mendable.{mdb-wrong, extents-wrong, catalog-wrong, trees-right}
-use Rattle.hfs_repair.proofs.Openings.{none-of, extents_within}
+use Rattle.hfs_repair.proofs.Openings.{extents_within}
 use Rattle.hfs_repair.proofs.Repaired.{filtered, filtered-by}
 
 -- a number's bytes lie in so many blocks
@@ -186,7 +187,7 @@ module _ (total : ℕ) (blocks : Blocks) (some : 3 ≤ total) (sound : IsMdbSoun
   tree-file g file size right =
       let both = and_parts (is_tree_file mdb file size) (is_none (structure_fault g size (tree_nodes blocks mdb file size))) right in (
         file-lies mdb total sound.area file (extents_within mdb file size both.0),
-        ((structure-law g size (tree_nodes blocks mdb file size)).0 (none-of _ both.1)).0,
+        ((structure-law g size (tree_nodes blocks mdb file size)).0 (none-true _ both.1)).0,
       )
 
   mdb-lies : Each (LiesIn total) (placed_in_mdb blocks mdb (catalog_in_of blocks mdb))
@@ -239,7 +240,7 @@ module _ (total : ℕ) (blocks : Blocks) (some : 3 ≤ total) where
       subst (λ (ns : List PlacedNumber). Each (LiesIn total) ns) (trees-right blocks total is-m is-e is-c)
       (chosen (LiesIn total) (are_records_right blocks (mdb_in blocks)) (filter is_wrong (placed_of blocks (mdb_in blocks)))
       (filtered (LiesIn total) is_wrong (placed_of blocks (mdb_in blocks))
-      (placed-lie total blocks some ((no_mdb_fault total (mdb_in blocks)).0 (none-of _ is-m)) is-e is-c)))
+      (placed-lie total blocks some ((no_mdb_fault total (mdb_in blocks)).0 (none-true _ is-m)) is-e is-c)))
 
   pub wrong-lie : Each (LiesIn total) (wrong_in_blocks total blocks)
   wrong-lie = by-parts _ _ _ refl refl refl

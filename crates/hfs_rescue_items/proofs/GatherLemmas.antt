@@ -3,9 +3,9 @@ use Rattle.std.proofs.Common.{◌≡◌, ◌∙◌, ℕ, suc, ◌+◌, ◌<◌, 
 use Rattle.std.proofs.lemmas.List.{drop_all, drop_more}
 use Rattle.std.proofs.KnownBytes.{Appends-nil, Appends-trans}
 use Rattle.std.specs.Io.KnownBytes.{Appends}
+use Rattle.hfs_texts.proofs.FrontLemmas.{front_first, front_next}
 use Rattle.hfs_remains.specs.declared.catalog.FoundRecord.{FoundRecord}
 use Rattle.hfs_rescue_items.specs.Lines.{lines_of}
-use Rattle.hfs_rescue_items.proofs.WritingLemmas.{front_first, front_next}
 use Rattle.hfs_texts.specs.Writing.{AppendsFront}
 use Rattle.hfs_rescue_items.specs.Gathers.{Gathers}
 
@@ -82,10 +82,3 @@ module _ (row : ℕ → FoundRecord → List ℕ) (items : List FoundRecord) (st
 
 -- ---- what holds of a result
 
-pub on_ok_then : {T E : Type 0} (r : Result T E) (P Q : Type 0) → (P → Q) → OnOk r P → OnOk r Q
-on_ok_then (Ok x) P Q f p = f p
-on_ok_then (Err e) P Q f p = tt
-
-pub on_err_then : {T E : Type 0} (r : Result T E) (P Q : Type 0) → (P → Q) → OnErr r P → OnErr r Q
-on_err_then (Ok x) P Q f p = tt
-on_err_then (Err e) P Q f p = f p

@@ -4,6 +4,7 @@ use Rattle.std.specs.List.{fold, list_any, range_with_len}
 use Rattle.std.specs.Str.{bytes_eq}
 use Rattle.std.proofs.lemmas.Bool.{and_parts, cases_eq, ne_eqb, or_cases, true≢false}
 use Rattle.std.proofs.lemmas.Slice.Eq.{bytes_eq-Decides}
+use Rattle.hfs_fields.proofs.MemberLemmas.{in-left}
 use Rattle.hfs_bag.specs.declared.item.BagKind.{BagKind}
 use Rattle.hfs_fields.specs.Members.{In}
 use Rattle.hfs_rescue_items.specs.declared.found.Found.{Found}
@@ -12,10 +13,6 @@ use Rattle.hfs_rescue_items.specs.Found.{path_at}
 use Rattle.hfs_rescue_items.specs.Plan.{first_part, folders_above, is_made, last_part, makes, makes_folder, of_kind, own_kind, path_of, whole_plan, with_folder, with_kind, with_own, with_path, with_thing}
 use Rattle.hfs_rescue_items.proofs.AboveLemmas.{place-of}
 use Rattle.hfs_rescue_items.proofs.LawTypes.{IsMadeOf, MakesFolder}
-
-in-front : {X : Type 0} (x : X) (xs ys : List X) → In x xs → In x (xs ++ ys)
-in-front x [] ys here = absurd here
-in-front x (y ∷ xs) ys here = ⊎_elim (λ (is : y ≡ x). inl is) (λ (there : In x xs). inr (in-front x xs ys there)) here
 
 in-last : {X : Type 0} (x : X) (xs : List X) → In x (xs ++ x ∷ [])
 in-last x [] = inl refl
@@ -33,7 +30,7 @@ module _ (found : Found) where
     where
       by : (b : Bool) → In part (if b then parts else parts ++ more ∷ [])
       by true = here
-      by false = in-front part parts (more ∷ []) here
+      by false = in-left part parts (more ∷ []) here
 
   folders-stay : (more : List Planned) (parts : List Planned) → Stays parts (fold (with_folder found) parts more)
   folders-stay [] parts part here = here
@@ -41,7 +38,7 @@ module _ (found : Found) where
 
   kind-stays : (parts : List Planned) (more : Planned) (kind : Option BagKind) → Stays parts (with_kind parts more kind)
   kind-stays parts more None part here = here
-  kind-stays parts more (Some kind) part here = in-front part parts (of_kind kind more ∷ []) here
+  kind-stays parts more (Some kind) part here = in-left part parts (of_kind kind more ∷ []) here
 
   thing-stays : (parts : List Planned) (i : ℕ) → Stays parts (with_thing found parts i)
   unfolding with_thing

@@ -5,9 +5,10 @@ use Rattle.std.proofs.KnownBytes.{Appends-nil, Appends-trans}
 use Rattle.std.proofs.lemmas.Bool.{true≢false}
 use Rattle.std.proofs.lemmas.List.{drop_at, take_at, take-append-le, take_min}
 use Rattle.std.proofs.Math.Seq.{take-add}
+use Rattle.hfs_texts.proofs.FrontLemmas.{front-left, front_first}
 use Rattle.hfs_source.specs.Images.{OfEach}
 use Rattle.hfs_texts.specs.Writing.{AppendsFront}
-use Rattle.hfs_source.proofs.Written.{GoesOn, goes-on-end, goes-on-first}
+use Rattle.hfs_source.proofs.Written.{GoesOn, goes-on-end, goes-on-first, goes-on-next}
 use Rattle.hfs_fields.specs.declared.mdb.Mdb.{Mdb}
 use Rattle.hfs_remains.specs.TreeFiles.{FileBlocks}
 use Rattle.hfs_remains_forks.specs.ForkBytes.{fork_bytes}
@@ -17,19 +18,8 @@ use Rattle.hfs_rescue_items.specs.Writing.{MovesPiece, WritesFrontOf, WritesOf}
 
 -- ---- parts of bytes
 
-front-left : (n : ℕ) (xs ys : List ℕ) → take n xs ≡ take (min n (length xs)) (xs ++ ys)
-front-left n xs ys = sym (take_min n xs) ∙ sym (take-append-le (min n (length xs)) xs ys (omega arith))
-
--- a beginning of the first part is one of the whole
-pub front_first : (old new : Option (List ℕ)) (xs ys : List ℕ) → AppendsFront old new xs → AppendsFront old new (xs ++ ys)
-front_first old new xs ys (n, front) = (min n (length xs), subst (Appends old new) (front-left n xs ys) front)
-
 front-right : (n : ℕ) (xs ys : List ℕ) → xs ++ take n ys ≡ take (length xs + n) (xs ++ ys)
 front-right n xs ys = (λ i. sym (take_at xs ys (length xs) refl) i ++ take n (sym (drop_at xs ys (length xs) refl) i)) ∙ sym (take-add (length xs) n (xs ++ ys))
-
--- the first part, and a beginning of the second
-pub front_next : (old now new : Option (List ℕ)) (xs ys : List ℕ) → Appends old now xs → AppendsFront now new ys → AppendsFront old new (xs ++ ys)
-front_next old now new xs ys first (n, front) = (length xs + n, subst (Appends old new) (front-right n xs ys) (Appends-trans old now new xs (take n ys) first front))
 
 -- ---- a piece
 
@@ -63,12 +53,6 @@ pub piece_front : (old new : Option (List ℕ)) (piece before after : List ℕ) 
 piece_front old new piece before after reads front = subst (AppendsFront old new) (sym reads.bytes) (front_first old new piece after front)
 
 -- ---- the whole
-
-goes-on-next : (old now next : Option (List ℕ)) (here rest whole : List ℕ) → GoesOn old now (here ++ rest) whole → Appends now next here → GoesOn old next rest whole
-goes-on-next old now next here rest whole on own = record {
-  all = λ end h. on.all end (Appends-trans now next end here rest own h);
-  part = λ end h. on.part end (front_next now next end here rest own h);
-}
 
 module _ (mdb : Mdb) (len : ℕ) (places : FileBlocks) where
   -- of each of these images what is left to read makes the fork, behind what was written

@@ -6,9 +6,9 @@ use Rattle.std.proofs.KnownBytes.{Appends-trans}
 use Rattle.std.proofs.Math.Seq.{take-add}
 use Rattle.std.proofs.lemmas.List.{take_more, take_more_set, take-append-drop, append_assoc, length-set}
 use Rattle.std.proofs.lemmas.Grind.{flat_map-append}
+use Rattle.hfs_texts.proofs.FrontLemmas.{front_first, front_next}
 use Rattle.hfs_texts.specs.Lines.{hex_byte, hex_digit, hex_text}
 use Rattle.hfs_texts.specs.Writing.{AppendsFront}
-use Rattle.hfs_volume.proofs.Fronts.{front_first, front_next}
 
 -- ---- digits that are laid two by two
 

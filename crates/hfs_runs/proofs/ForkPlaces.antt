@@ -10,6 +10,7 @@ use Rattle.hfs_fields.specs.Records.{is_file, is_item, item_id, dir_record_of, f
 use Rattle.hfs_fields.specs.Members.{In}
 use Rattle.hfs_fields.proofs.MemberLemmas.{in-left, in-right}
 use Rattle.hfs_fields.proofs.ElementLemmas.{each-append, each-mono}
+use Rattle.hfs_model.proofs.Facts.{same_some}
 use Rattle.hfs_model.specs.declared.call.Call.{Call}
 use Rattle.hfs_model.specs.declared.reply.Reply.{Reply}
 use Rattle.hfs_blocks.specs.declared.run.Run.{Run}
@@ -90,11 +91,11 @@ names-none catalog P call none dir name is = absurd (none-some (dir, name) (sym 
 pub names-one : (catalog : Catalog) (P : FileRecord → Type 0) (call : Call) (dir : ℕ) (name : List ℕ) → named_by call ≡ Some (dir, name)
     → IfOk (file_named catalog dir name) P → OfNamed catalog P call
 names-one catalog P call dir name is h other_dir other_name other =
-    let same : (dir, name) ≡ (other_dir, other_name) = same-some (dir, name) (other_dir, other_name) (sym is ∙ other) in
+    let same : (dir, name) ≡ (other_dir, other_name) = same_some (dir, name) (other_dir, other_name) (sym is ∙ other) in
     subst (λ (place : ℕ × List ℕ). IfOk (file_named catalog place.0 place.1) P) same h
   where
-    same-some : (x y : ℕ × List ℕ) → Some x ≡ Some y → x ≡ y
-    same-some x y e = cc
+    same_some : (x y : ℕ × List ℕ) → Some x ≡ Some y → x ≡ y
+    same_some x y e = cc
 
 pub file-is : (catalog : Catalog) (dir : ℕ) (name : List ℕ) (found : Result FileRecord Reply) → found ≡ file_named catalog dir name → IfOk found (IsFileOf catalog)
 file-is catalog dir name (Ok file) is = let f = found_file catalog dir name file (sym is) in record { of = f.of; there = f.there; kind = f.file; is = f.is }
@@ -108,9 +109,6 @@ item-id body file = ap (λ (b : Bool). cond b (dir_record_of body).id (file_reco
 pub item-is : (body : List ℕ) → is_file body ≡ true → is_item body ≡ true
 item-is body file = ap (λ (b : Bool). b || is_file body) (not-dir body file) ∙ file
 
-same-some : {A : Type 0} (x y : A) → Some x ≡ Some y → x ≡ y
-same-some x y e = cc
-
 -- two files with one ID are one
 pub same-file : (total : ℕ) (blocks : Blocks) → AreBlocksSound total blocks → (f g : FileRecord) → IsFileOf (catalog_in blocks) f → IsFileOf (catalog_in blocks) g
     → f.id ≡ g.id → f ≡ g
@@ -121,7 +119,7 @@ same-file total blocks sound f g is-f is-g same =
     let second : item_with catalog (item_id is-g.of.1) ≡ Some is-g.of = found_by_id catalog is-g.of later is-g.there (item-is is-g.of.1 is-g.kind) in
     let ids : item_id is-f.of.1 ≡ item_id is-g.of.1 =
     item-id is-f.of.1 is-f.kind ∙ ap (λ (r : FileRecord). r.id) is-f.is ∙ same ∙ sym (item-id is-g.of.1 is-g.kind ∙ ap (λ (r : FileRecord). r.id) is-g.is) in
-    let records : is-f.of ≡ is-g.of = same-some is-f.of is-g.of (sym first ∙ ap (item_with catalog) ids ∙ second) in
+    let records : is-f.of ≡ is-g.of = same_some is-f.of is-g.of (sym first ∙ ap (item_with catalog) ids ∙ second) in
     sym is-f.is ∙ ap (λ (r : Record). file_record_of r.1) records ∙ is-g.is
 
 -- the IDs that were met, with one more

@@ -10,7 +10,6 @@ mod OneRun
 mod KeptReplies
 mod PieceLemmas
 mod Reasons
-mod SendLemmas
 pub mod ForkPlaces
 pub mod FreeBlocks
 pub mod MoreRead

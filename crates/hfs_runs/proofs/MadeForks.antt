@@ -196,13 +196,3 @@ none-is body other found = by (is_item body) found
     by : (b : Bool) → None ≡ cond b (Some other) None → b ≡ false
     by true e = absurd (none-some other e)
     by false e = refl
-
-pub folder-no-file : (r : Record) (folder : DirRecord) → Folder folder ≡ record_of r.1 → is_file r.1 ≡ true → ⊥
-folder-no-file r folder e file = by (is_dir r.1) refl e
-  where
-    by : (b : Bool) → is_dir r.1 ≡ b → Folder folder ≡ cond b (Folder (dir_record_of r.1)) (File (file_record_of r.1)) → ⊥
-    by true d e = true≢false (sym d ∙ not-dir r.1 file)
-    by false d e = folder-file e
-      where
-        folder-file : Folder folder ≡ File (file_record_of r.1) → ⊥
-        folder-file e = cc

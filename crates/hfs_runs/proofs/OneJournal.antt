@@ -21,7 +21,7 @@ use Rattle.hfs_shared.proofs.Prefixes.{prefix_trans}
 use Rattle.hfs_shared.specs.Desks.{PassState, entry_of}
 use Rattle.hfs_shared.specs.Shareds.{IsReplyOf, IsSomeCall}
 use Rattle.hfs_runs.specs.Standing.{BeginsWith, Stands, is_change}
-use Rattle.hfs_shared.proofs.Following.{changes_accepted, changes_other}
+use Rattle.hfs_shared.proofs.Following.{changes_accepted, changes_other, changes-append}
 
 -- ---- changes of a journal
 
@@ -32,10 +32,6 @@ append_step : (e : Entry) (es fs : List Entry) → changes (es ++ fs) ≡ change
 append_step e es fs same true is =
     changes_accepted e (es ++ fs) is ∙ ap (λ (l : List Item). Change e.call ∷ l) same ∙ ap (λ (l : List Item). l ++ changes fs) (sym (changes_accepted e es is))
 append_step e es fs same false is = changes_other e (es ++ fs) is ∙ same ∙ ap (λ (l : List Item). l ++ changes fs) (sym (changes_other e es is))
-
-changes-append : (es fs : List Entry) → changes (es ++ fs) ≡ changes es ++ changes fs
-changes-append [] fs = refl
-changes-append (e ∷ es) fs = append_step e es fs (changes-append es fs) (is_accepted e) refl
 
 -- a journal cut where its first part publishes these changes
 record IsCut (journal : List Entry) (xs : List Item) : Type 0 where

@@ -5,6 +5,7 @@ use Rattle.std.specs.List.{All, AllByRecursion, fold}
 use Rattle.std.proofs.lemmas.List.Elements.{All-from_recursion, recursion_from_All}
 use Rattle.std.proofs.lemmas.Bool.Decides.{nat_tests}
 use Rattle.std.specs.Option.{option_map}
+use Rattle.hfs_model.proofs.Facts.{either}
 use Rattle.hfs_scripts.specs.declared.lines.Caller.{Caller}
 use Rattle.hfs_scripts.specs.declared.lines.Caller.TheVariants.{Worker, Viewer}
 use Rattle.hfs_scripts.specs.declared.lines.ScriptLine.{ScriptLine}
@@ -132,10 +133,6 @@ viewers_within lines all = fold_within viewer_number viewer_at_most lines 1 (rec
 
 -- ---- no viewer
 
-or_both : (a b : Bool) → (a || b) ≡ false → (a ≡ false) × (b ≡ false)
-or_both true b h = absurd (cc h)
-or_both false b h = (refl, h)
-
 no_more : (most : ℕ) (c : Caller) → is_viewer c ≡ false → max most (viewer_number c) ≡ most
 no_more most (Worker n) h = omega arith
 no_more most (Viewer n) h = absurd (cc h)
@@ -144,7 +141,7 @@ fold_none : (lines : List ScriptLine) (most : ℕ) → has_viewer lines ≡ fals
     → fold (λ m line. max m (viewer_number line.caller)) most lines ≡ most
 fold_none [] most h = refl
 fold_none (line ∷ lines) most h =
-    let both = or_both (is_viewer line.caller) (has_viewer lines) h in
+    let both = either (is_viewer line.caller) (has_viewer lines) h in
     fold_none lines (max most (viewer_number line.caller)) both.1 ∙ no_more most line.caller both.0
 
 -- there is one viewer where no line is a viewer's

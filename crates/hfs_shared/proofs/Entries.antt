@@ -4,6 +4,7 @@ use Rattle.std.specs.Prelude.{IfSome, nat_lt, if◌then◌else◌}
 use Rattle.std.specs.Option.{option_map_or}
 use Rattle.std.specs.Ordering.{int_eq}
 use Rattle.std.proofs.lemmas.Bool.Decides.{nat_tests, Decides-int_eq}
+use Rattle.hfs_model.proofs.Facts.{two_tests}
 use Rattle.hfs_model.specs.declared.codes.TheConstants.{DISK_FULL}
 use Rattle.hfs_model.specs.declared.call.Call.{Call}
 use Rattle.hfs_model.specs.declared.call.Call.TheVariants as call
@@ -29,10 +30,6 @@ int_is x y h = (Decides-int_eq x y).0 h
 int_apart : (b : Bool) (x y : ℤ) → int_eq x y ≡ b → x ≢ y → b ≡ false
 int_apart true x y h apart = absurd (apart (int_is x y h))
 int_apart false x y h apart = refl
-
-and_both : (a b : Bool) → (a && b) ≡ true → (a ≡ true) × (b ≡ true)
-and_both true b h = (refl, h)
-and_both false b h = absurd (cc h)
 
 -- what an outcome says of its entry
 abbrev pub Tells : Volume → PassState → Call → Reply → Volume → Option Want → Type 0
@@ -79,7 +76,7 @@ module _ (never : StepIsNeverFull) where
     where
       by_test : (b : Bool) → meets_want_of_nodes free depth v c ≡ b → Tells v p c r w (want_of r)
       by_test true meets =
-          let both = and_both (is_accepted (step v c).1) (nat_lt free (need c depth)) meets in
+          let both = two_tests (is_accepted (step v c).1) (nat_lt free (need c depth)) meets in
           let less : nat_lt free (need c depth) ≡ true = both.1 in
           let short : free < need c depth = grind (arith, nat_tests) in
           let out : (w, r) ≡ (v, full free depth) = is ∙ ap (λ (b : Bool). if b then (v, full free depth) else step v c) meets in

@@ -96,3 +96,14 @@ pub captures_sync : (n : List ℕ) (ℓ ℓ' ℓ'' ℓ3 ℓ4 : NamedLft) (A B C 
     ((field.shr_ref_field ℓ A oa).row ∷ (field.shr_ref_field ℓ' B ob).row ∷ (field.shr_ref_field ℓ'' C oc).row ∷ (field.shr_ref_field ℓ3 D od).row
     ∷ (field.shr_ref_field ℓ4 E oe).row ∷ []))
 captures_sync n ℓ ℓ' ℓ'' ℓ3 ℓ4 A B C D E oa ob oc od oe a b c d e = search sendable depth 20
+
+-- what a closure that makes the workers' calls takes with it may go to another thread
+pub jobs_send : (n : List ℕ) → IsSend (vec.the_row (tuple.TupleAt n (pass.the_row ∷ vec.the_row call.the_row heap.the_row ghosts ∷ [])) heap.the_row ghosts)
+jobs_send n =
+    let called : IsSend call.the_row = call_law.the_send in
+    search (crosses, sendable) depth 20
+
+pub captures_send : (n : List ℕ) (ℓ ℓ' ℓ3 : NamedLft) (A B C D E : RattleType) (oa : One A.mir) (ob : One B.mir) (od : One D.mir)
+    → IsSync A → IsSync B → IsSend C → IsSync D → IsSend E
+    → IsSend (tuple.TupleAt n ((field.shr_ref_field ℓ A oa).row ∷ (field.shr_ref_field ℓ' B ob).row ∷ C ∷ (field.shr_ref_field ℓ3 D od).row ∷ E ∷ []))
+captures_send n ℓ ℓ' ℓ3 A B C D E oa ob od a b c d e = search sendable depth 20

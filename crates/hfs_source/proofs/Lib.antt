@@ -1,4 +1,3 @@
-pub mod Walks
 pub mod RangeLemmas
 pub mod DataLemmas
 pub mod Fetched

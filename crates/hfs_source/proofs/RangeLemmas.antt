@@ -1,8 +1,8 @@
 -- The bytes of a range of an image.
-use Rattle.std.proofs.Common.{◌≡◌, ◌∙◌, ℕ, ◌+◌, ◌-◌, ◌≤◌, List, length, take, drop, Result, Ok, Err, ap, sym, subst, arith}
+use Rattle.std.proofs.Common.{◌≡◌, ◌∙◌, ℕ, ◌+◌, ◌-◌, ◌≤◌, List, length, take, drop, Result, Ok, Err, ap, sym, arith}
 use Rattle.std.specs.Prelude.{OnOk}
 use Rattle.std.proofs.lemmas.List.{take-take, drop-take, drop-drop}
-use Rattle.hfs_source.specs.Images.{HasAt, IsRange, IsRangeOf, OfEach}
+use Rattle.hfs_source.specs.Images.{HasAt, IsRangeOf, OfEach}
 
 piece : (start len place n : ℕ) (image : List ℕ) → place + n ≤ len → take n (drop (start + place) image) ≡ take n (drop place (take len (drop start image)))
 piece start len place n image within =

@@ -8,6 +8,7 @@ use Rattle.std.proofs.lemmas.List.Concat.{flat_map-append}
 use Rattle.std.proofs.lemmas.List.{take_min, drop_more, drop_all}
 use Rattle.std.proofs.lemmas.List.FromFn.{length-range_with_len}
 use Rattle.std.proofs.lemmas.Bool.{cases_lt}
+use Rattle.hfs_texts.proofs.FrontLemmas.{front_first}
 use Rattle.hfs_texts.specs.Writing.{AppendsFront}
 use Rattle.hfs_blocks.specs.declared.run.Run.{Run}
 use Rattle.hfs_blocks.specs.Blocks.{block_at, run_of}
@@ -17,21 +18,13 @@ use Rattle.hfs_source.proofs.Copied.{flat-range}
 
 -- ---- parts of bytes
 
-take-append : (n : ℕ) (xs ys : List ℕ) → take n (xs ++ ys) ≡ take n xs ++ take (n - length xs) ys
+pub take-append : (n : ℕ) (xs ys : List ℕ) → take n (xs ++ ys) ≡ take n xs ++ take (n - length xs) ys
 take-append zero [] ys = ap (λ m. take m ys) (let e : 0 ≡ 0 - 0 = omega arith in e)
 take-append zero (x ∷ xs) ys = (λ i. take (let e : zero ≡ zero - suc (length xs) = omega arith in e i) ys)
 take-append (suc n) [] ys = ap (λ m. take m ys) (let e : suc n ≡ suc n - 0 = omega arith in e)
 take-append (suc n) (x ∷ xs) ys =
     let less : n - length xs ≡ suc n - suc (length xs) = omega arith in
     ap (λ l. x ∷ l) (take-append n xs ys ∙ ap (λ m. take n xs ++ take m ys) less)
-
--- some of the first of some more
-front-more : (a b : Option (List ℕ)) (xs ys : List ℕ) → AppendsFront a b xs → AppendsFront a b (xs ++ ys)
-front-more a b xs ys front =
-    let n = min front.0 (length xs) in
-    let none : take (n - length xs) ys ≡ [] = ap (λ m. take m ys) (let e : n - length xs ≡ 0 = omega arith in e) in
-    let cut : take n xs ≡ take front.0 xs = take_min front.0 xs in
-    (n, subst (Appends a b) (sym (take-append n xs ys ∙ (λ i. cut i ++ none i) ∙ append-nil (take front.0 xs))) front.1)
 
 cases_le : (a b : ℕ) → (a ≤ b) ⊎ (b < a)
 cases_le a b = ⊎_elim
@@ -48,7 +41,7 @@ pub record GoesOn (old now : Option (List ℕ)) (rest whole : List ℕ) : Type 0
 pub goes-on-first : (old : Option (List ℕ)) (whole : List ℕ) → GoesOn old old whole whole
 goes-on-first old whole = record { all = λ end h. h; part = λ end h. h }
 
-goes-on-next : (old now next : Option (List ℕ)) (here rest whole : List ℕ) → GoesOn old now (here ++ rest) whole → Appends now next here → GoesOn old next rest whole
+pub goes-on-next : (old now next : Option (List ℕ)) (here rest whole : List ℕ) → GoesOn old now (here ++ rest) whole → Appends now next here → GoesOn old next rest whole
 goes-on-next old now next here rest whole on own = record {
   all = λ end h. on.all end (Appends-trans now next end here rest own h);
   part = λ end h. on.part end (
@@ -91,7 +84,7 @@ pub with-part : (known now-known : Option (List ℕ)) → now-known ≡ known �
 with-part None now-known same old now end here rest left whole on own = tt
 with-part (Some image) now-known same old now end here rest left whole on own =
     on.part end (subst (AppendsFront now end) (sym (split image here rest left))
-    (front-more now end (take left (blocks_of image here)) (take (left - length (blocks_of image here)) (blocks_of image rest))
+    (front_first now end (take left (blocks_of image here)) (take (left - length (blocks_of image here)) (blocks_of image rest))
     (subst (λ o. WritesSome o now end here left) same own)))
 
 -- ---- one piece
@@ -201,11 +194,6 @@ run-written (Some image) old now first count behind left rest e whole on =
     )
 
 -- ---- the runs
-
--- at an error, whatever it is
-pub on-err : {T E : Type 0} (r : Result T E) (P : Type 0) → P → OnErr r P
-on-err (Ok x) P p = tt
-on-err (Err e) P p = p
 
 -- the blocks of the runs from one on are its own and those of the runs behind it
 pub split-runs : (runs : List Run) (i : ℕ) (none : Run) → i < length runs

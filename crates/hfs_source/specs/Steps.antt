@@ -1,5 +1,5 @@
 -- What a reader did, and what that says about the bytes it reads from.
-use Rattle.std.specs.Prelude.{◌≡◌, ℕ, ◌+◌, List, [], ◌∷◌, length, ⊤, Option, Some, None, IfSome}
+use Rattle.std.specs.Prelude.{ℕ, ◌+◌, List, [], ◌∷◌, length, ⊤, Option, Some, None, IfSome}
 use Rattle.std.specs.Option.{option_map}
 use Rattle.hfs_source.specs.Images.{HasAt, HasLength}
 

@@ -10,6 +10,7 @@ use Rattle.std.proofs.lemmas.List.FromFn.{length-range_with_len}
 use Rattle.std.proofs.lemmas.Map.Keys.{IsDistinct-push}
 use Rattle.std.proofs.lemmas.Map.Made.{is_some-lookup, length-le_from_is_member}
 use Rattle.std.proofs.lemmas.Option.{none-some, same_Some}
+use Rattle.hfs_blocks.proofs.LaidLemmas.{over_or}
 use Rattle.hfs_blocks.specs.declared.run.Run.{Run}
 use Rattle.hfs_blocks.specs.Layers.{Numbered, Changes, changes, numbers, over, with_change, AreWhole, AreWithin}
 use Rattle.hfs_space.specs.Parts.{zeros}
@@ -211,18 +212,14 @@ module _ (kept : Numbered) (flags : List Bool) where
 
 -- ---- what is shown
 
-unwrap_both : (a b : Option (List ℕ)) (x : List ℕ) → unwrap_or (option_or a b) x ≡ unwrap_or a (unwrap_or b x)
-unwrap_both None b x = refl
-unwrap_both (Some c) b x = refl
-
 pub shown-all : (kept : Numbered) (flags : List Bool) (below : ℕ → List ℕ) (k : ℕ) → over (changes (all_blocks kept flags)) below k ≡ shown kept flags below k
-shown-all kept flags below k = ap (λ (o : Option (List ℕ)). unwrap_or o (below k)) (changes-all kept flags k) ∙ unwrap_both (changes kept k) (flagged flags k) (below k)
+shown-all kept flags below k = ap (λ (o : Option (List ℕ)). unwrap_or o (below k)) (changes-all kept flags k) ∙ over_or (changes kept k) (flagged flags k) (below k)
 
 pub shown-same : (kept : Numbered) (old new : List Bool) (below : ℕ → List ℕ) (k : ℕ) → AreSameFlags old new → shown kept new below k ≡ shown kept old below k
 shown-same kept old new below k same = ap (λ (f : Bool). unwrap_or (changes kept k) (unwrap_or (zeros_if f) (below k))) (same k)
 
 pub patched-laid : (patch : Numbered) (runs : List Run) (below : ℕ → List ℕ) (k : ℕ) → patched patch runs below k ≡ over (laid_changes patch runs) below k
-patched-laid patch runs below k = sym (unwrap_both (changes patch k) (zero_blocks runs k) (below k))
+patched-laid patch runs below k = sym (over_or (changes patch k) (zero_blocks runs k) (below k))
 
 -- over what is shown so
 pub patched-same : (patch : Numbered) (runs : List Run) (a b : ℕ → List ℕ) (k : ℕ) → a k ≡ b k → patched patch runs a k ≡ patched patch runs b k

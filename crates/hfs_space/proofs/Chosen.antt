@@ -4,6 +4,7 @@ use Rattle.std.specs.Prelude.{not}
 use Rattle.std.specs.List.{range_with_len}
 use Rattle.std.proofs.lemmas.Bool.{eqb-true, eqb-false, both_ways, not-true, cases_lt, or_parts}
 use Rattle.std.proofs.lemmas.List.{append-nil}
+use Rattle.hfs_space.proofs.NumberLemmas.{inside}
 use Rattle.hfs_space.proofs.CountingLemmas.{count_below-le}
 use Rattle.std.proofs.lemmas.List.Elements.{All-nil, All-cons, All-append, All-weaker}
 use Rattle.std.proofs.lemmas.List.Sums.{sum_by-append, sum_by-cons}
@@ -12,7 +13,7 @@ use Rattle.hfs_space.specs.Extents.{extent_blocks, block_total, AreExtentsWithin
 use Rattle.hfs_space.specs.Owners.{owners}
 use Rattle.hfs_space.specs.FreeRuns.{free_blocks, is_in, is_taken, AreFreeRuns, IsWhole}
 use Rattle.hfs_space.specs.Choice.{IsRowAfter, AreBeside, some_of, AreChosen, AreFreeOnce, IsRoom, free_count}
-use Rattle.hfs_space.proofs.OwnedLemmas.{owners-inside, owners-once, owned-among, owners-filter, owned-passes, blocks-cons, blocks-append, blocks-one, length-blocks}
+use Rattle.hfs_space.proofs.OwnedLemmas.{owners-once, owned-among, owners-filter, owned-passes, blocks-cons, blocks-append, blocks-one, length-blocks}
 use Rattle.hfs_space.proofs.Counted.{taken-inside, taken-nothing, free_count-beside, free_count-same, length-free_blocks}
 use Rattle.hfs_space.proofs.Firsts.{HaveBlocks, taken-of-runs}
 
@@ -96,7 +97,7 @@ within-owned : (n : ℕ) (es : List Extent) → ((b : ℕ) → 0 < owners (exten
 within-owned n [] all = All-nil (λ (x : Extent). 0 < x.count → x.first + x.count ≤ n)
 within-owned n (e ∷ es) all = All-cons (λ (x : Extent). 0 < x.count → x.first + x.count ≤ n) e es
     (λ some.
-    let one = owners-inside e.first e.count (e.first + e.count - 1) (omega (arith, some)) (omega (arith, some)) in
+    let one = inside e.first e.count (e.first + e.count - 1) (omega (arith, some)) (omega (arith, some)) in
     let parts = blocks-cons e es (e.first + e.count - 1) in
     let last = all (e.first + e.count - 1) (omega (arith, one, parts)) in
     omega (arith, last, some))

@@ -3,12 +3,13 @@ use Rattle.std.proofs.Common.{◌≡◌, inl, inr, ⊎_elim, ℕ, ◌+◌, ◌<�
 use Rattle.std.specs.List.{range_with_len}
 use Rattle.std.proofs.lemmas.List.{take_more}
 use Rattle.hfs_fields.specs.declared.extent.Extent.{Extent}
+use Rattle.hfs_space.proofs.NumberLemmas.{outside, inside}
 use Rattle.hfs_space.specs.Bitmap.{is_used, clear_count, KeepsOthers}
 use Rattle.hfs_space.specs.Extents.{extent_blocks}
 use Rattle.hfs_space.specs.Owners.{owners}
 use Rattle.hfs_space.specs.Claimed.{HasClaimed, AreFree, AreSet}
 use Rattle.hfs_space.proofs.Counted.{clear_count-claimed}
-use Rattle.hfs_space.proofs.OwnedLemmas.{sides, owners-outside, owners-inside, blocks-append, blocks-one, length-blocks}
+use Rattle.hfs_space.proofs.OwnedLemmas.{sides, blocks-append, blocks-one, length-blocks}
 use Rattle.std.proofs.lemmas.List.Sums.{sum_by_push}
 
 pub blocks-more : (es : List Extent) (e : Extent) (b : ℕ) → owners (extent_blocks (es ++ e ∷ [])) b ≡ owners (extent_blocks es) b + owners (range_with_len e.first e.count) b
@@ -44,7 +45,7 @@ module _ (start total : ℕ) (es : List Extent) (e : Extent) (old mid new : ℕ 
   still-free : AreFree old start (extent_blocks all) → ((n : ℕ) → e.first ≤ n → n < e.first + e.count → is_used mid start n ≡ false)
   still-free h b low high =
       let parts = blocks-more es e b in
-      let one = owners-inside e.first e.count b low high in
+      let one = inside e.first e.count b low high in
       let most = h.once b in
       claimed.others b (omega (arith, parts, one, most)) ∙ h.free b (omega (arith, parts, one))
 
@@ -58,12 +59,12 @@ module _ (start total : ℕ) (es : List Extent) (e : Extent) (old mid new : ℕ 
   pub claimed-more : HasClaimed start total (extent_blocks all) old new
   claimed-more = record {
     set = λ b some. ⊎_elim
-        (λ apart. keeps.bits b apart ∙ claimed.set b (let parts = blocks-more es e b in let none = owners-outside e.first e.count b apart in omega (arith, some, parts, none)))
+        (λ apart. keeps.bits b apart ∙ claimed.set b (let parts = blocks-more es e b in let none = outside e.first e.count b apart in omega (arith, some, parts, none)))
         (λ both. sets b both.0 both.1)
         (sides e.first e.count b);
     others = λ b none. ⊎_elim
         (λ apart. keeps.bits b apart ∙ claimed.others b (let parts = blocks-more es e b in omega (arith, none, parts)))
-        (λ both. absurd (let parts = blocks-more es e b in let one = owners-inside e.first e.count b both.0 both.1 in omega (arith, none, parts, one)))
+        (λ both. absurd (let parts = blocks-more es e b in let one = inside e.first e.count b both.0 both.1 in omega (arith, none, parts, one)))
         (sides e.first e.count b);
     beside = λ k apart.
         keeps.blocks k (elim apart [ inl low ↦ inl (omega (arith, low)) | inr high ↦ inr (omega (arith, high, within)) ]) ∙ claimed.beside k apart;

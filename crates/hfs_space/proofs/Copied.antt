@@ -11,7 +11,7 @@ use Rattle.hfs_space.specs.Extents.{Overflow}
 abbrev pub least : ExtKey
 least = record { fork = 0; file = 0; block = 0 }
 
-zero_first : (n : ℕ) (o : Ordering) → is_gt o ≡ false → is_gt (ordering_then (nat_cmp 0 n) o) ≡ false
+pub zero_first : (n : ℕ) (o : Ordering) → is_gt o ≡ false → is_gt (ordering_then (nat_cmp 0 n) o) ≡ false
 zero_first n o h =
     by_ranked (0 < n) (0 ≡ n) (n < 0) (nat_cmp 0 n) (ranked 0 n (nat_cmp 0 n) refl)
     (λ less _. ap (λ x. is_gt (ordering_then x o)) less)

@@ -23,7 +23,7 @@ use Rattle.hfs_space.proofs.ZeroLemmas.{in-run, before-run, behind-run}
 drop-at : (k : ℕ) (xs ys : List ℕ) → length xs ≡ k → drop k (xs ++ ys) ≡ ys
 drop-at k xs ys long = ap (λ n. drop n (xs ++ ys)) (sym long) ∙ drop-append_seam xs ys
 
-cut : (a n k : ℕ) → k ≤ n → drop k (range_with_len a n) ≡ range_with_len (a + k) (n - k)
+pub cut : (a n k : ℕ) → k ≤ n → drop k (range_with_len a n) ≡ range_with_len (a + k) (n - k)
 cut a n k le =
     ap (λ m. drop k (range_with_len a m)) (let e : n ≡ k + (n - k) = omega (arith, le) in e) ∙ ap (drop k) (range-add a k (n - k))
     ∙ drop-at k (range_with_len a k) (range_with_len (a + k) (n - k)) (length-range_with_len a k)

@@ -25,7 +25,7 @@ pub mod FileLengthLemmas
 mod FileListLemmas
 pub mod ForkLawLemmas
 pub mod ForkLengthLemmas
-mod LookupLemmas
+pub mod LookupLemmas
 pub mod TreeFileLemmas
 pub mod OwnerLemmas
 pub mod LawsProved
@@ -43,17 +43,16 @@ mod Chosen
 mod ByteLemmas
 pub mod PartLemmas
 mod PartSteps
-mod Puts
+pub mod Puts
 mod JoinedLemmas
 pub mod NumberLemmas
 pub mod ForkLemmas
 mod ZeroLemmas
 mod ZeroSteps
 pub mod CoverLemmas
-mod FromLemmas
+pub mod FromLemmas
 pub mod WholeLemmas
 mod BlockSteps
-pub mod Walks
 pub mod RunLemmas
 pub mod AllBlocks
 pub mod Joined

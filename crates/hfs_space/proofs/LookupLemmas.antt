@@ -28,7 +28,7 @@ found_extents block (Some body) = if nat_lt block 65536 then record_extents body
 abbrev pub then_on : Overflow → ℕ → ℕ → ℕ → List Extent → List Extent
 then_on overflow file fork block found = if nat_lt 0 (block_total found) then found ++ extents_from overflow file fork (block + block_total found) else []
 
-nat_equal : (x y : ℕ) → nat_cmp x y ≡ Equal → x ≡ y
+pub nat_equal : (x y : ℕ) → nat_cmp x y ≡ Equal → x ≡ y
 nat_equal x y e = by_ranked (x < y) (x ≡ y) (y < x) (nat_cmp x y) (ranked x y (nat_cmp x y) refl) (λ less h. absurd (let no : Less ≡ Equal = sym less ∙ e in cc)) (λ equal h. h) (λ greater h. absurd (let no : Greater ≡ Equal = sym greater ∙ e in cc))
 
 nat_less : (x y : ℕ) → nat_cmp x y ≡ Less → x < y

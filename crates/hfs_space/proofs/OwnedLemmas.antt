@@ -11,7 +11,7 @@ use Rattle.hfs_space.specs.Extents.{extent_blocks, block_total}
 use Rattle.hfs_space.specs.Owners.{owners}
 use Rattle.hfs_space.proofs.OwnerLemmas.{append}
 use Rattle.hfs_space.proofs.ForkLawLemmas.{range-add}
-use Rattle.hfs_space.proofs.NumberLemmas.{owners-cons}
+use Rattle.hfs_space.proofs.NumberLemmas.{owners-cons, outside, inside}
 
 -- where a block stands beside so many, or among them
 pub sides : (first count b : ℕ) → ((b < first) ⊎ (first + count ≤ b)) ⊎ ((first ≤ b) × (b < first + count))
@@ -20,41 +20,16 @@ sides first count b = elim (cases_lt b first) [
   | inr from ↦ elim (cases_lt b (first + count)) [ inl high ↦ inr (from, high) | inr after ↦ inl (inr after) ]
 ]
 
-pub owners-outside : (a n b : ℕ) → (b < a) ⊎ (a + n ≤ b) → owners (range_with_len a n) b ≡ 0
-owners-outside a zero b apart = refl
-owners-outside a (suc n) b apart =
-    let ne : a ≡ b → ⊥ = λ same. elim apart [ inl low ↦ omega (arith, low, same) | inr high ↦ omega (arith, high, same) ] in
-    let here : ◌≡◌ {A = ℕ} (cond (eqb a b) 1 0) 0 = ap (λ (t : Bool). cond t 1 0) (ne_eqb a b ne) in
-    let rest = owners-outside (a + 1) n b (elim apart [ inl low ↦ inl (omega (arith, low)) | inr high ↦ inr (omega (arith, high)) ]) in
-    let parts = sum_by-cons (λ (o : ℕ). cond (eqb o b) 1 0) a (range_with_len (a + 1) n) in
-    omega (arith, here, rest, parts)
-
-pub owners-inside : (a n b : ℕ) → a ≤ b → b < a + n → owners (range_with_len a n) b ≡ 1
-owners-inside a zero b low high = absurd (omega (arith, low, high))
-owners-inside a (suc n) b low high =
-    let parts = sum_by-cons (λ (o : ℕ). cond (eqb o b) 1 0) a (range_with_len (a + 1) n) in
-    elim (cases_lt a b) [
-      | inl lt ↦
-          let here : ◌≡◌ {A = ℕ} (cond (eqb a b) 1 0) 0 = ap (λ (t : Bool). cond t 1 0) (ne_eqb a b (λ same. omega (arith, same, lt))) in
-          let rest = owners-inside (a + 1) n b (omega (arith, lt)) (omega (arith, high)) in
-          omega (arith, here, rest, parts)
-      | inr ge ↦
-          let same : a ≡ b = omega (arith, ge, low) in
-          let here : ◌≡◌ {A = ℕ} (cond (eqb a b) 1 0) 1 = ap (λ (t : Bool). cond t 1 0) (eq-eqb a b same) in
-          let rest = owners-outside (a + 1) n b (inl (omega (arith, same))) in
-          omega (arith, here, rest, parts)
-    ]
-
 -- a block of so many stands among them once, and any other not at all
 pub owners-once : (a n b : ℕ) → owners (range_with_len a n) b ≤ 1
 owners-once a n b = elim (sides a n b) [
-  | inl apart ↦ let none = owners-outside a n b apart in omega (arith, none)
-  | inr both ↦ let one = owners-inside a n b both.0 both.1 in omega (arith, one)
+  | inl apart ↦ let none = outside a n b apart in omega (arith, none)
+  | inr both ↦ let one = inside a n b both.0 both.1 in omega (arith, one)
 ]
 
 pub owned-among : (a n b : ℕ) → 0 < owners (range_with_len a n) b → (a ≤ b) × (b < a + n)
 owned-among a n b some = elim (sides a n b) [
-  | inl apart ↦ absurd (let none = owners-outside a n b apart in omega (arith, none, some))
+  | inl apart ↦ absurd (let none = outside a n b apart in omega (arith, none, some))
   | inr both ↦ both
 ]
 

@@ -12,6 +12,7 @@ use Rattle.hfs_fields.specs.Each.{Each}
 use Rattle.hfs_fields.proofs.ElementLemmas.{each-at}
 use Rattle.hfs_btree.specs.Sound.{IsOther, IsDistinct}
 use Rattle.hfs_fields.proofs.ScanLemmas.{check}
+use Rattle.hfs_space.proofs.NumberLemmas.{owners-cons}
 use Rattle.hfs_space.specs.Bitmap.{is_used, clear_count}
 use Rattle.hfs_space.specs.Owners.{owners, is_block_sound}
 use Rattle.hfs_space.specs.Sound.{IsSpaceSound}
@@ -36,9 +37,6 @@ range-each P n h b lt =
     (each-at P (range_with_len 0 n) b 0 h (omega (arith, length-range_with_len 0 n)))
 
 -- ---- how many own a block
-
-owners-cons : (o : ℕ) (os : List ℕ) (b : ℕ) → owners (o ∷ os) b ≡ cond (eqb o b) 1 0 + owners os b
-owners-cons o os b = sum_by-cons (λ x. cond (eqb x b) 1 0) o os
 
 owners-same : (o : ℕ) (os : List ℕ) → owners (o ∷ os) o ≡ 1 + owners os o
 owners-same o os = owners-cons o os o ∙ ap (λ (t : Bool). cond t 1 0 + owners os o) (eq-eqb o o refl)
@@ -71,7 +69,7 @@ none_from_others o (m ∷ os) h = elim (eqb m o) as (λ t. eqb m o ≡ t → own
 others_from_none : (o : ℕ) (os : List ℕ) → owners os o ≡ 0 → Each (λ m. m ≢ o) os
 others_from_none o os none = each-owned (λ m. m ≢ o) os (λ b own same. absurd (omega (arith, own, none, ap (owners os) same)))
 
-distinct-once : (os : List ℕ) → IsDistinct os → (b : ℕ) → owners os b ≤ 1
+pub distinct-once : (os : List ℕ) → IsDistinct os → (b : ℕ) → owners os b ≤ 1
 distinct-once [] h b = omega arith
 distinct-once (o ∷ os) h b = elim (eqb o b) as (λ t. eqb o b ≡ t → owners (o ∷ os) b ≤ 1) [
   | true ↦ λ e. omega (arith, none_from_others o os h.0, owners-same o os, ap (owners (o ∷ os)) (eqb-true o b e))

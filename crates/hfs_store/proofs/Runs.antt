@@ -23,7 +23,3 @@ run_turn v calls i self replies c new reply lt is before made =
     let first : ◌≡◌ {A = Run} (new, replies ++ reply ∷ []) ((step self c).0, replies ++ (step self c).1 ∷ []) = λ i. ((made i).0, replies ++ (made i).1 ∷ []) in
     let then : ◌≡◌ {A = Run} ((step self c).0, replies ++ (step self c).1 ∷ []) ((step (run v (take i calls)).0 c).0, (run v (take i calls)).1 ++ (step (run v (take i calls)).0 c).1 ∷ []) = λ i. ((step (before i).0 c).0, (before i).1 ++ (step (before i).0 c).1 ∷ []) in
     first ∙ then ∙ sym (run_more v (take i calls) c) ∙ ap (run v) (sym last)
-
-pub at_err : {A E : Type 0} (r : Result A E) (P : Type 0) → P → OnErr r P
-at_err (Ok x) P p = tt
-at_err (Err e) P p = p

@@ -1,3 +1,3 @@
-mod Dates
+pub mod Dates
 mod Objects
 mod OwnObjects

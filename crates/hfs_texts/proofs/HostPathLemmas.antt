@@ -27,10 +27,10 @@ begins text (name ∷ names) = inr (text name ++ behind-slashes text names, refl
 no-cons : (x : ℕ) (xs : List ℕ) → [] ≡ x ∷ xs → ⊥
 no-cons x xs e = absurd (omega (arith, ap length e))
 
-first-is : (x y : ℕ) (xs ys : List ℕ) → x ∷ xs ≡ y ∷ ys → x ≡ y
+pub first-is : (x y : ℕ) (xs ys : List ℕ) → x ∷ xs ≡ y ∷ ys → x ≡ y
 first-is x y xs ys e = cc
 
-rest-is : (x y : ℕ) (xs ys : List ℕ) → x ∷ xs ≡ y ∷ ys → xs ≡ ys
+pub rest-is : (x y : ℕ) (xs ys : List ℕ) → x ∷ xs ≡ y ∷ ys → xs ≡ ys
 rest-is x y xs ys e = cc
 
 no-slash : (y : ℕ) (v s : List ℕ) → is-safe-byte y ≡ true → Begins s → s ≡ y ∷ v → ⊥

@@ -2,6 +2,7 @@ mod Stems
 pub mod Days
 pub mod DayLaw
 mod Codes
+pub mod FrontLemmas
 pub mod HostNameLemmas
 pub mod HostPathLemmas
 mod PlainLemmas

@@ -6,6 +6,7 @@ use Rattle.std.specs.Cmp.{nat_cmp_total, unsigned_ties}
 use Rattle.std.specs.FinMap as map
 use Rattle.std.specs.BTreeMap as tree
 use Rattle.std.proofs.lemmas.Bool.{cases_eq, eq-eqb, ne_eqb}
+use Rattle.hfs_fields.proofs.OrderLemmas.{eq_is}
 use Rattle.hfs_fields.specs.Order.{same_name}
 use Rattle.hfs_model.specs.declared.item.Item.{Item}
 use Rattle.hfs_model.specs.Volume.{Items}
@@ -16,7 +17,7 @@ use Rattle.hfs_viewers.specs.declared.place.Place.{Place}
 use Rattle.hfs_viewers.specs.Places.{place, place_cmp}
 use Rattle.hfs_viewers.proofs.PlaceLemmas.{level, names_level}
 use Rattle.hfs_viewers.specs.Tables.{AreNames}
-use Rattle.hfs_viewers.proofs.Named.{tied, is_level, level_parents}
+use Rattle.hfs_viewers.proofs.Named.{tied, level_parents}
 
 module _ (m : Items) (k : ℕ) (x : Item) where
   pub new_here : map.get (map.insert m k x) k ≡ Some x
@@ -49,13 +50,13 @@ module _ (m : Items) (names after : tree.BTreeMap Place ℕ) (are : AreNames m n
         let was : Has m q j = sym (new_other m k x q other) ∙ has in
         let at = are.has q j was in
         elim (is_eq (place_cmp here (place j.parent j.name))) as (λ (b : Bool). is_eq (place_cmp here (place j.parent j.name)) ≡ b → tree.get place_cmp after (place j.parent j.name) ≡ Some q) [
-          | true ↦ λ e. absurd (none_is_some _ q (sym (tied names here (place j.parent j.name) (is_level _ e)) ∙ free) at)
+          | true ↦ λ e. absurd (none_is_some _ q (sym (tied names here (place j.parent j.name) (eq_is _ e)) ∙ free) at)
           | false ↦ λ e. elsewhere (place j.parent j.name) e ∙ at
         ] refl)
         (cases_eq k q);
     item = λ p q at. elim (is_eq (place_cmp here p)) as (λ (b : Bool). is_eq (place_cmp here p) ≡ b → (i : Item) × Has (map.insert m k x) q i × (i.parent ≡ p.parent) × IsTrue (same_name i.name p.name)) [
       | true ↦ λ e.
-          let tie : place_cmp here p ≡ Equal = is_level _ e in
+          let tie : place_cmp here p ≡ Equal = eq_is _ e in
           let same : k ≡ q = same_some k q (sym (at_here p e) ∙ at) in
           (x, ap (map.get (map.insert m k x)) (sym same) ∙ new_here m k x, level_parents here p tie, names_level here p tie)
       | false ↦ λ e.

@@ -6,6 +6,7 @@ use Rattle.std.proofs.lemmas.Bool.{ltb-false}
 use Rattle.hfs_blocks.specs.declared.run.Run.{Run}
 use Rattle.hfs_blocks.specs.Blocks.{block_at, run_of}
 use Rattle.hfs_blocks.specs.Layers.{Numbered, changes, numbers}
+use Rattle.hfs_space.proofs.OwnedOnce.{each-range}
 use Rattle.hfs_space.proofs.AllBlocks.{has-numbers}
 use Rattle.hfs_fields.specs.declared.extent.Extent.{Extent}
 use Rattle.hfs_fields.specs.declared.mdb.Mdb.{Mdb}
@@ -23,15 +24,11 @@ use Rattle.hfs_viewers.specs.Changed.{AreUnchanged, HasNone, TellsChanges}
 
 -- ---- an extent
 
-each_range : (P : ℕ → Type 0) (a n : ℕ) → ((k : ℕ) → a ≤ k → k < a + n → P k) → Each P (range_with_len a n)
-each_range P a zero h = tt
-each_range P a (suc n) h = (h a (omega arith) (omega arith), each_range P (a + 1) n (λ k low high. h k (omega (arith, low)) (omega (arith, high))))
-
 -- where none of these numbers is one of them
 pub all_past : (blocks : Numbered) (mdb : Mdb) (e : Extent) (first count : ℕ) → first ≡ mdb.allocation_start + e.first * blocks_each mdb → count ≡ e.count * blocks_each mdb
     → ((k : ℕ) → first ≤ k → k < first + count → is_some (changes blocks k) ≡ false) → HasNone blocks mdb e
 all_past blocks mdb e first count first_is count_is h =
-    let all = each_range (λ k. is_some (changes blocks k) ≡ false) first count h in
+    let all = each-range (λ k. is_some (changes blocks k) ≡ false) first count h in
     subst (λ (n : ℕ). Each (λ k. is_some (changes blocks k) ≡ false) (range_with_len n (e.count * blocks_each mdb))) first_is
     (subst (λ (n : ℕ). Each (λ k. is_some (changes blocks k) ≡ false) (range_with_len first n)) count_is all)
 

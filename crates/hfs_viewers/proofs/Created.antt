@@ -7,6 +7,7 @@ use Rattle.std.specs.FinMap as map
 use Rattle.std.specs.BTreeMap as tree
 use Rattle.std.proofs.lemmas.Bool.{cases_eq, eq-eqb, ne_eqb}
 use Rattle.std.proofs.lemmas.List.Sums.{sum_by-cons}
+use Rattle.hfs_fields.proofs.OrderLemmas.{eq_is}
 use Rattle.hfs_fields.specs.declared.mdb.Mdb.{Mdb}
 use Rattle.hfs_model.specs.declared.item.Item.{Item}
 use Rattle.hfs_model.specs.declared.item.Kind.{Kind}
@@ -37,7 +38,7 @@ use Rattle.hfs_viewers.specs.Pieces.{ArePieces, bytes_from}
 use Rattle.hfs_viewers.specs.Tables.{base_bytes, bytes_of, IsForkIn, item_of, kind_of, items_of, volume_of, AreNames, IsTable, IsKindOf}
 use Rattle.hfs_viewers.specs.RowEdits.{Writes, Leaves, HasRoom, kind_with_child, with_child}
 use Rattle.hfs_viewers.proofs.ShownLemmas.{items, get_items, put_item}
-use Rattle.hfs_viewers.proofs.Named.{entry_has, child_named_is, tied, is_level}
+use Rattle.hfs_viewers.proofs.Named.{entry_has, child_named_is, tied}
 use Rattle.hfs_viewers.proofs.EditedRows.{names_still, kind_still, picked_map}
 use Rattle.hfs_model.proofs.ChildCounts.{one_child as one}
 use Rattle.hfs_viewers.proofs.Counted.{count_new}
@@ -288,7 +289,7 @@ left_same t is names s alike rows u same =
 pub taken_back : (names middle after : tree.BTreeMap Place ℕ) (p : Place) (id : ℕ) → tree.get place_cmp names p ≡ None → tree.Updates place_cmp names middle p (Some id) → tree.Updates place_cmp middle after p None
     → (q : Place) → tree.get place_cmp after q ≡ tree.get place_cmp names q
 taken_back names middle after p id free put took q = elim (is_eq (place_cmp p q)) as (λ (b : Bool). is_eq (place_cmp p q) ≡ b → tree.get place_cmp after q ≡ tree.get place_cmp names q) [
-  | true ↦ λ e. took.0 q ∙ ap (λ b. cond b None (tree.get place_cmp middle q)) e ∙ sym (sym (tied names p q (is_level _ e)) ∙ free)
+  | true ↦ λ e. took.0 q ∙ ap (λ b. cond b None (tree.get place_cmp middle q)) e ∙ sym (sym (tied names p q (eq_is _ e)) ∙ free)
   | false ↦ λ e. took.0 q ∙ ap (λ b. cond b None (tree.get place_cmp middle q)) e ∙ put.0 q ∙ ap (λ b. cond b (Some id) (tree.get place_cmp names q)) e
 ] refl
 

@@ -267,6 +267,3 @@ may_write t is fork offset bytes found has may r at = by fork r.kind same (is.ro
         let there = subst (λ (k : Kind). offset ≤ length (fork_bytes ResFork k)) e within in
         (h.1.pieces, (omega (arith, there, long), may.small))
 
-pub on_err : {T E : Type 0} (r : Result T E) (P : Type 0) → P → OnErr r P
-on_err (Ok x) P p = tt
-on_err (Err e) P p = p

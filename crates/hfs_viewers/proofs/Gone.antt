@@ -15,11 +15,10 @@ use Rattle.hfs_fields.specs.Order.{same_name}
 use Rattle.hfs_model.specs.Children.{valence, entry_at, entries_of}
 use Rattle.hfs_model.specs.Choices.{is_locked, lock_code, to_rename, to_delete, to_move, is_taken, is_held}
 use Rattle.hfs_model.specs.declared.codes.TheConstants.{BUSY, NOT_A_FOLDER, BAD_MOVE, DUPLICATE, FOLDER_FULL}
-use Rattle.hfs_model.proofs.KeepsCalls.{IsChild}
+use Rattle.hfs_model.proofs.KeepsCalls.{IsChild, child_chosen}
 use Rattle.hfs_model.proofs.KeepsCalls.{chained}
 use Rattle.hfs_model.proofs.KeepsCalls.{unlocked_is}
 use Rattle.hfs_model.proofs.KeepsCalls.{same_entry}
-use Rattle.hfs_viewers.proofs.Chosen.{child_chosen}
 use Rattle.hfs_model.specs.Lawful.{Has}
 use Rattle.hfs_model.specs.Changes.{touched, moved, change}
 use Rattle.hfs_model.proofs.Counts.{count_edited}

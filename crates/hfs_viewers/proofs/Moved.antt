@@ -8,6 +8,7 @@ use Rattle.std.specs.Option.{option_map_or, option_and_then, is_some}
 use Rattle.std.specs.FinMap as map
 use Rattle.std.specs.BTreeMap as tree
 use Rattle.std.proofs.lemmas.Bool.{cases_eq, eq-eqb, ne_eqb, eqb-true}
+use Rattle.hfs_fields.proofs.OrderLemmas.{eq_is}
 use Rattle.hfs_fields.specs.Order.{same_name}
 use Rattle.hfs_model.specs.declared.item.Item.{Item}
 use Rattle.hfs_model.specs.Volume.{Items, Entry}
@@ -25,7 +26,7 @@ use Rattle.hfs_viewers.specs.Places.{place, place_cmp, place_cmp_total}
 use Rattle.hfs_viewers.proofs.PlaceLemmas.{level, names_level}
 use Rattle.hfs_viewers.specs.Tables.{AreNames}
 use Rattle.hfs_viewers.specs.RowEdits.{Moves}
-use Rattle.hfs_viewers.proofs.Named.{tie, tied, is_level, level_parents, child_named_is, entry_has}
+use Rattle.hfs_viewers.proofs.Named.{tie, tied, level_parents, child_named_is, entry_has}
 use Rattle.hfs_viewers.proofs.Added.{new_here, new_other}
 use Rattle.hfs_fields.proofs.DecisionLemmas.{both_true}
 
@@ -36,7 +37,7 @@ pub moved_nowhere : (names : tree.BTreeMap Place ℕ) (from to : Place) (id : �
 moved_nowhere names from to id sorted stands same = record {
   sorted = sorted;
   moves = λ q. elim (is_eq (place_cmp to q)) as (λ (b : Bool). is_eq (place_cmp to q) ≡ b → tree.get place_cmp names q ≡ cond b (Some id) (cond (is_eq (place_cmp from q)) None (tree.get place_cmp names q))) [
-    | true ↦ λ e. sym (tied names from q (is_level _ (turned q ∙ e))) ∙ stands
+    | true ↦ λ e. sym (tied names from q (eq_is _ (turned q ∙ e))) ∙ stands
     | false ↦ λ e. ap (λ b. cond b None (tree.get place_cmp names q)) (sym (turned q ∙ e))
   ] refl;
 }
@@ -95,16 +96,16 @@ module _ (m : Items) (names after : tree.BTreeMap Place ℕ) (are : AreNames m n
         let p = place j.parent j.name in
         let at = are.has q j (sym (new_other m k y q other) ∙ there) in
         elim (is_eq (place_cmp to p)) as (λ (b : Bool). is_eq (place_cmp to p) ≡ b → tree.get place_cmp after p ≡ Some q) [
-          | true ↦ λ e. absurd (other (sym (free q (tied names to p (is_level _ e) ∙ at))))
+          | true ↦ λ e. absurd (other (sym (free q (tied names to p (eq_is _ e) ∙ at))))
           | false ↦ λ e. elim (is_eq (place_cmp from p)) as (λ (b : Bool). is_eq (place_cmp from p) ≡ b → tree.get place_cmp after p ≡ Some q) [
-            | true ↦ λ f. absurd (other (same_some k q (sym (are.has k i has) ∙ tied names from p (is_level _ f) ∙ at)))
+            | true ↦ λ f. absurd (other (same_some k q (sym (are.has k i has) ∙ tied names from p (eq_is _ f) ∙ at)))
             | false ↦ λ f. elsewhere p e f ∙ at
           ] refl
         ] refl)
         (cases_eq k q);
     item = λ p q at. elim (is_eq (place_cmp to p)) as (λ (b : Bool). is_eq (place_cmp to p) ≡ b → (z : Item) × Has (map.insert m k y) q z × (z.parent ≡ p.parent) × IsTrue (same_name z.name p.name)) [
       | true ↦ λ e.
-          let level_is : place_cmp to p ≡ Equal = is_level _ e in
+          let level_is : place_cmp to p ≡ Equal = eq_is _ e in
           let same : k ≡ q = same_some k q (sym (at_to p e) ∙ at) in
           (y, ap (map.get (map.insert m k y)) (sym same) ∙ new_here m k y, level_parents to p level_is, names_level to p level_is)
       | false ↦ λ e. elim (is_eq (place_cmp from p)) as (λ (b : Bool). is_eq (place_cmp from p) ≡ b → (z : Item) × Has (map.insert m k y) q z × (z.parent ≡ p.parent) × IsTrue (same_name z.name p.name)) [
@@ -145,7 +146,7 @@ module _ (m : Items) (names after : tree.BTreeMap Place ℕ) (are : AreNames m n
         let p = place j.parent j.name in
         let at = are.has q j (sym (stays m k q other) ∙ there) in
         elim (is_eq (place_cmp old p)) as (λ (b : Bool). is_eq (place_cmp old p) ≡ b → tree.get place_cmp after p ≡ Some q) [
-          | true ↦ λ f. absurd (other (same_some k q (sym (are.has k i has) ∙ tied names old p (is_level _ f) ∙ at)))
+          | true ↦ λ f. absurd (other (same_some k q (sym (are.has k i has) ∙ tied names old p (eq_is _ f) ∙ at)))
           | false ↦ λ f. took.0 p ∙ ap (λ b. cond b None (tree.get place_cmp names p)) f ∙ at
         ] refl)
         (cases_eq k q);

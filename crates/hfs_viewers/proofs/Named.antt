@@ -42,7 +42,7 @@ use Rattle.hfs_viewers.specs.Tables.{AreNames}
 use Rattle.hfs_viewers.proofs.NameLemmas.{nobody, entry_or, told_under, names_under}
 use Rattle.hfs_check.proofs.EntryLemmas.{entry_get}
 use Rattle.hfs_fields.proofs.KeyOrder.{same}
-use Rattle.hfs_fields.proofs.OrderLemmas.{less, more}
+use Rattle.hfs_fields.proofs.OrderLemmas.{less, more, eq_is}
 use Rattle.hfs_model.proofs.Folders.{both}
 
 -- no name is below the empty one
@@ -122,13 +122,8 @@ entry_has m q i has = entry_get m q ∙ ap (option_map (λ (j : Item). (q, j))) 
 pub tied : (names : tree.BTreeMap Place ℕ) (p q : Place) → place_cmp p q ≡ Equal → tree.get place_cmp names p ≡ tree.get place_cmp names q
 tied names p q e i = lookup (λ k. is_eq (place_cmp_total.congr p q k e i)) names.entries
 
-pub is_level : (r : Ordering) → is_eq r ≡ true → r ≡ Equal
-is_level Less e = absurd (true_false false e refl)
-is_level Equal e = refl
-is_level Greater e = absurd (true_false false e refl)
-
 pub tie : (p q : Place) → p.parent ≡ q.parent → IsTrue (same_name p.name q.name) → place_cmp p q ≡ Equal
-tie p q e h = ap (λ o. ordering_then o (name_cmp p.name q.name)) (same p.parent q.parent e) ∙ is_level _ h
+tie p q e h = ap (λ o. ordering_then o (name_cmp p.name q.name)) (same p.parent q.parent e) ∙ eq_is _ h
 
 module _ (m : Items) (names : tree.BTreeMap Place ℕ) (are : AreNames m names) where
   pub child_named_is : (dir : ℕ) (name : List ℕ) → child_named (map.entries m) dir name ≡ option_and_then (entry_at (map.entries m)) (tree.get place_cmp names (place dir name))
@@ -153,7 +148,7 @@ module _ (m : Items) (names : tree.BTreeMap Place ℕ) (are : AreNames m names) 
 found_in : (p : Place) (id : ℕ) (es : List (Place × ℕ)) → lookup (λ k. is_eq (place_cmp p k)) es ≡ Some id → (e : Place × ℕ) × In e es × (e.1 ≡ id) × (place_cmp p e.0 ≡ Equal)
 found_in p id [] is = absurd (none_is_some None id refl is)
 found_in p id (e ∷ es) is = elim (is_eq (place_cmp p e.0)) as (λ b. is_eq (place_cmp p e.0) ≡ b → cond b (Some e.1) (lookup (λ k. is_eq (place_cmp p k)) es) ≡ Some id → (x : Place × ℕ) × In x (e ∷ es) × (x.1 ≡ id) × (place_cmp p x.0 ≡ Equal)) [
-  | true ↦ λ tied here. (e, inl refl, same_some e.1 id here, is_level _ tied)
+  | true ↦ λ tied here. (e, inl refl, same_some e.1 id here, eq_is _ tied)
   | false ↦ λ apart later. let rest = found_in p id es later in (rest.0, inr rest.1, rest.2, rest.3)
 ] refl is
 
@@ -173,7 +168,7 @@ pub less_is : (r : Ordering) → r ≡ Less → T (is_lt r)
 less_is r e = subst (λ x. T (is_lt x)) (sym e) tt
 
 same_folded : (x y : List ℕ) → IsTrue (same_name x y) → folded x ≡ folded y
-same_folded x y h = slice_cmp-IsAntisymmetric nat_cmp-IsAntisymmetric (folded x) (folded y) (is_level _ h)
+same_folded x y h = slice_cmp-IsAntisymmetric nat_cmp-IsAntisymmetric (folded x) (folded y) (eq_is _ h)
 
 module _ (m : Items) (names : tree.BTreeMap Place ℕ) (are : AreNames m names) (dir : ℕ) where
   abbrev is_under : Place × ℕ → Bool

@@ -201,7 +201,3 @@ module _ (image : List ℕ) (records_law : ItemsAreRecords) (id : ℕ) (first : 
       let whole = cut image records_law id file has found found_is written base agrees stays fork es (are r.of (r.found, one)) unwritten (fork_of fork file)
       (its_fork (contents_in (block_at image)) (catalog_in (block_at image)) r.of file (its_kind image records_law id file has found found_is) fork) in
       whole ∙ own_length _ (bytes_of_extents base es) ∙ ap (λ (x : List ℕ). take (length x) (bytes_of_extents base es)) (sym whole)
-
-pub if_ok : {X E : Type 0} (r : Result X E) (P Q : X → Type 0) → ((x : X) → P x → Q x) → IfOk r P → IfOk r Q
-if_ok (Ok x) P Q f h = f x h
-if_ok (Err e) P Q f h = tt

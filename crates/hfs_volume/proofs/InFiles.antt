@@ -4,6 +4,7 @@ use Rattle.std.specs.Int.{w32, to_be_bytes}
 use Rattle.std.specs.Io.KnownBytes.{Appends}
 use Rattle.std.proofs.KnownBytes.{Appends-trans}
 use Rattle.std.proofs.lemmas.List.{take_all, take-take, drop-take}
+use Rattle.hfs_texts.proofs.FrontLemmas.{front_first, front_next}
 use Rattle.hfs_blocks.specs.Layers.{Numbered}
 use Rattle.hfs_source.specs.declared.ranges.ByteRange.{ByteRange}
 use Rattle.hfs_source.specs.Ranges.{bytes_in}
@@ -12,7 +13,6 @@ use Rattle.hfs_fields.specs.Mdb.{bytes_at}
 use Rattle.hfs_texts.specs.Writing.{AppendsFront}
 use Rattle.hfs_volume.specs.InFile.{changed_head, changed_in, file_with, head_with, LiesIn, OfPatchedRange}
 use Rattle.hfs_volume.specs.declared.in_file.ImagePlace.{ImagePlace}
-use Rattle.hfs_volume.proofs.Fronts.{front_first, front_next}
 
 -- what holds of the range of each file, holds of that of each file that it lies in
 pub of-range : (Holds : List ℕ → Type 0) (range : ByteRange) (changed : Numbered) (Fact : List ℕ → Type 0) → OfPatchedRange Holds range changed Fact

@@ -8,10 +8,11 @@ use Rattle.hfs_fields.specs.declared.mdb.Mdb.{Mdb}
 use Rattle.hfs_fields.specs.Each.{Each}
 use Rattle.hfs_fields.specs.Members.{In}
 use Rattle.hfs_btree.specs.Sound.{IsDistinct, IsOther}
+use Rattle.hfs_space.proofs.OwnedLemmas.{blocks-append}
 use Rattle.hfs_space.specs.Extents.{Overflow, extent_blocks}
 use Rattle.hfs_space.specs.Owners.{Fork, forks_of, catalog_fork, all_forks, extents_in, bad_extents, owned_extents, owned_blocks, owners}
 use Rattle.hfs_catalog.specs.Records.{Record, Catalog}
-use Rattle.hfs_record_edits.proofs.Space.{none_other, extents_parts, cons, one, no}
+use Rattle.hfs_record_edits.proofs.Space.{none_other, cons, one, no}
 use Rattle.hfs_format.proofs.BitsRead.{one_if}
 
 -- ---- numbers that stand in a list
@@ -29,7 +30,7 @@ module _ (mdb : Mdb) (overflow : Overflow) (b : ℕ) where
   others_have = owners (extent_blocks (extents_in overflow (catalog_fork mdb))) b + (owners (extent_blocks mdb.extents_file) b + owners (extent_blocks (bad_extents overflow)) b)
 
   forks_parts : (fs gs : List Fork) → forks_have (fs ++ gs) ≡ forks_have fs + forks_have gs
-  forks_parts fs gs = ap (λ l. owners (extent_blocks l) b) (flat_map-append (extents_in overflow) fs gs) ∙ extents_parts (flat_map (extents_in overflow) fs) (flat_map (extents_in overflow) gs) b
+  forks_parts fs gs = ap (λ l. owners (extent_blocks l) b) (flat_map-append (extents_in overflow) fs gs) ∙ blocks-append (flat_map (extents_in overflow) fs) (flat_map (extents_in overflow) gs) b
 
   catalog_has : (catalog : Catalog) → forks_have (flat_map forks_of catalog) ≡ sum_by record_has catalog
   catalog_has [] = refl
@@ -41,9 +42,9 @@ module _ (mdb : Mdb) (overflow : Overflow) (b : ℕ) where
       let forks = flat_map (extents_in overflow) (all_forks mdb catalog) in
       omega (
         arith,
-        extents_parts (forks ++ mdb.extents_file) (bad_extents overflow) b,
-        extents_parts forks mdb.extents_file b,
-        extents_parts (extents_in overflow (catalog_fork mdb)) (flat_map (extents_in overflow) (flat_map forks_of catalog)) b,
+        blocks-append (forks ++ mdb.extents_file) (bad_extents overflow) b,
+        blocks-append forks mdb.extents_file b,
+        blocks-append (extents_in overflow (catalog_fork mdb)) (flat_map (extents_in overflow) (flat_map forks_of catalog)) b,
         catalog_has catalog,
       )
 

@@ -14,6 +14,8 @@ use Rattle.hfs_fields.proofs.MemberLemmas.{each_in}
 use Rattle.hfs_btree.specs.Sound.{IsOther}
 use Rattle.hfs_model.specs.declared.call.Fork.{Fork}
 use Rattle.hfs_model.specs.declared.call.Fork.TheVariants.{DataFork, ResFork}
+use Rattle.hfs_space.proofs.OwnedOnce.{distinct-once}
+use Rattle.hfs_space.proofs.OwnedLemmas.{blocks-cons, blocks-append}
 use Rattle.hfs_space.specs.Bitmap.{bitmap_len}
 use Rattle.hfs_space.specs.Extents.{Overflow, extent_blocks}
 use Rattle.hfs_space.specs.ForkLaws.{block_numbers}
@@ -29,18 +31,16 @@ use Rattle.hfs_volume.specs.Sharing.{file_extents}
 use Rattle.hfs_volume.proofs.SharingLaws.{ForksStay, FileForksStay}
 use Rattle.hfs_volume.proofs.StayingBlocks.{same_changing}
 use Rattle.hfs_space.proofs.OwnerLemmas.{append}
-use Rattle.hfs_record_edits.proofs.Space.{extents_parts}
 use Rattle.hfs_volume.proofs.Owned.{forks_have, record_has, others_have, owners_sum, sum_in, owners_in}
-use Rattle.hfs_record_edits.proofs.Space.{owned_distinct}
 use Rattle.hfs_model.proofs.Members.{in_from_contains}
 use Rattle.hfs_fields.proofs.PartLemmas.{in_parts}
 
-in_take : {A : Type 0} (x : A) (k : ℕ) (xs : List A) → In x (take k xs) → In x xs
+pub in_take : {A : Type 0} (x : A) (k : ℕ) (xs : List A) → In x (take k xs) → In x xs
 in_take x zero xs i = absurd i
 in_take x (suc k) [] i = absurd i
 in_take x (suc k) (y ∷ xs) i = ⊎_elim (λ (e : y ≡ x). inl e) (λ (there : In x (take k xs)). inr (in_take x k xs there)) i
 
-in_range : (a k n : ℕ) → In n (range_with_len a k) → (a ≤ n) × (n < a + k)
+pub in_range : (a k n : ℕ) → In n (range_with_len a k) → (a ≤ n) × (n < a + k)
 in_range a zero n i = absurd i
 in_range a (suc k) n i = ⊎_elim
     (λ (e : a ≡ n). (omega (arith, e), omega (arith, e)))
@@ -64,7 +64,7 @@ each_other n (x ∷ xs) f = (λ (e : x ≡ n). f (inl e), each_other n xs (λ i.
 abbrev LiesIn : Mdb → ℕ → ℕ → Type 0
 LiesIn mdb n b = (mdb.allocation_start + b * blocks_each mdb ≤ n) × (n < mdb.allocation_start + b * blocks_each mdb + blocks_each mdb)
 
-find_block : (a each count n : ℕ) → a ≤ n → n < a + count * each → (c : ℕ) × (c < count) × (a + c * each ≤ n) × (n < a + c * each + each)
+pub find_block : (a each count n : ℕ) → a ≤ n → n < a + count * each → (c : ℕ) × (c < count) × (a + c * each ≤ n) × (n < a + c * each + each)
 find_block a each zero n low high = let none : zero * each ≡ 0 = omega arith in absurd (omega (arith, none))
 find_block a each (suc count) n low high = ⊎_elim
     (λ (here : n < a + each). let none : 0 * each ≡ 0 = omega arith in (0, omega arith, omega (arith, none), omega (arith, none)))
@@ -103,18 +103,15 @@ located_in mdb e n i =
     let sum : (e.first + c.0) * each ≡ e.first * each + c.0 * each = add-mul e.first c.0 each in
     (e.first + c.0, (omega (arith, sum, c.2), omega (arith, sum, c.3)), range_in e.first e.count (e.first + c.0) (omega arith) (omega (arith, c.1)))
 
-pub parts : (e : Extent) (extents : List Extent) (b : ℕ) → owners (extent_blocks (e ∷ extents)) b ≡ owners (range_with_len e.first e.count) b + owners (extent_blocks extents) b
-parts e extents b = append b (range_with_len e.first e.count) (extent_blocks extents)
-
 located : (mdb : Mdb) (extents : List Extent) (n : ℕ) → In n (block_numbers mdb extents) → Located mdb extents n
 located mdb [] n i = absurd i
 located mdb (e ∷ extents) n i = ⊎_elim
     (λ (here : In n (run_of (run_in mdb e))).
     let b = located_in mdb e n here in
-    record { block = b.0; lies = b.1; owned = omega (arith, owners_in b.0 (range_with_len e.first e.count) b.2, parts e extents b.0) })
+    record { block = b.0; lies = b.1; owned = omega (arith, owners_in b.0 (range_with_len e.first e.count) b.2, blocks-cons e extents b.0) })
     (λ (there : In n (block_numbers mdb extents)).
     let rest = located mdb extents n there in
-    record { block = rest.block; lies = rest.lies; owned = omega (arith, rest.owned, parts e extents rest.block) })
+    record { block = rest.block; lies = rest.lies; owned = omega (arith, rest.owned, blocks-cons e extents rest.block) })
     (in_parts n (run_of (run_in mdb e)) (block_numbers mdb extents) i)
 
 -- ---- a block of a file's fork
@@ -139,11 +136,11 @@ module _ (image : List ℕ) (sound : IsSound image) (r : Record) (there : In r (
   fork_counts : owners (extent_blocks (file_extents blocks fork (file_record_of r.1))) b ≤ forks_have mdb overflow b (forks_of_file (file_record_of r.1))
   unfolding file_extents forks_of_file
   fork_counts = elim fork as (λ (k : Fork). owners (extent_blocks (file_extents blocks k (file_record_of r.1))) b ≤ forks_have mdb overflow b (forks_of_file (file_record_of r.1))) [
-    | DataFork ↦ omega (arith, extents_parts (file_extents blocks DataFork (file_record_of r.1)) (file_extents blocks ResFork (file_record_of r.1) ++ []) b)
+    | DataFork ↦ omega (arith, blocks-append (file_extents blocks DataFork (file_record_of r.1)) (file_extents blocks ResFork (file_record_of r.1) ++ []) b)
     | ResFork ↦ omega (
       arith,
-      extents_parts (file_extents blocks DataFork (file_record_of r.1)) (file_extents blocks ResFork (file_record_of r.1) ++ []) b,
-      extents_parts (file_extents blocks ResFork (file_record_of r.1)) [] b,
+      blocks-append (file_extents blocks DataFork (file_record_of r.1)) (file_extents blocks ResFork (file_record_of r.1) ++ []) b,
+      blocks-append (file_extents blocks ResFork (file_record_of r.1)) [] b,
     )
   ]
 
@@ -157,7 +154,7 @@ module _ (image : List ℕ) (sound : IsSound image) (r : Record) (there : In r (
     some,
     sum_in mdb overflow b (catalog_in blocks) r there,
     owners_sum mdb overflow b (catalog_in blocks),
-    owned_distinct (owned_blocks mdb overflow (catalog_in blocks)) sound.blocks.space.once b,
+    distinct-once (owned_blocks mdb overflow (catalog_in blocks)) sound.blocks.space.once b,
   )
 
   not_node : (extents : List Extent) (k : ℕ) → owners (extent_blocks extents) b ≡ 0 → In n (take k (block_numbers mdb extents)) → ⊥

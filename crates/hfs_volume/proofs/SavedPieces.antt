@@ -130,10 +130,6 @@ pub passed_on : {T : Type 0} (r : Result T SaveFault) (fault : SaveFault) (P : S
 passed_on (Ok a) fault P is p = tt
 passed_on (Err x) fault P is p = subst P (sym is) p
 
-pub ok_so : {T E A B : Type 0} (r : Result T E) → (A → B) → OnOk r A → OnOk r B
-ok_so (Ok a) f h = f h
-ok_so (Err x) f h = tt
-
 pub err_so : {T : Type 0} (r : Result T SaveFault) (P Q : SaveFault → Type 0) → ((fault : SaveFault) → P fault → Q fault) → IfErr r P → IfErr r Q
 err_so (Ok a) P Q f h = tt
 err_so (Err x) P Q f h = f x h

@@ -5,10 +5,10 @@ use Rattle.std.proofs.KnownBytes.{Appends-trans}
 use Rattle.std.proofs.lemmas.List.{drop-drop}
 use Rattle.std.proofs.Math.Seq.{take-add}
 use Rattle.hfs_fields.specs.Mdb.{bytes_at}
+use Rattle.hfs_texts.proofs.FrontLemmas.{front_more, front_next}
 use Rattle.hfs_source.specs.Images.{OfEach}
 use Rattle.hfs_texts.specs.Writing.{AppendsFront}
 use Rattle.hfs_volume.specs.InFile.{WritesAt, WritesFrontAt}
-use Rattle.hfs_volume.proofs.Fronts.{front_next, front_more}
 
 -- bytes, and those behind them
 pub bytes_at-add : (place done count : ℕ) (file : List ℕ)

@@ -26,13 +26,14 @@ use Rattle.hfs_model.specs.Volume.{Volume, Entry}
 use Rattle.hfs_model.proofs.Facts.{not_refused}
 use Rattle.hfs_model.proofs.KeepsCalls.{same_entry, err_is_ok, chained, unlocked_is}
 use Rattle.hfs_model.specs.ForkCallLaws.{fork_named}
+use Rattle.hfs_catalog.proofs.FileRecords.{not-dir}
 use Rattle.hfs_record_edits.specs.Wants.{IsForkWant, IsSetEofWant, IsWriteForkWant, length_written}
 use Rattle.hfs_catalog.specs.Records.{Record, has_thread}
 use Rattle.hfs_catalog.specs.Items.{file_of, item_of}
 use Rattle.hfs_check.specs.Parts.{Blocks, mdb_in, catalog_in}
 use Rattle.hfs_check.specs.Sound.{IsSound}
 use Rattle.hfs_check.specs.VolumeOf.{contents_in, volume_in, volume_of}
-use Rattle.hfs_record_edits.proofs.Made.{file_item, file-not_dir}
+use Rattle.hfs_record_edits.proofs.Made.{file_item}
 use Rattle.hfs_items.specs.Told.{pick}
 use Rattle.hfs_items.proofs.FolderLemmas.{found_with}
 use Rattle.hfs_items.proofs.Queries.{AreLong, files_are_long}
@@ -79,7 +80,7 @@ module _ (image : List ℕ) (sound : IsSound image) (dir : ℕ) (name : List ℕ
 
   kind_is : (fork : Fork) → fork_bytes fork (item_of (contents_in old) (catalog_in old) r).kind ≡ pick fork (contents_in old (file_record_of r.1))
   unfolding file_of
-  kind_is fork = ap (λ (x : Item). fork_bytes fork x.kind) (file_item (contents_in old) (catalog_in old) r (file-not_dir r.1 choice.is)) ∙ by fork
+  kind_is fork = ap (λ (x : Item). fork_bytes fork x.kind) (file_item (contents_in old) (catalog_in old) r (not-dir r.1 choice.is)) ∙ by fork
     where
       by : (k : Fork) → fork_bytes k (file_of (has_thread (catalog_in old) (file_record_of r.1).id) (contents_in old (file_record_of r.1)) r.0 (file_record_of r.1)).kind ≡ pick k (contents_in old (file_record_of r.1))
       by DataFork = refl

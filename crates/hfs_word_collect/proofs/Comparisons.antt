@@ -125,6 +125,3 @@ pub fails_by_memory : {X : Type 0} (old new : State) (path : List ℕ) (r : Resu
 fails_by_memory old new path (Ok x) known is none = tt
 fails_by_memory old new path (Err fault) known is none = inr (none, (known, is))
 
-pub on_err : {T E : Type 0} (r : Result T E) (P : Type 0) → P → OnErr r P
-on_err (Ok x) P p = tt
-on_err (Err e) P p = p

@@ -22,10 +22,6 @@ unread_by Unread ReadFailed told is none so = so
 unread_by Unread CannotWrite told is none so = absurd (none-some run.CannotWrite (sym none ∙ is))
 unread_by Unread NoMemory told is none so = absurd (none-some run.NoMemory (sym none ∙ is))
 
-pub on_any_err : {A E : Type 0} (r : Result A E) (P : Type 0) → P → OnErr r P
-on_any_err (Ok x) P p = tt
-on_any_err (Err e) P p = p
-
 -- bytes that went out, or a beginning of them
 either_front : {E : Type 0} (old new : Option (List ℕ)) (text : List ℕ) (r : Result (Unit {0}) E) → OnOk r (Appends old new text) → OnErr r (WritesFront old new text)
     → WritesFront old new text

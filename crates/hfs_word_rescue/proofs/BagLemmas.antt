@@ -110,11 +110,6 @@ none_given told why Holds len line words given is =
     subst (λ (r : Result RescueAnswer BagFault). OnErr r (EachKnown Holds (λ known. OfKnownBag known len line words (λ bag. IsBeginning given (given ++ bag))))) (sym is)
     (λ image h. nothing_given (Some image) len line words given)
 
--- what a result fails for is this where it is that
-pub err_then : {A E : Type 0} (r : Result A E) (P Q : E → Type 0) → ((e : E) → P e → Q e) → IfErr r P → IfErr r Q
-err_then (Ok a) P Q by is = tt
-err_then (Err e) P Q by is = by e is
-
 -- ---- the answer behind a bag
 
 module _ (came : Result BagSums BagFault) (answer : RescueAnswer) (told : Result RescueAnswer BagFault) (same : told ≡ told_after came answer) where

@@ -46,7 +46,7 @@ facts_same image mdb other told words f g same a b items tables =
 
 -- ---- the lines of the directory
 
-some-same : (a b : Mdb) → Some a ≡ Some b → a ≡ b
+pub some-same : (a b : Mdb) → Some a ≡ Some b → a ≡ b
 some-same a b e = cc
 
 -- the lines of a head that has the block of the directory in its place are those of the directory

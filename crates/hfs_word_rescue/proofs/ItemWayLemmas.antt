@@ -10,6 +10,7 @@ use Rattle.hfs_fields.specs.Each.{Each}
 use Rattle.hfs_fields.specs.Members.{In}
 use Rattle.hfs_fields.proofs.MemberLemmas.{each_in}
 use Rattle.hfs_btree.specs.Sound.{IsDistinct, IsOther}
+use Rattle.hfs_catalog.proofs.Found.{missed}
 use Rattle.hfs_catalog.specs.Records.{Record, Catalog, has_id, item_with, items_of as items_in}
 use Rattle.hfs_catalog.specs.Sound.{AreIdsSound, HasRightId, IsGiven, IsRoot}
 use Rattle.hfs_catalog.proofs.Held.{with_id}
@@ -66,15 +67,6 @@ one-place (x ∷ items) once zero (suc j) r q is so same = absurd (other-in (ite
 one-place (x ∷ items) once (suc i) zero r q is so same = absurd (other-in (item_id x.1) items once.0 i r is (same ∙ sym (ap (λ (y : Record). item_id y.1) (same_Some x q so))))
 one-place (x ∷ items) once (suc i) (suc j) r q is so same = ap suc (one-place items once.1 i j r q is so same)
 
-find-none : (p : Record → Bool) (xs : Catalog) (x : Record) → find p xs ≡ None → In x xs → p x ≡ true → ⊥
-find-none p [] x none there holds = there
-find-none p (y ∷ xs) x none there holds = by (p y) refl none there (λ rest behind. find-none p xs x rest behind holds)
-  where
-    by : (b : Bool) → p y ≡ b → cond b (Some y) (find p xs) ≡ None → (y ≡ x) ⊎ In x xs → (find p xs ≡ None → In x xs → ⊥) → ⊥
-    by true e none there rest = none-some y (sym none)
-    by false e none (inl same) rest = true≢false (sym holds ∙ sym (ap p same) ∙ e)
-    by false e none (inr behind) rest = rest none behind
-
 -- ---- ways
 
 -- the folder of an item, at its place among the items
@@ -99,7 +91,7 @@ module _ (catalog : Catalog) (next : ℕ) (ids : AreIdsSound next catalog) where
       two = item-of catalog i r is
 
       by : (o : Option Record) → item_with catalog (item_id r.1) ≡ o → o ≡ Some r
-      by None none = absurd (find-none (has_id (item_id r.1)) catalog r none two.0 (and_from (is_item r.1) (item_id r.1 == item_id r.1) two.1 (eq-eqb (item_id r.1) (item_id r.1) refl)))
+      by None none = absurd (missed (has_id (item_id r.1)) catalog r none two.0 (and_from (is_item r.1) (item_id r.1 == item_id r.1) two.1 (eq-eqb (item_id r.1) (item_id r.1) refl)))
       by (Some q) so =
           let has = with_id catalog (item_id r.1) q so in
           let at = place-in catalog q has.0 has.1 in

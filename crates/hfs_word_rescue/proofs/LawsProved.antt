@@ -15,18 +15,19 @@ use Rattle.hfs_remains.specs.Directory.{directory_of, mdb_at}
 use Rattle.hfs_remains.specs.declared.catalog.FoundRecord.{FoundRecord}
 use Rattle.hfs_rescue_items.specs.Sources.{rescued_tables}
 use Rattle.hfs_rescue_items.proofs.LawsProved.{plans_are_placed}
+use Rattle.hfs_word_rescue.proofs.FactLemmas.{some-same}
 use Rattle.hfs_word_rescue.specs.Bags.{rescued_items}
 use Rattle.hfs_word_rescue.proofs.JoinLemmas.{payloads-same}
 use Rattle.hfs_word_rescue.proofs.TakenPathLemmas.{taken-paths}
 use Rattle.hfs_word_rescue.proofs.BagSumLemmas.{sums_of_bag}
-use Rattle.hfs_word_rescue.proofs.ThereLemmas.{found-there, same-directory}
+use Rattle.hfs_word_rescue.proofs.ThereLemmas.{found-there}
 use Rattle.hfs_word_rescue.specs.Laws.{RemainsAreFound, RescuedPathsAreLawful, SoundPayloadsAreVolumes, SumsAreOfBags, TakenPathsAreLawful}
 
 -- what is found of an image of bytes by its directory are things
 are-things : (image : List ℕ) (mdb : Mdb) → IsTrue (is_bytes image) → (place : Option ℕ) → directory_of image ≡ place → option_map (mdb_at (block_at image)) place ≡ Some mdb → AreThings (found_things image mdb)
 are-things image mdb bytes None there is = cc
 are-things image mdb bytes (Some n) there is =
-    subst (λ (m : Mdb). AreThings (found_things image m)) (same-directory (mdb_at (block_at image) n) mdb is) (found_are_things image n bytes there)
+    subst (λ (m : Mdb). AreThings (found_things image m)) (some-same (mdb_at (block_at image) n) mdb is) (found_are_things image n bytes there)
 
 -- The law of paths: no path of the bag that `take` makes of a sound image leads out of it, and all differ, also without regard to case.
 pub taken_paths_are_lawful : TakenPathsAreLawful

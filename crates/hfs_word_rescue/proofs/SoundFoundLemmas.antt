@@ -21,8 +21,8 @@ use Rattle.hfs_catalog.specs.Sound.{IsGiven, IsRoot}
 use Rattle.hfs_check.specs.Parts.{Blocks, catalog_in, mdb_in, overflow_in}
 use Rattle.hfs_check.specs.Sound.{AreBlocksSound, IsSound}
 use Rattle.hfs_remains_forks.specs.Finds.{found_items, found_overflow, found_things}
+use Rattle.hfs_word_take.proofs.PlainNames.{behind-first}
 use Rattle.hfs_word_take.specs.Items.{folders_text}
-use Rattle.hfs_word_take.proofs.PlainNames.{path-is}
 use Rattle.hfs_texts.specs.HostNames.{host_name}
 use Rattle.hfs_texts.specs.NameLaws.{is_bytes}
 use Rattle.hfs_texts.specs.MacPaths.{host_path}
@@ -265,4 +265,4 @@ module _ (image : List ℕ) (limit : ℕ) (found : Found) (sound : IsSound image
 
       -- the host names of the folders, and that of the item
       pub path-parts : path_at found.places.now i ≡ folders_text (reverse rest) ++ host_name r.0.name
-      path-parts = path-found ∙ payload-is ∙ ap host_path (reverse-append (r.0.name ∷ []) rest) ∙ sym (path-is (reverse rest) r.0.name)
+      path-parts = path-found ∙ payload-is ∙ ap host_path (reverse-append (r.0.name ∷ []) rest) ∙ sym (behind-first (reverse rest) r.0.name)

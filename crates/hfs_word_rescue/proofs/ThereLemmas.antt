@@ -16,6 +16,7 @@ use Rattle.hfs_remains.proofs.LawsProved.{directories_are_read}
 use Rattle.hfs_rescue_items.specs.declared.found.Found.{Found}
 use Rattle.hfs_space.specs.Extents.{extent_blocks}
 use Rattle.hfs_space.specs.Forks.{blocks_each}
+use Rattle.hfs_word_rescue.proofs.FactLemmas.{some-same}
 use Rattle.hfs_word_rescue.specs.Found.{IsFoundOf}
 use Rattle.hfs_word_rescue.specs.Laws.{RemainsAreFound}
 
@@ -63,9 +64,6 @@ module _ (image : List ℕ) (limit : ℕ) (mdb : Mdb) (some : 1 ≤ blocks_each 
     shares_are = refl;
   }
 
-pub same-directory : (x y : Mdb) → Some x ≡ Some y → x ≡ y
-same-directory x y same = cc
-
 pub found-there : RemainsAreFound
 found-there image limit mdb bytes is = by (directory_of image) refl is
   where
@@ -73,5 +71,5 @@ found-there image limit mdb bytes is = by (directory_of image) refl is
     by None there none = cc
     by (Some n) there same =
         let some : 1 ≤ blocks_each mdb =
-        subst (λ (m : Mdb). 1 ≤ blocks_each m) (same-directory (mdb_at (block_at image) n) mdb same) (directories_are_read image n bytes there).0.some in
+        subst (λ (m : Mdb). 1 ≤ blocks_each m) (some-same (mdb_at (block_at image) n) mdb same) (directories_are_read image n bytes there).0.some in
         (found image limit mdb some, found-is image limit mdb some is)

@@ -14,4 +14,4 @@ pub mod BagLemmas
 pub mod FaultLemmas
 mod PartLines
 mod SendLemmas
-mod PlacedBagLemmas
+pub mod PlacedBagLemmas

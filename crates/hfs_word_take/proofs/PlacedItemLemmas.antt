@@ -26,7 +26,7 @@ use Rattle.hfs_texts.specs.NameLaws.{is_bytes}
 use Rattle.hfs_texts.proofs.HostPathLemmas.{host-paths}
 use Rattle.hfs_word_take.specs.Items.{bag_item, bag_items, folders_text, names_between}
 use Rattle.hfs_word_take.specs.Laws.{ArePathsTold}
-use Rattle.hfs_word_take.proofs.PlainNames.{folders-are, path-is, plain-name, plain-names}
+use Rattle.hfs_word_take.proofs.PlainNames.{folders-are, plain-name, plain-names, behind-first}
 
 -- the same behind the same front
 same-behind : {A : Type 0} (xs ys zs : List A) → xs ++ ys ≡ xs ++ zs → ys ≡ zs
@@ -196,7 +196,7 @@ module _ (v : Volume) (h : IsLawful v) (named : (id : ℕ) (i : Item) → Has v.
     name-is r = refl
 
     text-is : (r : Row) (b : BelowRoot root r) → (item_of r).above ++ (item_of r).name ≡ host_path (b.between ++ r.entry.1.name ∷ [])
-    text-is r b = (λ i. folders_text (between-is r b i) ++ host_name (name-is r i)) ∙ path-is b.between r.entry.1.name
+    text-is r b = (λ i. folders_text (between-is r b i) ++ host_name (name-is r i)) ∙ behind-first b.between r.entry.1.name
 
     front-bytes : (names : List (List ℕ)) (last : List ℕ) → list_all is_bytes (names ++ last ∷ []) ≡ true → list_all is_bytes names ≡ true
     front-bytes [] last bytes = refl

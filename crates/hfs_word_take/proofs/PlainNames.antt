@@ -45,7 +45,7 @@ folders-are [] = refl
 folders-are (name ∷ names) = ap (λ (t : List ℕ). (host_name name ++ codes "/") ++ t) (folders-are names)
 
 -- a slash behind each name and the last name are the host path
-behind-first : (names : List (List ℕ)) (last : List ℕ) → folders_text names ++ host_name last ≡ host_path (names ++ last ∷ [])
+pub behind-first : (names : List (List ℕ)) (last : List ℕ) → folders_text names ++ host_name last ≡ host_path (names ++ last ∷ [])
 unfolding folders_text host_path
 behind-first [] last = sym (append-nil (host_name last))
 behind-first (name ∷ []) last =
@@ -60,6 +60,3 @@ behind-first (name ∷ next ∷ names) last =
   where
     slashed : (first : List ℕ) (others : List (List ℕ)) → codes "/" ++ host_path (first ∷ others) ≡ flat_map (λ (n : List ℕ). codes "/" ++ host_name n) (first ∷ others)
     slashed first others = refl
-
-pub path-is : (names : List (List ℕ)) (last : List ℕ) → folders_text names ++ host_name last ≡ host_path (names ++ last ∷ [])
-path-is names last = behind-first names last

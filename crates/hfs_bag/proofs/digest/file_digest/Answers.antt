@@ -1,7 +1,7 @@
 -- A read that failed at its place; all bytes at the end.
 use Rattle.std.proofs.Common.{◌≡◌, ◌-◌, min, arith, rules}
+use Rattle.hfs_fields.proofs.OutcomeLemmas.{on_err}
 use Rattle.hfs_bag.proofs.Digests.{digest_whole}
-use Rattle.hfs_encodings.proofs.Entries.{on_err}
 use Rattle.hfs_bag.proofs.digest.file_digest.Goals as goal
 
 pub returns-in_err-add_bytes-clause-fails : goal.returns-in_err-add_bytes-clause-fails

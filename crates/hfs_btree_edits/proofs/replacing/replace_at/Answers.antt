@@ -1,11 +1,11 @@
 use Rattle.std.proofs.Common.{◌<◌, ℕ, List, ap, arith, length, refl, subst}
 use Rattle.std.specs.Prelude.{Result}
+use Rattle.hfs_fields.proofs.OutcomeLemmas.{on_ok}
 use Rattle.hfs_btree.specs.declared.fault.NodeFault.{NodeFault}
 use Rattle.hfs_btree.specs.declared.node.Node.{Node}
 use Rattle.hfs_btree.specs.Tree.{records_of}
 use Rattle.hfs_btree.proofs.DecodedLemmas.{records-read, records-within}
 use Rattle.hfs_btree_edits.proofs.DecodesLemmas.{decodes-some}
-use Rattle.hfs_btree_edits.proofs.WriteLemmas.{on_ok}
 use Rattle.hfs_btree_edits.proofs.ReplacedLemmas.{replaced-fits, replaced-by}
 use Rattle.hfs_btree_edits.proofs.replacing.replace_at.Goals as goal
 

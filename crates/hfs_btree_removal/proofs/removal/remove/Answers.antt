@@ -1,4 +1,5 @@
 use Rattle.std.proofs.Common.{◌≡◌, ◌≤◌, ◌+◌, List, [], length, sym, subst}
+use Rattle.hfs_fields.proofs.OutcomeLemmas.{on_ok}
 use Rattle.hfs_btree_removal.specs.declared.down.Step.{Step}
 use Rattle.hfs_btree_removal.specs.Removal.{KeepsSound, GainsNothing}
 use Rattle.hfs_btree.specs.Header.{header_in, depth_of, free_nodes, tree_content}
@@ -6,7 +7,6 @@ use Rattle.hfs_fields.specs.Each.{Each}
 use Rattle.hfs_btree_removal.specs.Removal.{HasLowered}
 use Rattle.hfs_btree.specs.Tree.{Store, records_in}
 use Rattle.hfs_btree_removal.specs.Ways.{IsWayTo}
-use Rattle.hfs_btree_edits.proofs.WriteLemmas.{on_ok}
 use Rattle.hfs_btree_removal.proofs.RemoveWhole.{on_both, removed-all, one-level, removed-last}
 use Rattle.hfs_btree_removal.proofs.removal.remove.Goals as goal
 

@@ -1,7 +1,7 @@
 use Rattle.std.proofs.Common.{List, take, get_or, subst}
+use Rattle.hfs_fields.proofs.OutcomeLemmas.{on_ok}
 use Rattle.hfs_btree_removal.specs.declared.down.Step.{Step}
 use Rattle.hfs_btree_removal.specs.Removal.{HasTakenOut}
-use Rattle.hfs_btree_edits.proofs.WriteLemmas.{on_ok}
 use Rattle.hfs_btree_removal.proofs.KeysSet.{no-step}
 use Rattle.hfs_btree_removal.proofs.OutWhole.{back, way-below, steps-are, out-settable, told-any, out-stray, out-whole}
 use Rattle.hfs_btree_removal.proofs.removal.take_out.Goals as goal

@@ -1,7 +1,7 @@
 use Rattle.std.proofs.Common.{◌<◌, length, arith}
+use Rattle.hfs_fields.proofs.OutcomeLemmas.{on_ok}
 use Rattle.hfs_btree.proofs.DescentLemmas.{root-way, way-within}
 use Rattle.hfs_btree.proofs.DecodedLemmas.{decoded-within}
-use Rattle.hfs_btree_edits.proofs.WriteLemmas.{on_ok}
 use Rattle.hfs_btree_removal.proofs.HeadPut.{still-within}
 use Rattle.hfs_btree_removal.proofs.HeadPut.{dropped-sound, dropped-stray, dropped-keeps, dropped-gains, dropped-content, dropped-depth, dropped-free}
 use Rattle.hfs_btree_removal.proofs.top.drop_root.Goals as goal

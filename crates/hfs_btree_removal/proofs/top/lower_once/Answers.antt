@@ -1,11 +1,11 @@
 use Rattle.std.proofs.Common.{◌≡◌, ◌<◌, ◌≤◌, ◌-◌, ℕ, List, length, sym, subst, ap, ◌∙◌, arith}
 use Rattle.std.specs.Prelude.{true}
+use Rattle.hfs_fields.proofs.OutcomeLemmas.{on_ok}
 use Rattle.hfs_btree.specs.declared.header.Header.{Header}
 use Rattle.hfs_fields.specs.Each.{Each}
 use Rattle.hfs_btree.specs.Header.{header_in, depth_of}
 use Rattle.hfs_btree.proofs.DecodedLemmas.{decoded-within, records-read}
 use Rattle.hfs_btree.proofs.DescentLemmas.{root-way, way-within, index-entries}
-use Rattle.hfs_btree_edits.proofs.WriteLemmas.{on_ok}
 use Rattle.hfs_btree_removal.proofs.HeadPut.{still-within}
 use Rattle.hfs_btree_removal.proofs.HeadPut.{once-sound, once-stray, once-keeps, once-gains, once-content, once-depth, once-free}
 use Rattle.hfs_btree_removal.proofs.top.lower_once.Goals as goal

@@ -1,9 +1,9 @@
 -- The folder went from the catalog's nodes, and then the counts were put.
 use Rattle.std.proofs.Common.{sym, subst, arith}
+use Rattle.hfs_fields.proofs.OutcomeLemmas.{if_ok}
 use Rattle.hfs_catalog.specs.Tree.{IsCatalogTree}
 use Rattle.hfs_call_patches.proofs.FromFolder.{own_id_by, there_by, stays_by, keeps_by, some_child, opened_records}
 use Rattle.hfs_call_patches.proofs.FolderGone.{chosen_id, folder_gone}
-use Rattle.hfs_call_patches.proofs.Made.{if_ok}
 use Rattle.hfs_record_edits.proofs.LawsProved.{removal_fits, choice_stands, folders_stand-delete, delete_folder_makes}
 use Rattle.hfs_check.proofs.LawsProved.{trees_are_sound}
 use Rattle.hfs_call_patches.proofs.deleting_folder.patch_delete_folder.Goals as goal

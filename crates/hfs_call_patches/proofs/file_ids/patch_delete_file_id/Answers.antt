@@ -1,10 +1,10 @@
 -- The file's thread went from the catalog's nodes, and then the counts were put.
+use Rattle.hfs_fields.proofs.OutcomeLemmas.{if_ok}
 use Rattle.hfs_fields.specs.Records.{is_file}
 use Rattle.hfs_blocks.specs.Layers.{changes, over}
 use Rattle.hfs_call_patches.specs.Settings.{IsBody}
 use Rattle.hfs_call_patches.proofs.FileIdPatches.{delete_made}
 use Rattle.hfs_call_patches.proofs.Opened.{tree_open, records_open, body_open}
-use Rattle.hfs_call_patches.proofs.Made.{if_ok}
 use Rattle.hfs_call_patches.proofs.ChosenItems.{file_named, file_under}
 use Rattle.hfs_check.proofs.LawsProved.{trees_are_sound}
 use Rattle.hfs_record_edits.proofs.LawsProved.{choice_stands, delete_file_id_makes}

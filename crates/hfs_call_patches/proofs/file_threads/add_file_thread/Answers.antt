@@ -1,6 +1,6 @@
 -- The file's record was put with the flag, and then its thread came.
 use Rattle.std.proofs.Common.{true}
-use Rattle.hfs_btree_edits.proofs.WriteLemmas.{on_ok}
+use Rattle.hfs_fields.proofs.OutcomeLemmas.{on_ok}
 use Rattle.hfs_btree_removal.proofs.RemoveWhole.{on_both as both_ok}
 use Rattle.hfs_call_patches.proofs.FileIdEdits.{root_between, absent_between, file_id_came}
 use Rattle.hfs_call_patches.proofs.file_threads.add_file_thread.Goals as goal

@@ -1,6 +1,6 @@
 -- The file's record was put without the flag, and then its thread went.
 use Rattle.std.proofs.Common.{false}
-use Rattle.hfs_btree_edits.proofs.WriteLemmas.{on_ok}
+use Rattle.hfs_fields.proofs.OutcomeLemmas.{on_ok}
 use Rattle.hfs_call_patches.proofs.FileIdEdits.{records_between, file_id_went}
 use Rattle.hfs_call_patches.proofs.file_threads.drop_file_thread.Goals as goal
 

@@ -1,8 +1,8 @@
 -- The item stands under the other folder, and both folders' records are set.
 use Rattle.std.proofs.Common.{sym, subst}
+use Rattle.hfs_fields.proofs.OutcomeLemmas.{if_ok}
 use Rattle.hfs_blocks.specs.Layers.{changes, over}
 use Rattle.hfs_call_patches.specs.Moving.{FitsCounts}
-use Rattle.hfs_call_patches.proofs.Made.{if_ok}
 use Rattle.hfs_call_patches.proofs.MoveMade.{stand_at, move_named, move_made}
 use Rattle.hfs_check.proofs.LawsProved.{catalog_is_sound}
 use Rattle.hfs_record_edits.proofs.LawsProved.{folders_stand-moved, cat_move_makes}

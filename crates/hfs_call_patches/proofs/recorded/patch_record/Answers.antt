@@ -1,7 +1,7 @@
 -- The record was put into the catalog's nodes, and then the counts.
+use Rattle.hfs_fields.proofs.OutcomeLemmas.{if_ok}
 use Rattle.hfs_blocks.specs.Layers.{changes, over}
 use Rattle.hfs_record_edits.specs.Bodies.{IfBody, IsOfKind}
-use Rattle.hfs_call_patches.proofs.Made.{if_ok}
 use Rattle.hfs_call_patches.proofs.Opened.{tree_open, place_open, body_open, item_set}
 use Rattle.hfs_check.proofs.LawsProved.{trees_are_sound}
 use Rattle.hfs_call_patches.proofs.recorded.patch_record.Goals as goal

@@ -1,6 +1,6 @@
 -- The item stands under its new name.
+use Rattle.hfs_fields.proofs.OutcomeLemmas.{if_ok}
 use Rattle.hfs_blocks.specs.Layers.{changes, over}
-use Rattle.hfs_call_patches.proofs.Made.{if_ok}
 use Rattle.hfs_call_patches.proofs.Rekeys.{rekeyed_named}
 use Rattle.hfs_call_patches.proofs.RenameMade.{rename_made}
 use Rattle.hfs_check.proofs.LawsProved.{catalog_is_sound}

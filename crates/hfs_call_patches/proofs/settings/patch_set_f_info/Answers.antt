@@ -1,5 +1,6 @@
+use Rattle.hfs_fields.proofs.OutcomeLemmas.{if_ok}
 use Rattle.hfs_blocks.specs.Layers.{changes, over}
-use Rattle.hfs_call_patches.proofs.Made.{if_ok, f_info_made}
+use Rattle.hfs_call_patches.proofs.Made.{f_info_made}
 use Rattle.hfs_call_patches.proofs.ChosenItems.{file_named, file_under}
 use Rattle.hfs_record_edits.proofs.LawsProved.{choice_stands, set_f_info_makes}
 use Rattle.hfs_call_patches.proofs.settings.patch_set_f_info.Goals as goal

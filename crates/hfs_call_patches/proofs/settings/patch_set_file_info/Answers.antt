@@ -1,8 +1,9 @@
 use Rattle.std.proofs.Common.{List, ℕ, subst}
+use Rattle.hfs_fields.proofs.OutcomeLemmas.{if_ok}
 use Rattle.hfs_catalog.specs.declared.item.ItemRecord.TheVariants.{File}
 use Rattle.hfs_blocks.specs.Layers.{changes, over}
 use Rattle.hfs_call_patches.specs.Settings.{HasSetItem}
-use Rattle.hfs_call_patches.proofs.Made.{if_ok, file_info_made}
+use Rattle.hfs_call_patches.proofs.Made.{file_info_made}
 use Rattle.hfs_call_patches.proofs.ChosenItems.{file_named, file_under}
 use Rattle.hfs_record_edits.proofs.LawsProved.{choice_stands, set_cat_info_makes-file}
 use Rattle.hfs_call_patches.proofs.settings.patch_set_file_info.Goals as goal

@@ -1,16 +1,17 @@
 -- The runs have the blocks from that of the first to that of the last.
 use Rattle.std.proofs.Common.{◌/◌, List, drop, sym, ◌∙◌, ap, subst, arith}
 use Rattle.std.specs.List.{flat_map}
+use Rattle.hfs_fields.proofs.OutcomeLemmas.{if_ok}
 use Rattle.hfs_blocks.specs.declared.run.Run.{Run}
 use Rattle.hfs_blocks.specs.Blocks.{run_of, AreRunsWithin}
+use Rattle.hfs_space.proofs.Puts.{runs-small}
 use Rattle.hfs_space.specs.TreeFiles.{tree_blocks}
-use Rattle.hfs_call_patches.proofs.Made.{if_ok}
-use Rattle.hfs_call_patches.proofs.WrittenBlocks.{runs_small, written_by}
+use Rattle.hfs_call_patches.proofs.WrittenBlocks.{written_by}
 use Rattle.hfs_call_patches.proofs.written.written_runs.Goals as goal
 
 pub runs_from-requires : goal.runs_from-requires
 runs_from-requires g c =
-    runs_small c.deref.result.now (g.B.Blocks.total c.args.blocks.now) 4294967296 (let few = g.met.B.Blocks.few c.args.blocks.now in omega (arith, few))
+    runs-small c.deref.result.now (g.B.Blocks.total c.args.blocks.now) 4294967296 (let few = g.met.B.Blocks.few c.args.blocks.now in omega (arith, few))
     (subst (λ (rs : List Run). AreRunsWithin rs (g.B.Blocks.total c.args.blocks.now)) (sym c.deref.ensures.value) c.in_ok-runs.ensures.within)
 
 pub returns : goal.returns

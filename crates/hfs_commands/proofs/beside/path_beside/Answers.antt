@@ -1,7 +1,8 @@
 use Rattle.std.proofs.Common.{◌≡◌, ◌++◌, List, ℕ, string_bytes, codes}
 use Rattle.std.specs.Fmt.{decimal}
+use Rattle.hfs_fields.proofs.OutcomeLemmas.{if_ok}
 use Rattle.hfs_commands.specs.Paths.{path_beside}
-use Rattle.hfs_commands.proofs.Taken.{if_ok, path_beside-pieces}
+use Rattle.hfs_commands.proofs.Taken.{path_beside-pieces}
 use Rattle.hfs_commands.proofs.beside.path_beside.Goals as goal
 
 pub returns : goal.returns

@@ -1,8 +1,8 @@
 -- Piece by piece.
 use Rattle.std.proofs.Common.{◌≡◌, ℕ, ◌*◌, ◌/◌, ◌%◌, ◌∙◌, ◌++◌, length, take, drop, arith, rules, subst}
 use Rattle.std.proofs.lemmas.List.{length-append, length-drop, length-take}
+use Rattle.hfs_fields.proofs.OutcomeLemmas.{on_err}
 use Rattle.hfs_commands.specs.Extracts.{WritesAt, WritesFrontAt}
-use Rattle.hfs_commands.proofs.Fronts.{on_err}
 use Rattle.hfs_commands.proofs.Extracted.{written-next, written-part}
 use Rattle.hfs_commands.proofs.extracting.write_pieces.Goals as goal
 
@@ -15,7 +15,7 @@ returns-in_err-write_piece-clause-part g c =
     let long : length (take count c.loop-done.buffer) ≡ count =
     omega (arith, c.min-count.ensures, length-take count c.loop-done.buffer, c.loop-done.invariant.room, c.requires.room) in
     let Holds = g.S.BlockSource.Holds c.write_piece.new.source in
-    on_err _ (written-part Holds (g.S.BlockSource.Holds c.loop-done.source) c.in_err-write_piece.ensures.narrows done count c.in-Ok.first at even
+    on_err _ _ (written-part Holds (g.S.BlockSource.Holds c.loop-done.source) c.in_err-write_piece.ensures.narrows done count c.in-Ok.first at even
     (g.W.Write.contents c.args.writer.now) (g.W.Write.contents c.loop-done.writer) (g.W.Write.contents c.write_piece.new.writer)
     c.loop-done.invariant.written c.args.len
     (subst (λ (n : ℕ). WritesFrontAt Holds (512 * c.in-Ok.first) n (g.W.Write.contents c.loop-done.writer) (g.W.Write.contents c.write_piece.new.writer))

@@ -1,7 +1,6 @@
 -- What went out, what is gathered and what is to come make the table.
+use Rattle.hfs_fields.proofs.OutcomeLemmas.{on_err_then, on_err}
 use Rattle.hfs_commands.specs.Items.{table_text}
-use Rattle.hfs_source.proofs.Written.{on-err as on_err}
-use Rattle.hfs_commands.proofs.Rows.{on_err_then}
 use Rattle.hfs_commands.proofs.Tables.{begins, gathered, none-gathered, put-out, front, stopped}
 use Rattle.hfs_commands.proofs.items.write_table.Goals as goal
 

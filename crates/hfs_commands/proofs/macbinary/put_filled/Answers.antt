@@ -1,6 +1,6 @@
 -- The fork and as many zeros as its length wants are the fork, filled up.
-use Rattle.hfs_source.proofs.Written.{on-err as on_err}
-use Rattle.hfs_commands.proofs.Rows.{filled_first, filled_next, filled_whole, on_ok_then, on_err_then}
+use Rattle.hfs_fields.proofs.OutcomeLemmas.{on_err_then, on_ok, on_err}
+use Rattle.hfs_commands.proofs.Rows.{filled_first, filled_next, filled_whole}
 use Rattle.hfs_commands.proofs.macbinary.put_filled.Goals as goal
 
 pub returns-in_err-write_bytes-clause-part : goal.returns-in_err-write_bytes-clause-part
@@ -9,7 +9,7 @@ returns-in_err-write_bytes-clause-part g c =
 
 pub returns-clause-written : goal.returns-clause-written
 returns-clause-written g c =
-    on_ok_then c.write_zeros.result _ _
+    on_ok c.write_zeros.result _ _
     (filled_whole (g.W.Write.contents c.args.writer.now) (g.W.Write.contents c.write_bytes.new.writer) (g.W.Write.contents c.write_zeros.new.writer) c.args.fork.now
     c.padding.result c.padding.ensures.padding c.in_ok-write_bytes.ensures.written)
     c.write_zeros.ensures.written

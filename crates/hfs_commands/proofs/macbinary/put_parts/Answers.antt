@@ -1,9 +1,8 @@
 -- The header and both forks, filled up, are the file.
 use Rattle.std.proofs.Common.{◌∙◌, ap}
+use Rattle.hfs_fields.proofs.OutcomeLemmas.{on_err_then, on_ok, on_err}
 use Rattle.hfs_encodings.specs.MacBinary.{macbinary_head_bytes}
 use Rattle.hfs_commands.specs.MacBinaryFiles.{macbinary_head}
-use Rattle.hfs_source.proofs.Written.{on-err as on_err}
-use Rattle.hfs_commands.proofs.Rows.{on_ok_then, on_err_then}
 use Rattle.hfs_commands.proofs.WholeFiles.{bytes_first, bytes_second, bytes_third, bytes_whole}
 use Rattle.hfs_commands.proofs.macbinary.put_parts.Goals as goal
 
@@ -22,7 +21,7 @@ returns-in_err-put_filled-clause-part g c =
 
 pub returns-clause-written : goal.returns-clause-written
 returns-clause-written g c =
-    on_ok_then c.put_filled-2.result _ _
+    on_ok c.put_filled-2.result _ _
     (bytes_whole (macbinary_head c.args.info.now) c.args.data.now c.args.resource.now c.bytes.result
     (c.bytes.ensures.bytes ∙ ap macbinary_head_bytes c.macbinary_head.ensures)
     (g.W.Write.contents c.args.writer.now) (g.W.Write.contents c.write_bytes.new.writer) (g.W.Write.contents c.put_filled.new.writer)

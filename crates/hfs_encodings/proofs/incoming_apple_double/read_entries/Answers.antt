@@ -1,7 +1,8 @@
 -- Entry by entry.
 use Rattle.std.proofs.Common.{rules, ◌≡◌, ◌∙◌, sym, ap, subst, refl, true, false, length, arith}
+use Rattle.hfs_fields.proofs.OutcomeLemmas.{on_err}
 use Rattle.hfs_encodings.specs.IncomingAppleDouble.{PartsLie, entry_place, lies_within}
-use Rattle.hfs_encodings.proofs.Entries.{entries_end, entries_less, entries_more, entry_is, entry_lies, on_err, some_fail_later}
+use Rattle.hfs_encodings.proofs.Entries.{entries_end, entries_less, entries_more, entry_is, entry_lies, some_fail_later}
 use Rattle.hfs_encodings.proofs.incoming_apple_double.read_entries.Goals as goal
 
 pub loop-left-init : goal.loop-left-init

@@ -1,11 +1,12 @@
 -- What differs, beside the runs.
 use Rattle.std.proofs.Common.{◌≡◌, ℕ, List, [], sym, ap, subst, ◌∙◌}
+use Rattle.hfs_fields.proofs.OutcomeLemmas.{if_ok}
 use Rattle.hfs_blocks.specs.Blocks.{block_count}
 use Rattle.hfs_blocks.specs.Layers.{Numbered, changes, AreWithin}
 use Rattle.hfs_copy.specs.GivenBack.{AreKeptOf}
 use Rattle.hfs_put.specs.Beside.{AreBeside}
 use Rattle.hfs_put.specs.PutImages.{AreGoingOut}
-use Rattle.hfs_put.proofs.PutOver.{if-ok, patch-within}
+use Rattle.hfs_put.proofs.PutOver.{patch-within}
 use Rattle.hfs_put.proofs.putting.going_out.Goals as goal
 
 pub beside_runs-requires-clause-within : goal.beside_runs-requires-clause-within
@@ -22,6 +23,6 @@ returns c =
     let volume = c.args.volume.now in
     let changed : Numbered = c.in_ok-changed.changed in
     let kept : AreKeptOf volume [] [] changed = c.in_ok-changed.ensures.kept in
-    if-ok c.beside_runs.result (AreBeside c.args.runs.now changed) (AreGoingOut volume c.args.runs.now)
+    if_ok c.beside_runs.result (AreBeside c.args.runs.now changed) (AreGoingOut volume c.args.runs.now)
     (λ patch beside. record { agrees = c.base.ensures.agrees; changed = changed; are = kept; makes = c.in_ok-changed.ensures.makes; beside = beside })
     c.beside_runs.ensures

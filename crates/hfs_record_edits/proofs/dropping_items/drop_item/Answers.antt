@@ -1,4 +1,4 @@
-use Rattle.hfs_btree_edits.proofs.WriteLemmas.{on_ok}
+use Rattle.hfs_fields.proofs.OutcomeLemmas.{on_ok}
 use Rattle.hfs_record_edits.proofs.ItemSteps.{records_after, item_went}
 use Rattle.hfs_record_edits.proofs.dropping_items.drop_item.Goals as goal
 

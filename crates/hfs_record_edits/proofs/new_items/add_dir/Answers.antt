@@ -1,4 +1,4 @@
-use Rattle.hfs_btree_edits.proofs.WriteLemmas.{on_ok}
+use Rattle.hfs_fields.proofs.OutcomeLemmas.{on_ok}
 use Rattle.hfs_btree_removal.proofs.RemoveWhole.{on_both}
 use Rattle.hfs_record_edits.proofs.ItemSteps.{root_after, threadless_after, folder_came}
 use Rattle.hfs_record_edits.proofs.new_items.add_dir.Goals as goal

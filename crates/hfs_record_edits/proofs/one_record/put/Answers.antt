@@ -1,4 +1,4 @@
-use Rattle.hfs_btree_edits.proofs.WriteLemmas.{on_ok}
+use Rattle.hfs_fields.proofs.OutcomeLemmas.{on_ok}
 use Rattle.hfs_catalog.specs.Tree.{catalog_of}
 use Rattle.hfs_record_edits.proofs.RootLemmas.{above_root}
 use Rattle.hfs_record_edits.proofs.Edits.{came}

@@ -1,7 +1,7 @@
+use Rattle.hfs_fields.proofs.OutcomeLemmas.{on_ok}
 use Rattle.hfs_fields.specs.Keys.{cat_cmp}
 use Rattle.hfs_btree.specs.Pairs.{lookup}
 use Rattle.hfs_btree_edits.proofs.ConditionLemmas.{no_longer-there}
-use Rattle.hfs_btree_edits.proofs.WriteLemmas.{on_ok}
 use Rattle.hfs_catalog.specs.Tree.{catalog_of}
 use Rattle.hfs_record_edits.proofs.Edits.{set}
 use Rattle.hfs_record_edits.proofs.one_record.set.Goals as goal

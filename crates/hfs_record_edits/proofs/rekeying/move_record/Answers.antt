@@ -1,9 +1,9 @@
 use Rattle.std.proofs.Common.{◌∙◌, List, ℕ, sym, ap, subst}
 use Rattle.std.specs.Ordering.{is_eq}
+use Rattle.hfs_fields.proofs.OutcomeLemmas.{on_ok}
 use Rattle.hfs_fields.specs.Keys.{cat_cmp}
 use Rattle.hfs_btree.specs.Pairs.{lookup}
 use Rattle.hfs_btree_edits.specs.Conditions.{IsNoLonger}
-use Rattle.hfs_btree_edits.proofs.WriteLemmas.{on_ok}
 use Rattle.hfs_catalog.specs.Tree.{catalog_of}
 use Rattle.hfs_record_edits.specs.RecordEdits.{RecordCame, RecordSet}
 use Rattle.hfs_record_edits.proofs.ItemSteps.{equal_no_longer, moved_in_place, root_between, absent_between, moved_along}

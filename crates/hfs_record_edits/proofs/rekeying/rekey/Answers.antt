@@ -1,4 +1,4 @@
-use Rattle.hfs_btree_edits.proofs.WriteLemmas.{on_ok}
+use Rattle.hfs_fields.proofs.OutcomeLemmas.{on_ok}
 use Rattle.hfs_record_edits.proofs.ItemSteps.{records_then, threads_then, item_rekeyed}
 use Rattle.hfs_record_edits.proofs.rekeying.rekey.Goals as goal
 

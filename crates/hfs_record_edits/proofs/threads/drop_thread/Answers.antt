@@ -1,5 +1,5 @@
 use Rattle.std.proofs.Common.{sym}
-use Rattle.hfs_btree_edits.proofs.WriteLemmas.{on_ok}
+use Rattle.hfs_fields.proofs.OutcomeLemmas.{on_ok}
 use Rattle.hfs_record_edits.proofs.ThreadEdits.{thread_went, no_thread_went}
 use Rattle.hfs_record_edits.proofs.threads.drop_thread.Goals as goal
 

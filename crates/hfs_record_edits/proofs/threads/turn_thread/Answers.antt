@@ -1,8 +1,8 @@
 use Rattle.std.proofs.Common.{◌∙◌, ◌≡◌, List, ℕ, sym, ap, subst}
 use Rattle.std.specs.Bool.{IsTrue}
+use Rattle.hfs_fields.proofs.OutcomeLemmas.{on_ok}
 use Rattle.hfs_fields.specs.Records.{begins_thread, thread_record_of}
 use Rattle.hfs_fields.specs.declared.thread_record.ThreadRecord.{ThreadRecord}
-use Rattle.hfs_btree_edits.proofs.WriteLemmas.{on_ok}
 use Rattle.hfs_record_edits.proofs.ThreadEdits.{none_turned, thread_begins, thread_no_longer, thread_turned}
 use Rattle.hfs_record_edits.proofs.threads.turn_thread.Goals as goal
 

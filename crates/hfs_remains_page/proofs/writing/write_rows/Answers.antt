@@ -1,9 +1,8 @@
 -- Row by row.
 use Rattle.std.proofs.Common.{refl, arith}
+use Rattle.hfs_fields.proofs.OutcomeLemmas.{on_err, on_err_then, on_ok}
 use Rattle.hfs_remains_page.specs.Rows.{rows_text}
-use Rattle.hfs_remains_page.proofs.GatherLemmas.{all_out, last_front, row_front, row_more, on_err}
-use Rattle.hfs_rescue_items.proofs.GatherLemmas.{on_err_then}
-use Rattle.hfs_rescue_items.proofs.GatherLemmas.{on_ok_then}
+use Rattle.hfs_remains_page.proofs.GatherLemmas.{all_out, last_front, row_front, row_more}
 use Rattle.hfs_remains_page.proofs.writing.write_rows.Goals as goal
 
 pub returns-in_err-gather_row-clause-part : goal.returns-in_err-gather_row-clause-part
@@ -19,7 +18,7 @@ loop-i-preserved g c =
 
 pub returns-clause-written : goal.returns-clause-written
 returns-clause-written g c =
-    on_ok_then _ _ _ (all_out c.args.base c.args.found.now c.args.steps.now (g.W.Write.contents c.args.writer.now) (rows_text c.args.base c.args.found.now 0 c.args.steps.now)
+    on_ok _ _ _ (all_out c.args.base c.args.found.now c.args.steps.now (g.W.Write.contents c.args.writer.now) (rows_text c.args.base c.args.found.now 0 c.args.steps.now)
     c.loop-i.i c.loop-i.opened (g.W.Write.contents c.loop-i.writer) (g.W.Write.contents c.put_ends.new.writer) c.loop-i.text.items
     (omega (arith, c.loop-i-test.false)) c.loop-i.invariant) c.put_ends.ensures.written
 

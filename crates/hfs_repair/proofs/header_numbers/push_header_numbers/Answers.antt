@@ -1,9 +1,9 @@
 use Rattle.std.proofs.Common.{◌≡◌, ◌<◌, ap, sym, subst, ◌∙◌, ℕ, List, [], length, get_or}
 use Rattle.std.specs.List.{flat_map}
+use Rattle.hfs_fields.proofs.OutcomeLemmas.{on_ok}
 use Rattle.hfs_btree.specs.Tree.{Store}
 use Rattle.hfs_blocks.specs.declared.run.Run.{Run}
 use Rattle.hfs_blocks.specs.Blocks.{run_of, nodes_in}
-use Rattle.hfs_btree_edits.proofs.WriteLemmas.{on_ok}
 use Rattle.hfs_repair.proofs.Openings.{some-node}
 use Rattle.hfs_repair.proofs.Pushed.{chained, some-block, record-start, header-numbers}
 use Rattle.hfs_repair.proofs.header_numbers.push_header_numbers.Goals as goal

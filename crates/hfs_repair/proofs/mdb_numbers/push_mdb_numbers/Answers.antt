@@ -1,5 +1,5 @@
 use Rattle.std.proofs.Common.{◌-◌, ap, ◌∙◌, ℕ}
-use Rattle.hfs_btree_edits.proofs.WriteLemmas.{on_ok}
+use Rattle.hfs_fields.proofs.OutcomeLemmas.{on_ok}
 use Rattle.hfs_repair.proofs.Pushed.{mdb-pushed}
 use Rattle.hfs_repair.proofs.mdb_numbers.push_mdb_numbers.Goals as goal
 

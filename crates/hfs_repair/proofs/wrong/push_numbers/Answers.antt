@@ -1,6 +1,6 @@
 use Rattle.std.proofs.Common.{◌∙◌, ap}
+use Rattle.hfs_fields.proofs.OutcomeLemmas.{on_ok}
 use Rattle.hfs_catalog.specs.Records.{Catalog, valence_of}
-use Rattle.hfs_btree_edits.proofs.WriteLemmas.{on_ok}
 use Rattle.hfs_repair.proofs.AllPlaced.{all-pushed}
 use Rattle.hfs_repair.proofs.wrong.push_numbers.Goals as goal
 

@@ -1,9 +1,9 @@
 -- Row by row.
 use Rattle.std.proofs.Common.{ℕ, List, ◌++◌, refl, subst, sym, arith}
-use Rattle.hfs_bag.proofs.Growing.{on_err}
+use Rattle.hfs_fields.proofs.OutcomeLemmas.{on_err, on_err_then, on_ok}
 use Rattle.hfs_rescue_items.specs.Lines.{lines_of}
 use Rattle.hfs_rescue_items.specs.Rows.{selected_head, selected_row, selected_text}
-use Rattle.hfs_rescue_items.proofs.GatherLemmas.{IsBegun, all_out, begins, last_front, on_err_then, on_ok_then, row_front, row_more}
+use Rattle.hfs_rescue_items.proofs.GatherLemmas.{IsBegun, all_out, begins, last_front, row_front, row_more}
 use Rattle.hfs_rescue_items.proofs.tables.write_rows.Goals as goal
 
 pub loop-i-init : goal.loop-i-init
@@ -15,7 +15,7 @@ loop-i-init g c =
 
 pub returns-in_err-gather_row-clause-part : goal.returns-in_err-gather_row-clause-part
 returns-in_err-gather_row-clause-part g c =
-    on_err _ (row_front (selected_row c.args.selection c.args.found.now) c.args.found.now.items.now (g.W.Write.contents c.args.writer.now)
+    on_err _ _ (row_front (selected_row c.args.selection c.args.found.now) c.args.found.now.items.now (g.W.Write.contents c.args.writer.now)
     (selected_text c.args.selection c.args.found.now) c.loop-i.i _ _ (g.W.Write.contents c.loop-i.writer) (g.W.Write.contents c.gather_row.new.writer) c.loop-i.text.items
     c.loop-i-test.true refl c.loop-i.invariant c.in_err-gather_row.ensures.part)
 
@@ -27,7 +27,7 @@ loop-i-preserved g c =
 
 pub returns-clause-written : goal.returns-clause-written
 returns-clause-written g c =
-    on_ok_then _ _ _ (all_out (selected_row c.args.selection c.args.found.now) c.args.found.now.items.now (g.W.Write.contents c.args.writer.now)
+    on_ok _ _ _ (all_out (selected_row c.args.selection c.args.found.now) c.args.found.now.items.now (g.W.Write.contents c.args.writer.now)
     (selected_text c.args.selection c.args.found.now) c.loop-i.i (g.W.Write.contents c.loop-i.writer) (g.W.Write.contents c.put_piece.new.writer) c.loop-i.text.items
     (omega (arith, c.loop-i-test.false)) c.loop-i.invariant) c.put_piece.ensures.written
 

@@ -1,11 +1,11 @@
 -- More was read of a volume whose working blocks were read.
 use Rattle.std.proofs.Common.{ℕ, refl, sym, subst, List, None}
+use Rattle.hfs_fields.proofs.OutcomeLemmas.{on_ok}
 use Rattle.hfs_blocks.specs.declared.run.Run.{Run}
 use Rattle.hfs_blocks.specs.Layers.{KeepsWithin}
 use Rattle.hfs_scripts.specs.declared.lines.ScriptLine.{ScriptLine}
 use Rattle.hfs_source.specs.Sparse.{sparse, HasEach}
 use Rattle.hfs_runs.specs.NamedForks.{HaveNamedForks, blocks_of_runs}
-use Rattle.hfs_copy.proofs.Kept.{on-ok}
 use Rattle.hfs_runs.proofs.MoreRead.{working-later, named-read}
 use Rattle.hfs_runs.proofs.forks.fetch_named_forks.Goals as goal
 
@@ -22,7 +22,7 @@ returns-clause-mountable g c =
 
 pub returns-clause-forks : goal.returns-clause-forks
 returns-clause-forks g c =
-    on-ok c.fetch_forks.result _ _ (λ has reads.
+    on_ok c.fetch_forks.result _ _ (λ has reads.
     named-read None None c.args.working.now.count c.args.working.now.count c.args.working.now.read c.fetch_forks.new.read c.args.working.now.sound.mdb
     c.args.working.now.sound.trees c.requires c.fetch_forks.ensures.grown c.args.script.now (blocks_of_runs c.in-Ok.runs.items)
     (subst (λ (lines : List ScriptLine). HaveNamedForks (sparse c.args.working.now.read) lines (blocks_of_runs c.in-Ok.runs.items)) c.lines-lines.ensures c.in-Ok.ensures.forks)

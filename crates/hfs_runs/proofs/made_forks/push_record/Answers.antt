@@ -8,8 +8,8 @@ use Rattle.hfs_catalog.specs.Lookups.{catalog_item}
 use Rattle.hfs_image.specs.Forks.{AreForksIn}
 use Rattle.hfs_copy.specs.Keeping.{GainsRuns}
 use Rattle.hfs_runs.specs.NamedForks.{GainsForksOf, IsScriptFile, file_blocks}
-use Rattle.hfs_runs.proofs.MadeForks.{folder-no-file, forks-in, gains-forks, gains-none, no-item, none-is}
-use Rattle.hfs_catalog.proofs.FileRecords.{entry-file}
+use Rattle.hfs_runs.proofs.MadeForks.{forks-in, gains-forks, gains-none, no-item, none-is}
+use Rattle.hfs_catalog.proofs.FileRecords.{entry-file, folder-no-file}
 use Rattle.hfs_catalog.proofs.FileRecords.{some-item}
 use Rattle.hfs_runs.proofs.made_forks.push_record.Goals as goal
 

@@ -5,7 +5,7 @@ use denote.Param.Send.{IsSync, arg_send, param_send}
 use Rattle.std.proofs.Crossing as crossing
 use Rattle.hfs_shared.specs.contracts.shared.Shared as shared
 use Rattle.hfs_shared.proofs.SendLemmas.{shared_sync}
-use Rattle.hfs_runs.proofs.SendLemmas.{captures_send, jobs_send}
+use Rattle.hfs_shared.proofs.SendLemmas.{captures_send, jobs_send}
 use Rattle.hfs_runs.proofs.running.run_beside.Goals as goal
 
 pub join-requires-send-F : goal.join-requires-send-F

@@ -1,8 +1,8 @@
 -- The digits so far, and those of some bytes more.
 use Rattle.std.proofs.Common.{◌+◌, ◌*◌, ◌/◌, ◌≤◌, ℕ, length, refl, subst, sym, ◌∙◌, arith}
 use Rattle.std.proofs.KnownBytes.{Appends-nil}
+use Rattle.hfs_fields.proofs.OutcomeLemmas.{on_err}
 use Rattle.hfs_texts.specs.Lines.{hex_text}
-use Rattle.hfs_source.proofs.Written.{on-err as on_err}
 use Rattle.hfs_runs.proofs.Digits.{some-front, some-more}
 use Rattle.hfs_runs.proofs.written_answers.put_digits.Goals as goal
 

@@ -1,13 +1,12 @@
 -- A piece's text, and its digits behind it.
 use Rattle.std.proofs.Common.{List, ℕ, string_bytes, subst}
 use Rattle.std.specs.Io.KnownBytes.{Appends}
+use Rattle.hfs_fields.proofs.OutcomeLemmas.{on_err_then, on_err}
+use Rattle.hfs_texts.proofs.FrontLemmas.{front_first, front_next}
 use Rattle.hfs_texts.specs.Lines.{hex_text}
 use Rattle.hfs_texts.specs.Writing.{AppendsFront}
 use Rattle.hfs_runs.specs.Answers.{kept_replies, reply_to}
 use Rattle.hfs_runs.specs.Pieces.{bytes_in}
-use Rattle.hfs_source.proofs.Written.{on-err as on_err}
-use Rattle.hfs_volume.proofs.Fronts.{front_first, front_next}
-use Rattle.hfs_commands.proofs.Rows.{on_err_then}
 use Rattle.hfs_runs.proofs.written_answers.put_piece.Goals as goal
 
 pub returns-in_err-put-clause-err : goal.returns-in_err-put-clause-err

@@ -2,13 +2,12 @@
 use Rattle.std.proofs.Common.{rules, ◌≡◌, ◌<◌, ◌≤◌, List, length, get_or, take_all, string_bytes, subst}
 use Rattle.std.specs.List.{flat_map}
 use Rattle.std.specs.Io.KnownBytes.{Appends}
+use Rattle.hfs_fields.proofs.OutcomeLemmas.{on_err_then, on_err}
+use Rattle.hfs_texts.proofs.FrontLemmas.{front_next}
 use Rattle.hfs_texts.specs.Writing.{AppendsFront}
 use Rattle.hfs_runs.specs.declared.pieces.Piece.{Piece}
 use Rattle.hfs_runs.specs.Pieces.{piece_text}
-use Rattle.hfs_source.proofs.Written.{on-err as on_err}
 use Rattle.hfs_runs.proofs.Digits.{text-front}
-use Rattle.hfs_volume.proofs.Fronts.{front_next}
-use Rattle.hfs_commands.proofs.Rows.{on_err_then}
 use Rattle.hfs_runs.proofs.written_answers.put_pieces.Goals as goal
 
 pub returns-in_err-put_piece-clause-err : goal.returns-in_err-put_piece-clause-err

@@ -1,6 +1,7 @@
 use Rattle.std.proofs.Common.{◌≡◌, ℕ, ◌<◌, List, [], ◌∷◌, length, get_or, true, false, Option, Some, None, refl, sym, ap, ◌∙◌, subst, arith, length-append}
 use Rattle.std.specs.Prelude.{is_some, IfSome, IfNone, OnSome}
 use Rattle.std.proofs.lemmas.List.{get_or_default}
+use Rattle.hfs_model.proofs.Facts.{not_some}
 use Rattle.hfs_model.specs.declared.call.Call.{Call}
 use Rattle.hfs_model.specs.declared.reply.Reply.{Reply}
 use Rattle.hfs_shared.specs.Tolds.{ToldState}
@@ -11,10 +12,6 @@ use Rattle.hfs_shared.specs.Works.{IsWork}
 use Rattle.hfs_shared.proofs.Working.{work_more}
 use Rattle.hfs_shared.proofs.workers.work.Goals.{else-loop-call-test, then-loop-call-test+then-is_some}
 use Rattle.hfs_shared.proofs.workers.work.Goals as goal
-
-none_of : {A : Type 0} (o : Option A) → is_some o ≡ false → o ≡ None
-none_of None e = refl
-none_of (Some x) e = absurd (cc e)
 
 if_none : {A : Type 0} {P : Type 0} (o : Option A) → is_some o ≡ false → IfNone o P → P
 if_none None e h = h
@@ -46,7 +43,7 @@ loop-call-preserved g c =
           (λ d. ap (λ (n : ℕ). get_or c.args.calls.now.items n d) i.1 ∙ get_or_default c.args.calls.now.items at d call below ∙ ap (λ (l : List Call). get_or l at call) (sym items) ∙ sym c.call-item.is)
           more,
       ap length more.grown ∙ omega (arith, i.1, length-append c.loop-call.replies.items ((more.reply, more.told) ∷ [])),
-      none_of c.one_more-fault.result none,
+      not_some c.one_more-fault.result none,
     )
 
 pub returns : goal.returns

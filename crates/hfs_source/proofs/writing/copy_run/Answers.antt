@@ -2,10 +2,11 @@
 use Rattle.std.proofs.Common.{◌≡◌, Some, ◌+◌, ◌-◌, ◌<◌, ◌≤◌, ℕ, List, take, refl, subst, ◌∙◌, arith}
 use Rattle.std.specs.List.{range_with_len}
 use Rattle.std.proofs.lemmas.List.FromFn.{length-range_with_len}
+use Rattle.hfs_fields.proofs.OutcomeLemmas.{on_err}
 use Rattle.hfs_blocks.specs.Blocks.{run_of}
 use Rattle.hfs_source.specs.Seen.{EachKnown}
 use Rattle.hfs_source.specs.Writing.{WritesSome, blocks_of}
-use Rattle.hfs_source.proofs.Written.{GoesOnWith, with-next, with-part, more-whole, split-behind, run-written, on-err}
+use Rattle.hfs_source.proofs.Written.{GoesOnWith, with-next, with-part, more-whole, split-behind, run-written}
 use Rattle.hfs_source.proofs.writing.copy_run.Goals as goal
 
 pub returns-in_err-rest-clause-part : goal.returns-in_err-rest-clause-part
@@ -18,7 +19,7 @@ returns-in_err-rest-clause-part g c =
     let old = g.W.Write.contents c.args.writer.now in
     let now = g.W.Write.contents c.loop-behind.writer in
     let whole : List ℕ → List ℕ = λ image. take c.args.left (blocks_of image (run_of run)) in
-    on-err _ _ (with-part known (g.S.BlockSource.image c.loop-behind.source) c.loop-behind.invariant.image old now (g.W.Write.contents c.copy_piece.new.writer)
+    on_err _ _ (with-part known (g.S.BlockSource.image c.loop-behind.source) c.loop-behind.invariant.image old now (g.W.Write.contents c.copy_piece.new.writer)
     (range_with_len (run.first + (run.count - behind)) step) (range_with_len (run.first + (run.count - (behind - step))) (behind - step)) c.loop-behind.rest whole
     (subst (λ (ns : List ℕ). GoesOnWith known old now ns c.loop-behind.rest whole) (split-behind run.first run.count behind step c.loop-behind.invariant.few few)
     c.loop-behind.invariant.on) c.in_err-rest.ensures.part)
@@ -37,7 +38,7 @@ returns-in_err-rest-clause-each_part g c =
     (range_with_len (run.first + (run.count - behind)) step) (range_with_len (run.first + (run.count - (behind - step))) (behind - step)) c.loop-behind.rest whole
     (subst (λ (ns : List ℕ). GoesOnWith (Some image) old now ns c.loop-behind.rest whole) (split-behind run.first run.count behind step c.loop-behind.invariant.few few)
     (c.loop-behind.invariant.on_each image (c.in_err-rest.ensures.narrows image h))) (c.in_err-rest.ensures.each_part image h) in
-    on-err _ _ each
+    on_err _ _ each
 
 pub loop-behind-preserved : goal.loop-behind-preserved
 loop-behind-preserved g c =

@@ -2,11 +2,12 @@
 use Rattle.std.proofs.Common.{◌≡◌, Some, ◌+◌, ℕ, List, take, drop, length, refl, get_or, subst, ◌∙◌, arith, rules}
 use Rattle.std.specs.List.{flat_map}
 use Rattle.std.proofs.lemmas.List.FromFn.{length-range_with_len}
+use Rattle.hfs_fields.proofs.OutcomeLemmas.{on_err}
 use Rattle.hfs_blocks.specs.declared.run.Run.{Run}
 use Rattle.hfs_blocks.specs.Blocks.{run_of}
 use Rattle.hfs_source.specs.Seen.{EachKnown}
 use Rattle.hfs_source.specs.Writing.{WritesSomeRuns, blocks_of}
-use Rattle.hfs_source.proofs.Written.{GoesOnWith, with-next, with-part, split-runs, runs-written, filled-room, on-err}
+use Rattle.hfs_source.proofs.Written.{GoesOnWith, with-next, with-part, split-runs, runs-written, filled-room}
 use Rattle.hfs_source.proofs.writing.copy_runs.Goals as goal
 
 -- what a list answers behind its end
@@ -21,7 +22,7 @@ returns-in_err-left-clause-part g c =
     let old = g.W.Write.contents c.args.writer.now in
     let now = g.W.Write.contents c.loop-run.writer in
     let whole : List ℕ → List ℕ = λ image. take c.args.size (blocks_of image (flat_map run_of runs)) in
-    on-err _ _ (with-part known (g.S.BlockSource.image c.loop-run.source) c.loop-run.invariant.image old now (g.W.Write.contents c.copy_run.new.writer)
+    on_err _ _ (with-part known (g.S.BlockSource.image c.loop-run.source) c.loop-run.invariant.image old now (g.W.Write.contents c.copy_run.new.writer)
     (run_of (get_or runs i none)) (flat_map run_of (drop (i + 1) runs)) c.loop-run.left whole
     (subst (λ (ns : List ℕ). GoesOnWith known old now ns c.loop-run.left whole) (split-runs runs i none c.loop-run-test.true) c.loop-run.invariant.on)
     c.in_err-left.ensures.part)
@@ -38,7 +39,7 @@ returns-in_err-left-clause-each_part g c =
     (run_of (get_or runs i none)) (flat_map run_of (drop (i + 1) runs)) c.loop-run.left whole
     (subst (λ (ns : List ℕ). GoesOnWith (Some image) old now ns c.loop-run.left whole) (split-runs runs i none c.loop-run-test.true) (c.loop-run.invariant.on_each image (c.in_err-left.ensures.narrows image h)))
     (c.in_err-left.ensures.each_part image h) in
-    on-err _ _ each
+    on_err _ _ each
 
 pub loop-run-preserved : goal.loop-run-preserved
 loop-run-preserved g c =

@@ -4,6 +4,7 @@ use Rattle.std.specs.Io.KnownBytes.{Consumes, Appends}
 use Rattle.std.proofs.KnownBytes.{Appends-kept}
 use Rattle.hfs_fields.specs.Mdb.{mdb_of}
 use Rattle.hfs_fields.specs.declared.mdb.Mdb.{Mdb}
+use Rattle.hfs_texts.proofs.FrontLemmas.{all_front}
 use Rattle.hfs_texts.specs.Info.{info_lines}
 use Rattle.hfs_texts.specs.Reading.{GaveHead, HasSignature, info_text}
 use Rattle.hfs_texts.specs.Writing.{AppendsFront}
@@ -25,10 +26,6 @@ is_signed head mdb read signed = sym (ap (λ (m : Mdb). m.signature) read) ∙ s
 is_unsigned : (head : List ℕ) (mdb : Mdb) → mdb ≡ mdb_of (take 162 (drop 1024 head)) → mdb.signature ≢ 0x4244 → HasSignature head → ⊥
 unfolding HasSignature
 is_unsigned head mdb read other signed = other (ap (λ (m : Mdb). m.signature) read ∙ signed)
-
--- all bytes are a part of them too
-front_of_all : (old new : Option (List ℕ)) (bytes : List ℕ) → Appends old new bytes → AppendsFront old new bytes
-front_of_all old new bytes all = (length bytes, subst (Appends old new) (sym (take_all (length bytes) bytes (le_refl _))) all)
 
 pub returns-then-mdb-ne-SIGNATURE-clause-no_mac_disk : goal.returns-then-mdb-ne-SIGNATURE-clause-no_mac_disk
 returns-then-mdb-ne-SIGNATURE-clause-no_mac_disk g c _ =
@@ -61,7 +58,7 @@ returns-in_default-flush-clause-write_failed g c _ =
       head,
       gave _ _ head _ (search rules) (search rules) c.in-Ok.ensures.taken,
       is_signed head _ read c.if-mdb-ne-SIGNATURE.false,
-      front_of_all _ _ (info_text head) (subst (Appends _ _) (c.as_bytes.ensures.value ∙ c.in-Ok-info_lines.ensures ∙ ap info_lines read)
+      all_front _ _ (info_text head) (subst (Appends _ _) (c.as_bytes.ensures.value ∙ c.in-Ok-info_lines.ensures ∙ ap info_lines read)
           (Appends-kept _ _ _ _ c.in-Ok-put.ensures.ok c.flush.ensures.bytes)),
     )
 

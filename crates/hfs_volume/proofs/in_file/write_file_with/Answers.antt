@@ -1,8 +1,8 @@
 -- What stands before the image, the image, and what stands behind it.
 use Rattle.std.specs.Io.KnownBytes.{Appends}
+use Rattle.hfs_fields.proofs.OutcomeLemmas.{on_err, on_ok, on_err_then}
 use Rattle.hfs_texts.specs.Writing.{AppendsFront}
 use Rattle.hfs_volume.specs.InFile.{OfFileWith}
-use Rattle.hfs_volume.proofs.Fronts.{on_err, ok_then, err_then}
 use Rattle.hfs_volume.proofs.InFiles.{of-range, lies, file-head, file-image, file-behind, file-all}
 use Rattle.hfs_volume.proofs.in_file.write_file_with.Goals as goal
 
@@ -19,7 +19,7 @@ returns-in_err-write_head-clause-part g c =
     let long = c.len-all.ensures file (c.write_head.ensures.narrows file held) in
     file-head place changed file end all c.in-Some.ensures.end long c.in-Some.ensures.within old now
     (c.in_err-write_head.ensures.part file held (lies place changed file end all c.in-Some.ensures.end long c.in-Some.ensures.within)) in
-    on_err _ part
+    on_err _ _ part
 
 pub returns-in_err-write_range-clause-part : goal.returns-in_err-write_range-clause-part
 returns-in_err-write_range-clause-part g c =
@@ -39,7 +39,7 @@ returns-in_err-write_range-clause-part g c =
     file-image place changed file end all c.in-Some.ensures.end long c.in-Some.ensures.within old one
     (c.in_ok-write_head.ensures.written file earlier there) now
     (of-range Holds place.range changed (AppendsFront one now) c.in_err-write_range.ensures.part file held there) in
-    on_err _ part
+    on_err _ _ part
 
 pub returns-clause-written : goal.returns-clause-written
 returns-clause-written g c =
@@ -51,7 +51,7 @@ returns-clause-written g c =
     let one = g.W.Write.contents c.write_head.new.writer in
     let two = g.W.Write.contents c.write_range.new.writer in
     let now = g.W.Write.contents c.write_span.new.writer in
-    ok_then c.write_span.result (λ own file held.
+    on_ok c.write_span.result _ _ (λ own file held.
     let later = c.write_span.ensures.narrows file held in
     let earlier = c.write_range.ensures.narrows file later in
     let long = c.len-all.ensures file (c.write_head.ensures.narrows file earlier) in
@@ -73,7 +73,7 @@ returns-clause-part g c =
     let one = g.W.Write.contents c.write_head.new.writer in
     let two = g.W.Write.contents c.write_range.new.writer in
     let now = g.W.Write.contents c.write_span.new.writer in
-    err_then c.write_span.result (λ own file held.
+    on_err_then c.write_span.result _ _ (λ own file held.
     let later = c.write_span.ensures.narrows file held in
     let earlier = c.write_range.ensures.narrows file later in
     let long = c.len-all.ensures file (c.write_head.ensures.narrows file earlier) in

@@ -2,10 +2,10 @@
 use Rattle.std.proofs.Common.{◌≡◌, ℕ, ◌+◌, ◌/◌, ◌%◌, ◌≤◌, ◌++◌, length, take, drop, refl, arith, subst}
 use Rattle.std.specs.Io.KnownBytes.{Appends}
 use Rattle.std.proofs.lemmas.List.{length-append, length-drop, length-take}
+use Rattle.hfs_fields.proofs.OutcomeLemmas.{on_err}
 use Rattle.hfs_source.specs.Images.{IsRangeOf}
 use Rattle.hfs_texts.specs.Writing.{AppendsFront}
 use Rattle.hfs_volume.specs.InFile.{OfRangePiece}
-use Rattle.hfs_volume.proofs.Fronts.{on_err}
 use Rattle.hfs_volume.proofs.RangePieces.{range-narrows}
 use Rattle.hfs_volume.proofs.WrittenLemmas.{written-next, written-part, written-all}
 use Rattle.hfs_volume.proofs.range.write_range.Goals as goal
@@ -21,7 +21,7 @@ returns-in_err-write_piece-clause-part g c =
     let Holds = g.S.PlacedBytes.Holds c.write_piece.new.source in
     let now = g.W.Write.contents c.loop-done.writer in
     let next = g.W.Write.contents c.write_piece.new.writer in
-    on_err _ (written-part range.len c.args.changed.now done count (done / 512) refl (c.loop-done.invariant.even c.loop-done-test.true)
+    on_err _ _ (written-part range.len c.args.changed.now done count (done / 512) refl (c.loop-done.invariant.even c.loop-done-test.true)
     (omega (arith, c.min-count.ensures, c.loop-done.invariant.few)) (λ lt. omega (arith, lt, c.min-count.ensures)) c.requires.within
     (IsRangeOf Held range.start range.len) (IsRangeOf Holds range.start range.len)
     (range-narrows Holds Held range.start range.len c.in_err-write_piece.ensures.narrows)

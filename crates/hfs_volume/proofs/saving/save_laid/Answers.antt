@@ -2,11 +2,12 @@
 use Rattle.std.proofs.Common.{◌≡◌, ◌*◌, ◌-◌, take, ◌∙◌, subst, arith}
 use Rattle.std.proofs.lemmas.List.{take_rest}
 use Rattle.std.specs.Io.KnownBytes.{Appends}
+use Rattle.hfs_fields.proofs.OutcomeLemmas.{on_ok}
 use Rattle.hfs_blocks.specs.Layers.{changes}
 use Rattle.hfs_volume.specs.declared.saving.SaveFault.{SaveFault}
 use Rattle.hfs_volume.specs.Laid.{laid_over}
 use Rattle.hfs_volume.specs.Saving.{HasWritten}
-use Rattle.hfs_volume.proofs.SavedPieces.{whole_piece, rest_piece, broken_off, broken_rest, tail_piece, length-laid_over, passed_on, ok_so, err_so}
+use Rattle.hfs_volume.proofs.SavedPieces.{whole_piece, rest_piece, broken_off, broken_rest, tail_piece, length-laid_over, passed_on, err_so}
 use Rattle.hfs_volume.proofs.saving.save_laid.Goals as goal
 
 pub loop-n-preserved : goal.loop-n-preserved
@@ -31,7 +32,7 @@ returns-clause-ok g c =
     let current = laid_over (changes c.args.changed.now) base in
     let here : c.loop-n.n ≡ count = omega (arith, c.loop-n.invariant.0, c.loop-n-test.false) in
     let before = subst (λ k. Appends (g.W.Write.contents c.args.writer.now) (g.W.Write.contents c.loop-n.writer) (take (512 * k) current)) here c.loop-n.invariant.1 in
-    ok_so c.write_at-2.result
+    on_ok c.write_at-2.result _ _
     (λ out. rest_piece _ _ _ current _ count before (take_rest base (count * 512) ∙ tail_piece (changes c.args.changed.now) base c.requires.within count c.requires.count) out)
     c.write_at-2.ensures.ok
 

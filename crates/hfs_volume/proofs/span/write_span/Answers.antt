@@ -1,8 +1,8 @@
 -- Piece by piece.
 use Rattle.std.proofs.Common.{◌≡◌, ℕ, ◌+◌, ◌≤◌, ◌++◌, length, take, drop, arith, subst}
 use Rattle.std.proofs.lemmas.List.{length-append, length-drop, length-take}
+use Rattle.hfs_fields.proofs.OutcomeLemmas.{on_err}
 use Rattle.hfs_volume.specs.InFile.{WritesAt, WritesFrontAt}
-use Rattle.hfs_volume.proofs.Fronts.{on_err}
 use Rattle.hfs_volume.proofs.Spans.{span-next, span-part}
 use Rattle.hfs_volume.proofs.span.write_span.Goals as goal
 
@@ -14,7 +14,7 @@ returns-in_err-write_at-clause-part g c =
     omega (arith, c.min-more.ensures, length-take count c.loop-done.buffer, c.loop-done.invariant.room, c.requires.room) in
     let fits : done + count ≤ c.args.count = omega (arith, c.min-more.ensures, c.loop-done.invariant.few) in
     let Holds = g.S.PlacedBytes.Holds c.write_at.new.source in
-    on_err _ (span-part Holds (g.S.PlacedBytes.Holds c.loop-done.source) c.in_err-write_at.ensures.narrows c.args.place done count
+    on_err _ _ (span-part Holds (g.S.PlacedBytes.Holds c.loop-done.source) c.in_err-write_at.ensures.narrows c.args.place done count
     (g.W.Write.contents c.args.writer.now) (g.W.Write.contents c.loop-done.writer) (g.W.Write.contents c.write_at.new.writer)
     c.loop-done.invariant.written c.args.count fits
     (subst (λ (n : ℕ). WritesFrontAt Holds (c.args.place + done) n (g.W.Write.contents c.loop-done.writer) (g.W.Write.contents c.write_at.new.writer))

@@ -1,6 +1,6 @@
 -- Piece by piece.
 use Rattle.std.proofs.Common.{◌≡◌, ◌+◌, ◌/◌, ◌%◌, ◌≤◌, refl, ◌∙◌, arith}
-use Rattle.hfs_source.proofs.Written.{on-err}
+use Rattle.hfs_fields.proofs.OutcomeLemmas.{on_err}
 use Rattle.hfs_volume.proofs.WrittenLemmas.{written-next, written-part, written-all}
 use Rattle.hfs_volume.proofs.writing.write_pieces.Goals as goal
 
@@ -8,7 +8,7 @@ pub returns-in_err-write_piece-clause-part : goal.returns-in_err-write_piece-cla
 returns-in_err-write_piece-clause-part g c =
     let done = c.loop-done.done in
     let count = c.min-count.result in
-    on-err _ _ (written-part c.args.len c.args.changed.now done count (done / 512) refl (c.loop-done.invariant.even c.loop-done-test.true)
+    on_err _ _ (written-part c.args.len c.args.changed.now done count (done / 512) refl (c.loop-done.invariant.even c.loop-done-test.true)
     (omega (arith, c.min-count.ensures, c.loop-done.invariant.few)) (λ lt. omega (arith, lt, c.min-count.ensures)) c.requires.within
     (g.S.BlockSource.Holds c.loop-done.source) (g.S.BlockSource.Holds c.write_piece.new.source) c.write_piece.ensures.narrows
     (g.W.Write.contents c.args.writer.now) (g.W.Write.contents c.loop-done.writer) (g.W.Write.contents c.write_piece.new.writer) c.loop-done.invariant.written c.in_err-write_piece.ensures.part)

@@ -1,6 +1,6 @@
 -- The byte that could not be read is there.
 use Rattle.std.proofs.Common.{◌≢◌, arith, rules}
-use Rattle.hfs_word_collect.proofs.Comparisons.{on_err}
+use Rattle.hfs_fields.proofs.OutcomeLemmas.{on_err}
 use Rattle.hfs_word_collect.proofs.comparing.read_first.Goals as goal
 
 pub returns-in_err-read_at-clause-fails : goal.returns-in_err-read_at-clause-fails

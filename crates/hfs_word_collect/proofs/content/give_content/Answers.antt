@@ -1,6 +1,6 @@
 -- The ranges that were found are those that are there.
 use Rattle.std.proofs.Common.{◌≡◌, ◌++◌, ◌∙◌, List, subst}
-use Rattle.hfs_commands.proofs.Rows.{if_ok_then, on_ok_then, on_err_then}
+use Rattle.hfs_fields.proofs.OutcomeLemmas.{on_err_then, on_ok, if_ok}
 use Rattle.hfs_source.specs.declared.ranges.FoundRange.{FoundRange}
 use Rattle.hfs_source.specs.Found.{found_by}
 use Rattle.hfs_bag.specs.Parts.{content_of}
@@ -21,7 +21,7 @@ returns-clause-whole g c =
     → (Holds → new ≡ old ++ all_volume_rows c.args.taken c.args.others (found_by c.args.layout content) content) =
     λ given h. subst (λ (ranges : List FoundRange). new ≡ old ++ all_volume_rows c.args.taken c.args.others ranges content)
     (c.deref.ensures.value ∙ c.in_ok-ranges.ensures.found (c.give_all.ensures.held image h)) (given h) in
-    on_ok_then _ _ _ step c.give_all.ensures.whole
+    on_ok _ _ _ step c.give_all.ensures.whole
 
 pub returns-clause-part : goal.returns-clause-part
 returns-clause-part g c =
@@ -44,4 +44,4 @@ returns-clause-counted g c =
     let step : (counts : ImageCounts) → (Holds → counts ≡ all_volume_counts c.deref.result.now content) → (Holds → counts ≡ all_volume_counts (found_by c.args.layout content) content) =
     λ counts given h. subst (λ (ranges : List FoundRange). counts ≡ all_volume_counts ranges content)
     (c.deref.ensures.value ∙ c.in_ok-ranges.ensures.found (c.give_all.ensures.held image h)) (given h) in
-    if_ok_then _ _ _ step c.give_all.ensures.counted
+    if_ok _ _ _ step c.give_all.ensures.counted

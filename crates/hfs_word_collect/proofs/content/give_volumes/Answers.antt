@@ -1,6 +1,6 @@
 -- A beginning of the next volume's rows, or all of them.
 use Rattle.std.proofs.Common.{◌≡◌, ◌∙◌, ◌+◌, ◌++◌, refl, sym, subst, arith}
-use Rattle.hfs_source.proofs.Written.{on-err as on_err}
+use Rattle.hfs_fields.proofs.OutcomeLemmas.{on_err}
 use Rattle.hfs_bag.specs.Parts.{content_of}
 use Rattle.hfs_database.specs.Taken.{IsBeginning}
 use Rattle.hfs_word_collect.specs.Volumes.{volume_rows_from}

@@ -1,6 +1,6 @@
 -- A row more, or none.
 use Rattle.std.proofs.Common.{◌≡◌, ◌∙◌, ◌+◌, ◌++◌, get_or, refl, sym, subst, arith, rules}
-use Rattle.hfs_source.proofs.Written.{on-err as on_err}
+use Rattle.hfs_fields.proofs.OutcomeLemmas.{on_err}
 use Rattle.hfs_database.specs.Taken.{IsBeginning}
 use Rattle.hfs_source.specs.Images.{OfEach}
 use Rattle.hfs_word_collect.specs.Refused.{image_of}

@@ -1,6 +1,6 @@
 -- By what was found of the volume.
 use Rattle.std.proofs.Common.{◌≡◌, ◌++◌, ℕ, List, None, append-nil, subst, sym}
-use Rattle.hfs_source.proofs.Written.{on-err as on_err}
+use Rattle.hfs_fields.proofs.OutcomeLemmas.{on_err}
 use Rattle.hfs_remains_forks.specs.Finds.{IsFoundIn, found_directory}
 use Rattle.hfs_database.specs.Taken.{IsBeginning}
 use Rattle.hfs_source.specs.Images.{OfEach}

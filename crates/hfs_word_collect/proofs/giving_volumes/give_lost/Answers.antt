@@ -1,6 +1,6 @@
 -- What the whole content was found to hold.
 use Rattle.std.proofs.Common.{◌≡◌, ◌++◌, ◌∙◌, ℕ, List, length, ap, refl, subst, sym}
-use Rattle.hfs_commands.proofs.Rows.{if_ok_then, on_ok_then, on_err_then}
+use Rattle.hfs_fields.proofs.OutcomeLemmas.{on_err_then, on_ok, if_ok}
 use Rattle.hfs_check.specs.Faults.{fault_of}
 use Rattle.hfs_bag.specs.Parts.{IsPartOf, content_of}
 use Rattle.hfs_remains_forks.specs.Finds.{found_directory}
@@ -49,7 +49,7 @@ returns-in-Err-clause-whole g c =
     let long = lost_long g.S.PlacedBytes.Holds image content part noted is c.len.result (λ bytes own. c.len.ensures bytes ((looked_err _ _ _ c.in-Err.is c.in_ok-image.ensures.back) bytes (narrows bytes own))) in
     subst (λ (p : VolumePlace). new ≡ old ++ lost_rows c.args.taken p (fault_of content) content) (c.lost-place.ensures ∙ ap (lost_place c.args.others) (sym long))
     (lost_picked g.S.PlacedBytes.Holds image content part noted is c.args.taken place why (λ rows. new ≡ old ++ rows) (λ bytes own. (looked_err _ _ _ c.in-Err.is c.in_ok-image.ensures.refused).refused bytes (narrows bytes own)) given) in
-    on_ok_then _ _ _ step c.give_where_found-given.ensures.whole
+    on_ok _ _ _ step c.give_where_found-given.ensures.whole
 
 pub returns-in-Err-clause-part : goal.returns-in-Err-clause-part
 returns-in-Err-clause-part g c =
@@ -83,4 +83,4 @@ returns-in-Err-clause-counted g c =
     let noted = subst (λ s. g.S.PlacedBytes.Holds s image) c.source.ensures (c.note.ensures.noted image h) in
     lost_told g.S.PlacedBytes.Holds image content part noted (λ bytes own. c.in-Some.ensures.whole bytes ((looked_err _ _ _ c.in-Err.is c.in_ok-image.ensures.back) bytes (narrows bytes own))) c.in-Err.image.why counts
     (λ bytes own. (looked_err _ _ _ c.in-Err.is c.in_ok-image.ensures.refused).refused bytes (narrows bytes own)) given in
-    if_ok_then _ _ _ step c.give_where_found-given.ensures.counted
+    if_ok _ _ _ step c.give_where_found-given.ensures.counted

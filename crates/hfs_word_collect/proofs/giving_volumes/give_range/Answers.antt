@@ -1,6 +1,6 @@
 -- What is given of a place is given of the range that was found there.
 use Rattle.std.proofs.Common.{◌≡◌, ◌++◌, ◌∙◌, ap, subst}
-use Rattle.hfs_source.proofs.Written.{on-err as on_err}
+use Rattle.hfs_fields.proofs.OutcomeLemmas.{on_err}
 use Rattle.hfs_source.specs.Ranges.{bytes_in}
 use Rattle.hfs_bag.specs.Parts.{content_of}
 use Rattle.hfs_database.specs.Taken.{IsBeginning}

@@ -1,7 +1,6 @@
 -- What the range was found to hold.
 use Rattle.std.proofs.Common.{◌≡◌, ◌++◌, ◌∷◌, ℕ, List, subst}
-use Rattle.hfs_source.proofs.Written.{on-err as on_err}
-use Rattle.hfs_commands.proofs.Rows.{if_ok_then, on_ok_then, on_err_then}
+use Rattle.hfs_fields.proofs.OutcomeLemmas.{on_err_then, on_ok, if_ok}
 use Rattle.hfs_source.specs.Ranges.{bytes_in}
 use Rattle.hfs_bag.specs.Parts.{IsPartOf, content_of}
 use Rattle.hfs_database.specs.Taken.{IsBeginning}
@@ -68,7 +67,7 @@ returns-clause-whole g c =
     λ given h. refused_picked g.S.PlacedBytes.Holds image wanted part (subst (λ s. g.S.PlacedBytes.Holds s image) c.source.ensures (c.note.ensures.noted image h))
     (λ bytes own. c.in-Some.ensures.range bytes (c.in_ok-mdb.ensures.narrows bytes ((looked_err _ _ _ c.in-Err.is c.in_ok-image.ensures.back) bytes (narrows bytes own)))) c.args.taken place why (λ rows. new ≡ old ++ rows)
     (λ bytes own. (looked_err _ _ _ c.in-Err.is c.in_ok-image.ensures.refused).refused bytes (narrows bytes own)) given in
-    on_ok_then _ _ _ step c.give_refused-given.ensures.whole
+    on_ok _ _ _ step c.give_refused-given.ensures.whole
 
 pub returns-clause-part : goal.returns-clause-part
 returns-clause-part g c =
@@ -99,4 +98,4 @@ returns-clause-counted g c =
     λ counts given h. refused_told g.S.PlacedBytes.Holds image wanted part (subst (λ s. g.S.PlacedBytes.Holds s image) c.source.ensures (c.note.ensures.noted image h))
     (λ bytes own. c.in-Some.ensures.range bytes (c.in_ok-mdb.ensures.narrows bytes ((looked_err _ _ _ c.in-Err.is c.in_ok-image.ensures.back) bytes (narrows bytes own)))) c.in-Err.image.why counts
     (λ bytes own. (looked_err _ _ _ c.in-Err.is c.in_ok-image.ensures.refused).refused bytes (narrows bytes own)) given in
-    if_ok_then _ _ _ step c.give_refused-given.ensures.counted
+    if_ok _ _ _ step c.give_refused-given.ensures.counted

@@ -1,6 +1,6 @@
 -- The image's row, and behind it those of its volumes.
 use Rattle.std.proofs.Common.{◌≡◌, ◌++◌, ◌∷◌, [], ◌∙◌, ap}
-use Rattle.hfs_commands.proofs.Rows.{if_ok_then, on_ok_then, on_err_then}
+use Rattle.hfs_fields.proofs.OutcomeLemmas.{on_err_then, on_ok, if_ok}
 use Rattle.hfs_source.specs.Found.{found_by}
 use Rattle.hfs_bag.specs.Parts.{content_of}
 use Rattle.hfs_database.specs.declared.value.Table.TheVariants.{Image}
@@ -27,7 +27,7 @@ returns-clause-whole g c =
     let step : (Holds → new ≡ mid ++ all_volume_rows facts.takes_digests look.others (found_by look.layout content) content) → (Holds → new ≡ old ++ image_rows facts image) =
     λ given h. let is = c.in_ok-look.ensures.look image (c.give_content.ensures.held image h) in
     image_given image facts c.in_ok-values.values.items look.layout look.others old mid (λ rows. new ≡ rows) first (c.in_ok-values.ensures image is.len is.digest) is.layout is.others (given h) in
-    on_ok_then _ _ _ step c.give_content.ensures.whole
+    on_ok _ _ _ step c.give_content.ensures.whole
 
 pub returns-clause-part : goal.returns-clause-part
 returns-clause-part g c =
@@ -54,4 +54,4 @@ returns-clause-counted g c =
     let Holds = g.F.ImageFile.Holds c.give_content.new.file image in
     let step : (counts : ImageCounts) → (Holds → counts ≡ all_volume_counts (found_by look.layout content) content) → (Holds → counts ≡ image_counts image) =
     λ counts given h. image_counted image look.layout counts (c.in_ok-look.ensures.look image (c.give_content.ensures.held image h)).layout (given h) in
-    if_ok_then _ _ _ step c.give_content.ensures.counted
+    if_ok _ _ _ step c.give_content.ensures.counted

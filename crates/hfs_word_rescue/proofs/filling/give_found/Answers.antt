@@ -1,11 +1,11 @@
 -- What is given of what was found is given of each image that holds.
 use Rattle.std.proofs.Common.{◌≡◌, ◌∙◌, ℕ, List, ◌++◌, Some, map, ap, refl, subst}
 use Rattle.std.specs.Prelude.{⊤}
+use Rattle.hfs_fields.proofs.OutcomeLemmas.{on_err_then, on_ok, if_err}
 use Rattle.hfs_bag.proofs.FaultLemmas.{any-source, bag-large, larger}
 use Rattle.hfs_bag.specs.Bags.{bytes_in}
 use Rattle.hfs_bag.specs.Faults.{AreTooMany}
 use Rattle.hfs_bag.specs.declared.facts.BagFacts.{BagFacts}
-use Rattle.hfs_commands.proofs.Rows.{on_err_then, on_ok_then}
 use Rattle.hfs_rescue_items.specs.declared.items.RescueItems.{RescueItems}
 use Rattle.hfs_rescue_items.specs.Sources.{planned_item, rescued_tables}
 use Rattle.hfs_bag.specs.Entries.{IsBeginning, ShelfEntry}
@@ -13,7 +13,7 @@ use Rattle.hfs_source.specs.declared.seen_blocks.SeenBlocks.{SeenBlocks}
 use Rattle.hfs_word_take.specs.Bags.{text_in}
 use Rattle.hfs_source.specs.Seen.{EachKnown}
 use Rattle.hfs_word_rescue.specs.Bags.{OfKnownBag}
-use Rattle.hfs_word_rescue.proofs.BagLemmas.{err_then, given_bag, nothing_given, tells_known}
+use Rattle.hfs_word_rescue.proofs.BagLemmas.{given_bag, nothing_given, tells_known}
 use Rattle.hfs_word_rescue.proofs.filling.give_found.Goals as goal
 
 pub returns-in-Err-clause-part : goal.returns-in-Err-clause-part
@@ -72,7 +72,7 @@ returns-clause-whole g c =
     c.as_str-2.ensures.value refl c.text_in.ensures refl refl c.as_str-3.ensures.value in
     let same = ap (λ (items : RescueItems (SeenBlocks g.row.S.Denot)). items.found) c.new-watched.ensures ∙ c.in-Ok.ensures.found in
     let planned = ap (λ (items : RescueItems (SeenBlocks g.row.S.Denot)). items.plan.items) c.new-watched.ensures ∙ c.in-Ok.ensures.plan in
-    on_ok_then _ _ (EachKnown (g.S.PlacedBlocks.Holds c.into_source.result.blocks) (λ known. OfKnownBag known c.args.len (text_in c.args.line) words (λ (bag : List ShelfEntry). now ≡ before ++ bag))) (λ whole image h. given_bag image c.args.len (text_in c.args.line) words found made.found made.plan.items facts (λ (bag : List ShelfEntry). now ≡ before ++ bag)
+    on_ok _ _ (EachKnown (g.S.PlacedBlocks.Holds c.into_source.result.blocks) (λ known. OfKnownBag known c.args.len (text_in c.args.line) words (λ (bag : List ShelfEntry). now ≡ before ++ bag))) (λ whole image h. given_bag image c.args.len (text_in c.args.line) words found made.found made.plan.items facts (λ (bag : List ShelfEntry). now ≡ before ++ bag)
     (c.requires.found image (held image h)) (tells image h) same planned (whole image (own image h))) c.give_bag-came.ensures.whole
 
 pub returns-clause-fault : goal.returns-clause-fault
@@ -101,7 +101,7 @@ returns-clause-fault g c =
     let same = ap (λ (items : RescueItems (SeenBlocks g.row.S.Denot)). items.found) c.new-watched.ensures ∙ c.in-Ok.ensures.found in
     let planned = ap (λ (items : RescueItems (SeenBlocks g.row.S.Denot)). items.plan.items) c.new-watched.ensures ∙ c.in-Ok.ensures.plan in
     let Shelf = g.T.Shelf.Fails (g.T.Shelf.place c.args.shelf.now) in
-    err_then c.give_bag-came.result _ _ (λ why is. larger (λ _. ⊤) Shelf why
+    if_err c.give_bag-came.result _ _ (λ why is. larger (λ _. ⊤) Shelf why
     (λ many image h. given_bag image c.args.len (text_in c.args.line) words found made.found made.plan.items facts (λ (bag : List ShelfEntry). AreTooMany (bytes_in bag))
     (c.requires.found image (held image h)) (tells image h) same planned (bag-large (map (planned_item image made.found) made.plan.items) (rescued_tables made.found) facts (many image (own image h))))
     (any-source _ Shelf _ why is)) c.give_bag-came.ensures.fault

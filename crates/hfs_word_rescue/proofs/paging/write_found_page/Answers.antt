@@ -1,7 +1,7 @@
 -- The page of what was found is the page of the image.
 use Rattle.std.proofs.Common.{◌≡◌, ℕ, List, IfOk, Some, subst}
 use Rattle.std.specs.Io.KnownBytes.{Appends}
-use Rattle.hfs_commands.proofs.Rows.{on_err_then, on_ok_then}
+use Rattle.hfs_fields.proofs.OutcomeLemmas.{on_err_then, on_ok}
 use Rattle.hfs_texts.specs.Writing.{AppendsFront}
 use Rattle.hfs_word_rescue.specs.Shown.{found_page}
 use Rattle.hfs_word_rescue.proofs.BagLemmas.{found_known}
@@ -14,7 +14,7 @@ returns-clause-written g c =
     let image = c.args.image.now in
     let is = λ (own : List ℕ) (h : g.S.PlacedBlocks.Holds image.source.blocks own). found_known (Some own) image.len c.args.words.now c.limit_for-limit.result image.finds c.found_in-found.result c.limit_for-limit.ensures (image.finds_are own h)
     (λ bytes found. c.found_in-found.ensures.found bytes c.limit_for-limit.result found c.in-Ok.ensures) in
-    on_ok_then _ _ _ (paged_each (g.S.PlacedBlocks.Holds image.source.blocks) image.len c.args.words.now c.found_in-found.result is c.args.texts.now c.args.why
+    on_ok _ _ _ (paged_each (g.S.PlacedBlocks.Holds image.source.blocks) image.len c.args.words.now c.found_in-found.result is c.args.texts.now c.args.why
     (λ text. Appends (g.W.Write.contents c.args.writer.now) (g.W.Write.contents c.write_page.new.writer) text))
     c.write_page.ensures.written
 

@@ -1,6 +1,6 @@
 -- What is shown of what was found is shown of each image that holds.
 use Rattle.std.proofs.Common.{◌≡◌, ℕ, List, IfOk, Some, subst}
-use Rattle.hfs_commands.proofs.Rows.{on_err_then, on_ok_then}
+use Rattle.hfs_fields.proofs.OutcomeLemmas.{on_err_then, on_ok}
 use Rattle.hfs_rescue_items.specs.Paths.{path_end}
 use Rattle.hfs_word_rescue.specs.Shown.{end_bytes, fork_told}
 use Rattle.hfs_word_rescue.proofs.BagLemmas.{found_known}
@@ -12,7 +12,7 @@ returns-clause-written g c =
     let image = c.args.image in
     let is = λ (own : List ℕ) (h : g.S.PlacedBlocks.Holds c.write_end_fork-told.new.source.blocks own). found_known (Some own) image.len c.args.words.now c.limit_for-limit.result image.finds c.found_in-found.result c.limit_for-limit.ensures
     (image.finds_are own (c.write_end_fork-told.ensures.narrows own h)) (λ bytes found. c.found_in-found.ensures.found bytes c.limit_for-limit.result found c.in-Ok.ensures) in
-    on_ok_then _ _ _ (λ written. bytes_shown (g.S.PlacedBlocks.Holds c.write_end_fork-told.new.source.blocks) image.len c.args.words.now c.found_in-found.result is c.args.kind c.args.path.now
+    on_ok _ _ _ (λ written. bytes_shown (g.S.PlacedBlocks.Holds c.write_end_fork-told.new.source.blocks) image.len c.args.words.now c.found_in-found.result is c.args.kind c.args.path.now
     c.in-Ok-path_end.end c.in-Ok-path_end.ensures (g.W.Write.contents c.args.writer.now) (g.W.Write.contents c.write_end_fork-told.new.writer) written) c.write_end_fork-told.ensures.written
 
 pub returns-clause-part : goal.returns-clause-part

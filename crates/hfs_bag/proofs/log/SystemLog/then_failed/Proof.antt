@@ -25,8 +25,7 @@ use denote.Triple.Entry.{alive}
 use denote.Triple.Spec.{Meets, triple_of}
 use denote.Triple.Table.{entered}
 use denote.Triple.Walked.{says, Stays, stay_dropped, walk_of, ends_at, walk_Meets, Goes-dropped}
-use Rattle.hfs_bag.proofs.Walks.{none}
-use Rattle.hfs_source.proofs.Walks.{none_made}
+use Rattle.hfs_fields.proofs.Walks.{none, none_made}
 use Rattle.hfs_bag.specs.contracts.log.SystemLog as SystemLog
 use Rattle.hfs_bag.specs.contracts.log.Step as Step
 use Rattle.hfs_bag.specs.LoggedSteps.{with_failed}

@@ -1,6 +1,6 @@
 -- All was written where only the look behind it failed.
 use Rattle.std.specs.Io.KnownBytes.{Appends}
-use Rattle.hfs_commands.proofs.Fronts.{all_front}
+use Rattle.hfs_texts.proofs.FrontLemmas.{all_front}
 use Rattle.hfs_commands.proofs.PatchedLemmas.{of-file}
 use Rattle.hfs_commands.proofs.watched_range.ImageInFileReadContents.write_to.Goals as goal
 

@@ -23,8 +23,7 @@ use denote.Triple.Entry.{alive}
 use denote.Triple.Spec.{Meets, triple_of}
 use denote.Triple.Table.{entered}
 use denote.Triple.Walked.{says, Stays, walk_of, ends_at, walk_Meets}
-use Rattle.hfs_bag.proofs.Walks.{none}
-use Rattle.hfs_source.proofs.Walks.{none_made}
+use Rattle.hfs_fields.proofs.Walks.{none, none_made}
 use Rattle.hfs_database.specs.contracts.given.Given as Given
 use Rattle.hfs_database.specs.contracts.given.Given.new as F
 use Rattle.hfs_database.specs.contracts.given.Given.new.Key.{name as #self}

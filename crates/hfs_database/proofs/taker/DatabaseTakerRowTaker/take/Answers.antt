@@ -2,10 +2,11 @@
 use Rattle.std.proofs.Common.{sym, subst, List}
 use Rattle.std.proofs.Math.Logic.{∥∥₁_map}
 use Rattle.sqlite.specs.Held.{Held}
+use Rattle.hfs_database.proofs.Going.{has_not}
 use Rattle.hfs_database.specs.Taken.{TakenRow, row_of}
 use Rattle.hfs_database.specs.Transactions.{HasPutSince, KeepsFile, no_rows}
 use Rattle.hfs_database.proofs.Keeping.{keeps_then}
-use Rattle.hfs_database.proofs.RowLemmas.{has_not, puts_one_more}
+use Rattle.hfs_database.proofs.RowLemmas.{puts_one_more}
 use Rattle.hfs_database.proofs.taker.DatabaseTakerRowTaker.take.Goals as goal
 
 pub invariant_of-self : goal.invariant_of-self

@@ -1,13 +1,10 @@
 -- The end of an image, or a fault.
 use Rattle.std.proofs.Common.{◌≡◌, ap, subst, Bool, true, false, OnErr, Result, Ok, Err}
 use Rattle.std.proofs.Math.Logic.{∥∥₁_map, ∥∥₁_elim}
+use Rattle.hfs_fields.proofs.OutcomeLemmas.{on_err}
 use Rattle.hfs_database.specs.UnderWay.{IsUnderWay}
 use Rattle.hfs_database.proofs.Going.{Appends_prop, begun, ended, ended_before, ended_part, has_not}
 use Rattle.hfs_database.proofs.text_taker.TextTaker.end.Goals as goal
-
-on_any_err : {A E : Type 0} (r : Result A E) (P : Type 0) → P → OnErr r P
-on_any_err (Ok x) P p = tt
-on_any_err (Err e) P p = p
 
 pub returns-then-self-clause-part : goal.returns-then-self-clause-part
 returns-then-self-clause-part g c =
@@ -28,7 +25,7 @@ returns-in_err-ended-clause-part g c =
     let self = c.args.self.now in
     let start = g.W.Write.contents self.start.value in
     let before = g.W.Write.contents self.writer in
-    on_any_err c.from_residual.result _ (∥∥₁_map self.underway (λ was.
+    on_err c.from_residual.result _ (∥∥₁_map self.underway (λ was.
     ended_part start before (g.W.Write.contents c.write_end-ended.new.writer) self.text.items self.form self.keys self.given.rows c.args.is_whole
     (subst (λ (b : Bool). IsUnderWay start before self.text.items self.form self.keys self.given.rows b) c.if-self.false was) c.in_err-ended.ensures.part))
 

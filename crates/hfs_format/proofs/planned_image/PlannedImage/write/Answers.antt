@@ -1,6 +1,6 @@
 -- Some blocks after the others.
 use Rattle.std.proofs.Common.{◌≡◌, arith}
-use Rattle.hfs_source.proofs.Written.{on-err}
+use Rattle.hfs_fields.proofs.OutcomeLemmas.{on_err}
 use Rattle.hfs_format.proofs.Ranges.{written_more, written_front, nothing_written, all_written}
 use Rattle.hfs_format.proofs.planned_image.PlannedImage.write.Goals as goal
 
@@ -17,7 +17,7 @@ loop-first-preserved g c = record {
 
 pub returns-in_err-write_blocks-clause-err : goal.returns-in_err-write_blocks-clause-err
 returns-in_err-write_blocks-clause-err g c =
-    on-err _ _ (written_front c.args.self.now.volume (g.W.Write.contents c.args.writer.now) (g.W.Write.contents c.loop-first.writer)
+    on_err _ _ (written_front c.args.self.now.volume (g.W.Write.contents c.args.writer.now) (g.W.Write.contents c.loop-first.writer)
     (g.W.Write.contents c.write_blocks.new.writer) c.loop-first.first c.min-count.result
     (omega (arith, c.min-count.ensures, c.loop-first-test.true)) c.loop-first.invariant.written c.in_err-write_blocks.ensures.err)
 

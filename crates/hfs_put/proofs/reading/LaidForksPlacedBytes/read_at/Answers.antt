@@ -1,7 +1,8 @@
 -- Piece by piece.
 use Rattle.std.proofs.Common.{rules, ◌≡◌, ◌∙◌, ℕ, ◌+◌, ◌-◌, ◌≤◌, List, length, take, drop, arith}
 use Rattle.std.proofs.lemmas.List.{length-take, length-drop}
-use Rattle.hfs_put.proofs.FailureLemmas.{fails-part, on_err, told-part}
+use Rattle.hfs_fields.proofs.OutcomeLemmas.{on_err}
+use Rattle.hfs_put.proofs.FailureLemmas.{fails-part, told-part}
 use Rattle.hfs_put.proofs.FilledLemmas.{read-more}
 use borrow.Rule.Slice.PartMut.{put_mid}
 use Rattle.hfs_put.proofs.reading.LaidForksPlacedBytes.read_at.Goals as goal
@@ -32,7 +33,7 @@ returns-in_err-read_piece-clause-fails g c =
     let count = c.len-count.result in
     let part : List ℕ = take (done + count - done) (drop done c.loop-done.into) in
     let size : length part ≤ length c.loop-done.into - done = omega (arith, length-take (done + count - done) (drop done c.loop-done.into), length-drop done c.loop-done.into) in
-    on_err _ (c.loop-done.invariant.later c.args.place (length c.args.into.now)
+    on_err _ _ (c.loop-done.invariant.later c.args.place (length c.args.into.now)
     (fails-part (g.B.PlacedBytes.Fails c.loop-done.self.bytes) c.loop-done.self.start c.loop-done.self.runs.items (c.args.place + done) (length part) c.args.place
     (length c.args.into.now) (omega arith) (omega (arith, size, c.loop-done.invariant.long, c.loop-done-test.true)) c.in_err-read_piece.ensures.fails))
 
@@ -45,7 +46,7 @@ returns-in_err-read_piece-clause-told g c =
     let count = c.len-count.result in
     let part : List ℕ = take (done + count - done) (drop done c.loop-done.into) in
     let size : length part ≤ length c.loop-done.into - done = omega (arith, length-take (done + count - done) (drop done c.loop-done.into), length-drop done c.loop-done.into) in
-    on_err _ (told-part (g.B.PlacedBytes.Fails c.loop-done.self.bytes) (g.B.PlacedBytes.Fails c.args.self.now.bytes) c.read_piece.new.self.fault
+    on_err _ _ (told-part (g.B.PlacedBytes.Fails c.loop-done.self.bytes) (g.B.PlacedBytes.Fails c.args.self.now.bytes) c.read_piece.new.self.fault
     (c.args.place + done) (length part) c.args.place (length c.args.into.now) (omega arith)
     (omega (arith, size, c.loop-done.invariant.long, c.loop-done-test.true)) c.loop-done.invariant.own c.in_err-read_piece.ensures.told)
 

@@ -23,8 +23,7 @@ use denote.Triple.Entry.{alive}
 use denote.Triple.Spec.{Meets, triple_of}
 use denote.Triple.Table.{entered}
 use denote.Triple.Walked.{says, Stays, walk_of, ends_at, walk_Meets}
-use Rattle.hfs_put_sources.proofs.Walks.{none}
-use Rattle.hfs_source.proofs.Walks.{none_made}
+use Rattle.hfs_fields.proofs.Walks.{none, none_made}
 use Rattle.hfs_put_sources.specs.contracts.log.HostLog as HostLog
 use Rattle.hfs_put_sources.specs.contracts.log.HostLog.new as F
 use Rattle.hfs_put_sources.specs.contracts.log.HostLog.new.Key.{name as #self}

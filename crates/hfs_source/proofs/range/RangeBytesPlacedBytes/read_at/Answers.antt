@@ -1,5 +1,5 @@
 -- The bytes that were read lie within the range.
-use Rattle.std.proofs.Common.{◌≡◌, ◌+◌, ◌≤◌, length, arith}
+use Rattle.std.proofs.Common.{◌+◌, ◌≤◌, length, arith}
 use Rattle.hfs_source.proofs.RangeLemmas.{reads-within}
 use Rattle.hfs_source.proofs.range.RangeBytesPlacedBytes.read_at.Goals as goal
 

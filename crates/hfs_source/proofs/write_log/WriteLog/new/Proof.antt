@@ -23,7 +23,7 @@ use denote.Triple.Entry.{alive}
 use denote.Triple.Spec.{Meets, triple_of}
 use denote.Triple.Table.{entered}
 use denote.Triple.Walked.{says, Stays, walk_of, ends_at, walk_Meets}
-use Rattle.hfs_source.proofs.Walks.{none, none_made}
+use Rattle.hfs_fields.proofs.Walks.{none, none_made}
 use Rattle.hfs_source.specs.contracts.write_log.WriteLog as WriteLog
 use Rattle.hfs_source.specs.contracts.write_log.WriteLog.new as F
 use Rattle.hfs_source.specs.contracts.write_log.WriteLog.new.Key.{name as #self}

@@ -1,9 +1,10 @@
 -- The row of the chosen file shows its first bytes, with zeros after them.
+use Rattle.hfs_fields.proofs.OutcomeLemmas.{on_err}
 use Rattle.hfs_model.specs.Forks.{resized}
 use Rattle.hfs_model.specs.ForkCalls.{set_eof}
 use Rattle.hfs_viewers.specs.Tables.{item_of}
 use Rattle.hfs_viewers.proofs.Left.{refused}
-use Rattle.hfs_viewers.proofs.ForkLemmas.{edited, kept, on_err}
+use Rattle.hfs_viewers.proofs.ForkLemmas.{edited, kept}
 use Rattle.hfs_viewers.proofs.table.Table.set_eof.Goals as goal
 
 pub returns-in-Err-clause-ok : goal.returns-in-Err-clause-ok

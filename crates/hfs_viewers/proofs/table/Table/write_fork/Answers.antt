@@ -1,5 +1,6 @@
 -- The row of the chosen file shows the bytes in their place.
 use Rattle.std.proofs.Common.{◌≡◌, ℕ, List, sym, subst, ap, ◌∙◌, Result, ℤ}
+use Rattle.hfs_fields.proofs.OutcomeLemmas.{on_err}
 use Rattle.hfs_model.specs.Volume.{Entry}
 use Rattle.hfs_model.specs.Forks.{written}
 use Rattle.hfs_model.specs.ForkCalls.{write_fork, to_write_fork}
@@ -7,7 +8,7 @@ use Rattle.hfs_viewers.specs.RowEdits.{chosen_of}
 use Rattle.hfs_viewers.specs.ForkParts.{MayWrite}
 use Rattle.hfs_viewers.specs.Tables.{item_of, volume_of}
 use Rattle.hfs_viewers.proofs.Left.{refused}
-use Rattle.hfs_viewers.proofs.ForkLemmas.{edited, kept, may_write, on_err}
+use Rattle.hfs_viewers.proofs.ForkLemmas.{edited, kept, may_write}
 use Rattle.hfs_viewers.proofs.table.Table.write_fork.Goals as goal
 
 pub returns-in-Err-clause-ok : goal.returns-in-Err-clause-ok

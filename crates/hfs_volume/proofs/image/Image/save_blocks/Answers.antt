@@ -1,10 +1,11 @@
 -- Each write puts a block behind the others, and the last one zeros.
 use Rattle.std.proofs.Common.{◌≡◌, ◌+◌, ◌*◌, ◌-◌, take, drop, length, ap, sym, ◌∙◌, subst, arith}
 use Rattle.std.specs.Io.KnownBytes.{Appends}
+use Rattle.hfs_fields.proofs.OutcomeLemmas.{on_ok}
 use Rattle.hfs_blocks.specs.Layers.{changes}
 use Rattle.hfs_volume.specs.declared.saving.SaveFault.{SaveFault}
 use Rattle.hfs_volume.specs.Saving.{HasWritten}
-use Rattle.hfs_volume.proofs.SavedPieces.{whole_piece, rest_piece, broken_off, broken_rest, passed_on, ok_so, err_so, zeros_behind}
+use Rattle.hfs_volume.proofs.SavedPieces.{whole_piece, rest_piece, broken_off, broken_rest, passed_on, err_so, zeros_behind}
 use Rattle.hfs_volume.proofs.Viewing.{same_length}
 use Rattle.hfs_volume.proofs.image.Image.save_blocks.Goals as goal
 
@@ -32,7 +33,7 @@ returns-clause-ok g c =
     let before = subst (λ k. Appends (g.W.Write.contents c.args.writer.now) (g.W.Write.contents c.loop-n.writer) (take (512 * k) current)) here c.loop-n.invariant in
     let long : c.len.result ≡ length current =
     c.len.ensures.len ∙ same_length (changes c.self.inside.changed) c.self.inside.base current c.self.invariant.within (ap (λ v. v.current) c.self.view_is) in
-    ok_so c.write_at-2.result (λ out. rest_piece _ _ _ current _ count before (zeros_behind current count c.len.result c.count-count.ensures.count long c.requires) out)
+    on_ok c.write_at-2.result _ _ (λ out. rest_piece _ _ _ current _ count before (zeros_behind current count c.len.result c.count-count.ensures.count long c.requires) out)
     c.write_at-2.ensures.ok
 
 pub returns-clause-err : goal.returns-clause-err

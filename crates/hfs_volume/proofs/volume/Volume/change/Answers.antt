@@ -1,9 +1,9 @@
 -- The edit is the call's, and so is its outcome.
 use Rattle.std.proofs.Common.{rules, ◌∙◌, ap, sym, subst, arith, ◌≤◌, ℕ, List}
+use Rattle.hfs_fields.proofs.OutcomeLemmas.{if_ok}
 use Rattle.hfs_blocks.specs.Blocks.{block_at, block_count}
 use Rattle.hfs_call_edits.specs.Edits.{HasForkRoom, HasForkWritten, IsEditOf}
 use Rattle.hfs_volume.specs.Image.{ImageValue}
-use Rattle.hfs_call_patches.proofs.Made.{if_ok}
 use Rattle.hfs_volume.proofs.BlocksWritten.{written_by}
 use Rattle.hfs_volume.proofs.volume.Volume.change.Goals as goal
 

@@ -1,13 +1,14 @@
 -- The item that is found is the file.
 use Rattle.std.proofs.Common.{◌∙◌, ap, subst}
 use Rattle.std.specs.Option.{option_map}
+use Rattle.hfs_fields.proofs.OutcomeLemmas.{if_ok}
 use Rattle.hfs_blocks.specs.Blocks.{block_at}
 use Rattle.hfs_catalog.specs.Lookups.{catalog_item}
 use Rattle.hfs_catalog.specs.Records.{Catalog, item_with}
 use Rattle.hfs_check.specs.Agree.{AgreesBut}
 use Rattle.hfs_volume.specs.Image.{ImageValue}
 use Rattle.hfs_volume.specs.Sharing.{file_extents}
-use Rattle.hfs_volume.proofs.FileExtents.{is_there, no_folder, its_record, are_extents, are_within, have_fork, if_ok}
+use Rattle.hfs_volume.proofs.FileExtents.{is_there, no_folder, its_record, are_extents, are_within, have_fork}
 use Rattle.hfs_catalog.proofs.CatalogLawsProved.{items_are_records}
 use Rattle.hfs_volume.proofs.OwnedStay.{forks_stay}
 use Rattle.hfs_volume.proofs.volume.Volume.extents.Goals as goal
