@@ -35,5 +35,4 @@ pub mod StoredLemmas
 pub mod StoreLemmas
 mod TurnLemmas
 pub mod UnchangedLemmas
-pub mod WriteLemmas
 pub mod WrittenLemmas

@@ -36,5 +36,3 @@ told-part New Old fault at n place count behind before later told = elim told [
     | inr past ↦ inr (inr (omega (arith, past, before)))
   ]
 ]
-
--- what holds at any error holds at one

@@ -30,8 +30,6 @@ front_more a b bytes few all le front =
 pub front_none : (a : Option (List ℕ)) (bytes : List ℕ) → AppendsFront a a bytes
 front_none a bytes = (0, Appends-nil a)
 
--- what holds anyhow, holds at an error
-
 -- what was written whole was written from its first byte on
 pub all_front : (old new : Option (List ℕ)) (bytes : List ℕ) → Appends old new bytes → AppendsFront old new bytes
 all_front old new bytes all =

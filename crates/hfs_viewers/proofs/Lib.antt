@@ -3,7 +3,6 @@ pub mod Placed
 pub mod EditedPieces
 mod Read
 pub mod Members
-pub mod Chosen
 pub mod Named
 pub mod Cut
 pub mod LookedUp

@@ -23,7 +23,6 @@ pub mod LayoutLemmas
 pub mod SharingLaws
 pub mod BlocksWritten
 pub mod FlatBlocks
-pub mod Fronts
 pub mod InFiles
 pub mod Pieces
 pub mod RangePieces

@@ -4,7 +4,7 @@ use Rattle.std.proofs.lemmas.List.{drop_all, drop_more}
 use Rattle.std.proofs.KnownBytes.{Appends-nil}
 use Rattle.std.specs.Io.KnownBytes.{Appends}
 use Rattle.hfs_commands.proofs.Rows.{whole_next}
-use Rattle.hfs_volume.proofs.Fronts.{front_first, front_next}
+use Rattle.hfs_texts.proofs.FrontLemmas.{front_first, front_next}
 use Rattle.hfs_image.specs.Known.{OfKnown}
 use Rattle.hfs_remains.specs.declared.catalog.FoundRecord.{FoundRecord}
 use Rattle.hfs_rescue_items.specs.declared.found.Found.{Found}
