@@ -41,7 +41,7 @@ pub mod Choices
 mod Apart
 mod Bitmaps
 mod SettledNodes
-mod Ready
+pub mod Ready
 mod Assembled
 mod Edits
 mod ResizedFork

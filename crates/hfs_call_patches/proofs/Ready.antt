@@ -16,6 +16,7 @@ use Rattle.hfs_space.specs.declared.fork_kind.ForkKind.{ForkKind}
 use Rattle.hfs_fields.specs.declared.file_record.ForkRecord.{ForkRecord}
 use Rattle.hfs_space.specs.Extents.{AreExtentsWithin, extent_blocks, block_total, fork_byte, fork_extents}
 use Rattle.hfs_space.specs.Owners.{owners}
+use Rattle.hfs_space.specs.Sound.{IsTreeFile}
 use Rattle.hfs_space.specs.TreeKeys.{IsExtentsTree, overflow_of, extents_through}
 use Rattle.hfs_space.proofs.FileLengthLemmas.{length-tree_nodes}
 use Rattle.hfs_space.proofs.ForkLengthLemmas.{byte_total}
@@ -48,10 +49,35 @@ area_bytes total old h most n few =
     let less = mul-le n size all size few (omega arith) in
     omega (arith, most, area, bytes, less)
 
--- whoever has a block of the extents tree's file owns it
+-- whoever has a block of a tree's file owns it
 tree_owned : (old : Blocks) (b : ℕ) → owners (extent_blocks (mdb_in old).extents_file) b ≤ owners (owned_in old) b
 unfolding owned_in catalog_extents
 tree_owned old b = let sums = owners_sum (mdb_in old) (overflow_in old) b (catalog_in old) in omega (arith, sums)
+
+catalog_owned : (old : Blocks) (b : ℕ) → owners (extent_blocks (catalog_extents old)) b ≤ owners (owned_in old) b
+unfolding owned_in catalog_extents
+catalog_owned old b = let sums = owners_sum (mdb_in old) (overflow_in old) b (catalog_in old) in omega (arith, sums)
+
+module _ (total : ℕ) (old : Blocks) (h : AreBlocksSound total old) (most : total ≤ 4194304) where
+  -- the file of a tree, which owns its blocks, has no more bytes than a volume of at most 2,147,483,648
+  file_small : (es : List Extent) (len : ℕ) → IsTreeFile (mdb_in old) es len → ((b : ℕ) → owners (extent_blocks es) b ≤ owners (owned_in old) b) → len < 2 ^ 32
+  file_small es len file owned =
+      let n = (mdb_in old).allocation_blocks in
+      let size = (mdb_in old).allocation_block_size in
+      let once : (b : ℕ) → owners (extent_blocks es) b ≤ 1 = λ b. (let own = owned b in let one = owned_distinct (owned_in old) h.space.once b in omega (arith, own, one)) in
+      let every : ℕ → Bool = λ b. true in
+      let left = room_left every n (extent_blocks es) once (λ b some. within_each n b es file.within some) (λ b some. refl) in
+      let few : block_total es ≤ n = (let same = length-blocks es in omega (arith, left, same)) in
+      let room = file.room in
+      let less = mul-le (block_total es) size n size few (omega arith) in
+      let bytes = area_bytes total old h most n (omega arith) in
+      omega (arith, room, less, bytes)
+
+  pub size_small : (mdb_in old).extents_file_size < 2 ^ 32
+  size_small = file_small (mdb_in old).extents_file (mdb_in old).extents_file_size h.extents.file (tree_owned old)
+
+  pub catalog_size_small : (mdb_in old).catalog_file_size < 2 ^ 32
+  catalog_size_small = file_small (catalog_extents old) (mdb_in old).catalog_file_size h.catalog.file (catalog_owned old)
 
 -- ---- the extents tree
 
@@ -81,21 +107,6 @@ module _ (total : ℕ) (old : Blocks) (h : AreBlocksSound total old) where
   pub nodes_small : (mdb_in old).extents_file_size < 2 ^ 32 → 512 * (header_in (extents_nodes old)).nodes < 2 ^ 32
   unfolding extents_nodes
   nodes_small small = let within = h.extents.shape.within in omega (arith, small, within)
-
--- its own file has no more bytes than a volume of at most 2,147,483,648
-pub size_small : (total : ℕ) (old : Blocks) → AreBlocksSound total old → total ≤ 4194304 → (mdb_in old).extents_file_size < 2 ^ 32
-size_small total old h most =
-    let es = (mdb_in old).extents_file in
-    let n = (mdb_in old).allocation_blocks in
-    let size = (mdb_in old).allocation_block_size in
-    let once : (b : ℕ) → owners (extent_blocks es) b ≤ 1 = λ b. (let trees = tree_owned old b in let one = distinct-once (owned_in old) h.space.once b in omega (arith, trees, one)) in
-    let every : ℕ → Bool = λ b. true in
-    let left = room_left every n (extent_blocks es) once (λ b some. within_each n b es h.extents.file.within some) (λ b some. refl) in
-    let few : block_total es ≤ n = (let same = length-blocks es in omega (arith, left, same)) in
-    let room = h.extents.file.room in
-    let less = mul-le (block_total es) size n size few (omega arith) in
-    let bytes = area_bytes total old h most n (omega arith) in
-    omega (arith, room, less, bytes)
 
 -- ---- the fork of a file
 

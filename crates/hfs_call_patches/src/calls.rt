@@ -11,6 +11,14 @@ use hfs_blocks::Blocks;
 use hfs_model::Fork;
 use std::alloc::{AllocError, Global};
 
+/// What WriteFork writes: these bytes, into a fork from an offset on.
+#[derive(Clone, Copy)]
+pub struct ForkWrite<'a> {
+    pub fork: Fork,
+    pub offset: u32,
+    pub bytes: &'a [u8],
+}
+
 /// What SetEof makes of a volume, or what refuses it. It cuts the fork or adds zeros at its end, so that it has `length` bytes,
 /// for the folder's file of that name, which isn't locked, in a volume that may be changed. `found` is that file, or the code
 /// that refuses to write it.
@@ -54,36 +62,34 @@ pub fn set_eof<B: Blocks>(
     }
 }
 
-/// What WriteFork makes of a volume, or what refuses it: the fork gets these bytes from the offset on, and grows if they go past
-/// its end. Otherwise as for SetEof.
+/// What WriteFork makes of a volume, or what refuses it: the fork gets the bytes, and grows if they go past its end. Otherwise as
+/// for SetEof.
 pub fn write_fork<B: Blocks>(
     alloc: Global,
     volume: &ForkVolume<'_, B>,
     found: Result<FoundFile, i16>,
-    fork: Fork,
-    offset: u32,
-    bytes: &[u8],
+    write: &ForkWrite<'_>,
     now: u32,
 ) -> Result<Result<Change, ForkRefusal>, AllocError>
     requires volume { IsForkVolumeIn B.total B.blocks volume.now.blocks.now
         volume.now.mdb.now volume.now.extents.now volume.now.catalog.now }
     requires found { AreFoundIn (B.blocks volume.now.blocks.now) found }
-    ensures { Gives result (IsWriteForkEdit found fork offset bytes.now now)
-        B.total B.blocks volume.now.blocks.now }
+    ensures { Gives result (IsWriteForkEdit found write.now.fork write.now.offset
+        write.now.bytes.now now) B.total B.blocks volume.now.blocks.now }
 {
-    let file = match to_write_fork(found, fork, offset, bytes) {
+    let file = match to_write_fork(found, write.fork, write.offset, write.bytes) {
         Ok(file) => file,
         Err(code) => return Ok(Err(ForkRefusal::Code(code))),
     };
-    let end = offset + bytes.len() as u32;
-    let length = fork_of(fork, &file.file).length.max(end);
+    let end = write.offset + write.bytes.len() as u32;
+    let length = fork_of(write.fork, &file.file).length.max(end);
     let resizing = Resizing {
         found: &file,
-        fork,
+        fork: write.fork,
         length,
         from: length,
-        offset,
-        bytes,
+        offset: write.offset,
+        bytes: write.bytes,
         moment: now,
     };
     match resize(alloc, volume, &resizing)? {

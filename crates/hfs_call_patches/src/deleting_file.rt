@@ -14,7 +14,9 @@ ghost use Rattle.hfs_call_patches.specs.Patches.{Patches, LeavesExtents, LeavesC
 ghost use Rattle.hfs_call_patches.specs.CallChanges.{Makes};
 
 use crate::counts::put_counts;
-use crate::dropping::drop_from_folder;
+use crate::dropping::{ParentFolder, drop_from_folder};
+use crate::valences::FolderPlace;
+use crate::volume::ForkVolume;
 use hfs_blocks::{Blocks, Patch, Run};
 use hfs_btree::RunNodes;
 use hfs_btree_edits::PatchNodes;
@@ -98,79 +100,84 @@ fn drop_records<B: Blocks>(
     Ok(nodes.patch)
 }
 
-/// The patch in which the item under a key is removed from the catalog, and then its folder has this many children. Fails only
-/// when out of memory.
+/// The patch in which the item under a key is removed from the catalog, and then its folder has as many children as are given.
+/// Fails only when out of memory.
 fn drop_item_over<B: Blocks>(
     alloc: Global,
-    below: &B,
-    runs: &[Run],
-    patch: Patch,
+    mut nodes: PatchNodes<'_, B>,
     key: &CatKey,
     id: u32,
-    folder: &CatKey,
-    valence: u16,
+    folder: &FolderPlace,
     now: u32,
 ) -> Result<Patch, AllocError>
-    requires sound { AreBlocksSound (B.total below.now) (B.blocks below.now) }
-    requires file { IsCatalogFile runs.now (B.total below.now) (B.blocks below.now) }
-    requires inside { AreWithin (changes patch) (B.total below.now) }
-    requires same { LeavesCatalog (B.blocks below.now) runs.now patch }
-    requires there { IsItemUnder key.now (catalog_in (B.blocks below.now)) }
-    requires own { HasIdUnder key.now id (catalog_in (B.blocks below.now)) }
-    requires stays { StaysFolder key.now id folder.now (catalog_nodes (B.blocks below.now)) }
-    ensures dropped { GivesPatch result (B.blocks below.now)
-        (DropsItem key.now id folder.now valence now runs.now) }
-    ensures beside { IfOk result (ShowsSameBeside runs.now (B.blocks below.now) patch) }
-    ensures within { IfOk result (λ new. AreWithin (changes new) (B.total below.now)) }
+    requires sound { AreBlocksSound (B.total nodes.below.now) (B.blocks nodes.below.now) }
+    requires same { LeavesCatalog (B.blocks nodes.below.now) nodes.runs.now nodes.patch }
+    requires there { IsItemUnder key.now (catalog_in (B.blocks nodes.below.now)) }
+    requires own { HasIdUnder key.now id (catalog_in (B.blocks nodes.below.now)) }
+    requires stays { StaysFolder key.now id folder.now.key
+        (catalog_nodes (B.blocks nodes.below.now)) }
+    ensures dropped { GivesPatch result (B.blocks nodes.entry.below.now)
+        (DropsItem key.now id folder.now.key folder.now.valence now nodes.entry.runs.now) }
+    ensures beside { IfOk result (ShowsSameBeside nodes.entry.runs.now
+        (B.blocks nodes.entry.below.now) nodes.entry.patch) }
+    ensures within { IfOk result (λ new. AreWithin (changes new) (B.total nodes.entry.below.now)) }
 {
-    let mut nodes = PatchNodes { below, runs, patch };
-    drop_from_folder(alloc, &mut nodes, key, id, folder, valence, now)?;
+    drop_from_folder(alloc, &mut nodes, key, id, folder, now)?;
     Ok(nodes.patch)
 }
 
-/// The patch that deletes a file, with this key and this record, from its folder, which has this many children; and the volume's
-/// counts afterwards. Fails only when out of memory.
+/// The patch that deletes a file, with this key and this record, from its parent; and the volume's counts afterwards. Fails only
+/// when out of memory.
 pub fn patch_delete_file<B: Blocks>(
     alloc: Global,
-    below: &B,
-    extents: &[Run],
-    catalog: &[Run],
-    mdb: &Mdb,
-    dir: u32,
+    volume: &ForkVolume<'_, B>,
     key: &CatKey,
     file: &FileRecord,
-    parent: &CatKey,
-    valence: u16,
+    parent: &ParentFolder,
     now: u32,
 ) -> Result<(Patch, Mdb), AllocError>
-    requires sound { AreBlocksSound (B.total below.now) (B.blocks below.now) }
-    requires extents { IsExtentsFile extents.now (B.total below.now) (B.blocks below.now) }
-    requires catalog { IsCatalogFile catalog.now (B.total below.now) (B.blocks below.now) }
-    requires mdb { mdb.now ≡ mdb_in (B.blocks below.now) }
-    requires chosen { IsFileToDelete (B.blocks below.now) dir key.now file.now }
-    requires parent { IsParent (catalog_in (B.blocks below.now)) dir parent.now valence }
-    ensures makes { Makes result (DeletesFile dir key.now file.now now) B.total B.blocks below.now }
-    ensures within { IfOk result (λ made. AreWithin (changes made.0) (B.total below.now)) }
+    requires sound { AreBlocksSound (B.total volume.now.blocks.now)
+        (B.blocks volume.now.blocks.now) }
+    requires extents { IsExtentsFile volume.now.extents.now (B.total volume.now.blocks.now)
+        (B.blocks volume.now.blocks.now) }
+    requires catalog { IsCatalogFile volume.now.catalog.now (B.total volume.now.blocks.now)
+        (B.blocks volume.now.blocks.now) }
+    requires mdb { volume.now.mdb.now ≡ mdb_in (B.blocks volume.now.blocks.now) }
+    requires chosen { IsFileToDelete (B.blocks volume.now.blocks.now) parent.now.id
+        key.now file.now }
+    requires parent { IsParent (catalog_in (B.blocks volume.now.blocks.now)) parent.now.id
+        parent.now.key parent.now.valence }
+    ensures makes { Makes result (DeletesFile parent.now.id key.now file.now now)
+        B.total B.blocks volume.now.blocks.now }
+    ensures within { IfOk result (λ made.
+        AreWithin (changes made.0) (B.total volume.now.blocks.now)) }
 {
+    let blocks = volume.blocks;
     let nodes = RunNodes {
-        blocks: below,
-        runs: extents,
+        blocks,
+        runs: volume.extents,
     };
     let freed = file_extents(alloc, &nodes, file)?;
-    let bits = clear_bits(alloc, below, mdb, &freed)?;
-    let records = drop_records(alloc, below, extents, bits, file.id)?;
+    let bits = clear_bits(alloc, blocks, volume.mdb, &freed)?;
+    let records = drop_records(alloc, blocks, volume.extents, bits, file.id)?;
+    let left = FolderPlace {
+        key: parent.key,
+        valence: parent.valence - 1,
+    };
     let mut patch = drop_item_over(
         alloc,
-        below,
-        catalog,
-        records,
+        PatchNodes {
+            below: blocks,
+            runs: volume.catalog,
+            patch: records,
+        },
         key,
         file.id,
-        parent,
-        valence - 1,
+        &left,
         now,
     )?;
-    let counts = without_file(mdb, dir, free_after(mdb, &freed), now);
-    put_counts(below, &mut patch, &counts)?;
+    let free = free_after(volume.mdb, &freed);
+    let counts = without_file(volume.mdb, parent.id, free, now);
+    put_counts(blocks, &mut patch, &counts)?;
     Ok((patch, counts))
 }

@@ -10,8 +10,10 @@ ghost use Rattle.hfs_call_patches.specs.TreeFiles.{IsCatalogFile};
 ghost use Rattle.hfs_call_patches.specs.Patches.{GivesFolderDeletion};
 
 use crate::catalog_patch::{close_catalog, open_catalog};
-use crate::dropping::drop_from_folder;
-use hfs_blocks::{Blocks, Patch, Run};
+use crate::dropping::{ParentFolder, drop_from_folder};
+use crate::valences::FolderPlace;
+use crate::volume::ForkVolume;
+use hfs_blocks::{Blocks, Patch};
 use hfs_fields::{CatKey, DirRecord, Mdb};
 use std::alloc::{AllocError, Global};
 
@@ -28,29 +30,35 @@ pub fn without_folder(mdb: &Mdb, dir: u32, now: u32) -> Mdb
     }
 }
 
-/// The patch that deletes a folder, with this key and this record, from its own, which has this many children. Fails only when
-/// out of memory.
+/// The patch that deletes a folder, with this key and this record, from its parent. Fails only when out of memory.
 pub fn patch_delete_folder<B: Blocks>(
     alloc: Global,
-    below: &B,
-    runs: &[Run],
-    mdb: &Mdb,
-    dir: u32,
+    volume: &ForkVolume<'_, B>,
     key: &CatKey,
     folder: &DirRecord,
-    parent: &CatKey,
-    valence: u16,
+    parent: &ParentFolder,
     now: u32,
 ) -> Result<Patch, AllocError>
-    requires sound { AreBlocksSound (B.total below.now) (B.blocks below.now) }
-    requires nodes { IsCatalogFile runs.now (B.total below.now) (B.blocks below.now) }
-    requires mdb { mdb.now ≡ mdb_in (B.blocks below.now) }
-    requires chosen { IsFolderToDelete (B.blocks below.now) dir key.now folder.now }
-    requires parent { IsParent (catalog_in (B.blocks below.now)) dir parent.now valence }
-    ensures makes { GivesFolderDeletion result dir key.now folder.now now (B.blocks below.now) }
-    ensures within { IfOk result (λ patch. AreWithin (changes patch) (B.total below.now)) }
+    requires sound { AreBlocksSound (B.total volume.now.blocks.now)
+        (B.blocks volume.now.blocks.now) }
+    requires nodes { IsCatalogFile volume.now.catalog.now (B.total volume.now.blocks.now)
+        (B.blocks volume.now.blocks.now) }
+    requires mdb { volume.now.mdb.now ≡ mdb_in (B.blocks volume.now.blocks.now) }
+    requires chosen { IsFolderToDelete (B.blocks volume.now.blocks.now) parent.now.id
+        key.now folder.now }
+    requires parent { IsParent (catalog_in (B.blocks volume.now.blocks.now)) parent.now.id
+        parent.now.key parent.now.valence }
+    ensures makes { GivesFolderDeletion result parent.now.id key.now folder.now now
+        (B.blocks volume.now.blocks.now) }
+    ensures within { IfOk result (λ patch.
+        AreWithin (changes patch) (B.total volume.now.blocks.now)) }
 {
-    let mut nodes = open_catalog(alloc, below, runs);
-    drop_from_folder(alloc, &mut nodes, key, folder.id, parent, valence - 1, now)?;
-    close_catalog(below, runs, nodes, &without_folder(mdb, dir, now))
+    let left = FolderPlace {
+        key: parent.key,
+        valence: parent.valence - 1,
+    };
+    let mut nodes = open_catalog(alloc, volume.blocks, volume.catalog);
+    drop_from_folder(alloc, &mut nodes, key, folder.id, &left, now)?;
+    let counts = without_folder(volume.mdb, parent.id, now);
+    close_catalog(volume.blocks, volume.catalog, nodes, &counts)
 }

@@ -15,55 +15,72 @@ ghost use Rattle.hfs_call_patches.specs.SettingPatches.{CreatesFileId, DeletesFi
 use crate::catalog_patch::{close_catalog, open_catalog};
 use crate::file_threads::{add_file_thread, drop_file_thread};
 use crate::settings::at_time;
-use hfs_blocks::{Blocks, Patch, Run};
-use hfs_fields::{CatKey, FileRecord, Mdb};
+use crate::volume::ForkVolume;
+use hfs_blocks::{Blocks, Patch};
+use hfs_fields::{CatKey, FileRecord};
 use std::alloc::{AllocError, Global};
 
 /// The patch that gives a thread to the file that CreateFileId chooses, with this key and this record. Fails only when out of
 /// memory.
 pub fn patch_create_file_id<B: Blocks>(
     alloc: Global,
-    below: &B,
-    runs: &[Run],
-    mdb: &Mdb,
+    volume: &ForkVolume<'_, B>,
     key: &CatKey,
     file: &FileRecord,
     now: u32,
 ) -> Result<Patch, AllocError>
-    requires sound { AreBlocksSound (B.total below.now) (B.blocks below.now) }
-    requires nodes { IsCatalogFile runs.now (B.total below.now) (B.blocks below.now) }
-    requires mdb { mdb.now ≡ mdb_in (B.blocks below.now) }
-    requires chosen { IsFileChosenBy to_create_file_id (B.blocks below.now) key.now file.now }
-    requires threadless { IsThreadless (catalog_in (B.blocks below.now)) key.now file.now }
-    requires inside { IsInFile (catalog_nodes (B.blocks below.now)) }
-    requires room { HasRoom (catalog_nodes (B.blocks below.now)) }
-    ensures makes { CreatesFileId result key.now file.now now (B.blocks below.now) }
-    ensures within { IfOk result (λ patch. AreWithin (changes patch) (B.total below.now)) }
+    requires sound { AreBlocksSound (B.total volume.now.blocks.now)
+        (B.blocks volume.now.blocks.now) }
+    requires nodes { IsCatalogFile volume.now.catalog.now (B.total volume.now.blocks.now)
+        (B.blocks volume.now.blocks.now) }
+    requires mdb { volume.now.mdb.now ≡ mdb_in (B.blocks volume.now.blocks.now) }
+    requires chosen { IsFileChosenBy to_create_file_id (B.blocks volume.now.blocks.now)
+        key.now file.now }
+    requires threadless { IsThreadless (catalog_in (B.blocks volume.now.blocks.now))
+        key.now file.now }
+    requires inside { IsInFile (catalog_nodes (B.blocks volume.now.blocks.now)) }
+    requires room { HasRoom (catalog_nodes (B.blocks volume.now.blocks.now)) }
+    ensures makes { CreatesFileId result key.now file.now now
+        (B.blocks volume.now.blocks.now) }
+    ensures within { IfOk result (λ patch.
+        AreWithin (changes patch) (B.total volume.now.blocks.now)) }
 {
-    let mut nodes = open_catalog(alloc, below, runs);
+    let mut nodes = open_catalog(alloc, volume.blocks, volume.catalog);
     add_file_thread(alloc, &mut nodes, key, file)?;
-    close_catalog(below, runs, nodes, &at_time(mdb, now))
+    close_catalog(
+        volume.blocks,
+        volume.catalog,
+        nodes,
+        &at_time(volume.mdb, now),
+    )
 }
 
 /// The patch that removes the thread of the file that DeleteFileId chooses, with this key and this record. Fails only when out of
 /// memory.
 pub fn patch_delete_file_id<B: Blocks>(
     alloc: Global,
-    below: &B,
-    runs: &[Run],
-    mdb: &Mdb,
+    volume: &ForkVolume<'_, B>,
     key: &CatKey,
     file: &FileRecord,
     now: u32,
 ) -> Result<Patch, AllocError>
-    requires sound { AreBlocksSound (B.total below.now) (B.blocks below.now) }
-    requires nodes { IsCatalogFile runs.now (B.total below.now) (B.blocks below.now) }
-    requires mdb { mdb.now ≡ mdb_in (B.blocks below.now) }
-    requires chosen { IsFileToLoseId (B.blocks below.now) key.now file.now }
-    ensures makes { DeletesFileId result key.now file.now now (B.blocks below.now) }
-    ensures within { IfOk result (λ patch. AreWithin (changes patch) (B.total below.now)) }
+    requires sound { AreBlocksSound (B.total volume.now.blocks.now)
+        (B.blocks volume.now.blocks.now) }
+    requires nodes { IsCatalogFile volume.now.catalog.now (B.total volume.now.blocks.now)
+        (B.blocks volume.now.blocks.now) }
+    requires mdb { volume.now.mdb.now ≡ mdb_in (B.blocks volume.now.blocks.now) }
+    requires chosen { IsFileToLoseId (B.blocks volume.now.blocks.now) key.now file.now }
+    ensures makes { DeletesFileId result key.now file.now now
+        (B.blocks volume.now.blocks.now) }
+    ensures within { IfOk result (λ patch.
+        AreWithin (changes patch) (B.total volume.now.blocks.now)) }
 {
-    let mut nodes = open_catalog(alloc, below, runs);
+    let mut nodes = open_catalog(alloc, volume.blocks, volume.catalog);
     drop_file_thread(alloc, &mut nodes, key, file)?;
-    close_catalog(below, runs, nodes, &at_time(mdb, now))
+    close_catalog(
+        volume.blocks,
+        volume.catalog,
+        nodes,
+        &at_time(volume.mdb, now),
+    )
 }

@@ -18,8 +18,9 @@ use crate::bits::claim_over;
 use crate::overflow::lengthen_over;
 use crate::records::{fork_of, kind_of};
 use crate::settling::settle_fork;
-use crate::volume::{ForkVolume, Resizing, Settled};
-use hfs_blocks::{Blocks, Patch};
+use crate::volume::{ForkVolume, Overlay, Resizing, Settled};
+use hfs_blocks::Blocks;
+use hfs_btree_edits::PatchNodes;
 use hfs_fields::Extent;
 use hfs_model::{BlockSize, Want};
 use hfs_record_edits::NodesWanted;
@@ -40,8 +41,7 @@ fn nodes_wanted(nodes: NodesWanted) -> Want
 pub(crate) fn gain<B: Blocks, Z: Blocks>(
     alloc: Global,
     volume: &ForkVolume<'_, B>,
-    below: &Z,
-    patch: Patch,
+    overlay: Overlay<'_, Z>,
     resizing: &Resizing<'_>,
     block_size: BlockSize,
     pieces: &[Extent],
@@ -52,8 +52,8 @@ pub(crate) fn gain<B: Blocks, Z: Blocks>(
     requires found { IsFoundIn (B.blocks volume.now.blocks.now) resizing.now.found.now }
     requires few { volume.now.mdb.now.allocation_blocks ≤ 65535 }
     requires size { block_size ≡ volume.now.mdb.now.allocation_block_size }
-    requires same { Z.total below.now ≡ B.total volume.now.blocks.now }
-    requires inside { AreWithin (changes patch) (Z.total below.now) }
+    requires same { Z.total overlay.below.now ≡ B.total volume.now.blocks.now }
+    requires inside { AreWithin (changes overlay.patch) (Z.total overlay.below.now) }
     requires free { AreFreeOnce
         (is_used (B.blocks volume.now.blocks.now) volume.now.mdb.now.bitmap_start)
         volume.now.mdb.now.allocation_blocks wanted pieces.now }
@@ -67,20 +67,24 @@ pub(crate) fn gain<B: Blocks, Z: Blocks>(
     requires beside { KeepsBesideBlocks (block_numbers volume.now.mdb.now
         (grown (extents_of (B.blocks volume.now.blocks.now) resizing.now.fork
         resizing.now.found.now.file) pieces.now))
-        (B.blocks volume.now.blocks.now) (patched (Z.blocks below.now) patch) }
+        (B.blocks volume.now.blocks.now) (patched (Z.blocks overlay.below.now) overlay.patch) }
     ensures { IfOk result (GivesGained resizing.now.found.now resizing.now.fork resizing.now.length
         resizing.now.moment pieces.now (B.total volume.now.blocks.now)
-        (B.blocks volume.now.blocks.now) (Z.blocks below.now) patch) }
+        (B.blocks volume.now.blocks.now) (Z.blocks overlay.entry.below.now)
+        overlay.entry.patch) }
 {
     let found = resizing.found;
     let mdb = volume.mdb;
-    let bits = claim_over(below, mdb, patch, pieces)?;
+    let below = overlay.below;
+    let bits = claim_over(below, mdb, overlay.patch, pieces)?;
     let first = fork_of(resizing.fork, &found.file).extents;
     let longer = match lengthen_over(
         alloc,
-        below,
-        volume.extents,
-        bits,
+        PatchNodes {
+            below,
+            runs: volume.extents,
+            patch: bits,
+        },
         found.file.id,
         kind_of(resizing.fork),
         &first,
@@ -93,8 +97,10 @@ pub(crate) fn gain<B: Blocks, Z: Blocks>(
     let settled = settle_fork(
         alloc,
         volume,
-        below,
-        longer.patch,
+        Overlay {
+            below,
+            patch: longer.patch,
+        },
         resizing,
         block_size,
         longer.first,

@@ -9,9 +9,9 @@ ghost use Rattle.hfs_space.specs.Extents.{block_total};
 
 use crate::Change;
 use crate::gaining::gain;
-use crate::laying::{Laid, lay_fork};
+use crate::laying::{Laid, Laying, lay_fork};
 use crate::room::find_growing;
-use crate::volume::{ForkVolume, Resizing, fork_change};
+use crate::volume::{ForkVolume, Overlay, Resizing, fork_change};
 use hfs_blocks::Blocks;
 use hfs_fields::Extent;
 use hfs_model::{BlockSize, Want};
@@ -57,26 +57,24 @@ pub(crate) fn grow<B: Blocks>(
         Ok(grown) => grown,
         Err(want) => return Ok(Err(want)),
     };
-    let end = zeros_end(block_size, wanted, resizing.from, resizing.length);
+    let laying = Laying {
+        from: resizing.from,
+        end: zeros_end(block_size, wanted, resizing.from, resizing.length),
+        offset: resizing.offset,
+        bytes: resizing.bytes,
+    };
     let Laid {
         zeros,
         patch,
         written,
-    } = lay_fork(
-        alloc,
-        volume.blocks,
-        volume.mdb,
-        &grown.extents,
-        resizing.from,
-        end,
-        resizing.offset,
-        resizing.bytes,
-    )?;
+    } = lay_fork(alloc, volume, &grown.extents, &laying)?;
     let made = gain(
         alloc,
         volume,
-        &zeros.over(volume.blocks),
-        patch,
+        Overlay {
+            below: &zeros.over(volume.blocks),
+            patch,
+        },
         resizing,
         block_size,
         &grown.pieces,

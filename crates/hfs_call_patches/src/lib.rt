@@ -42,24 +42,26 @@ mod valences;
 mod volume;
 mod written;
 
-pub use calls::{set_eof, write_fork};
+pub use calls::{ForkWrite, set_eof, write_fork};
 pub use change::{Change, ForkBlocks};
 pub use choosing::{FoundFile, to_set_eof, to_write_fork};
 pub use counts::{put_counts, with_counts};
 pub use creating::{add_new_file, add_new_folder};
 pub use deleting_file::patch_delete_file;
 pub use deleting_folder::{patch_delete_folder, without_folder};
+pub use dropping::ParentFolder;
 pub use file_ids::{patch_create_file_id, patch_delete_file_id};
 pub use laws::{
     edits_are_set_eof, edits_are_write_fork, edits_leave_no_old_byte, fork_edits_are_set_eof,
     fork_edits_are_write_fork,
 };
 pub use moving::{Moving, counts_moved, patch_move};
-pub use new_items::NewPlace;
+pub use new_items::{FoundPlace, NewPlace};
 pub use rekeying::Rekeying;
 pub use renaming::patch_rename;
 pub use settings::{
-    ItemSettings, patch_set_f_info, patch_set_file_info, patch_set_folder_info, patch_set_lock,
+    FoundFolder, ItemSettings, patch_set_f_info, patch_set_file_info, patch_set_folder_info,
+    patch_set_lock,
 };
 pub use valences::FolderPlace;
 pub use volume::{ForkRefusal, ForkVolume};

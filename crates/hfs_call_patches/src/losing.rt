@@ -16,8 +16,9 @@ use crate::overflow::shorten_over;
 use crate::records::{fork_of, kind_of};
 use crate::room::block_count;
 use crate::settling::settle_fork;
-use crate::volume::{ForkVolume, Resizing, Settled};
-use hfs_blocks::{Blocks, Patch};
+use crate::volume::{ForkVolume, Overlay, Resizing, Settled};
+use hfs_blocks::Blocks;
+use hfs_btree_edits::PatchNodes;
 use hfs_fields::{Extent, Mdb};
 use hfs_model::BlockSize;
 use std::alloc::{AllocError, Global};
@@ -37,8 +38,7 @@ fn free_with(mdb: &Mdb, lost: &[Extent]) -> u16
 pub(crate) fn lose<B: Blocks, Z: Blocks>(
     alloc: Global,
     volume: &ForkVolume<'_, B>,
-    below: &Z,
-    patch: Patch,
+    overlay: Overlay<'_, Z>,
     resizing: &Resizing<'_>,
     block_size: BlockSize,
     lost: &[Extent],
@@ -49,8 +49,8 @@ pub(crate) fn lose<B: Blocks, Z: Blocks>(
     requires found { IsFoundIn (B.blocks volume.now.blocks.now) resizing.now.found.now }
     requires few { volume.now.mdb.now.allocation_blocks ≤ 65535 }
     requires size { block_size ≡ volume.now.mdb.now.allocation_block_size }
-    requires same { Z.total below.now ≡ B.total volume.now.blocks.now }
-    requires inside { AreWithin (changes patch) (Z.total below.now) }
+    requires same { Z.total overlay.below.now ≡ B.total volume.now.blocks.now }
+    requires inside { AreWithin (changes overlay.patch) (Z.total overlay.below.now) }
     requires lost { lost.now ≡ surplus count (extents_of (B.blocks volume.now.blocks.now)
         resizing.now.fork resizing.now.found.now.file) }
     requires fewer { count ≤ length (blocks_of (B.blocks volume.now.blocks.now) resizing.now.fork
@@ -59,21 +59,25 @@ pub(crate) fn lose<B: Blocks, Z: Blocks>(
     requires beside { KeepsBesideBlocks (block_numbers volume.now.mdb.now
         (cut count (extents_of (B.blocks volume.now.blocks.now) resizing.now.fork
         resizing.now.found.now.file)))
-        (B.blocks volume.now.blocks.now) (patched (Z.blocks below.now) patch) }
+        (B.blocks volume.now.blocks.now) (patched (Z.blocks overlay.below.now) overlay.patch) }
     ensures { IfOk result (HasSettled resizing.now.found.now resizing.now.fork resizing.now.length
         resizing.now.moment (cut count (extents_of (B.blocks volume.now.blocks.now) resizing.now.fork
         resizing.now.found.now.file)) (B.total volume.now.blocks.now)
-        (B.blocks volume.now.blocks.now) (Z.blocks below.now) patch) }
+        (B.blocks volume.now.blocks.now) (Z.blocks overlay.entry.below.now)
+        overlay.entry.patch) }
 {
     let found = resizing.found;
     let mdb = volume.mdb;
-    let bits = release_over(below, mdb, patch, lost)?;
+    let below = overlay.below;
+    let bits = release_over(below, mdb, overlay.patch, lost)?;
     let first = fork_of(resizing.fork, &found.file).extents;
     let shorter = shorten_over(
         alloc,
-        below,
-        volume.extents,
-        bits,
+        PatchNodes {
+            below,
+            runs: volume.extents,
+            patch: bits,
+        },
         found.file.id,
         kind_of(resizing.fork),
         &first,
@@ -83,8 +87,10 @@ pub(crate) fn lose<B: Blocks, Z: Blocks>(
     let settled = settle_fork(
         alloc,
         volume,
-        below,
-        shorter.patch,
+        Overlay {
+            below,
+            patch: shorter.patch,
+        },
         resizing,
         block_size,
         shorter.fork.first,

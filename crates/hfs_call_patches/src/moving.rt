@@ -12,7 +12,8 @@ ghost use Rattle.hfs_call_patches.specs.Patches.{Patches};
 use crate::catalog_patch::close_catalog;
 use crate::rekeying::{Rekeying, open_rekeyed};
 use crate::valences::{FolderPlace, set_valences};
-use hfs_blocks::{Blocks, Patch, Run};
+use crate::volume::ForkVolume;
+use hfs_blocks::{Blocks, Patch};
 use hfs_fields::Mdb;
 use std::alloc::{AllocError, Global};
 
@@ -52,21 +53,23 @@ pub fn counts_moved(mdb: &Mdb, moving: &Moving, now: u32) -> Mdb
 /// The patch that moves an item to another folder. Fails only when out of memory.
 pub fn patch_move<B: Blocks>(
     alloc: Global,
-    below: &B,
-    runs: &[Run],
-    mdb: &Mdb,
+    volume: &ForkVolume<'_, B>,
     moving: &Moving,
     now: u32,
 ) -> Result<Patch, AllocError>
-    requires sound { AreBlocksSound (B.total below.now) (B.blocks below.now) }
-    requires file { IsCatalogFile runs.now (B.total below.now) (B.blocks below.now) }
-    requires mdb { mdb.now ≡ mdb_in (B.blocks below.now) }
-    requires can { CanMove (B.blocks below.now) moving.now }
-    ensures makes { IfOk result (Patches (B.blocks below.now) (MakesMove moving.now now)) }
-    ensures within { IfOk result (λ patch. AreWithin (changes patch) (B.total below.now)) }
+    requires sound { AreBlocksSound (B.total volume.now.blocks.now)
+        (B.blocks volume.now.blocks.now) }
+    requires file { IsCatalogFile volume.now.catalog.now (B.total volume.now.blocks.now)
+        (B.blocks volume.now.blocks.now) }
+    requires mdb { volume.now.mdb.now ≡ mdb_in (B.blocks volume.now.blocks.now) }
+    requires can { CanMove (B.blocks volume.now.blocks.now) moving.now }
+    ensures makes { IfOk result
+        (Patches (B.blocks volume.now.blocks.now) (MakesMove moving.now now)) }
+    ensures within { IfOk result (λ patch.
+        AreWithin (changes patch) (B.total volume.now.blocks.now)) }
 {
-    let counts = counts_moved(mdb, moving, now);
-    let mut nodes = open_rekeyed(alloc, below, runs, &moving.item)?;
+    let counts = counts_moved(volume.mdb, moving, now);
+    let mut nodes = open_rekeyed(alloc, volume.blocks, volume.catalog, &moving.item)?;
     set_valences(alloc, &mut nodes, &moving.left, &moving.entered, now)?;
-    close_catalog(below, runs, nodes, &counts)
+    close_catalog(volume.blocks, volume.catalog, nodes, &counts)
 }

@@ -20,67 +20,73 @@ pub struct NewPlace {
     pub children: u16,
 }
 
-/// Gives the folder, whose record is at `folder_at`, one more child, and then adds the record of a new file with this ID to the
-/// catalog. It is in this order since adding a record may move others. After `AllocError` nothing is known of the nodes.
+/// Where a new item goes, and where the record of its folder is.
+#[derive(Clone, Copy)]
+pub struct FoundPlace {
+    pub place: NewPlace,
+    pub folder_at: RecordPlace,
+}
+
+/// Gives the folder one more child, and then adds the record of a new file with this ID to the catalog. It is in this order since
+/// adding a record may move others. After `AllocError` nothing is known of the nodes.
 pub(crate) fn put_file<N: NodesMut>(
     alloc: Global,
     nodes: &mut N,
     dir: u32,
-    place: &NewPlace,
-    folder_at: &RecordPlace,
+    found: &FoundPlace,
     id: u32,
     now: u32,
 ) -> Result<(), AllocError>
     requires tree { IsCatalogTree (N.nodes nodes.old) }
-    requires place { TakesItem dir place.now (N.nodes nodes.old) }
-    requires at { IsPlaceOf cat_keys (N.nodes nodes.old) place.now.folder folder_at.now }
+    requires place { TakesItem dir found.now.place (N.nodes nodes.old) }
+    requires at { IsPlaceOf cat_keys (N.nodes nodes.old)
+        found.now.place.folder found.now.folder_at }
     requires room { HasRoom (N.nodes nodes.old) }
-    requires short { place.now.children + 1 < 2 ^ 16 }
-    ensures put { Edits result (PutsFile id dir place.now now) N.nodes nodes.old nodes.new }
+    requires short { found.now.place.children + 1 < 2 ^ 16 }
+    ensures put { Edits result (PutsFile id dir found.now.place now) N.nodes nodes.old nodes.new }
     ensures kept { OnOk result (N.kept nodes.new ≡ N.kept nodes.old) }
 {
     set_valence_at(
         alloc,
         nodes,
-        &place.folder,
-        place.children + 1,
+        &found.place.folder,
+        found.place.children + 1,
         now,
-        folder_at,
+        &found.folder_at,
     )?;
     let file = FileRecord::new(id, now);
-    add_file(alloc, nodes, dir, &place.name, &file)?;
+    add_file(alloc, nodes, dir, &found.place.name, &file)?;
     Ok(())
 }
 
-/// Gives the folder, whose record is at `folder_at`, one more child, and then adds the records of a new folder with this ID and
-/// of its thread to the catalog. It is in this order since adding a record may move others. After `AllocError` nothing is known
-/// of the nodes.
+/// Gives the folder one more child, and then adds the records of a new folder with this ID and of its thread to the catalog. It
+/// is in this order since adding a record may move others. After `AllocError` nothing is known of the nodes.
 pub(crate) fn put_folder<N: NodesMut>(
     alloc: Global,
     nodes: &mut N,
     dir: u32,
-    place: &NewPlace,
-    folder_at: &RecordPlace,
+    found: &FoundPlace,
     id: u32,
     now: u32,
 ) -> Result<(), AllocError>
     requires tree { IsCatalogTree (N.nodes nodes.old) }
-    requires place { TakesFolder id dir place.now (N.nodes nodes.old) }
-    requires at { IsPlaceOf cat_keys (N.nodes nodes.old) place.now.folder folder_at.now }
+    requires place { TakesFolder id dir found.now.place (N.nodes nodes.old) }
+    requires at { IsPlaceOf cat_keys (N.nodes nodes.old)
+        found.now.place.folder found.now.folder_at }
     requires room { HasRoomForTwo (N.nodes nodes.old) }
-    requires short { place.now.children + 1 < 2 ^ 16 }
-    ensures put { Edits result (PutsFolder id dir place.now now) N.nodes nodes.old nodes.new }
+    requires short { found.now.place.children + 1 < 2 ^ 16 }
+    ensures put { Edits result (PutsFolder id dir found.now.place now) N.nodes nodes.old nodes.new }
     ensures kept { OnOk result (N.kept nodes.new ≡ N.kept nodes.old) }
 {
     set_valence_at(
         alloc,
         nodes,
-        &place.folder,
-        place.children + 1,
+        &found.place.folder,
+        found.place.children + 1,
         now,
-        folder_at,
+        &found.folder_at,
     )?;
     let folder = DirRecord::new(id, now);
-    add_dir(alloc, nodes, dir, &place.name, &folder)?;
+    add_dir(alloc, nodes, dir, &found.place.name, &folder)?;
     Ok(())
 }

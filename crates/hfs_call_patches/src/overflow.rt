@@ -1,11 +1,9 @@
 //! The records of a fork in the extents tree, over a patch of a volume's blocks.
 
 ghost use Rattle.std.specs.Prelude.{◌≡◌, ◌*◌, ◌<◌, ◌≤◌, ◌^◌, length, IfOk};
-ghost use Rattle.std.specs.List.{All, flat_map};
-ghost use Rattle.hfs_blocks.specs.Blocks.{run_of, AreRunsWithin};
+ghost use Rattle.std.specs.List.{All};
 ghost use Rattle.hfs_blocks.specs.Layers.{changes, AreWithin};
 ghost use Rattle.hfs_btree.specs.Header.{header_in};
-ghost use Rattle.hfs_btree.specs.Sound.{IsDistinct};
 ghost use Rattle.hfs_space.specs.Extents.{AreExtentsWithin, block_total, fork_byte};
 ghost use Rattle.hfs_space.specs.TreeKeys.{IsExtentsTree, extents_through};
 ghost use Rattle.hfs_record_edits.specs.Whole.{IsWhole};
@@ -13,7 +11,7 @@ ghost use Rattle.hfs_record_edits.specs.Growing.{HasRoomFor};
 ghost use Rattle.hfs_call_patches.specs.Patches.{patched_nodes};
 ghost use Rattle.hfs_call_patches.specs.Overflow.{GivesGrownOver, GivesShortOver, KeepsBesideRuns};
 
-use hfs_blocks::{Blocks, Patch, Run};
+use hfs_blocks::{Blocks, Patch};
 use hfs_btree_edits::PatchNodes;
 use hfs_fields::Extent;
 use hfs_record_edits::{NodesWanted, ShortFork, lengthen_fork, shorten_fork};
@@ -35,40 +33,37 @@ pub(crate) struct Shortened {
     pub patch: Patch,
 }
 
-/// Adds blocks to a fork, in the extents tree whose nodes lie in these runs, over a patch. The only error besides too few nodes
-/// is running out of memory.
+/// Adds blocks to a fork, in the extents tree that has these nodes. The only error besides too few nodes is running out of memory.
 pub(crate) fn lengthen_over<B: Blocks>(
     alloc: Global,
-    below: &B,
-    runs: &[Run],
-    patch: Patch,
+    mut nodes: PatchNodes<'_, B>,
     file: u32,
     fork: ForkKind,
     first: &[Extent; 3],
     pieces: &[Extent],
 ) -> Result<Result<Lengthened, NodesWanted>, AllocError>
-    requires within { AreRunsWithin runs.now (B.total below.now) }
-    requires different { IsDistinct (flat_map run_of runs.now) }
-    requires inside { AreWithin (changes patch) (B.total below.now) }
-    requires tree { IsExtentsTree (patched_nodes (B.blocks below.now) patch runs.now) }
+    requires tree { IsExtentsTree
+        (patched_nodes (B.blocks nodes.below.now) nodes.patch nodes.runs.now) }
     requires whole { IsWhole file (fork_byte fork) first.now
-        (patched_nodes (B.blocks below.now) patch runs.now) }
+        (patched_nodes (B.blocks nodes.below.now) nodes.patch nodes.runs.now) }
     requires some { All (λ piece. 0 < piece.count) pieces.now }
     requires inside_volume { AreExtentsWithin 65535 pieces.now }
-    requires few { HasRoomFor (extents_through (patched_nodes (B.blocks below.now) patch runs.now)
+    requires few { HasRoomFor (extents_through
+        (patched_nodes (B.blocks nodes.below.now) nodes.patch nodes.runs.now)
         file fork first.now) pieces.now }
-    requires small { 512 * (header_in (patched_nodes (B.blocks below.now) patch runs.now)).nodes
-        < 2 ^ 32 }
-    requires in_file { (header_in (patched_nodes (B.blocks below.now) patch runs.now)).nodes
-        ≤ length (patched_nodes (B.blocks below.now) patch runs.now) }
+    requires small { 512 * (header_in
+        (patched_nodes (B.blocks nodes.below.now) nodes.patch nodes.runs.now)).nodes < 2 ^ 32 }
+    requires in_file { (header_in
+        (patched_nodes (B.blocks nodes.below.now) nodes.patch nodes.runs.now)).nodes
+        ≤ length (patched_nodes (B.blocks nodes.below.now) nodes.patch nodes.runs.now) }
     ensures grown { IfOk result (GivesGrownOver file fork first.now pieces.now
-        (B.blocks below.now) runs.now patch) }
+        (B.blocks nodes.entry.below.now) nodes.entry.runs.now nodes.entry.patch) }
     ensures beside { IfOk result (λ answer. IfOk answer (λ grown.
-        KeepsBesideRuns runs.now (B.blocks below.now) patch grown.patch)) }
+        KeepsBesideRuns nodes.entry.runs.now (B.blocks nodes.entry.below.now)
+        nodes.entry.patch grown.patch)) }
     ensures inside { IfOk result (λ answer. IfOk answer (λ grown.
-        AreWithin (changes grown.patch) (B.total below.now))) }
+        AreWithin (changes grown.patch) (B.total nodes.entry.below.now))) }
 {
-    let mut nodes = PatchNodes { below, runs, patch };
     match lengthen_fork(alloc, &mut nodes, file, fork, first, pieces)? {
         Ok(first) => Ok(Ok(Lengthened {
             first,
@@ -78,35 +73,33 @@ pub(crate) fn lengthen_over<B: Blocks>(
     }
 }
 
-/// Cuts a fork to its first `count` blocks, in the extents tree whose nodes lie in these runs, over a patch. Fails only when out
-/// of memory.
+/// Cuts a fork to its first `count` blocks, in the extents tree that has these nodes. Fails only when out of memory.
 pub(crate) fn shorten_over<B: Blocks>(
     alloc: Global,
-    below: &B,
-    runs: &[Run],
-    patch: Patch,
+    mut nodes: PatchNodes<'_, B>,
     file: u32,
     fork: ForkKind,
     first: &[Extent; 3],
     count: u16,
 ) -> Result<Shortened, AllocError>
-    requires within { AreRunsWithin runs.now (B.total below.now) }
-    requires different { IsDistinct (flat_map run_of runs.now) }
-    requires inside { AreWithin (changes patch) (B.total below.now) }
-    requires tree { IsExtentsTree (patched_nodes (B.blocks below.now) patch runs.now) }
+    requires tree { IsExtentsTree
+        (patched_nodes (B.blocks nodes.below.now) nodes.patch nodes.runs.now) }
     requires whole { IsWhole file (fork_byte fork) first.now
-        (patched_nodes (B.blocks below.now) patch runs.now) }
+        (patched_nodes (B.blocks nodes.below.now) nodes.patch nodes.runs.now) }
     requires in_volume { AreExtentsWithin 65535 (extents_through
-        (patched_nodes (B.blocks below.now) patch runs.now) file fork first.now) }
+        (patched_nodes (B.blocks nodes.below.now) nodes.patch nodes.runs.now)
+        file fork first.now) }
     requires few { block_total (extents_through
-        (patched_nodes (B.blocks below.now) patch runs.now) file fork first.now) ≤ 65535 }
+        (patched_nodes (B.blocks nodes.below.now) nodes.patch nodes.runs.now)
+        file fork first.now) ≤ 65535 }
     ensures short { IfOk result (GivesShortOver file fork first.now count
-        (B.blocks below.now) runs.now patch) }
+        (B.blocks nodes.entry.below.now) nodes.entry.runs.now nodes.entry.patch) }
     ensures beside { IfOk result (λ short.
-        KeepsBesideRuns runs.now (B.blocks below.now) patch short.patch) }
-    ensures inside { IfOk result (λ short. AreWithin (changes short.patch) (B.total below.now)) }
+        KeepsBesideRuns nodes.entry.runs.now (B.blocks nodes.entry.below.now)
+        nodes.entry.patch short.patch) }
+    ensures inside { IfOk result (λ short.
+        AreWithin (changes short.patch) (B.total nodes.entry.below.now)) }
 {
-    let mut nodes = PatchNodes { below, runs, patch };
     let fork = shorten_fork(alloc, &mut nodes, file, fork, first, count)?;
     Ok(Shortened {
         fork,

@@ -12,7 +12,8 @@ ghost use Rattle.hfs_call_patches.specs.Settings.{HasSetItem, IsOfKindUnder};
 ghost use Rattle.hfs_call_patches.specs.Patches.{GivesPatch};
 
 use crate::catalog_patch::{close_catalog, open_catalog};
-use hfs_blocks::{Blocks, Patch, Run};
+use crate::volume::ForkVolume;
+use hfs_blocks::{Blocks, Patch};
 use hfs_btree_edits::RecordPlace;
 use hfs_catalog::ItemRecord;
 use hfs_fields::{CatKey, Mdb};
@@ -23,22 +24,27 @@ use std::alloc::{AllocError, Global};
 /// counts into the master directory block. It has that block and one node. Fails only when out of memory.
 pub(crate) fn patch_record<B: Blocks>(
     alloc: Global,
-    below: &B,
-    runs: &[Run],
+    volume: &ForkVolume<'_, B>,
     key: &CatKey,
     place: &RecordPlace,
     item: &ItemRecord,
     counts: &Mdb,
 ) -> Result<Patch, AllocError>
-    requires sound { AreBlocksSound (B.total below.now) (B.blocks below.now) }
-    requires nodes { IsCatalogFile runs.now (B.total below.now) (B.blocks below.now) }
+    requires sound { AreBlocksSound (B.total volume.now.blocks.now)
+        (B.blocks volume.now.blocks.now) }
+    requires nodes { IsCatalogFile volume.now.catalog.now (B.total volume.now.blocks.now)
+        (B.blocks volume.now.blocks.now) }
     requires name { IsTrue (is_item_name key.now.name) }
-    requires place { IsPlaceOf cat_keys (catalog_nodes (B.blocks below.now)) key.now place.now }
-    requires there { IsOfKindUnder key.now item.now (catalog_in (B.blocks below.now)) }
-    ensures set { GivesPatch result (B.blocks below.now) (HasSetItem key.now item.now counts.now) }
-    ensures within { IfOk result (λ patch. AreWithin (changes patch) (B.total below.now)) }
+    requires place { IsPlaceOf cat_keys (catalog_nodes (B.blocks volume.now.blocks.now))
+        key.now place.now }
+    requires there { IsOfKindUnder key.now item.now
+        (catalog_in (B.blocks volume.now.blocks.now)) }
+    ensures set { GivesPatch result (B.blocks volume.now.blocks.now)
+        (HasSetItem key.now item.now counts.now) }
+    ensures within { IfOk result (λ patch.
+        AreWithin (changes patch) (B.total volume.now.blocks.now)) }
 {
-    let mut nodes = open_catalog(alloc, below, runs);
+    let mut nodes = open_catalog(alloc, volume.blocks, volume.catalog);
     set_record_at(alloc, &mut nodes, key, item, place)?;
-    close_catalog(below, runs, nodes, counts)
+    close_catalog(volume.blocks, volume.catalog, nodes, counts)
 }

@@ -12,27 +12,34 @@ ghost use Rattle.hfs_call_patches.specs.Patches.{Patches};
 use crate::catalog_patch::close_catalog;
 use crate::rekeying::{Rekeying, open_rekeyed};
 use crate::settings::at_time;
-use hfs_blocks::{Blocks, Patch, Run};
-use hfs_fields::Mdb;
+use crate::volume::ForkVolume;
+use hfs_blocks::{Blocks, Patch};
 use std::alloc::{AllocError, Global};
 
 /// The patch that puts the item that Rename chooses under its new name. Fails only when out of memory.
 pub fn patch_rename<B: Blocks>(
     alloc: Global,
-    below: &B,
-    runs: &[Run],
-    mdb: &Mdb,
+    volume: &ForkVolume<'_, B>,
     item: &Rekeying,
     now: u32,
 ) -> Result<Patch, AllocError>
-    requires sound { AreBlocksSound (B.total below.now) (B.blocks below.now) }
-    requires file { IsCatalogFile runs.now (B.total below.now) (B.blocks below.now) }
-    requires mdb { mdb.now ≡ mdb_in (B.blocks below.now) }
-    requires chosen { IsItemToRename (B.blocks below.now) item.now }
-    requires can { CanRekey item.now (catalog_nodes (B.blocks below.now)) }
-    ensures makes { IfOk result (Patches (B.blocks below.now) (MakesRename item.now now)) }
-    ensures within { IfOk result (λ patch. AreWithin (changes patch) (B.total below.now)) }
+    requires sound { AreBlocksSound (B.total volume.now.blocks.now)
+        (B.blocks volume.now.blocks.now) }
+    requires file { IsCatalogFile volume.now.catalog.now (B.total volume.now.blocks.now)
+        (B.blocks volume.now.blocks.now) }
+    requires mdb { volume.now.mdb.now ≡ mdb_in (B.blocks volume.now.blocks.now) }
+    requires chosen { IsItemToRename (B.blocks volume.now.blocks.now) item.now }
+    requires can { CanRekey item.now (catalog_nodes (B.blocks volume.now.blocks.now)) }
+    ensures makes { IfOk result
+        (Patches (B.blocks volume.now.blocks.now) (MakesRename item.now now)) }
+    ensures within { IfOk result (λ patch.
+        AreWithin (changes patch) (B.total volume.now.blocks.now)) }
 {
-    let nodes = open_rekeyed(alloc, below, runs, item)?;
-    close_catalog(below, runs, nodes, &at_time(mdb, now))
+    let nodes = open_rekeyed(alloc, volume.blocks, volume.catalog, item)?;
+    close_catalog(
+        volume.blocks,
+        volume.catalog,
+        nodes,
+        &at_time(volume.mdb, now),
+    )
 }

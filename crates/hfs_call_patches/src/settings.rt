@@ -12,12 +12,25 @@ ghost use Rattle.hfs_call_patches.specs.TreeFiles.{IsCatalogFile};
 ghost use Rattle.hfs_call_patches.specs.Settings.{IsFileChosenBy, IsFolderChosenBy};
 ghost use Rattle.hfs_call_patches.specs.SettingPatches.{SetsFInfo, SetsFileInfo, SetsFolderInfo, SetsLock};
 
+use crate::choosing::FoundFile;
 use crate::recorded::patch_record;
-use hfs_blocks::{Blocks, Patch, Run};
+use crate::volume::ForkVolume;
+use hfs_blocks::{Blocks, Patch};
 use hfs_btree_edits::RecordPlace;
 use hfs_catalog::ItemRecord;
 use hfs_fields::{CatKey, DirRecord, FileRecord, Mdb};
 use std::alloc::{AllocError, Global};
+
+/// A folder of the catalog, and where its record is.
+#[derive(Clone, Copy)]
+pub struct FoundFolder {
+    /// The key of its record.
+    pub key: CatKey,
+    /// Its record.
+    pub folder: DirRecord,
+    /// The place of its record in the catalog.
+    pub place: RecordPlace,
+}
 
 /// What SetCatInfo sets: three dates, in seconds since midnight, 1 January 1904, and all Finder bytes.
 #[derive(Clone, Copy)]
@@ -49,62 +62,63 @@ pub(crate) fn at_time(mdb: &Mdb, now: u32) -> Mdb
     }
 }
 
-/// The patch that gives the file that SetFInfo chooses, with this key and this record at this place, new first Finder bytes.
-/// Fails only when out of memory.
+/// The patch that gives the file that SetFInfo chooses new first Finder bytes. Fails only when out of memory.
 pub fn patch_set_f_info<B: Blocks>(
     alloc: Global,
-    below: &B,
-    runs: &[Run],
-    mdb: &Mdb,
-    key: &CatKey,
-    file: &FileRecord,
-    place: &RecordPlace,
+    volume: &ForkVolume<'_, B>,
+    found: &FoundFile,
     info: &[u8; 16],
     now: u32,
 ) -> Result<Patch, AllocError>
-    requires sound { AreBlocksSound (B.total below.now) (B.blocks below.now) }
-    requires nodes { IsCatalogFile runs.now (B.total below.now) (B.blocks below.now) }
-    requires mdb { mdb.now ≡ mdb_in (B.blocks below.now) }
-    requires chosen { IsFileChosenBy to_set_f_info (B.blocks below.now) key.now file.now }
-    requires place { IsPlaceOf cat_keys (catalog_nodes (B.blocks below.now)) key.now place.now }
-    ensures makes { SetsFInfo result key.now file.now info.now now (B.blocks below.now) }
-    ensures within { IfOk result (λ patch. AreWithin (changes patch) (B.total below.now)) }
+    requires sound { AreBlocksSound (B.total volume.now.blocks.now)
+        (B.blocks volume.now.blocks.now) }
+    requires nodes { IsCatalogFile volume.now.catalog.now (B.total volume.now.blocks.now)
+        (B.blocks volume.now.blocks.now) }
+    requires mdb { volume.now.mdb.now ≡ mdb_in (B.blocks volume.now.blocks.now) }
+    requires chosen { IsFileChosenBy to_set_f_info (B.blocks volume.now.blocks.now)
+        found.now.key found.now.file }
+    requires place { IsPlaceOf cat_keys (catalog_nodes (B.blocks volume.now.blocks.now))
+        found.now.key found.now.place }
+    ensures makes { SetsFInfo result found.now.key found.now.file info.now now
+        (B.blocks volume.now.blocks.now) }
+    ensures within { IfOk result (λ patch.
+        AreWithin (changes patch) (B.total volume.now.blocks.now)) }
 {
     let changed = FileRecord {
         finder_info: *info,
-        ..*file
+        ..found.file
     };
     patch_record(
         alloc,
-        below,
-        runs,
-        key,
-        place,
+        volume,
+        &found.key,
+        &found.place,
         &ItemRecord::File(changed),
-        &at_time(mdb, now),
+        &at_time(volume.mdb, now),
     )
 }
 
-/// The patch that gives the file that SetCatInfo chooses, with this key and this record at this place, new dates and Finder
-/// bytes. Fails only when out of memory.
+/// The patch that gives the file that SetCatInfo chooses new dates and Finder bytes. Fails only when out of memory.
 pub fn patch_set_file_info<B: Blocks>(
     alloc: Global,
-    below: &B,
-    runs: &[Run],
-    mdb: &Mdb,
-    key: &CatKey,
-    file: &FileRecord,
-    place: &RecordPlace,
+    volume: &ForkVolume<'_, B>,
+    found: &FoundFile,
     settings: &ItemSettings,
     now: u32,
 ) -> Result<Patch, AllocError>
-    requires sound { AreBlocksSound (B.total below.now) (B.blocks below.now) }
-    requires nodes { IsCatalogFile runs.now (B.total below.now) (B.blocks below.now) }
-    requires mdb { mdb.now ≡ mdb_in (B.blocks below.now) }
-    requires chosen { IsFileChosenBy to_set_cat_info (B.blocks below.now) key.now file.now }
-    requires place { IsPlaceOf cat_keys (catalog_nodes (B.blocks below.now)) key.now place.now }
-    ensures makes { SetsFileInfo result key.now file.now settings.now now (B.blocks below.now) }
-    ensures within { IfOk result (λ patch. AreWithin (changes patch) (B.total below.now)) }
+    requires sound { AreBlocksSound (B.total volume.now.blocks.now)
+        (B.blocks volume.now.blocks.now) }
+    requires nodes { IsCatalogFile volume.now.catalog.now (B.total volume.now.blocks.now)
+        (B.blocks volume.now.blocks.now) }
+    requires mdb { volume.now.mdb.now ≡ mdb_in (B.blocks volume.now.blocks.now) }
+    requires chosen { IsFileChosenBy to_set_cat_info (B.blocks volume.now.blocks.now)
+        found.now.key found.now.file }
+    requires place { IsPlaceOf cat_keys (catalog_nodes (B.blocks volume.now.blocks.now))
+        found.now.key found.now.place }
+    ensures makes { SetsFileInfo result found.now.key found.now.file settings.now now
+        (B.blocks volume.now.blocks.now) }
+    ensures within { IfOk result (λ patch.
+        AreWithin (changes patch) (B.total volume.now.blocks.now)) }
 {
     let (finder_info, extended_finder_info) = halves(&settings.info);
     let changed = FileRecord {
@@ -113,39 +127,39 @@ pub fn patch_set_file_info<B: Blocks>(
         backup: settings.backup,
         finder_info,
         extended_finder_info,
-        ..*file
+        ..found.file
     };
     patch_record(
         alloc,
-        below,
-        runs,
-        key,
-        place,
+        volume,
+        &found.key,
+        &found.place,
         &ItemRecord::File(changed),
-        &at_time(mdb, now),
+        &at_time(volume.mdb, now),
     )
 }
 
-/// The patch that gives the folder that SetCatInfo chooses, with this key and this record at this place, new dates and Finder
-/// bytes. Fails only when out of memory.
+/// The patch that gives the folder that SetCatInfo chooses new dates and Finder bytes. Fails only when out of memory.
 pub fn patch_set_folder_info<B: Blocks>(
     alloc: Global,
-    below: &B,
-    runs: &[Run],
-    mdb: &Mdb,
-    key: &CatKey,
-    folder: &DirRecord,
-    place: &RecordPlace,
+    volume: &ForkVolume<'_, B>,
+    found: &FoundFolder,
     settings: &ItemSettings,
     now: u32,
 ) -> Result<Patch, AllocError>
-    requires sound { AreBlocksSound (B.total below.now) (B.blocks below.now) }
-    requires nodes { IsCatalogFile runs.now (B.total below.now) (B.blocks below.now) }
-    requires mdb { mdb.now ≡ mdb_in (B.blocks below.now) }
-    requires chosen { IsFolderChosenBy to_set_cat_info (B.blocks below.now) key.now folder.now }
-    requires place { IsPlaceOf cat_keys (catalog_nodes (B.blocks below.now)) key.now place.now }
-    ensures makes { SetsFolderInfo result key.now folder.now settings.now now (B.blocks below.now) }
-    ensures within { IfOk result (λ patch. AreWithin (changes patch) (B.total below.now)) }
+    requires sound { AreBlocksSound (B.total volume.now.blocks.now)
+        (B.blocks volume.now.blocks.now) }
+    requires nodes { IsCatalogFile volume.now.catalog.now (B.total volume.now.blocks.now)
+        (B.blocks volume.now.blocks.now) }
+    requires mdb { volume.now.mdb.now ≡ mdb_in (B.blocks volume.now.blocks.now) }
+    requires chosen { IsFolderChosenBy to_set_cat_info (B.blocks volume.now.blocks.now)
+        found.now.key found.now.folder }
+    requires place { IsPlaceOf cat_keys (catalog_nodes (B.blocks volume.now.blocks.now))
+        found.now.key found.now.place }
+    ensures makes { SetsFolderInfo result found.now.key found.now.folder settings.now now
+        (B.blocks volume.now.blocks.now) }
+    ensures within { IfOk result (λ patch.
+        AreWithin (changes patch) (B.total volume.now.blocks.now)) }
 {
     let (finder_info, extended_finder_info) = halves(&settings.info);
     let changed = DirRecord {
@@ -154,51 +168,50 @@ pub fn patch_set_folder_info<B: Blocks>(
         backup: settings.backup,
         finder_info,
         extended_finder_info,
-        ..*folder
+        ..found.folder
     };
     patch_record(
         alloc,
-        below,
-        runs,
-        key,
-        place,
+        volume,
+        &found.key,
+        &found.place,
         &ItemRecord::Folder(changed),
-        &at_time(mdb, now),
+        &at_time(volume.mdb, now),
     )
 }
 
-/// The patch that locks or unlocks the file that SetFLock chooses, with this key and this record at this place. Fails only when
-/// out of memory.
+/// The patch that locks or unlocks the file that SetFLock chooses. Fails only when out of memory.
 pub fn patch_set_lock<B: Blocks>(
     alloc: Global,
-    below: &B,
-    runs: &[Run],
-    mdb: &Mdb,
-    key: &CatKey,
-    file: &FileRecord,
-    place: &RecordPlace,
+    volume: &ForkVolume<'_, B>,
+    found: &FoundFile,
     locked: bool,
     now: u32,
 ) -> Result<Patch, AllocError>
-    requires sound { AreBlocksSound (B.total below.now) (B.blocks below.now) }
-    requires nodes { IsCatalogFile runs.now (B.total below.now) (B.blocks below.now) }
-    requires mdb { mdb.now ≡ mdb_in (B.blocks below.now) }
-    requires chosen { IsFileChosenBy file_to_change (B.blocks below.now) key.now file.now }
-    requires place { IsPlaceOf cat_keys (catalog_nodes (B.blocks below.now)) key.now place.now }
-    ensures makes { SetsLock result locked key.now file.now now (B.blocks below.now) }
-    ensures within { IfOk result (λ patch. AreWithin (changes patch) (B.total below.now)) }
+    requires sound { AreBlocksSound (B.total volume.now.blocks.now)
+        (B.blocks volume.now.blocks.now) }
+    requires nodes { IsCatalogFile volume.now.catalog.now (B.total volume.now.blocks.now)
+        (B.blocks volume.now.blocks.now) }
+    requires mdb { volume.now.mdb.now ≡ mdb_in (B.blocks volume.now.blocks.now) }
+    requires chosen { IsFileChosenBy file_to_change (B.blocks volume.now.blocks.now)
+        found.now.key found.now.file }
+    requires place { IsPlaceOf cat_keys (catalog_nodes (B.blocks volume.now.blocks.now))
+        found.now.key found.now.place }
+    ensures makes { SetsLock result locked found.now.key found.now.file now
+        (B.blocks volume.now.blocks.now) }
+    ensures within { IfOk result (λ patch.
+        AreWithin (changes patch) (B.total volume.now.blocks.now)) }
 {
     let changed = FileRecord {
-        flags: file.flags.with_lock(locked),
-        ..*file
+        flags: found.file.flags.with_lock(locked),
+        ..found.file
     };
     patch_record(
         alloc,
-        below,
-        runs,
-        key,
-        place,
+        volume,
+        &found.key,
+        &found.place,
         &ItemRecord::File(changed),
-        &at_time(mdb, now),
+        &at_time(volume.mdb, now),
     )
 }

@@ -14,43 +14,41 @@ ghost use Rattle.hfs_call_patches.specs.Counts.{counts_with};
 ghost use Rattle.hfs_call_patches.specs.Recorded.{IsFileAt};
 ghost use Rattle.hfs_call_patches.specs.Settling.{Settles};
 
+use crate::choosing::FoundFile;
 use crate::put_counts;
 use crate::recorded_forks::set_file_over;
 use crate::records::{counts_with, file_with};
-use crate::volume::{ForkVolume, Resizing, Settled};
-use hfs_blocks::{Blocks, Patch, Run};
-use hfs_btree_edits::RecordPlace;
-use hfs_fields::{CatKey, Extent, FileRecord, Mdb};
+use crate::volume::{ForkVolume, Overlay, Resizing, Settled};
+use hfs_blocks::{Blocks, Patch};
+use hfs_btree_edits::PatchNodes;
+use hfs_fields::{Extent, FileRecord, Mdb};
 use hfs_model::BlockSize;
 use std::alloc::{AllocError, Global};
 
-/// The patch that puts a file's record in place of the one under this key, and then these counts into the master directory block
+/// The patch that puts a file's record in place of the one that was found, and then these counts into the master directory block
 /// of `blocks`, in which no other byte changes. Fails only when out of memory.
 fn settle<B: Blocks, Z: Blocks>(
     alloc: Global,
     blocks: &B,
-    below: &Z,
-    runs: &[Run],
-    patch: Patch,
-    key: &CatKey,
-    place: &RecordPlace,
+    nodes: PatchNodes<'_, Z>,
+    found: &FoundFile,
     file: &FileRecord,
     counts: &Mdb,
 ) -> Result<Patch, AllocError>
     requires two { 2 < B.total blocks.now }
-    requires same { Z.total below.now ≡ B.total blocks.now }
-    requires within { AreRunsWithin runs.now (Z.total below.now) }
-    requires different { IsDistinct (flat_map run_of runs.now) }
-    requires inside { AreWithin (changes patch) (Z.total below.now) }
-    requires tree { IsCatalogTree (patched_nodes (Z.blocks below.now) patch runs.now) }
-    requires there { IsFileAt (patched_nodes (Z.blocks below.now) patch runs.now) key.now file.now }
-    requires place { IsPlaceOf cat_keys (patched_nodes (Z.blocks below.now) patch runs.now)
-        key.now place.now }
-    ensures settles { IfOk result (Settles key.now file.now counts.now
-        (B.blocks blocks.now) (Z.blocks below.now) runs.now patch) }
-    ensures inside { IfOk result (λ new. AreWithin (changes new) (Z.total below.now)) }
+    requires same { Z.total nodes.below.now ≡ B.total blocks.now }
+    requires tree { IsCatalogTree
+        (patched_nodes (Z.blocks nodes.below.now) nodes.patch nodes.runs.now) }
+    requires there { IsFileAt (patched_nodes (Z.blocks nodes.below.now) nodes.patch nodes.runs.now)
+        found.now.key file.now }
+    requires place { IsPlaceOf cat_keys
+        (patched_nodes (Z.blocks nodes.below.now) nodes.patch nodes.runs.now)
+        found.now.key found.now.place }
+    ensures settles { IfOk result (Settles found.now.key file.now counts.now (B.blocks blocks.now)
+        (Z.blocks nodes.entry.below.now) nodes.entry.runs.now nodes.entry.patch) }
+    ensures inside { IfOk result (λ new. AreWithin (changes new) (Z.total nodes.entry.below.now)) }
 {
-    let mut settled = set_file_over(alloc, below, runs, patch, key, place, file)?;
+    let mut settled = set_file_over(alloc, nodes, found, file)?;
     put_counts(blocks, &mut settled, counts)?;
     Ok(settled)
 }
@@ -60,33 +58,34 @@ fn settle<B: Blocks, Z: Blocks>(
 pub(crate) fn settle_fork<B: Blocks, Z: Blocks>(
     alloc: Global,
     volume: &ForkVolume<'_, B>,
-    below: &Z,
-    patch: Patch,
+    overlay: Overlay<'_, Z>,
     resizing: &Resizing<'_>,
     block_size: BlockSize,
     first: [Extent; 3],
     free: u16,
 ) -> Result<Settled, AllocError>
     requires two { 2 < B.total volume.now.blocks.now }
-    requires same { Z.total below.now ≡ B.total volume.now.blocks.now }
-    requires within { AreRunsWithin volume.now.catalog.now (Z.total below.now) }
+    requires same { Z.total overlay.below.now ≡ B.total volume.now.blocks.now }
+    requires within { AreRunsWithin volume.now.catalog.now (Z.total overlay.below.now) }
     requires different { IsDistinct (flat_map run_of volume.now.catalog.now) }
-    requires inside { AreWithin (changes patch) (Z.total below.now) }
+    requires inside { AreWithin (changes overlay.patch) (Z.total overlay.below.now) }
     requires tree { IsCatalogTree
-        (patched_nodes (Z.blocks below.now) patch volume.now.catalog.now) }
-    requires there { IsFileAt (patched_nodes (Z.blocks below.now) patch volume.now.catalog.now)
+        (patched_nodes (Z.blocks overlay.below.now) overlay.patch volume.now.catalog.now) }
+    requires there { IsFileAt
+        (patched_nodes (Z.blocks overlay.below.now) overlay.patch volume.now.catalog.now)
         resizing.now.found.now.key resizing.now.found.now.file }
     requires place { IsPlaceOf cat_keys
-        (patched_nodes (Z.blocks below.now) patch volume.now.catalog.now)
+        (patched_nodes (Z.blocks overlay.below.now) overlay.patch volume.now.catalog.now)
         resizing.now.found.now.key resizing.now.found.now.place }
     requires small { physical_length block_size resizing.now.length < 2 ^ 32 }
     ensures settles { IfOk result (λ made. Settles resizing.now.found.now.key
         (file_with block_size resizing.now.fork resizing.now.length first resizing.now.moment
         resizing.now.found.now.file) made.counts (B.blocks volume.now.blocks.now)
-        (Z.blocks below.now) volume.now.catalog.now patch made.patch) }
+        (Z.blocks overlay.entry.below.now) volume.now.catalog.now overlay.entry.patch made.patch) }
     ensures counts { IfOk result (λ made.
         made.counts ≡ counts_with free resizing.now.moment volume.now.mdb.now) }
-    ensures inside { IfOk result (λ made. AreWithin (changes made.patch) (Z.total below.now)) }
+    ensures inside { IfOk result (λ made.
+        AreWithin (changes made.patch) (Z.total overlay.entry.below.now)) }
 {
     let found = resizing.found;
     let file = file_with(
@@ -98,16 +97,11 @@ pub(crate) fn settle_fork<B: Blocks, Z: Blocks>(
         &found.file,
     );
     let counts = counts_with(volume.mdb, free, resizing.moment);
-    let patch = settle(
-        alloc,
-        volume.blocks,
-        below,
-        volume.catalog,
-        patch,
-        &found.key,
-        &found.place,
-        &file,
-        &counts,
-    )?;
+    let nodes = PatchNodes {
+        below: overlay.below,
+        runs: volume.catalog,
+        patch: overlay.patch,
+    };
+    let patch = settle(alloc, volume.blocks, nodes, found, &file, &counts)?;
     Ok(Settled { patch, counts })
 }

@@ -7,9 +7,9 @@ ghost use Rattle.hfs_call_patches.specs.Calls.{IsForkVolumeIn, IsFoundIn, Gives,
 ghost use Rattle.hfs_space.specs.Extents.{block_total};
 
 use crate::Change;
-use crate::laying::{Laid, lay_fork};
+use crate::laying::{Laid, Laying, lay_fork};
 use crate::losing::lose;
-use crate::volume::{ForkVolume, Resizing, fork_change};
+use crate::volume::{ForkVolume, Overlay, Resizing, fork_change};
 use hfs_blocks::Blocks;
 use hfs_fields::Extent;
 use hfs_model::BlockSize;
@@ -44,25 +44,24 @@ pub(crate) fn shrink<B: Blocks>(
     let lost = surplus(alloc, &was, u32::from(count))?;
     let mut extents = was;
     cut_all(&mut extents, u32::from(count));
+    let laying = Laying {
+        from: resizing.from.min(resizing.length),
+        end: resizing.length,
+        offset: resizing.offset,
+        bytes: resizing.bytes,
+    };
     let Laid {
         zeros,
         patch,
         written,
-    } = lay_fork(
-        alloc,
-        volume.blocks,
-        volume.mdb,
-        &extents,
-        resizing.from.min(resizing.length),
-        resizing.length,
-        resizing.offset,
-        resizing.bytes,
-    )?;
+    } = lay_fork(alloc, volume, &extents, &laying)?;
     let settled = lose(
         alloc,
         volume,
-        &zeros.over(volume.blocks),
-        patch,
+        Overlay {
+            below: &zeros.over(volume.blocks),
+            patch,
+        },
         resizing,
         block_size,
         &lost,

@@ -1,4 +1,4 @@
-//! A volume in which a fork is changed, and what is made of it.
+//! A volume that a call changes, and what is made of a fork in it.
 
 ghost use Rattle.std.specs.Prelude.{◌≡◌, Some};
 ghost use Rattle.hfs_model.specs.declared.reply.Value.TheVariants as value;
@@ -32,6 +32,13 @@ pub(crate) struct Resizing<'a> {
     pub offset: u32,
     pub bytes: &'a [u8],
     pub moment: u32,
+}
+
+/// A patch in the making, and the blocks that it lies over.
+#[derive(Drop)]
+pub(crate) struct Overlay<'a, B: Blocks> {
+    pub below: &'a B,
+    pub patch: Patch,
 }
 
 /// Why SetEof or WriteFork changes nothing.

@@ -1,6 +1,6 @@
 //! The blocks of a fork that are written.
 
-ghost use Rattle.std.specs.Prelude.{◌≡◌, ◌+◌, ◌-◌, ◌<◌, ◌≤◌, ◌^◌, IfOk};
+ghost use Rattle.std.specs.Prelude.{◌≡◌, ◌+◌, ◌-◌, ◌<◌, ◌≤◌, ◌^◌, length, IfOk};
 ghost use Rattle.std.specs.List.{flat_map};
 ghost use Rattle.hfs_blocks.specs.Blocks.{run_of};
 ghost use Rattle.hfs_space.specs.Extents.{AreExtentsWithin};
@@ -9,8 +9,10 @@ ghost use Rattle.hfs_space.specs.Forks.{HasArea};
 ghost use Rattle.hfs_call_patches.specs.Laid.{AreWritten};
 ghost use Rattle.hfs_call_patches.specs.Written as spec;
 
+use crate::laying::Laying;
+use crate::volume::ForkVolume;
 use hfs_blocks::{Blocks, Run};
-use hfs_fields::{Extent, Mdb};
+use hfs_fields::Extent;
 use hfs_space::{runs_from, tree_runs};
 use std::alloc::{AllocError, Global};
 
@@ -33,27 +35,25 @@ fn last_written(from: u32, end: u32, offset: u32, count: u32) -> u32
     zeros.max(bytes)
 }
 
-/// The runs of the blocks of a fork with these extents, from the first to the last that has one of the zeros, from the byte
-/// `from` up to `end`, or one of the `count` bytes from `offset` on. Fails only when out of memory.
+/// The runs of the blocks of a fork with these extents, from the first to the last that has one of the zeros or of the bytes.
+/// Fails only when out of memory.
 pub(crate) fn written_runs<B: Blocks>(
     alloc: Global,
-    blocks: &B,
-    mdb: &Mdb,
+    volume: &ForkVolume<'_, B>,
     extents: &[Extent],
-    from: u32,
-    end: u32,
-    offset: u32,
-    count: u32,
+    laying: &Laying<'_>,
 ) -> Result<Vec<Run>, AllocError>
-    requires area { HasArea mdb.now (B.total blocks.now) }
-    requires extents { AreExtentsWithin mdb.now.allocation_blocks extents.now }
-    requires order { from ≤ end }
-    requires small { offset + count < 2 ^ 32 }
-    ensures { IfOk result (λ runs. AreWritten (block_numbers mdb.now extents.now)
-        from (end - from) offset count (flat_map run_of runs.items)) }
+    requires area { HasArea volume.now.mdb.now (B.total volume.now.blocks.now) }
+    requires extents { AreExtentsWithin volume.now.mdb.now.allocation_blocks extents.now }
+    requires order { laying.now.from ≤ laying.now.end }
+    requires small { laying.now.offset + length laying.now.bytes.now < 2 ^ 32 }
+    ensures { IfOk result (λ runs. AreWritten (block_numbers volume.now.mdb.now extents.now)
+        laying.now.from (laying.now.end - laying.now.from) laying.now.offset
+        (length laying.now.bytes.now) (flat_map run_of runs.items)) }
 {
-    let first = first_written(from, end, offset, count);
-    let last = last_written(from, end, offset, count);
-    let runs = tree_runs(alloc, blocks, mdb, extents, last)?;
+    let count = laying.bytes.len() as u32;
+    let first = first_written(laying.from, laying.end, laying.offset, count);
+    let last = last_written(laying.from, laying.end, laying.offset, count);
+    let runs = tree_runs(alloc, volume.blocks, volume.mdb, extents, last)?;
     runs_from(alloc, &runs, first / 512)
 }

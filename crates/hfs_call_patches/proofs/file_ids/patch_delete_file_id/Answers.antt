@@ -12,30 +12,30 @@ use Rattle.hfs_call_patches.proofs.file_ids.patch_delete_file_id.Goals as goal
 
 pub drop_file_thread-requires-clause-name : goal.drop_file_thread-requires-clause-name
 drop_file_thread-requires-clause-name g c =
-    let below = c.args.below.now in
+    let below = c.args.volume.now.blocks.now in
     file_named (g.B.Blocks.total below) (g.B.Blocks.blocks below) c.requires.sound _ c.args.key.now c.args.file.now c.requires.chosen.chosen
 
 pub drop_file_thread-requires-clause-tree : goal.drop_file_thread-requires-clause-tree
 drop_file_thread-requires-clause-tree g c =
-    let below = c.args.below.now in
+    let below = c.args.volume.now.blocks.now in
     tree_open (g.B.Blocks.blocks below) _ c.open_catalog-nodes.ensures.nodes
     (trees_are_sound (g.B.Blocks.total below) (g.B.Blocks.blocks below) c.requires.sound).1
 
 pub drop_file_thread-requires-clause-records : goal.drop_file_thread-requires-clause-records
 drop_file_thread-requires-clause-records g c =
-    let below = c.args.below.now in
+    let below = c.args.volume.now.blocks.now in
     records_open (g.B.Blocks.blocks below) _ c.open_catalog-nodes.ensures.nodes (g.B.Blocks.total below) c.requires.sound
 
 pub drop_file_thread-requires-clause-there : goal.drop_file_thread-requires-clause-there
 drop_file_thread-requires-clause-there g c =
-    let below = c.args.below.now in
+    let below = c.args.volume.now.blocks.now in
     body_open (g.B.Blocks.blocks below) _ c.open_catalog-nodes.ensures.nodes (IsBody is_file) c.args.key.now
     (file_under (g.B.Blocks.total below) (g.B.Blocks.blocks below) c.requires.sound _ c.args.key.now c.args.file.now c.requires.chosen.chosen choice_stands)
 
 pub returns-clause-makes : goal.returns-clause-makes
 returns-clause-makes g c =
-    let below = c.args.below.now in
+    let below = c.args.volume.now.blocks.now in
     if_ok c.close_catalog.result _ _
-    (λ patch is. delete_made (g.B.Blocks.total below) c.args.now (g.B.Blocks.blocks below) (over (changes patch) (g.B.Blocks.blocks below)) c.requires.sound c.args.mdb.now c.at_time.result
+    (λ patch is. delete_made (g.B.Blocks.total below) c.args.now (g.B.Blocks.blocks below) (over (changes patch) (g.B.Blocks.blocks below)) c.requires.sound c.args.volume.now.mdb.now c.at_time.result
     c.requires.mdb c.at_time.ensures c.args.key.now c.args.file.now _ _ c.open_catalog-nodes.ensures.nodes is delete_file_id_makes c.in_ok-drop_file_thread.ensures.went)
     c.close_catalog.ensures.catalog

@@ -13,11 +13,12 @@ claim_over-requires-clause-bitmap g c = edits.bitmap_there _ _ _ _ _ c.requires.
 pub claim_over-requires-clause-extents : goal.claim_over-requires-clause-extents
 claim_over-requires-clause-extents g c = c.requires.free.within
 
-pub lengthen_over-requires-clause-within : goal.lengthen_over-requires-clause-within
-lengthen_over-requires-clause-within g c = edits.extents_in _ _ _ _ _ c.requires.volume _ c.requires.same
-
-pub lengthen_over-requires-clause-different : goal.lengthen_over-requires-clause-different
-lengthen_over-requires-clause-different g c = edits.extents_once _ _ _ _ _ c.requires.volume
+pub invariant_of-lengthen_over : goal.invariant_of-lengthen_over
+invariant_of-lengthen_over g c = record {
+  within = edits.extents_in _ _ _ _ _ c.requires.volume _ c.requires.same;
+  different = edits.extents_once _ _ _ _ _ c.requires.volume;
+  inside = c.in_ok-bits.ensures.inside;
+}
 
 pub lengthen_over-requires-clause-tree : goal.lengthen_over-requires-clause-tree
 lengthen_over-requires-clause-tree g c = edits.tree_of _ _ _ _ _ c.requires.volume _ (edits.first_nodes _ _ _ _ _ c.requires.volume _ c.args.resizing.now.fork _ c.requires.found.is _ _ c.requires.free _ (edits.has_grown (g.B.Blocks.blocks c.args.volume.now.blocks.now) c.args.resizing.now.fork c.args.resizing.now.found.now.file c.args.pieces.now c.requires.made) _ c.requires.beside _ c.in_ok-bits.ensures.claimed.beside)

@@ -29,8 +29,8 @@ find_growing-requires-clause-bitmap g c = edits.bitmap_there _ _ _ _ _ c.require
 pub find_growing-requires-clause-within : goal.find_growing-requires-clause-within
 find_growing-requires-clause-within g c = subst (AreExtentsWithin 65535) (sym c.requires.was) (within_more _ _ _ c.requires.few (edits.within_of _ _ _ _ _ c.requires.volume _ c.args.resizing.now.fork _ c.requires.found.is))
 
-pub zeros_end-end-requires : goal.zeros_end-end-requires
-zeros_end-end-requires g c = grown.physical_small _ _ _ _ _ c.requires.volume _ c.args.resizing.now.fork _ c.requires.found.is c.args.block_size c.args.resizing.now.length c.args.resizing.now.from c.args.resizing.now.offset _ c.requires.size c.requires.places (grown.few _ _ _ _ _ c.requires.volume _ c.args.resizing.now.fork _ c.requires.found.is c.args.block_size c.args.resizing.now.length c.args.resizing.now.from c.args.resizing.now.offset _ c.requires.size c.requires.places _ c.requires.was c.args.wanted c.requires.wants c.in-Ok.grown (at_ok _ _ _ _ c.in-Ok.is c.in_ok-grown.ensures))
+pub zeros_end-requires : goal.zeros_end-requires
+zeros_end-requires g c = grown.physical_small _ _ _ _ _ c.requires.volume _ c.args.resizing.now.fork _ c.requires.found.is c.args.block_size c.args.resizing.now.length c.args.resizing.now.from c.args.resizing.now.offset _ c.requires.size c.requires.places (grown.few _ _ _ _ _ c.requires.volume _ c.args.resizing.now.fork _ c.requires.found.is c.args.block_size c.args.resizing.now.length c.args.resizing.now.from c.args.resizing.now.offset _ c.requires.size c.requires.places _ c.requires.was c.args.wanted c.requires.wants c.in-Ok.grown (at_ok _ _ _ _ c.in-Ok.is c.in_ok-grown.ensures))
 
 pub lay_fork-requires-clause-area : goal.lay_fork-requires-clause-area
 lay_fork-requires-clause-area g c = grown.area_there _ _ _ _ _ c.requires.volume _ c.args.resizing.now.fork _ c.requires.found.is c.args.block_size c.args.resizing.now.length c.args.resizing.now.from c.args.resizing.now.offset _ c.requires.size c.requires.places
@@ -42,12 +42,12 @@ pub lay_fork-requires-clause-once : goal.lay_fork-requires-clause-once
 lay_fork-requires-clause-once g c = subst (λ (es : List Extent). (b : ℕ) → owners (extent_blocks es) b ≤ 1) (sym c.deref.ensures.value) (grown.all_once _ _ _ _ _ c.requires.volume _ c.args.resizing.now.fork _ c.requires.found.is c.args.block_size c.args.resizing.now.length c.args.resizing.now.from c.args.resizing.now.offset _ c.requires.size c.requires.places _ c.requires.was c.args.wanted c.requires.wants c.in-Ok.grown (at_ok _ _ _ _ c.in-Ok.is c.in_ok-grown.ensures))
 
 pub lay_fork-requires-clause-order : goal.lay_fork-requires-clause-order
-lay_fork-requires-clause-order g c = subst (λ (e : ℕ). c.args.resizing.now.from ≤ e) (sym c.zeros_end-end.ensures) (grown.order _ _ _ _ _ c.requires.volume _ c.args.resizing.now.fork _ c.requires.found.is c.args.block_size c.args.resizing.now.length c.args.resizing.now.from c.args.resizing.now.offset _ c.requires.size c.requires.places _ c.requires.was c.args.wanted c.requires.wants c.in-Ok.grown (at_ok _ _ _ _ c.in-Ok.is c.in_ok-grown.ensures))
+lay_fork-requires-clause-order g c = subst (λ (e : ℕ). c.args.resizing.now.from ≤ e) (sym c.zeros_end.ensures) (grown.order _ _ _ _ _ c.requires.volume _ c.args.resizing.now.fork _ c.requires.found.is c.args.block_size c.args.resizing.now.length c.args.resizing.now.from c.args.resizing.now.offset _ c.requires.size c.requires.places _ c.requires.was c.args.wanted c.requires.wants c.in-Ok.grown (at_ok _ _ _ _ c.in-Ok.is c.in_ok-grown.ensures))
 
 pub lay_fork-requires-clause-fits : goal.lay_fork-requires-clause-fits
 lay_fork-requires-clause-fits g c =
     let numbers = ap (λ (es : List Extent). length (block_numbers c.args.volume.now.mdb.now es)) c.deref.ensures.value in
-    let end = c.zeros_end-end.ensures in
+    let end = c.zeros_end.ensures in
     let fits = grown.fits _ _ _ _ _ c.requires.volume _ c.args.resizing.now.fork _ c.requires.found.is c.args.block_size c.args.resizing.now.length c.args.resizing.now.from c.args.resizing.now.offset _ c.requires.size c.requires.places _ c.requires.was c.args.wanted c.requires.wants c.in-Ok.grown (at_ok _ _ _ _ c.in-Ok.is c.in_ok-grown.ensures) in
     omega (arith, numbers, end, fits)
 
@@ -113,7 +113,7 @@ returns-in-Ok-made g c =
     let below = below_is z.zeros _ old _ c.over.ensures.zeros (ap g.B.Blocks.blocks c.over.ensures.below) in
     let all = c.deref.ensures.value ∙ grown.all_is _ _ _ _ _ c.requires.volume _ c.args.resizing.now.fork _ c.requires.found.is c.args.block_size c.args.resizing.now.length c.args.resizing.now.from c.args.resizing.now.offset _ c.requires.size c.requires.places _ c.requires.was c.args.wanted c.requires.wants c.in-Ok.grown (at_ok _ _ _ _ c.in-Ok.is c.in_ok-grown.ensures) ∙ ap (pieced was) (sym c.deref-2.ensures.value) in
     let gained = at_ok _ _ _ _ c.in-Ok-made.is c.in_ok-made.ensures in
-    let zeros = subst (λ (end : ℕ). AreZeros (mdb_in old).allocation_block_size (fork_of fork f.file).length (length (blocks_of old fork f.file)) len (blocks (mdb_in old).allocation_block_size len) offset (length part) from (end - from)) (sym c.zeros_end-end.ensures)
+    let zeros = subst (λ (end : ℕ). AreZeros (mdb_in old).allocation_block_size (fork_of fork f.file).length (length (blocks_of old fork f.file)) len (blocks (mdb_in old).allocation_block_size len) offset (length part) from (end - from)) (sym c.zeros_end.ensures)
     (grown.zeros_are _ _ _ _ _ c.requires.volume _ c.args.resizing.now.fork _ c.requires.found.is c.args.block_size c.args.resizing.now.length c.args.resizing.now.from c.args.resizing.now.offset _ c.requires.size c.requires.places _ c.requires.was c.args.wanted c.requires.wants c.in-Ok.grown (at_ok _ _ _ _ c.in-Ok.is c.in_ok-grown.ensures)) in
     let laid = laid_for fork f.file len mdb old c.requires.volume.directory c.deref.result.now _ all from _ offset part _ _ z.zeros z.patch below c.in_ok-zeros.ensures.lays c.in_ok-zeros.ensures.written zeros in
     let enough = subst (λ (ps : List Extent). HasNodesFor (records_coming was ps) (extents_nodes old)) c.deref-2.ensures.value gained.enough in

@@ -18,11 +18,12 @@ release_over-requires-clause-extents g c =
     subst (AreExtentsWithin mdb.allocation_blocks) (sym c.requires.lost)
     (within-surplus mdb.allocation_blocks c.args.count _ (edits.within_of _ _ _ _ _ c.requires.volume _ c.args.resizing.now.fork _ c.requires.found.is))
 
-pub shorten_over-requires-clause-within : goal.shorten_over-requires-clause-within
-shorten_over-requires-clause-within g c = edits.extents_in _ _ _ _ _ c.requires.volume _ c.requires.same
-
-pub shorten_over-requires-clause-different : goal.shorten_over-requires-clause-different
-shorten_over-requires-clause-different g c = edits.extents_once _ _ _ _ _ c.requires.volume
+pub invariant_of-shorten_over : goal.invariant_of-shorten_over
+invariant_of-shorten_over g c = record {
+  within = edits.extents_in _ _ _ _ _ c.requires.volume _ c.requires.same;
+  different = edits.extents_once _ _ _ _ _ c.requires.volume;
+  inside = c.in_ok-bits.ensures.inside;
+}
 
 pub shorten_over-requires-clause-tree : goal.shorten_over-requires-clause-tree
 shorten_over-requires-clause-tree g c =

@@ -8,20 +8,20 @@ use Rattle.hfs_call_patches.proofs.recorded.patch_record.Goals as goal
 
 pub set_record_at-requires-clause-tree : goal.set_record_at-requires-clause-tree
 set_record_at-requires-clause-tree g c =
-    let below = c.args.below.now in
+    let below = c.args.volume.now.blocks.now in
     tree_open (g.B.Blocks.blocks below) _ c.open_catalog-nodes.ensures.nodes (trees_are_sound (g.B.Blocks.total below) (g.B.Blocks.blocks below) c.requires.sound).1
 
 pub set_record_at-requires-clause-there : goal.set_record_at-requires-clause-there
 set_record_at-requires-clause-there g c =
-    body_open (g.B.Blocks.blocks c.args.below.now) _ c.open_catalog-nodes.ensures.nodes (IfBody (IsOfKind c.args.item.now)) c.args.key.now c.requires.there
+    body_open (g.B.Blocks.blocks c.args.volume.now.blocks.now) _ c.open_catalog-nodes.ensures.nodes (IfBody (IsOfKind c.args.item.now)) c.args.key.now c.requires.there
 
 pub set_record_at-requires-clause-place : goal.set_record_at-requires-clause-place
 set_record_at-requires-clause-place g c =
-    place_open (g.B.Blocks.blocks c.args.below.now) _ c.open_catalog-nodes.ensures.nodes c.args.key.now c.args.place.now c.requires.place
+    place_open (g.B.Blocks.blocks c.args.volume.now.blocks.now) _ c.open_catalog-nodes.ensures.nodes c.args.key.now c.args.place.now c.requires.place
 
 pub returns-clause-set : goal.returns-clause-set
 returns-clause-set g c =
-    let below = c.args.below.now in
+    let below = c.args.volume.now.blocks.now in
     if_ok c.close_catalog.result _ _
     (λ patch is. item_set (g.B.Blocks.blocks below) _ c.open_catalog-nodes.ensures.nodes c.args.key.now c.args.item.now c.args.counts.now _ (over (changes patch) (g.B.Blocks.blocks below))
     c.in_ok-set_record_at.ensures.value c.in_ok-set_record_at.ensures.set is)

@@ -5,5 +5,5 @@ use Rattle.hfs_call_patches.proofs.recorded_forks.set_file_over.Goals as goal
 
 pub returns-clause-inside : goal.returns-clause-inside
 returns-clause-inside g c =
-    edited_within g.B.Blocks.blocks g.B.Blocks.total c.args.below.now c.set_record_at.new.nodes.below.now c.args.runs.now c.set_record_at.new.nodes.runs.now
-    (changes c.args.patch) (changes c.set_record_at.new.nodes.patch) c.in_ok-set_record_at.ensures.kept c.set_record_at.new.nodes.inside
+    edited_within g.B.Blocks.blocks g.B.Blocks.total c.args.nodes.below.now c.set_record_at.new.nodes.below.now c.args.nodes.runs.now c.set_record_at.new.nodes.runs.now
+    (changes c.args.nodes.patch) (changes c.set_record_at.new.nodes.patch) c.in_ok-set_record_at.ensures.kept c.set_record_at.new.nodes.inside

@@ -12,9 +12,9 @@ close_catalog-requires-clause-keeps g c = rekeyed_named c.args.item.now _ _ c.re
 
 pub returns-clause-makes : goal.returns-clause-makes
 returns-clause-makes g c =
-    let below = c.args.below.now in
+    let below = c.args.volume.now.blocks.now in
     let old = g.B.Blocks.blocks below in
     if_ok c.close_catalog.result _ _
-    (λ patch closed. rename_made catalog_is_sound rename_makes (g.B.Blocks.total below) old (over (changes patch) old) _ c.args.mdb.now c.at_time.result c.args.item.now c.args.now
+    (λ patch closed. rename_made catalog_is_sound rename_makes (g.B.Blocks.total below) old (over (changes patch) old) _ c.args.volume.now.mdb.now c.at_time.result c.args.item.now c.args.now
     c.requires.sound c.requires.mdb c.at_time.ensures c.in_ok-nodes.ensures.rekeyed closed)
     c.close_catalog.ensures.catalog

@@ -16,5 +16,5 @@ returns-clause-settles g c = record {
 pub returns-clause-inside : goal.returns-clause-inside
 returns-clause-inside g c =
     let put = c.in_ok-put_counts.ensures in
-    put_within (changes c.in_ok-settled.settled) (changes c.put_counts.new.patch) 2 put.block (g.Z.Blocks.total c.args.below.now) put.put
+    put_within (changes c.in_ok-settled.settled) (changes c.put_counts.new.patch) 2 put.block (g.Z.Blocks.total c.args.nodes.below.now) put.put
     (subst (λ (n : ℕ). 2 < n) (sym c.requires.same) c.requires.two) put.long c.in_ok-settled.ensures.inside
