@@ -10,13 +10,11 @@ ghost use Rattle.hfs_image.specs.Forks.{AreForksIn, IsForkIn, OfFork, OfForkOf};
 ghost use Rattle.hfs_image.specs.Opened.{IsOpenedOf};
 ghost use Rattle.hfs_model.specs.declared.call.Fork.TheVariants.{DataFork, ResFork};
 
-use crate::forks::{find_file, kind_runs};
+use crate::forks::{RecordedFork, find_file, kind_runs};
 use crate::opening::NeededVolume;
 use hfs_blocks::Run;
-use hfs_check::SoundVolume;
-use hfs_fields::{FileRecord, ForkRecord};
+use hfs_fields::FileRecord;
 use hfs_model::Reply;
-use hfs_source::SparseBlocks;
 use hfs_space::ForkKind;
 use std::alloc::{AllocError, Global};
 
@@ -39,23 +37,21 @@ pub struct FileRuns {
 /// Where the bytes of a file's fork lie, found in the blocks that were read.
 fn runs_of_kind(
     alloc: Global,
-    read: &SparseBlocks,
-    count: u32,
-    sound: &SoundVolume,
-    file: u32,
-    kind: ForkKind,
-    fork: &ForkRecord,
+    volume: &NeededVolume,
+    fork: &RecordedFork<'_>,
 ) -> Result<ForkRuns, AllocError>
-    requires sound { AreBlocksSound count (sparse read.now) }
-    requires directory { sound.now.mdb ≡ mdb_in (sparse read.now) }
-    requires trees { HasTrees count (sparse read.now) sound.now.trees }
-    requires fork { IsForkIn (sparse read.now) file kind fork.now }
+    requires sound { AreBlocksSound volume.now.count (sparse volume.now.read) }
+    requires directory { volume.now.sound.mdb ≡ mdb_in (sparse volume.now.read) }
+    requires trees { HasTrees volume.now.count (sparse volume.now.read) volume.now.sound.trees }
+    requires fork { IsForkIn (sparse volume.now.read) fork.now.file fork.now.kind
+        fork.now.fields.now }
     ensures within { IfOk result (λ found. AreRunsWithin found.runs.items 4294967296) }
     ensures bytes { (known : Option (List ℕ)) → IfOk result (λ found.
-        OfFork known count read.now file kind fork.now (IsForkBytes known found)) }
+        OfFork known volume.now.count volume.now.read fork.now.file fork.now.kind
+        fork.now.fields.now (IsForkBytes known found)) }
 {
-    let runs = kind_runs(alloc, read, count, sound, file, kind, fork)?;
-    let length = fork.length;
+    let runs = kind_runs(alloc, volume, fork)?;
+    let length = fork.fields.length;
     Ok(ForkRuns { runs, length })
 }
 
@@ -63,26 +59,34 @@ fn runs_of_kind(
 #[tactic(auto, using(crate::proofs::Named::data_sound, crate::proofs::Named::resource_sound))]
 fn runs_of_file(
     alloc: Global,
-    read: &SparseBlocks,
-    count: u32,
-    sound: &SoundVolume,
+    volume: &NeededVolume,
     file: &FileRecord,
 ) -> Result<FileRuns, AllocError>
-    requires sound { AreBlocksSound count (sparse read.now) }
-    requires directory { sound.now.mdb ≡ mdb_in (sparse read.now) }
-    requires trees { HasTrees count (sparse read.now) sound.now.trees }
-    requires forks { AreForksIn (sparse read.now) file.now }
+    requires sound { AreBlocksSound volume.now.count (sparse volume.now.read) }
+    requires directory { volume.now.sound.mdb ≡ mdb_in (sparse volume.now.read) }
+    requires trees { HasTrees volume.now.count (sparse volume.now.read) volume.now.sound.trees }
+    requires forks { AreForksIn (sparse volume.now.read) file.now }
     ensures data_within { IfOk result (λ found. AreRunsWithin found.data.runs.items 4294967296) }
     ensures within { IfOk result (λ found. AreRunsWithin found.resource.runs.items 4294967296) }
     ensures data_bytes { (known : Option (List ℕ)) → IfOk result (λ found.
-        OfForkOf known count read.now file.now DataFork (IsForkBytes known found.data)) }
+        OfForkOf known volume.now.count volume.now.read file.now DataFork
+        (IsForkBytes known found.data)) }
     ensures bytes { (known : Option (List ℕ)) → IfOk result (λ found.
-        OfForkOf known count read.now file.now ResFork (IsForkBytes known found.resource)) }
+        OfForkOf known volume.now.count volume.now.read file.now ResFork
+        (IsForkBytes known found.resource)) }
 {
-    let id = file.id;
-    let data = runs_of_kind(alloc, read, count, sound, id, ForkKind::Data, &file.data)?;
-    let kind = ForkKind::Resource;
-    let resource = runs_of_kind(alloc, read, count, sound, id, kind, &file.resource)?;
+    let data_fork = RecordedFork {
+        file: file.id,
+        kind: ForkKind::Data,
+        fields: &file.data,
+    };
+    let data = runs_of_kind(alloc, volume, &data_fork)?;
+    let resource_fork = RecordedFork {
+        file: file.id,
+        kind: ForkKind::Resource,
+        fields: &file.resource,
+    };
+    let resource = runs_of_kind(alloc, volume, &resource_fork)?;
     Ok(FileRuns { data, resource })
 }
 
@@ -109,11 +113,10 @@ pub(crate) fn opened_runs(
         → IsOpenedOf known volume.now.count volume.now
         → IfOk result (λ told. IfErr told (RefusesForks known len dir name.now)) }
 {
-    let (read, count, sound) = (&volume.read, volume.count, &volume.sound);
-    let file = match find_file(read, count, &sound.trees, dir, name) {
+    let file = match find_file(volume, dir, name) {
         Ok(file) => file,
         Err(reply) => return Ok(Err(reply)),
     };
-    let found = runs_of_file(alloc, read, count, sound, &file)?;
+    let found = runs_of_file(alloc, volume, &file)?;
     Ok(Ok(found))
 }

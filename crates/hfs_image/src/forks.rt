@@ -1,6 +1,7 @@
 //! The bytes of forks, by the needed blocks of an image.
 ghost use Rattle.std.specs.Prelude.{◌≡◌, ℕ, ◌/◌, Err, IfOk, OnErr, OnOk};
 ghost use Rattle.std.specs.Io.KnownBytes.{Appends};
+ghost use Rattle.hfs_blocks.specs.Blocks.{AreRunsWithin};
 ghost use Rattle.hfs_texts.specs.Writing.{AppendsFront};
 ghost use Rattle.hfs_check.specs.Parts.{mdb_in, catalog_in};
 ghost use Rattle.hfs_check.specs.Sound.{AreBlocksSound};
@@ -16,65 +17,89 @@ ghost use Rattle.hfs_image.specs.SeenFiles.{HasForkOf, IsForkWritten, IsReadOfEa
 use crate::opening::NeededVolume;
 use hfs_blocks::Run;
 use hfs_btree::RunNodes;
-use hfs_check::{SoundVolume, VolumeTrees};
 use hfs_fields::{FileRecord, ForkRecord};
 use hfs_items::file_named;
 use hfs_model::{Fork, Reply};
-use hfs_source::{BlockSource, CopyFault, SparseBlocks, SparseFault, copy_runs, read_runs};
+use hfs_source::{BlockSource, CopyFault, SparseFault, copy_runs, read_runs};
 use hfs_space::{ForkKind, fork_extents, tree_runs};
 use std::alloc::{AllocError, Global};
 use std::io::Write;
+
+/// One of both forks of a file, as the catalog records it.
+#[derive(Clone, Copy)]
+pub(crate) struct RecordedFork<'a> {
+    /// The file's ID.
+    pub(crate) file: u32,
+    /// Which of both forks it is.
+    pub(crate) kind: ForkKind,
+    /// How long it is, and its first extents.
+    pub(crate) fields: &'a ForkRecord,
+}
+
+/// A fork as a call names it.
+#[derive(Clone, Copy)]
+pub(crate) struct NamedFork<'a> {
+    /// The ID of the file's folder.
+    pub(crate) dir: u32,
+    /// The file's name.
+    pub(crate) name: &'a [u8],
+    pub(crate) fork: Fork,
+}
 
 /// The runs of those blocks of a file's fork that have one of its bytes, in order; its extents are found in the blocks that were
 /// read.
 pub(crate) fn kind_runs(
     alloc: Global,
-    read: &SparseBlocks,
-    count: u32,
-    sound: &SoundVolume,
-    file: u32,
-    kind: ForkKind,
-    fork: &ForkRecord,
+    volume: &NeededVolume,
+    fork: &RecordedFork<'_>,
 ) -> Result<Vec<Run>, AllocError>
-    requires sound { AreBlocksSound count (sparse read.now) }
-    requires directory { sound.now.mdb ≡ mdb_in (sparse read.now) }
-    requires trees { HasTrees count (sparse read.now) sound.now.trees }
-    requires fork { IsForkIn (sparse read.now) file kind fork.now }
-    ensures { IfOk result (λ runs. AreForkRuns read.now count file kind fork.now runs.items) }
+    requires sound { AreBlocksSound volume.now.count (sparse volume.now.read) }
+    requires directory { volume.now.sound.mdb ≡ mdb_in (sparse volume.now.read) }
+    requires trees { HasTrees volume.now.count (sparse volume.now.read) volume.now.sound.trees }
+    requires fork { IsForkIn (sparse volume.now.read) fork.now.file fork.now.kind
+        fork.now.fields.now }
+    ensures runs { IfOk result (λ runs. AreForkRuns volume.now.read volume.now.count
+        fork.now.file fork.now.kind fork.now.fields.now runs.items) }
+    ensures within { IfOk result (λ runs. AreRunsWithin runs.items 4294967296) }
 {
-    let blocks = read.volume(count);
+    let count = volume.count;
+    let blocks = volume.read.volume(count);
     let nodes = RunNodes {
         blocks: &blocks,
-        runs: &sound.trees.extents,
+        runs: &volume.sound.trees.extents,
     };
-    let extents = fork_extents(alloc, &nodes, file, kind, &fork.extents)?;
-    tree_runs(alloc, &blocks, &sound.mdb, &extents, fork.length)
+    let extents = fork_extents(alloc, &nodes, fork.file, fork.kind, &fork.fields.extents)?;
+    tree_runs(
+        alloc,
+        &blocks,
+        &volume.sound.mdb,
+        &extents,
+        fork.fields.length,
+    )
 }
 
 /// The bytes of a file's fork. Of its blocks only those that have one of its bytes are read from the source.
 fn read_kind<S: BlockSource>(
     alloc: Global,
     source: &mut S,
-    read: &SparseBlocks,
-    count: u32,
-    sound: &SoundVolume,
-    file: u32,
-    kind: ForkKind,
-    fork: &ForkRecord,
+    volume: &NeededVolume,
+    fork: &RecordedFork<'_>,
 ) -> Result<Vec<u8>, SparseFault>
-    requires sound { AreBlocksSound count (sparse read.now) }
-    requires directory { sound.now.mdb ≡ mdb_in (sparse read.now) }
-    requires trees { HasTrees count (sparse read.now) sound.now.trees }
-    requires fork { IsForkIn (sparse read.now) file kind fork.now }
+    requires sound { AreBlocksSound volume.now.count (sparse volume.now.read) }
+    requires directory { volume.now.sound.mdb ≡ mdb_in (sparse volume.now.read) }
+    requires trees { HasTrees volume.now.count (sparse volume.now.read) volume.now.sound.trees }
+    requires fork { IsForkIn (sparse volume.now.read) fork.now.file fork.now.kind
+        fork.now.fields.now }
     ensures bytes { IfOk result (λ bytes. EachKnown (S.Holds source.new)
-        (λ known. HoldsFork known count read.now file kind fork.now bytes)) }
+        (λ known. HoldsFork known volume.now.count volume.now.read
+        fork.now.file fork.now.kind fork.now.fields.now bytes)) }
     ensures narrows { OfEach (S.Holds source.new) (S.Holds source.old) }
 {
-    let Ok(runs) = kind_runs(alloc, read, count, sound, file, kind, fork) else {
+    let Ok(runs) = kind_runs(alloc, volume, fork) else {
         return Err(SparseFault::Memory);
     };
     let mut bytes = read_runs(alloc, source, &runs)?;
-    bytes.truncate(fork.length as usize);
+    bytes.truncate(fork.fields.length as usize);
     Ok(bytes)
 }
 
@@ -83,50 +108,48 @@ fn read_kind<S: BlockSource>(
 pub(crate) fn read_file<S: BlockSource>(
     alloc: Global,
     source: &mut S,
-    read: &SparseBlocks,
-    count: u32,
-    sound: &SoundVolume,
+    volume: &NeededVolume,
     file: &FileRecord,
     fork: Fork,
 ) -> Result<Vec<u8>, SparseFault>
-    requires sound { AreBlocksSound count (sparse read.now) }
-    requires directory { sound.now.mdb ≡ mdb_in (sparse read.now) }
-    requires trees { HasTrees count (sparse read.now) sound.now.trees }
-    requires forks { AreForksIn (sparse read.now) file.now }
+    requires sound { AreBlocksSound volume.now.count (sparse volume.now.read) }
+    requires directory { volume.now.sound.mdb ≡ mdb_in (sparse volume.now.read) }
+    requires trees { HasTrees volume.now.count (sparse volume.now.read) volume.now.sound.trees }
+    requires forks { AreForksIn (sparse volume.now.read) file.now }
     ensures bytes { IfOk result (λ bytes. EachKnown (S.Holds source.new)
-        (λ known. HoldsForkOf known count read.now file.now fork bytes)) }
+        (λ known. HoldsForkOf known volume.now.count volume.now.read file.now fork bytes)) }
     ensures narrows { OfEach (S.Holds source.new) (S.Holds source.old) }
 {
-    let id = file.id;
     match fork {
         Fork::DataFork => {
-            let kind = ForkKind::Data;
-            read_kind(alloc, source, read, count, sound, id, kind, &file.data)
+            let data = RecordedFork {
+                file: file.id,
+                kind: ForkKind::Data,
+                fields: &file.data,
+            };
+            read_kind(alloc, source, volume, &data)
         }
         Fork::ResFork => {
-            let kind = ForkKind::Resource;
-            read_kind(alloc, source, read, count, sound, id, kind, &file.resource)
+            let resource = RecordedFork {
+                file: file.id,
+                kind: ForkKind::Resource,
+                fields: &file.resource,
+            };
+            read_kind(alloc, source, volume, &resource)
         }
     }
 }
 
-/// The record of the folder's file of that name, or the reply that refuses it, by the blocks that were read of a volume of
-/// `count` blocks.
-pub(crate) fn find_file(
-    read: &SparseBlocks,
-    count: u32,
-    trees: &VolumeTrees,
-    dir: u32,
-    name: &[u8],
-) -> Result<FileRecord, Reply>
-    requires sound { AreBlocksSound count (sparse read.now) }
-    requires trees { HasTrees count (sparse read.now) trees.now }
-    ensures found { result ≡ told.file_named (catalog_in (sparse read.now)) dir name.now }
-    ensures forks { IfOk result (λ file. AreForksIn (sparse read.now) file) }
+/// The record of the folder's file of that name, or the reply that refuses it.
+pub(crate) fn find_file(volume: &NeededVolume, dir: u32, name: &[u8]) -> Result<FileRecord, Reply>
+    requires sound { AreBlocksSound volume.now.count (sparse volume.now.read) }
+    requires trees { HasTrees volume.now.count (sparse volume.now.read) volume.now.sound.trees }
+    ensures found { result ≡ told.file_named (catalog_in (sparse volume.now.read)) dir name.now }
+    ensures forks { IfOk result (λ file. AreForksIn (sparse volume.now.read) file) }
 {
     let nodes = RunNodes {
-        blocks: &read.volume(count),
-        runs: &trees.catalog,
+        blocks: &volume.read.volume(volume.count),
+        runs: &volume.sound.trees.catalog,
     };
     file_named(&nodes, dir, name)
 }
@@ -135,35 +158,36 @@ pub(crate) fn find_file(
 fn write_kind<S: BlockSource, W: Write>(
     alloc: Global,
     source: &mut S,
-    read: &SparseBlocks,
-    count: u32,
-    sound: &SoundVolume,
-    file: u32,
-    kind: ForkKind,
-    fork: &ForkRecord,
+    volume: &NeededVolume,
+    fork: &RecordedFork<'_>,
     writer: &mut W,
 ) -> Result<(), CopyFault>
-    requires sound { AreBlocksSound count (sparse read.now) }
-    requires directory { sound.now.mdb ≡ mdb_in (sparse read.now) }
-    requires trees { HasTrees count (sparse read.now) sound.now.trees }
-    requires fork { IsForkIn (sparse read.now) file kind fork.now }
-    ensures written { OnOk result (OfFork (S.image source.old) count read.now file kind fork.now
+    requires sound { AreBlocksSound volume.now.count (sparse volume.now.read) }
+    requires directory { volume.now.sound.mdb ≡ mdb_in (sparse volume.now.read) }
+    requires trees { HasTrees volume.now.count (sparse volume.now.read) volume.now.sound.trees }
+    requires fork { IsForkIn (sparse volume.now.read) fork.now.file fork.now.kind
+        fork.now.fields.now }
+    ensures written { OnOk result (OfFork (S.image source.old) volume.now.count volume.now.read
+        fork.now.file fork.now.kind fork.now.fields.now
         (Appends (W.contents writer.old) (W.contents writer.new))) }
-    ensures part { OnErr result (OfFork (S.image source.old) count read.now file kind fork.now
+    ensures part { OnErr result (OfFork (S.image source.old) volume.now.count volume.now.read
+        fork.now.file fork.now.kind fork.now.fields.now
         (AppendsFront (W.contents writer.old) (W.contents writer.new))) }
     ensures none { result ≡ Err CopyFault.ReadFailed → writer.new ≡ writer.old }
     ensures memory { result ≡ Err CopyFault.Memory → writer.new ≡ writer.old }
     ensures image { S.image source.new ≡ S.image source.old }
-    ensures each { OnOk result (EachKnown (S.Holds source.new) (λ known. OfFork known count read.now
-        file kind fork.now (Appends (W.contents writer.old) (W.contents writer.new)))) }
-    ensures each_part { OnErr result (EachKnown (S.Holds source.new) (λ known. OfFork known count
-        read.now file kind fork.now (AppendsFront (W.contents writer.old) (W.contents writer.new)))) }
+    ensures each { OnOk result (EachKnown (S.Holds source.new) (λ known. OfFork known
+        volume.now.count volume.now.read fork.now.file fork.now.kind fork.now.fields.now
+        (Appends (W.contents writer.old) (W.contents writer.new)))) }
+    ensures each_part { OnErr result (EachKnown (S.Holds source.new) (λ known. OfFork known
+        volume.now.count volume.now.read fork.now.file fork.now.kind fork.now.fields.now
+        (AppendsFront (W.contents writer.old) (W.contents writer.new)))) }
     ensures narrows { OfEach (S.Holds source.new) (S.Holds source.old) }
 {
-    let Ok(runs) = kind_runs(alloc, read, count, sound, file, kind, fork) else {
+    let Ok(runs) = kind_runs(alloc, volume, fork) else {
         return Err(CopyFault::Memory);
     };
-    copy_runs(alloc, source, &runs, fork.length, writer)
+    copy_runs(alloc, source, &runs, fork.fields.length, writer)
 }
 
 /// Writes the bytes of one of a file's two forks piece by piece, while they are read.
@@ -171,41 +195,47 @@ fn write_kind<S: BlockSource, W: Write>(
 fn write_file<S: BlockSource, W: Write>(
     alloc: Global,
     source: &mut S,
-    read: &SparseBlocks,
-    count: u32,
-    sound: &SoundVolume,
+    volume: &NeededVolume,
     file: &FileRecord,
     fork: Fork,
     writer: &mut W,
 ) -> Result<(), CopyFault>
-    requires sound { AreBlocksSound count (sparse read.now) }
-    requires directory { sound.now.mdb ≡ mdb_in (sparse read.now) }
-    requires trees { HasTrees count (sparse read.now) sound.now.trees }
-    requires forks { AreForksIn (sparse read.now) file.now }
-    ensures written { OnOk result (OfForkOf (S.image source.old) count read.now file.now fork
-        (Appends (W.contents writer.old) (W.contents writer.new))) }
-    ensures part { OnErr result (OfForkOf (S.image source.old) count read.now file.now fork
+    requires sound { AreBlocksSound volume.now.count (sparse volume.now.read) }
+    requires directory { volume.now.sound.mdb ≡ mdb_in (sparse volume.now.read) }
+    requires trees { HasTrees volume.now.count (sparse volume.now.read) volume.now.sound.trees }
+    requires forks { AreForksIn (sparse volume.now.read) file.now }
+    ensures written { OnOk result (OfForkOf (S.image source.old) volume.now.count
+        volume.now.read file.now fork (Appends (W.contents writer.old) (W.contents writer.new))) }
+    ensures part { OnErr result (OfForkOf (S.image source.old) volume.now.count
+        volume.now.read file.now fork
         (AppendsFront (W.contents writer.old) (W.contents writer.new))) }
     ensures none { result ≡ Err CopyFault.ReadFailed → writer.new ≡ writer.old }
     ensures memory { result ≡ Err CopyFault.Memory → writer.new ≡ writer.old }
     ensures image { S.image source.new ≡ S.image source.old }
-    ensures each { OnOk result (EachKnown (S.Holds source.new) (λ known. OfForkOf known count
-        read.now file.now fork (Appends (W.contents writer.old) (W.contents writer.new)))) }
-    ensures each_part { OnErr result (EachKnown (S.Holds source.new) (λ known. OfForkOf known count
-        read.now file.now fork (AppendsFront (W.contents writer.old) (W.contents writer.new)))) }
+    ensures each { OnOk result (EachKnown (S.Holds source.new) (λ known. OfForkOf known
+        volume.now.count volume.now.read file.now fork
+        (Appends (W.contents writer.old) (W.contents writer.new)))) }
+    ensures each_part { OnErr result (EachKnown (S.Holds source.new) (λ known. OfForkOf known
+        volume.now.count volume.now.read file.now fork
+        (AppendsFront (W.contents writer.old) (W.contents writer.new)))) }
     ensures narrows { OfEach (S.Holds source.new) (S.Holds source.old) }
 {
-    let id = file.id;
     match fork {
         Fork::DataFork => {
-            let kind = ForkKind::Data;
-            let part = &file.data;
-            write_kind(alloc, source, read, count, sound, id, kind, part, writer)
+            let data = RecordedFork {
+                file: file.id,
+                kind: ForkKind::Data,
+                fields: &file.data,
+            };
+            write_kind(alloc, source, volume, &data, writer)
         }
         Fork::ResFork => {
-            let kind = ForkKind::Resource;
-            let part = &file.resource;
-            write_kind(alloc, source, read, count, sound, id, kind, part, writer)
+            let resource = RecordedFork {
+                file: file.id,
+                kind: ForkKind::Resource,
+                fields: &file.resource,
+            };
+            write_kind(alloc, source, volume, &resource, writer)
         }
     }
 }
@@ -216,38 +246,36 @@ pub(crate) fn write_opened<S: BlockSource, W: Write>(
     alloc: Global,
     source: &mut S,
     volume: &NeededVolume,
-    dir: u32,
-    name: &[u8],
-    fork: Fork,
+    named: &NamedFork<'_>,
     writer: &mut W,
 ) -> Result<Result<(), Reply>, CopyFault>
     requires { IsOpenedOf (S.image source.old) volume.now.count volume.now }
     ensures written { (len : ℕ) → len / 512 ≡ volume.now.count
-        → IfOk result (WritesForkNamed (S.image source.old) len dir name.now fork
-        (W.contents writer.old) (W.contents writer.new)) }
+        → IfOk result (WritesForkNamed (S.image source.old) len named.now.dir named.now.name.now
+        named.now.fork (W.contents writer.old) (W.contents writer.new)) }
     ensures unread { (len : ℕ) → len / 512 ≡ volume.now.count
-        → IfOk result (RefusesWriting (S.image source.old) len dir name.now fork) }
+        → IfOk result (RefusesWriting (S.image source.old) len named.now.dir named.now.name.now
+        named.now.fork) }
     ensures part { (len : ℕ) → len / 512 ≡ volume.now.count
-        → OnErr result (OfForkNamed (S.image source.old) len dir name.now fork
-        (AppendsFront (W.contents writer.old) (W.contents writer.new))) }
+        → OnErr result (OfForkNamed (S.image source.old) len named.now.dir named.now.name.now
+        named.now.fork (AppendsFront (W.contents writer.old) (W.contents writer.new))) }
     ensures unwritten { IfOk result (λ found. OnErr found (writer.new ≡ writer.old)) }
     ensures none { result ≡ Err CopyFault.ReadFailed → writer.new ≡ writer.old }
     ensures memory { result ≡ Err CopyFault.Memory → writer.new ≡ writer.old }
     ensures image { S.image source.new ≡ S.image source.old }
     ensures each { IsReadOfEach (S.Holds source.old) volume.now → IfOk result (λ found.
-        OfEach (S.Holds source.new) (IsForkWritten dir name.now fork (W.contents writer.old)
-        (W.contents writer.new) found)) }
+        OfEach (S.Holds source.new) (IsForkWritten named.now.dir named.now.name.now
+        named.now.fork (W.contents writer.old) (W.contents writer.new) found)) }
     ensures each_part { IsReadOfEach (S.Holds source.old) volume.now → OnErr result
-        (OfEach (S.Holds source.new) (HasForkOf dir name.now fork
-        (AppendsFront (W.contents writer.old) (W.contents writer.new)))) }
+        (OfEach (S.Holds source.new) (HasForkOf named.now.dir named.now.name.now
+        named.now.fork (AppendsFront (W.contents writer.old) (W.contents writer.new)))) }
     ensures narrows { OfEach (S.Holds source.new) (S.Holds source.old) }
 {
-    let (read, count, sound) = (&volume.read, volume.count, &volume.sound);
-    let file = match find_file(read, count, &sound.trees, dir, name) {
+    let file = match find_file(volume, named.dir, named.name) {
         Ok(file) => file,
         Err(reply) => return Ok(Err(reply)),
     };
-    match write_file(alloc, source, read, count, sound, &file, fork, writer) {
+    match write_file(alloc, source, volume, &file, named.fork, writer) {
         Ok(()) => Ok(Ok(())),
         Err(fault) => Err(fault),
     }

@@ -7,6 +7,7 @@ ghost use Rattle.hfs_items.specs.Brief.{listed_in};
 ghost use Rattle.hfs_space.specs.Results.{Gives};
 ghost use Rattle.hfs_source.specs.Sparse.{sparse};
 
+use crate::opening::NeededVolume;
 use hfs_btree::RunNodes;
 use hfs_catalog::{CatalogRecord, read_records};
 use hfs_check::VolumeTrees;
@@ -15,22 +16,19 @@ use hfs_model::Reply;
 use hfs_source::SparseBlocks;
 use std::alloc::{AllocError, Global};
 
-/// What the children's own records say about all children of a folder, in name order, by the blocks that were read of a volume of
-/// `count` blocks.
+/// What the children's own records say about all children of a folder, in name order.
 pub(crate) fn list_in_brief(
     alloc: Global,
-    read: &SparseBlocks,
-    count: u32,
-    trees: &VolumeTrees,
+    volume: &NeededVolume,
     dir: u32,
 ) -> Result<Reply, AllocError>
-    requires sound { AreBlocksSound count (sparse read.now) }
-    requires trees { HasTrees count (sparse read.now) trees.now }
-    ensures { Gives (listed_in Detail.Brief (catalog_in (sparse read.now)) dir) result }
+    requires sound { AreBlocksSound volume.now.count (sparse volume.now.read) }
+    requires trees { HasTrees volume.now.count (sparse volume.now.read) volume.now.sound.trees }
+    ensures { Gives (listed_in Detail.Brief (catalog_in (sparse volume.now.read)) dir) result }
 {
     let nodes = RunNodes {
-        blocks: &read.volume(count),
-        runs: &trees.catalog,
+        blocks: &volume.read.volume(volume.count),
+        runs: &volume.sound.trees.catalog,
     };
     list(alloc, &nodes, dir, Detail::Brief)
 }

@@ -10,12 +10,11 @@ ghost use Rattle.hfs_image.specs.Paths as spec;
 ghost use Rattle.hfs_items.specs.Told.{IsCatalog, cat_info, dir_info};
 ghost use Rattle.hfs_source.specs.Sparse.{sparse};
 
+use crate::opening::NeededVolume;
 use hfs_btree::{Nodes, RunNodes};
-use hfs_check::VolumeTrees;
 use hfs_fields::{Name, is_item_name, same_name};
 use hfs_items::{get_cat_info, get_dir_info, refusal};
 use hfs_model::{NOT_FOUND, Reply, Value};
-use hfs_source::SparseBlocks;
 
 /// The ID of the root.
 const ROOT: u32 = 2;
@@ -85,16 +84,16 @@ fn path_told<N: Nodes>(nodes: &N, names: &[Name]) -> Reply
     }
 }
 
-/// The reply about the item that these names lead to, by the blocks that were read of a volume of `count` blocks.
-pub(crate) fn told_in(read: &SparseBlocks, count: u32, trees: &VolumeTrees, names: &[Name]) -> Reply
-    requires sound { AreBlocksSound count (sparse read.now) }
-    requires trees { HasTrees count (sparse read.now) trees.now }
-    ensures { result ≡ spec.told_at (cat_info (catalog_in (sparse read.now)))
-        (dir_info (catalog_in (sparse read.now)) 2) names.now }
+/// The reply about the item of a volume that these names lead to.
+pub(crate) fn told_in(volume: &NeededVolume, names: &[Name]) -> Reply
+    requires sound { AreBlocksSound volume.now.count (sparse volume.now.read) }
+    requires trees { HasTrees volume.now.count (sparse volume.now.read) volume.now.sound.trees }
+    ensures { result ≡ spec.told_at (cat_info (catalog_in (sparse volume.now.read)))
+        (dir_info (catalog_in (sparse volume.now.read)) 2) names.now }
 {
     let nodes = RunNodes {
-        blocks: &read.volume(count),
-        runs: &trees.catalog,
+        blocks: &volume.read.volume(volume.count),
+        runs: &volume.sound.trees.catalog,
     };
     path_told(&nodes, names)
 }

@@ -17,6 +17,14 @@ use hfs_btree::{Key, NodeKind, NodeView, bit_at, view};
 use hfs_source::{BlockSource, SparseBlocks, SparseFault, fetch, fetch_range};
 use std::alloc::Global;
 
+/// Where the nodes of a tree lie, and how many it has.
+#[derive(Clone, Copy)]
+struct TreeRuns<'a> {
+    /// Its file, block for block.
+    runs: &'a [Run],
+    nodes: u32,
+}
+
 /// Reads node `n` of a tree's file, unless it was already read, and copies it.
 fn fetch_node<S: BlockSource>(
     source: &mut S,
@@ -106,42 +114,43 @@ fn fetch_map_node<S: BlockSource>(
     Ok(Some(node.forward()))
 }
 
-/// Reads the chain of map nodes of a tree of `count` nodes, from node `first` on, or none if that is 0. Stops at the first node
-/// that is no map node, isn't in the tree, or was met before. Marks each as met, appends their parts of the node map to `map`,
-/// and returns whether the chain is right.
+/// Reads the chain of map nodes of a tree from node `first` on, or none if that is 0. Stops at the first node that is no map
+/// node, isn't in the tree, or was met before. Marks each as met, appends their parts of the node map to `map`, and returns
+/// whether the chain is right.
 #[tactic(auto, using(hfs_source::proofs::Seen::sees_itself))]
 fn fetch_chain<S: BlockSource>(
     source: &mut S,
     read: &mut SparseBlocks,
-    runs: &[Run],
-    count: u32,
+    tree: &TreeRuns<'_>,
     first: u32,
     met: &mut Vec<bool>,
     map: &mut Vec<u8>,
 ) -> Result<bool, SparseFault>
-    requires counted { count ≡ (header_in (nodes_of read.old runs.now)).nodes }
-    requires head { HasNode read.old runs.now 0 }
-    requires within { count ≤ length (flat_map run_of runs.now) }
-    requires small { AreRunsWithin runs.now 4294967296 }
-    requires marks { vec_len met.old ≡ count }
-    ensures has { OnOk result (HasChain read.new runs.now count first met.old.items) }
+    requires counted { tree.now.nodes ≡ (header_in (nodes_of read.old tree.now.runs.now)).nodes }
+    requires head { HasNode read.old tree.now.runs.now 0 }
+    requires within { tree.now.nodes ≤ length (flat_map run_of tree.now.runs.now) }
+    requires small { AreRunsWithin tree.now.runs.now 4294967296 }
+    requires marks { vec_len met.old ≡ tree.now.nodes }
+    ensures has { OnOk result (HasChain read.new tree.now.runs.now tree.now.nodes
+        first met.old.items) }
     ensures whole { IfOk result
-        (TellsChain (nodes_of read.new runs.now) count first met.old map.old map.new) }
-    ensures reads { ReadsRuns (S.image source.old) runs.now read.old read.new }
+        (TellsChain (nodes_of read.new tree.now.runs.now) tree.now.nodes first met.old map.old
+        map.new) }
+    ensures reads { ReadsRuns (S.image source.old) tree.now.runs.now read.old read.new }
     ensures image { S.image source.new ≡ S.image source.old }
     ensures sees { SeesMore (S.Holds source.old) (S.Holds source.new) read.old read.new }
 {
     let mut n = first;
-    let mut most = count;
+    let mut most = tree.nodes;
     while most > 0 {
         if n == 0 {
             return Ok(true);
         }
-        if n >= count || met[n as usize] {
+        if n >= tree.nodes || met[n as usize] {
             return Ok(false);
         }
         most -= 1;
-        let Some(next) = fetch_map_node(source, read, runs, n, map)? else {
+        let Some(next) = fetch_map_node(source, read, tree.runs, n, map)? else {
             return Ok(false);
         };
         met[n as usize] = true;
@@ -178,7 +187,8 @@ fn fetch_map<S: BlockSource>(
     let Ok(mut met) = vec![in alloc; false; nodes as usize] else {
         return Err(SparseFault::Memory);
     };
-    if !fetch_chain(source, read, runs, nodes, first, &mut met, &mut map)? {
+    let tree = TreeRuns { runs, nodes };
+    if !fetch_chain(source, read, &tree, first, &mut met, &mut map)? {
         return Ok(None);
     }
     if (nodes as usize).div_ceil(8) > map.len() {
@@ -187,76 +197,75 @@ fn fetch_map<S: BlockSource>(
     Ok(Some(map))
 }
 
-/// How many nodes from node `n` on, at least that one, are marked and lie next to each other, up to node `end`.
-fn marked_beside(runs: &[Run], map: &[u8], n: u32, end: u32) -> u32
-    requires some { n < end }
-    requires bits { end ≤ 8 * length map.now }
-    requires within { end ≤ length (flat_map run_of runs.now) }
-    requires small { AreRunsWithin runs.now 4294967296 }
-    ensures few { (1 ≤ result) × (n + result ≤ end) }
-    ensures beside { LieBeside runs.now n result }
-    ensures inside { (total : ℕ) → AreRunsWithin runs.now total
-        → block_for runs.now n + result ≤ total }
+/// How many nodes from node `n` on, at least that one, of the tree are marked and lie next to each other.
+fn marked_beside(tree: &TreeRuns<'_>, map: &[u8], n: u32) -> u32
+    requires some { n < tree.now.nodes }
+    requires bits { tree.now.nodes ≤ 8 * length map.now }
+    requires within { tree.now.nodes ≤ length (flat_map run_of tree.now.runs.now) }
+    requires small { AreRunsWithin tree.now.runs.now 4294967296 }
+    ensures few { (1 ≤ result) × (n + result ≤ tree.now.nodes) }
+    ensures beside { LieBeside tree.now.runs.now n result }
+    ensures inside { (total : ℕ) → AreRunsWithin tree.now.runs.now total
+        → block_for tree.now.runs.now n + result ≤ total }
 {
-    let first = u64::from(block_of(runs, n));
+    let end = tree.nodes;
+    let first = u64::from(block_of(tree.runs, n));
     for m in n + 1..end {
         let place = first + u64::from(m - n);
-        if !bit_at(map, m as usize) || u64::from(block_of(runs, m)) != place {
+        if !bit_at(map, m as usize) || u64::from(block_of(tree.runs, m)) != place {
             return m - n;
         }
     }
     end - n
 }
 
-/// Reads node `n`, if the map marks it, and with it the marked nodes right after it, up to node `end`. Returns how many nodes it
+/// Reads node `n`, if the map marks it, and with it the marked nodes right after it. Returns how many nodes it
 /// looked at.
 #[tactic(auto, using(hfs_source::proofs::Seen::sees_itself))]
 fn fetch_marked_from<S: BlockSource>(
     source: &mut S,
     read: &mut SparseBlocks,
-    runs: &[Run],
+    tree: &TreeRuns<'_>,
     map: &[u8],
     n: u32,
-    end: u32,
 ) -> Result<u32, SparseFault>
-    requires some { n < end }
-    requires bits { end ≤ 8 * length map.now }
-    requires within { end ≤ length (flat_map run_of runs.now) }
-    requires small { AreRunsWithin runs.now 4294967296 }
-    ensures few { IfOk result (λ step. (1 ≤ step) × (n + step ≤ end)) }
-    ensures has { IfOk result (HasMarkedFrom read.new runs.now map.now n) }
-    ensures reads { ReadsRuns (S.image source.old) runs.now read.old read.new }
+    requires some { n < tree.now.nodes }
+    requires bits { tree.now.nodes ≤ 8 * length map.now }
+    requires within { tree.now.nodes ≤ length (flat_map run_of tree.now.runs.now) }
+    requires small { AreRunsWithin tree.now.runs.now 4294967296 }
+    ensures few { IfOk result (λ step. (1 ≤ step) × (n + step ≤ tree.now.nodes)) }
+    ensures has { IfOk result (HasMarkedFrom read.new tree.now.runs.now map.now n) }
+    ensures reads { ReadsRuns (S.image source.old) tree.now.runs.now read.old read.new }
     ensures image { S.image source.new ≡ S.image source.old }
     ensures sees { SeesMore (S.Holds source.old) (S.Holds source.new) read.old read.new }
 {
     if !bit_at(map, n as usize) {
         return Ok(1);
     }
-    let count = marked_beside(runs, map, n, end);
-    fetch_range(source, read, block_of(runs, n), count)?;
+    let count = marked_beside(tree, map, n);
+    fetch_range(source, read, block_of(tree.runs, n), count)?;
     Ok(count)
 }
 
-/// Reads those of the first `count` nodes that the map marks; nodes next to each other are read together.
+/// Reads those nodes of a tree that the map marks; nodes next to each other are read together.
 #[tactic(auto, using(hfs_source::proofs::Seen::sees_itself))]
 fn fetch_marked<S: BlockSource>(
     source: &mut S,
     read: &mut SparseBlocks,
-    runs: &[Run],
+    tree: &TreeRuns<'_>,
     map: &[u8],
-    count: u32,
 ) -> Result<(), SparseFault>
-    requires bits { count ≤ 8 * length map.now }
-    requires within { count ≤ length (flat_map run_of runs.now) }
-    requires small { AreRunsWithin runs.now 4294967296 }
-    ensures has { OnOk result (HasMarked read.new runs.now map.now count) }
-    ensures reads { ReadsRuns (S.image source.old) runs.now read.old read.new }
+    requires bits { tree.now.nodes ≤ 8 * length map.now }
+    requires within { tree.now.nodes ≤ length (flat_map run_of tree.now.runs.now) }
+    requires small { AreRunsWithin tree.now.runs.now 4294967296 }
+    ensures has { OnOk result (HasMarked read.new tree.now.runs.now map.now tree.now.nodes) }
+    ensures reads { ReadsRuns (S.image source.old) tree.now.runs.now read.old read.new }
     ensures image { S.image source.new ≡ S.image source.old }
     ensures sees { SeesMore (S.Holds source.old) (S.Holds source.new) read.old read.new }
 {
     let mut n = 0;
-    while n < count {
-        n += fetch_marked_from(source, read, runs, map, n, count)?;
+    while n < tree.nodes {
+        n += fetch_marked_from(source, read, tree, map, n)?;
     }
     Ok(())
 }
@@ -282,9 +291,12 @@ pub(crate) fn gather_tree<K: Key, S: BlockSource>(
     let Some(head) = fetch_head::<K, S>(alloc, source, read, runs, size)? else {
         return Ok(());
     };
-    let count = head.nodes;
+    let tree = TreeRuns {
+        runs,
+        nodes: head.nodes,
+    };
     let Some(map) = fetch_map(alloc, source, read, runs, head)? else {
         return Ok(());
     };
-    fetch_marked(source, read, runs, &map, count)
+    fetch_marked(source, read, &tree, &map)
 }

@@ -12,10 +12,9 @@ ghost use Rattle.hfs_image.specs.SeenFiles.{IsFileFound, IsReadOfEach};
 use crate::forks::{find_file, read_file};
 use crate::opening::NeededVolume;
 use hfs_btree::RunNodes;
-use hfs_check::VolumeTrees;
 use hfs_items::get_cat_info;
 use hfs_model::{Fork, Reply};
-use hfs_source::{BlockSource, SparseBlocks, SparseFault};
+use hfs_source::{BlockSource, SparseFault};
 use std::alloc::Global;
 
 /// A file with both forks.
@@ -29,15 +28,15 @@ pub struct NeededFile {
     pub resource: Vec<u8>,
 }
 
-/// The reply about the folder's item of that name, by the blocks that were read of a volume of `count` blocks.
-fn tell_of(read: &SparseBlocks, count: u32, trees: &VolumeTrees, dir: u32, name: &[u8]) -> Reply
-    requires sound { AreBlocksSound count (sparse read.now) }
-    requires trees { HasTrees count (sparse read.now) trees.now }
-    ensures { result ≡ told.cat_info (catalog_in (sparse read.now)) dir name.now }
+/// The reply about the folder's item of that name.
+fn tell_of(volume: &NeededVolume, dir: u32, name: &[u8]) -> Reply
+    requires sound { AreBlocksSound volume.now.count (sparse volume.now.read) }
+    requires trees { HasTrees volume.now.count (sparse volume.now.read) volume.now.sound.trees }
+    ensures { result ≡ told.cat_info (catalog_in (sparse volume.now.read)) dir name.now }
 {
     let nodes = RunNodes {
-        blocks: &read.volume(count),
-        runs: &trees.catalog,
+        blocks: &volume.read.volume(volume.count),
+        runs: &volume.sound.trees.catalog,
     };
     get_cat_info(&nodes, dir, name)
 }
@@ -57,14 +56,13 @@ pub(crate) fn opened_file<S: BlockSource>(
         (IsFileFound dir name.now found)) }
     ensures narrows { OfEach (S.Holds source.new) (S.Holds source.old) }
 {
-    let (read, count, sound) = (&volume.read, volume.count, &volume.sound);
-    let file = match find_file(read, count, &sound.trees, dir, name) {
+    let file = match find_file(volume, dir, name) {
         Ok(file) => file,
         Err(reply) => return Ok(Err(reply)),
     };
-    let told = tell_of(read, count, &sound.trees, dir, name);
-    let data = read_file(alloc, source, read, count, sound, &file, Fork::DataFork)?;
-    match read_file(alloc, source, read, count, sound, &file, Fork::ResFork) {
+    let told = tell_of(volume, dir, name);
+    let data = read_file(alloc, source, volume, &file, Fork::DataFork)?;
+    match read_file(alloc, source, volume, &file, Fork::ResFork) {
         Ok(resource) => Ok(Ok(NeededFile {
             told,
             data,

@@ -10,7 +10,6 @@ use crate::forks::blocks_for;
 use crate::owners::{add_owners, no_owners};
 use crate::shares::{FileShares, Share, shares_of};
 use crate::trees::Trees;
-use hfs_fields::Mdb;
 use hfs_remains::FoundRecord;
 use hfs_remains_places::Verdict;
 use hfs_space::ForkKind;
@@ -27,19 +26,19 @@ pub fn usual_limit(image_len: u32) -> u64
 /// Adds the owners of a fork's blocks, if it is taken.
 fn own_share(
     alloc: Global,
-    total: u32,
-    mdb: &Mdb,
+    trees: &Trees<'_>,
     chains: &Chains<'_>,
     owners: &mut [u8],
     share: &Share,
 ) -> Result<(), AllocError>
-    requires size { 512 ≤ mdb.now.allocation_block_size }
-    requires all { length owners.old ≡ mdb.now.allocation_blocks }
-    ensures { OnOk result (AddsOwners (spec.share_used total chains.now mdb.now share.now)
+    requires size { 512 ≤ trees.now.mdb.now.allocation_block_size }
+    requires all { length owners.old ≡ trees.now.mdb.now.allocation_blocks }
+    ensures { OnOk result (AddsOwners (spec.share_used trees.now.total chains.now trees.now.mdb.now
+        share.now)
         owners.old owners.new) }
 {
     if share.taken {
-        let places = share.fork.places(alloc, total, chains, mdb)?;
+        let places = share.fork.places(alloc, trees.total, chains, trees.mdb)?;
         add_owners(owners, &places);
     }
     Ok(())
@@ -55,16 +54,16 @@ fn is_passed(young: bool, old: bool) -> bool
 /// Adds the owners of the blocks of an item's forks that are taken; for an old item only if all are asked for.
 fn own_item(
     alloc: Global,
-    total: u32,
-    mdb: &Mdb,
+    trees: &Trees<'_>,
     chains: &Chains<'_>,
     owners: &mut [u8],
     young: bool,
     item: &Option<FileShares>,
 ) -> Result<(), AllocError>
-    requires size { 512 ≤ mdb.now.allocation_block_size }
-    requires all { length owners.old ≡ mdb.now.allocation_blocks }
-    ensures { OnOk result (AddsOwners (spec.item_used total chains.now mdb.now young item.now)
+    requires size { 512 ≤ trees.now.mdb.now.allocation_block_size }
+    requires all { length owners.old ≡ trees.now.mdb.now.allocation_blocks }
+    ensures { OnOk result (AddsOwners (spec.item_used trees.now.total chains.now trees.now.mdb.now
+        young item.now)
         owners.old owners.new) }
 {
     let Some(file) = item else {
@@ -73,40 +72,40 @@ fn own_item(
     if is_passed(young, file.old) {
         return Ok(());
     }
-    own_share(alloc, total, mdb, chains, owners, &file.data)?;
-    own_share(alloc, total, mdb, chains, owners, &file.resource)?;
+    own_share(alloc, trees, chains, owners, &file.data)?;
+    own_share(alloc, trees, chains, owners, &file.resource)?;
     Ok(())
 }
 
 /// Adds the owners of the blocks of items' forks that are taken; for old items only if all are asked for.
 fn own_items(
     alloc: Global,
-    total: u32,
-    mdb: &Mdb,
+    trees: &Trees<'_>,
     chains: &Chains<'_>,
     owners: &mut [u8],
     young: bool,
     shares: &[Option<FileShares>],
 ) -> Result<(), AllocError>
-    requires size { 512 ≤ mdb.now.allocation_block_size }
-    requires all { length owners.old ≡ mdb.now.allocation_blocks }
-    ensures { OnOk result (AddsOwners (spec.items_used total chains.now mdb.now young shares.now)
+    requires size { 512 ≤ trees.now.mdb.now.allocation_block_size }
+    requires all { length owners.old ≡ trees.now.mdb.now.allocation_blocks }
+    ensures { OnOk result (AddsOwners (spec.items_used trees.now.total chains.now trees.now.mdb.now
+        young shares.now)
         owners.old owners.new) }
 {
     for item in shares {
-        own_item(alloc, total, mdb, chains, owners, young, item)?;
+        own_item(alloc, trees, chains, owners, young, item)?;
     }
     Ok(())
 }
 
 /// Adds the owners of the blocks of a tree's file, as far as its size goes.
-fn own_tree(total: u32, mdb: &Mdb, owners: &mut [u8], file: &[Option<u16>], size: u32)
-    requires size { 512 ≤ mdb.now.allocation_block_size }
-    requires all { length owners.old ≡ mdb.now.allocation_blocks }
-    requires there { AreThere total mdb.now file.now }
-    ensures { AddsOwners (spec.tree_used mdb.now file.now size) owners.old owners.new }
+fn own_tree(trees: &Trees<'_>, owners: &mut [u8], file: &[Option<u16>], size: u32)
+    requires size { 512 ≤ trees.now.mdb.now.allocation_block_size }
+    requires all { length owners.old ≡ trees.now.mdb.now.allocation_blocks }
+    requires there { AreThere trees.now.total trees.now.mdb.now file.now }
+    ensures { AddsOwners (spec.tree_used trees.now.mdb.now file.now size) owners.old owners.new }
 {
-    let count = (blocks_for(mdb, size) as usize).min(file.len());
+    let count = (blocks_for(trees.mdb, size) as usize).min(file.len());
     add_owners(owners, &file[..count]);
 }
 
@@ -125,21 +124,9 @@ fn own_all(
         owners.new) }
 {
     let mdb = trees.mdb;
-    own_tree(
-        trees.total,
-        mdb,
-        owners,
-        trees.extents_file,
-        mdb.extents_file_size,
-    );
-    own_tree(
-        trees.total,
-        mdb,
-        owners,
-        trees.catalog_file,
-        mdb.catalog_file_size,
-    );
-    own_items(alloc, trees.total, mdb, chains, owners, young, shares)?;
+    own_tree(trees, owners, trees.extents_file, mdb.extents_file_size);
+    own_tree(trees, owners, trees.catalog_file, mdb.catalog_file_size);
+    own_items(alloc, trees, chains, owners, young, shares)?;
     Ok(())
 }
 

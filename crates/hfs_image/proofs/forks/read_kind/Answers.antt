@@ -11,8 +11,8 @@ use Rattle.hfs_image.proofs.forks.read_kind.Goals as goal
 
 pub returns-clause-bytes : goal.returns-clause-bytes
 returns-clause-bytes g c = λ image h.
-    fork-known (Some image) c.args.count c.deref.result.now
-    (subst (λ (runs : List Run). AreRunsWithin runs c.args.count) (sym c.deref.ensures.value) c.in-Ok.ensures.within) (mdb_in (sparse c.args.read.now))
-    (fork_extents (overflow_in (sparse c.args.read.now)) c.args.file (fork_byte c.args.kind) c.args.fork.now.extents) c.args.fork.now.length
-    (ap (flat_map run_of) c.deref.ensures.value ∙ c.in-Ok.ensures.numbers) c.in_ok-bytes.bytes.items c.truncate.new.self.items (c.in_ok-bytes.ensures.each image h)
+    fork-known (Some image) c.args.volume.now.count c.deref.result.now
+    (subst (λ (runs : List Run). AreRunsWithin runs c.args.volume.now.count) (sym c.deref.ensures.value) c.in-Ok.ensures.runs.within) (mdb_in (sparse c.args.volume.now.read))
+    (fork_extents (overflow_in (sparse c.args.volume.now.read)) c.args.fork.now.file (fork_byte c.args.fork.now.kind) c.args.fork.now.fields.now.extents) c.args.fork.now.fields.now.length
+    (ap (flat_map run_of) c.deref.ensures.value ∙ c.in-Ok.ensures.runs.numbers) c.in_ok-bytes.bytes.items c.truncate.new.self.items (c.in_ok-bytes.ensures.each image h)
     c.truncate.ensures.items

@@ -14,10 +14,10 @@ use Rattle.hfs_image.proofs.listing.list_in_brief.Goals as goal
 pub list-requires : goal.list-requires
 list-requires c =
     subst IsCatalog (sym ((λ i. nodes_in (sparse (c.volume.ensures.read i)) (c.deref.ensures.value i)) ∙ c.requires.trees.catalog.same))
-    (catalog_answers-sound c.args.count (sparse c.args.read.now) c.requires.sound)
+    (catalog_answers-sound c.args.volume.now.count (sparse c.args.volume.now.read) c.requires.sound)
 
 pub returns : goal.returns
 returns c =
     subst (λ (r : Reply). IfOk c.list.result (λ reply. reply ≡ r))
-    (by_nodes (λ catalog. listed_in detail.Brief catalog c.args.dir) (sparse c.args.read.now) _
+    (by_nodes (λ catalog. listed_in detail.Brief catalog c.args.dir) (sparse c.args.volume.now.read) _
     ((λ i. nodes_in (sparse (c.volume.ensures.read i)) (c.deref.ensures.value i)) ∙ c.requires.trees.catalog.same)) c.list.ensures

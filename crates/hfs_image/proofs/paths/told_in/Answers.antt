@@ -12,10 +12,10 @@ use Rattle.hfs_image.proofs.paths.told_in.Goals as goal
 pub path_told-requires : goal.path_told-requires
 path_told-requires c =
     subst IsCatalog (sym ((λ i. nodes_in (sparse (c.volume.ensures.read i)) (c.deref.ensures.value i)) ∙ c.requires.trees.catalog.same))
-    (catalog_answers-sound c.args.count (sparse c.args.read.now) c.requires.sound)
+    (catalog_answers-sound c.args.volume.now.count (sparse c.args.volume.now.read) c.requires.sound)
 
 pub returns : goal.returns
 returns c =
     c.path_told.ensures
-    ∙ by_nodes (λ (catalog : Catalog). told_at (cat_info catalog) (dir_info catalog 2) c.args.names.now) (sparse c.args.read.now) _
+    ∙ by_nodes (λ (catalog : Catalog). told_at (cat_info catalog) (dir_info catalog 2) c.args.names.now) (sparse c.args.volume.now.read) _
     ((λ i. nodes_in (sparse (c.volume.ensures.read i)) (c.deref.ensures.value i)) ∙ c.requires.trees.catalog.same)

@@ -6,12 +6,12 @@ use Rattle.hfs_image.proofs.tree_nodes.fetch_marked.Given as goal
 
 abbrev pub invariant-loop-n : goal.invariant-loop-n
 invariant-loop-n g l = record {
-  few : l.n ≤ l.count;
-  has : (k : ℕ) → k < l.n → bit_of l.map k ≡ true → HasNode l.read l.runs k;
-  reads : ReadsRuns (g.S.BlockSource.image l.initial.source) l.runs l.initial.read l.read;
+  few : l.n ≤ l.tree.nodes;
+  has : (k : ℕ) → k < l.n → bit_of l.map k ≡ true → HasNode l.read l.tree.runs.now k;
+  reads : ReadsRuns (g.S.BlockSource.image l.initial.source) l.tree.runs.now l.initial.read l.read;
   image : g.S.BlockSource.image l.source ≡ g.S.BlockSource.image l.initial.source;
   sees : SeesMore (g.S.BlockSource.Holds l.initial.source) (g.S.BlockSource.Holds l.source) l.initial.read l.read;
 }
 
 abbrev pub decreases-loop-n : goal.decreases-loop-n
-decreases-loop-n g l = l.count - l.n
+decreases-loop-n g l = l.tree.nodes - l.n

@@ -17,7 +17,7 @@ returns-in_err-fetch_range-clause-reads g c = λ total h.
 
 pub returns-clause-has : goal.returns-clause-has
 returns-clause-has g c =
-    beside-read c.fetch_range.new.read c.args.runs.now c.args.map.now c.args.n c.marked_beside-count.result c.marked_beside-count.ensures.beside
+    beside-read c.fetch_range.new.read c.args.tree.now.runs.now c.args.map.now c.args.n c.marked_beside-count.result c.marked_beside-count.ensures.beside
     (subst (λ (m : ℕ). HasEach c.fetch_range.new.read (range_with_len m c.marked_beside-count.result)) c.block_of.ensures.number c.in_ok-fetch_range.ensures.has)
 
 pub returns-clause-reads : goal.returns-clause-reads

@@ -8,13 +8,13 @@ pub loop-m-init : goal.loop-m-init
 loop-m-init c = record {
   first = c.from-first.ensures ∙ c.block_of.ensures.number;
   some = omega arith;
-  beside = beside-first c.args.runs.now c.args.n;
+  beside = beside-first c.args.tree.now.runs.now c.args.n;
   inside = λ total h. omega (arith, c.block_of.ensures.inside total h, c.block_of.ensures.number);
 }
 
 pub loop-m-preserved : goal.loop-m-preserved
 loop-m-preserved c =
-    let runs = c.args.runs.now in
+    let runs = c.args.tree.now.runs.now in
     let n = c.args.n in
     let m = c.loop-m.m in
     let own : c.block_of-else-not-bit_at.result ≡ block_for runs n + (m - n) =

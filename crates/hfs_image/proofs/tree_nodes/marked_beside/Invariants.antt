@@ -6,8 +6,8 @@ use Rattle.hfs_image.proofs.tree_nodes.marked_beside.Given as goal
 
 abbrev pub invariant-loop-m : goal.invariant-loop-m
 invariant-loop-m l = record {
-  first : l.first ≡ block_for l.runs l.n;
+  first : l.first ≡ block_for l.tree.runs.now l.n;
   some : l.n < l.m;
-  beside : LieBeside l.runs l.n (l.m - l.n);
-  inside : (total : ℕ) → AreRunsWithin l.runs total → block_for l.runs l.n + (l.m - l.n) ≤ total;
+  beside : LieBeside l.tree.runs.now l.n (l.m - l.n);
+  inside : (total : ℕ) → AreRunsWithin l.tree.runs.now total → block_for l.tree.runs.now l.n + (l.m - l.n) ≤ total;
 }

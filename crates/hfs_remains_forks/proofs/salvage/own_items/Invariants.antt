@@ -5,4 +5,4 @@ use Rattle.hfs_remains_forks.specs.Verdicts.{items_used}
 use Rattle.hfs_remains_forks.proofs.salvage.own_items.Given as goal
 
 abbrev pub invariant-loop-item : goal.invariant-loop-item
-invariant-loop-item l = AddsOwners (items_used l.total l.chains l.mdb l.young (take l.item-index l.shares)) l.initial.owners l.owners
+invariant-loop-item l = AddsOwners (items_used l.trees.total l.chains l.trees.mdb.now l.young (take l.item-index l.shares)) l.initial.owners l.owners

@@ -2,7 +2,7 @@
 use Rattle.std.proofs.Common.{ℕ, subst, sym}
 use Rattle.hfs_image.specs.Failing.{SomeFailsWithin}
 use Rattle.hfs_image.proofs.Failing.{within_fails}
-use Rattle.hfs_image.proofs.seen.file_noted.Goals as goal
+use Rattle.hfs_image.proofs.seen.files.file_noted.Goals as goal
 
 pub returns-in-Ok-clause-found : goal.returns-in-Ok-clause-found
 returns-in-Ok-clause-found g c = λ image h.

@@ -4,7 +4,7 @@ use Rattle.hfs_source.specs.Images.{OfEach}
 use Rattle.hfs_source.specs.Seen.{IsSeen}
 use Rattle.hfs_image.specs.Failing.{SomeFailsWithin}
 use Rattle.hfs_image.proofs.Failing.{within_fails}
-use Rattle.hfs_image.proofs.seen.report_noted.Goals as goal
+use Rattle.hfs_image.proofs.seen.opening.report_noted.Goals as goal
 
 pub invariant_of-image : goal.invariant_of-image
 invariant_of-image g c =

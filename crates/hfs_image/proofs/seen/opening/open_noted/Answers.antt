@@ -4,7 +4,7 @@ use Rattle.hfs_source.specs.Images.{OfEach}
 use Rattle.hfs_source.specs.Seen.{IsSeen}
 use Rattle.hfs_image.specs.Failing.{SomeFailsWithin}
 use Rattle.hfs_image.proofs.Failing.{within_fails}
-use Rattle.hfs_image.proofs.seen.open_noted.Goals as goal
+use Rattle.hfs_image.proofs.seen.opening.open_noted.Goals as goal
 
 pub invariant_of-result : goal.invariant_of-result
 invariant_of-result g c =

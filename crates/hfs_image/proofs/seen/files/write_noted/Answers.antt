@@ -6,7 +6,7 @@ use Rattle.hfs_image.specs.Failing.{SomeFailsWithin}
 use Rattle.hfs_image.specs.SeenFiles.{IsReadOfEach}
 use Rattle.hfs_image.proofs.Failing.{within_fails}
 use Rattle.hfs_image.proofs.SeenFiles.{read_of_each}
-use Rattle.hfs_image.proofs.seen.write_noted.Goals as goal
+use Rattle.hfs_image.proofs.seen.files.write_noted.Goals as goal
 
 pub returns-in-Ok-clause-written : goal.returns-in-Ok-clause-written
 returns-in-Ok-clause-written g c =
