@@ -15,3 +15,4 @@ pub mod Calling
 pub mod Working
 mod Begun
 pub mod SendLemmas
+pub mod ChosenLemmas

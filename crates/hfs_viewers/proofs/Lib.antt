@@ -30,3 +30,4 @@ mod ChangedLemmas
 mod PieceReads
 mod ForkRows
 mod Opens
+pub mod ByChoice

@@ -10,3 +10,4 @@ pub mod ForkParts
 pub mod Opened
 pub mod Changed
 pub mod MountedForks
+pub mod ByChoice

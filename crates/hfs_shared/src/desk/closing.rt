@@ -25,6 +25,7 @@ impl Desk {
         let Desk {
             volume,
             journal: _,
+            chosen: _,
             next: _,
         } = self;
         volume
@@ -42,6 +43,7 @@ impl Desk {
         let Desk {
             volume,
             journal,
+            chosen: _,
             next: _,
         } = self;
         (volume, journal)
