@@ -9,7 +9,6 @@ use Rattle.hfs_fields.specs.Names.{is_item_name}
 use Rattle.hfs_blocks.specs.declared.run.Run.{Run}
 use Rattle.hfs_btree.specs.Header.{depth_of, free_nodes}
 use Rattle.hfs_model.specs.declared.call.Call.{Call}
-use Rattle.hfs_model.specs.declared.item.Item.{Item}
 use Rattle.hfs_model.specs.declared.journal.Want.{Want}
 use Rattle.hfs_model.specs.declared.journal.Want.TheVariants as want
 use Rattle.hfs_model.specs.Replies.{is_accepted}
@@ -83,10 +82,6 @@ IsChosenBody old chosen key (File r) = IsChosenFile old chosen key r
 -- the file that a call chooses in the volume, or the code that refuses it
 abbrev pub ChoosesFile : Blocks → Result Entry ℤ → Result (CatKey × FileRecord) ℤ → Type 0
 ChoosesFile old chosen result = MatchResult result (λ f. IsChosenFile old chosen f.0 f.1) (λ code. chosen ≡ Err code)
-
--- the ID of the item that a call chooses, or the code that refuses it
-abbrev pub ChoosesId : Result Entry ℤ → Result ℕ ℤ → Type 0
-ChoosesId chosen result = MatchResult result (λ id. (i : Item) × (chosen ≡ Ok (id, i))) (λ code. chosen ≡ Err code)
 
 -- the item
 abbrev pub ChoosesItem : Blocks → Result Entry ℤ → Result CatalogItem ℤ → Type 0

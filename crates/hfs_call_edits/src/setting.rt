@@ -2,9 +2,7 @@
 
 ghost use Rattle.hfs_model.specs.declared.call.Call.TheVariants as call;
 ghost use Rattle.hfs_record_edits.specs.SettingLaws.{lock_call};
-ghost use Rattle.hfs_call_edits.specs.Edits.{ChoosesId, IsEditOf};
-ghost use Rattle.hfs_check.specs.VolumeOf.{volume_in};
-ghost use Rattle.hfs_model.specs.Choices.{file_to_change};
+ghost use Rattle.hfs_call_edits.specs.Edits.{IsEditOf};
 ghost use Rattle.hfs_call_patches.specs.Settings.{set_cat_info_call};
 ghost use Rattle.hfs_call_patches.specs.CallChanges.{Makes};
 
@@ -96,16 +94,6 @@ impl<B: Blocks> Editing<'_, B> {
                 )?;
                 Ok(Ok(self.change(patch, now)))
             }
-        }
-    }
-
-    /// The ID of the folder's file of that name, or the code that refuses to lock or unlock it.
-    pub fn file_to_lock(&self, dir: u32, name: &[u8]) -> Result<u32, i16>
-        ensures { ChoosesId (file_to_change (volume_in (B.blocks self.now)) dir name.now) result }
-    {
-        match self.file_to_change(dir, name) {
-            Ok(placed) => Ok(placed.file.id),
-            Err(code) => Err(code),
         }
     }
 

@@ -23,7 +23,7 @@ use Rattle.hfs_volume.proofs.WantsTold.{set_eof_wants, write_fork_wants}
 use Rattle.hfs_shared.specs.Journals.{IsForkWantOf, IsWantOf, IsAnswered}
 use Rattle.hfs_shared.specs.Desks.{PassState, entry_of, want_of, want_in}
 
-pub int_is : (x y : ℤ) → int_eq x y ≡ true → x ≡ y
+int_is : (x y : ℤ) → int_eq x y ≡ true → x ≡ y
 int_is x y h = (Decides-int_eq x y).0 h
 
 int_apart : (b : Bool) (x y : ℤ) → int_eq x y ≡ b → x ≢ y → b ≡ false

@@ -51,7 +51,7 @@ published_stays v journal more n le = ap (λ (l : List Entry). Opening v ∷ cha
 
 -- ---- the volume of a list
 
-pub and_right : (a b : Bool) → (a && b) ≡ true → b ≡ true
+and_right : (a b : Bool) → (a && b) ≡ true → b ≡ true
 and_right true b h = h
 and_right false b h = absurd (cc h)
 

@@ -18,8 +18,6 @@ use Rattle.hfs_shared.specs.Histories.{Known, known, with_change}
 use Rattle.hfs_shared.specs.Lists.{entered, shown, absorb, IsGood, Keeps, Shown}
 use Rattle.hfs_shared.specs.Pairs.{whole, owed_list, pair, with_call, IsPair, IsUnread}
 use Rattle.hfs_shared.proofs.Prefixes.{prefix_self, prefix_trans}
-use Rattle.hfs_viewers.specs.ByChoice.{Chooses}
-use Rattle.hfs_viewers.proofs.ByChoice.{choice_is_step}
 use Rattle.hfs_shared.proofs.Seeing.{turns}
 
 pub shown-snoc : (l : List Item) (c : Call) → shown (l ++ Change c ∷ []) ≡ (step (shown l) c).0
@@ -43,23 +41,23 @@ pair_settled f head x y pending after o p i same grown = subst (λ (z : Publishe
   makes = ap (λ (l : List op.Change). fold absorb x l) grown ∙ i.makes;
 }
 
-module _ (f g : Known) (head : Book) (x : Published) (c : Call) (id : ℕ) (chosen : Chooses (shown f.list) c id) where
+module _ (f g : Known) (head : Book) (x : Published) (c : Call) where
   -- the whole, with one change more
   pub makes_more : (pending : List op.Change) → fold absorb x pending ≡ whole f → g ≡ known f.book (f.list ++ Change c ∷ [])
-      → fold absorb x (pending ++ record { call = c; chosen = id; front = g } ∷ []) ≡ whole g
+      → fold absorb x (pending ++ record { call = c; front = g } ∷ []) ≡ whole g
   makes_more pending m is =
-      fold-append absorb x pending (record { call = c; chosen = id; front = g } ∷ [])
-      ∙ ap (λ (y : Published). absorb y record { call = c; chosen = id; front = g }) m
-      ∙ ap (λ (v : Volume). let w : Published = record { rows = v; front = g } in w) (choice_is_step (shown f.list) c id chosen ∙ sym (shown-snoc f.list c) ∙ ap (λ (k : Known). shown k.list) (sym is))
+      fold-append absorb x pending (record { call = c; front = g } ∷ [])
+      ∙ ap (λ (y : Published). absorb y record { call = c; front = g }) m
+      ∙ ap (λ (v : Volume). let w : Published = record { rows = v; front = g } in w) (sym (shown-snoc f.list c) ∙ ap (λ (k : Known). shown k.list) (sym is))
 
   pub pair_more : (y : Published) → y ≡ x → (pending after : List op.Change) (o p : Option op.Change) → IsPair f head x pending o → o ≡ None → g ≡ known f.book (f.list ++ Change c ∷ [])
-      → (h : Known) → h ≡ g → after ++ owed_list p ≡ pending ++ record { call = c; chosen = id; front = h } ∷ [] → IsPair g head y after p
+      → (h : Known) → h ≡ g → after ++ owed_list p ≡ pending ++ record { call = c; front = h } ∷ [] → IsPair g head y after p
   pair_more y same pending after o p i r is h copy grown = subst (λ (z : Published). IsPair g head z after p) (sym same) record {
     head_is = i.head_is ∙ sym (ap (λ (k : Known). k.book) is);
     book_is = i.book_is ∙ sym (ap (λ (k : Known). k.book) is);
     good = i.good;
     begins = subst (λ (l : List Item). IsPrefix x.front.list l) (sym (ap (λ (k : Known). k.list) is)) (prefix_trans _ f.list _ i.begins (Change c ∷ [], refl));
-    makes = ap (λ (l : List op.Change). fold absorb x l) (grown ∙ ap (λ (k : Known). let q : op.Change = record { call = c; chosen = id; front = k } in pending ++ q ∷ []) copy) ∙ makes_more pending (makes_ready f x pending o r i.makes) is;
+    makes = ap (λ (l : List op.Change). fold absorb x l) (grown ∙ ap (λ (k : Known). let q : op.Change = record { call = c; front = k } in pending ++ q ∷ []) copy) ∙ makes_more pending (makes_ready f x pending o r i.makes) is;
   }
 
 -- the step of a publish

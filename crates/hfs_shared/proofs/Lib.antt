@@ -15,4 +15,3 @@ pub mod Calling
 pub mod Working
 mod Begun
 pub mod SendLemmas
-pub mod ChosenLemmas

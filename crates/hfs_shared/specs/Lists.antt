@@ -1,5 +1,5 @@
 -- What a published list represents, and the rule of the pair of copies.
-use Rattle.std.specs.Prelude.{◌≡◌, ℕ, ◌<◌, true, List, [], ◌∷◌, ◌++◌, fold, length, slice_index, Option, Some, Result, IfOk}
+use Rattle.std.specs.Prelude.{◌≡◌, ℕ, ◌<◌, List, [], fold, length, Option, Some, Result, IfOk}
 use mathlib.Core.Option.{some}
 use mathlib.Core.List.{IsPrefix}
 use lib.ListN.{get_elem?}
@@ -12,9 +12,6 @@ use Rattle.hfs_model.specs.declared.call.Call.{Call}
 use Rattle.hfs_model.specs.declared.reply.Reply.{Reply}
 use Rattle.hfs_model.specs.Volume.{Volume}
 use Rattle.hfs_model.specs.Step.{step, new_volume}
-use Rattle.hfs_model.specs.declared.journal.Entry.{Entry}
-use Rattle.hfs_viewers.specs.ByChoice.{after_choice, Chooses}
-use Rattle.hfs_shared.specs.Journals.{is_accepted, changes}
 
 -- the volume after a member of a list
 abbrev pub entered : Volume → Item → Volume
@@ -25,14 +22,9 @@ entered v (Change c) = (step v c).0
 abbrev pub shown : List Item → Volume
 shown list = fold entered (new_volume [] 0) list
 
--- a copy after a change, by the ID that it chose
+-- a copy after a change
 abbrev pub absorb : Published → op.Change → Published
-absorb x o = record { rows = after_choice x.rows o.call o.chosen; front = o.front }
-
--- each of these entries that is accepted chose the item of its ID, after the changes of this list and of those before it
-pub record HaveChosen (list : List Item) (entries : List Entry) (chosen : List ℕ) : Type 0 where
-  pub as_many : length chosen ≡ length entries
-  pub each : (before : List Entry) (e : Entry) (rest : List Entry) → entries ≡ before ++ e ∷ rest → is_accepted e ≡ true → Chooses (shown (list ++ changes before)) e.call (slice_index chosen (length before))
+absorb x o = record { rows = (step x.rows o.call).0; front = o.front }
 
 -- the rows are those of the list
 abbrev pub IsGood : Published → Type 0

@@ -13,7 +13,7 @@ impl Absorb<Change> for Published {
     ghost applied = { absorb };
 
     fn absorb_first(&mut self, operation: &Change, _other: &Published) -> Result<(), AllocError> {
-        self.rows.absorb(&operation.call, operation.chosen)?;
+        self.rows.absorb(&operation.call)?;
         self.front = operation.front.again();
         Ok(())
     }

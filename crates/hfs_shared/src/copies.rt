@@ -3,11 +3,10 @@ ghost use Rattle.std.specs.Prelude.{◌≡◌, ◌≢◌, ◌<◌, ◌≤◌, �
 ghost use Rattle.left_right.specs.Sides.{view as seat_view};
 ghost use Rattle.hfs_shared.specs.Answers.{IsAllOrNothing};
 ghost use Rattle.hfs_shared.specs.Histories.{known, opened};
-ghost use Rattle.hfs_shared.specs.Lists.{shown, Sits};
+ghost use Rattle.hfs_shared.specs.Lists.{Sits};
 ghost use Rattle.hfs_shared.specs.Pairs.{PairState, with_all_shown, whole, IsOpened, IsPair, HaveSeen, with_call, SawOpeningOf};
 ghost use Rattle.hfs_shared.specs.Writers.{pending_in, waiting_in, KeepsLog, KeepsPending, HasOpened, IsPairIn, ShowsAllOrSame};
 ghost use Rattle.hfs_check.specs.VolumeOf.{volume_of};
-ghost use Rattle.hfs_viewers.specs.ByChoice.{Chooses};
 
 use crate::front::{Front, History};
 use crate::pair::PairFault;
@@ -65,10 +64,8 @@ impl Copies {
         self.front.changes() == self.writer.published().front.changes()
     }
 
-    /// Adds a change after all others, which chose the item of that ID; it waits to be published. Returns whether it did: not when
-    /// out of memory.
-    pub fn add(&mut self, call: Call, chosen: u32) -> bool
-        requires { Chooses (shown self.old.all) call chosen }
+    /// Adds a change after all others; it waits to be published. Returns whether it did: not when out of memory.
+    pub fn add(&mut self, call: Call) -> bool
         ensures { IsAllOrNothing result (with_call self.old call) self.old self.new }
     {
         if !settle(&mut self.writer, &mut self.owed) {
@@ -80,7 +77,6 @@ impl Copies {
         }
         let change = Change {
             call,
-            chosen,
             front: front.again(),
         };
         self.owed = hand_over(&mut self.writer, change);

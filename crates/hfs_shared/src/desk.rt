@@ -2,12 +2,8 @@
 ghost use Rattle.std.specs.Prelude.{◌≡◌, ◌≤◌, ◌<◌, [], length, IfOk, OnErr, IfErr};
 ghost use Rattle.hfs_shared.specs.Desks.{DeskState, desk_state, pass_state, wanted, want_of, want_in, entry_of, IsHeadline, IsApplied};
 ghost use Rattle.hfs_shared.specs.Faults.{IsCallFault};
-ghost use Rattle.hfs_shared.specs.Histories.{opened};
-ghost use Rattle.hfs_shared.specs.Lists.{HaveChosen};
-ghost use Rattle.hfs_check.specs.VolumeOf.{volume_of};
 
 use crate::pass::Pass;
-use crate::standing_in::call_choosing;
 use hfs_model::{Call, DISK_FULL, Entry, Reply, Value, Want};
 use hfs_volume::Volume;
 use std::alloc::Global;
@@ -31,23 +27,18 @@ pub enum CallFault {
 pub struct Desk {
     volume: Volume,
     journal: Vec<Entry>,
-    // The ID of the item that each entry's call chose.
-    chosen: Vec<u32>,
     next: Vec<u64>,
 }
 
 impl Model for Desk {
     ghost use Rattle.std.specs.Prelude.{length};
-    ghost use Rattle.hfs_check.specs.VolumeOf.{volume_of};
     ghost use Rattle.hfs_shared.specs.Desks.{DeskState, desk_state, IsHeadline, IsCounted};
-    ghost use Rattle.hfs_shared.specs.Histories.{opened};
-    ghost use Rattle.hfs_shared.specs.Lists.{HaveChosen};
 
     ghost Value = { DeskState };
 
     ghost view = { λ d. desk_state d.volume.base d.volume.current d.volume.written d.journal.items (length d.next.items) };
 
-    ghost invariant = { λ d. IsHeadline d.volume.base d.volume.current d.volume.written d.journal.items × IsCounted d.next.items d.journal.items × HaveChosen (opened (volume_of d.volume.base)) d.journal.items d.chosen.items };
+    ghost invariant = { λ d. IsHeadline d.volume.base d.volume.current d.volume.written d.journal.items × IsCounted d.next.items d.journal.items };
 }
 
 impl Desk {
@@ -67,7 +58,6 @@ impl Desk {
         Ok(Desk {
             volume,
             journal: Vec::new(alloc),
-            chosen: Vec::new(alloc),
             next,
         })
     }
@@ -91,13 +81,6 @@ impl Desk {
         &self.journal
     }
 
-    /// The ID of the item that each entry's call chose.
-    pub fn chosen(&self) -> &[u32]
-        ensures { HaveChosen (opened (volume_of self.now.base)) self.now.journal result.now }
-    {
-        &self.chosen
-    }
-
     /// Makes a call of a worker, which adds one entry to the journal. `Stamp` if the pass doesn't have its worker's next number;
     /// this is checked before anything else.
     pub fn apply(&mut self, alloc: Global, pass: &mut Pass, call: &Call) -> Result<Reply, CallFault>
@@ -113,20 +96,19 @@ impl Desk {
                 given: number,
             });
         }
-        if self.journal.reserve(1).is_err() || self.chosen.reserve(1).is_err() {
+        if self.journal.reserve(1).is_err() {
             return Err(CallFault::Memory);
         }
         let Ok(copy) = call.copied() else {
             return Err(CallFault::Memory);
         };
-        let Ok((reply, chosen)) = call_choosing(&mut self.volume, alloc, call) else {
+        let Ok(reply) = self.volume.call(alloc, call) else {
             return Err(CallFault::Memory);
         };
         self.volume.agrees_with_base();
         let worker = pass.worker();
         self.journal
             .push_reserved(entry(worker, number, copy, &reply));
-        self.chosen.push_reserved(chosen);
         self.next[worker as usize - 1] = number + 1;
         pass.raise();
         Ok(reply)

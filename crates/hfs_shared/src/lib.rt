@@ -25,7 +25,6 @@ mod rule;
 mod seat;
 mod session;
 mod shared;
-mod standing_in;
 mod told;
 mod unread;
 mod viewer;

@@ -4,7 +4,6 @@ ghost use Rattle.hfs_check.specs.VolumeOf.{volume_of};
 ghost use Rattle.hfs_shared.specs.Journals.{published, NoneAccepted};
 ghost use Rattle.hfs_shared.specs.Desks.{IsApplied, IsHeadline};
 ghost use Rattle.hfs_shared.specs.Faults.{IsCallFault};
-ghost use Rattle.hfs_shared.specs.Lists.{HaveChosen};
 ghost use Rattle.hfs_shared.specs.Lockeds.{LockedState, locked_state, desk_of, IsUnderLock, KeepsUp, ShowsOf, GathersOf, CoversAllOrSame};
 ghost use Rattle.hfs_shared.specs.Shareds.{told_of};
 
@@ -91,21 +90,20 @@ impl<K: Session> Locked<K> {
         ensures headline { IsUnderLock K.base self.new }
     {
         let journal = self.desk.journal();
-        self.added = gather(&mut self.pair, journal, self.desk.chosen(), self.added);
+        self.added = gather(&mut self.pair, journal, self.added);
         self.shown = show(rt, &mut self.pair, self.added, journal.len(), self.shown);
         self.pair.told(self.shown as u64, journal.len() as u64)
     }
 }
 
 // Adds the changes of the next entries to the pair, as far as memory allows. Returns how many entries the pair then has.
-fn gather(pair: &mut Pair, journal: &[Entry], chosen: &[u32], added: usize) -> usize
-    requires within { added ≤ length journal.now }
-    requires chosen { HaveChosen pair.old.all (drop added journal.now) (drop added chosen.now) }
+fn gather(pair: &mut Pair, journal: &[Entry], added: usize) -> usize
+    requires { added ≤ length journal.now }
     ensures order { (added ≤ result) × (result ≤ length journal.now) }
     ensures lists { GathersOf pair.old journal.now added pair.new result }
     ensures idle { NoneAccepted (drop added journal.now) → result ≡ length journal.now }
 {
-    added + pair.add_entries(&journal[added..], &chosen[added..])
+    added + pair.add_entries(&journal[added..])
 }
 
 // Shows what the pair has, if it has the changes of all entries. Returns how many entries the published list then covers.

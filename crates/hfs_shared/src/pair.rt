@@ -4,10 +4,8 @@ ghost use mathlib.Core.List.{IsPrefix};
 ghost use Rattle.hfs_check.specs.VolumeOf.{volume_of};
 ghost use Rattle.hfs_shared.specs.Answers.{IsAllOrNothing};
 ghost use Rattle.hfs_shared.specs.Histories.{known, opened};
-ghost use Rattle.hfs_shared.specs.Lists.{shown};
 ghost use Rattle.hfs_shared.specs.Pairs.{with_all_shown, IsOpened, with_call, SawOpeningOf};
 ghost use Rattle.hfs_shared.specs.Tolds.{told};
-ghost use Rattle.hfs_viewers.specs.ByChoice.{Chooses};
 
 use crate::copies::Copies;
 use crate::front::Front;
@@ -87,15 +85,13 @@ impl Pair {
         }
     }
 
-    /// Adds a change after all others, which chose the item of that ID; it waits to be published. Returns whether it did: not when
-    /// out of memory.
-    pub fn add(&mut self, call: &Call, chosen: u32) -> bool
-        requires { Chooses (shown self.old.all) call.now chosen }
+    /// Adds a change after all others; it waits to be published. Returns whether it did: not when out of memory.
+    pub fn add(&mut self, call: &Call) -> bool
         ensures { IsAllOrNothing result (with_call self.old call.now) self.old self.new }
     {
         match &mut self.kind {
             Kind::Read(copies) => match call.copied() {
-                Ok(call) => copies.add(call, chosen),
+                Ok(call) => copies.add(call),
                 Err(_) => false,
             },
             Kind::Unread(unread) => unread.add(call),

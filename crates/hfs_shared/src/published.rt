@@ -10,10 +10,9 @@ pub struct Published {
     pub front: Front,
 }
 
-/// A change, with the ID of the item that it chose, and the list that it leaves.
+/// A change, with the list that it leaves.
 #[derive(Drop)]
 pub struct Change {
     pub call: Call,
-    pub chosen: u32,
     pub front: Front,
 }

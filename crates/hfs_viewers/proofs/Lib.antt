@@ -30,4 +30,3 @@ mod ChangedLemmas
 mod PieceReads
 mod ForkRows
 mod Opens
-pub mod ByChoice

@@ -10,4 +10,3 @@ pub mod ForkParts
 pub mod Opened
 pub mod Changed
 pub mod MountedForks
-pub mod ByChoice

@@ -1,10 +1,10 @@
 //! What each change makes of a table. A change that `step` refuses leaves it as it was.
 ghost use Rattle.std.specs.Prelude.{IsTrue, OnOk, OnErr};
-ghost use Rattle.hfs_model.specs.Changes.{set_f_info, delete, new_file, new_folder};
+ghost use Rattle.hfs_model.specs.Changes.{set_f_info, set_lock, delete, new_file, new_folder};
 ghost use Rattle.hfs_model.specs.FileIds.{create_file_id, delete_file_id};
 ghost use Rattle.hfs_model.specs.Lawful.{AreLawful};
+ghost use Rattle.hfs_model.specs.Step.{step};
 ghost use Rattle.hfs_viewers.specs.RowEdits.{Adds, AddsRow, Leaves, IsNew, SetsCatInfo, SetsEof, WritesFork};
-ghost use Rattle.hfs_viewers.specs.ByChoice.{after_choice, set_lock_at};
 ghost use Rattle.hfs_viewers.specs.InPlace.{is_in_place};
 ghost use Rattle.hfs_viewers.specs.Tables.{items_of, volume_of, IsTable};
 
@@ -15,7 +15,7 @@ use crate::row::RowKind;
 use crate::table::Table;
 use crate::writing_forks::{ForkEdit, edit_fork};
 use hfs_fields::Name;
-use hfs_model::{Call, Fork, SharedBytes};
+use hfs_model::{Call, Fork, SharedBytes, reading_leaves};
 use std::alloc::{AllocError, Global};
 
 impl Table {
@@ -106,11 +106,15 @@ impl Table {
         Ok(())
     }
 
-    /// Locks or unlocks the file of that ID, which a call chose. If no item has it, only the moment of the last change is set.
-    pub fn set_lock(&mut self, id: u32, locked: bool, now: u32)
+    /// Locks or unlocks a file.
+    pub fn set_lock(&mut self, locked: bool, dir: u32, name: &[u8], now: u32)
         requires { IsTable self.old }
-        ensures { Leaves self.new (set_lock_at locked (volume_of self.old) id now) }
+        ensures { Leaves self.new (set_lock locked (volume_of self.old) dir name.now now).0 }
     {
+        let id = match self.file_to_change(dir, name) {
+            Ok(found) => found.id,
+            Err(_) => return,
+        };
         edits::set_lock(&mut self.by_id, id, locked);
         self.changed = now;
     }
@@ -217,11 +221,11 @@ impl Table {
         self.changed = now;
     }
 
-    /// Takes in a change that takes no memory, which chose the item of that ID.
-    fn absorb_in_place(&mut self, call: &Call, chosen: u32)
+    /// Takes in a change that takes no memory. A change that is refused leaves the table as it was.
+    fn absorb_in_place(&mut self, call: &Call)
         requires table { IsTable self.old }
         requires in_place { IsTrue (is_in_place call.now) }
-        ensures { Leaves self.new (after_choice (volume_of self.old) call.now chosen) }
+        ensures { Leaves self.new (step (volume_of self.old) call.now).0 }
     {
         match call {
             Call::SetFInfo {
@@ -242,8 +246,8 @@ impl Table {
                 let name = name.as_slice();
                 self.set_cat_info(*dir, name, *created, *modified, *backup, *info, *now);
             }
-            Call::SetFLock { now, .. } => self.set_lock(chosen, true, *now),
-            Call::RstFLock { now, .. } => self.set_lock(chosen, false, *now),
+            Call::SetFLock { dir, name, now } => self.set_lock(true, *dir, name.as_slice(), *now),
+            Call::RstFLock { dir, name, now } => self.set_lock(false, *dir, name.as_slice(), *now),
             Call::Delete { dir, name, now } => self.delete(*dir, name.as_slice(), *now),
             Call::CreateFileId { dir, name, now } => {
                 self.create_file_id(*dir, name.as_slice(), *now);
@@ -264,14 +268,15 @@ impl Table {
         }
     }
 
-    /// Takes in a change, which chose the item of that ID; a call that reads leaves the table as it was. Fails only when out of
-    /// memory, and then the items are as they were.
-    pub fn absorb(&mut self, alloc: Global, call: &Call, chosen: u32) -> Result<(), AllocError>
+    /// Takes in a change. A change that is refused leaves the table as it was, and so does a call that reads. Fails only when out
+    /// of memory, and then the items are as they were.
+    pub fn absorb(&mut self, alloc: Global, call: &Call) -> Result<(), AllocError>
         requires table { IsTable self.old }
         requires lawful { AreLawful (items_of self.old) self.old.next_id }
-        ensures ok { OnOk result (Leaves self.new (after_choice (volume_of self.old) call.now chosen)) }
+        ensures ok { OnOk result (Leaves self.new (step (volume_of self.old) call.now).0) }
         ensures err { OnErr result (Leaves self.new (volume_of self.old)) }
     {
+        reading_leaves();
         match call {
             Call::Create { dir, name, now } => self.create(alloc, *dir, name.as_slice(), *now),
             Call::DirCreate { dir, name, now } => self.dir_create(*dir, name.as_slice(), *now),
@@ -309,7 +314,7 @@ impl Table {
             | Call::Delete { .. }
             | Call::CreateFileId { .. }
             | Call::DeleteFileId { .. } => {
-                self.absorb_in_place(call, chosen);
+                self.absorb_in_place(call);
                 Ok(())
             }
             Call::GetDirInfo { .. }

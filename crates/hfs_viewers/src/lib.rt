@@ -17,7 +17,6 @@ mod finding;
 mod following;
 mod fork;
 mod kept;
-mod laws;
 mod locks;
 mod mounted_forks;
 mod moving;
@@ -34,7 +33,6 @@ mod writing_forks;
 
 pub use extents::Extents;
 pub use fork::ForkPieces;
-pub use laws::choice_is_step;
 pub use piece::{Piece, Source};
 pub use piece_list::PieceList;
 pub use place::Place;

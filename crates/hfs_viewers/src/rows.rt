@@ -3,15 +3,13 @@ ghost use Rattle.std.specs.Prelude.{◌≡◌, IsTrue, IfOk, OnOk, OnErr};
 ghost use Rattle.hfs_check.specs.VolumeOf.{volume_of};
 ghost use Rattle.hfs_model.specs.Lawful.{IsLawful};
 ghost use Rattle.hfs_model.specs.Step.{step, is_reading};
-ghost use Rattle.hfs_viewers.specs.ByChoice.{after_choice};
 ghost use Rattle.hfs_viewers.specs.Tables.{IsTable};
 ghost use Rattle.hfs_viewers.specs.Tables as tables;
 
 use crate::Table;
-use crate::laws::choice_keeps_lawful;
 use crate::opening::{Maps, table_over};
 use crate::threads::ThreadIds;
-use hfs_model::{Call, Reply};
+use hfs_model::{Call, Reply, step_keeps_lawful};
 use hfs_volume::Volume;
 use std::alloc::{AllocError, Global};
 use std::marker::Model;
@@ -74,14 +72,14 @@ impl Rows {
         &self.table
     }
 
-    /// Takes in a change, which chose the item of that ID; a call that reads leaves the rows as they were. Fails only when out of
-    /// memory, and then the rows are as they were.
-    pub fn absorb(&mut self, call: &Call, chosen: u32) -> Result<(), AllocError>
-        ensures ok { OnOk result (self.new ≡ after_choice self.old call.now chosen) }
+    /// Takes in a change. A change that is refused leaves the rows as they were, and so does a call that reads. Fails only when
+    /// out of memory, and then the rows are as they were.
+    pub fn absorb(&mut self, call: &Call) -> Result<(), AllocError>
+        ensures ok { OnOk result (self.new ≡ (step self.old call.now).0) }
         ensures err { OnErr result (self.new ≡ self.old) }
     {
-        choice_keeps_lawful();
-        self.table.absorb(self.alloc, call, chosen)
+        step_keeps_lawful();
+        self.table.absorb(self.alloc, call)
     }
 
     /// Answers a call that reads. Fails only when out of memory.

@@ -25,7 +25,6 @@ impl Desk {
         let Desk {
             volume,
             journal: _,
-            chosen: _,
             next: _,
         } = self;
         volume
@@ -43,7 +42,6 @@ impl Desk {
         let Desk {
             volume,
             journal,
-            chosen: _,
             next: _,
         } = self;
         (volume, journal)

@@ -2,24 +2,21 @@
 ghost use Rattle.std.specs.Prelude.{◌≡◌, ◌≤◌, true, false, length, take};
 ghost use Rattle.hfs_shared.specs.Answers.{IsAllOrNothing};
 ghost use Rattle.hfs_shared.specs.Journals.{is_accepted, changes, NoneAccepted};
-ghost use Rattle.hfs_shared.specs.Lists.{shown, HaveChosen};
 ghost use Rattle.hfs_shared.specs.Pairs.{with_added, with_entry};
-ghost use Rattle.hfs_viewers.specs.ByChoice.{Chooses};
 
 use crate::pair::Pair;
 use hfs_model::Entry;
 
 impl Pair {
-    /// Adds the accepted changes of the next entries of a journal, which chose the items of these IDs, as far as memory allows.
-    /// Returns how many of the entries are done.
-    pub fn add_entries(&mut self, entries: &[Entry], chosen: &[u32]) -> usize
-        requires { HaveChosen self.old.all entries.now chosen.now }
+    /// Adds the accepted changes of the next entries of a journal, as far as memory allows. Returns how many of the entries are
+    /// done.
+    pub fn add_entries(&mut self, entries: &[Entry]) -> usize
         ensures within { result ≤ length entries.now }
         ensures added { self.new ≡ with_added self.old (changes (take result entries.now)) }
         ensures idle { NoneAccepted entries.now → result ≡ length entries.now }
     {
         for at in 0..entries.len() {
-            if !self.add_entry(&entries[at], chosen[at]) {
+            if !self.add_entry(&entries[at]) {
                 return at;
             }
         }
@@ -27,15 +24,14 @@ impl Pair {
     }
 
     // Adds the change of an entry, if it is one that was accepted, and returns whether the entry is done.
-    fn add_entry(&mut self, entry: &Entry, chosen: u32) -> bool
-        requires { is_accepted entry.now ≡ true → Chooses (shown self.old.all) entry.now.call chosen }
+    fn add_entry(&mut self, entry: &Entry) -> bool
         ensures added { IsAllOrNothing result (with_entry self.old entry.now) self.old self.new }
         ensures idle { is_accepted entry.now ≡ false → result ≡ true }
     {
         if !is_accepted(entry) {
             return true;
         }
-        self.add(&entry.call, chosen)
+        self.add(&entry.call)
     }
 }
 

@@ -10,17 +10,14 @@ use Rattle.hfs_shared.specs.Desks.{DeskState, IsHeadline, IsCounted, wanted, ent
 use Rattle.hfs_shared.specs.Stages.{stage, HasMade}
 use Rattle.hfs_shared.proofs.Headline.{entry_makes, headline_more, counted_more, wanted_known}
 use Rattle.hfs_model.proofs.ModelLawsProved.{step_is_never_full}
-use Rattle.hfs_shared.specs.Histories.{opened}
-use Rattle.hfs_shared.specs.Lists.{HaveChosen}
-use Rattle.hfs_shared.proofs.ChosenLemmas.{chosen_more, chosen_next}
 use Rattle.hfs_shared.proofs.desk.Desk.apply.Goals as goal
 
 -- the journal has one entry more
-items_is : (c : goal.After-raise) → c.push_reserved.new.self.items ≡ c.self.inside.journal.items ++ entry_of c.args.pass.now c.args.call.now c.in-Ok-call_choosing.reply ∷ []
+items_is : (c : goal.After-raise) → c.push_reserved.new.self.items ≡ c.self.inside.journal.items ++ entry_of c.args.pass.now c.args.call.now c.in-Ok-call.reply ∷ []
 items_is c =
     c.push_reserved.ensures.items
     ∙ ap (λ (e : Entry). c.reserve.new.self.items ++ e ∷ []) c.entry.ensures
-    ∙ (λ i. c.reserve.ensures.items i ++ entry_of (pass_state (c.worker-worker.ensures i) (c.number-number.ensures.value i)) (c.in-Ok.ensures i) c.in-Ok-call_choosing.reply ∷ [])
+    ∙ (λ i. c.reserve.ensures.items i ++ entry_of (pass_state (c.worker-worker.ensures i) (c.number-number.ensures.value i)) (c.in-Ok.ensures i) c.in-Ok-call.reply ∷ [])
 
 -- the pass's number is the one wanted
 is_wanted : (c : goal.After-raise) → c.number-number.result ≡ wanted (length c.self.inside.next.items) c.self.inside.journal.items c.args.pass.now.worker
@@ -38,60 +35,47 @@ number_is : (c : goal.After-raise) → c.args.pass.now.number ≡ made_by c.args
 number_is c = (let known = is_known c in sym c.number-number.ensures.value ∙ is_wanted c ∙ known.2)
 
 -- the image that the entry made of the one before
-made_is : (c : goal.After-raise) → let v = c.self.inside.volume in let w = c.call_choosing.new.volume in HasMade (entry_of c.args.pass.now c.args.call.now c.in-Ok-call_choosing.reply) (stage v.current v.written) (stage w.current w.written)
+made_is : (c : goal.After-raise) → let v = c.self.inside.volume in let w = c.call.new.self in HasMade (entry_of c.args.pass.now c.args.call.now c.in-Ok-call.reply) (stage v.current v.written) (stage w.current w.written)
 made_is c =
-    entry_makes step_is_never_full c.self.inside.volume c.call_choosing.new.volume c.args.pass.now c.args.call.now c.in-Ok-call_choosing.reply c.self.invariant.0.agrees.sound c.in-Ok-call_choosing.ensures.outcome c.in-Ok-call_choosing.ensures.written c.in-Ok-call_choosing.ensures.refused
+    entry_makes step_is_never_full c.self.inside.volume c.call.new.self c.args.pass.now c.args.call.now c.in-Ok-call.reply c.self.invariant.0.agrees.sound c.in-Ok-call.ensures.outcome c.in-Ok-call.ensures.written c.in-Ok-call.ensures.refused
 
-headline_is : (c : goal.After-raise) → IsHeadline c.call_choosing.new.volume.base c.call_choosing.new.volume.current c.call_choosing.new.volume.written c.push_reserved.new.self.items
+headline_is : (c : goal.After-raise) → IsHeadline c.call.new.self.base c.call.new.self.current c.call.new.self.written c.push_reserved.new.self.items
 headline_is c =
-    let w = c.call_choosing.new.volume in
-    let agrees : AgreesBut w.written c.self.inside.volume.base w.current = subst (λ (b : List ℕ). AgreesBut w.written b w.current) c.call_choosing.ensures.base c.agrees_with_base.ensures.agrees in
-    subst (λ (y : List ℕ × List Entry). IsHeadline y.0 w.current w.written y.1) (λ i. (sym c.call_choosing.ensures.base i, sym (items_is c) i))
-    (headline_more step_is_never_full c.self.inside.volume.base c.self.inside.volume w c.self.inside.journal.items c.args.pass.now c.args.call.now c.in-Ok-call_choosing.reply
-    c.self.invariant.0 c.in-Ok-call_choosing.ensures.outcome (made_is c) (number_is c) agrees)
-
--- each entry's choice, with the call's own at the end
-chosen_is : (c : goal.After-raise) → HaveChosen (opened (volume_of c.call_choosing.new.volume.base)) c.push_reserved.new.self.items c.push_reserved-2.new.self.items
-chosen_is c =
-    let base = c.self.inside.volume.base in
-    let journal = c.self.inside.journal.items in
-    let h = c.self.invariant.0 in
-    let e = entry_of c.args.pass.now c.args.call.now c.in-Ok-call_choosing.reply in
-    let ids = c.push_reserved-2.ensures.items ∙ ap (λ (l : List ℕ). l ++ c.in-Ok-call_choosing.chosen ∷ []) c.reserve-2.ensures.items in
-    subst (λ (y : List ℕ × List Entry × List ℕ). HaveChosen (opened (volume_of y.0)) y.1.0 y.1.1) (λ i. (sym c.call_choosing.ensures.base i, sym (items_is c) i, sym ids i))
-    (chosen_more (volume_of base) journal c.self.inside.chosen.items e c.in-Ok-call_choosing.chosen c.self.invariant.1.1
-    (chosen_next (volume_of base) (volume_of c.self.inside.volume.current) journal c.args.pass.now c.args.call.now c.in-Ok-call_choosing.reply c.in-Ok-call_choosing.chosen h.legal h.follows c.in-Ok-call_choosing.ensures.chosen))
+    let w = c.call.new.self in
+    let agrees : AgreesBut w.written c.self.inside.volume.base w.current = subst (λ (b : List ℕ). AgreesBut w.written b w.current) c.call.ensures.base c.agrees_with_base.ensures.agrees in
+    subst (λ (y : List ℕ × List Entry). IsHeadline y.0 w.current w.written y.1) (λ i. (sym c.call.ensures.base i, sym (items_is c) i))
+    (headline_more step_is_never_full c.self.inside.volume.base c.self.inside.volume w c.self.inside.journal.items c.args.pass.now c.args.call.now c.in-Ok-call.reply
+    c.self.invariant.0 c.in-Ok-call.ensures.outcome (made_is c) (number_is c) agrees)
 
 pub invariant_of-self-2 : goal.invariant_of-self-2
 invariant_of-self-2 c =
     let p = c.args.pass.now in
     let next = c.self.inside.next.items in
     let journal = c.self.inside.journal.items in
-    let e = entry_of p c.args.call.now c.in-Ok-call_choosing.reply in
+    let e = entry_of p c.args.call.now c.in-Ok-call.reply in
     let known = is_known c in (
       headline_is c,
       subst (λ (js : List Entry). IsCounted (slice_set next (c.worker-worker.result - 1) (c.number-number.result + 1)) js) (sym (items_is c))
           (subst (λ (y : ℕ × ℕ). IsCounted (slice_set next (y.0 - 1) (y.1 + 1)) (journal ++ e ∷ []))
           (λ i. (sym c.worker-worker.ensures i, sym c.number-number.ensures.value i))
-          (counted_more next journal e c.self.invariant.1.0 known.0 known.1 (number_is c))),
-      chosen_is c,
+          (counted_more next journal e c.self.invariant.1 known.0 known.1 (number_is c))),
     )
 
 pub returns-clause-ok : goal.returns-clause-ok
 returns-clause-ok c =
     let p = c.args.pass.now in
     let same = c.self.view_is in
-    let e = entry_of p c.args.call.now c.in-Ok-call_choosing.reply in
+    let e = entry_of p c.args.call.now c.in-Ok-call.reply in
     record {
-      base = c.call_choosing.ensures.base ∙ ap (λ (s : DeskState). s.base) same;
+      base = c.call.ensures.base ∙ ap (λ (s : DeskState). s.base) same;
       workers = length-set c.self.inside.next.items _ _ ∙ ap (λ (s : DeskState). s.workers) same;
       journal = items_is c ∙ ap (λ (s : DeskState). s.journal ++ e ∷ []) same;
       pass = c.raise.ensures;
       wanted_is = sym c.number-number.ensures.value ∙ is_wanted c ∙ ap (λ (s : DeskState). wanted s.workers s.journal p.worker) same;
-      outcome = subst (λ (s : DeskState). IsOutcomeIn s.current c.args.call.now (volume_of c.call_choosing.new.volume.current, c.in-Ok-call_choosing.reply)) same c.in-Ok-call_choosing.ensures.outcome;
-      reading = λ reads. ap (λ v. v.current) (c.call_choosing.ensures.reading reads) ∙ ap (λ (s : DeskState). s.current) same;
-      refused = λ other. ap (λ v. v.current) (c.in-Ok-call_choosing.ensures.refused other) ∙ ap (λ (s : DeskState). s.current) same;
-      made = subst (λ (s : DeskState). HasMade e (stage s.current s.written) (stage c.call_choosing.new.volume.current c.call_choosing.new.volume.written)) same (made_is c);
+      outcome = subst (λ (s : DeskState). IsOutcomeIn s.current c.args.call.now (volume_of c.call.new.self.current, c.in-Ok-call.reply)) same c.in-Ok-call.ensures.outcome;
+      reading = λ reads. ap (λ v. v.current) (c.call.ensures.reading reads) ∙ ap (λ (s : DeskState). s.current) same;
+      refused = λ other. ap (λ v. v.current) (c.in-Ok-call.ensures.refused other) ∙ ap (λ (s : DeskState). s.current) same;
+      made = subst (λ (s : DeskState). HasMade e (stage s.current s.written) (stage c.call.new.self.current c.call.new.self.written)) same (made_is c);
       headline = subst (λ (s : DeskState). IsHeadline s.base s.current s.written s.journal) same c.self.invariant.0;
       headline_after = headline_is c;
     }

@@ -11,7 +11,7 @@ returns-then-not-has c = λ (a : AreAllPasses c.args.passes.now.items c.args.sel
     let at = c.loop-at.at in
     let workers = ap (λ (s : DeskState). s.workers) c.self.view_is in
     let below : at < length c.self.inside.next.items = omega arith in
-    let count = c.index.ensures ∙ get_or_default_zero c.self.inside.next.items at c.index.result.now below ∙ c.self.invariant.1.0.counts at below ∙ ap (λ (s : DeskState). made_by (at + 1) s.journal + 1) c.self.view_is in
+    let count = c.index.ensures ∙ get_or_default_zero c.self.inside.next.items at c.index.result.now below ∙ c.self.invariant.1.counts at below ∙ ap (λ (s : DeskState). made_by (at + 1) s.journal + 1) c.self.view_is in
     c.if-not-has.ensures (subst (λ (n : ℕ). HasPass c.args.passes.now.items (pass_state (at + 1) n)) (sym count) (a.each at (omega (arith, workers))))
 
 pub loop-at-preserved : goal.loop-at-preserved
@@ -19,7 +19,7 @@ loop-at-preserved c =
     let at = c.loop-at.at in
     let below : at < length c.self.inside.next.items = omega arith in
     below_more (λ (w : ℕ). HasPass c.args.passes.now.items (pass_state (w + 1) (made_by (w + 1) c.self.inside.journal.items + 1))) at c.loop-at.invariant
-    (subst (λ (n : ℕ). HasPass c.args.passes.now.items (pass_state (at + 1) n)) (c.index.ensures ∙ get_or_default_zero c.self.inside.next.items at c.index.result.now below ∙ c.self.invariant.1.0.counts at below) c.if-not-has.ensures)
+    (subst (λ (n : ℕ). HasPass c.args.passes.now.items (pass_state (at + 1) n)) (c.index.ensures ∙ get_or_default_zero c.self.inside.next.items at c.index.result.now below ∙ c.self.invariant.1.counts at below) c.if-not-has.ensures)
 
 pub returns : goal.returns
 returns c =

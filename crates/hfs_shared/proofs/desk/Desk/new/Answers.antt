@@ -5,8 +5,6 @@ use Rattle.hfs_model.specs.Volume.{Volume}
 use Rattle.hfs_model.specs.declared.journal.Entry.{Entry}
 use Rattle.hfs_shared.specs.Journals.{IsLegal}
 use Rattle.hfs_shared.specs.Desks.{IsHeadline, IsCounted}
-use Rattle.hfs_shared.specs.Histories.{opened}
-use Rattle.hfs_shared.specs.Lists.{HaveChosen}
 use Rattle.hfs_shared.proofs.desk.Desk.new.Goals as goal
 
 some-none : (e : Entry) (rest : List Entry) → [] ≡ e ∷ rest → ⊥
@@ -15,10 +13,6 @@ some-none e rest is = cc
 none_legal : (v : Volume) → IsLegal v []
 none_legal v [] e rest is = absurd (some-none e rest is)
 none_legal v (x ∷ xs) e rest is = absurd (some-none x (xs ++ e ∷ rest) is)
-
-nothing_in : (before : List Entry) (e : Entry) (rest : List Entry) → [] ≡ before ++ e ∷ rest → ⊥
-nothing_in [] e rest is = some-none e rest is
-nothing_in (x ∷ xs) e rest is = some-none x (xs ++ e ∷ rest) is
 
 one_at : (n w : ℕ) → w < n → ◌≡◌ {A = ℕ} (get_or (replicate n 1) w 0) 1
 one_at zero w lt = absurd (omega (arith, lt))
@@ -39,6 +33,5 @@ invariant_of-result c =
       nobody = refl;
       few = omega (arith, c.in-Ok.ensures.len, c.requires.workers);
     } in
-    let none : HaveChosen (opened (volume_of c.args.volume.base)) [] [] = record { as_many = refl; each = λ before e rest is. absurd (nothing_in before e rest is) } in
-    subst (λ (y : List Entry × List ℕ). IsHeadline c.args.volume.base c.args.volume.current c.args.volume.written y.0 × IsCounted c.in-Ok.next.items y.0 × HaveChosen (opened (volume_of c.args.volume.base)) y.0 y.1)
-    (λ i. (sym c.new.ensures.items i, sym c.new-2.ensures.items i)) (headline, counted, none)
+    subst (λ (j : List Entry). IsHeadline c.args.volume.base c.args.volume.current c.args.volume.written j × IsCounted c.in-Ok.next.items j)
+    (sym c.new.ensures.items) (headline, counted)

@@ -12,4 +12,4 @@ returns c =
     subst (λ (s : DeskState). c.index.result.now ≡ wanted s.workers s.journal c.args.worker) c.self.view_is
     (c.index.ensures
     ∙ get_or_default_zero l.next.items (c.args.worker - 1) c.index.result.now (omega (arith, some, low))
-    ∙ slice_index-next l.next.items l.journal.items c.args.worker c.self.invariant.1.0 some (omega (arith, low)))
+    ∙ slice_index-next l.next.items l.journal.items c.args.worker c.self.invariant.1 some (omega (arith, low)))

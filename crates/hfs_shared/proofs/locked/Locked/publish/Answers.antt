@@ -1,10 +1,7 @@
-use Rattle.std.proofs.Common.{◌≡◌, ◌≤◌, List, length, drop, sym, ap, ◌∙◌, subst, ⊎_elim, arith}
+use Rattle.std.proofs.Common.{◌≡◌, List, length, drop, sym, ap, ◌∙◌, subst, ⊎_elim, arith}
 use Rattle.hfs_model.specs.declared.journal.Entry.{Entry}
 use Rattle.hfs_check.specs.VolumeOf.{volume_of}
-use Rattle.hfs_shared.specs.declared.item.Item.{Item}
-use Rattle.hfs_shared.specs.Histories.{known, opened}
-use Rattle.hfs_shared.specs.Lists.{HaveChosen}
-use Rattle.hfs_shared.proofs.ChosenLemmas.{chosen_behind}
+use Rattle.hfs_shared.specs.Histories.{known}
 use Rattle.hfs_shared.specs.Journals.{published, NoneAccepted}
 use Rattle.hfs_shared.specs.Tolds.{told}
 use Rattle.hfs_shared.specs.Lockeds.{LockedState}
@@ -53,12 +50,3 @@ returns-clause-headline g c =
     (locked_published g.K.Session.book g.K.Session.base l.desk l.pair c.gather-self-inside.new.pair c.show-self-inside.new.pair c.journal-journal.result.now l.added l.shown c.gather-self-inside.result c.show-self-inside.result
     c.journal-journal.ensures.entries i c.gather-self-inside.ensures.lists c.show-self-inside.ensures.lists order.1
     (⊎_elim (λ t. omega (arith, t.0, t.1)) (λ e. omega (arith, e, i.order.0, order.0)) c.show-self-inside.ensures.shown))
-
-pub gather-self-inside-requires-clause-chosen : goal.gather-self-inside-requires-clause-chosen
-gather-self-inside-requires-clause-chosen g c =
-    let l = c.self.inside in
-    let i = c.self.invariant in
-    let all = subst (λ (j : List Entry). HaveChosen (opened (volume_of l.desk.base)) j c.chosen.result.now) (sym c.journal-journal.ensures.entries) c.chosen.ensures in
-    subst (λ (list : List Item). HaveChosen list (drop l.added c.journal-journal.result.now) (drop l.added c.chosen.result.now))
-    (sym (i.all_is ∙ ap (λ (j : List Entry). published (volume_of l.desk.base) j l.added) (sym c.journal-journal.ensures.entries)))
-    (chosen_behind (volume_of l.desk.base) c.journal-journal.result.now c.chosen.result.now l.added (subst (λ (j : List Entry). l.added ≤ length j) (sym c.journal-journal.ensures.entries) i.order.1) all)
