@@ -45,3 +45,4 @@ pub mod ShapeOf
 pub mod ShapeNodes
 pub mod StoreOut
 pub mod OutValue
+pub mod OutOrder
