@@ -45,4 +45,3 @@ pub mod ShapeOf
 pub mod ShapeNodes
 pub mod StoreOut
 pub mod OutValue
-pub mod OutOrder

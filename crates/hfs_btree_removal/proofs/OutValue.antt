@@ -88,8 +88,8 @@ unlinked-core base (s ∷ ss) old new u can all m =
 abbrev pub places : List Step → List ℕ
 places ss = map (λ (s : Step). s.place) ss
 
-abbrev pub NotZero : ℕ → Type 0
-NotZero m = 0 ≢ m
+abbrev pub Some : ℕ → Type 0
+Some m = 0 ≢ m
 
 module _ {K : Type 0} (g : Ghosts K) (old : Store) (k p : ℕ) where
   abbrev ons : List Step → ℕ → List ℕ
@@ -114,22 +114,6 @@ module _ {K : Type 0} (g : Ghosts K) (old : Store) (k p : ℕ) where
       let way = leads-to (s ∷ ss) n h in
       let below = below-apart g old k p (lift (length (places ss)) k) n s.place way.0 d in
       (on-under g old k p (IsOther n) (places ss) (child_at g old k p n s.place) way.1 below.0, distinct-on ss (child_at g old k p n s.place) h.1 below.1)
-
-  -- the nodes of a later part of the way
-  pub suffix-on : (Q : List ℕ → Type 0) → ((m : ℕ) (ms : List ℕ) → Q (m ∷ ms) → Q ms) → (tops ss : List Step) (n x : ℕ) → Leads g old n tops x → Q (ons (tops ++ ss) n) → Q (ons ss x)
-  suffix-on Q tail [] ss n x h q = let P : ℕ → Type 0 = λ m. Q (ons ss m) in subst P h q
-  suffix-on Q tail (a ∷ tops) ss n x h q = suffix-on Q tail tops ss (child_at g old k p n a.place) x h.1 (tail n _ q)
-
-  -- an upper node is none of the lower ones
-  pub tops-other : (tops ss : List Step) (n : ℕ) → Leads g old n (tops ++ ss) p → IsDistinct (ons (tops ++ ss) n) → Each (λ (a : Step). Each (λ (s : Step). a.node ≢ s.node) ss × (a.node ≢ p)) tops
-  tops-other [] ss n h d = tt
-  tops-other (a ∷ tops) ss n h d =
-      let c = child_at g old k p n a.place in
-      let P : ℕ → Type 0 = λ m. Each (λ (s : Step). m ≢ s.node) ss × (m ≢ p) in (
-        subst P (sym h.0.node)
-        (each-mono _ _ ss (λ s ne e. ne (sym e)) (each-right (λ (s : Step). s.node ≢ n) tops ss (steps-on (IsOther n) (tops ++ ss) c h.1 d.0)), λ e. last-on (IsOther n) (tops ++ ss) c h.1 d.0 (sym e)),
-        tops-other tops ss c h.1 d.1,
-      )
 
   -- what holds of each node of a tree holds of those under the way's end
   pub at-end : (P : ℕ → ℕ → Type 0) (ss : List Step) (n : ℕ) → Leads g old n ss p → Below g old P (lift (length (places ss)) k) n → Below g old P k p
@@ -187,27 +171,27 @@ module _ {K : Type 0} (g : Ghosts K) (old new : Store) where
 
 -- ---- the way, after the keys were told
 
-module _ {K : Type 0} (g : Ghosts K) (old three four : Store) (Past : K → Type 0) (k p : ℕ) (kept : (m : ℕ) → NotZero m → m ≢ p → records_in three m ≡ records_in old m) (some-p : HasRecords g four k p) where
-  abbrev pub Way : List Step → ℕ → Type 0
+module _ {K : Type 0} (g : Ghosts K) (old three four : Store) (Past : K → Type 0) (k p : ℕ) (kept : (m : ℕ) → Some m → m ≢ p → records_in three m ≡ records_in old m) (some-p : HasRecords g four k p) where
+  abbrev Way : List Step → ℕ → Type 0
   Way ss n = IsWay g old four Past k p (places ss) n
 
-  abbrev pub height : List Step → ℕ
+  abbrev height : List Step → ℕ
   height ss = lift (length (places ss)) k
 
   -- a way from node n, with the node's records and its first key
-  pub record IsMade (ss : List Step) (n : ℕ) (First : K → Type 0) : Type 0 where
-    pub way : Way ss n
-    pub some : HasRecords g four k n
-    pub first : First (first_key g four (height ss) n)
+  record IsMade (ss : List Step) (n : ℕ) (First : K → Type 0) : Type 0 where
+    way : Way ss n
+    some : HasRecords g four k n
+    first : First (first_key g four (height ss) n)
 
-  abbrev pub IsKeptAt : List Step → ℕ → Type 0
+  abbrev IsKeptAt : List Step → ℕ → Type 0
   IsKeptAt ss n = first_key g four (height ss) n ≡ first_key g old (height ss) n
 
   same-or : (P : ℕ → Type 0) (ss : List Step) (m : ℕ) → Each (λ (u : Step). m ≢ u.node) ss → Each (λ (u : Step). u.node ≢ m) ss
   same-or P ss m h = each-mono _ _ ss (λ u ne e. ne (sym e)) h
 
   module _ (t : K) (past : Past t) (first-p : first_key g four k p ≡ t) where
-    pub told-way : (ss : List Step) (n : ℕ) (two : Store) → Leads g old n ss p → AreKeysSet g t ss three two → AreBehindFirst ss → IsDistinct (nodes_on g old k p (places ss) n) → Each NotZero (nodes_on g old k p (places ss) n)
+    pub told-way : (ss : List Step) (n : ℕ) (two : Store) → Leads g old n ss p → AreKeysSet g t ss three two → AreBehindFirst ss → IsDistinct (nodes_on g old k p (places ss) n) → Each Some (nodes_on g old k p (places ss) n)
         → Each (λ (u : Step). records_in four u.node ≡ records_in two u.node) ss → IsMade ss n (λ y. Each (λ (u : Step). u.place ≡ 0) ss → y ≡ t)
     told-way [] n two leads sets firsts distinct some fin =
         let P : ℕ → Type 0 = λ m. IsMade [] m (λ y. ⊤ → y ≡ t) in
@@ -268,11 +252,3 @@ module _ {K : Type 0} (g : Ghosts K) (old three four : Store) (Past : K → Type
       below : (us ss : List Step) (c x : ℕ) → Leads g old c us x → IsKeptAt ss x → (0 < length us → IsKeptAt (us ++ ss) c) → IsKeptAt (us ++ ss) c
       below [] ss c x h e f = subst (IsKeptAt ss) (sym h) e
       below (u ∷ us) ss c x h e f = f (omega arith)
-
-  -- where the record on the way isn't the first, the node's first key is the same
-  pub kept-later : (s : Step) (ss : List Step) (x : ℕ) → Way (s ∷ ss) x → 0 < s.place → IsKeptAt (s ∷ ss) x
-  kept-later s ss x way lt =
-      elim way.1 [
-        | inl told ↦ first-by g old four (height (s ∷ ss)) x (ap (λ (rs : List (List ℕ)). get_or rs 0 []) told.records ∙ get_or-set_other (records_in old x) s.place 0 told.made [] (λ e. absurd (omega arith)))
-        | inr untold ↦ first-same g old four (height (s ∷ ss)) x untold.records
-      ]
