@@ -39,9 +39,3 @@ pub mod ChainOut
 pub mod LeafOut
 pub mod OutWhole
 mod RemovalLemmas
-pub mod Shapes
-pub mod ShapeOut
-pub mod ShapeOf
-pub mod ShapeNodes
-pub mod StoreOut
-pub mod OutValue

@@ -1,6 +1,6 @@
 -- Two files, of which the second lacks a pair of the first: their trees as values.
 use Rattle.std.proofs.Common.{◌≡◌, ◌≢◌, ◌⊎◌, ℕ, zero, suc, ◌+◌, ◌<◌, ◌≤◌, List, [], ◌∷◌, ◌++◌, length, map, get_or, set, take, drop, refl, sym, ap, ◌∙◌, subst, arith, inl, inr, length-append}
-use Rattle.std.specs.Prelude.{remove, ⊤}
+use Rattle.std.specs.Prelude.{remove}
 use Rattle.std.specs.List.{flat_map}
 use Rattle.std.proofs.lemmas.List.{length-map}
 use Rattle.std.proofs.lemmas.List.Concat.{flat_map-append}
@@ -10,7 +10,6 @@ use Rattle.hfs_btree.specs.Tree.{Store, records_in, children, pair_of, under}
 use Rattle.hfs_btree.specs.Sound.{IsOther, IsDistinct, first_key}
 use Rattle.hfs_btree.proofs.DistinctLemmas.{cross}
 use Rattle.hfs_btree.proofs.LevelLemmas.{map-split}
-use Rattle.hfs_btree_edits.specs.LevelParts.{lift}
 use Rattle.hfs_btree_edits.proofs.DistinctLemmas.{distinct-left, distinct-right}
 use Rattle.hfs_btree_edits.proofs.EditedOrderLemmas.{each-flat}
 use Rattle.hfs_btree_edits.proofs.LevelPartLemmas.{KeepsRecords}
@@ -18,10 +17,10 @@ use Rattle.hfs_btree_edits.proofs.ReleasedLemmas.{apart}
 use Rattle.hfs_btree_edits.proofs.ReplacedLemmas.{map-set}
 use Rattle.hfs_fields.specs.Each.{Each}
 use Rattle.hfs_fields.proofs.ElementLemmas.{each-mono, each-append, each-left, each-right, each-both}
-use Rattle.hfs_btree_removal.proofs.Shapes.{Shape, content}
-use Rattle.hfs_btree_removal.proofs.ShapeOut.{HasLess, KeepsFirst, IsFitting, HasOut}
-use Rattle.hfs_btree_removal.proofs.ShapeOf.{shape_of, entry, content-is, HasRecords, first-of-heads, heads-first}
-use Rattle.hfs_btree_removal.proofs.ShapeNodes.{nodes_under, KeepsShape, entries-same, shape-same}
+use Rattle.hfs_shapes.proofs.Shapes.{Shape, content}
+use Rattle.hfs_shapes.proofs.ShapeOut.{tall, HasLess, KeepsFirst, IsFitting, HasOut}
+use Rattle.hfs_shapes.proofs.ShapeOf.{shape_of, entry, content-is, HasRecords, first-of-heads, heads-first}
+use Rattle.hfs_shapes.proofs.ShapeNodes.{nodes_under, KeepsShape, entries-same, shape-same}
 
 pub map-remove : {X Y : Type 0} (f : X → Y) (xs : List X) (q : ℕ) → q < length xs → map f (remove xs q) ≡ map f (take q xs) ++ map f (drop (suc q) xs)
 map-remove f [] q lt = absurd (omega arith)
@@ -33,72 +32,50 @@ length-less f [] q lt = absurd (omega arith)
 length-less f (x ∷ xs) zero lt = omega (arith, length-map xs f)
 length-less f (x ∷ xs) (suc q) lt = let ih = length-less f xs q (omega arith) in omega arith
 
-module _ {K : Type 0} (g : Ghosts K) (old : Store) (k p : ℕ) where
+module _ {K : Type 0} (g : Ghosts K) (old new : Store) (t : K) (k p : ℕ) where
   abbrev pub child_at : ℕ → ℕ → ℕ
   child_at n q = g.child (get_or (records_in old n) q [])
 
-  -- the nodes that the records at these places lead to
   abbrev pub nodes_on : List ℕ → ℕ → List ℕ
   nodes_on [] n = n ∷ []
   nodes_on (q ∷ qs) n = n ∷ nodes_on qs (child_at n q)
 
-  -- they lead to node p
-  abbrev pub LeadsTo : List ℕ → ℕ → Type 0
-  LeadsTo [] n = n ≡ p
-  LeadsTo (q ∷ qs) n = (q < length (records_in old n)) × LeadsTo qs (child_at n q)
+  -- a node on the way has kept its records, and so has the first key of the one below; or its record on the way has got that key, which is t
+  pub record IsTold (h q n : ℕ) : Type 0 where
+    pub made : List ℕ
+    pub key : g.index_key made ≡ t
+    pub names : g.child made ≡ child_at n q
+    pub records : records_in new n ≡ set (records_in old n) q made
+    pub first : first_key g new h (child_at n q) ≡ t
+
+  pub record IsUntold (h q n : ℕ) : Type 0 where
+    pub records : records_in new n ≡ records_in old n
+    pub first : first_key g new h (child_at n q) ≡ first_key g old h (child_at n q)
+
+  abbrev pub IsWay : List ℕ → ℕ → Type 0
+  IsWay [] n = n ≡ p
+  IsWay (q ∷ qs) n =
+      (q < length (records_in old n)) × HasRecords g new (tall (length qs) k) (child_at n q) × (IsTold (tall (length qs) k) q n ⊎ IsUntold (tall (length qs) k) q n) × IsWay qs (child_at n q)
+
+  -- beside the way, nodes have kept their records
+  abbrev pub KeepsBeside : List ℕ → ℕ → ℕ → Type 0
+  KeepsBeside qs n m = Each (IsOther m) (nodes_on qs n) → KeepsRecords g old new m
 
   first-under : (P : ℕ → Type 0) (h n : ℕ) → Each P (nodes_under g old h n) → P n
   first-under P zero n h = h.0
   first-under P (suc j) n h = h.0
 
-  pub on-under : (P : ℕ → Type 0) (qs : List ℕ) (n : ℕ) → LeadsTo qs n → Each P (nodes_under g old (lift (length qs) k) n) → Each P (nodes_on qs n)
+  on-under : (P : ℕ → Type 0) (qs : List ℕ) (n : ℕ) → IsWay qs n → Each P (nodes_under g old (tall (length qs) k) n) → Each P (nodes_on qs n)
   on-under P [] n way h = (first-under P k n h, tt)
   on-under P (q ∷ qs) n way h =
-      let Q : List ℕ → Type 0 = λ ns. Each (λ m. Each P (nodes_under g old (lift (length qs) k) m)) ns in
-      let sons = subst Q (map-split g.child (records_in old n) q [] way.0) (each-flat P (nodes_under g old (lift (length qs) k)) (children g old n) h.1) in
-      (h.0, on-under P qs (child_at n q) way.1 (each-right _ (map g.child (take q (records_in old n))) _ sons).0)
-
-  -- below a node that a record leads to, none stands twice, and none is the node itself
-  pub below-apart : (h n q : ℕ) → q < length (records_in old n) → IsDistinct (nodes_under g old (suc h) n) → Each (IsOther n) (nodes_under g old h (child_at n q)) × IsDistinct (nodes_under g old h (child_at n q))
-  below-apart h n q lt distinct =
-      let rs = records_in old n in
-      let F = flat_map (nodes_under g old h) (map g.child (take q rs)) in
-      let C = nodes_under g old h (child_at n q) in
-      let B = flat_map (nodes_under g old h) (map g.child (drop (suc q) rs)) in
-      let parted : flat_map (nodes_under g old h) (children g old n) ≡ F ++ (C ++ B) =
-      ap (flat_map (nodes_under g old h)) (map-split g.child rs q [] lt) ∙ flat_map-append (nodes_under g old h) (map g.child (take q rs)) (child_at n q ∷ map g.child (drop (suc q) rs)) in
-      let P : List ℕ → Type 0 = λ ms. Each (IsOther n) ms in
-      let Q : List ℕ → Type 0 = IsDistinct in
-      (each-left (IsOther n) C B (each-right (IsOther n) F (C ++ B) (subst P parted distinct.0)), distinct-left C B (distinct-right F (C ++ B) (subst Q parted distinct.1)))
-
-module _ {K : Type 0} (g : Ghosts K) (old new : Store) (Past : K → Type 0) (k p : ℕ) where
-  abbrev at : ℕ → ℕ → ℕ
-  at = child_at g old k p
-
-  -- a node on the way has kept its records, and the one below its first key; or the key of its record on the way is the new first key of the one below
-  pub record IsTold (h q n : ℕ) : Type 0 where
-    pub made : List ℕ
-    pub names : g.child made ≡ at n q
-    pub records : records_in new n ≡ set (records_in old n) q made
-    pub first : first_key g new h (at n q) ≡ g.index_key made
-    pub past : Past (g.index_key made)
-
-  pub record IsUntold (h q n : ℕ) : Type 0 where
-    pub records : records_in new n ≡ records_in old n
-    pub first : first_key g new h (at n q) ≡ first_key g old h (at n q)
-
-  abbrev pub IsWay : List ℕ → ℕ → Type 0
-  IsWay [] n = ⊤
-  IsWay (q ∷ qs) n = HasRecords g new (lift (length qs) k) (at n q) × (IsTold (lift (length qs) k) q n ⊎ IsUntold (lift (length qs) k) q n) × IsWay qs (at n q)
-
-  -- beside the way, nodes have kept their records
-  abbrev pub KeepsBeside : List ℕ → ℕ → ℕ → Type 0
-  KeepsBeside qs n m = Each (IsOther m) (nodes_on g old k p qs n) → KeepsRecords g old new m
+      let Q : List ℕ → Type 0 = λ ns. Each (λ m. Each P (nodes_under g old (tall (length qs) k) m)) ns in
+      let sons = subst Q (map-split g.child (records_in old n) q [] way.0) (each-flat P (nodes_under g old (tall (length qs) k)) (children g old n) h.1) in
+      (h.0, on-under P qs (child_at n q) way.3 (each-right _ (map g.child (take q (records_in old n))) _ sons).0)
 
   -- ---- the trees beside a record of a node
 
   module _ (h n q : ℕ) (lt : q < length (records_in old n)) (distinct : IsDistinct (nodes_under g old (suc h) n)) (ons : List ℕ)
-      (on : (P : ℕ → Type 0) → Each P (nodes_under g old h (at n q)) → Each P ons) (keeps : Each (λ m. Each (IsOther m) (n ∷ ons) → KeepsRecords g old new m) (nodes_under g old (suc h) n)) where
+      (on : (P : ℕ → Type 0) → Each P (nodes_under g old h (child_at n q)) → Each P ons) (keeps : Each (λ m. Each (IsOther m) (n ∷ ons) → KeepsRecords g old new m) (nodes_under g old (suc h) n)) where
     abbrev rs : List (List ℕ)
     rs = records_in old n
 
@@ -106,13 +83,13 @@ module _ {K : Type 0} (g : Ghosts K) (old new : Store) (Past : K → Type 0) (k 
     F = flat_map (nodes_under g old h) (map g.child (take q rs))
 
     abbrev C : List ℕ
-    C = nodes_under g old h (at n q)
+    C = nodes_under g old h (child_at n q)
 
     abbrev B : List ℕ
     B = flat_map (nodes_under g old h) (map g.child (drop (suc q) rs))
 
     parted : flat_map (nodes_under g old h) (children g old n) ≡ F ++ (C ++ B)
-    parted = ap (flat_map (nodes_under g old h)) (map-split g.child rs q [] lt) ∙ flat_map-append (nodes_under g old h) (map g.child (take q rs)) (at n q ∷ map g.child (drop (suc q) rs))
+    parted = ap (flat_map (nodes_under g old h)) (map-split g.child rs q [] lt) ∙ flat_map-append (nodes_under g old h) (map g.child (take q rs)) (child_at n q ∷ map g.child (drop (suc q) rs))
 
     D : IsDistinct (F ++ (C ++ B))
     D = let P : List ℕ → Type 0 = IsDistinct in subst P parted distinct.1
@@ -165,7 +142,7 @@ module _ {K : Type 0} (g : Ghosts K) (old new : Store) (Past : K → Type 0) (k 
     (let e = length-less (pair_of g) (records_in old p) q lt in omega arith),
   )
 
-  pub node-less : (j q : ℕ) (x : K × List ℕ) (lt : q < length (records_in old p)) → 2 ≤ length (records_in old p) → records_in new p ≡ remove (records_in old p) q → under g old j (at p q) ≡ x ∷ []
+  pub node-less : (j q : ℕ) (x : K × List ℕ) (lt : q < length (records_in old p)) → 2 ≤ length (records_in old p) → records_in new p ≡ remove (records_in old p) q → under g old j (child_at p q) ≡ x ∷ []
       → IsDistinct (nodes_under g old (suc j) p) → Each (KeepsBeside [] p) (nodes_under g old (suc j) p) → HasLess K x (suc j) (shape_of g old (suc j) p) (shape_of g new (suc j) p)
   node-less j q x lt more is only distinct keeps =
       let rs = records_in old p in
@@ -180,7 +157,7 @@ module _ {K : Type 0} (g : Ghosts K) (old new : Store) (Past : K → Type 0) (k 
         ∙ ap (λ (es : List (K × Shape K j)). es ++ map (entry g new j) (drop (suc q) rs)) f
         ∙ ap (λ (es : List (K × Shape K j)). map (entry g old j) (take q rs) ++ es) b,
         (let e = length-less (entry g old j) rs q lt in omega arith),
-        content-is g old j (at p q) ∙ only,
+        content-is g old j (child_at p q) ∙ only,
       )
 
   -- ---- along the way
@@ -188,34 +165,30 @@ module _ {K : Type 0} (g : Ghosts K) (old new : Store) (Past : K → Type 0) (k 
   keeps-first : (h c : ℕ) → HasRecords g new h c → first_key g new h c ≡ first_key g old h c → KeepsFirst K h (shape_of g old h c) (shape_of g new h c)
   keeps-first h c some same y first = first-of-heads g new (λ z. z ≡ y) h c some (same ∙ heads-first g old (λ z. z ≡ y) h c first)
 
-  pub out-way : (x : K × List ℕ) → (IsDistinct (nodes_under g old k p) → Each (KeepsBeside [] p) (nodes_under g old k p) → HasLess K x k (shape_of g old k p) (shape_of g new k p)) → (qs : List ℕ) (n : ℕ) → LeadsTo g old k p qs n → IsWay qs n → IsDistinct (nodes_under g old (lift (length qs) k) n)
-      → Each (KeepsBeside qs n) (nodes_under g old (lift (length qs) k) n) → HasOut K x Past (length qs) k (shape_of g old (lift (length qs) k) n) (shape_of g new (lift (length qs) k) n)
-  out-way x base [] n leads way distinct keeps =
-      let P : ℕ → Type 0 = λ m. HasLess K x k (shape_of g old k m) (shape_of g new k m) in
-      let Q : ℕ → Type 0 = λ m. IsDistinct (nodes_under g old k m) in
-      let R : ℕ → Type 0 = λ m. Each (KeepsBeside [] m) (nodes_under g old k m) in
-      subst P (sym leads) (base (subst Q leads distinct) (subst R leads keeps))
-  out-way x base (q ∷ qs) n leads way distinct keeps =
-      let h = lift (length qs) k in
+  pub out-way : (x : K × List ℕ) → HasLess K x k (shape_of g old k p) (shape_of g new k p) → (qs : List ℕ) (n : ℕ) → IsWay qs n → IsDistinct (nodes_under g old (tall (length qs) k) n)
+      → Each (KeepsBeside qs n) (nodes_under g old (tall (length qs) k) n) → HasOut K x t (length qs) k (shape_of g old (tall (length qs) k) n) (shape_of g new (tall (length qs) k) n)
+  out-way x base [] n way distinct keeps = let P : ℕ → Type 0 = λ m. HasLess K x k (shape_of g old k m) (shape_of g new k m) in subst P (sym way) base
+  out-way x base (q ∷ qs) n way distinct keeps =
+      let h = tall (length qs) k in
       let rs = records_in old n in
-      let c = at n q in
-      let ons = nodes_on g old k p qs c in
-      let on : (P : ℕ → Type 0) → Each P (nodes_under g old h c) → Each P ons = λ P e. on-under g old k p P qs c leads.1 e in
-      let below = out-way x base qs c leads.1 way.2 (below-distinct h n q leads.0 distinct ons on keeps) (below-keeps h n q leads.0 distinct ons on keeps) in
-      let all = around h n q leads.0 distinct ons on keeps in
-      let was = map-split (entry g old h) rs q [] leads.0 in
-      elim way.1 [
+      let c = child_at n q in
+      let ons = nodes_on qs c in
+      let on : (P : ℕ → Type 0) → Each P (nodes_under g old h c) → Each P ons = λ P e. on-under P qs c way.3 e in
+      let below = out-way x base qs c way.3 (below-distinct h n q way.0 distinct ons on keeps) (below-keeps h n q way.0 distinct ons on keeps) in
+      let all = around h n q way.0 distinct ons on keeps in
+      let was = map-split (entry g old h) rs q [] way.0 in
+      elim way.2 [
         | inl told ↦ (
           map (entry g old h) (take q rs),
           map (entry g old h) (drop (suc q) rs),
           entry g old h (get_or rs q []),
-          (g.index_key told.made, shape_of g new h c),
+          (t, shape_of g new h c),
           was,
           ap (map (entry g new h)) told.records
-          ∙ map-set (entry g new h) rs q told.made leads.0
-          ∙ ap (λ (e : K × Shape K h). map (entry g new h) (take q rs) ++ e ∷ map (entry g new h) (drop (suc q) rs)) (λ i. (g.index_key told.made, shape_of g new h (told.names i)))
-          ∙ all (g.index_key told.made, shape_of g new h c),
-          inr (told.past, first-of-heads g new (λ y. y ≡ g.index_key told.made) h c way.0 told.first),
+          ∙ map-set (entry g new h) rs q told.made way.0
+          ∙ ap (λ (e : K × Shape K h). map (entry g new h) (take q rs) ++ e ∷ map (entry g new h) (drop (suc q) rs)) (λ i. (told.key i, shape_of g new h (told.names i)))
+          ∙ all (t, shape_of g new h c),
+          inr (refl, first-of-heads g new (λ y. y ≡ t) h c way.1 told.first),
           below,
         )
         | inr untold ↦ (
@@ -224,8 +197,8 @@ module _ {K : Type 0} (g : Ghosts K) (old new : Store) (Past : K → Type 0) (k 
           entry g old h (get_or rs q []),
           entry g new h (get_or rs q []),
           was,
-          ap (map (entry g new h)) untold.records ∙ map-split (entry g new h) rs q [] leads.0 ∙ all (entry g new h (get_or rs q [])),
-          inl (refl, keeps-first h c way.0 untold.first),
+          ap (map (entry g new h)) untold.records ∙ map-split (entry g new h) rs q [] way.0 ∙ all (entry g new h (get_or rs q [])),
+          inl (refl, keeps-first h c way.1 untold.first),
           below,
         )
       ]

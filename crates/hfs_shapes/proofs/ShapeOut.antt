@@ -10,11 +10,15 @@ use Rattle.std.proofs.lemmas.List.Concat.{flat_map-append}
 use Rattle.hfs_btree.specs.Pairs.{Order, Pairs, Rises, IsAtMost, IsAbove}
 use Rattle.hfs_btree.specs.Sound.{ArePartsInOrder}
 use Rattle.hfs_btree.proofs.LookupLemmas.{lt-le, le-lt}
-use Rattle.hfs_btree_edits.specs.LevelParts.{lift}
 use Rattle.hfs_fields.specs.Each.{Each}
 use Rattle.hfs_fields.proofs.ElementLemmas.{each-mono, each-append, each-left, each-right, each-map}
 use Rattle.hfs_fields.proofs.OrderLemmas.{equal-own}
-use Rattle.hfs_btree_removal.proofs.Shapes.{Shape, content, heads, OfFirst, part, IsSorted, IsFull, IsTight, AllKeys, each-beside, each-at, each-swap, rises-left, rises-right, rises-beside, parts-least, parts-swap, parts-most, parts-less}
+use Rattle.hfs_shapes.proofs.Shapes.{Shape, content, heads, OfFirst, part, IsSorted, IsFull, IsTight, AllKeys, each-beside, each-at, each-swap, rises-left, rises-right, rises-beside, parts-least, parts-swap, parts-most, parts-less}
+
+-- the height of a node over which there are so many others, the last of which stands k levels above the leaves
+abbrev pub tall : ℕ → ℕ → ℕ
+tall zero k = k
+tall (suc i) k = suc (tall i k)
 
 -- the node has lost one entry: the pair x, or a tree that has no other pair
 abbrev pub HasLess : (K : Type 0) → K × List ℕ → (k : ℕ) → Shape K k → Shape K k → Type 0
@@ -22,25 +26,20 @@ HasLess K x zero s s' = (f : Pairs K) × (b : Pairs K) × (s.1 ≡ f ++ x ∷ b)
 HasLess K x (suc k) s s' =
     (f : List (K × Shape K k)) × (b : List (K × Shape K k)) × (c : K × Shape K k) × (s.1 ≡ f ++ c ∷ b) × (s'.1 ≡ f ++ b) × (0 < length (f ++ b)) × (content K k c.1 ≡ x ∷ [])
 
--- the entry was the first
-abbrev pub IsAtStart : (K : Type 0) (x : K × List ℕ) (k : ℕ) (s s' : Shape K k) → HasLess K x k s s' → Type 0
-IsAtStart K x zero s s' h = h.0 ≡ []
-IsAtStart K x (suc k) s s' h = h.0 ≡ []
-
 -- the first key of the node is the same
 abbrev pub KeepsFirst : (K : Type 0) → (k : ℕ) → Shape K k → Shape K k → Type 0
 KeepsFirst K k s s' = (y : K) → OfFirst (λ z. z ≡ y) (heads K k s) → OfFirst (λ z. z ≡ y) (heads K k s')
 
--- the key over a tree is the same where the first one under it is; else it is the tree's new first key, which is past the pair
-abbrev pub IsFitting : (K : Type 0) → (K → Type 0) → (k : ℕ) → K × Shape K k → K × Shape K k → Type 0
-IsFitting K Past k c c' = ((c'.0 ≡ c.0) × KeepsFirst K k c.1 c'.1) ⊎ (Past c'.0 × OfFirst (λ y. y ≡ c'.0) (heads K k c'.1))
+-- the key over a tree is the same where the first one under it is; else it is the tree's new first key t
+abbrev pub IsFitting : (K : Type 0) → K → (k : ℕ) → K × Shape K k → K × Shape K k → Type 0
+IsFitting K t k c c' = ((c'.0 ≡ c.0) × KeepsFirst K k c.1 c'.1) ⊎ ((c'.0 ≡ t) × OfFirst (λ y. y ≡ t) (heads K k c'.1))
 
 -- so many levels below, a node has lost an entry, and on the way to it all other trees are the same
-abbrev pub HasOut : (K : Type 0) → K × List ℕ → (K → Type 0) → (i k : ℕ) → Shape K (lift i k) → Shape K (lift i k) → Type 0
-HasOut K x Past zero k s s' = HasLess K x k s s'
-HasOut K x Past (suc i) k s s' =
-    (f : List (K × Shape K (lift i k))) × (b : List (K × Shape K (lift i k))) × (c : K × Shape K (lift i k)) × (c' : K × Shape K (lift i k)) × (s.1 ≡ f ++ c ∷ b) × (s'.1 ≡ f ++ c' ∷ b)
-    × IsFitting K Past (lift i k) c c' × HasOut K x Past i k c.1 c'.1
+abbrev pub HasOut : (K : Type 0) → K × List ℕ → K → (i k : ℕ) → Shape K (tall i k) → Shape K (tall i k) → Type 0
+HasOut K x t zero k s s' = HasLess K x k s s'
+HasOut K x t (suc i) k s s' =
+    (f : List (K × Shape K (tall i k))) × (b : List (K × Shape K (tall i k))) × (c : K × Shape K (tall i k)) × (c' : K × Shape K (tall i k)) × (s.1 ≡ f ++ c ∷ b) × (s'.1 ≡ f ++ c' ∷ b)
+    × IsFitting K t (tall i k) c c' × HasOut K x t i k c.1 c'.1
 
 first-of : {K : Type 0} (P : K → Type 0) (ys : List K) → OfFirst P ys → (y : K) × OfFirst (λ z. z ≡ y) ys × P y
 first-of P [] h = absurd h
@@ -144,33 +143,11 @@ module _ {K : Type 0} (cmp : Order K) (total : IsTotalOrder cmp) where
         keys = λ h. each _ h;
       }
 
-  -- where the first entry goes, the next key is past the pair
-  pub less-past : (x : K × List ℕ) (t : K) (k : ℕ) (s s' : Shape K k) (h : HasLess K x k s s') → IsAtStart K x k s s' h → IsSorted cmp k s → Rises cmp (content K k s) → OfFirst (λ y. y ≡ t) (heads K k s') → cmp x.0 t ≡ Less
-  less-past x t zero s s' (f, b, was, is, some) start sorted rises first =
-      let P : Pairs K → Type 0 = λ ps. OfFirst (λ y. y ≡ t) (map (λ (p : K × List ℕ). p.0) ps) in
-      let R : Pairs K → Type 0 = λ ps. Rises cmp ps in
-      go b (subst P (is ∙ ap (λ (ps : Pairs K). ps ++ b) start) first) (subst R (was ∙ ap (λ (ps : Pairs K). ps ++ x ∷ b) start) rises)
-    where
-      go : (b : Pairs K) → OfFirst (λ y. y ≡ t) (map (λ (p : K × List ℕ). p.0) b) → Rises cmp (x ∷ b) → cmp x.0 t ≡ Less
-      go [] e r = absurd e
-      go (y ∷ b) e r = let Q : K → Type 0 = λ z. cmp x.0 z ≡ Less in subst Q e r.0.0
-  less-past x t (suc k) s s' (f, b, c, was, is, some, only) start sorted rises first =
-      let P : List (K × Shape K k) → Type 0 = λ cs. OfFirst (λ y. y ≡ t) (map (λ (d : K × Shape K k). d.0) cs) in
-      let O : List (K × Shape K k) → Type 0 = λ cs. ArePartsInOrder cmp [] (map (part K k) cs) in
-      go b (subst P (is ∙ ap (λ (cs : List (K × Shape K k)). cs ++ b) start) first) (subst O (was ∙ ap (λ (cs : List (K × Shape K k)). cs ++ c ∷ b) start) sorted.0)
-    where
-      go : (b : List (K × Shape K k)) → OfFirst (λ y. y ≡ t) (map (λ (d : K × Shape K k). d.0) b) → ArePartsInOrder cmp [] (map (part K k) (c ∷ b)) → cmp x.0 t ≡ Less
-      go [] e h = absurd e
-      go (d ∷ b) e h =
-          let Q : K → Type 0 = λ z. cmp x.0 z ≡ Less in
-          let R : Pairs K → Type 0 = λ ps. IsAbove cmp d.0 ps in
-          subst Q e (subst R only h.2.0).0
-
-  pub out : (T : K → Type 0) (x : K × List ℕ) (i k : ℕ) (s s' : Shape K (lift i k)) → HasOut K x (λ t. cmp x.0 t ≡ Less) i k s s' → IsSorted cmp (lift i k) s → IsFull K (lift i k) s → Rises cmp (content K (lift i k) s)
-      → IsLeft T x (lift i k) s s'
-  out T x zero k s s' h sorted full rises = less T x k s s' h sorted full
-  out T x (suc i) k s s' (f, b, c, c', was, is, fits, below) sorted full rises =
-      let h = lift i k in
+  pub out : (T : K → Type 0) (x : K × List ℕ) (t : K) → cmp x.0 t ≡ Less → (i k : ℕ) (s s' : Shape K (tall i k)) → HasOut K x t i k s s' → IsSorted cmp (tall i k) s → IsFull K (tall i k) s → Rises cmp (content K (tall i k) s)
+      → IsLeft T x (tall i k) s s'
+  out T x t past zero k s s' h sorted full rises = less T x k s s' h sorted full
+  out T x t past (suc i) k s s' (f, b, c, c', was, is, fits, below) sorted full rises =
+      let h = tall i k in
       let of : List (K × Shape K h) → Pairs K = flat_map (λ (d : K × Shape K h). content K h d.1) in
       let E : List (K × Shape K h) → Type 0 = λ cs. Each (λ (d : K × Shape K h). IsSorted cmp h d.1) cs in
       let F : List (K × Shape K h) → Type 0 = λ cs. Each (λ (d : K × Shape K h). IsFull K h d.1) cs in
@@ -181,27 +158,28 @@ module _ {K : Type 0} (cmp : Order K) (total : IsTotalOrder cmp) where
       λ Q on e. (let G : List (K × Shape K h) → Type 0 = λ cs. Each Q cs in subst G (sym is) (each-swap Q f c c' b (subst G was e) (on (each-at Q f c b (subst G was e))))) in
       let split : content K (suc h) s ≡ of f ++ (content K h c.1 ++ of b) = ap of was ∙ flat_map-append _ f (c ∷ b) in
       let own = rises-left cmp (content K h c.1) (of b) (rises-right cmp (of f) (content K h c.1 ++ of b) (subst R split rises)) in
-      let ih = out T x i k c.1 c'.1 below (each-at _ f c b (subst E was sorted.1)) (each-at _ f c b (subst F was full.1)) own in
+      let ih = out T x t past i k c.1 c'.1 below (each-at _ f c b (subst E was sorted.1)) (each-at _ f c b (subst F was full.1)) own in
       let parts = subst P (map-append (part K h) f (c ∷ b)) (subst O was sorted.0) in
       let at-most : IsAtMost cmp c.0 (ih.front ++ x ∷ ih.back) = (let Q : Pairs K → Type 0 = λ ps. IsAtMost cmp c.0 ps in subst Q ih.was (parts-most cmp total [] (map (part K h) f) (part K h c) (map (part K h) b) parts)) in
       let own' : Rises cmp (content K h c'.1) = subst R (sym ih.is) (rises-beside cmp total ih.front x ih.back (subst R ih.was own)) in
       let up : (ps : Pairs K) → IsAbove cmp c.0 ps → IsAbove cmp c'.0 ps =
       λ ps above. elim fits [
         | inl same ↦ (let Q : K → Type 0 = λ y. IsAbove cmp y ps in subst Q (sym same.0) above)
-        | inr told ↦ (each-mono _ _ ps (λ p lt. total.trans p.0 c.0 c'.0 lt (le-lt cmp total c.0 x.0 c'.0 (each-right _ ih.front (x ∷ ih.back) at-most).0 told.0)) above)
+        | inr told ↦ (let Q : K → Type 0 = λ y. IsAbove cmp y ps in
+        subst Q (sym told.0) (each-mono _ _ ps (λ p lt. total.trans p.0 c.0 t lt (le-lt cmp total c.0 x.0 t (each-right _ ih.front (x ∷ ih.back) at-most).0 past)) above))
       ] in
       let most : IsAtMost cmp c'.0 (content K h c'.1) =
       elim fits [
         | inl same ↦ (let Q : K → Type 0 = λ y. IsAtMost cmp y (content K h c'.1) in let S : Pairs K → Type 0 = λ ps. IsAtMost cmp c.0 ps in subst Q (sym same.0) (subst S (sym ih.is) (each-beside _ ih.front x ih.back at-most)))
-        | inr told ↦ least c'.0 h c'.1 ih.sorted ih.full own' told.1
+        | inr told ↦ (let Q : K → Type 0 = λ y. IsAtMost cmp y (content K h c'.1) in subst Q (sym told.0) (least t h c'.1 ih.sorted ih.full own' told.1))
       ] in
       let tight-key : OfFirst (λ y. cmp c.0 y ≡ Equal) (heads K h c.1) → OfFirst (λ y. cmp c'.0 y ≡ Equal) (heads K h c'.1) =
       λ e. elim fits [
         | inl same ↦ (let y = first-of (λ z. cmp c.0 z ≡ Equal) (heads K h c.1) e in
         first-as (λ z. cmp c'.0 z ≡ Equal) y.0 (heads K h c'.1) (same.1 y.0 y.1) (ap (λ (z : K). cmp z y.0) same.0 ∙ y.2))
-        | inr told ↦ first-as (λ z. cmp c'.0 z ≡ Equal) c'.0 (heads K h c'.1) told.1 (equal-own (cmp c'.0 c'.0) (total.antisymm c'.0 c'.0))
+        | inr told ↦ first-as (λ z. cmp c'.0 z ≡ Equal) t (heads K h c'.1) told.1 (ap (λ (z : K). cmp z t) told.0 ∙ equal-own (cmp t t) (total.antisymm t t))
       ] in
-      let key : T c.0 → AllKeys T h c'.1 → T c'.0 = λ own-key all. elim fits [ inl same ↦ subst T (sym same.0) own-key | inr told ↦ first-key T c'.0 h c'.1 all told.1 ] in
+      let key : T c.0 → AllKeys T h c'.1 → T c'.0 = λ own-key all. elim fits [ inl same ↦ subst T (sym same.0) own-key | inr told ↦ subst T (sym told.0) (first-key T t h c'.1 all told.1) ] in
       let over : (y : K) → IsAbove cmp y (content K h c.1) → IsAbove cmp y (content K h c'.1) =
       λ y above. (let S : Pairs K → Type 0 = λ ps. IsAbove cmp y ps in subst S (sym ih.is) (each-beside _ ih.front x ih.back (subst S ih.was above))) in
       record {

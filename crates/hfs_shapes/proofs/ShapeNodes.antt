@@ -12,8 +12,8 @@ use Rattle.hfs_btree_edits.proofs.LevelPartLemmas.{KeepsRecords}
 use Rattle.hfs_fields.specs.Each.{Each}
 use Rattle.hfs_fields.proofs.ElementLemmas.{each-mono, each-append, each-left, each-right, each-both, each-map, each-unmap}
 use Rattle.hfs_fields.proofs.PartLemmas.{flat-each}
-use Rattle.hfs_btree_removal.proofs.Shapes.{Shape}
-use Rattle.hfs_btree_removal.proofs.ShapeOf.{shape_of, entry, Below, down}
+use Rattle.hfs_shapes.proofs.Shapes.{Shape}
+use Rattle.hfs_shapes.proofs.ShapeOf.{shape_of, entry, Below, down}
 
 abbrev pub nodes_under : {K : Type 0} → Ghosts K → Store → ℕ → ℕ → List ℕ
 nodes_under g nodes zero n = n ∷ []

@@ -14,7 +14,7 @@ use Rattle.hfs_btree_edits.proofs.EditedOrderLemmas.{each-flat}
 use Rattle.hfs_fields.specs.Each.{Each}
 use Rattle.hfs_fields.proofs.ElementLemmas.{each-mono, each-append, each-left, each-right, each-both, each-map, each-unmap}
 use Rattle.hfs_fields.proofs.PartLemmas.{flat-each}
-use Rattle.hfs_btree_removal.proofs.Shapes.{Shape, content, heads, OfFirst, part, IsSorted, IsFull, IsTight, AllKeys}
+use Rattle.hfs_shapes.proofs.Shapes.{Shape, content, heads, OfFirst, part, IsSorted, IsFull, IsTight, AllKeys}
 
 -- the tree under a node that is so many levels above the leaves
 abbrev pub shape_of : {K : Type 0} → Ghosts K → Store → (k : ℕ) → ℕ → Shape K k

@@ -1,0 +1,5 @@
+pub mod Shapes
+pub mod ShapeOut
+pub mod ShapeOf
+pub mod ShapeNodes
+pub mod StoreOut

@@ -1,0 +1,11 @@
+//! Draft: a tree as a value.
+#![tactic(auto)]
+
+ghost use Rattle.std.specs.Prelude.{◌≡◌};
+
+/// One.
+pub fn one() -> u32
+    ensures { result ≡ 1 }
+{
+    1
+}
