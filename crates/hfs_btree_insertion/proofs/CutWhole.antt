@@ -104,9 +104,6 @@ module _ {K : Type 0} (g : Ghosts K) (total : IsTotalOrder g.compare) (key : K) 
 
   -- ---- levels
 
-  abbrev below-by : ℕ → ℕ
-  below-by k = a - 1 - k
-
   place-below : (k : ℕ) → k < a → depth_of old - 1 - k ≡ lift h.i (suc (suc (a - 1 - k)))
   place-below k lt = let d = height in let e = lift-is h.i (suc (suc (a - 1 - k))) in omega (arith, d, e, lt)
 

@@ -37,14 +37,6 @@ module _ {K : Type 0} (g : Ghosts K) where
   reads-index zero e some h = absurd (some refl)
   reads-index (suc k) e some h = h
 
-  pub key-leaf : (k : ℕ) (e : List ℕ) → k ≡ 0 → g.leaf_key e ≡ entry_key g k e
-  key-leaf zero e z = refl
-  key-leaf (suc k) e z = absurd (omega (arith, z))
-
-  pub key-index : (k : ℕ) (e : List ℕ) → k ≢ 0 → g.index_key e ≡ entry_key g k e
-  key-index zero e some = absurd (some refl)
-  key-index (suc k) e some = refl
-
   -- it is short
   reads-short : ((e : List ℕ) → g.is_leaf e ≡ true → length e ≤ 140) → ((e : List ℕ) → g.is_index e ≡ true → length e ≤ 42) → (k : ℕ) (e : List ℕ) → reads_at g k e ≡ true → length e ≤ 140
   reads-short leaf index zero e h = leaf e h
@@ -54,11 +46,6 @@ module _ {K : Type 0} (g : Ghosts K) where
       → All (λ e. length e ≤ 140) es
   all-short leaf index k [] h = All-nil (λ (e : List ℕ). length e ≤ 140)
   all-short leaf index k (e ∷ es) h = All-cons (λ (e' : List ℕ). length e' ≤ 140) e es (reads-short leaf index k e h.0) (all-short leaf index k es h.1)
-
-behind-within : {K : Type 0} (g : Ghosts K) (nodes : Store) (k left : ℕ) (before : List ℕ) (n : ℕ) (behind : List ℕ) → 0 < length nodes → Each (IsRight g nodes) (spots k left (before ++ n ∷ behind)) → first_of behind < length nodes
-behind-within g nodes k left [] n [] some h = some
-behind-within g nodes k left [] n (m ∷ behind) some h = decoded-within nodes m h.1.0.value h.1.0.decodes
-behind-within g nodes k left (b ∷ before) n behind some h = behind-within g nodes k b before n behind some h.1
 
 behind-link : {K : Type 0} (g : Ghosts K) (nodes : Store) (k left : ℕ) (before : List ℕ) (n : ℕ) (behind : List ℕ) → Each (IsRight g nodes) (spots k left (before ++ n ∷ behind)) → IsLink nodes (first_of behind)
 behind-link g nodes k left [] n [] h = λ some. absurd (some refl)
@@ -74,9 +61,6 @@ same-value v w e = cc
 module _ {K : Type 0} (g : Ghosts K) (old : Store) (sound : IsSound g old) (k p q : ℕ) (b : IsBranch g old k p q) where
   abbrev n : ℕ
   n = child_at g old p q
-
-  pub some-nodes : 0 < length old
-  some-nodes = (head-long g old sound.structure.header).0
 
   pub parent-way : IsOnWay g old (suc k) p
   parent-way =
@@ -96,27 +80,6 @@ module _ {K : Type 0} (g : Ghosts K) (old : Store) (sound : IsSound g old) (k p 
 
   -- the nodes as they were loaded
   module _ (above : Node) (was_above : node_in old p ≡ Ok above) where
-    pub above-records : above.records ≡ records_in old p
-    above-records = sym (ap records_of was_above)
-
-    pub place-within : q < length above.records
-    place-within = let P : List (List ℕ) → Type 0 = λ xs. q < length xs in subst P (sym above-records) b.within
-
-    pub entry-index : g.is_index (get_or above.records q []) ≡ true
-    entry-index =
-        let Q : List (List ℕ) → Type 0 = λ xs. g.is_index (get_or xs q []) ≡ true in
-        subst Q (sym above-records) (each-at (λ e. g.is_index e ≡ true) (records_in old p) q [] (index-entries g old (suc k) p (omega arith) parent-way) b.within)
-
-    pub child-is : (e : List ℕ) (x : ℕ) → x ≡ g.child e → e ≡ get_or above.records q [] → x ≡ n
-    child-is e x is at = is ∙ ap g.child (at ∙ ap (λ (xs : List (List ℕ)). get_or xs q []) above-records)
-
-    -- a record more fits
-    pub above-fits : (xs : List (List ℕ)) (entry : List ℕ) (j : ℕ) → xs ≡ insert above.records j entry → length entry ≡ g.INDEX_KEY_LEN + 5 → size_of (records_in old p) + (g.INDEX_KEY_LEN + 5 + 2) ≤ 496 → size_of xs ≤ 496
-    above-fits xs entry j is len room =
-        let size = size_of-insert above.records j entry in
-        let same = ap size_of is in
-        let was = ap size_of above-records in
-        omega (arith, size, same, was, len, room)
 
   module _ (node : Node) (was_node : node_in old n ≡ Ok node) where
     pub node-records : node.records ≡ records_in old n
@@ -124,9 +87,6 @@ module _ {K : Type 0} (g : Ghosts K) (old : Store) (sound : IsSound g old) (k p 
 
     node-spot : (l : ℕ) × IsRight g old (record { left = l; n = n; right = first_of child-way.behind; above = k })
     node-spot = way-node g old k n child-way
-
-    pub node-reads : Each (λ e. reads_at g k e ≡ true) node.records
-    node-reads = let P : Node → Type 0 = λ v. Each (λ e. reads_at g k e ≡ true) v.records in subst P (same-value node-spot.1.value node (sym node-spot.1.decodes ∙ was_node)) node-spot.1.whole
 
     right-is : node.forward ≡ first_of child-way.behind
     right-is = ap (λ (v : Node). v.forward) (same-value node node-spot.1.value (sym was_node ∙ node-spot.1.decodes)) ∙ node-spot.1.right
@@ -136,26 +96,6 @@ module _ {K : Type 0} (g : Ghosts K) (old : Store) (sound : IsSound g old) (k p 
         let P : ℕ → Type 0 = λ x. IsLink old x in
         subst P (sym right-is) (behind-link g old k 0 child-way.before n child-way.behind
         (Rattle.hfs_fields.proofs.ElementLemmas.each-left (IsRight g old) (spots k 0 (child-way.before ++ n ∷ child-way.behind)) _ child-way.right))
-
-    right-within : node.forward < length old
-    right-within =
-        let P : ℕ → Type 0 = λ x. x < length old in
-        subst P (sym right-is) (behind-within g old k 0 child-way.before n child-way.behind some-nodes
-        (Rattle.hfs_fields.proofs.ElementLemmas.each-left (IsRight g old) (spots k 0 (child-way.before ++ n ∷ child-way.behind)) _ child-way.right))
-
-    pub node-size : size_of node.records ≡ size_of (records_in old n)
-    node-size = ap size_of node-records
-
-    -- the first record of the second half
-    pub second-reads : (c : ℕ) (xs : List (List ℕ)) → xs ≡ drop c node.records → c < length node.records → reads_at g k (get_or xs 0 []) ≡ true
-    second-reads c xs is lt =
-        let P : List ℕ → Type 0 = λ e. reads_at g k e ≡ true in
-        let same : c + 0 ≡ c = omega arith in
-        let at = ap (λ (ys : List (List ℕ)). get_or ys 0 []) is ∙ get_or-drop c node.records 0 [] ∙ ap (λ (j : ℕ). get_or node.records j []) same in
-        subst P (sym at) (each-at (λ e. reads_at g k e ≡ true) node.records c [] node-reads lt)
-
-    pub second-some : (c : ℕ) (xs : List (List ℕ)) → xs ≡ drop c node.records → c < length node.records → 0 < length xs
-    second-some c xs is lt = let len = ap (λ (ys : List (List ℕ)). length ys) is in let rest = length-drop c node.records in omega (arith, len, rest, lt)
 
   -- ---- the cut
 

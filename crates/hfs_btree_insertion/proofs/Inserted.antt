@@ -52,9 +52,6 @@ module _ {K : Type 0} (g : Ghosts K) (key : K) (old a : Store) (sound : IsSound 
   pub lower-enough : depth_of old + 1 ≤ free_nodes old → depth_of a + 1 ≤ free_nodes a
   lower-enough enough = let d = lower-depth in let free = lower-free in omega (arith, d, free, enough)
 
-  pub lower-shallow : depth_of old ≤ 15 → depth_of a ≤ 15
-  lower-shallow le = let d = lower-depth in omega (arith, d, le)
-
   pub lower-file : (header_in old).nodes ≤ length old → (header_in a).nodes ≤ length a
   lower-file file = let nodes = l.keeps.frame.nodes in let len = l.keeps.frame.file in omega (arith, file, nodes, len)
 
@@ -63,12 +60,6 @@ module _ {K : Type 0} (g : Ghosts K) (key : K) (old a : Store) (sound : IsSound 
   module _ (len : ℕ) (b : Store) (m : HasMadeRoom g key len 0 a b) where
     pub room-content : tree_content g b ≡ tree_content g old
     room-content = m.content ∙ l.content
-
-    pub room-some : 0 < depth_of b
-    room-some = let some = some-levels_above g key a lower-first in let least = m.least in omega (arith, some, least)
-
-    pub room-absent : lookup g.compare key (tree_content g old) ≡ None → lookup g.compare key (tree_content g b) ≡ None
-    room-absent absent = ap (lookup g.compare key) room-content ∙ absent
 
     pub room-few : 512 * (header_in old).nodes < 4294967296 → (header_in b).records + 1 < 4294967296
     room-few small =

@@ -120,12 +120,6 @@ module _ {K : Type 0} (g : Ghosts K) (total : IsTotalOrder g.compare) (key : K) 
         (let R : ℕ → Type 0 = λ i. 0 < prefix_len (is_not_above g key) (records_in old (leaf_under g old key i (header_in old).root)) in subst R at-old (low j (omega (arith, less, up)))) in
         subst P to (subst Q (sym (r.levels.records key k lt)) was)
 
-    pub raised-free : depth_of old + 1 ≤ free_nodes old → full ≤ free_nodes mid
-    raised-free enough = let one = r.free in omega (arith, enough, one, all)
-
-    pub raised-file : (header_in old).nodes ≤ length old → (header_in mid).nodes ≤ length mid
-    raised-file file = let nodes = r.keeps.frame.nodes in let len' = r.keeps.frame.file in omega (arith, file, nodes, len')
-
     module _ (a : ℕ) (least : a ≤ full) (new : Store) (h : HasCutDown g key len a full mid new) where
       raised-level : (k : ℕ) → a ≤ k → k < depth_of old → HasGrownFor g key len a old new k
       raised-level k le lt =

@@ -68,14 +68,8 @@ module _ {K : Type 0} (g : Ghosts K) (old new : Store) (i k p n m q : ℕ) (us w
   pub distinct : IsDistinct all
   distinct = Rattle.hfs_btree_insertion.proofs.Cuts.distinct g old i k p n m q s.cut structure
 
-  pub levels-right : Each (IsRight g old) (uppers ++ (spots (suc k) 0 above-level ++ (spots k 0 old-level ++ lowers)))
-  levels-right = Rattle.hfs_btree_insertion.proofs.Cuts.levels-right g old i k p n m q s.cut structure
-
   pub right-uppers : Each (IsRight g old) uppers
   right-uppers = Rattle.hfs_btree_insertion.proofs.Cuts.right-uppers g old i k p n m q s.cut structure
-
-  pub right-two : Each (IsRight g old) (spots (suc k) 0 above-level ++ (spots k 0 old-level ++ lowers))
-  right-two = Rattle.hfs_btree_insertion.proofs.Cuts.right-two g old i k p n m q s.cut structure
 
   pub right-above : Each (IsRight g old) (spots (suc k) 0 above-level)
   right-above = Rattle.hfs_btree_insertion.proofs.Cuts.right-above g old i k p n m q s.cut structure
@@ -89,9 +83,6 @@ module _ {K : Type 0} (g : Ghosts K) (old new : Store) (i k p n m q : ℕ) (us w
   pub right-lowers : Each (IsRight g old) lowers
   right-lowers = Rattle.hfs_btree_insertion.proofs.Cuts.right-lowers g old i k p n m q s.cut structure
 
-  pub node-spot : (l : ℕ) × IsRight g old (record { left = l; n = n; right = first_of hn; above = k })
-  node-spot = Rattle.hfs_btree_insertion.proofs.Cuts.node-spot g old i k p n m q s.cut structure
-
   abbrev pub ok_of : Node → Result Node NodeFault
   ok_of = Rattle.hfs_btree_insertion.proofs.Cuts.ok_of g old i k p n m q s.cut structure
 
@@ -104,41 +95,14 @@ module _ {K : Type 0} (g : Ghosts K) (old new : Store) (i k p n m q : ℕ) (us w
   abbrev pub AreOthers : List ℕ → Type 0
   AreOthers xs = Rattle.hfs_btree_insertion.proofs.Cuts.AreOthers g old i k p n m q s.cut structure xs
 
-  abbrev pub rest-list : List ℕ
-  rest-list = Rattle.hfs_btree_insertion.proofs.Cuts.rest-list g old i k p n m q s.cut structure
-
-  pub zero-others : Each (IsOther 0) rest-list
-  zero-others = Rattle.hfs_btree_insertion.proofs.Cuts.zero-others g old i k p n m q s.cut structure
-
-  pub p-others : Each (IsOther p) (own_nodes old ++ (numbers uppers ++ s.cut.before)) × Each (IsOther p) (s.cut.behind ++ (old-level ++ numbers lowers))
-  p-others = Rattle.hfs_btree_insertion.proofs.Cuts.p-others g old i k p n m q s.cut structure
-
-  pub n-others : Each (IsOther n) (own_nodes old ++ (numbers uppers ++ (above-level ++ bn))) × Each (IsOther n) (hn ++ numbers lowers)
-  n-others = Rattle.hfs_btree_insertion.proofs.Cuts.n-others g old i k p n m q s.cut structure
-
   pub m-others : Each (IsOther m) all
   m-others = Rattle.hfs_btree_insertion.proofs.Cuts.m-others g old i k p n m q s.cut structure
-
-  pub r-others : Each (IsOther (first_of hn)) (numbers uppers ++ (above-level ++ bn)) × Each (IsOther (first_of hn)) (drop 1 hn ++ numbers lowers)
-  r-others = Rattle.hfs_btree_insertion.proofs.Cuts.r-others g old i k p n m q s.cut structure
 
   pub uppers-others : AreOthers (numbers uppers)
   uppers-others = Rattle.hfs_btree_insertion.proofs.Cuts.uppers-others g old i k p n m q s.cut structure
 
   pub zero-above : Each (IsOther 0) above-level × Each (IsOther 0) old-level × Each (IsOther 0) (numbers lowers)
   zero-above = Rattle.hfs_btree_insertion.proofs.Cuts.zero-above g old i k p n m q s.cut structure
-
-  pub n-above : Each (IsOther n) above-level × Each (IsOther n) bn
-  n-above = Rattle.hfs_btree_insertion.proofs.Cuts.n-above g old i k p n m q s.cut structure
-
-  pub r-above : Each (IsOther (first_of hn)) above-level × Each (IsOther (first_of hn)) bn
-  r-above = Rattle.hfs_btree_insertion.proofs.Cuts.r-above g old i k p n m q s.cut structure
-
-  pub m-above : Each (IsOther m) above-level × Each (IsOther m) old-level × Each (IsOther m) (numbers lowers)
-  m-above = Rattle.hfs_btree_insertion.proofs.Cuts.m-above g old i k p n m q s.cut structure
-
-  pub p-level : Each (IsOther p) old-level × Each (IsOther p) (numbers lowers)
-  p-level = Rattle.hfs_btree_insertion.proofs.Cuts.p-level g old i k p n m q s.cut structure
 
   pub before-others : AreOthers s.cut.before
   before-others = Rattle.hfs_btree_insertion.proofs.Cuts.before-others g old i k p n m q s.cut structure
@@ -148,9 +112,6 @@ module _ {K : Type 0} (g : Ghosts K) (old new : Store) (i k p n m q : ℕ) (us w
 
   pub left-others : AreOthers bn
   left-others = Rattle.hfs_btree_insertion.proofs.Cuts.left-others g old i k p n m q s.cut structure
-
-  pub each-tail : (P : ℕ → Type 0) (xs : List ℕ) → Each P xs → Each P (drop 1 xs)
-  each-tail = Rattle.hfs_btree_insertion.proofs.Cuts.each-tail g old i k p n m q s.cut structure
 
   pub tail-others : AreOthers (drop 1 hn)
   tail-others = Rattle.hfs_btree_insertion.proofs.Cuts.tail-others g old i k p n m q s.cut structure

@@ -332,9 +332,6 @@ module _ {K : Type 0} (g : Ghosts K) (total : IsTotalOrder g.compare) (key : K) 
   same-value : (v w : Node) → ok_of v ≡ ok_of w → v ≡ w
   same-value v w e = cc
 
-  node-is : n-spot.1.value ≡ s.node
-  node-is = same-value n-spot.1.value s.node (sym n-spot.1.decodes ∙ s.was)
-
   pub kind-is : (v : Node) → node_in old n ≡ Ok v → v.kind ≡ Leaf
   kind-is v e = ap (λ (w : Node). w.kind) (same-value v n-spot.1.value (sym e ∙ n-spot.1.decodes)) ∙ n-spot.1.kind
 

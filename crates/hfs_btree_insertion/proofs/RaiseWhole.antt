@@ -66,23 +66,6 @@ module _ {K : Type 0} (g : Ghosts K) (nodes : Store) (sound : IsSound g nodes) (
         let same : d ≡ depth_of nodes - 1 = deep ∙ ap (λ (x : Header). x.depth - 1) is in
         subst Q (sym same) (subst P (sym (at ∙ ap (λ (xs : List (List ℕ)). slice_index_or xs 0 []) loaded)) (each-at (λ e'. reads_at g (depth_of nodes - 1) e' ≡ true) (records_in nodes (header_in nodes).root) 0 [] root-reads root-some))
 
-    pub above-root : (root : Node) (key : K) (entry first : List ℕ) (d : ℕ) → first ≡ slice_index_or node.records 0 [] → d ≡ h.depth - 1 → key ≡ entry_key g d first → g.is_index entry ≡ true → g.index_key entry ≡ key
-        → g.child entry ≡ h.root → root.forward ≡ 0 → root.backward ≡ 0 → root.kind ≡ Rattle.hfs_btree.specs.declared.kind.NodeKind.TheVariants.Index → root.height ≡ h.depth + 1 → root.records ≡ entry ∷ []
-        → IsRootAbove g nodes root
-    above-root root key entry first d at deep key-is index keyed names f b k height one =
-        let same : d ≡ depth_of nodes - 1 = deep ∙ ap (λ (x : Header). x.depth - 1) is in
-        record {
-          entry = entry;
-          index = index;
-          names = names ∙ ap (λ (x : Header). x.root) is;
-          keyed = keyed ∙ key-is ∙ ap (λ (j : ℕ). entry_key g j first) same ∙ ap (entry_key g (depth_of nodes - 1)) (at ∙ ap (λ (xs : List (List ℕ)). slice_index_or xs 0 []) loaded);
-          forward = f;
-          backward = b;
-          kind = k;
-          height = height ∙ ap (λ (x : Header). x.depth + 1) is;
-          one = one;
-        }
-
 pub one-fits : (entry : List ℕ) (xs : List (List ℕ)) → xs ≡ entry ∷ [] → size_of xs ≡ length entry + 2
 one-fits entry xs is =
     let size = size_of-insert [] 0 entry in

@@ -97,9 +97,6 @@ module _ {K : Type 0} (g : Ghosts K) (total : IsTotalOrder g.compare) (old new :
   first-keyed : (k : ℕ) (ns : List ℕ) (n : ℕ) → Each (Keyed g old) (turn g old (suc k) (n ∷ ns)) → AreKeysInOrder g old k n
   first-keyed k ns n h = h.0
 
-  rs : List (List ℕ)
-  rs = records_in old root
-
   root-keyed : AreRecordsInOrder g old d (records_in old root)
   root-keyed = records-keyed g old d root (records_in old root) refl (first-keyed d [] root keyed-old)
 

@@ -60,89 +60,17 @@ module _ {K : Type 0} (g : Ghosts K) (old new : Store) (i k p n m q c : ℕ) (s 
   pub old-turn : tree_turn g old ≡ uppers ++ (spots (suc k) 0 above-level ++ (spots k 0 old-level ++ lowers))
   old-turn = Rattle.hfs_btree_insertion.proofs.Cuts.old-turn g old i k p n m q s.parts.cut structure
 
-  pub numbers-of : (ns : List ℕ) → numbers (uppers ++ (spots (suc k) 0 above-level ++ (spots k 0 ns ++ lowers))) ≡ numbers uppers ++ (above-level ++ (ns ++ numbers lowers))
-  numbers-of = Rattle.hfs_btree_insertion.proofs.Cuts.numbers-of g old i k p n m q s.parts.cut structure
-
   abbrev pub all : List ℕ
   all = Rattle.hfs_btree_insertion.proofs.Cuts.all g old i k p n m q s.parts.cut structure
-
-  pub all-is : own_nodes old ++ tree_nodes g old ≡ all
-  all-is = Rattle.hfs_btree_insertion.proofs.Cuts.all-is g old i k p n m q s.parts.cut structure
-
-  pub distinct : IsDistinct all
-  distinct = Rattle.hfs_btree_insertion.proofs.Cuts.distinct g old i k p n m q s.parts.cut structure
-
-  pub levels-right : Each (IsRight g old) (uppers ++ (spots (suc k) 0 above-level ++ (spots k 0 old-level ++ lowers)))
-  levels-right = Rattle.hfs_btree_insertion.proofs.Cuts.levels-right g old i k p n m q s.parts.cut structure
 
   pub right-uppers : Each (IsRight g old) uppers
   right-uppers = Rattle.hfs_btree_insertion.proofs.Cuts.right-uppers g old i k p n m q s.parts.cut structure
 
-  pub right-two : Each (IsRight g old) (spots (suc k) 0 above-level ++ (spots k 0 old-level ++ lowers))
-  right-two = Rattle.hfs_btree_insertion.proofs.Cuts.right-two g old i k p n m q s.parts.cut structure
-
-  pub right-above : Each (IsRight g old) (spots (suc k) 0 above-level)
-  right-above = Rattle.hfs_btree_insertion.proofs.Cuts.right-above g old i k p n m q s.parts.cut structure
-
-  pub right-one : Each (IsRight g old) (spots k 0 old-level ++ lowers)
-  right-one = Rattle.hfs_btree_insertion.proofs.Cuts.right-one g old i k p n m q s.parts.cut structure
-
-  pub right-level : Each (IsRight g old) (spots k 0 old-level)
-  right-level = Rattle.hfs_btree_insertion.proofs.Cuts.right-level g old i k p n m q s.parts.cut structure
-
   pub right-lowers : Each (IsRight g old) lowers
   right-lowers = Rattle.hfs_btree_insertion.proofs.Cuts.right-lowers g old i k p n m q s.parts.cut structure
 
-  pub node-spot : (l : ℕ) × IsRight g old (record { left = l; n = n; right = first_of hn; above = k })
-  node-spot = Rattle.hfs_btree_insertion.proofs.Cuts.node-spot g old i k p n m q s.parts.cut structure
-
-  abbrev pub ok_of : Node → Result Node NodeFault
-  ok_of = Rattle.hfs_btree_insertion.proofs.Cuts.ok_of g old i k p n m q s.parts.cut structure
-
-  pub same-value : (v w : Node) → ok_of v ≡ ok_of w → v ≡ w
-  same-value = Rattle.hfs_btree_insertion.proofs.Cuts.same-value g old i k p n m q s.parts.cut structure
-
-  pub forward-is : s.parts.cut.node.forward ≡ first_of hn
-  forward-is = Rattle.hfs_btree_insertion.proofs.Cuts.forward-is g old i k p n m q s.parts.cut structure
-
   abbrev pub AreOthers : List ℕ → Type 0
   AreOthers xs = Rattle.hfs_btree_insertion.proofs.Cuts.AreOthers g old i k p n m q s.parts.cut structure xs
-
-  abbrev pub rest-list : List ℕ
-  rest-list = Rattle.hfs_btree_insertion.proofs.Cuts.rest-list g old i k p n m q s.parts.cut structure
-
-  pub zero-others : Each (IsOther 0) rest-list
-  zero-others = Rattle.hfs_btree_insertion.proofs.Cuts.zero-others g old i k p n m q s.parts.cut structure
-
-  pub p-others : Each (IsOther p) (own_nodes old ++ (numbers uppers ++ s.parts.cut.before)) × Each (IsOther p) (s.parts.cut.behind ++ (old-level ++ numbers lowers))
-  p-others = Rattle.hfs_btree_insertion.proofs.Cuts.p-others g old i k p n m q s.parts.cut structure
-
-  pub n-others : Each (IsOther n) (own_nodes old ++ (numbers uppers ++ (above-level ++ bn))) × Each (IsOther n) (hn ++ numbers lowers)
-  n-others = Rattle.hfs_btree_insertion.proofs.Cuts.n-others g old i k p n m q s.parts.cut structure
-
-  pub m-others : Each (IsOther m) all
-  m-others = Rattle.hfs_btree_insertion.proofs.Cuts.m-others g old i k p n m q s.parts.cut structure
-
-  pub r-others : Each (IsOther (first_of hn)) (numbers uppers ++ (above-level ++ bn)) × Each (IsOther (first_of hn)) (drop 1 hn ++ numbers lowers)
-  r-others = Rattle.hfs_btree_insertion.proofs.Cuts.r-others g old i k p n m q s.parts.cut structure
-
-  pub uppers-others : AreOthers (numbers uppers)
-  uppers-others = Rattle.hfs_btree_insertion.proofs.Cuts.uppers-others g old i k p n m q s.parts.cut structure
-
-  pub zero-above : Each (IsOther 0) above-level × Each (IsOther 0) old-level × Each (IsOther 0) (numbers lowers)
-  zero-above = Rattle.hfs_btree_insertion.proofs.Cuts.zero-above g old i k p n m q s.parts.cut structure
-
-  pub n-above : Each (IsOther n) above-level × Each (IsOther n) bn
-  n-above = Rattle.hfs_btree_insertion.proofs.Cuts.n-above g old i k p n m q s.parts.cut structure
-
-  pub r-above : Each (IsOther (first_of hn)) above-level × Each (IsOther (first_of hn)) bn
-  r-above = Rattle.hfs_btree_insertion.proofs.Cuts.r-above g old i k p n m q s.parts.cut structure
-
-  pub m-above : Each (IsOther m) above-level × Each (IsOther m) old-level × Each (IsOther m) (numbers lowers)
-  m-above = Rattle.hfs_btree_insertion.proofs.Cuts.m-above g old i k p n m q s.parts.cut structure
-
-  pub p-level : Each (IsOther p) old-level × Each (IsOther p) (numbers lowers)
-  p-level = Rattle.hfs_btree_insertion.proofs.Cuts.p-level g old i k p n m q s.parts.cut structure
 
   pub before-others : AreOthers s.parts.cut.before
   before-others = Rattle.hfs_btree_insertion.proofs.Cuts.before-others g old i k p n m q s.parts.cut structure
@@ -152,15 +80,6 @@ module _ {K : Type 0} (g : Ghosts K) (old new : Store) (i k p n m q c : ℕ) (s 
 
   pub left-others : AreOthers bn
   left-others = Rattle.hfs_btree_insertion.proofs.Cuts.left-others g old i k p n m q s.parts.cut structure
-
-  pub each-tail : (P : ℕ → Type 0) (xs : List ℕ) → Each P xs → Each P (drop 1 xs)
-  each-tail = Rattle.hfs_btree_insertion.proofs.Cuts.each-tail g old i k p n m q s.parts.cut structure
-
-  pub tail-others : AreOthers (drop 1 hn)
-  tail-others = Rattle.hfs_btree_insertion.proofs.Cuts.tail-others g old i k p n m q s.parts.cut structure
-
-  pub lowers-others : AreOthers (numbers lowers)
-  lowers-others = Rattle.hfs_btree_insertion.proofs.Cuts.lowers-others g old i k p n m q s.parts.cut structure
 
   -- ---- the records of the new store, and its levels
 
@@ -193,9 +112,6 @@ module _ {K : Type 0} (g : Ghosts K) (old new : Store) (i k p n m q c : ℕ) (s 
 
   pub new-turn : tree_turn g new ≡ uppers ++ (spots (suc k) 0 above-level ++ (spots k 0 new-level ++ lowers))
   new-turn = Rattle.hfs_btree_insertion.proofs.Parted.new-turn g old new i k p n m q (take c (records_in old n)) (drop c (records_in old n)) s.parts structure
-
-  pub new-nodes : tree_nodes g new ≡ numbers uppers ++ (above-level ++ (new-level ++ numbers lowers))
-  new-nodes = Rattle.hfs_btree_insertion.proofs.Parted.new-nodes g old new i k p n m q (take c (records_in old n)) (drop c (records_in old n)) s.parts structure
 
   pub new-levels : HasLevels g new
   new-levels = Rattle.hfs_btree_insertion.proofs.Parted.new-levels g old new i k p n m q (take c (records_in old n)) (drop c (records_in old n)) s.parts structure
@@ -310,18 +226,11 @@ module _ {K : Type 0} (g : Ghosts K) (old new : Store) (i k p n m q c : ℕ) (s 
     pub node-some : HavePairs g old k rs
     node-some = have-pairs g old k rs (turn-parts-right g old k bn n hn right-lowers)
 
-    sep : K
-    sep = entry_key g k (get_or rs c [])
-
     sep-above : IsAbove g.compare (entry_key g k (get_or rs c [])) (content g old k first-records)
     sep-above = middle-above g old total k rs c s.less node-rises node-keys node-some
 
     sep-most : IsAtMost g.compare (entry_key g k (get_or rs c [])) (content g old k second-records)
     sep-most = middle-most g old total k rs c s.less node-rises node-keys node-some
-
-    -- the node above
-    abbrev old-part : List ℕ → K × Pairs K
-    old-part e = part_of g (under g old k) e
 
     abbrev front : List (K × Pairs K)
     front = map (part_of g (under g old k)) (take q es)

@@ -97,13 +97,6 @@ module _ {K : Type 0} (g : Ghosts K) (key : K) (len full : ℕ) (old : Store) wh
     pub next-deep : b + 1 < depth_of mid
     next-deep = let d = h.depth in let w = c.within in omega (arith, d, w, some, most, next)
 
-    pub next-over : 354 < size_of (records_in mid (node_for g mid key b))
-    next-over =
-        let over = c.over b (omega (arith, some, most, next)) in
-        let size = ap size_of (h.records b (omega (arith, some, next))) in
-        let same = ap (λ (x : ℕ). size_of (records_in mid x)) (h.way b (omega (arith, some, next))) in
-        omega (arith, over, size, same)
-
     -- where the node above was cut just before, it has room for one record more
     pub next-room : HasRoom mid (g.INDEX_KEY_LEN + 5) (node_for g mid key (b + 1))
     next-room =
@@ -118,12 +111,6 @@ module _ {K : Type 0} (g : Ghosts K) (key : K) (len full : ℕ) (old : Store) wh
               let S : Store → Type 0 = λ s. HasRoom s (g.INDEX_KEY_LEN + 5) (node_for g s key a) in
               subst S (sym (h.none (omega (arith, same)))) (subst F is (c.room (omega (arith, is, some)))))
         ])
-
-    pub next-free : full ≤ free_nodes old → 0 < free_nodes mid
-    next-free enough = let f = h.free in omega (arith, f, enough, some)
-
-    pub next-file : (header_in old).nodes ≤ length old → (header_in mid).nodes ≤ length mid
-    next-file file = let n = h.keeps.frame.nodes in let l = h.keeps.frame.file in omega (arith, n, l, file)
 
     -- and what it makes
     pub down-next : (new : Store) → HasCutLevel g key (len_at g len b) b mid new → HasCutDown g key len b full old new

@@ -32,9 +32,6 @@ unfolding free_nodes
 free-same old new head = ap (count_by not) head.marks
 
 module _ {K : Type 0} (g : Ghosts K) (m : ℕ) (old mid new : Store) (c : HasClaimed g m old mid) where
-  abbrev NodesAs : List Spot → Type 0
-  NodesAs ss = Each (λ (x : Spot). node_in mid x.n ≡ node_in old x.n) ss
-
   pub claimed-keep : Each (KeepsAt g old mid) (tree_turn g old)
   claimed-keep = each-mono (λ (x : Spot). node_in mid x.n ≡ node_in old x.n) (KeepsAt g old mid) (tree_turn g old) (λ x e. ap records_of e) c.nodes
 

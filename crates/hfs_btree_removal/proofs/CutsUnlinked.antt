@@ -1,5 +1,5 @@
 -- The nodes of a chain, as steps and as cuts of their levels.
-use Rattle.std.proofs.Common.{◌≡◌, ◌≢◌, ℕ, ◌<◌, List, [], ◌∷◌, ◌++◌, length, refl, sym, ap, ◌∙◌, subst, arith}
+use Rattle.std.proofs.Common.{◌≡◌, ◌≢◌, ℕ, List, [], ◌∷◌, ◌++◌, refl, sym, ap, ◌∙◌, subst}
 use Rattle.std.specs.List.{flat_map}
 use Rattle.hfs_btree_removal.specs.declared.down.Step.{Step}
 use Rattle.hfs_btree.specs.declared.key.Key.{Ghosts}
@@ -61,10 +61,6 @@ module _ {K : Type 0} (g : Ghosts K) (base : Store) where
   level-decodes : (k left : ℕ) (ns : List ℕ) → Each (IsRight g base) (spots k left ns) → Each (Decodes base) ns
   level-decodes k left [] h = tt
   level-decodes k left (n ∷ ns) h = (decodes-as base n h.0.value h.0.decodes, level-decodes k n ns h.1)
-
-  pub level-some : (k left : ℕ) (ns : List ℕ) → Each (IsRight g base) (spots k left ns) → Each Some ns
-  level-some k left [] h = tt
-  level-some k left (n ∷ ns) h = ((λ e. absurd (let some = h.0.within.0 in omega arith)), level-some k n ns h.1)
 
   last-link : (d : ℕ) (xs : List ℕ) → IsLink base d → Each (Decodes base) xs → IsLink base (last_or d xs)
   last-link d [] link h = link

@@ -164,9 +164,6 @@ module _ {K : Type 0} (g : Ghosts K) (old new : Store) (i k p q : ℕ) (d : IsDe
   cuts-right (cut ∷ xs) gaps rights =
       (gap-linked g old new d.head.nodes on cut.above 0 cut.front cut.n cut.back gaps.0.front gaps.0.back rights.0, cuts-right xs gaps.1 rights.1)
 
-  ok_of : Node → Result Node NodeFault
-  ok_of v = Ok v
-
   same-value : (v w : Node) (r : Result Node NodeFault) → r ≡ Ok v → r ≡ Ok w → v ≡ w
   same-value v w r a b = cc
 

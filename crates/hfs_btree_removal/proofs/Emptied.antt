@@ -39,9 +39,6 @@ module _ {K : Type 0} (g : Ghosts K) (old new : Store) (d : IsEmptied g old new)
   pub emptied-keys : EachKey g (λ x. In x (tree_keys g old)) new
   emptied-keys = let P : List Spot → Type 0 = λ ss. Each (HaveKeys g (λ x. In x (tree_keys g old)) new) ss in subst P (sym no-turn) tt
 
-  pub old-content : tree_content g old ≡ pairs g old r ++ []
-  old-content = ap (λ (n : ℕ). flat_map (pairs g old) (last_level g old n (root_level old))) d.one
-
   new-all : own_nodes new ++ tree_nodes g new ≡ own_nodes old ++ []
   new-all = ap (λ (ns : List ℕ). ns ++ tree_nodes g new) (own_nodes-is g old new d.head) ∙ ap (λ (ns : List ℕ). own_nodes old ++ ns) new-nodes
 

@@ -1,5 +1,5 @@
 -- What a written header record makes of a tree's header node.
-use Rattle.std.proofs.Common.{◌≡◌, ◌≢◌, ℕ, ◌+◌, ◌-◌, ◌<◌, ◌≤◌, List, [], ◌∷◌, length, map, get_or, set, refl, sym, ap, ◌∙◌, subst, arith}
+use Rattle.std.proofs.Common.{◌≡◌, ℕ, ◌+◌, ◌-◌, ◌<◌, ◌≤◌, List, [], ◌∷◌, length, map, get_or, set, refl, sym, ap, ◌∙◌, subst, arith}
 use Rattle.std.specs.Prelude.{Ok, Result}
 use Rattle.std.proofs.lemmas.List.{length-set, get_or-set_same, get_or-set_other}
 use Rattle.hfs_btree.specs.declared.node.Node.{Node}
@@ -44,9 +44,6 @@ module _ {K : Type 0} (g : Ghosts K) (old new : Store) (structure : HasStructure
 
   pub put-fields : header_in new ≡ h
   put-fields = ap header_of first-is ∙ p.fields
-
-  pub put-rest : (m : ℕ) → m ≢ 0 → node_in new m ≡ node_in old m
-  put-rest = p.stored.rest
 
   pub head-put : h.nodes ≡ (header_in old).nodes → h.node_size ≡ (header_in old).node_size → h.key_len ≡ (header_in old).key_len → h.depth ≤ depth_of old → HasNewHeader g old new
   head-put nodes size key shallow = record {

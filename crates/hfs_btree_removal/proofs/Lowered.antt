@@ -2,7 +2,6 @@
 use Rattle.std.proofs.Common.{◌≡◌, ◌≢◌, ℕ, suc, ◌≤◌, List, [], ◌∷◌, ◌++◌, length, map, sym, ap, ◌∙◌, subst, arith}
 use Rattle.std.specs.Prelude.{◌↔◌}
 use Rattle.std.specs.List.{flat_map}
-use Rattle.hfs_btree.specs.declared.header.Header.{Header}
 use Rattle.hfs_btree.specs.declared.key.Key.{Ghosts}
 use Rattle.hfs_btree.specs.Pairs.{Pairs, Rises}
 use Rattle.hfs_fields.specs.Each.{Each}
@@ -51,9 +50,6 @@ module _ {K : Type 0} (g : Ghosts K) (old new : Store) (k : ℕ) (d : IsLowered 
   same =
       each-mono (IsRight g old) (IsUnchanged old new) below
       (λ s h. record { same = d.rest s.n (not-zero s.n h.within.0); marked = marked-on g old new d.head s.n h.marked }) rights
-
-  here : (d' : ℕ) (h : Header) → d' ≡ suc k → h.root ≡ c → (h.root ∷ []) ≡ (c ∷ [])
-  here d' h e f = ap (λ (n : ℕ). n ∷ []) f
 
   root-is : root_level new ≡ c ∷ []
   root-is = ap (λ (n : ℕ). n ∷ []) d.root

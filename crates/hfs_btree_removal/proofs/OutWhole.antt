@@ -38,10 +38,6 @@ module _ {K : Type 0} (g : Ghosts K) (total : IsTotalOrder g.compare) (old : Sto
   same-head [] w one u = ap (λ (s : Store). node_in s 0) (sym u)
   same-head (s ∷ bs) w one u = (gaps g total old sound above p s bs w one u).head
 
-  same-long : (chain : List Step) → IsWayBelow g old above p chain → (one : Store) → AreStepsUnlinked old chain old one → length one ≡ length old
-  same-long [] w one u = ap (λ (s : Store). length s) (sym u)
-  same-long (s ∷ bs) w one u = (gaps g total old sound above p s bs w one u).len
-
   module _ (chain : List Step) (w : IsWayBelow g old above p chain) where
     spot : (l : ℕ) × (r : ℕ) × IsRight g old (record { left = l; n = p.node; right = r; above = length chain })
     spot =
@@ -84,10 +80,6 @@ module _ {K : Type 0} (g : Ghosts K) (total : IsTotalOrder g.compare) (old : Sto
       put-long = let e = ap (λ r. length (get_or (records_of r) 0 [])) head-two in let long = sound.structure.header.long in omega arith
 
   -- ---- behind the writes
-
-  pub out-sound : (chain : List Step) (w : IsWayBelow g old above p chain) (three : Store) (changed : Option K) → HasDetached g p chain old three changed → IsSound g three
-  out-sound [] w three changed d = leaf-sound g total old sound above p w three changed d
-  out-sound (s ∷ bs) w three changed d = chain-sound g total old sound above p s bs w three changed d
 
   pub out-settable : (chain : List Step) (w : IsWayBelow g old above p chain) (three : Store) (changed : Option K) → HasDetached g p chain old three changed → AreSettable g three above
   out-settable [] w three changed d = leaf-settable g total old sound above p w three changed d
@@ -157,11 +149,6 @@ module _ (steps : List Step) (wide : ℕ) (l : IsLastWide steps wide) where
 
   back-whole : back ≡ drop (wide + 1) steps
   back-whole = take_all (length steps - (wide + 1)) (drop (wide + 1) steps) (omega (arith, length-drop (wide + 1) steps))
-
-  pub wide-within : wide < length steps
-  wide-within =
-      let all = ap (λ (ss : List Step). length ss) l.split in
-      omega (arith, all, l.long, length-append l.before (l.wide ∷ l.behind))
 
   pub steps-are : take wide steps ++ get_or steps wide no-step ∷ back ≡ steps
   steps-are =

@@ -7,11 +7,9 @@ use Rattle.std.specs.declared.cmp.Ordering.TheVariants.{Equal}
 use Rattle.std.proofs.lemmas.Bool.{cond-true}
 use Rattle.hfs_btree_removal.specs.declared.down.Step.{Step}
 use Rattle.hfs_btree.specs.declared.key.Key.{Ghosts}
-use Rattle.hfs_btree_edits.specs.Conditions.{IsThere}
 use Rattle.hfs_btree_edits.specs.Edits.{without_pair, HasRemoved}
 use Rattle.hfs_btree_removal.specs.Removal.{KeepsSound, GainsNothing}
 use Rattle.hfs_btree.specs.Header.{header_in, depth_of, root_level, free_nodes, tree_content}
-use Rattle.hfs_btree.specs.Pairs.{Pairs, lookup}
 use Rattle.hfs_btree.specs.Sound.{IsSound}
 use Rattle.hfs_fields.specs.Each.{Each}
 use Rattle.hfs_fields.proofs.ElementLemmas.{each-right}
@@ -22,17 +20,6 @@ use Rattle.hfs_btree_removal.proofs.Composed.{keeps-then}
 use Rattle.hfs_btree_removal.proofs.Gains.{gains-then, gains-keeps, gains-blank}
 
 module _ {K : Type 0} (g : Ghosts K) where
-  deep-by : (nodes : Store) (t : K) (d : ℕ) → IsThere (lookup g.compare t (flat_map (pairs g nodes) (last_level g nodes d (root_level nodes)))) → 0 < d
-  deep-by nodes t zero h = absurd h
-  deep-by nodes t (suc d) h = omega arith
-
-  -- a tree with a pair has a level
-  pub some-deep : (nodes : Store) (t : K) → IsThere (lookup g.compare t (tree_content g nodes)) → 0 < depth_of nodes
-  some-deep nodes t h = deep-by nodes t (depth_of nodes) h
-
-  pub still-there : (old low : Store) (l : HasLowered g old low) (t : K) → IsThere (lookup g.compare t (tree_content g old)) → IsThere (lookup g.compare t (tree_content g low))
-  still-there old low l t h = let P : Pairs K → Type 0 = λ ps. IsThere (lookup g.compare t ps) in subst P (sym l.content) h
-
   pub removed-all : (old low mid new : Store) (t : K) (steps : List Step) → IsSound g old → HasLowered g old low → IsWayTo g low t steps → HasTakenOut g steps low mid → HasLowered g mid new
       → (2 ≤ depth_of new → 2 ≤ length (records_in new (header_in new).root)) → HasRemoved g t old new
   removed-all old low mid new t steps sound a way out b wide =

@@ -1,5 +1,5 @@
 -- The removal of a pair, from its steps.
-use Rattle.std.proofs.Common.{◌≡◌, ◌≢◌, ℕ, zero, suc, ◌+◌, ◌<◌, ◌≤◌, List, [], ◌∷◌, ◌++◌, length, map, get_or, refl, sym, ap, ◌∙◌, subst, arith, inl, inr, length-append}
+use Rattle.std.proofs.Common.{◌≡◌, ◌≢◌, ℕ, zero, suc, ◌+◌, ◌<◌, ◌≤◌, List, [], ◌∷◌, ◌++◌, length, map, get_or, sym, ap, ◌∙◌, subst, arith, inl, inr, length-append}
 use Rattle.std.specs.Prelude.{◌↔◌}
 use Rattle.std.specs.List.{flat_map}
 use Rattle.std.specs.Cmp.{IsTotalOrder}
@@ -62,9 +62,6 @@ module _ {K : Type 0} (g : Ghosts K) (total : IsTotalOrder g.compare) (old one t
 
   rest : HasGiven g chain two new
   rest = all-given g chain two new told.sound given
-
-  regroup : (o n r : List ℕ) → o ++ (n ++ r) ≡ (o ++ n) ++ r
-  regroup o n r = sym (Rattle.std.proofs.Common.append_assoc o n r)
 
   -- a node of the chain was of the levels
   in-old : (m : ℕ) → In m chain → IsStray g old m → ⊥

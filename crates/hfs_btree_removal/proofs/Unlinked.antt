@@ -152,10 +152,6 @@ keep-all : (old new : Store) (ns ms : List ℕ) → ((m : ℕ) → m ≢ 0 → E
 keep-all old new [] ms f s o = tt
 keep-all old new (n ∷ ns) ms f s o = (f n s.0 o.0, keep-all old new ns ms f s.1 o.1)
 
-flip-one : (y : ℕ) (xs : List ℕ) → Each (λ x. y ≢ x) xs → Each (IsOther y) xs
-flip-one y [] h = tt
-flip-one y (x ∷ xs) h = (λ e. h.0 (sym e), flip-one y xs h.1)
-
 pick : (P : ℕ → Type 0) (xs : List ℕ) (n : ℕ) (ys : List ℕ) → Each P (xs ++ n ∷ ys) → Each P (xs ++ ys)
 pick P xs n ys h = each-append P xs ys (each-left P xs (n ∷ ys) h) (each-right P xs (n ∷ ys) h).1
 
