@@ -64,7 +64,7 @@ module _ (total : ℕ) (old : Blocks) (h : AreBlocksSound total old) (most : tot
   file_small es len file owned =
       let n = (mdb_in old).allocation_blocks in
       let size = (mdb_in old).allocation_block_size in
-      let once : (b : ℕ) → owners (extent_blocks es) b ≤ 1 = λ b. (let own = owned b in let one = owned_distinct (owned_in old) h.space.once b in omega (arith, own, one)) in
+      let once : (b : ℕ) → owners (extent_blocks es) b ≤ 1 = λ b. (let own = owned b in let one = distinct-once (owned_in old) h.space.once b in omega (arith, own, one)) in
       let every : ℕ → Bool = λ b. true in
       let left = room_left every n (extent_blocks es) once (λ b some. within_each n b es file.within some) (λ b some. refl) in
       let few : block_total es ≤ n = (let same = length-blocks es in omega (arith, left, same)) in
