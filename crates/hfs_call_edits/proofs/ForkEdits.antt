@@ -13,12 +13,13 @@ use Rattle.hfs_model.specs.Replies.{is_accepted, success}
 use Rattle.hfs_model.specs.Step.{step, is_writing}
 use Rattle.hfs_model.specs.Volume.{Volume, Entry}
 use Rattle.hfs_fields.specs.declared.file_record.FileRecord.{FileRecord}
-use Rattle.hfs_check.specs.Parts.{Blocks, mdb_in}
+use Rattle.hfs_check.specs.Parts.{Blocks, mdb_in, catalog_nodes}
 use Rattle.hfs_check.specs.VolumeOf.{volume_in}
 use Rattle.hfs_call_patches.specs.CallChanges.{IsChangeOf, Makes, changed, written_blocks}
 use Rattle.hfs_call_patches.specs.declared.change.Change.{Change}
 use Rattle.hfs_call_patches.specs.Files.{fork_of}
-use Rattle.hfs_call_patches.specs.Calls.{IsForkEdit, IsForkChangeOf, IsSetEofEdit, IsWriteForkEdit}
+use Rattle.hfs_call_patches.specs.Settings.{IsFileChoice}
+use Rattle.hfs_call_patches.specs.Calls.{AreFoundIn, IsForkEdit, IsForkChangeOf, IsSetEofEdit, IsWriteForkEdit}
 use Rattle.hfs_call_patches.specs.Found.{IsFoundFile, FindsFile}
 use Rattle.hfs_call_patches.specs.Wanting.{MeetsWant, IsWanting}
 use Rattle.hfs_call_patches.specs.declared.choosing.FoundFile.{FoundFile}
@@ -26,7 +27,8 @@ use Rattle.hfs_call_patches.specs.declared.volume.ForkRefusal.{ForkRefusal}
 use Rattle.hfs_call_patches.specs.declared.volume.ForkRefusal.TheVariants as fork_refusal
 use Rattle.hfs_call_edits.specs.declared.editing.Refusal.{Refusal}
 use Rattle.hfs_call_edits.specs.declared.editing.Refusal.TheVariants as refusal
-use Rattle.hfs_call_edits.specs.Edits.{IsEditOf, HasForkRoom, HasForkWritten, IsForkWanting, IsWantOf, wants_nodes}
+use Rattle.hfs_call_edits.specs.Placed.{file_chosen, IsFilePlaced}
+use Rattle.hfs_call_edits.specs.Edits.{ChoosesFileBy, IsEditOf, HasForkRoom, HasForkWritten, IsForkWanting, IsWantOf, wants_nodes}
 use Rattle.hfs_call_edits.specs.ForkWants.{MeetsForkWant, MeetsWantOf, edit_of, length_with}
 use Rattle.hfs_call_edits.specs.ForkWrites.{WritesFork, WritesForkOf}
 use Rattle.hfs_call_edits.proofs.Edited.{none_wanted}
@@ -37,6 +39,18 @@ use Rattle.hfs_call_edits.proofs.Edited.{none_wanted}
 pub set_as_written : (v : Volume) (dir : ℕ) (name : List ℕ) → to_set_f_info v dir name ≡ file_to_write v dir name
 unfolding to_set_f_info
 set_as_written v dir name = refl
+
+pub finds_file : (old : Blocks) (dir : ℕ) (name : List ℕ) (r : Result FoundFile ℤ) → ChoosesFileBy (λ v. to_set_f_info v dir name) old (file_chosen r) → IfOk r (IsFilePlaced (catalog_nodes old)) → FindsFile old (file_to_write (volume_in old) dir name) r
+finds_file old dir name (Ok f) chosen place = record {
+  choice = subst (λ (entry : Result Entry ℤ). IsFileChoice old entry f.key f.file) (set_as_written (volume_in old) dir name) chosen.choice;
+  place = place;
+}
+finds_file old dir name (Err code) chosen place = sym (set_as_written (volume_in old) dir name) ∙ chosen
+
+-- what a call finds is one of the volume's files
+pub found_in : (old : Blocks) (chosen : Result Entry ℤ) (r : Result FoundFile ℤ) → FindsFile old chosen r → AreFoundIn old r
+found_in old chosen (Ok f) is = record { chosen = chosen; is = is }
+found_in old chosen (Err code) is = tt
 
 -- ---- calls that write no fork
 

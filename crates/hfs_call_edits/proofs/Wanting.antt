@@ -1,5 +1,5 @@
 -- The free nodes of a volume's catalog: where a call has those that it needs, and where it lacks them.
-use Rattle.std.proofs.Common.{◌≡◌, ℕ, ℤ, pos, ◌<◌, ◌^◌, Bool, true, false, cond, ◌&&◌, refl, sym, ◌∙◌, ap, subst, arith, Option, Some, None, Err}
+use Rattle.std.proofs.Common.{◌≡◌, ℕ, ℤ, pos, ◌≤◌, Bool, true, false, cond, ◌&&◌, refl, sym, ◌∙◌, ap, subst, arith, Option, Some, None, Err}
 use Rattle.std.specs.Prelude.{nat_lt}
 use Rattle.std.specs.Ordering.{int_eq}
 use Rattle.hfs_btree.specs.Header.{depth_of, free_nodes}
@@ -15,6 +15,7 @@ use Rattle.hfs_record_edits.specs.Rooms.{IsInFile}
 use Rattle.hfs_check.specs.Parts.{Blocks, mdb_in, catalog_extents, catalog_nodes}
 use Rattle.hfs_check.specs.Sound.{AreBlocksSound}
 use Rattle.hfs_check.specs.VolumeOf.{volume_in}
+use Rattle.hfs_call_patches.proofs.Ready.{catalog_size_small}
 use Rattle.hfs_call_edits.specs.declared.editing.Refusal.{Refusal}
 use Rattle.hfs_call_edits.specs.declared.editing.Refusal.TheVariants as refusal
 use Rattle.hfs_call_edits.specs.Edits.{IsEditOf, HasNodes, wants_nodes}
@@ -22,9 +23,10 @@ use Rattle.hfs_call_edits.specs.Room.{lacking}
 
 -- ---- the catalog's file
 
-pub in_file : (total : ℕ) (old : Blocks) → AreBlocksSound total old → (mdb_in old).catalog_file_size < 2 ^ 32 → IsInFile (catalog_nodes old)
+pub in_file : (total : ℕ) (old : Blocks) → AreBlocksSound total old → total ≤ 4194304 → IsInFile (catalog_nodes old)
 unfolding catalog_nodes
-in_file total old h small =
+in_file total old h most =
+    let small = catalog_size_small total old h most in
     let bytes = length-tree_nodes old (mdb_in old) (catalog_extents old) (mdb_in old).catalog_file_size h.mdb.whole_size h.catalog.file in
     let within = h.catalog.shape.within in
     record { small = omega (arith, small, within); file = omega (arith, bytes, within) }

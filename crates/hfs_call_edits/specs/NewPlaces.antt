@@ -16,8 +16,8 @@ use Rattle.hfs_btree.specs.Tree.{Store}
 use Rattle.hfs_btree_edits.specs.Entries.{IsPlaceOf}
 use Rattle.hfs_catalog.specs.Tree.{cat_keys}
 use Rattle.hfs_call_edits.specs.Choosing.{lock_code, unless_code, map_ok}
-use Rattle.hfs_call_edits.specs.declared.new_places.FoundPlace.{FoundPlace}
 use Rattle.hfs_call_patches.specs.declared.new_items.NewPlace.{NewPlace}
+use Rattle.hfs_call_patches.specs.declared.new_items.FoundPlace.{FoundPlace}
 use Rattle.hfs_call_patches.specs.ReadyPlaces.{IsPlace}
 use Rattle.hfs_model.specs.Choices.{to_create}
 use Rattle.hfs_check.specs.VolumeOf.{volume_in}

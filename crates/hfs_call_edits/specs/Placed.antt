@@ -8,8 +8,8 @@ use Rattle.hfs_btree_edits.specs.Entries.{IsPlaceOf}
 use Rattle.hfs_catalog.specs.declared.item.CatalogItem.{CatalogItem}
 use Rattle.hfs_catalog.specs.Tree.{cat_keys}
 use Rattle.hfs_call_edits.specs.declared.placed.PlacedItem.{PlacedItem}
-use Rattle.hfs_call_edits.specs.declared.placed.PlacedFile.{PlacedFile}
 use Rattle.hfs_call_edits.specs.Choosing.{map_ok}
+use Rattle.hfs_call_patches.specs.declared.choosing.FoundFile.{FoundFile}
 
 -- ---- without their places
 
@@ -19,7 +19,7 @@ item_part found = option_map (λ p. p.item) found
 abbrev pub item_chosen : Result PlacedItem ℤ → Result CatalogItem ℤ
 item_chosen chosen = map_ok (λ p. p.item) chosen
 
-abbrev pub file_chosen : Result PlacedFile ℤ → Result (CatKey × FileRecord) ℤ
+abbrev pub file_chosen : Result FoundFile ℤ → Result (CatKey × FileRecord) ℤ
 file_chosen chosen = map_ok (λ p. (p.key, p.file)) chosen
 
 -- ---- the place is where the item's record is in these nodes of a catalog
@@ -27,5 +27,5 @@ file_chosen chosen = map_ok (λ p. (p.key, p.file)) chosen
 abbrev pub IsItemPlaced : Store → PlacedItem → Type 0
 IsItemPlaced nodes p = IsPlaceOf cat_keys nodes p.item.key p.place
 
-abbrev pub IsFilePlaced : Store → PlacedFile → Type 0
+abbrev pub IsFilePlaced : Store → FoundFile → Type 0
 IsFilePlaced nodes p = IsPlaceOf cat_keys nodes p.key p.place

@@ -8,7 +8,7 @@ ghost use Rattle.hfs_call_patches.specs.CallChanges.{Makes};
 
 use crate::editing::{Editing, Refusal};
 use hfs_blocks::Blocks;
-use hfs_call_patches::{Change, ItemSettings};
+use hfs_call_patches::{Change, ForkWrite, ItemSettings};
 use hfs_model::Call;
 use std::alloc::{AllocError, Global};
 
@@ -169,15 +169,14 @@ impl<B: Blocks> Editing<'_, B> {
                 offset,
                 bytes,
                 now,
-            } => self.write_fork(
-                alloc,
-                *dir,
-                name.as_slice(),
-                *fork,
-                *offset,
-                bytes.as_slice(),
-                *now,
-            ),
+            } => {
+                let write = ForkWrite {
+                    fork: *fork,
+                    offset: *offset,
+                    bytes: bytes.as_slice(),
+                };
+                self.write_fork(alloc, *dir, name.as_slice(), &write, *now)
+            }
             Call::GetDirInfo { .. }
             | Call::GetCatInfo { .. }
             | Call::GetIndexed { .. }

@@ -6,9 +6,10 @@ ghost use Rattle.hfs_call_edits.specs.Choosing.{lock_code, child_to_change, file
 ghost use Rattle.hfs_call_edits.specs.Placed.{item_chosen, file_chosen, IsItemPlaced, IsFilePlaced};
 ghost use Rattle.hfs_items.specs.Told.{IsCatalog};
 
-use crate::placed::{PlacedFile, PlacedItem, placed_child};
+use crate::placed::{PlacedItem, placed_child};
 use bitflags::Flags;
 use hfs_btree::Nodes;
+use hfs_call_patches::FoundFile;
 use hfs_catalog::{CatalogItem, ItemRecord};
 use hfs_fields::{Mdb, Name};
 use hfs_model::{BAD_NAME, FILE_LOCKED, HARDWARE_LOCKED, NOT_FOUND, SOFTWARE_LOCKED};
@@ -69,7 +70,7 @@ pub(crate) fn file_to_change<N: Nodes>(
     mdb: &Mdb,
     dir: u32,
     name: &[u8],
-) -> Result<PlacedFile, i16>
+) -> Result<FoundFile, i16>
     requires { IsCatalog (N.nodes nodes.now) }
     ensures chosen { file_chosen result ≡ chosen_file mdb.now (N.nodes nodes.now) dir name.now }
     ensures place { IfOk result (IsFilePlaced (N.nodes nodes.now)) }
@@ -83,7 +84,7 @@ pub(crate) fn file_to_change<N: Nodes>(
     let key = item.key;
     match item.body {
         ItemRecord::Folder(_) => Err(NOT_FOUND),
-        ItemRecord::File(file) => Ok(PlacedFile { key, file, place }),
+        ItemRecord::File(file) => Ok(FoundFile { key, file, place }),
     }
 }
 
@@ -93,7 +94,7 @@ pub(crate) fn file_to_set<N: Nodes>(
     mdb: &Mdb,
     dir: u32,
     name: &[u8],
-) -> Result<PlacedFile, i16>
+) -> Result<FoundFile, i16>
     requires { IsCatalog (N.nodes nodes.now) }
     ensures chosen { file_chosen result
         ≡ as_file (file_to_set mdb.now (catalog_of (N.nodes nodes.now)) dir name.now) }

@@ -27,17 +27,7 @@ impl<B: Blocks> Editing<'_, B> {
         if let Some(refusal) = self.lacks_one() {
             return Ok(Err(refusal));
         }
-        self.catalog_is_in_file();
-        let change = add_new_file(
-            alloc,
-            self.blocks,
-            self.catalog,
-            self.mdb,
-            dir,
-            &found.place,
-            &found.folder_at,
-            now,
-        )?;
+        let change = add_new_file(alloc, &self.volume, dir, &found, now)?;
         Ok(Ok(change))
     }
 
@@ -59,17 +49,7 @@ impl<B: Blocks> Editing<'_, B> {
         if let Some(refusal) = self.lacks_two() {
             return Ok(Err(refusal));
         }
-        self.catalog_is_in_file();
-        let change = add_new_folder(
-            alloc,
-            self.blocks,
-            self.catalog,
-            self.mdb,
-            dir,
-            &found.place,
-            &found.folder_at,
-            now,
-        )?;
+        let change = add_new_folder(alloc, &self.volume, dir, &found, now)?;
         Ok(Ok(change))
     }
 }

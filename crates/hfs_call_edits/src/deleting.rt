@@ -12,7 +12,9 @@ ghost use Rattle.hfs_call_patches.specs.CallChanges.{Makes};
 use crate::choosing_delete;
 use crate::editing::{Editing, Refusal};
 use hfs_blocks::Blocks;
-use hfs_call_patches::{Change, patch_delete_file, patch_delete_folder, without_folder};
+use hfs_call_patches::{
+    Change, ParentFolder, patch_delete_file, patch_delete_folder, without_folder,
+};
 use hfs_catalog::{CatalogItem, ItemRecord};
 use hfs_fields::{CatKey, DirRecord, FileRecord};
 use hfs_items::folder;
@@ -25,7 +27,7 @@ impl<B: Blocks> Editing<'_, B> {
         ensures choice { ChoosesItemBy (λ v. to_delete v dir name.now) (B.blocks self.now) result }
         ensures folder { IfOk result (λ item. HasFolder (B.blocks self.now) dir) }
     {
-        choosing_delete::item_to_delete(&self.nodes(), self.mdb, dir, name)
+        choosing_delete::item_to_delete(&self.nodes(), self.volume.mdb, dir, name)
     }
 
     /// The key and the record of the folder with that ID.
@@ -44,72 +46,46 @@ impl<B: Blocks> Editing<'_, B> {
         }
     }
 
-    /// The deletion of a folder, with this key and this record, from its own, which has this many children. Fails only when out
-    /// of memory.
+    /// The deletion of a folder, with this key and this record, from its parent. Fails only when out of memory.
     fn delete_folder(
         &self,
         alloc: Global,
-        dir: u32,
         key: &CatKey,
         folder: &DirRecord,
-        parent: &CatKey,
-        valence: u16,
+        parent: &ParentFolder,
         now: u32,
     ) -> Result<Change, AllocError>
-        requires chosen { IsFolderToDelete (B.blocks self.now) dir key.now folder.now }
-        requires parent { IsParent (catalog_in (B.blocks self.now)) dir parent.now valence }
-        ensures { Makes result (IsFolderDeletion dir key.now folder.now now)
+        requires chosen { IsFolderToDelete (B.blocks self.now) parent.now.id key.now folder.now }
+        requires parent { IsParent (catalog_in (B.blocks self.now)) parent.now.id parent.now.key
+            parent.now.valence }
+        ensures { Makes result (IsFolderDeletion parent.now.id key.now folder.now now)
             B.total B.blocks self.now }
     {
-        let patch = patch_delete_folder(
-            alloc,
-            self.blocks,
-            self.catalog,
-            self.mdb,
-            dir,
-            key,
-            folder,
-            parent,
-            valence,
-            now,
-        )?;
+        let patch = patch_delete_folder(alloc, &self.volume, key, folder, parent, now)?;
         Ok(Change {
             patch,
-            counts: without_folder(self.mdb, dir, now),
+            counts: without_folder(self.volume.mdb, parent.id, now),
             written: None,
             value: Value::Nothing,
         })
     }
 
-    /// The deletion of a file, with this key and this record, from its folder, which has this many children. Fails only when out
-    /// of memory.
+    /// The deletion of a file, with this key and this record, from its parent. Fails only when out of memory.
     fn delete_file(
         &self,
         alloc: Global,
-        dir: u32,
         key: &CatKey,
         file: &FileRecord,
-        parent: &CatKey,
-        valence: u16,
+        parent: &ParentFolder,
         now: u32,
     ) -> Result<Change, AllocError>
-        requires chosen { IsFileToDelete (B.blocks self.now) dir key.now file.now }
-        requires parent { IsParent (catalog_in (B.blocks self.now)) dir parent.now valence }
-        ensures { Makes result (IsFileDeletion dir key.now file.now now) B.total B.blocks self.now }
+        requires chosen { IsFileToDelete (B.blocks self.now) parent.now.id key.now file.now }
+        requires parent { IsParent (catalog_in (B.blocks self.now)) parent.now.id parent.now.key
+            parent.now.valence }
+        ensures { Makes result (IsFileDeletion parent.now.id key.now file.now now)
+            B.total B.blocks self.now }
     {
-        let made = patch_delete_file(
-            alloc,
-            self.blocks,
-            self.extents,
-            self.catalog,
-            self.mdb,
-            dir,
-            key,
-            file,
-            parent,
-            valence,
-            now,
-        )?;
+        let made = patch_delete_file(alloc, &self.volume, key, file, parent, now)?;
         Ok(Change {
             patch: made.0,
             counts: made.1,
@@ -132,33 +108,22 @@ impl<B: Blocks> Editing<'_, B> {
             Ok(item) => item,
             Err(code) => return Ok(Err(Refusal::Code(code))),
         };
-        let Some((parent, folder)) = self.parent(dir) else {
+        let Some((folder_key, folder)) = self.parent(dir) else {
             unreachable!()
+        };
+        let parent = ParentFolder {
+            id: dir,
+            key: folder_key,
+            valence: folder.valence,
         };
         let key = item.key;
         match item.body {
             ItemRecord::Folder(body) => {
-                let change = self.delete_folder(
-                    alloc,
-                    dir,
-                    &key,
-                    &body,
-                    &parent,
-                    folder.valence,
-                    now,
-                )?;
+                let change = self.delete_folder(alloc, &key, &body, &parent, now)?;
                 Ok(Ok(change))
             }
             ItemRecord::File(file) => {
-                let change = self.delete_file(
-                    alloc,
-                    dir,
-                    &key,
-                    &file,
-                    &parent,
-                    folder.valence,
-                    now,
-                )?;
+                let change = self.delete_file(alloc, &key, &file, &parent, now)?;
                 Ok(Ok(change))
             }
         }

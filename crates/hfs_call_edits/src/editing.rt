@@ -9,10 +9,10 @@ ghost use Rattle.hfs_call_edits.specs.Placed.{item_chosen, file_chosen, IsItemPl
 ghost use Rattle.hfs_items.specs.Told.{IsCatalog};
 
 use crate::choosing;
-use crate::placed::{PlacedFile, PlacedItem};
+use crate::placed::PlacedItem;
 use hfs_blocks::{Blocks, Patch, Run};
 use hfs_btree::RunNodes;
-use hfs_call_patches::Change;
+use hfs_call_patches::{Change, ForkVolume, FoundFile};
 use hfs_fields::Mdb;
 use hfs_model::{Value, Want};
 use std::marker::Model;
@@ -26,16 +26,10 @@ pub enum Refusal {
     Want(Want),
 }
 
-/// A sound volume's blocks, with what mounting found out about them. Contracts see the blocks.
+/// A sound volume that calls change. Contracts see its blocks.
 #[derive(Drop)]
 pub struct Editing<'a, B: Blocks> {
-    pub(crate) blocks: &'a B,
-    /// The master directory block.
-    pub(crate) mdb: &'a Mdb,
-    /// The blocks of the extents tree's nodes.
-    pub(crate) extents: &'a [Run],
-    /// The blocks of the catalog's nodes.
-    pub(crate) catalog: &'a [Run],
+    pub(crate) volume: ForkVolume<'a, B>,
 }
 
 impl<'a, B: Blocks> Model for Editing<'a, B> {
@@ -43,9 +37,9 @@ impl<'a, B: Blocks> Model for Editing<'a, B> {
 
     ghost Value = { B };
 
-    ghost view = { λ e. e.blocks.now };
+    ghost view = { λ e. e.volume.blocks.now };
 
-    ghost invariant = { λ e. IsEditing (B.total e.blocks.now) (B.blocks e.blocks.now) e.mdb.now e.extents.now e.catalog.now };
+    ghost invariant = { λ e. IsEditing (B.total e.volume.blocks.now) (B.blocks e.volume.blocks.now) e.volume.mdb.now e.volume.extents.now e.volume.catalog.now };
 }
 
 impl<'a, B: Blocks> Editing<'a, B> {
@@ -60,10 +54,12 @@ impl<'a, B: Blocks> Editing<'a, B> {
         ensures { result ≡ blocks.now }
     {
         Editing {
-            blocks,
-            mdb,
-            extents,
-            catalog,
+            volume: ForkVolume {
+                blocks,
+                mdb,
+                extents,
+                catalog,
+            },
         }
     }
 
@@ -74,27 +70,27 @@ impl<'a, B: Blocks> Editing<'a, B> {
         ensures entries { RecordsAreEntriesIn (B.blocks self.now) }
     {
         RunNodes {
-            blocks: self.blocks,
-            runs: self.catalog,
+            blocks: self.volume.blocks,
+            runs: self.volume.catalog,
         }
     }
 
     /// The folder's file of that name, with the place of its record, or the code that refuses to change it.
-    pub(crate) fn file_to_change(&self, dir: u32, name: &[u8]) -> Result<PlacedFile, i16>
+    pub(crate) fn file_to_change(&self, dir: u32, name: &[u8]) -> Result<FoundFile, i16>
         ensures chosen { ChoosesFileBy (λ v. file_to_change v dir name.now)
             (B.blocks self.now) (file_chosen result) }
         ensures place { IfOk result (IsFilePlaced (catalog_nodes (B.blocks self.now))) }
     {
-        choosing::file_to_change(&self.nodes(), self.mdb, dir, name)
+        choosing::file_to_change(&self.nodes(), self.volume.mdb, dir, name)
     }
 
     /// The folder's file of that name, with the place of its record, or the code that refuses to set its first Finder bytes.
-    pub(crate) fn file_to_set(&self, dir: u32, name: &[u8]) -> Result<PlacedFile, i16>
+    pub(crate) fn file_to_set(&self, dir: u32, name: &[u8]) -> Result<FoundFile, i16>
         ensures chosen { ChoosesFileBy (λ v. to_set_f_info v dir name.now)
             (B.blocks self.now) (file_chosen result) }
         ensures place { IfOk result (IsFilePlaced (catalog_nodes (B.blocks self.now))) }
     {
-        choosing::file_to_set(&self.nodes(), self.mdb, dir, name)
+        choosing::file_to_set(&self.nodes(), self.volume.mdb, dir, name)
     }
 
     /// The folder's item of that name, with the place of its record, or the code that refuses to set its dates and Finder bytes.
@@ -103,7 +99,7 @@ impl<'a, B: Blocks> Editing<'a, B> {
             (B.blocks self.now) (item_chosen result) }
         ensures place { IfOk result (IsItemPlaced (catalog_nodes (B.blocks self.now))) }
     {
-        choosing::item_to_set(&self.nodes(), self.mdb, dir, name)
+        choosing::item_to_set(&self.nodes(), self.volume.mdb, dir, name)
     }
 
     /// A change of blocks and of the moment of the last change only, which answers nothing.
@@ -114,7 +110,7 @@ impl<'a, B: Blocks> Editing<'a, B> {
             patch,
             counts: Mdb {
                 modified: now,
-                ..*self.mdb
+                ..*self.volume.mdb
             },
             written: None,
             value: Value::Nothing,

@@ -22,14 +22,14 @@ impl<B: Blocks> Editing<'_, B> {
             (B.blocks self.now) result }
         ensures threadless { IfOk result (IsThreadlessIn (B.blocks self.now)) }
     {
-        choosing_file_ids::file_without_id(&self.nodes(), self.mdb, dir, name)
+        choosing_file_ids::file_without_id(&self.nodes(), self.volume.mdb, dir, name)
     }
 
     /// The file with that ID, which has a thread, with its key, or the code that refuses to remove it.
     fn file_with_id(&self, id: u32) -> Result<(CatKey, FileRecord), i16>
         ensures { ChoosesFileBy (λ v. to_delete_file_id v id) (B.blocks self.now) result }
     {
-        choosing_file_ids::file_with_id(&self.nodes(), self.mdb, id)
+        choosing_file_ids::file_with_id(&self.nodes(), self.volume.mdb, id)
     }
 
     /// A change of blocks and of the moment of the last change only, which answers with an ID.
@@ -53,7 +53,6 @@ impl<B: Blocks> Editing<'_, B> {
         ensures { Makes result (IsEditOf (call.CreateFileId dir name.now now))
             B.total B.blocks self.now }
     {
-        self.catalog_is_in_file();
         let (key, file) = match self.file_without_id(dir, name) {
             Ok(chosen) => chosen,
             Err(code) => return Ok(Err(Refusal::Code(code))),
@@ -61,15 +60,7 @@ impl<B: Blocks> Editing<'_, B> {
         if let Some(refusal) = self.lacks_one() {
             return Ok(Err(refusal));
         }
-        let patch = patch_create_file_id(
-            alloc,
-            self.blocks,
-            self.catalog,
-            self.mdb,
-            &key,
-            &file,
-            now,
-        )?;
+        let patch = patch_create_file_id(alloc, &self.volume, &key, &file, now)?;
         Ok(Ok(self.change_to_id(patch, file.id, now)))
     }
 
@@ -86,15 +77,7 @@ impl<B: Blocks> Editing<'_, B> {
             Ok(chosen) => chosen,
             Err(code) => return Ok(Err(Refusal::Code(code))),
         };
-        let patch = patch_delete_file_id(
-            alloc,
-            self.blocks,
-            self.catalog,
-            self.mdb,
-            &key,
-            &file,
-            now,
-        )?;
+        let patch = patch_delete_file_id(alloc, &self.volume, &key, &file, now)?;
         Ok(Ok(self.change(patch, now)))
     }
 }

@@ -4,7 +4,7 @@ ghost use Rattle.std.specs.Prelude.{◌≡◌};
 ghost use Rattle.hfs_model.specs.declared.call.Call.TheVariants as call;
 ghost use Rattle.hfs_model.specs.ForkCalls.{file_to_write};
 ghost use Rattle.hfs_check.specs.VolumeOf.{volume_in};
-ghost use Rattle.hfs_call_patches.specs.Calls.{AreFoundIn, IsForkVolumeIn};
+ghost use Rattle.hfs_call_patches.specs.Calls.{AreFoundIn};
 ghost use Rattle.hfs_call_patches.specs.Found.{FindsFile};
 ghost use Rattle.hfs_call_edits.specs.Edits.{HasForkRoom, HasForkWritten, IsEditOf};
 ghost use Rattle.hfs_call_edits.specs.ForkWants as wants;
@@ -12,7 +12,7 @@ ghost use Rattle.hfs_call_patches.specs.CallChanges.{Makes};
 
 use crate::editing::{Editing, Refusal};
 use hfs_blocks::Blocks;
-use hfs_call_patches::{Change, ForkRefusal, ForkVolume, FoundFile};
+use hfs_call_patches::{Change, ForkRefusal, ForkWrite, FoundFile};
 use hfs_model::Fork;
 use std::alloc::{AllocError, Global};
 
@@ -34,28 +34,7 @@ impl<B: Blocks> Editing<'_, B> {
             (file_to_write (volume_in (B.blocks self.now)) dir name.now) result }
         ensures there { AreFoundIn (B.blocks self.now) result }
     {
-        match self.file_to_set(dir, name) {
-            Ok(placed) => Ok(FoundFile {
-                key: placed.key,
-                file: placed.file,
-                place: placed.place,
-            }),
-            Err(code) => Err(code),
-        }
-    }
-
-    /// The volume in the form in which forks are written.
-    fn fork_volume(&self) -> ForkVolume<'_, B>
-        ensures volume { IsForkVolumeIn B.total B.blocks result.blocks.now
-            result.mdb.now result.extents.now result.catalog.now }
-        ensures blocks { result.blocks.now ≡ self.now }
-    {
-        ForkVolume {
-            blocks: self.blocks,
-            mdb: self.mdb,
-            extents: self.extents,
-            catalog: self.catalog,
-        }
+        self.file_to_set(dir, name)
     }
 
     /// What SetEof makes of the volume. Fails only when out of memory.
@@ -76,8 +55,7 @@ impl<B: Blocks> Editing<'_, B> {
             B.total B.blocks self.now }
     {
         let found = self.found_file(dir, name);
-        let volume = self.fork_volume();
-        let edit = hfs_call_patches::set_eof(alloc, &volume, found, fork, length, now)?;
+        let edit = hfs_call_patches::set_eof(alloc, &self.volume, found, fork, length, now)?;
         Ok(edit_of(edit))
     }
 
@@ -87,24 +65,18 @@ impl<B: Blocks> Editing<'_, B> {
         alloc: Global,
         dir: u32,
         name: &[u8],
-        fork: Fork,
-        offset: u32,
-        bytes: &[u8],
+        write: &ForkWrite<'_>,
         now: u32,
     ) -> Result<Result<Change, Refusal>, AllocError>
-        ensures made { Makes result
-            (IsEditOf (call.WriteFork dir name.now fork offset bytes.now now))
-            B.total B.blocks self.now }
-        ensures room { Makes result
-            (HasForkRoom (call.WriteFork dir name.now fork offset bytes.now now))
-            B.total B.blocks self.now }
-        ensures forks { Makes result
-            (HasForkWritten (call.WriteFork dir name.now fork offset bytes.now now))
-            B.total B.blocks self.now }
+        ensures made { Makes result (IsEditOf (call.WriteFork dir name.now
+            write.now.fork write.now.offset write.now.bytes.now now)) B.total B.blocks self.now }
+        ensures room { Makes result (HasForkRoom (call.WriteFork dir name.now
+            write.now.fork write.now.offset write.now.bytes.now now)) B.total B.blocks self.now }
+        ensures forks { Makes result (HasForkWritten (call.WriteFork dir name.now
+            write.now.fork write.now.offset write.now.bytes.now now)) B.total B.blocks self.now }
     {
         let found = self.found_file(dir, name);
-        let volume = self.fork_volume();
-        let edit = hfs_call_patches::write_fork(alloc, &volume, found, fork, offset, bytes, now)?;
+        let edit = hfs_call_patches::write_fork(alloc, &self.volume, found, write, now)?;
         Ok(edit_of(edit))
     }
 }

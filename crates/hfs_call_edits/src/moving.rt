@@ -33,7 +33,7 @@ impl<B: Blocks> Editing<'_, B> {
     fn item_to_move(&self, dir: u32, name: &[u8], new_dir: u32) -> Result<Moving, i16>
         ensures { ChoosesMoving (B.blocks self.now) dir name.now new_dir result }
     {
-        choosing_moving::item_to_move(&self.nodes(), self.mdb, dir, name, new_dir)
+        choosing_moving::item_to_move(&self.nodes(), self.volume.mdb, dir, name, new_dir)
     }
 
     /// What CatMove makes of the volume. Fails only when out of memory.
@@ -55,9 +55,8 @@ impl<B: Blocks> Editing<'_, B> {
         if let Some(refusal) = self.lacks_one() {
             return Ok(Err(refusal));
         }
-        self.catalog_is_in_file();
-        let patch = patch_move(alloc, self.blocks, self.catalog, self.mdb, &moving, now)?;
-        let counts = counts_moved(self.mdb, &moving, now);
+        let patch = patch_move(alloc, &self.volume, &moving, now)?;
+        let counts = counts_moved(self.volume.mdb, &moving, now);
         Ok(Ok(change_of(patch, counts)))
     }
 }

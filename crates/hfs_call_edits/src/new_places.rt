@@ -11,18 +11,10 @@ use crate::editing::Editing;
 use crate::placed::placed_folder;
 use hfs_blocks::Blocks;
 use hfs_btree::Nodes;
-use hfs_btree_edits::RecordPlace;
-use hfs_call_patches::NewPlace;
+use hfs_call_patches::{FoundPlace, NewPlace};
 use hfs_catalog::{CatalogItem, ItemRecord, lookup};
 use hfs_fields::{Mdb, Name};
 use hfs_model::{BAD_NAME, DUPLICATE, FOLDER_FULL, NOT_A_FOLDER};
-
-/// Where a new item goes, and where the record of its folder is.
-#[derive(Clone, Copy)]
-pub(crate) struct FoundPlace {
-    pub place: NewPlace,
-    pub folder_at: RecordPlace,
-}
 
 /// The most children that a folder may have.
 const MOST_CHILDREN: u16 = 65_535;
@@ -79,6 +71,6 @@ impl<B: Blocks> Editing<'_, B> {
         ensures chosen { ChoosesNewPlace (B.blocks self.now) dir name.now (place_found result) }
         ensures folder { IfOk result (IsFolderFound (catalog_nodes (B.blocks self.now))) }
     {
-        new_place(&self.nodes(), self.mdb, dir, name)
+        new_place(&self.nodes(), self.volume.mdb, dir, name)
     }
 }

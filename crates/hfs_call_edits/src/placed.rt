@@ -12,7 +12,7 @@ ghost use Rattle.hfs_call_edits.specs.Placed.{item_part, item_chosen, IsItemPlac
 use hfs_btree::{Key, Nodes, entry_in};
 use hfs_btree_edits::{RecordPlace, seek};
 use hfs_catalog::{CatalogItem, ItemRecord, item_of, thread};
-use hfs_fields::{CatKey, FileRecord, Name};
+use hfs_fields::{CatKey, Name};
 use hfs_items::folder;
 use hfs_model::{NOT_A_FOLDER, NOT_FOUND};
 
@@ -20,14 +20,6 @@ use hfs_model::{NOT_A_FOLDER, NOT_FOUND};
 #[derive(Clone, Copy)]
 pub(crate) struct PlacedItem {
     pub item: CatalogItem,
-    pub place: RecordPlace,
-}
-
-/// A file of the catalog, and where its record is.
-#[derive(Clone, Copy)]
-pub(crate) struct PlacedFile {
-    pub key: CatKey,
-    pub file: FileRecord,
     pub place: RecordPlace,
 }
 

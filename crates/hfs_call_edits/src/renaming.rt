@@ -19,7 +19,7 @@ impl<B: Blocks> Editing<'_, B> {
     fn item_to_rename(&self, dir: u32, name: &[u8], new_name: &[u8]) -> Result<Rekeying, i16>
         ensures { ChoosesRenaming (B.blocks self.now) dir name.now new_name.now result }
     {
-        choosing_renaming::item_to_rename(&self.nodes(), self.mdb, dir, name, new_name)
+        choosing_renaming::item_to_rename(&self.nodes(), self.volume.mdb, dir, name, new_name)
     }
 
     /// The refusal of a new name for lack of nodes. Changing only the case of a name needs none.
@@ -52,8 +52,7 @@ impl<B: Blocks> Editing<'_, B> {
         if let Some(refusal) = self.lacks_for_name(name, new_name) {
             return Ok(Err(refusal));
         }
-        self.catalog_is_in_file();
-        let patch = patch_rename(alloc, self.blocks, self.catalog, self.mdb, &item, now)?;
+        let patch = patch_rename(alloc, &self.volume, &item, now)?;
         Ok(Ok(self.change(patch, now)))
     }
 }

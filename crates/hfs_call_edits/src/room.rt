@@ -3,7 +3,7 @@
 ghost use Rattle.std.specs.Prelude.{◌≡◌, ◌<◌, ◌^◌, IfNone};
 ghost use Rattle.hfs_btree.specs.Header.{header_in};
 ghost use Rattle.hfs_catalog.specs.Tree.{IsCatalogTree};
-ghost use Rattle.hfs_record_edits.specs.Rooms.{IsInFile, HasRoom, HasRoomForTwo};
+ghost use Rattle.hfs_record_edits.specs.Rooms.{HasRoom, HasRoomForTwo};
 ghost use Rattle.hfs_check.specs.Parts.{catalog_nodes};
 ghost use Rattle.hfs_model.specs.declared.journal.Want.TheVariants as want;
 ghost use Rattle.hfs_model.specs.Need.{one_record, two_records};
@@ -13,7 +13,6 @@ ghost use Rattle.hfs_call_edits.specs.Room.{lacking};
 use crate::editing::{Editing, Refusal};
 use hfs_blocks::Blocks;
 use hfs_btree::{Nodes, read_header};
-use hfs_fields::Mdb;
 use hfs_model::Want;
 
 /// The free nodes that one more record needs in a tree of `depth` levels.
@@ -74,14 +73,6 @@ pub(crate) fn lacks_two<N: Nodes>(nodes: &N) -> Option<Refusal>
     None
 }
 
-/// The bytes of the catalog's file.
-fn catalog_size(mdb: &Mdb) -> u32
-    ensures size { result ≡ mdb.now.catalog_file_size }
-    ensures small { mdb.now.catalog_file_size < 2 ^ 32 }
-{
-    mdb.catalog_file_size
-}
-
 impl<B: Blocks> Editing<'_, B> {
     /// The refusal of a call that needs room for one more record, if there is too little.
     pub(crate) fn lacks_one(&self) -> Option<Refusal>
@@ -99,13 +90,5 @@ impl<B: Blocks> Editing<'_, B> {
         ensures records { (header_in (catalog_nodes (B.blocks self.now))).records < 2 ^ 32 }
     {
         lacks_two(&self.nodes())
-    }
-
-    /// The catalog's tree lies in its file, whose bytes are counted by a number of 32 bits.
-    pub(crate) fn catalog_is_in_file(&self)
-        ensures { IsInFile (catalog_nodes (B.blocks self.now)) }
-    {
-        // Once a proof has seen the size, it knows that it is below 2^32.
-        let _size = catalog_size(self.mdb);
     }
 }

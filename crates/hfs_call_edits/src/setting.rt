@@ -9,8 +9,8 @@ ghost use Rattle.hfs_call_patches.specs.CallChanges.{Makes};
 use crate::editing::{Editing, Refusal};
 use hfs_blocks::Blocks;
 use hfs_call_patches::{
-    Change, ItemSettings, patch_set_f_info, patch_set_file_info, patch_set_folder_info,
-    patch_set_lock,
+    Change, FoundFile, FoundFolder, ItemSettings, patch_set_f_info, patch_set_file_info,
+    patch_set_folder_info, patch_set_lock,
 };
 use hfs_catalog::ItemRecord;
 use std::alloc::{AllocError, Global};
@@ -28,21 +28,11 @@ impl<B: Blocks> Editing<'_, B> {
         ensures { Makes result (IsEditOf (call.SetFInfo dir name.now info.now now))
             B.total B.blocks self.now }
     {
-        let placed = match self.file_to_set(dir, name) {
-            Ok(placed) => placed,
+        let found = match self.file_to_set(dir, name) {
+            Ok(found) => found,
             Err(code) => return Ok(Err(Refusal::Code(code))),
         };
-        let patch = patch_set_f_info(
-            alloc,
-            self.blocks,
-            self.catalog,
-            self.mdb,
-            &placed.key,
-            &placed.file,
-            &placed.place,
-            info,
-            now,
-        )?;
+        let patch = patch_set_f_info(alloc, &self.volume, &found, info, now)?;
         Ok(Ok(self.change(patch, now)))
     }
 
@@ -67,31 +57,13 @@ impl<B: Blocks> Editing<'_, B> {
         let key = item.key;
         match item.body {
             ItemRecord::Folder(folder) => {
-                let patch = patch_set_folder_info(
-                    alloc,
-                    self.blocks,
-                    self.catalog,
-                    self.mdb,
-                    &key,
-                    &folder,
-                    &place,
-                    settings,
-                    now,
-                )?;
+                let found = FoundFolder { key, folder, place };
+                let patch = patch_set_folder_info(alloc, &self.volume, &found, settings, now)?;
                 Ok(Ok(self.change(patch, now)))
             }
             ItemRecord::File(file) => {
-                let patch = patch_set_file_info(
-                    alloc,
-                    self.blocks,
-                    self.catalog,
-                    self.mdb,
-                    &key,
-                    &file,
-                    &place,
-                    settings,
-                    now,
-                )?;
+                let found = FoundFile { key, file, place };
+                let patch = patch_set_file_info(alloc, &self.volume, &found, settings, now)?;
                 Ok(Ok(self.change(patch, now)))
             }
         }
@@ -109,21 +81,11 @@ impl<B: Blocks> Editing<'_, B> {
         ensures { Makes result (IsEditOf (lock_call locked dir name.now now))
             B.total B.blocks self.now }
     {
-        let placed = match self.file_to_change(dir, name) {
-            Ok(placed) => placed,
+        let found = match self.file_to_change(dir, name) {
+            Ok(found) => found,
             Err(code) => return Ok(Err(Refusal::Code(code))),
         };
-        let patch = patch_set_lock(
-            alloc,
-            self.blocks,
-            self.catalog,
-            self.mdb,
-            &placed.key,
-            &placed.file,
-            &placed.place,
-            locked,
-            now,
-        )?;
+        let patch = patch_set_lock(alloc, &self.volume, &found, locked, now)?;
         Ok(Ok(self.change(patch, now)))
     }
 }

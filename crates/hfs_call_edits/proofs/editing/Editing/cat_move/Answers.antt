@@ -7,7 +7,7 @@ use Rattle.hfs_call_patches.specs.Moving.{IsMoving, CanMove, FitsCounts, counts_
 use Rattle.hfs_call_edits.proofs.Edited.{editing_now}
 use Rattle.hfs_call_edits.proofs.MayMove.{fits_counts, may_move, move_refused, move_accepted}
 use Rattle.hfs_call_edits.proofs.StepMade.{step_made}
-use Rattle.hfs_call_edits.proofs.Wanting.{enough_nodes, full_edit, refused_edit}
+use Rattle.hfs_call_edits.proofs.Wanting.{in_file, enough_nodes, full_edit, refused_edit}
 use Rattle.hfs_check.proofs.LawsProved.{catalog_is_sound, trees_are_sound}
 use Rattle.hfs_record_edits.proofs.LawsProved.{move_fits, choice_stands, creation_is_free-folder, move_is_free, catalog_edits_are_steps}
 use Rattle.hfs_model.specs.declared.call.Call.TheVariants as call
@@ -32,16 +32,16 @@ pub patch_move-requires-clause-can : goal.patch_move-requires-clause-can
 patch_move-requires-clause-can g c =
     let blocks = g.B.Blocks.blocks in
     let volume = c.args.self.now in
-    let now = editing_now blocks g.B.Blocks.total volume c.self.inside.blocks.now c.self.view_is _ _ _ c.self.invariant in
+    let now = editing_now blocks g.B.Blocks.total volume c.self.inside.volume.blocks.now c.self.view_is _ _ _ c.self.invariant in
     subst (λ b. CanMove (blocks b) c.in-Ok.moving) (sym c.self.view_is)
     (may_move catalog_is_sound (g.B.Blocks.total volume) (blocks volume) now.sound c.args.dir c.args.name.now c.args.new_dir c.in-Ok.moving c.in-Ok.ensures move_fits
-    trees_are_sound choice_stands creation_is_free-folder move_is_free c.catalog_is_in_file.ensures c.in_default.ensures.room)
+    trees_are_sound choice_stands creation_is_free-folder move_is_free (in_file (g.B.Blocks.total volume) (blocks volume) now.sound now.few) c.in_default.ensures.room)
 
 pub counts_moved-counts-requires : goal.counts_moved-counts-requires
 counts_moved-counts-requires g c =
     let blocks = g.B.Blocks.blocks in
     let volume = c.args.self.now in
-    let now = editing_now blocks g.B.Blocks.total volume c.self.inside.blocks.now c.self.view_is _ _ _ c.self.invariant in
+    let now = editing_now blocks g.B.Blocks.total volume c.self.inside.volume.blocks.now c.self.view_is _ _ _ c.self.invariant in
     subst (λ mdb. FitsCounts mdb c.in-Ok.moving) (sym now.directory)
     (fits_counts catalog_is_sound (g.B.Blocks.total volume) (blocks volume) now.sound c.args.dir c.args.name.now c.args.new_dir c.in-Ok.moving c.in-Ok.ensures move_fits)
 
@@ -49,7 +49,7 @@ pub returns : goal.returns
 returns g c =
     let blocks = g.B.Blocks.blocks in
     let volume = c.args.self.now in
-    let own = c.self.inside.blocks.now in
+    let own = c.self.inside.volume.blocks.now in
     let now = editing_now blocks g.B.Blocks.total volume own c.self.view_is _ _ _ c.self.invariant in
     let move = call.CatMove c.args.dir c.args.name.now c.args.new_dir c.args.now in
     let counts = c.counts_moved-counts.ensures ∙ ap (counts_moved c.in-Ok.moving c.args.now) now.directory in

@@ -8,7 +8,7 @@ use Rattle.hfs_call_edits.proofs.Edited.{file_choice, editing_now}
 use Rattle.hfs_call_edits.proofs.FileIdReplies.{create_refused, create_accepted, change_to}
 use Rattle.hfs_call_edits.proofs.FileIdsChosen.{create_code}
 use Rattle.hfs_call_patches.proofs.ChosenFileLemmas.{file_id_is}
-use Rattle.hfs_call_edits.proofs.Wanting.{enough_nodes, full_edit, refused_edit}
+use Rattle.hfs_call_edits.proofs.Wanting.{in_file, enough_nodes, full_edit, refused_edit}
 use Rattle.hfs_record_edits.proofs.LawsProved.{catalog_edits_are_steps}
 use Rattle.hfs_model.specs.declared.call.Call.TheVariants as call
 use Rattle.hfs_model.specs.declared.reply.Value.TheVariants as answer
@@ -18,9 +18,14 @@ pub patch_create_file_id-requires-clause-chosen : goal.patch_create_file_id-requ
 patch_create_file_id-requires-clause-chosen g c = record {
   dir = c.args.dir;
   name = c.args.name.now;
-  chosen = file_choice g.B.Blocks.blocks g.B.Blocks.total c.args.self.now c.self.inside.blocks.now c.self.view_is (λ v. to_create_file_id v c.args.dir c.args.name.now) c.in-Ok.chosen.0 c.in-Ok.chosen.1
+  chosen = file_choice g.B.Blocks.blocks g.B.Blocks.total c.args.self.now c.self.inside.volume.blocks.now c.self.view_is (λ v. to_create_file_id v c.args.dir c.args.name.now) c.in-Ok.chosen.0 c.in-Ok.chosen.1
       c.in-Ok.ensures.choice.choice;
 }
+
+pub patch_create_file_id-requires-clause-inside : goal.patch_create_file_id-requires-clause-inside
+patch_create_file_id-requires-clause-inside g c =
+    let own = c.self.inside.volume.blocks.now in
+    in_file (g.B.Blocks.total own) (g.B.Blocks.blocks own) c.self.invariant.sound c.self.invariant.few
 
 pub returns-in-Err : goal.returns-in-Err
 returns-in-Err g c =
@@ -40,7 +45,7 @@ pub returns : goal.returns
 returns g c =
     let blocks = g.B.Blocks.blocks in
     let value = c.args.self.now in
-    let own = c.self.inside.blocks.now in
+    let own = c.self.inside.volume.blocks.now in
     let chosen = c.in-Ok.ensures.choice.choice in
     change_to blocks g.B.Blocks.total value own c.self.view_is catalog_edits_are_steps (call.CreateFileId c.args.dir c.args.name.now c.args.now)
     (enough_nodes (call.CreateFileId c.args.dir c.args.name.now c.args.now) (blocks value) one_record (λ depth. refl) c.in_default.ensures.refusal)

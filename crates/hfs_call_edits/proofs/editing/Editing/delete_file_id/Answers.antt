@@ -11,7 +11,7 @@ use Rattle.hfs_call_edits.proofs.editing.Editing.delete_file_id.Goals as goal
 pub patch_delete_file_id-requires-clause-chosen : goal.patch_delete_file_id-requires-clause-chosen
 patch_delete_file_id-requires-clause-chosen g c = record {
   id = c.args.id;
-  chosen = file_choice g.B.Blocks.blocks g.B.Blocks.total c.args.self.now c.self.inside.blocks.now c.self.view_is (λ v. to_delete_file_id v c.args.id) c.in-Ok.chosen.0 c.in-Ok.chosen.1
+  chosen = file_choice g.B.Blocks.blocks g.B.Blocks.total c.args.self.now c.self.inside.volume.blocks.now c.self.view_is (λ v. to_delete_file_id v c.args.id) c.in-Ok.chosen.0 c.in-Ok.chosen.1
       c.in-Ok.ensures.choice;
 }
 
@@ -25,7 +25,7 @@ pub returns : goal.returns
 returns g c =
     let blocks = g.B.Blocks.blocks in
     let value = c.args.self.now in
-    let own = c.self.inside.blocks.now in
+    let own = c.self.inside.volume.blocks.now in
     let chosen = c.in-Ok.ensures.choice in
     change_of blocks g.B.Blocks.total value own c.self.view_is catalog_edits_are_steps (call.DeleteFileId c.args.id c.args.now) (λ depth. refl)
     c.in_ok-patch.patch c.args.now c.change.result c.change.ensures

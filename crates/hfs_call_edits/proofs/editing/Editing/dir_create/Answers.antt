@@ -26,12 +26,12 @@ returns-in-Some g c =
 
 pub add_new_folder-requires-clause-ready : goal.add_new_folder-requires-clause-ready
 add_new_folder-requires-clause-ready g c =
-    ready_for g.B.Blocks.blocks g.B.Blocks.total c.args.self.now c.self.inside.blocks.now c.self.view_is c.self.inside.mdb.now c.self.inside.extents.now c.self.inside.catalog.now
-    c.args.dir c.args.name.now c.in-Ok.found.place c.self.invariant c.in-Ok.ensures.chosen c.catalog_is_in_file.ensures c.in_default.ensures.records
+    ready_for g.B.Blocks.blocks g.B.Blocks.total c.args.self.now c.self.inside.volume.blocks.now c.self.view_is c.self.inside.volume.mdb.now c.self.inside.volume.extents.now c.self.inside.volume.catalog.now
+    c.args.dir c.args.name.now c.in-Ok.found.place c.self.invariant c.in-Ok.ensures.chosen c.in_default.ensures.records
 
 pub returns : goal.returns
 returns g c =
     let old = g.B.Blocks.blocks c.args.self.now in
-    change_seen g.B.Blocks.blocks g.B.Blocks.total c.args.self.now c.self.inside.blocks.now c.self.view_is (λ name. call.DirCreate c.args.dir name c.args.now) c.in-Ok.found.place.name c.args.name.now c.in_ok-change.change
+    change_seen g.B.Blocks.blocks g.B.Blocks.total c.args.self.now c.self.inside.volume.blocks.now c.self.view_is (λ name. call.DirCreate c.args.dir name c.args.now) c.in-Ok.found.place.name c.args.name.now c.in_ok-change.change
     c.in-Ok.ensures.chosen.own_name c.in_ok-change.ensures
     (enough_nodes (call.DirCreate c.args.dir c.args.name.now c.args.now) old two_records (λ depth. refl) c.in_default.ensures.refusal)

@@ -12,8 +12,8 @@ use Rattle.hfs_call_edits.proofs.editing.Editing.file_to_set.Goals as goal
 pub returns-clause-chosen : goal.returns-clause-chosen
 returns-clause-chosen g c =
     let volume = c.args.self.now in
-    let now = editing_now g.B.Blocks.blocks g.B.Blocks.total volume c.self.inside.blocks.now c.self.view_is _ _ _ c.self.invariant in
-    sets_file choice_stands (g.B.Blocks.total volume) (g.B.Blocks.blocks volume) now.sound c.self.inside.mdb.now now.directory
+    let now = editing_now g.B.Blocks.blocks g.B.Blocks.total volume c.self.inside.volume.blocks.now c.self.view_is _ _ _ c.self.invariant in
+    sets_file choice_stands (g.B.Blocks.total volume) (g.B.Blocks.blocks volume) now.sound c.self.inside.volume.mdb.now now.directory
     _ (by_nodes (λ cat. cat) (g.B.Blocks.blocks volume) _ c.nodes.ensures.nodes) c.nodes.ensures.entries c.args.dir c.args.name.now (file_chosen c.file_to_set.result) c.file_to_set.ensures.chosen
 
 pub returns-clause-place : goal.returns-clause-place

@@ -9,14 +9,14 @@ use Rattle.hfs_call_edits.proofs.editing.Editing.file_without_id.Goals as goal
 pub returns-clause-choice : goal.returns-clause-choice
 returns-clause-choice g c =
     let volume = c.args.self.now in
-    let now = editing_now g.B.Blocks.blocks g.B.Blocks.total volume c.self.inside.blocks.now c.self.view_is _ _ _ c.self.invariant in
-    creates_id choice_stands (g.B.Blocks.total volume) (g.B.Blocks.blocks volume) now.sound c.self.inside.mdb.now now.directory
+    let now = editing_now g.B.Blocks.blocks g.B.Blocks.total volume c.self.inside.volume.blocks.now c.self.view_is _ _ _ c.self.invariant in
+    creates_id choice_stands (g.B.Blocks.total volume) (g.B.Blocks.blocks volume) now.sound c.self.inside.volume.mdb.now now.directory
     _ (by_nodes (λ cat. cat) (g.B.Blocks.blocks volume) _ c.nodes.ensures.nodes) c.nodes.ensures.entries c.args.dir c.args.name.now c.file_without_id.result c.file_without_id.ensures
 
 pub returns-clause-threadless : goal.returns-clause-threadless
 returns-clause-threadless g c =
     let volume = c.args.self.now in
-    let now = editing_now g.B.Blocks.blocks g.B.Blocks.total volume c.self.inside.blocks.now c.self.view_is _ _ _ c.self.invariant in
+    let now = editing_now g.B.Blocks.blocks g.B.Blocks.total volume c.self.inside.volume.blocks.now c.self.view_is _ _ _ c.self.invariant in
     threadless_chosen (g.B.Blocks.total volume) (g.B.Blocks.blocks volume) now.sound file_threadless c.args.dir c.args.name.now c.file_without_id.result
-    (creates_id choice_stands (g.B.Blocks.total volume) (g.B.Blocks.blocks volume) now.sound c.self.inside.mdb.now now.directory
+    (creates_id choice_stands (g.B.Blocks.total volume) (g.B.Blocks.blocks volume) now.sound c.self.inside.volume.mdb.now now.directory
     _ (by_nodes (λ cat. cat) (g.B.Blocks.blocks volume) _ c.nodes.ensures.nodes) c.nodes.ensures.entries c.args.dir c.args.name.now c.file_without_id.result c.file_without_id.ensures)

@@ -1,20 +1,15 @@
 -- The file is the one whose first Finder bytes might be set.
-use Rattle.std.proofs.Common.{rules, ℤ, Result, sym, ◌∙◌, subst}
-use Rattle.hfs_model.specs.Volume.{Entry}
 use Rattle.hfs_check.specs.VolumeOf.{volume_in}
-use Rattle.hfs_call_patches.specs.Settings.{IsFileChoice}
-use Rattle.hfs_call_edits.proofs.ForkEdits.{set_as_written}
+use Rattle.hfs_model.specs.ForkCalls.{file_to_write}
+use Rattle.hfs_call_edits.proofs.ForkEdits.{finds_file, found_in}
 use Rattle.hfs_call_edits.proofs.editing.Editing.found_file.Goals as goal
 
-pub returns-in-Ok-clause-found : goal.returns-in-Ok-clause-found
-returns-in-Ok-clause-found g c =
-    let old = g.B.Blocks.blocks c.args.self.now in
-    record {
-      choice = subst (λ (chosen : Result Entry ℤ). IsFileChoice old chosen c.in-Ok.placed.key c.in-Ok.placed.file) (set_as_written (volume_in old) c.args.dir c.args.name.now) c.in-Ok.ensures.chosen.choice;
-      place = c.in-Ok.ensures.place;
-    }
+pub returns-clause-found : goal.returns-clause-found
+returns-clause-found g c =
+    finds_file (g.B.Blocks.blocks c.args.self.now) c.args.dir c.args.name.now c.file_to_set.result c.file_to_set.ensures.chosen c.file_to_set.ensures.place
 
-pub returns-in-Err-clause-found : goal.returns-in-Err-clause-found
-returns-in-Err-clause-found g c =
-    let refused = sym (set_as_written (volume_in (g.B.Blocks.blocks c.args.self.now)) c.args.dir c.args.name.now) ∙ c.in-Err.ensures.chosen in
-    search rules
+pub returns-clause-there : goal.returns-clause-there
+returns-clause-there g c =
+    let old = g.B.Blocks.blocks c.args.self.now in
+    found_in old (file_to_write (volume_in old) c.args.dir c.args.name.now) c.file_to_set.result
+    (finds_file old c.args.dir c.args.name.now c.file_to_set.result c.file_to_set.ensures.chosen c.file_to_set.ensures.place)

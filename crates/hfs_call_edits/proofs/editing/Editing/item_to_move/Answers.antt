@@ -10,7 +10,7 @@ use Rattle.hfs_call_edits.proofs.editing.Editing.item_to_move.Goals as goal
 pub returns : goal.returns
 returns g c =
     let volume = c.args.self.now in
-    let now = editing_now g.B.Blocks.blocks g.B.Blocks.total volume c.self.inside.blocks.now c.self.view_is _ _ _ c.self.invariant in
+    let now = editing_now g.B.Blocks.blocks g.B.Blocks.total volume c.self.inside.volume.blocks.now c.self.view_is _ _ _ c.self.invariant in
     chooses_moving choice_stands offspring_by_parents valences_are_counted catalog_is_sound (g.B.Blocks.total volume) (g.B.Blocks.blocks volume) now.sound
-    c.nodes.ensures.entries c.args.dir c.args.name.now c.args.new_dir c.self.inside.mdb.now now.directory
+    c.nodes.ensures.entries c.args.dir c.args.name.now c.args.new_dir c.self.inside.volume.mdb.now now.directory
     _ (by_nodes (λ cat. cat) (g.B.Blocks.blocks volume) _ c.nodes.ensures.nodes) c.item_to_move.result c.item_to_move.ensures

@@ -10,6 +10,6 @@ use Rattle.hfs_call_edits.proofs.editing.Editing.item_to_rename.Goals as goal
 pub returns : goal.returns
 returns g c =
     let volume = c.args.self.now in
-    let now = editing_now g.B.Blocks.blocks g.B.Blocks.total volume c.self.inside.blocks.now c.self.view_is _ _ _ c.self.invariant in
-    chooses_renaming choice_stands sound_is_lawful catalog_is_sound creation_is_free-folder (g.B.Blocks.total volume) (g.B.Blocks.blocks volume) now.sound c.self.inside.mdb.now now.directory
+    let now = editing_now g.B.Blocks.blocks g.B.Blocks.total volume c.self.inside.volume.blocks.now c.self.view_is _ _ _ c.self.invariant in
+    chooses_renaming choice_stands sound_is_lawful catalog_is_sound creation_is_free-folder (g.B.Blocks.total volume) (g.B.Blocks.blocks volume) now.sound c.self.inside.volume.mdb.now now.directory
     _ (by_nodes (λ cat. cat) (g.B.Blocks.blocks volume) _ c.nodes.ensures.nodes) c.nodes.ensures.entries c.args.dir c.args.name.now c.args.new_name.now c.item_to_rename.result c.item_to_rename.ensures

@@ -9,7 +9,7 @@ use Rattle.hfs_call_edits.specs.ChoosingRenaming.{nodes_for_name}
 use Rattle.hfs_call_edits.proofs.Edited.{editing_now}
 use Rattle.hfs_call_edits.proofs.MayRename.{can_rename, rename_refused, rename_accepted}
 use Rattle.hfs_call_edits.proofs.StepMade.{step_made}
-use Rattle.hfs_call_edits.proofs.Wanting.{enough_nodes, full_edit, refused_edit}
+use Rattle.hfs_call_edits.proofs.Wanting.{in_file, enough_nodes, full_edit, refused_edit}
 use Rattle.hfs_check.proofs.LawsProved.{trees_are_sound, catalog_is_sound}
 use Rattle.hfs_record_edits.proofs.LawsProved.{choice_stands, rename_is_free, catalog_edits_are_steps}
 use Rattle.hfs_model.specs.declared.call.Call.TheVariants as call
@@ -42,16 +42,16 @@ pub patch_rename-requires-clause-can : goal.patch_rename-requires-clause-can
 patch_rename-requires-clause-can g c =
     let blocks = g.B.Blocks.blocks in
     let volume = c.args.self.now in
-    let now = editing_now blocks g.B.Blocks.total volume c.self.inside.blocks.now c.self.view_is _ _ _ c.self.invariant in
+    let now = editing_now blocks g.B.Blocks.total volume c.self.inside.volume.blocks.now c.self.view_is _ _ _ c.self.invariant in
     subst (λ b. CanRekey c.in-Ok.item (catalog_nodes (blocks b))) (sym c.self.view_is)
     (can_rename trees_are_sound catalog_is_sound choice_stands rename_is_free (g.B.Blocks.total volume) (blocks volume) now.sound
-    c.args.dir c.args.name.now c.args.new_name.now c.in-Ok.item c.in-Ok.ensures c.catalog_is_in_file.ensures c.in_default.ensures.room)
+    c.args.dir c.args.name.now c.args.new_name.now c.in-Ok.item c.in-Ok.ensures (in_file (g.B.Blocks.total volume) (blocks volume) now.sound now.few) c.in_default.ensures.room)
 
 pub returns : goal.returns
 returns g c =
     let blocks = g.B.Blocks.blocks in
     let volume = c.args.self.now in
-    let own = c.self.inside.blocks.now in
+    let own = c.self.inside.volume.blocks.now in
     let now = editing_now blocks g.B.Blocks.total volume own c.self.view_is _ _ _ c.self.invariant in
     let rename = call.Rename c.args.dir c.args.name.now c.args.new_name.now c.args.now in
     step_made blocks g.B.Blocks.total volume own c.self.view_is catalog_edits_are_steps rename

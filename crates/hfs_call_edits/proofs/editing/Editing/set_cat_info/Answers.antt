@@ -12,7 +12,7 @@ pub patch_set_folder_info-requires-clause-chosen : goal.patch_set_folder_info-re
 patch_set_folder_info-requires-clause-chosen g c = record {
   dir = c.args.dir;
   name = c.args.name.now;
-  chosen = folder_choice g.B.Blocks.blocks g.B.Blocks.total c.args.self.now c.self.inside.blocks.now c.self.view_is (λ v. to_set_cat_info v c.args.dir c.args.name.now) c.in-Ok.placed.item.key c.in-Folder.folder
+  chosen = folder_choice g.B.Blocks.blocks g.B.Blocks.total c.args.self.now c.self.inside.volume.blocks.now c.self.view_is (λ v. to_set_cat_info v c.args.dir c.args.name.now) c.in-Ok.placed.item.key c.in-Folder.folder
       (subst (IsChosenBody (g.B.Blocks.blocks c.args.self.now) (to_set_cat_info (volume_in (g.B.Blocks.blocks c.args.self.now)) c.args.dir c.args.name.now) c.in-Ok.placed.item.key) c.in-Folder.is c.in-Ok.ensures.chosen).choice;
 }
 
@@ -20,7 +20,7 @@ pub patch_set_file_info-requires-clause-chosen : goal.patch_set_file_info-requir
 patch_set_file_info-requires-clause-chosen g c = record {
   dir = c.args.dir;
   name = c.args.name.now;
-  chosen = file_choice g.B.Blocks.blocks g.B.Blocks.total c.args.self.now c.self.inside.blocks.now c.self.view_is (λ v. to_set_cat_info v c.args.dir c.args.name.now) c.in-Ok.placed.item.key c.in-File.file
+  chosen = file_choice g.B.Blocks.blocks g.B.Blocks.total c.args.self.now c.self.inside.volume.blocks.now c.self.view_is (λ v. to_set_cat_info v c.args.dir c.args.name.now) c.in-Ok.placed.item.key c.in-File.file
       (subst (IsChosenBody (g.B.Blocks.blocks c.args.self.now) (to_set_cat_info (volume_in (g.B.Blocks.blocks c.args.self.now)) c.args.dir c.args.name.now) c.in-Ok.placed.item.key) c.in-File.is c.in-Ok.ensures.chosen).choice;
 }
 
@@ -35,7 +35,7 @@ pub returns-in_ok-patch-in-Folder : goal.returns-in_ok-patch-in-Folder
 returns-in_ok-patch-in-Folder g c =
     let blocks = g.B.Blocks.blocks in
     let value = c.args.self.now in
-    let own = c.self.inside.blocks.now in
+    let own = c.self.inside.volume.blocks.now in
     let chosen = (subst (IsChosenBody (blocks value) (to_set_cat_info (volume_in (blocks value)) c.args.dir c.args.name.now) c.in-Ok.placed.item.key) c.in-Folder.is c.in-Ok.ensures.chosen).choice in
     change_of blocks g.B.Blocks.total value own c.self.view_is catalog_edits_are_steps (set_cat_info_call c.args.dir c.args.name.now c.args.settings.now c.args.now) (λ depth. refl)
     c.in_ok-patch-in-Folder.patch c.args.now c.change.result c.change.ensures
@@ -48,7 +48,7 @@ pub returns-in_ok-patch-in-File : goal.returns-in_ok-patch-in-File
 returns-in_ok-patch-in-File g c =
     let blocks = g.B.Blocks.blocks in
     let value = c.args.self.now in
-    let own = c.self.inside.blocks.now in
+    let own = c.self.inside.volume.blocks.now in
     let chosen = (subst (IsChosenBody (blocks value) (to_set_cat_info (volume_in (blocks value)) c.args.dir c.args.name.now) c.in-Ok.placed.item.key) c.in-File.is c.in-Ok.ensures.chosen).choice in
     change_of blocks g.B.Blocks.total value own c.self.view_is catalog_edits_are_steps (set_cat_info_call c.args.dir c.args.name.now c.args.settings.now c.args.now) (λ depth. refl)
     c.in_ok-patch-in-File.patch c.args.now c.change-in-File.result c.change-in-File.ensures

@@ -13,7 +13,7 @@ returns-clause-made g c =
     let blocks = g.B.Blocks.blocks in
     let total = g.B.Blocks.total in
     let v = c.args.self.now in
-    let edit = subst (λ b. IsSetEofEdit c.found_file-found.result c.args.fork c.args.length c.args.now (total b) (blocks b) c.in_ok-edit.edit) c.fork_volume-volume.ensures.blocks c.in_ok-edit.ensures in
+    let edit = subst (λ b. IsSetEofEdit c.found_file-found.result c.args.fork c.args.length c.args.now (total b) (blocks b) c.in_ok-edit.edit) c.self.view_is c.in_ok-edit.ensures in
     subst (λ (r : Result Change Refusal). IsEditOf (call.SetEof c.args.dir c.args.name.now c.args.fork c.args.length c.args.now) (total v) (blocks v) r) (sym c.edit_of.ensures)
     (set_eof_edit c.args.dir c.args.name.now c.args.fork c.args.length c.args.now (total v) (blocks v) c.found_file-found.result c.found_file-found.ensures.found c.in_ok-edit.edit edit)
 
@@ -22,7 +22,7 @@ returns-clause-room g c =
     let blocks = g.B.Blocks.blocks in
     let total = g.B.Blocks.total in
     let v = c.args.self.now in
-    let edit = subst (λ b. IsSetEofEdit c.found_file-found.result c.args.fork c.args.length c.args.now (total b) (blocks b) c.in_ok-edit.edit) c.fork_volume-volume.ensures.blocks c.in_ok-edit.ensures in
+    let edit = subst (λ b. IsSetEofEdit c.found_file-found.result c.args.fork c.args.length c.args.now (total b) (blocks b) c.in_ok-edit.edit) c.self.view_is c.in_ok-edit.ensures in
     subst (λ (r : Result Change Refusal). HasForkRoom (call.SetEof c.args.dir c.args.name.now c.args.fork c.args.length c.args.now) (total v) (blocks v) r) (sym c.edit_of.ensures)
     (set_eof_room c.args.dir c.args.name.now c.args.fork c.args.length c.args.now (total v) (blocks v) c.found_file-found.result c.found_file-found.ensures.found c.in_ok-edit.edit edit)
 
@@ -31,6 +31,6 @@ returns-clause-forks g c =
     let blocks = g.B.Blocks.blocks in
     let total = g.B.Blocks.total in
     let v = c.args.self.now in
-    let edit = subst (λ b. IsSetEofEdit c.found_file-found.result c.args.fork c.args.length c.args.now (total b) (blocks b) c.in_ok-edit.edit) c.fork_volume-volume.ensures.blocks c.in_ok-edit.ensures in
+    let edit = subst (λ b. IsSetEofEdit c.found_file-found.result c.args.fork c.args.length c.args.now (total b) (blocks b) c.in_ok-edit.edit) c.self.view_is c.in_ok-edit.ensures in
     subst (λ (r : Result Change Refusal). HasForkWritten (call.SetEof c.args.dir c.args.name.now c.args.fork c.args.length c.args.now) (total v) (blocks v) r) (sym c.edit_of.ensures)
     (set_eof_written c.args.dir c.args.name.now c.args.fork c.args.length c.args.now (total v) (blocks v) c.found_file-found.result c.found_file-found.ensures.found c.in_ok-edit.edit edit)

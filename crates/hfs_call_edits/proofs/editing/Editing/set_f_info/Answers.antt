@@ -11,7 +11,7 @@ pub patch_set_f_info-requires-clause-chosen : goal.patch_set_f_info-requires-cla
 patch_set_f_info-requires-clause-chosen g c = record {
   dir = c.args.dir;
   name = c.args.name.now;
-  chosen = file_choice g.B.Blocks.blocks g.B.Blocks.total c.args.self.now c.self.inside.blocks.now c.self.view_is (λ v. to_set_f_info v c.args.dir c.args.name.now) c.in-Ok.placed.key c.in-Ok.placed.file
+  chosen = file_choice g.B.Blocks.blocks g.B.Blocks.total c.args.self.now c.self.inside.volume.blocks.now c.self.view_is (λ v. to_set_f_info v c.args.dir c.args.name.now) c.in-Ok.found.key c.in-Ok.found.file
       c.in-Ok.ensures.chosen.choice;
 }
 
@@ -26,11 +26,11 @@ pub returns : goal.returns
 returns g c =
     let blocks = g.B.Blocks.blocks in
     let value = c.args.self.now in
-    let own = c.self.inside.blocks.now in
+    let own = c.self.inside.volume.blocks.now in
     let chosen = c.in-Ok.ensures.chosen.choice in
     change_of blocks g.B.Blocks.total value own c.self.view_is catalog_edits_are_steps (call.SetFInfo c.args.dir c.args.name.now c.args.info.now c.args.now) (λ depth. refl)
     c.in_ok-patch.patch c.args.now c.change.result c.change.ensures
     (editing_now blocks g.B.Blocks.total value own c.self.view_is _ _ _ c.self.invariant).sound c.in_ok-patch.ensures.within
     (c.in_ok-patch.ensures.makes c.args.dir c.args.name.now
-    (file_choice blocks g.B.Blocks.total value own c.self.view_is (λ v. to_set_f_info v c.args.dir c.args.name.now) c.in-Ok.placed.key c.in-Ok.placed.file chosen))
+    (file_choice blocks g.B.Blocks.total value own c.self.view_is (λ v. to_set_f_info v c.args.dir c.args.name.now) c.in-Ok.found.key c.in-Ok.found.file chosen))
     (f_info_accepted (volume_in (blocks value)) c.args.dir c.args.now c.args.name.now c.args.info.now _ chosen.choice.is)

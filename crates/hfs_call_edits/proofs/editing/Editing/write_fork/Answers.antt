@@ -13,24 +13,24 @@ returns-clause-made g c =
     let blocks = g.B.Blocks.blocks in
     let total = g.B.Blocks.total in
     let v = c.args.self.now in
-    let edit = subst (λ b. IsWriteForkEdit c.found_file-found.result c.args.fork c.args.offset c.args.bytes.now c.args.now (total b) (blocks b) c.in_ok-edit.edit) c.fork_volume-volume.ensures.blocks c.in_ok-edit.ensures in
-    subst (λ (r : Result Change Refusal). IsEditOf (call.WriteFork c.args.dir c.args.name.now c.args.fork c.args.offset c.args.bytes.now c.args.now) (total v) (blocks v) r) (sym c.edit_of.ensures)
-    (write_fork_edit c.args.dir c.args.name.now c.args.fork c.args.offset c.args.bytes.now c.args.now (total v) (blocks v) c.found_file-found.result c.found_file-found.ensures.found c.in_ok-edit.edit edit)
+    let edit = subst (λ b. IsWriteForkEdit c.found_file-found.result c.args.write.now.fork c.args.write.now.offset c.args.write.now.bytes.now c.args.now (total b) (blocks b) c.in_ok-edit.edit) c.self.view_is c.in_ok-edit.ensures in
+    subst (λ (r : Result Change Refusal). IsEditOf (call.WriteFork c.args.dir c.args.name.now c.args.write.now.fork c.args.write.now.offset c.args.write.now.bytes.now c.args.now) (total v) (blocks v) r) (sym c.edit_of.ensures)
+    (write_fork_edit c.args.dir c.args.name.now c.args.write.now.fork c.args.write.now.offset c.args.write.now.bytes.now c.args.now (total v) (blocks v) c.found_file-found.result c.found_file-found.ensures.found c.in_ok-edit.edit edit)
 
 pub returns-clause-room : goal.returns-clause-room
 returns-clause-room g c =
     let blocks = g.B.Blocks.blocks in
     let total = g.B.Blocks.total in
     let v = c.args.self.now in
-    let edit = subst (λ b. IsWriteForkEdit c.found_file-found.result c.args.fork c.args.offset c.args.bytes.now c.args.now (total b) (blocks b) c.in_ok-edit.edit) c.fork_volume-volume.ensures.blocks c.in_ok-edit.ensures in
-    subst (λ (r : Result Change Refusal). HasForkRoom (call.WriteFork c.args.dir c.args.name.now c.args.fork c.args.offset c.args.bytes.now c.args.now) (total v) (blocks v) r) (sym c.edit_of.ensures)
-    (write_fork_room c.args.dir c.args.name.now c.args.fork c.args.offset c.args.bytes.now c.args.now (total v) (blocks v) c.found_file-found.result c.found_file-found.ensures.found c.in_ok-edit.edit edit)
+    let edit = subst (λ b. IsWriteForkEdit c.found_file-found.result c.args.write.now.fork c.args.write.now.offset c.args.write.now.bytes.now c.args.now (total b) (blocks b) c.in_ok-edit.edit) c.self.view_is c.in_ok-edit.ensures in
+    subst (λ (r : Result Change Refusal). HasForkRoom (call.WriteFork c.args.dir c.args.name.now c.args.write.now.fork c.args.write.now.offset c.args.write.now.bytes.now c.args.now) (total v) (blocks v) r) (sym c.edit_of.ensures)
+    (write_fork_room c.args.dir c.args.name.now c.args.write.now.fork c.args.write.now.offset c.args.write.now.bytes.now c.args.now (total v) (blocks v) c.found_file-found.result c.found_file-found.ensures.found c.in_ok-edit.edit edit)
 
 pub returns-clause-forks : goal.returns-clause-forks
 returns-clause-forks g c =
     let blocks = g.B.Blocks.blocks in
     let total = g.B.Blocks.total in
     let v = c.args.self.now in
-    let edit = subst (λ b. IsWriteForkEdit c.found_file-found.result c.args.fork c.args.offset c.args.bytes.now c.args.now (total b) (blocks b) c.in_ok-edit.edit) c.fork_volume-volume.ensures.blocks c.in_ok-edit.ensures in
-    subst (λ (r : Result Change Refusal). HasForkWritten (call.WriteFork c.args.dir c.args.name.now c.args.fork c.args.offset c.args.bytes.now c.args.now) (total v) (blocks v) r) (sym c.edit_of.ensures)
-    (write_fork_written c.args.dir c.args.name.now c.args.fork c.args.offset c.args.bytes.now c.args.now (total v) (blocks v) c.found_file-found.result c.found_file-found.ensures.found c.in_ok-edit.edit edit)
+    let edit = subst (λ b. IsWriteForkEdit c.found_file-found.result c.args.write.now.fork c.args.write.now.offset c.args.write.now.bytes.now c.args.now (total b) (blocks b) c.in_ok-edit.edit) c.self.view_is c.in_ok-edit.ensures in
+    subst (λ (r : Result Change Refusal). HasForkWritten (call.WriteFork c.args.dir c.args.name.now c.args.write.now.fork c.args.write.now.offset c.args.write.now.bytes.now c.args.now) (total v) (blocks v) r) (sym c.edit_of.ensures)
+    (write_fork_written c.args.dir c.args.name.now c.args.write.now.fork c.args.write.now.offset c.args.write.now.bytes.now c.args.now (total v) (blocks v) c.found_file-found.result c.found_file-found.ensures.found c.in_ok-edit.edit edit)
