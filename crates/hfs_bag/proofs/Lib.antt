@@ -17,5 +17,6 @@ mod Digests
 pub mod FailLemmas
 mod HeadLemmas
 mod Alike
-mod PartLemmas
+pub mod PartLemmas
 pub mod Picking
+pub mod FoundRanges

@@ -1,6 +1,6 @@
 //! The first bytes of an image, as if they were the image.
-ghost use Rattle.std.specs.Prelude.{◌≡◌, ◌+◌, ◌<◌, ◌≤◌, IfOk, length};
-ghost use Rattle.hfs_source.specs.Images.{HasAt, OfEach};
+ghost use Rattle.std.specs.Prelude.{◌≡◌, ◌+◌, ◌<◌, ◌≤◌, min, IfErr, IfOk, length};
+ghost use Rattle.hfs_source.specs.Images.{FailsWhere, HasAt, OfEach};
 ghost use Rattle.hfs_bag.specs.Heads.{HasSmallHeader, IsHeadOf, with_zeros};
 
 use hfs_fields::u16_at;
@@ -45,6 +45,9 @@ fn first_bytes<S: PlacedBytes>(
     ensures size { IfOk result (λ bytes. length bytes.items ≡ len) }
     ensures bytes { IfOk result (λ bytes. OfEach (S.Holds source.new) (HasAt 0 bytes.items)) }
     ensures held { OfEach (S.Holds source.new) (S.Holds source.old) }
+    ensures failed { IfErr result (λ fault. fault ≡ SparseFault.ReadFailed
+        → S.Fails source.old 0 len) }
+    ensures later { FailsWhere (S.Fails source.new) (S.Fails source.old) }
 {
     let Ok(mut bytes) = vec![in alloc; 0u8; len as usize] else {
         return Err(SparseFault::Memory);
@@ -65,6 +68,9 @@ pub(crate) fn head_of<S: PlacedBytes>(
     ensures head { IfOk result (λ head. OfEach (S.Holds source.new)
         (λ file. length file ≡ all → IsHeadOf head.items file)) }
     ensures held { OfEach (S.Holds source.new) (S.Holds source.old) }
+    ensures failed { IfErr result (λ fault. fault ≡ SparseFault.ReadFailed
+        → S.Fails source.old 0 (min all 131072)) }
+    ensures later { FailsWhere (S.Fails source.new) (S.Fails source.old) }
 {
     let len = all.min(HEAD);
     let head = first_bytes(alloc, source, len)?;

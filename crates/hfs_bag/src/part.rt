@@ -1,8 +1,8 @@
 //! A part of an image that is picked.
-ghost use Rattle.std.specs.Prelude.{◌≡◌, ⊤, List, [], ℕ, IfSome, length};
+ghost use Rattle.std.specs.Prelude.{◌≡◌, ◌≤◌, ◌^◌, List, [], ℕ, IfNone, IfSome, length};
 ghost use Rattle.hfs_source.specs.Ranges.{bytes_in, range_of};
 ghost use Rattle.hfs_source.specs.Images.{OfEach};
-ghost use Rattle.hfs_bag.specs.Parts.{content_of, IsPartOf};
+ghost use Rattle.hfs_bag.specs.Parts.{content_of, FailsInPart, IsInside, IsPartOf, LiesIn};
 
 use hfs_source::{ByteRange, Layout, PlacedBytes, read_data};
 use std::io;
@@ -53,7 +53,9 @@ fn content_len(layout: Layout, len: u64) -> u64
 /// Where a range is taken to begin: one without bytes may lie anywhere, even past the end.
 #[tactic(auto, using(crate::proofs::PartLemmas::empty_range))]
 fn start_of(range: ByteRange) -> u64
-    ensures { (content : List ℕ) → bytes_in (range_of result range.len) content ≡ bytes_in range content }
+    ensures bytes { (content : List ℕ) → bytes_in (range_of result range.len) content ≡ bytes_in range content }
+    ensures least { result ≤ range.start }
+    ensures none { range.len ≡ 0 → result ≡ 0 }
 {
     if range.len == 0 {
         return 0;
@@ -67,6 +69,10 @@ impl<S: PlacedBytes + Drop, K: PickedImage> ImagePart<S, K> {
         ensures range { IfSome result (λ part. OfEach (IsPartOf S.Holds K.image part)
             (λ bytes. bytes ≡ bytes_in range (content_of layout K.image))) }
         ensures source { IfSome result (λ part. part.source ≡ source) }
+        ensures inside { IfSome result (IsInside S.Holds K.image) }
+        ensures none { IfNone result (S.Holds source K.image
+            → LiesIn range (content_of layout K.image)
+            → 2 ^ 63 ≤ length (content_of layout K.image)) }
     {
         let all = content_len(layout, source.len());
         let start = start_of(range);
@@ -88,6 +94,9 @@ impl<S: PlacedBytes + Drop, K: PickedImage> ImagePart<S, K> {
         ensures whole { IfSome result (λ part. OfEach (IsPartOf S.Holds K.image part)
             (λ bytes. bytes ≡ content_of layout K.image)) }
         ensures source { IfSome result (λ part. part.source ≡ source) }
+        ensures inside { IfSome result (IsInside S.Holds K.image) }
+        ensures none { IfNone result (S.Holds source K.image
+            → 2 ^ 63 ≤ length (content_of layout K.image)) }
     {
         let len = content_len(layout, source.len());
         ImagePart::range(source, layout, ByteRange { start: 0, len })
@@ -104,7 +113,7 @@ impl<S: PlacedBytes + Drop, K: PickedImage> ImagePart<S, K> {
 impl<S: PlacedBytes, K: PickedImage> PlacedBytes for ImagePart<S, K> {
     ghost Holds = { λ part. IsPartOf S.Holds K.image part };
 
-    ghost Fails = { λ _ _ _. ⊤ };
+    ghost Fails = { λ part. FailsInPart S.Fails part };
 
     fn len(&self) -> u64 {
         self.len

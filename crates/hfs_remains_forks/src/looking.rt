@@ -148,6 +148,10 @@ pub fn look<S: PlacedBlocks + Drop>(
         (S.Holds source.blocks))) }
     ensures back { IfOk result (λ looked. IfErr looked (λ image.
         OfEach (S.Holds image.source.blocks) (S.Holds source.blocks))) }
+    ensures later { IfOk result (λ looked. IfOk looked (λ image. FailsWhere (S.Fails image)
+        (S.Fails source.blocks))) }
+    ensures back_later { IfOk result (λ looked. IfErr looked (λ image.
+        FailsWhere (S.Fails image.source.blocks) (S.Fails source.blocks))) }
     ensures failed { IfErr result (λ fault. fault ≡ SparseFault.ReadFailed
         → SomeReadFails (S.Holds source.blocks) (S.Fails source.blocks)) }
 {

@@ -4,4 +4,4 @@ use Rattle.hfs_bag.specs.Parts.{content_of}
 use Rattle.hfs_bag.proofs.part.ImagePart.range.Goals as goal
 
 pub returns-clause-range : goal.returns-clause-range
-returns-clause-range g c = λ bytes own. own.is ∙ c.start_of-start.ensures (content_of c.args.layout g.K.PickedImage.image)
+returns-clause-range g c = λ bytes own. own.is ∙ c.start_of-start.ensures.bytes (content_of c.args.layout g.K.PickedImage.image)

@@ -1,5 +1,5 @@
 -- What is read of the content is read of its range.
-use Rattle.std.proofs.Common.{◌≡◌, ◌+◌, ◌≤◌, length, arith}
+use Rattle.std.proofs.Common.{◌+◌, ◌≤◌, length, arith}
 use Rattle.hfs_bag.proofs.PartLemmas.{plain_read, raw_read}
 use Rattle.hfs_bag.proofs.part.ImagePartPlacedBytes.read_at.Goals as goal
 
