@@ -79,8 +79,6 @@ module _ {K : Type 0} (g : Ghosts K) (old : Store) (sound : IsSound g old) (k p 
   child-within = way-within g old k n child-way
 
   -- the nodes as they were loaded
-  module _ (above : Node) (was_above : node_in old p ≡ Ok above) where
-
   module _ (node : Node) (was_node : node_in old n ≡ Ok node) where
     pub node-records : node.records ≡ records_in old n
     node-records = sym (ap records_of was_node)
