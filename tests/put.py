@@ -23,7 +23,7 @@ import time
 from dataclasses import dataclass
 from pathlib import Path
 
-from driver.calls import Call, read_answers, script_of
+from driver.calls import FOLDER_FULL, Answer, Call, read_answers, script_of
 from driver.image import MDB, Image
 from driver.programs import MEASURED, REAL_VOLUMES, Program, built
 from driver.putting import Disk, Placed
@@ -107,6 +107,13 @@ class Options:
         return flags + (['--to', self.to] if self.to else [])
 
 
+def why_refused(answer: Answer, placed: Placed) -> str:
+    """Why the first call that is refused is. Nothing is told of the items after its own."""
+    if not answer.is_wanting:
+        return f'code {answer.code}'
+    return answer.value if answer.value.startswith('full') else f'room {placed.disk.image.free_blocks} {placed.wanted_blocks}'
+
+
 class Bench:
     """A folder of its own, in which the program runs, and how much was tried."""
 
@@ -185,9 +192,8 @@ class Bench:
         answers, saved = self.made(image, [call for call, _ in calls], NOW)
         for answer, (_, item) in zip(answers, calls):
             if not answer.is_done:
-                ensure(answer.is_wanting, f'{item.path}: {answer.told}')
-                why = answer.value if answer.value.startswith('full') else f'room {placed.disk.image.free_blocks} {placed.wanted_blocks}'
-                return 3, f'cannot put {path_text(item.path)}: {why}\n', None, None
+                ensure(answer.is_wanting or answer.code == str(FOLDER_FULL), f'{item.path}: {answer.told}')
+                return 3, f'cannot put {path_text(item.path)}: {why_refused(answer, placed)}\n', None, None
         return 0, placed.lines, placed, saved
 
     def puts(self, what: str, image: bytes, sources, how: Options = Options()) -> bytes:
@@ -512,6 +518,10 @@ def of_room(bench: Bench) -> None:
     lay('nodes', {f'{it:02}{"n" * 29}': b'' for it in range(40)})
     bench.puts('more items than the catalog has room for', few, ['nodes'])
     ensure(bench.put(few, ['nodes'], Options())[1].split(': ')[1][:5] == 'full ', 'want of nodes')
+    last = bytearray(small)
+    last[MDB + 30:MDB + 34] = 0xFFFF_FFFE.to_bytes(4, 'big')
+    bench.puts('the last ID', bytes(last), ['room/b'])
+    bench.tells('more items than IDs', bytes(last), ['room/b', 'room/c', 'under/a'], 'cannot put room/c: code -33\n')
     pieces = scattered(bench.new(1600, 40, 2), random.Random('pieces'), 0.5)
     lay('pieced', 600 * 512)
     bench.puts('more pieces than the extents tree has room for', pieces, ['pieced'])
@@ -900,10 +910,11 @@ def of_very_many(bench: Bench, count: int = 100_000) -> None:
     paths = sorted(it.split('\t')[0].replace(':', '/') for it in bench.text('items', bench.out).splitlines()[1:])
     ensure(paths == sorted(f'D/{it}' for folder in folders for it in (folder, *map(str, Path(folder).iterdir()))), f'the paths of {count} files')
     # a folder has 65,535 items at most
-    lay('overfull', {f'{it:05}': b'' for it in range(65_536)})
+    lay('overfull', {f'{it:05}': b'' for it in range(65_538)})
     image = bench.image.read_bytes()
-    ensure(bench.put(image, ['overfull'], Options()) == (3, 'cannot put overfull/65535: code -33\n') and not bench.out.exists(), 'a folder of 65,536 files')
-    os.unlink('overfull/65535')
+    ensure(bench.put(image, ['overfull'], Options()) == (3, 'cannot put overfull/65535: code -33\n') and not bench.out.exists(), 'a folder of 65,538 files')
+    for number in range(65_535, 65_538):
+        os.unlink(f'overfull/{number}')
     ensure(bench.put(image, ['overfull'], Options())[1].startswith('put\nfiles 65535\nfolders 1\nbytes 0\n'), 'a folder of 65,535 files')
 
 

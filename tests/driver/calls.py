@@ -3,6 +3,7 @@ from dataclasses import dataclass
 from typing import Optional
 
 DISK_FULL = -34
+FOLDER_FULL = -33
 # The calls that write a fork.
 WRITING = ('seteof', 'write')
 # More nodes than any tree has.
