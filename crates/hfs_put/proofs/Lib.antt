@@ -31,6 +31,7 @@ mod LaidFiles
 mod BesideRuns
 mod SavedRuns
 mod PutOver
+mod WrittenBlocks
 pub mod LaidLemmas
 mod FilledLemmas
 mod OrderLemmas

@@ -70,8 +70,9 @@ pub record IsMadeVolume (Hosts : Tree → Type 0) (order : MakeOrder) (items : L
   -- With these blocks over its image, and the bytes of forks of a tree in their runs, the file holds what the File Manager makes of it by the list of
   -- calls that puts these items into its root, of which the ID is 2.
   pub holds : (host : Tree)
-      → IsFilePut 2 order.now (arrivals_of host items from.filled.filled.done.done.list.places.items) list.blocks.ids.items (own_place planned)
-      (image_bytes planned) (put_file (own_place planned) list.blocks.patch host items list.blocks.runs.items (image_bytes planned))
+      → IsFilePut 2 order.now (arrivals_of host items from.filled.filled.done.done.list.places.items) list.blocks.ids.items
+      from.filled.filled.done.done.over.written (own_place planned) (image_bytes planned)
+      (put_file (own_place planned) list.blocks.patch host items list.blocks.runs.items (image_bytes planned))
   -- as many allocation blocks are free then as are told
   pub free : (host : Tree)
       → (mdb_in (block_at (bytes_in (own_place planned).range

@@ -50,7 +50,7 @@ IsUnmounted path Range len found =
 pub record IsPutOn (order : PutOrder) (copy current : List ℕ) (items : List PlannedItem) (put : PutBlocks) (sums : PutSums) : Type 0 where
   pub list : PlacedList
   pub placed : IsPlaced (volume_of copy) order items list
-  pub over : IsPutOver copy list.target order.now list.places.items put.patch put.runs.items put.ids.items
+  pub over : IsPutOver copy current list.target order.now list.places.items put.patch put.runs.items put.ids.items
   -- what is saved has that volume's master directory block
   pub directory : HasDirectory copy list.places.items put.patch put.runs.items (mdb_in (block_at current))
   pub sums_are : sums ≡ put_sums list.places.items (mdb_in (block_at current)).free_blocks
