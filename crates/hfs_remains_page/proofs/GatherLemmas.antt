@@ -83,4 +83,3 @@ module _ (base : Option (Bor (List ℕ))) (found : Found) (steps : List Step) (s
       subst (AppendsFront start later) (sym (all-rest i opened now text end begun)) (front_next start now later begun.out (text ++ closings opened) begun.written part)
 
 -- ---- what holds of a result
-

@@ -81,4 +81,3 @@ module _ (row : ℕ → FoundRecord → List ℕ) (items : List FoundRecord) (st
       subst (AppendsFront start later) (sym (all-rest i now text end begun)) (front_next start now later begun.out text begun.written part)
 
 -- ---- what holds of a result
-

@@ -266,4 +266,3 @@ may_write t is fork offset bytes found has may r at = by fork r.kind same (is.ro
         let long = size_is t is f.resource h.1 in
         let there = subst (λ (k : Kind). offset ≤ length (fork_bytes ResFork k)) e within in
         (h.1.pieces, (omega (arith, there, long), may.small))
-

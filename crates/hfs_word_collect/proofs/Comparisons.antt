@@ -124,4 +124,3 @@ pub fails_by_memory : {X : Type 0} (old new : State) (path : List ℕ) (r : Resu
     → IfErr r (FailsToCompare old new path)
 fails_by_memory old new path (Ok x) known is none = tt
 fails_by_memory old new path (Err fault) known is none = inr (none, (known, is))
-
