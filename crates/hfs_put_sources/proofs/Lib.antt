@@ -15,3 +15,5 @@ pub mod PathLaws
 pub mod PathLemmas
 pub mod RecordLemmas
 pub mod WrongLemmas
+pub mod SourceFaults
+mod FileReads

@@ -1,7 +1,9 @@
 -- A tree in memory, by its nodes: of two with one path the first counts.
-use Rattle.std.specs.Prelude.{ℕ, if◌then◌else◌, List, [], ◌∷◌, find, flat_map, Option, Some, None, option_map, bytes_eq}
+use Rattle.std.specs.Prelude.{◌≡◌, ℕ, if◌then◌else◌, List, [], ◌∷◌, find, flat_map, Option, Some, None, option_map, bytes_eq}
 use Rattle.hfs_put_sources.specs.declared.entry.Look.{Look}
 use Rattle.hfs_put_sources.specs.declared.memory.HostNode.{HostNode}
+use Rattle.hfs_put_sources.specs.declared.fault.HostFault.{HostFault}
+use Rattle.hfs_put_sources.specs.Faults.{IsUnread}
 use Rattle.hfs_put_sources.specs.Trees.{Listed, Tree}
 
 abbrev pub node_at : List ℕ → List HostNode → Option HostNode
@@ -36,3 +38,9 @@ tree_of nodes = record {
   look = λ path. look_at path nodes;
   target = λ path. look_at path nodes;
 }
+
+-- the fault of a path that no node has
+pub record IsNowhere (nodes : List HostNode) (fault : HostFault) : Type 0 where
+  pub path : List ℕ
+  pub unread : IsUnread path fault
+  pub none : node_at path nodes ≡ None

@@ -1,5 +1,6 @@
 //! What the tables of bags say about what is in them.
-ghost use Rattle.std.specs.Prelude.{IfOk, OnOk, map};
+ghost use Rattle.std.specs.Prelude.{IfOk, OnOk, map, IfErr};
+ghost use Rattle.hfs_put_sources.specs.Faults.{FailLater, IsFaultOf};
 ghost use Rattle.hfs_put_sources.specs.Trees.{OfEachTree};
 ghost use Rattle.hfs_put_sources.specs.Later.{Tells, told_at};
 ghost use Rattle.hfs_put_sources.specs.Told.{AreFactsOf, told_by_source};
@@ -38,6 +39,8 @@ fn note_source<T: HostTree>(
     ensures told { OnOk result (OfEachTree (T.Holds tree.new)
         (λ host. Tells (λ path. told_by_source host path source.now) facts.old facts.new)) }
     ensures held { OfEachTree (T.Holds tree.new) (T.Holds tree.old) }
+    ensures failed { IfErr result (IsFaultOf (T.Fails tree.old)) }
+    ensures later { FailLater (T.Fails tree.new) (T.Fails tree.old) }
 {
     let text = tag_text(alloc, tree, source, "items.csv")?;
     let front = entry_path(alloc, source, "data/")?;
@@ -57,6 +60,8 @@ impl BagFacts {
         ensures facts { IfOk result (λ facts. OfEachTree (T.Holds tree.new)
             (AreFactsOf (map (λ s. s.now) sources.now) facts)) }
         ensures held { OfEachTree (T.Holds tree.new) (T.Holds tree.old) }
+        ensures failed { IfErr result (IsFaultOf (T.Fails tree.old)) }
+        ensures later { FailLater (T.Fails tree.new) (T.Fails tree.old) }
     {
         let mut facts = ByPath::new(alloc);
         for source in sources {

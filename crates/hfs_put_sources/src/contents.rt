@@ -1,7 +1,8 @@
 //! What AppleDouble and MacBinary files of a tree hold.
-ghost use Rattle.std.specs.Prelude.{◌≡◌, IfOk};
+ghost use Rattle.std.specs.Prelude.{◌≡◌, IfOk, IfErr};
 ghost use Rattle.hfs_encodings.specs.IncomingAppleDouble.{apple_double_in};
 ghost use Rattle.hfs_encodings.specs.IncomingMacBinary.{macbinary_in};
+ghost use Rattle.hfs_put_sources.specs.Faults.{FailLater, IsFaultOf};
 ghost use Rattle.hfs_put_sources.specs.Trees.{OfEachTree};
 
 use crate::fault::{HostFault, cannot_read};
@@ -18,6 +19,8 @@ pub(crate) fn read_double<T: HostTree>(
     ensures found { IfOk result (λ found. OfEachTree (T.Holds tree.new)
         (λ host. found ≡ apple_double_in (host.bytes path.now))) }
     ensures held { OfEachTree (T.Holds tree.new) (T.Holds tree.old) }
+    ensures failed { IfErr result (IsFaultOf (T.Fails tree.old)) }
+    ensures later { FailLater (T.Fails tree.new) (T.Fails tree.old) }
 {
     let mut file = tree.open(alloc, path)?;
     let Ok(found) = read_apple_double(&mut file) else {
@@ -36,6 +39,8 @@ pub(crate) fn read_header<T: HostTree>(
     ensures found { IfOk result (λ found. OfEachTree (T.Holds tree.new)
         (λ host. found ≡ macbinary_in (host.bytes path.now))) }
     ensures held { OfEachTree (T.Holds tree.new) (T.Holds tree.old) }
+    ensures failed { IfErr result (IsFaultOf (T.Fails tree.old)) }
+    ensures later { FailLater (T.Fails tree.new) (T.Fails tree.old) }
 {
     let mut file = tree.open(alloc, path)?;
     let Ok(found) = read_macbinary(&mut file) else {

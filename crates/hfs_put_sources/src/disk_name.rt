@@ -1,5 +1,6 @@
 //! The name of the disk that a bag was taken from.
-ghost use Rattle.std.specs.Prelude.{◌≡◌, IfOk, option_map};
+ghost use Rattle.std.specs.Prelude.{◌≡◌, IfOk, option_map, IfErr};
+ghost use Rattle.hfs_put_sources.specs.Faults.{FailLater, IsFaultOf};
 ghost use Rattle.hfs_put_sources.specs.Trees.{OfEachTree};
 ghost use Rattle.hfs_put_sources.specs.Tags.{name_told, tag_text};
 
@@ -18,6 +19,8 @@ pub fn bag_name<T: HostTree>(
     ensures name { IfOk result (λ name. OfEachTree (T.Holds tree.new)
         (λ host. option_map (λ text. text.items) name ≡ name_told host source.now)) }
     ensures held { OfEachTree (T.Holds tree.new) (T.Holds tree.old) }
+    ensures failed { IfErr result (IsFaultOf (T.Fails tree.old)) }
+    ensures later { FailLater (T.Fails tree.new) (T.Fails tree.old) }
 {
     let text = tag_text(alloc, tree, source, "bag-info.txt")?;
     match external_identifier(&text) {

@@ -1,6 +1,7 @@
 //! The items in a folder.
-ghost use Rattle.std.specs.Prelude.{◌≡◌, IfOk, map};
-ghost use Rattle.hfs_put_sources.specs.Folders.{AreItemsIn, entry_at, item_in, item_name, look_of, name_of, named_item};
+ghost use Rattle.std.specs.Prelude.{◌≡◌, IfOk, map, IfErr};
+ghost use Rattle.hfs_put_sources.specs.Faults.{FailLater, IsFaultOf};
+ghost use Rattle.hfs_put_sources.specs.Folders.{AreItemsIn, entry_at, item_in, item_name, look_of, name_of};
 ghost use Rattle.hfs_put_sources.specs.Trees.{OfEachTree};
 
 use crate::entry::{HostEntry, Look};
@@ -60,27 +61,30 @@ fn item_name(entries: &[HostEntry], item: FolderItem) -> &str
     }
 }
 
-/// The item with this name in a folder, from what is seen of its own entry and of the one that belongs to it.
-fn named_item<T: HostTree, B: ToldItems>(
+/// The item at these places of a folder's entries: those of its own entry and of the one that belongs to it.
+fn item_in<T: HostTree, B: ToldItems>(
     alloc: Global,
     tree: &mut T,
     told: &B,
     how: PutOptions,
     folder: &FolderPlace<'_>,
-    name: &str,
-    own: Option<Look>,
-    double: Option<Look>,
+    entries: &[HostEntry],
+    places: FolderItem,
 ) -> Result<SourceItem, HostFault>
     ensures item { IfOk result (λ item. OfEachTree (T.Holds tree.new)
-        (λ host. item ≡ named_item host (B.told told.now) how folder.now.path.now folder.now.place name.now own double)) }
+        (λ host. item ≡ item_in host (B.told told.now) how folder.now.path.now folder.now.place
+        entries.now places)) }
     ensures held { OfEachTree (T.Holds tree.new) (T.Holds tree.old) }
+    ensures failed { IfErr result (IsFaultOf (T.Fails tree.old)) }
+    ensures later { FailLater (T.Fails tree.new) (T.Fails tree.old) }
 {
+    let name = item_name(entries, places);
     let path = entry_path(alloc, folder.path, name)?;
     let double_path = double_path(alloc, folder.path, name)?;
     let at = ItemPlace {
         name,
-        own,
-        double,
+        own: look_of(entries, places.own),
+        double: look_of(entries, places.double),
         path: path.as_str(),
         double_path: double_path.as_str(),
     };
@@ -102,13 +106,12 @@ fn read_items<T: HostTree, B: ToldItems>(
         (λ host. items.items ≡ map (item_in host (B.told told.now) how folder.now.path.now folder.now.place
         entries.now) places.now)) }
     ensures held { OfEachTree (T.Holds tree.new) (T.Holds tree.old) }
+    ensures failed { IfErr result (IsFaultOf (T.Fails tree.old)) }
+    ensures later { FailLater (T.Fails tree.new) (T.Fails tree.old) }
 {
     let mut items = Vec::new(alloc);
     for place in places {
-        let name = item_name(entries, *place);
-        let own = look_of(entries, place.own);
-        let double = look_of(entries, place.double);
-        let item = named_item(alloc, tree, told, how, folder, name, own, double)?;
+        let item = item_in(alloc, tree, told, how, folder, entries, *place)?;
         items.push(item)?;
     }
     Ok(items)
@@ -125,6 +128,8 @@ pub(crate) fn items_in<T: HostTree, B: ToldItems>(
     ensures items { IfOk result (λ items. OfEachTree (T.Holds tree.new)
         (λ host. AreItemsIn host (B.told told.now) how folder.now.path.now folder.now.place items.items)) }
     ensures held { OfEachTree (T.Holds tree.new) (T.Holds tree.old) }
+    ensures failed { IfErr result (IsFaultOf (T.Fails tree.old)) }
+    ensures later { FailLater (T.Fails tree.new) (T.Fails tree.old) }
 {
     let mut entries = tree.list(alloc, folder.path)?;
     let places = ordered_items(alloc, &mut entries)?;

@@ -1,5 +1,6 @@
 //! Items that are to be put on a disk.
-ghost use Rattle.std.specs.Prelude.{◌≡◌, IfOk, MatchOption, None, OnOk, Some, string_bytes};
+ghost use Rattle.std.specs.Prelude.{◌≡◌, IfOk, MatchOption, None, OnOk, Some, string_bytes, IfErr};
+ghost use Rattle.hfs_put_sources.specs.Faults.{FailLater, IsFaultOf};
 ghost use Rattle.hfs_put_sources.specs.Forks.{fork_path, fork_span};
 ghost use Rattle.hfs_put_sources.specs.Items.{planned_item};
 ghost use Rattle.hfs_put_sources.specs.Plans.{double_at, header_at, plan_at, plan_by};
@@ -154,6 +155,8 @@ fn own_header<T: HostTree>(
     ensures found { IfOk result (λ found. OfEachTree (T.Holds tree.new)
         (λ host. found ≡ header_at host how own path.now)) }
     ensures held { OfEachTree (T.Holds tree.new) (T.Holds tree.old) }
+    ensures failed { IfErr result (IsFaultOf (T.Fails tree.old)) }
+    ensures later { FailLater (T.Fails tree.new) (T.Fails tree.old) }
 {
     if how.macbinary && is_file(own) {
         read_header(alloc, tree, path)
@@ -172,6 +175,8 @@ fn own_double<T: HostTree>(
     ensures found { IfOk result (λ found. OfEachTree (T.Holds tree.new)
         (λ host. found ≡ double_at host double path.now)) }
     ensures held { OfEachTree (T.Holds tree.new) (T.Holds tree.old) }
+    ensures failed { IfErr result (IsFaultOf (T.Fails tree.old)) }
+    ensures later { FailLater (T.Fails tree.new) (T.Fails tree.old) }
 {
     if is_file(double) {
         read_double(alloc, tree, path)
@@ -193,6 +198,8 @@ pub(crate) fn read_plan<T: HostTree, B: ToldItems>(
         at.now.own at.now.double at.now.name.now at.now.path.now
         at.now.double_path.now)) }
     ensures held { OfEachTree (T.Holds tree.new) (T.Holds tree.old) }
+    ensures failed { IfErr result (IsFaultOf (T.Fails tree.old)) }
+    ensures later { FailLater (T.Fails tree.new) (T.Fails tree.old) }
 {
     let facts = told.told(at.path);
     match own_header(alloc, tree, how, at.own, at.path)? {

@@ -1,5 +1,6 @@
 //! The digests that the manifests of bags give for their files.
-ghost use Rattle.std.specs.Prelude.{◌≡◌, IfOk, OnOk, map};
+ghost use Rattle.std.specs.Prelude.{◌≡◌, IfOk, OnOk, map, IfErr};
+ghost use Rattle.hfs_put_sources.specs.Faults.{FailLater, IsFaultOf};
 ghost use Rattle.hfs_put_sources.specs.Trees.{OfEachTree};
 ghost use Rattle.hfs_put_sources.specs.Digests.{AreDigestsOf, digest_by_line, digest_by_lines, digest_by_source};
 ghost use Rattle.hfs_put_sources.specs.Later.{Tells, told_at};
@@ -72,6 +73,8 @@ fn note_source<T: HostTree>(
     ensures told { OnOk result (OfEachTree (T.Holds tree.new)
         (λ host. Tells (λ path. digest_by_source host path source.now) digests.old digests.new)) }
     ensures held { OfEachTree (T.Holds tree.new) (T.Holds tree.old) }
+    ensures failed { IfErr result (IsFaultOf (T.Fails tree.old)) }
+    ensures later { FailLater (T.Fails tree.new) (T.Fails tree.old) }
 {
     let text = tag_text(alloc, tree, source, "manifest-sha256.txt")?;
     let front = entry_path(alloc, source, "")?;
@@ -91,6 +94,8 @@ impl ManifestDigests {
         ensures digests { IfOk result (λ digests. OfEachTree (T.Holds tree.new)
             (AreDigestsOf (map (λ s. s.now) sources.now) digests)) }
         ensures held { OfEachTree (T.Holds tree.new) (T.Holds tree.old) }
+        ensures failed { IfErr result (IsFaultOf (T.Fails tree.old)) }
+        ensures later { FailLater (T.Fails tree.new) (T.Fails tree.old) }
     {
         let mut digests = ByPath::new(alloc);
         for source in sources {

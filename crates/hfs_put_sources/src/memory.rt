@@ -1,6 +1,6 @@
 //! A tree in memory.
 ghost use Rattle.std.specs.Prelude.{◌≡◌, ◌++◌, IfOk, OnOk, bytes_eq, find};
-ghost use Rattle.hfs_put_sources.specs.Nodes.{bytes_at, bytes_of, entry_in, entry_of, listed_in, look_at, node_at, tree_of};
+ghost use Rattle.hfs_put_sources.specs.Nodes.{IsNowhere, bytes_at, bytes_of, entry_in, entry_of, listed_in, look_at, node_at, tree_of};
 
 use crate::entry::{HostEntry, Look};
 use crate::fault::{HostFault, cannot_read};
@@ -85,6 +85,8 @@ impl<'a> HostTree for MemoryTree<'a> {
     ghost Holds = { λ memory tree. tree ≡ tree_of memory.nodes.now };
 
     ghost Opens = { λ memory path image. image ≡ bytes_at path memory.nodes.now };
+
+    ghost Fails = { λ memory. IsNowhere memory.nodes.now };
 
     type File = MemoryBytes<'a>;
 

@@ -1,5 +1,6 @@
 //! The items of sources, each of which is the path of a file, of a folder, or of a bag.
-ghost use Rattle.std.specs.Prelude.{◌≡◌, IfOk, map, string_bytes};
+ghost use Rattle.std.specs.Prelude.{◌≡◌, IfOk, map, string_bytes, IfErr};
+ghost use Rattle.hfs_put_sources.specs.Faults.{FailLater, IsFaultOf, IsListingFault, IsSourceFault};
 ghost use Rattle.hfs_put_sources.specs.Sources.{Gives, GivesBy, GiveAll, IsFolderListing, IsListing, beside, is_bag, named_plan, nameless, source_double, source_item, source_plan};
 ghost use Rattle.hfs_put_sources.specs.Trees.{OfEachTree};
 ghost use Rattle.std.specs.Path.{path_file_name};
@@ -49,6 +50,8 @@ fn named_plan<T: HostTree, B: ToldItems>(
     ensures plan { IfOk result (λ plan. OfEachTree (T.Holds tree.new)
         (λ host. plan ≡ named_plan host (B.told told.now) how source.now look name.now)) }
     ensures held { OfEachTree (T.Holds tree.new) (T.Holds tree.old) }
+    ensures failed { IfErr result (IsFaultOf (T.Fails tree.old)) }
+    ensures later { FailLater (T.Fails tree.new) (T.Fails tree.old) }
 {
     match behind_mark(name) {
         Some(own) => {
@@ -88,6 +91,8 @@ fn source_plan<T: HostTree, B: ToldItems>(
     ensures plan { IfOk result (λ plan. OfEachTree (T.Holds tree.new)
         (λ host. plan ≡ source_plan host (B.told told.now) how source.now look (path_file_name source.now))) }
     ensures held { OfEachTree (T.Holds tree.new) (T.Holds tree.old) }
+    ensures failed { IfErr result (IsFaultOf (T.Fails tree.old)) }
+    ensures later { FailLater (T.Fails tree.new) (T.Fails tree.old) }
 {
     match Path::new(source).file_name() {
         Some(name) => named_plan(alloc, tree, told, how, source, look, name),
@@ -123,6 +128,8 @@ fn source_item<T: HostTree, B: ToldItems>(
     ensures item { IfOk result (λ item. OfEachTree (T.Holds tree.new)
         (λ host. item ≡ source_item host (B.told told.now) how source.now look)) }
     ensures held { OfEachTree (T.Holds tree.new) (T.Holds tree.old) }
+    ensures failed { IfErr result (IsFaultOf (T.Fails tree.old)) }
+    ensures later { FailLater (T.Fails tree.new) (T.Fails tree.old) }
 {
     let plan = source_plan(alloc, tree, told, how, source, look)?;
     let path = String::from_str(alloc, source)?;
@@ -141,6 +148,8 @@ pub fn is_bag<T: HostTree>(
     ensures bag { IfOk result (λ found. OfEachTree (T.Holds tree.new)
         (λ host. found ≡ is_bag host source.now look)) }
     ensures held { OfEachTree (T.Holds tree.new) (T.Holds tree.old) }
+    ensures failed { IfErr result (IsFaultOf (T.Fails tree.old)) }
+    ensures later { FailLater (T.Fails tree.new) (T.Fails tree.old) }
 {
     if !is_folder(Some(look)) {
         return Ok(false);
@@ -164,6 +173,8 @@ fn given_by<T: HostTree, B: ToldItems>(
     ensures items { IfOk result (λ items. OfEachTree (T.Holds tree.new)
         (λ host. GivesBy (is_bag host source.now look) host (B.told told.now) how source.now look items.items)) }
     ensures held { OfEachTree (T.Holds tree.new) (T.Holds tree.old) }
+    ensures failed { IfErr result (IsFaultOf (T.Fails tree.old)) }
+    ensures later { FailLater (T.Fails tree.new) (T.Fails tree.old) }
 {
     if is_bag(alloc, tree, source, look)? {
         let payload = entry_path(alloc, source, "data")?;
@@ -190,6 +201,8 @@ fn gives<T: HostTree, B: ToldItems>(
     ensures items { IfOk result (λ items. OfEachTree (T.Holds tree.new)
         (λ host. Gives host (B.told told.now) how source.now items.items)) }
     ensures held { OfEachTree (T.Holds tree.new) (T.Holds tree.old) }
+    ensures failed { IfErr result (IsSourceFault (T.Fails tree.old) (T.Holds tree.new) source.now) }
+    ensures later { FailLater (T.Fails tree.new) (T.Fails tree.old) }
 {
     match tree.target(alloc, source)? {
         Some(look) => given_by(alloc, tree, told, how, source, look),
@@ -208,6 +221,9 @@ fn give_all<T: HostTree, B: ToldItems>(
     ensures items { IfOk result (λ items. OfEachTree (T.Holds tree.new)
         (λ host. GiveAll host (B.told told.now) how (map (λ s. s.now) sources.now) items.items)) }
     ensures held { OfEachTree (T.Holds tree.new) (T.Holds tree.old) }
+    ensures failed { IfErr result (IsListingFault (T.Fails tree.old) (T.Holds tree.new)
+        (map (λ s. s.now) sources.now)) }
+    ensures later { FailLater (T.Fails tree.new) (T.Fails tree.old) }
 {
     let mut items = Vec::new(alloc);
     for source in sources {
@@ -231,6 +247,9 @@ pub fn list_sources<T: HostTree, B: ToldItems>(
     ensures items { IfOk result (λ items. OfEachTree (T.Holds tree.new)
         (λ host. IsListing host (B.told told.now) how (map (λ s. s.now) sources.now) items.items)) }
     ensures held { OfEachTree (T.Holds tree.new) (T.Holds tree.old) }
+    ensures failed { IfErr result (IsListingFault (T.Fails tree.old) (T.Holds tree.new)
+        (map (λ s. s.now) sources.now)) }
+    ensures later { FailLater (T.Fails tree.new) (T.Fails tree.old) }
 {
     let top = give_all(alloc, tree, told, how, sources)?;
     walk(alloc, tree, told, how, top)
@@ -248,6 +267,8 @@ pub fn list_folder<T: HostTree, B: ToldItems>(
     ensures items { IfOk result (λ items. OfEachTree (T.Holds tree.new)
         (λ host. IsFolderListing host (B.told told.now) how path.now items.items)) }
     ensures held { OfEachTree (T.Holds tree.new) (T.Holds tree.old) }
+    ensures failed { IfErr result (IsFaultOf (T.Fails tree.old)) }
+    ensures later { FailLater (T.Fails tree.new) (T.Fails tree.old) }
 {
     let folder = FolderPlace { path, place: None };
     let top = items_in(alloc, tree, told, how, &folder)?;

@@ -99,6 +99,8 @@ impl<R: Files> HostTree for SystemTree<'_, R> {
 
     ghost Opens = { λ _ _ _. ⊤ };
 
+    ghost Fails = { λ _ _. ⊤ };
+
     type File = SeekableBytes<TrustedFile<R::File>>;
 
     fn list(&mut self, alloc: Global, folder: &str) -> Result<Vec<HostEntry>, HostFault> {

@@ -1,5 +1,6 @@
 //! The tag files of a bag that is a source.
-ghost use Rattle.std.specs.Prelude.{◌≡◌, IfOk};
+ghost use Rattle.std.specs.Prelude.{◌≡◌, IfOk, IfErr};
+ghost use Rattle.hfs_put_sources.specs.Faults.{FailLater, IsFaultOf};
 ghost use Rattle.hfs_put_sources.specs.Trees.{OfEachTree};
 ghost use Rattle.hfs_put_sources.specs.Tags.{leads_to_bag, tag_text, without_return};
 
@@ -19,10 +20,13 @@ pub(crate) fn without_return(line: &[u8]) -> &[u8]
 }
 
 /// All bytes of a file. Faults: `CannotRead` of its path, `NoMemory`.
+#[tactic(auto, using(crate::proofs::FileReads::read_whole_failed))]
 fn file_bytes<T: HostTree>(alloc: Global, tree: &mut T, path: &str) -> Result<Vec<u8>, HostFault>
     ensures bytes { IfOk result (λ bytes. OfEachTree (T.Holds tree.new)
         (λ host. bytes.items ≡ host.bytes path.now)) }
     ensures held { OfEachTree (T.Holds tree.new) (T.Holds tree.old) }
+    ensures failed { IfErr result (IsFaultOf (T.Fails tree.old)) }
+    ensures later { FailLater (T.Fails tree.new) (T.Fails tree.old) }
 {
     let mut file = tree.open(alloc, path)?;
     let Ok(mut bytes) = vec![in alloc; 0u8; file.len() as usize] else {
@@ -40,6 +44,8 @@ fn leads_to_bag<T: HostTree>(alloc: Global, tree: &mut T, source: &str) -> Resul
     ensures bag { IfOk result (λ found. OfEachTree (T.Holds tree.new)
         (λ host. found ≡ leads_to_bag host source.now (host.target source.now))) }
     ensures held { OfEachTree (T.Holds tree.new) (T.Holds tree.old) }
+    ensures failed { IfErr result (IsFaultOf (T.Fails tree.old)) }
+    ensures later { FailLater (T.Fails tree.new) (T.Fails tree.old) }
 {
     match tree.target(alloc, source)? {
         Some(look) => is_bag(alloc, tree, source, look),
@@ -58,6 +64,8 @@ pub(crate) fn tag_text<T: HostTree>(
     ensures text { IfOk result (λ text. OfEachTree (T.Holds tree.new)
         (λ host. text.items ≡ tag_text host source.now name.now)) }
     ensures held { OfEachTree (T.Holds tree.new) (T.Holds tree.old) }
+    ensures failed { IfErr result (IsFaultOf (T.Fails tree.old)) }
+    ensures later { FailLater (T.Fails tree.new) (T.Fails tree.old) }
 {
     let path = entry_path(alloc, source, name)?;
     if !leads_to_bag(alloc, tree, source)? {

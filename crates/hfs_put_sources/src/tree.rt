@@ -1,6 +1,8 @@
 //! The trait of a host's trees.
-ghost use Rattle.std.specs.Prelude.{◌≡◌, ℕ, List, IfOk, OnOk};
+ghost use Rattle.std.specs.Prelude.{◌≡◌, ℕ, List, IfErr, IfOk, OnOk};
 ghost use Rattle.hfs_source.specs.Images.{OfEach};
+ghost use Rattle.hfs_put_sources.specs.declared.fault.HostFault.{HostFault};
+ghost use Rattle.hfs_put_sources.specs.Faults.{FailLater, FailsWith, IsFaultOf};
 ghost use Rattle.hfs_put_sources.specs.Trees.{OfEachTree, Tree};
 
 use crate::entry::{HostEntry, Look};
@@ -17,6 +19,9 @@ pub trait HostTree {
     /// The bytes that a file opened by a path may have.
     ghost Opens: { Self → List ℕ → List ℕ → Type 0 };
 
+    /// The faults that a read may have, besides `NoMemory`.
+    ghost Fails: { Self → HostFault → Type 0 };
+
     /// A file that was opened.
     type File: PlacedBytes + Drop;
 
@@ -25,30 +30,42 @@ pub trait HostTree {
     fn list(&mut self, alloc: Global, folder: &str) -> Result<Vec<HostEntry>, HostFault>
         ensures listed { IfOk result (λ entries. OfEachTree (Holds self.new)
             (λ tree. entries.items ≡ tree.entries folder.now)) }
-        ensures held { OfEachTree (Holds self.new) (Holds self.old) };
+        ensures held { OfEachTree (Holds self.new) (Holds self.old) }
+        ensures failed { IfErr result (IsFaultOf (Fails self.old)) }
+        ensures later { FailLater (Fails self.new) (Fails self.old) };
 
     /// What is seen at a path; None if nothing has it. A link is seen itself. Faults: `CannotRead` of the path, `NoMemory`.
     fn look(&mut self, alloc: Global, path: &str) -> Result<Option<Look>, HostFault>
         ensures seen { IfOk result (λ look. OfEachTree (Holds self.new)
             (λ tree. look ≡ tree.look path.now)) }
-        ensures held { OfEachTree (Holds self.new) (Holds self.old) };
+        ensures held { OfEachTree (Holds self.new) (Holds self.old) }
+        ensures failed { IfErr result (IsFaultOf (Fails self.old)) }
+        ensures later { FailLater (Fails self.new) (Fails self.old) };
 
     /// What a path leads to; None if it leads to nothing. Faults: as for `look`.
     fn target(&mut self, alloc: Global, path: &str) -> Result<Option<Look>, HostFault>
         ensures seen { IfOk result (λ look. OfEachTree (Holds self.new)
             (λ tree. look ≡ tree.target path.now)) }
-        ensures held { OfEachTree (Holds self.new) (Holds self.old) };
+        ensures held { OfEachTree (Holds self.new) (Holds self.old) }
+        ensures failed { IfErr result (IsFaultOf (Fails self.old)) }
+        ensures later { FailLater (Fails self.new) (Fails self.old) };
 
-    /// Opens the file at a path, to be read by position. Faults: `CannotRead` of the path, `NoMemory`.
+    /// Opens the file at a path, to be read by position. Faults: `CannotRead` of the path, `NoMemory`. If a read of bytes that it
+    /// has fails, `CannotRead` of the path is a fault of the tree.
     fn open(&mut self, alloc: Global, path: &str) -> Result<Self::File, HostFault>
         ensures opened { IfOk result (λ file. OfEach (Self.File.Holds file)
             (Opens self.new path.now)) }
-        ensures held { OfEachTree (Holds self.new) (Holds self.old) };
+        ensures unread { IfOk result (FailsWith Self.File.Holds Self.File.Fails
+            (Fails self.old) path.now) }
+        ensures held { OfEachTree (Holds self.new) (Holds self.old) }
+        ensures failed { IfErr result (IsFaultOf (Fails self.old)) }
+        ensures later { FailLater (Fails self.new) (Fails self.old) };
 
     /// Takes back a file that was opened by this path; what was read from it is the tree's.
     fn take_back(&mut self, path: &str, file: Self::File)
         requires opened { OfEach (Self.File.Holds file) (Opens self.old path.now) }
         ensures bytes { OfEachTree (Holds self.new)
             (λ tree. Self.File.Holds file (tree.bytes path.now)) }
-        ensures held { OfEachTree (Holds self.new) (Holds self.old) };
+        ensures held { OfEachTree (Holds self.new) (Holds self.old) }
+        ensures later { FailLater (Fails self.new) (Fails self.old) };
 }

@@ -1,5 +1,6 @@
 //! The walk over everything that is to be put.
-ghost use Rattle.std.specs.Prelude.{◌≡◌, IfOk};
+ghost use Rattle.std.specs.Prelude.{◌≡◌, IfOk, IfErr};
+ghost use Rattle.hfs_put_sources.specs.Faults.{FailLater, IsFaultOf};
 ghost use Rattle.hfs_put_sources.specs.Trees.{OfEachTree};
 ghost use Rattle.hfs_put_sources.specs.Walks.{AreInside, IsWalk, is_entered, with_twins};
 
@@ -32,6 +33,8 @@ fn items_inside<T: HostTree, B: ToldItems>(
     ensures inside { IfOk result (λ inside. OfEachTree (T.Holds tree.new)
         (λ host. AreInside host (B.told told.now) how place item.now inside.items)) }
     ensures held { OfEachTree (T.Holds tree.new) (T.Holds tree.old) }
+    ensures failed { IfErr result (IsFaultOf (T.Fails tree.old)) }
+    ensures later { FailLater (T.Fails tree.new) (T.Fails tree.old) }
 {
     if !is_entered(&item.plan()) {
         return Ok(Vec::new(alloc));
@@ -55,6 +58,8 @@ pub fn walk<T: HostTree, B: ToldItems>(
     ensures items { IfOk result (λ items. OfEachTree (T.Holds tree.new)
         (λ host. IsWalk host (B.told told.now) how 0 (with_twins top.items) items.items)) }
     ensures held { OfEachTree (T.Holds tree.new) (T.Holds tree.old) }
+    ensures failed { IfErr result (IsFaultOf (T.Fails tree.old)) }
+    ensures later { FailLater (T.Fails tree.new) (T.Fails tree.old) }
 {
     let mut items = Vec::new(alloc);
     let mut todo = Vec::new(alloc);

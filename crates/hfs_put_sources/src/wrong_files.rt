@@ -1,6 +1,7 @@
 //! Files of bags whose bytes have another digest than their manifests give.
-ghost use Rattle.std.specs.Prelude.{◌≡◌, IfOk, option_map};
+ghost use Rattle.std.specs.Prelude.{◌≡◌, IfOk, option_map, IfErr};
 ghost use Rattle.sha2.specs.Sha256.{sha256};
+ghost use Rattle.hfs_put_sources.specs.Faults.{FailLater, IsFaultOf};
 ghost use Rattle.hfs_put_sources.specs.Trees.{OfEachTree};
 ghost use Rattle.hfs_put_sources.specs.Digests.{double_path, first_wrong, is_wrong, own_path, wrong_at, wrong_of};
 ghost use Rattle.hfs_put_sources.specs.Later.{told_at};
@@ -15,6 +16,8 @@ fn digest_at<T: HostTree>(alloc: Global, tree: &mut T, path: &str) -> Result<[u8
     ensures digest { IfOk result (λ digest. OfEachTree (T.Holds tree.new)
         (λ host. digest ≡ sha256 (host.bytes path.now))) }
     ensures held { OfEachTree (T.Holds tree.new) (T.Holds tree.old) }
+    ensures failed { IfErr result (IsFaultOf (T.Fails tree.old)) }
+    ensures later { FailLater (T.Fails tree.new) (T.Fails tree.old) }
 {
     let mut file = tree.open(alloc, path)?;
     let Ok(digest) = file_digest(&mut file) else {
@@ -34,6 +37,8 @@ fn is_wrong<T: HostTree>(
     ensures wrong { IfOk result (λ wrong. OfEachTree (T.Holds tree.new)
         (λ host. wrong ≡ is_wrong host (told_at manifests.now path.now) path.now)) }
     ensures held { OfEachTree (T.Holds tree.new) (T.Holds tree.old) }
+    ensures failed { IfErr result (IsFaultOf (T.Fails tree.old)) }
+    ensures later { FailLater (T.Fails tree.new) (T.Fails tree.old) }
 {
     match manifests.digest(path) {
         Some(told) => Ok(digest_at(alloc, tree, path)? != told),
@@ -52,6 +57,8 @@ fn wrong_at<'a, T: HostTree>(
         (λ host. option_map (λ p. p.now) wrong
         ≡ wrong_at host (told_at manifests.now) (option_map (λ p. p.now) path.entry))) }
     ensures held { OfEachTree (T.Holds tree.new) (T.Holds tree.old) }
+    ensures failed { IfErr result (IsFaultOf (T.Fails tree.old)) }
+    ensures later { FailLater (T.Fails tree.new) (T.Fails tree.old) }
 {
     let Some(path) = path else {
         return Ok(None);
@@ -95,6 +102,8 @@ fn wrong_of<'a, T: HostTree>(
     ensures wrong { IfOk result (λ wrong. OfEachTree (T.Holds tree.new)
         (λ host. option_map (λ p. p.now) wrong ≡ wrong_of host (told_at manifests.now) item.now)) }
     ensures held { OfEachTree (T.Holds tree.new) (T.Holds tree.old) }
+    ensures failed { IfErr result (IsFaultOf (T.Fails tree.old)) }
+    ensures later { FailLater (T.Fails tree.new) (T.Fails tree.old) }
 {
     match wrong_at(alloc, tree, manifests, own_path(item))? {
         Some(path) => Ok(Some(path)),
@@ -114,6 +123,8 @@ pub fn first_wrong_file<'a, T: HostTree>(
     ensures wrong { IfOk result (λ wrong. OfEachTree (T.Holds tree.new)
         (λ host. option_map (λ p. p.now) wrong ≡ first_wrong host (told_at manifests.now) items.now)) }
     ensures held { OfEachTree (T.Holds tree.new) (T.Holds tree.old) }
+    ensures failed { IfErr result (IsFaultOf (T.Fails tree.old)) }
+    ensures later { FailLater (T.Fails tree.new) (T.Fails tree.old) }
 {
     for item in items {
         if let Some(path) = wrong_of(alloc, tree, manifests, item)? {

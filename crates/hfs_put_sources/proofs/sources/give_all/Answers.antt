@@ -14,6 +14,7 @@ loop-source-preserved g c =
           c.in_ok-more.ensures.items (at_drop_more (map (λ s. s.now)) sources place _ c.loop-source-test.true) c.in_ok-append.ensures.items
           c.loop-source.invariant.given;
       held = λ host h. c.loop-source.invariant.held host (c.in_ok-more.ensures.held host h);
+      later = λ fault f. c.loop-source.invariant.later fault (c.in_ok-more.ensures.later fault f);
     }
 
 pub returns-clause-items : goal.returns-clause-items

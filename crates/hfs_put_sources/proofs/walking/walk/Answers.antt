@@ -9,6 +9,7 @@ loop-init g c = record {
   goes = goes-first (g.B.ToldItems.told c.args.told.now) c.args.how (g.T.HostTree.Holds c.args.tree.now) c.new-items.result.items c.lay_on.new.todo.items c.new-todo.result.items
       (with_twins c.args.top.items) c.new-items.ensures.items c.new-todo.ensures.items c.in_ok-lay_on.ensures;
   held = λ host h. h;
+  later = λ fault f. f;
 }
 
 pub returns-in_default-clause-items : goal.returns-in_default-clause-items
@@ -29,4 +30,5 @@ loop-preserved g c =
           (λ host h. subst (λ (n : ℕ). AreInside host told c.args.how n item inside) place (c.in_ok-inside.ensures.inside host h))
           c.in-Some.ensures.items c.in_ok-lay_on-2.ensures c.in_ok-push.ensures.items c.loop.invariant.goes;
       held = λ host h. c.loop.invariant.held host (c.in_ok-inside.ensures.held host h);
+      later = λ fault f. c.loop.invariant.later fault (c.in_ok-inside.ensures.later fault f);
     }

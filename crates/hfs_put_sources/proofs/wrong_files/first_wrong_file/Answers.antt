@@ -30,6 +30,7 @@ loop-item-preserved g c =
           (c.in_ok-path.ensures.wrong host h) (ap (option_map (λ (p : Bor (List ℕ)). p.now)) c.in_default.is)
           ∙ c.loop-item.invariant.right host (c.in_ok-path.ensures.held host h);
       held = λ host h. c.loop-item.invariant.held host (c.in_ok-path.ensures.held host h);
+      later = λ fault f. c.loop-item.invariant.later fault (c.in_ok-path.ensures.later fault f);
     }
 
 pub returns-clause-wrong : goal.returns-clause-wrong

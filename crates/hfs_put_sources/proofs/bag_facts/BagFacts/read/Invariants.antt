@@ -1,5 +1,6 @@
 -- What the sources told so far, and behind it what those tell that are left.
 use Rattle.std.proofs.Common.{[], drop, map}
+use Rattle.hfs_put_sources.specs.Faults.{FailLater}
 use Rattle.hfs_put_sources.specs.Trees.{OfEachTree}
 use Rattle.hfs_put_sources.specs.Told.{told_by_source}
 use Rattle.hfs_put_sources.proofs.LaterLemmas.{TellsOn}
@@ -10,4 +11,5 @@ invariant-loop-source g l = record {
   told : OfEachTree (g.T.HostTree.Holds l.tree)
       (λ host. TellsOn (told_by_source host) (map (λ s. s.now) (drop l.source-index l.sources)) (map (λ s. s.now) l.sources) [] l.facts);
   held : OfEachTree (g.T.HostTree.Holds l.tree) (g.T.HostTree.Holds l.fn.tree);
+  later : FailLater (g.T.HostTree.Fails l.tree) (g.T.HostTree.Fails l.fn.tree);
 }

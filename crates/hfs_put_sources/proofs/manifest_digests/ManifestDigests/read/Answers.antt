@@ -9,6 +9,7 @@ pub loop-source-init : goal.loop-source-init
 loop-source-init g c = record {
   told = λ host h. on-first (digest_by_source host) (map (λ s. s.now) c.args.sources.now) [] c.new-digests.result c.new-digests.ensures;
   held = λ host h. h;
+  later = λ fault f. f;
 }
 
 pub loop-source-preserved : goal.loop-source-preserved
@@ -21,6 +22,7 @@ loop-source-preserved g c =
           c.loop-source.digests c.note_source.new.digests (at_drop_more (map (λ s. s.now)) sources place _ c.loop-source-test.true)
           (c.in_ok-note_source.ensures.told host h) (c.loop-source.invariant.told host (c.in_ok-note_source.ensures.held host h));
       held = λ host h. c.loop-source.invariant.held host (c.in_ok-note_source.ensures.held host h);
+      later = λ fault f. c.loop-source.invariant.later fault (c.in_ok-note_source.ensures.later fault f);
     }
 
 pub returns-clause-digests : goal.returns-clause-digests
