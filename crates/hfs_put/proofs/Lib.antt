@@ -31,6 +31,8 @@ mod LaidFiles
 mod BesideRuns
 mod SavedRuns
 mod PutOver
+mod WrittenBlocks
+mod UnchangedFiles
 pub mod LaidLemmas
 mod FilledLemmas
 mod OrderLemmas

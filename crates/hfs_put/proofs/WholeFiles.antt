@@ -148,9 +148,8 @@ module _ (copy : List ℕ) (target now : ℕ) (items : List PlannedItem) (places
   image-is : bytes_in place.range (put_file place patch host items runs file) ≡ middle
   image-is = ap (bytes_in place.range) saved-is ∙ take-middle head middle behind start len long-head length-middle
 
-  pub is-file-put : IsFilePut target now arrivals ids place file (put_file place patch host items runs file)
+  pub is-file-put : IsFilePut target now arrivals ids list.over.written place file (put_file place patch host items runs file)
   is-file-put = record {
-    written = list.over.written;
     image = subst (λ (bytes : List ℕ). IsPut target now arrivals ids list.over.written own bytes) (sym image-is) puts;
     before = ap (take start) saved-is ∙ take-head head middle behind start len long-head length-middle
         ∙ ap (λ (bytes : List ℕ). head_with place.sum_at bytes (take start file)) (sym image-is);

@@ -1,9 +1,11 @@
 -- Files of a host that are as they were seen.
-use Rattle.std.specs.Prelude.{◌≡◌, ℕ, if◌then◌else◌, List, Option, Some, None, ⊤}
+use Rattle.std.specs.Prelude.{◌≡◌, ◌⊎◌, ℕ, if◌then◌else◌, List, Option, Some, None, ⊤}
 use Rattle.std.specs.List.{All}
 use Rattle.hfs_put_sources.specs.Items.{PlannedItem}
 use Rattle.hfs_put_sources.specs.Plans.{is_file}
-use Rattle.hfs_put_sources.specs.Trees.{Tree}
+use Rattle.hfs_put_sources.specs.Faults.{IsFaultOf}
+use Rattle.hfs_put_sources.specs.Trees.{OfEachTree, Tree}
+use Rattle.hfs_put_sources.specs.declared.fault.HostFault.{HostFault}
 use Rattle.hfs_put_sources.specs.declared.entry.Look.{Look}
 
 -- the path leads to what was seen: to a file as long as it was, and changed when that was
@@ -24,3 +26,7 @@ pub record IsUnchanged (host : Tree) (item : PlannedItem) : Type 0 where
 -- the files of all items are
 abbrev pub AreUnchanged : List PlannedItem → Tree → Type 0
 AreUnchanged items host = All (IsUnchanged host) items
+
+-- the fault is one that the tree may have; or in none of these trees it is so
+abbrev pub IsFaultUnless : (HostFault → Type 0) → (Tree → Type 0) → (Tree → Type 0) → HostFault → Type 0
+IsFaultUnless Fails Hosts Fact fault = IsFaultOf Fails fault ⊎ OfEachTree Hosts (λ host. ¬ (Fact host))

@@ -27,7 +27,8 @@ use Rattle.hfs_put.specs.Arrivals.{arrivals_of}
 pub record IsPutList (copy : List ℕ) (target now : ℕ) (items : List PlannedItem) (places : List PutItem) (patch : Numbered) (runs : List ForkRun) (ids : List ℕ) : Type 0 where
   pub replace : Bool
   pub placed : map item_put (decisions (volume_of copy) target replace items) ≡ map Some places
-  pub over : IsPutOver copy target now places patch runs ids
+  pub current : List ℕ
+  pub over : IsPutOver copy current target now places patch runs ids
 
 -- the four bytes of a sum precede an image that begins at this byte
 abbrev pub IsSumBefore : Option ℕ → ℕ → Type 0
@@ -47,10 +48,9 @@ abbrev pub put_file : ImagePlace → Numbered → Tree → List PlannedItem → 
 put_file place patch host items runs file = file_with place patch (laid place.range.start host items runs file)
 
 -- In the image's place is what the File Manager makes of the image's volume by the list, except for the bytes of forks of other
--- files. Before it are the file's own bytes, with the sum of what is there now, and after it the file's own.
-pub record IsFilePut (target now : ℕ) (arrivals : List Arrival) (ids : List ℕ) (place : ImagePlace) (file saved : List ℕ) : Type 0 where
-  -- the blocks of forks that calls wrote
-  pub written : List ℕ
+-- files, and where calls wrote these blocks of forks. Before it are the file's own bytes, with the sum of what is there now, and
+-- after it the file's own.
+pub record IsFilePut (target now : ℕ) (arrivals : List Arrival) (ids written : List ℕ) (place : ImagePlace) (file saved : List ℕ) : Type 0 where
   pub image : IsPut target now arrivals ids written (bytes_in place.range file) (bytes_in place.range saved)
   pub before : take place.range.start saved ≡ head_with place.sum_at (bytes_in place.range saved) (take place.range.start file)
   pub behind : drop (place.range.start + place.range.len) saved ≡ drop (place.range.start + place.range.len) file
@@ -61,9 +61,9 @@ pub record IsFilePut (target now : ℕ) (arrivals : List Arrival) (ids : List �
 abbrev pub PutFilesHoldPut : Type 0
 PutFilesHoldPut =
     (copy : List ℕ) (target now : ℕ) (items : List PlannedItem) (places : List PutItem) (patch : Numbered) (runs : List ForkRun) (ids : List ℕ)
-    (place : ImagePlace) (file : List ℕ) (host : Tree) → IsPutList copy target now items places patch runs ids
+    (place : ImagePlace) (file : List ℕ) (host : Tree) (list : IsPutList copy target now items places patch runs ids)
     → AreWithin (changes patch) (place.range.len / 512) → IsImageOf copy place file
-    → IsFilePut target now (arrivals_of host items places) ids place file (put_file place patch host items runs file)
+    → IsFilePut target now (arrivals_of host items places) ids list.over.written place file (put_file place patch host items runs file)
 
 -- and where the volume's master directory block is told that is saved, it stands in the image's place
 abbrev pub PutFilesHaveDirectory : Type 0

@@ -1,7 +1,8 @@
 //! A second look at the files of a host, after the last read.
-ghost use Rattle.std.specs.Prelude.{◌≡◌, ◌↔◌, IsTrue, OnOk, Some};
+ghost use Rattle.std.specs.Prelude.{◌≡◌, ◌↔◌, IfErr, IsTrue, OnOk, Some};
+ghost use Rattle.hfs_put_sources.specs.Faults.{FailLater};
 ghost use Rattle.hfs_put_sources.specs.Trees.{OfEachTree};
-ghost use Rattle.hfs_put.specs.Again.{AreUnchanged, IsAsSeen, IsUnchanged, seen_file};
+ghost use Rattle.hfs_put.specs.Again.{AreUnchanged, IsAsSeen, IsFaultUnless, IsUnchanged, seen_file};
 
 use hfs_put_plan::EntryKind;
 use hfs_put_sources::{HostFault, HostTime, HostTree, Look, SourceItem, cannot_read};
@@ -53,6 +54,9 @@ fn look_at_path<T: HostTree>(
 ) -> Result<(), HostFault>
     ensures same { OnOk result (OfEachTree (T.Holds tree.new) (λ host. host.target path.now ≡ Some seen)) }
     ensures held { OfEachTree (T.Holds tree.new) (T.Holds tree.old) }
+    ensures failed { IfErr result (IsFaultUnless (T.Fails tree.old) (T.Holds tree.new)
+        (λ host. host.target path.now ≡ Some seen)) }
+    ensures later { FailLater (T.Fails tree.new) (T.Fails tree.old) }
 {
     match tree.target(alloc, path)? {
         Some(look) => {
@@ -90,6 +94,9 @@ fn look_at_file<T: HostTree>(
     ensures same { OnOk result (OfEachTree (T.Holds tree.new)
         (λ host. IsAsSeen host (Some path.now) (seen_file seen))) }
     ensures held { OfEachTree (T.Holds tree.new) (T.Holds tree.old) }
+    ensures failed { IfErr result (IsFaultUnless (T.Fails tree.old) (T.Holds tree.new)
+        (λ host. IsAsSeen host (Some path.now) (seen_file seen))) }
+    ensures later { FailLater (T.Fails tree.new) (T.Fails tree.old) }
 {
     match seen_file(seen) {
         Some(look) => look_at_path(alloc, tree, path, look),
@@ -105,6 +112,9 @@ fn look_at_item<T: HostTree>(
 ) -> Result<(), HostFault>
     ensures same { OnOk result (OfEachTree (T.Holds tree.new) (λ host. IsUnchanged host item.now)) }
     ensures held { OfEachTree (T.Holds tree.new) (T.Holds tree.old) }
+    ensures failed { IfErr result (IsFaultUnless (T.Fails tree.old) (T.Holds tree.new)
+        (λ host. IsUnchanged host item.now)) }
+    ensures later { FailLater (T.Fails tree.new) (T.Fails tree.old) }
 {
     let plan = item.plan();
     look_at_file(alloc, tree, item.path(), plan.own)?;
@@ -123,6 +133,9 @@ pub fn look_again<T: HostTree>(
 ) -> Result<(), HostFault>
     ensures same { OnOk result (OfEachTree (T.Holds tree.new) (AreUnchanged items.now)) }
     ensures held { OfEachTree (T.Holds tree.new) (T.Holds tree.old) }
+    ensures failed { IfErr result (IsFaultUnless (T.Fails tree.old) (T.Holds tree.new)
+        (AreUnchanged items.now)) }
+    ensures later { FailLater (T.Fails tree.new) (T.Fails tree.old) }
 {
     for item in items {
         look_at_item(alloc, tree, item)?;

@@ -53,7 +53,7 @@ pub fn put_items(
     items: &[PutItem],
 ) -> Result<PutBlocks, LayFault>
     requires { volume.old.current ≡ volume.old.base }
-    ensures put { IfOk result (λ put. IsPutOver volume.old.base target now items.now
+    ensures put { IfOk result (λ put. IsPutOver volume.old.base volume.new.current target now items.now
         put.patch put.runs.items put.ids.items) }
     ensures directory { IfOk result (λ put. HasDirectory volume.old.base items.now
         put.patch put.runs.items (mdb_in (block_at volume.new.current))) }

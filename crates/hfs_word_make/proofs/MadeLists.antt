@@ -1,6 +1,7 @@
 -- What was listed for a new volume, and was put on it or not.
 use Rattle.std.proofs.Common.{◌≡◌, ◌∙◌, ℕ, List, map, Option, None, sym, ap, subst, inl, inr}
 use Rattle.std.specs.Borrow.{Bor}
+use Rattle.hfs_put_sources.specs.declared.fault.HostFault.{HostFault}
 use Rattle.hfs_put_sources.specs.Digests.{first_wrong}
 use Rattle.hfs_put_sources.specs.Later.{Entries, told_at}
 use Rattle.hfs_format.specs.declared.planned_image.PlannedImage.{PlannedImage}
@@ -51,9 +52,9 @@ listed-then Hosts Then order items digests wanted held is = record {
 }
 
 -- it was put on no volume
-pub unput-list : (path : Bor (List ℕ)) (Hosts : Tree → Type 0) (order : MakeOrder) (items lent : List PlannedItem) (digests : Entries (List ℕ)) (wanted : NewVolume) (told : PutFault)
-    → IsNotFilled path wanted order lent told → lent ≡ items → IsListedFor Hosts order items digests wanted → IsUnmadeList path Hosts order told
-unput-list path Hosts order items lent digests wanted told unput e listed =
+pub unput-list : (path : Bor (List ℕ)) (Fails : HostFault → Type 0) (Hosts : Tree → Type 0) (order : MakeOrder) (items lent : List PlannedItem) (digests : Entries (List ℕ)) (wanted : NewVolume) (told : PutFault)
+    → IsNotFilled path wanted order lent told → lent ≡ items → IsListedFor Hosts order items digests wanted → IsUnmadeList path Fails Hosts order told
+unput-list path Fails Hosts order items lent digests wanted told unput e listed =
     inr (inr (inr (inl (record {
       items = items;
       digests = digests;
@@ -63,10 +64,10 @@ unput-list path Hosts order items lent digests wanted told unput e listed =
     }))))
 
 -- it was put on one, but a file has another digest
-pub unverified-list : (path : Bor (List ℕ)) (Hosts : Tree → Type 0) (order : MakeOrder) (items lent read : List PlannedItem) (digests : Entries (List ℕ)) (wanted : NewVolume)
-    (planned : PlannedImage) (list : PutList) (told : PutFault) → IsFilled wanted order lent planned list → lent ≡ items → IsUnverified Hosts digests read told → read ≡ items
-    → IsListedFor Hosts order items digests wanted → IsUnmadeList path Hosts order told
-unverified-list path Hosts order items lent read digests wanted planned list told filled e-lent unverified e-read listed =
+pub unverified-list : (path : Bor (List ℕ)) (Fails : HostFault → Type 0) (Hosts : Tree → Type 0) (order : MakeOrder) (items lent read : List PlannedItem) (digests : Entries (List ℕ)) (wanted : NewVolume)
+    (planned : PlannedImage) (list : PutList) (told : PutFault) → IsFilled wanted order lent planned list → lent ≡ items → IsUnverified Fails Hosts digests read told → read ≡ items
+    → IsListedFor Hosts order items digests wanted → IsUnmadeList path Fails Hosts order told
+unverified-list path Fails Hosts order items lent read digests wanted planned list told filled e-lent unverified e-read listed =
     inr (inr (inr (inr (record {
       items = items;
       digests = digests;
@@ -75,7 +76,7 @@ unverified-list path Hosts order items lent read digests wanted planned list tol
       list = list;
       listed = listed;
       filled = subst (λ (own : List PlannedItem). IsFilled wanted order own planned list) e-lent filled;
-      unverified = subst (λ (own : List PlannedItem). IsUnverified Hosts digests own told) e-read unverified;
+      unverified = subst (λ (own : List PlannedItem). IsUnverified Fails Hosts digests own told) e-read unverified;
     }))))
 
 -- or each file has the digest that is told of it

@@ -65,7 +65,7 @@ module _ (Hosts : Tree → Type 0) (order : MakeOrder) (items : List PlannedItem
   placed = put.done.list
 
   is-list : IsPutList put.copy placed.target order.now items placed.places.items list.blocks.patch list.blocks.runs.items list.blocks.ids.items
-  is-list = record { replace = false; placed = put.done.placed.places; over = put.done.over }
+  is-list = record { replace = false; placed = put.done.placed.places; current = put.current; over = put.done.over }
 
   own : bytes_in (own_place planned).range image ≡ image
   own = take_all (length image) image (omega arith)
@@ -74,10 +74,10 @@ module _ (Hosts : Tree → Type 0) (order : MakeOrder) (items : List PlannedItem
   is-image = record { inside = omega arith; sum_before = tt; copied = subst (IsWorkingCopy put.copy) (sym own) put.copied }
 
   holds : (host : Tree)
-      → IsFilePut 2 order.now (arrivals_of host items placed.places.items) list.blocks.ids.items (own_place planned) image
+      → IsFilePut 2 order.now (arrivals_of host items placed.places.items) list.blocks.ids.items put.done.over.written (own_place planned) image
       (put_file (own_place planned) list.blocks.patch host items list.blocks.runs.items image)
   holds host =
-      subst (λ (target : ℕ). IsFilePut target order.now (arrivals_of host items placed.places.items) list.blocks.ids.items (own_place planned) image
+      subst (λ (target : ℕ). IsFilePut target order.now (arrivals_of host items placed.places.items) list.blocks.ids.items put.done.over.written (own_place planned) image
       (put_file (own_place planned) list.blocks.patch host items list.blocks.runs.items image)) (root-is _ placed.target put.done.placed.target refl)
       (put_files_hold_put put.copy placed.target order.now items placed.places.items list.blocks.patch list.blocks.runs.items list.blocks.ids.items (own_place planned) image host
       is-list within is-image)

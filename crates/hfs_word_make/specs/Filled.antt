@@ -54,7 +54,7 @@ pub record IsFullOn (list : PlacedList) (now : ℕ) (v : Volume) : Type 0 where
 
 -- the list was put on the volume of the copy, which is this one then: these blocks go out, and so much was put
 pub record IsLaidOn (list : PlacedList) (now : ℕ) (copy current : List ℕ) (put : PutList) : Type 0 where
-  pub over : IsPutOver copy list.target now list.places.items put.blocks.patch put.blocks.runs.items put.blocks.ids.items
+  pub over : IsPutOver copy current list.target now list.places.items put.blocks.patch put.blocks.runs.items put.blocks.ids.items
   -- what is saved has that volume's master directory block
   pub directory : HasDirectory copy list.places.items put.blocks.patch put.blocks.runs.items (mdb_in (block_at current))
   pub sums_are : put.sums ≡ put_sums list.places.items (mdb_in (block_at current)).free_blocks

@@ -20,12 +20,15 @@ use Rattle.hfs_volume.specs.declared.in_file.ImagePlace.{ImagePlace}
 use Rattle.hfs_put.specs.Arrivals.{arrivals_of}
 use Rattle.hfs_put.specs.PutFiles.{IsFilePut, put_file}
 use Rattle.hfs_put_sources.specs.Items.{PlannedItem}
+use Rattle.hfs_put_sources.specs.declared.fault.HostFault.{HostFault}
+use Rattle.hfs_put_sources.specs.Faults.{IsListingFault}
 use Rattle.hfs_put_sources.specs.Trees.{OfEachTree, Tree}
 use Rattle.hfs_word_make.specs.declared.order.MakeOrder.{MakeOrder}
 use Rattle.hfs_word_make.specs.declared.settled_image.SettledImage.{SettledImage}
 use Rattle.hfs_word_make.specs.Doubled.{IsFilled, IsNotFilled}
 use Rattle.hfs_word_make.specs.Listed.{IsNewListed}
 use Rattle.hfs_word_make.specs.Names.{IsAskedSize, IsBadSized, IsNamed, IsUnnamed}
+use Rattle.hfs_word_make.specs.Orders.{sources_of}
 use Rattle.hfs_word_put.specs.declared.fault.PutFault.{PutFault}
 use Rattle.hfs_word_put.specs.declared.fault.PutFault.TheVariants.{Image}
 use Rattle.hfs_word_put.specs.declared.putting.PutImage.{PutImage}
@@ -70,8 +73,9 @@ pub record IsMadeVolume (Hosts : Tree → Type 0) (order : MakeOrder) (items : L
   -- With these blocks over its image, and the bytes of forks of a tree in their runs, the file holds what the File Manager makes of it by the list of
   -- calls that puts these items into its root, of which the ID is 2.
   pub holds : (host : Tree)
-      → IsFilePut 2 order.now (arrivals_of host items from.filled.filled.done.done.list.places.items) list.blocks.ids.items (own_place planned)
-      (image_bytes planned) (put_file (own_place planned) list.blocks.patch host items list.blocks.runs.items (image_bytes planned))
+      → IsFilePut 2 order.now (arrivals_of host items from.filled.filled.done.done.list.places.items) list.blocks.ids.items
+      from.filled.filled.done.done.over.written (own_place planned) (image_bytes planned)
+      (put_file (own_place planned) list.blocks.patch host items list.blocks.runs.items (image_bytes planned))
   -- as many allocation blocks are free then as are told
   pub free : (host : Tree)
       → (mdb_in (block_at (bytes_in (own_place planned).range
@@ -96,12 +100,12 @@ pub record IsUnsized (Hosts : Tree → Type 0) (order : MakeOrder) (told : PutFa
   pub bad : IsBadSized order.size told
 
 -- it has both, but what comes can't be read
-pub record IsUnreadList (Hosts : Tree → Type 0) (order : MakeOrder) (told : PutFault) : Type 0 where
+pub record IsUnreadList (Fails : HostFault → Type 0) (Hosts : Tree → Type 0) (order : MakeOrder) (told : PutFault) : Type 0 where
   pub name : VolumeName
   pub named : OfEachTree Hosts (IsNamed order name)
   pub size : Option VolumeSize
   pub sized : IsAskedSize order.size size
-  pub unread : IsUnlisted told
+  pub unread : IsUnlisted (IsListingFault Fails Hosts (sources_of order)) told
 
 -- what comes was listed, and put on no volume
 pub record IsUnputList (path : Bor (List ℕ)) (Hosts : Tree → Type 0) (order : MakeOrder) (told : PutFault) : Type 0 where
@@ -112,7 +116,7 @@ pub record IsUnputList (path : Bor (List ℕ)) (Hosts : Tree → Type 0) (order 
   pub unput : IsNotFilled path wanted order items told
 
 -- it was put on one, but a file has another digest than its bag tells, or can't be read
-pub record IsUnverifiedList (Hosts : Tree → Type 0) (order : MakeOrder) (told : PutFault) : Type 0 where
+pub record IsUnverifiedList (Fails : HostFault → Type 0) (Hosts : Tree → Type 0) (order : MakeOrder) (told : PutFault) : Type 0 where
   pub items : List PlannedItem
   pub digests : Entries (List ℕ)
   pub wanted : NewVolume
@@ -120,13 +124,13 @@ pub record IsUnverifiedList (Hosts : Tree → Type 0) (order : MakeOrder) (told 
   pub list : PutList
   pub listed : IsListedFor Hosts order items digests wanted
   pub filled : IsFilled wanted order items planned list
-  pub unverified : IsUnverified Hosts digests items told
+  pub unverified : IsUnverified Fails Hosts digests items told
 
 -- the first of these
-abbrev pub IsUnmadeList : Bor (List ℕ) → (Tree → Type 0) → MakeOrder → PutFault → Type 0
-IsUnmadeList path Hosts order told =
-    IsUnnamed Hosts order told
-    ⊎ (IsUnsized Hosts order told ⊎ (IsUnreadList Hosts order told ⊎ (IsUnputList path Hosts order told ⊎ IsUnverifiedList Hosts order told)))
+abbrev pub IsUnmadeList : Bor (List ℕ) → (HostFault → Type 0) → (Tree → Type 0) → MakeOrder → PutFault → Type 0
+IsUnmadeList path Fails Hosts order told =
+    IsUnnamed Fails Hosts order told
+    ⊎ (IsUnsized Hosts order told ⊎ (IsUnreadList Fails Hosts order told ⊎ (IsUnputList path Hosts order told ⊎ IsUnverifiedList Fails Hosts order told)))
 
 -- all was put, but its forks don't lie in the new volume
 pub record IsUnlaidList (path : Bor (List ℕ)) (Hosts : Tree → Type 0) (order : MakeOrder) (told : PutFault) : Type 0 where
@@ -136,8 +140,8 @@ pub record IsUnlaidList (path : Bor (List ℕ)) (Hosts : Tree → Type 0) (order
   pub from : IsMadeOf Hosts order items planned list
   pub told_is : told ≡ Image (why.CannotRead path)
 
--- so it is of the tree as it was left, which has what was read of it before
-pub record IsUnmade {T : Type 0} (Hosts : T → Tree → Type 0) (path : Bor (List ℕ)) (order : MakeOrder) (tree : T) (told : PutFault) : Type 0 where
+-- so it is of the tree as it was left, which has what was read of it before; where what comes can't be read, the tree may fail so
+pub record IsUnmade {T : Type 0} (Fails : T → HostFault → Type 0) (Hosts : T → Tree → Type 0) (path : Bor (List ℕ)) (order : MakeOrder) (tree : T) (told : PutFault) : Type 0 where
   pub left : T
   pub held : OfEachTree (Hosts left) (Hosts tree)
-  pub unmade : IsUnmadeList path (Hosts left) order told ⊎ IsUnlaidList path (Hosts left) order told
+  pub unmade : IsUnmadeList path (Fails tree) (Hosts left) order told ⊎ IsUnlaidList path (Hosts left) order told

@@ -9,6 +9,8 @@ use Rattle.hfs_format.specs.declared.name.NameSource.TheVariants.{Typed}
 use Rattle.hfs_format.specs.declared.volume_name.VolumeName.{VolumeName}
 use Rattle.hfs_format.specs.declared.volume_size.VolumeSize.{VolumeSize}
 use Rattle.hfs_word_make.specs.SourceNames.{found_name}
+use Rattle.hfs_put_sources.specs.declared.fault.HostFault.{HostFault}
+use Rattle.hfs_put_sources.specs.Faults.{IsListingFault}
 use Rattle.hfs_put_sources.specs.Trees.{OfEachTree, Tree}
 use Rattle.hfs_word_make.specs.declared.order.MakeOrder.{MakeOrder}
 use Rattle.hfs_word_make.specs.Faults.{told_of}
@@ -52,5 +54,6 @@ abbrev pub IsBadNamed : (Tree → Type 0) → MakeOrder → PutFault → Type 0
 IsBadNamed Hosts order told = OfEachTree Hosts (λ host. (told ≡ told_of BadName) × HasBadName order host)
 
 -- it has no name; or what comes can't be read, but a bad size goes before that
-abbrev pub IsUnnamed : (Tree → Type 0) → MakeOrder → PutFault → Type 0
-IsUnnamed Hosts order told = IsBadNamed Hosts order told ⊎ (IsUnlisted told ⊎ IsBadSized order.size told)
+abbrev pub IsUnnamed : (HostFault → Type 0) → (Tree → Type 0) → MakeOrder → PutFault → Type 0
+IsUnnamed Fails Hosts order told =
+    IsBadNamed Hosts order told ⊎ (IsUnlisted (IsListingFault Fails Hosts (sources_of order)) told ⊎ IsBadSized order.size told)

@@ -4,7 +4,7 @@ ghost use Rattle.hfs_blocks.specs.Layers.{changes, AreWithin};
 ghost use Rattle.hfs_format.specs.Image.{image_bytes};
 ghost use Rattle.hfs_put.specs.Files.{IsReadOf};
 ghost use Rattle.hfs_put_sources.specs.Trees.{OfEachTree};
-ghost use Rattle.hfs_word_make.specs.Made.{IsMadeFile, IsMadeOf, IsUnmade, IsUnmadeList};
+ghost use Rattle.hfs_word_make.specs.Made.{IsMadeFile, IsMadeOf, IsUnmade, IsUnmadeList, own_place};
 
 use crate::filling::{FilledImage, filled_image};
 use crate::listing::list_all_new;
@@ -12,11 +12,12 @@ use crate::naming::{made_name, made_size};
 use crate::new_items;
 use crate::order::MakeOrder;
 use crate::settled_image::SettledImage;
-use hfs_commands::WatchedRange;
+use hfs_commands::ByteRange;
 use hfs_format::{NewImage, NewItem, NewVolume, VolumeName, VolumeSize};
 use hfs_put::HostFiles;
 use hfs_put_sources::HostTree;
-use hfs_source::{PlacedBytes, RangeBytes};
+use hfs_source::PlacedBytes;
+use hfs_volume::ImagePlace;
 use hfs_word_put::{Listed, PutFault, PutImage, PutItems, Watch, need_digests, put_image};
 use std::alloc::Global;
 
@@ -51,6 +52,7 @@ fn wanted_volume(
 }
 
 /// Puts what comes on a new volume, by all calls but those that write forks. Faults: those of [`make_volume`].
+#[tactic(auto, using(hfs_word_put::proofs::Unread::unlisted_before))]
 fn make_list<'a, T: HostTree>(
     alloc: Global,
     tree: &mut T,
@@ -66,7 +68,7 @@ fn make_list<'a, T: HostTree>(
     ensures made { IfOk result (λ made. IsMadeOf (T.Holds tree.new) order.entry.now
         made.put.items.items made.image.planned made.put.list) }
     ensures fault { IfErr result
-        (IsUnmadeList path.entry (T.Holds tree.new) order.entry.now) }
+        (IsUnmadeList path.entry (T.Fails tree.old) (T.Holds tree.new) order.entry.now) }
 {
     let name = made_name(alloc, tree, order)?;
     let size = made_size(order)?;
@@ -87,16 +89,14 @@ fn make_list<'a, T: HostTree>(
     }
 }
 
-/// The image of a new volume as a file that it fills.
-fn range_of(image: NewImage) -> WatchedRange<SettledImage>
-    ensures image { result.bytes.bytes.image ≡ image }
-    ensures start { result.bytes.start ≡ 0 }
+/// The place of a new volume's image, which is a file of its own.
+fn own_place(image: &SettledImage) -> ImagePlace
+    ensures { result ≡ own_place image.now.image.planned }
 {
-    let image = SettledImage { image };
-    let len = PlacedBytes::len(&image);
-    match RangeBytes::new(image, 0, len) {
-        Ok(bytes) => WatchedRange { bytes },
-        Err(_) => unreachable!(),
+    let len = PlacedBytes::len(image);
+    ImagePlace {
+        range: ByteRange { start: 0, len },
+        sum_at: None,
     }
 }
 
@@ -115,7 +115,7 @@ pub fn make_volume<'a, 'w, T: HostTree + Drop, W: Watch>(
     ensures made { IfOk result (IsMadeFile (IsReadOf T.Holds T.File.Holds) order.entry.now) }
     ensures held { IfOk result (λ made. OfEachTree
         (IsReadOf T.Holds T.File.Holds made.contents.file.forks.files) (T.Holds tree)) }
-    ensures fault { IfErr result (IsUnmade T.Holds path.entry order.entry.now tree) }
+    ensures fault { IfErr result (IsUnmade T.Fails T.Holds path.entry order.entry.now tree) }
 {
     let mut tree = tree;
     let list = match make_list(alloc, &mut tree, path, order) {
@@ -123,9 +123,10 @@ pub fn make_volume<'a, 'w, T: HostTree + Drop, W: Watch>(
         Err(fault) => return Err(fault),
     };
     let MadeList { image, put } = list;
-    let len = PlacedBytes::len(&image);
+    let image = SettledImage { image };
+    let place = own_place(&image);
     let files = HostFiles::new(alloc, tree);
-    match put_image(alloc, range_of(image), len, None, path, files, put, watch) {
+    match put_image(alloc, image, place, path, files, put, watch) {
         Ok(made) => Ok(made),
         Err(fault) => Err(PutFault::Image(fault)),
     }

@@ -1,8 +1,10 @@
 //! The name and the size that a new volume gets.
 ghost use Rattle.std.specs.Prelude.{◌⊎◌, IfErr, IfOk, MatchResult};
 ghost use Rattle.hfs_word_make.specs.SourceNames.{IsReadAs};
+ghost use Rattle.hfs_put_sources.specs.Faults.{FailLater, IsListingFault};
 ghost use Rattle.hfs_put_sources.specs.Trees.{OfEachTree};
 ghost use Rattle.hfs_word_make.specs.Names.{IsAskedSize, IsBadSized, IsNamed, IsUnnamed, letters_of};
+ghost use Rattle.hfs_word_make.specs.Orders.{sources_of};
 ghost use Rattle.hfs_word_put.specs.Faults.{IsHostFault};
 
 use crate::found_name;
@@ -22,6 +24,9 @@ fn read_made_name<T: HostTree>(
     ensures name { IfOk result (λ read. OfEachTree (T.Holds tree.new)
         (λ host. IsReadAs (letters_of order.entry.now host) read)) }
     ensures held { OfEachTree (T.Holds tree.new) (T.Holds tree.old) }
+    ensures failed { IfErr result (IsListingFault (T.Fails tree.old) (T.Holds tree.new)
+        (sources_of order.entry.now)) }
+    ensures later { FailLater (T.Fails tree.new) (T.Fails tree.old) }
 {
     match order.name {
         Some(name) => Ok(read_name(NameSource::Typed(name))),
@@ -49,7 +54,8 @@ pub(crate) fn made_name<T: HostTree>(
     ensures name { IfOk result (λ name. OfEachTree (T.Holds tree.new)
         (IsNamed order.entry.now name)) }
     ensures held { OfEachTree (T.Holds tree.new) (T.Holds tree.old) }
-    ensures fault { IfErr result (IsUnnamed (T.Holds tree.new) order.entry.now) }
+    ensures later { FailLater (T.Fails tree.new) (T.Fails tree.old) }
+    ensures fault { IfErr result (IsUnnamed (T.Fails tree.old) (T.Holds tree.new) order.entry.now) }
 {
     match read_made_name(alloc, tree, order) {
         Ok(Ok(name)) => Ok(name),

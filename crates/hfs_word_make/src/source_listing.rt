@@ -1,5 +1,6 @@
 //! The list of what is put on a new volume.
-ghost use Rattle.std.specs.Prelude.{◌≡◌, IfOk, map};
+ghost use Rattle.std.specs.Prelude.{◌≡◌, ◌∷◌, [], IfErr, IfOk, map};
+ghost use Rattle.hfs_put_sources.specs.Faults.{FailLater, IsFaultOf, IsListingFault};
 ghost use Rattle.hfs_put_sources.specs.Trees.{OfEachTree};
 ghost use Rattle.hfs_word_make.specs.Lists.{IsListOf, IsNewList, is_folder_kind, is_plain, is_plain_folder};
 
@@ -30,6 +31,8 @@ fn is_plain<T: HostTree>(
     ensures plain { IfOk result (λ plain. OfEachTree (T.Holds tree.new)
         (λ host. plain ≡ is_plain host source.now look)) }
     ensures held { OfEachTree (T.Holds tree.new) (T.Holds tree.old) }
+    ensures failed { IfErr result (IsFaultOf (T.Fails tree.old)) }
+    ensures later { FailLater (T.Fails tree.new) (T.Fails tree.old) }
 {
     if is_folder(look) {
         Ok(!is_bag(alloc, tree, source, look)?)
@@ -47,6 +50,8 @@ fn is_plain_folder<T: HostTree>(
     ensures plain { IfOk result (λ plain. OfEachTree (T.Holds tree.new)
         (λ host. plain ≡ is_plain_folder (host.target source.now) host source.now)) }
     ensures held { OfEachTree (T.Holds tree.new) (T.Holds tree.old) }
+    ensures failed { IfErr result (IsFaultOf (T.Fails tree.old)) }
+    ensures later { FailLater (T.Fails tree.new) (T.Fails tree.old) }
 {
     match tree.target(alloc, source)? {
         Some(look) => is_plain(alloc, tree, source, look),
@@ -55,6 +60,7 @@ fn is_plain_folder<T: HostTree>(
 }
 
 /// The list of one source; for a folder that is no bag, what is in it.
+#[tactic(auto, using(hfs_put_sources::proofs::SourceFaults::listing_before))]
 fn list_one<T: HostTree, B: ToldItems>(
     alloc: Global,
     tree: &mut T,
@@ -66,6 +72,9 @@ fn list_one<T: HostTree, B: ToldItems>(
         (λ host. IsListOf (is_plain_folder (host.target source.now) host source.now)
         host (B.told told.now) how source.now items.items)) }
     ensures held { OfEachTree (T.Holds tree.new) (T.Holds tree.old) }
+    ensures failed { IfErr result (IsListingFault (T.Fails tree.old) (T.Holds tree.new)
+        (source.now ∷ [])) }
+    ensures later { FailLater (T.Fails tree.new) (T.Fails tree.old) }
 {
     if is_plain_folder(alloc, tree, source)? {
         list_folder(alloc, tree, told, how, source)
@@ -86,6 +95,9 @@ pub fn list_new<T: HostTree, B: ToldItems>(
     ensures items { IfOk result (λ items. OfEachTree (T.Holds tree.new)
         (λ host. IsNewList host (B.told told.now) how (map (λ s. s.now) sources.now) items.items)) }
     ensures held { OfEachTree (T.Holds tree.new) (T.Holds tree.old) }
+    ensures failed { IfErr result (IsListingFault (T.Fails tree.old) (T.Holds tree.new)
+        (map (λ s. s.now) sources.now)) }
+    ensures later { FailLater (T.Fails tree.new) (T.Fails tree.old) }
 {
     match sources {
         [source] => list_one(alloc, tree, told, how, source),

@@ -1,7 +1,8 @@
 //! The name that a new volume gets from its sources.
 ghost use Rattle.std.specs.Path.{path_file_name};
-ghost use Rattle.std.specs.Prelude.{◌≡◌, IfOk, map};
+ghost use Rattle.std.specs.Prelude.{◌≡◌, IfErr, IfOk, map};
 ghost use Rattle.hfs_put_sources.specs.Tags.{name_told};
+ghost use Rattle.hfs_put_sources.specs.Faults.{FailLater, IsListingFault, IsSourceFault};
 ghost use Rattle.hfs_put_sources.specs.Trees.{OfEachTree};
 ghost use Rattle.hfs_word_make.specs.SourceNames.{IsReadAs, found_name, look_name, part_name, plain_name, source_name, target_name};
 
@@ -52,6 +53,8 @@ fn target_name<T: HostTree>(
     ensures name { IfOk result (λ read. OfEachTree (T.Holds tree.new)
         (λ host. IsReadAs (target_name (host.target source.now) source.now) read)) }
     ensures held { OfEachTree (T.Holds tree.new) (T.Holds tree.old) }
+    ensures failed { IfErr result (IsSourceFault (T.Fails tree.old) (T.Holds tree.new) source.now) }
+    ensures later { FailLater (T.Fails tree.new) (T.Fails tree.old) }
 {
     match tree.target(alloc, source)? {
         Some(look) => Ok(look_name(look, source)),
@@ -60,6 +63,7 @@ fn target_name<T: HostTree>(
 }
 
 /// The name from one source.
+#[tactic(auto, using(hfs_put_sources::proofs::SourceFaults::source_before))]
 fn source_name<T: HostTree>(
     alloc: Global,
     tree: &mut T,
@@ -68,6 +72,8 @@ fn source_name<T: HostTree>(
     ensures name { IfOk result (λ read. OfEachTree (T.Holds tree.new)
         (λ host. IsReadAs (source_name (name_told host source.now) host source.now) read)) }
     ensures held { OfEachTree (T.Holds tree.new) (T.Holds tree.old) }
+    ensures failed { IfErr result (IsSourceFault (T.Fails tree.old) (T.Holds tree.new) source.now) }
+    ensures later { FailLater (T.Fails tree.new) (T.Fails tree.old) }
 {
     match bag_name(alloc, tree, source)? {
         Some(text) => Ok(plain_name(&text)),
@@ -78,6 +84,7 @@ fn source_name<T: HostTree>(
 /// The name of a volume from its sources: from one bag, the name that it gives for its disk; from one folder, the last part of
 /// its path. `BadName` if there is none, or one that no volume may have. Faults: `CannotRead` of what can't be read or doesn't
 /// exist, `NoMemory`.
+#[tactic(auto, using(hfs_put_sources::proofs::SourceFaults::of_one))]
 pub fn found_name<T: HostTree>(
     alloc: Global,
     tree: &mut T,
@@ -86,6 +93,9 @@ pub fn found_name<T: HostTree>(
     ensures name { IfOk result (λ read. OfEachTree (T.Holds tree.new)
         (λ host. IsReadAs (found_name host (map (λ s. s.now) sources.now)) read)) }
     ensures held { OfEachTree (T.Holds tree.new) (T.Holds tree.old) }
+    ensures failed { IfErr result (IsListingFault (T.Fails tree.old) (T.Holds tree.new)
+        (map (λ s. s.now) sources.now)) }
+    ensures later { FailLater (T.Fails tree.new) (T.Fails tree.old) }
 {
     match sources {
         [] => Ok(read_name(NameSource::Nameless)),

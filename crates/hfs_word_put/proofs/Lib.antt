@@ -3,3 +3,4 @@ mod PathTargets
 mod Places
 pub mod MadeFiles
 mod Spared
+pub mod Unread

@@ -5,6 +5,7 @@ use Rattle.hfs_commands.specs.declared.watched_range.WatchedRange.{WatchedRange}
 use Rattle.hfs_commands.specs.declared.fault.Fault.TheVariants.{NoMemory}
 use Rattle.hfs_put.specs.declared.faults.LayFault.{LayFault}
 use Rattle.hfs_put.specs.declared.faults.LayFault.TheVariants as lay_fault
+use Rattle.hfs_put_sources.specs.declared.fault.HostFault.{HostFault}
 use Rattle.hfs_put_sources.specs.Items.{PlannedItem}
 use Rattle.hfs_put_sources.specs.Trees.{Tree}
 use Rattle.hfs_check.specs.VolumeOf.{volume_of}
@@ -41,7 +42,7 @@ unput order copy items told =
     (λ (is : IsRefusedOn order copy items told). by-lay items _ is.unlaid.why told is.unlaid.line)
 
 -- where memory is wanting, nothing more need be known
-pub for_memory : {S T : Type 0} (Files : S → List ℕ → Type 0) (Hosts : T → Tree → Type 0) (range : WatchedRange S) (tree : T) (path : Bor (List ℕ)) (order : PutOrder)
-    → IsUnputSources Files Hosts range tree path order (fault.Image NoMemory)
-for_memory Files Hosts range tree path order =
+pub for_memory : {S T : Type 0} (Files : S → List ℕ → Type 0) (Fails : T → HostFault → Type 0) (Hosts : T → Tree → Type 0) (range : WatchedRange S) (tree : T) (path : Bor (List ℕ)) (order : PutOrder)
+    → IsUnputSources Files Fails Hosts range tree path order (fault.Image NoMemory)
+for_memory Files Fails Hosts range tree path order =
     record { read = range; seen = tree; narrows = λ image h. h; held = λ host h. h; why = inl (NoMemory, refl, inr (inl refl)) }

@@ -27,7 +27,8 @@ pub record IsPutInFile (Files : List ℕ → Type 0) (Hosts : Tree → Type 0) (
   -- With these blocks in the place of the image's, and the bytes of forks of a tree in their runs, each such file in which the image lies, and its sum
   -- before it, holds there what the File Manager makes of the image's volume by the list. Every other byte stays but for the sum's.
   pub holds : (file : List ℕ) (host : Tree) → Files file → LiesIn place.range file → IsSumBefore place.sum_at place.range.start
-      → IsFilePut from.done.done.list.target order.now (arrivals_of host items from.done.done.list.places.items) put.ids.items place file
+      → IsFilePut from.done.done.list.target order.now (arrivals_of host items from.done.done.list.places.items) put.ids.items
+      from.done.done.over.written place file
       (put_file place put.patch host items put.runs.items file)
   -- as many allocation blocks are free there as are told
   pub free : (file : List ℕ) (host : Tree) → Files file → LiesIn place.range file → IsSumBefore place.sum_at place.range.start

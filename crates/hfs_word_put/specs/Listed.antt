@@ -5,6 +5,7 @@ use Rattle.hfs_put_sources.specs.Later.{Entries, told_at}
 use Rattle.hfs_put_sources.specs.Told.{AreFactsOf}
 use Rattle.hfs_put_plan.specs.declared.facts.ToldFacts.{ToldFacts}
 use Rattle.hfs_put_sources.specs.declared.fault.HostFault.{HostFault}
+use Rattle.hfs_put_sources.specs.Faults.{IsFaultOf}
 use Rattle.hfs_put_sources.specs.Items.{PlannedItem}
 use Rattle.hfs_put_sources.specs.Sources.{IsListing}
 use Rattle.hfs_put_sources.specs.Trees.{OfEachTree, Tree}
@@ -22,9 +23,9 @@ pub record IsListed (order : PutOrder) (items : List PlannedItem) (digests : Ent
   pub listing : IsListing host (told_at facts) order.how (sources_of order) items
   pub digests_are : AreDigestsOf (sources_of order) digests host
 
--- what comes can't be looked at
-abbrev pub IsUnlisted : PutFault → Type 0
-IsUnlisted told = (why : HostFault) × IsHostFault why told
+-- what comes can't be looked at, for one of these faults
+abbrev pub IsUnlisted : (HostFault → Type 0) → PutFault → Type 0
+IsUnlisted Faults told = (why : HostFault) × Faults why × IsHostFault why told
 
 -- the first file that has another digest than its bag tells is told
 pub record TellsDigest (digests : Entries (List ℕ)) (items : List PlannedItem) (told : PutFault) (host : Tree) : Type 0 where
@@ -32,6 +33,6 @@ pub record TellsDigest (digests : Entries (List ℕ)) (items : List PlannedItem)
   pub first : first_wrong host (told_at digests) items ≡ Some path
   pub line : TellsBy (refusal_line path Digest) told
 
--- so in each of these trees; or a file can't be read
-abbrev pub IsUnverified : (Tree → Type 0) → Entries (List ℕ) → List PlannedItem → PutFault → Type 0
-IsUnverified Hosts digests items told = IsUnlisted told ⊎ OfEachTree Hosts (TellsDigest digests items told)
+-- so in each of these trees; or a file can't be read, where reading it may fail so
+abbrev pub IsUnverified : (HostFault → Type 0) → (Tree → Type 0) → Entries (List ℕ) → List PlannedItem → PutFault → Type 0
+IsUnverified Fails Hosts digests items told = IsUnlisted (IsFaultOf Fails) told ⊎ OfEachTree Hosts (TellsDigest digests items told)

@@ -2,6 +2,8 @@
 use Rattle.std.specs.Prelude.{◌≡◌, ◌⊎◌, ◌≤◌, ◌/◌, ℕ, List, length, None, Some}
 use Rattle.std.specs.Borrow.{Bor}
 use Rattle.hfs_put_sources.specs.Digests.{first_wrong}
+use Rattle.hfs_put_sources.specs.Faults.{IsListingFault}
+use Rattle.hfs_put_sources.specs.declared.fault.HostFault.{HostFault}
 use Rattle.hfs_put_sources.specs.Later.{Entries, told_at}
 use Rattle.hfs_blocks.specs.Blocks.{block_at, block_count}
 use Rattle.hfs_check.specs.Faults.{fault_of}
@@ -23,6 +25,7 @@ use Rattle.hfs_word_put.specs.declared.lines.PutSums.{PutSums}
 use Rattle.hfs_word_put.specs.declared.order.PutOrder.{PutOrder}
 use Rattle.hfs_word_put.specs.declared.placing.PlacedList.{PlacedList}
 use Rattle.hfs_word_put.specs.Laid.{IsUnlaid, wants_of}
+use Rattle.hfs_word_put.specs.Orders.{sources_of}
 use Rattle.hfs_word_put.specs.Listed.{IsListed, IsUnlisted, IsUnverified}
 use Rattle.hfs_word_put.specs.Placed.{IsPlaced, TellsAny, refusal}
 use Rattle.hfs_word_put.specs.Sums.{put_sums}
@@ -50,7 +53,7 @@ IsUnmounted path Range len found =
 pub record IsPutOn (order : PutOrder) (copy current : List ℕ) (items : List PlannedItem) (put : PutBlocks) (sums : PutSums) : Type 0 where
   pub list : PlacedList
   pub placed : IsPlaced (volume_of copy) order items list
-  pub over : IsPutOver copy list.target order.now list.places.items put.patch put.runs.items put.ids.items
+  pub over : IsPutOver copy current list.target order.now list.places.items put.patch put.runs.items put.ids.items
   -- what is saved has that volume's master directory block
   pub directory : HasDirectory copy list.places.items put.patch put.runs.items (mdb_in (block_at current))
   pub sums_are : sums ≡ put_sums list.places.items (mdb_in (block_at current)).free_blocks
@@ -77,15 +80,16 @@ pub record IsPutOf (Hosts : Tree → Type 0) (order : PutOrder) (copy : List ℕ
   pub done : IsPutOn order copy current items put sums
 
 -- what comes was listed, and not put; or it was, and a file has another digest
-pub record IsUnputList (Hosts : Tree → Type 0) (order : PutOrder) (copy : List ℕ) (told : PutFault) : Type 0 where
+pub record IsUnputList (Fails : HostFault → Type 0) (Hosts : Tree → Type 0) (order : PutOrder) (copy : List ℕ) (told : PutFault) : Type 0 where
   pub items : List PlannedItem
   pub digests : Entries (List ℕ)
   pub listed : OfEachTree Hosts (IsListed order items digests)
-  pub why : IsUnputOn order copy items told ⊎ IsUnverified Hosts digests items told
+  pub why : IsUnputOn order copy items told ⊎ IsUnverified Fails Hosts digests items told
 
 -- why nothing was put on the volume of the copy
-abbrev pub IsUnput : (Tree → Type 0) → PutOrder → List ℕ → PutFault → Type 0
-IsUnput Hosts order copy told = IsUnlisted told ⊎ IsUnputList Hosts order copy told
+abbrev pub IsUnput : (HostFault → Type 0) → (Tree → Type 0) → PutOrder → List ℕ → PutFault → Type 0
+IsUnput Fails Hosts order copy told =
+    IsUnlisted (IsListingFault Fails Hosts (sources_of order)) told ⊎ IsUnputList Fails Hosts order copy told
 
 -- what comes was put on a copy of each of these images that has so many bytes
 pub record IsPutFrom (Range : List ℕ → Type 0) (Hosts : Tree → Type 0) (order : PutOrder) (len : ℕ) (items : List PlannedItem) (put : PutBlocks) (sums : PutSums) : Type 0 where
@@ -98,14 +102,14 @@ abbrev pub IsImageFault : Bor (List ℕ) → (List ℕ → Type 0) → ℕ → P
 IsImageFault path Range len told = (found : Fault) × (told ≡ fault.Image found) × IsUnmounted path Range len found
 
 -- nothing was put on a copy of each of these images that has so many bytes
-pub record IsUnputCopy (Range : List ℕ → Type 0) (Hosts : Tree → Type 0) (order : PutOrder) (len : ℕ) (told : PutFault) : Type 0 where
+pub record IsUnputCopy (Range : List ℕ → Type 0) (Fails : HostFault → Type 0) (Hosts : Tree → Type 0) (order : PutOrder) (len : ℕ) (told : PutFault) : Type 0 where
   pub copy : List ℕ
   pub copied : IsCopyOfEach Range len copy
-  pub unput : IsUnput Hosts order copy told
+  pub unput : IsUnput Fails Hosts order copy told
 
 -- why nothing was put on an image that was opened by this path
-abbrev pub IsUnputFrom : Bor (List ℕ) → (List ℕ → Type 0) → (Tree → Type 0) → PutOrder → ℕ → PutFault → Type 0
-IsUnputFrom path Range Hosts order len told = IsImageFault path Range len told ⊎ IsUnputCopy Range Hosts order len told
+abbrev pub IsUnputFrom : Bor (List ℕ) → (List ℕ → Type 0) → (HostFault → Type 0) → (Tree → Type 0) → PutOrder → ℕ → PutFault → Type 0
+IsUnputFrom path Range Fails Hosts order len told = IsImageFault path Range len told ⊎ IsUnputCopy Range Fails Hosts order len told
 
 -- the images that lie in a range of a file of which such bytes were read
 abbrev pub range_images : {S : Type 0} → (S → List ℕ → Type 0) → WatchedRange S → List ℕ → Type 0
@@ -116,10 +120,10 @@ abbrev pub range_failures : {S : Type 0} → (S → ℕ → ℕ → Type 0) → 
 range_failures Fails range = FailsInRange (Fails range.bytes.bytes) range.bytes.start range.bytes.len
 
 -- why nothing was put on the image of a range that was opened by this path: of each that has the bytes which were read, and of each tree that has what
--- was read
-pub record IsUnputSources {S T : Type 0} (Files : S → List ℕ → Type 0) (Hosts : T → Tree → Type 0) (range : WatchedRange S) (tree : T) (path : Bor (List ℕ)) (order : PutOrder) (told : PutFault) : Type 0 where
+-- was read; where what comes can't be read, this tree may fail so
+pub record IsUnputSources {S T : Type 0} (Files : S → List ℕ → Type 0) (Fails : T → HostFault → Type 0) (Hosts : T → Tree → Type 0) (range : WatchedRange S) (tree : T) (path : Bor (List ℕ)) (order : PutOrder) (told : PutFault) : Type 0 where
   pub read : WatchedRange S
   pub seen : T
   pub narrows : OfEach (range_images Files read) (range_images Files range)
   pub held : OfEachTree (Hosts seen) (Hosts tree)
-  pub why : IsUnputFrom path (range_images Files read) (Hosts seen) order range.bytes.len told
+  pub why : IsUnputFrom path (range_images Files read) (Fails tree) (Hosts seen) order range.bytes.len told

@@ -91,7 +91,7 @@ pub fn lay_all(
     now: u32,
 ) -> Result<PutBlocks, PutFault<'static>>
     requires { volume.old.current ≡ volume.old.base }
-    ensures put { IfOk result (λ put. IsPutOver volume.old.base list.now.target now
+    ensures put { IfOk result (λ put. IsPutOver volume.old.base volume.new.current list.now.target now
         list.now.places.items put.patch put.runs.items put.ids.items) }
     ensures directory { IfOk result (λ put. HasDirectory volume.old.base list.now.places.items
         put.patch put.runs.items (mdb_in (block_at volume.new.current))) }

@@ -1,10 +1,12 @@
 //! What is put, as the host describes it.
 ghost use Rattle.std.specs.Prelude.{◌≡◌, None, IfErr, IfOk, OnOk};
 ghost use Rattle.hfs_put_sources.specs.Digests.{first_wrong};
+ghost use Rattle.hfs_put_sources.specs.Faults.{FailLater, IsListingFault};
 ghost use Rattle.hfs_put_sources.specs.Later.{told_at};
 ghost use Rattle.hfs_put_sources.specs.Trees.{OfEachTree};
 ghost use Rattle.hfs_word_put.specs.Faults.{SparesImage};
 ghost use Rattle.hfs_word_put.specs.Listed.{IsListed, IsUnlisted, IsUnverified};
+ghost use Rattle.hfs_word_put.specs.Orders.{sources_of};
 
 use crate::fault::PutFault;
 use crate::lines::refusal_line;
@@ -25,6 +27,7 @@ pub struct Listed {
 }
 
 /// Reads the tags of bags, and lists what is put.
+#[tactic(auto, using(hfs_put_sources::proofs::SourceFaults::listing_before))]
 fn read_list<T: HostTree>(
     alloc: Global,
     tree: &mut T,
@@ -33,6 +36,9 @@ fn read_list<T: HostTree>(
     ensures listed { IfOk result (λ listed. OfEachTree (T.Holds tree.new)
         (IsListed order.entry.now listed.items.items listed.digests)) }
     ensures held { OfEachTree (T.Holds tree.new) (T.Holds tree.old) }
+    ensures failed { IfErr result (IsListingFault (T.Fails tree.old) (T.Holds tree.new)
+        (sources_of order.entry.now)) }
+    ensures later { FailLater (T.Fails tree.new) (T.Fails tree.old) }
 {
     let facts = BagFacts::read(alloc, tree, order.sources)?;
     let digests = ManifestDigests::read(alloc, tree, order.sources)?;
@@ -50,7 +56,9 @@ pub fn list_all<T: HostTree>(
     ensures listed { IfOk result (λ listed. OfEachTree (T.Holds tree.new)
         (IsListed order.entry.now listed.items.items listed.digests)) }
     ensures held { OfEachTree (T.Holds tree.new) (T.Holds tree.old) }
-    ensures fault { IfErr result IsUnlisted }
+    ensures later { FailLater (T.Fails tree.new) (T.Fails tree.old) }
+    ensures fault { IfErr result (IsUnlisted (IsListingFault (T.Fails tree.old)
+        (T.Holds tree.new) (sources_of order.entry.now))) }
     ensures spares { IfErr result SparesImage }
 {
     match read_list(alloc, tree, order) {
@@ -70,7 +78,9 @@ pub fn need_digests<T: HostTree>(
     ensures right { OnOk result (OfEachTree (T.Holds tree.new)
         (λ host. first_wrong host (told_at digests.now) items.now ≡ None)) }
     ensures held { OfEachTree (T.Holds tree.new) (T.Holds tree.old) }
-    ensures fault { IfErr result (IsUnverified (T.Holds tree.new) digests.now items.now) }
+    ensures later { FailLater (T.Fails tree.new) (T.Fails tree.old) }
+    ensures fault { IfErr result (IsUnverified (T.Fails tree.old) (T.Holds tree.new)
+        digests.now items.now) }
     ensures spares { IfErr result SparesImage }
 {
     match first_wrong_file(alloc, tree, digests, items) {

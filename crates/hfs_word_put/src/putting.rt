@@ -8,7 +8,7 @@ ghost use Rattle.hfs_blocks.specs.Layers.{changes, AreWithin};
 ghost use Rattle.hfs_put_sources.specs.Trees.{OfEachTree};
 ghost use Rattle.hfs_put.specs.Files.{IsReadOf};
 ghost use Rattle.hfs_word_put.specs.Faults.{IsUnsavedBy, SparesImage};
-ghost use Rattle.hfs_word_put.specs.Files.{IsPutFile, place_of};
+ghost use Rattle.hfs_word_put.specs.Files.{IsPutFile};
 ghost use Rattle.hfs_word_put.specs.Put.{IsPutFrom, IsPutOf, IsPutOn, IsUnput, IsUnputFrom, IsUnputOn, IsUnputSources, range_failures, range_images};
 ghost use Rattle.hfs_word_put.specs.Sums.{put_sums};
 
@@ -103,7 +103,8 @@ pub fn put_items<T: HostTree>(
     ensures within { IfOk result (λ put. AreWithin (changes put.list.blocks.patch)
         (block_count volume.old.base)) }
     ensures held { OfEachTree (T.Holds tree.new) (T.Holds tree.old) }
-    ensures fault { IfErr result (IsUnput (T.Holds tree.new) order.entry.now volume.old.base) }
+    ensures fault { IfErr result (IsUnput (T.Fails tree.old) (T.Holds tree.new)
+        order.entry.now volume.old.base) }
     ensures spares { IfErr result SparesImage }
 {
     let Listed { items, digests } = list_all(alloc, tree, order)?;
@@ -128,8 +129,8 @@ pub fn put_on<'a, S: FailingBlocks, T: HostTree>(
         order.entry.now len put.items.items put.list.blocks put.list.sums) }
     ensures small { OnOk result.0 (len ≤ 2147483648) }
     ensures within { IfOk result.0 (λ put. AreWithin (changes put.list.blocks.patch) (len / 512)) }
-    ensures fault { IfErr result.0 (IsUnputFrom path.entry (S.Holds result.1) (T.Holds tree.new)
-        order.entry.now len) }
+    ensures fault { IfErr result.0 (IsUnputFrom path.entry (S.Holds result.1) (T.Fails tree.old)
+        (T.Holds tree.new) order.entry.now len) }
     ensures failed { IfErr result.0 (λ fault. fault ≡ PutFault.Image (Fault.CannotRead path.entry)
         → SomeFailsWithin len (S.Fails image)) }
     ensures narrows { OfEach (S.Holds result.1) (S.Holds image) }
@@ -146,28 +147,26 @@ pub fn put_on<'a, S: FailingBlocks, T: HostTree>(
     }
 }
 
-/// The contents of the file in which an image of `len` bytes lies, after this was put on its volume. Fault: `CannotRead` of the
-/// path, if the forks don't lie in the file.
+/// The contents of a file, opened by this path, in which an image lies at a place, after this was put on its volume. Fault:
+/// `CannotRead` of the path, if the forks don't lie in the file.
 pub fn put_image<'a, 'w, S: WatchedBytes + Drop, H: PlacedFiles + Drop, W: Watch>(
     alloc: Global,
-    image: WatchedRange<S>,
-    len: u64,
-    sum_at: Option<u64>,
+    file: S,
+    place: ImagePlace,
     path: &'a str,
     files: H,
     put: PutItems,
     watch: &'w W,
 ) -> Result<PutImage<'w, S, H, W>, Fault<'a>>
-    requires small { len ≤ 2147483648 }
-    requires within { AreWithin (changes put.list.blocks.patch) (len / 512) }
-    ensures file { IfOk result (λ made. made.contents.file.forks.bytes ≡ image.bytes.bytes) }
+    requires small { place.range.len ≤ 2147483648 }
+    requires within { AreWithin (changes put.list.blocks.patch) (place.range.len / 512) }
+    ensures file { IfOk result (λ made. made.contents.file.forks.bytes ≡ file) }
     ensures files { IfOk result (λ made. made.contents.file.forks.files ≡ files) }
     ensures items { IfOk result (λ made. made.contents.file.forks.items ≡ put.items) }
     ensures runs { IfOk result (λ made. made.contents.file.forks.runs ≡ put.list.blocks.runs) }
-    ensures start { IfOk result (λ made. made.contents.file.forks.start ≡ image.bytes.start) }
+    ensures start { IfOk result (λ made. made.contents.file.forks.start ≡ place.range.start) }
     ensures patch { IfOk result (λ made. made.contents.patch ≡ put.list.blocks.patch) }
-    ensures place { IfOk result (λ made. made.contents.place
-        ≡ place_of image.bytes.start len sum_at) }
+    ensures place { IfOk result (λ made. made.contents.place ≡ place) }
     ensures sums { IfOk result (λ made. made.sums ≡ put.list.sums) }
     ensures fault { IfErr result (λ fault. fault ≡ Fault.CannotRead path.entry) }
 {
@@ -178,21 +177,15 @@ pub fn put_image<'a, 'w, S: WatchedBytes + Drop, H: PlacedFiles + Drop, W: Watch
         runs,
         ids: _,
     } = blocks;
-    let WatchedRange { bytes } = image;
-    let RangeBytes {
-        bytes: file,
-        start,
-        ..
-    } = bytes;
+    let start = place.range.start;
     let Some(forks) = LaidForks::new(alloc, file, files, items, runs, start) else {
         return Err(Fault::CannotRead(path));
     };
-    let range = ByteRange { start, len };
     Ok(PutImage {
         contents: ImageInFile {
             alloc,
             file: LaidFile { forks, watch },
-            place: ImagePlace { range, sum_at },
+            place,
             patch,
         },
         sums,
@@ -213,7 +206,8 @@ pub fn put_sources<'a, 'w, S: WatchedBytes + Drop, T: HostTree + Drop, W: Watch>
 ) -> Result<PutImage<'w, S, HostFiles<T>, W>, PutFault<'a>>
     ensures file { IfOk result (IsPutFile S.Holds (IsReadOf T.Holds T.File.Holds)
         order.entry.now image.bytes.len sum_at) }
-    ensures fault { IfErr result (IsUnputSources S.Holds T.Holds image tree path.entry order.entry.now) }
+    ensures fault { IfErr result (IsUnputSources S.Holds T.Fails T.Holds image tree
+        path.entry order.entry.now) }
     ensures failed { IfErr result (λ fault. fault ≡ PutFault.Image (Fault.CannotRead path.entry)
         → SomeFailsWithin image.bytes.len (range_failures S.Fails image)) }
 {
@@ -227,8 +221,14 @@ pub fn put_sources<'a, 'w, S: WatchedBytes + Drop, T: HostTree + Drop, W: Watch>
     if image.bytes.len != len {
         return Err(PutFault::Image(Fault::NoMemory));
     }
+    let WatchedRange { bytes } = image;
+    let RangeBytes {
+        bytes: file, start, ..
+    } = bytes;
+    let range = ByteRange { start, len };
+    let place = ImagePlace { range, sum_at };
     let files = HostFiles::new(alloc, tree);
-    match put_image(alloc, image, len, sum_at, path, files, put, watch) {
+    match put_image(alloc, file, place, path, files, put, watch) {
         Ok(made) => Ok(made),
         Err(_) => Err(PutFault::Image(Fault::NoMemory)),
     }

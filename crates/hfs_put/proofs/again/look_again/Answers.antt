@@ -20,6 +20,7 @@ loop-item-preserved g c =
             (c.in_ok-look_at_item.ensures.same host held)
       ];
       held = λ host held. c.loop-item.invariant.held host (c.in_ok-look_at_item.ensures.held host held);
+      later = λ fault f. c.loop-item.invariant.later fault (c.in_ok-look_at_item.ensures.later fault f);
     }
 
 pub returns-clause-same : goal.returns-clause-same

@@ -29,7 +29,7 @@ returns-clause-put c =
     let are : AreForkRuns (block_at volume.current) items ids runs =
     subst (λ (own : List ℕ). AreForkRuns (block_at volume.current) items own runs) c.deref.ensures.value c.in_ok-runs.ensures in
     let going : AreGoingOut volume runs patch = subst (λ (own : List ForkRun). AreGoingOut volume own patch) c.deref-2.ensures.value c.in_ok-patch.ensures in
-    subst (λ (bytes : List ℕ). IsPutOver bytes target now items patch runs ids) base
+    subst (λ (bytes : List ℕ). IsPutOver bytes volume.current target now items patch runs ids) base
     (is-put-over volume target now items going.changed patch runs ids calls going.agrees going.are going.makes are going.beside)
 
 pub returns-clause-directory : goal.returns-clause-directory

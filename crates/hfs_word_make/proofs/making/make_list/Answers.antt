@@ -1,12 +1,13 @@
 -- What was listed for the volume that is wanted, of the trees as they were left.
 use Rattle.std.proofs.Common.{◌∙◌}
 use Rattle.hfs_word_make.proofs.MadeLists.{listed-for, listed-then, made-list, unput-list, unverified-list}
+use Rattle.hfs_word_put.proofs.Unread.{unverified-before}
 use Rattle.hfs_word_make.proofs.making.make_list.Goals as goal
 
 pub returns-in-Err-clause-fault : goal.returns-in-Err-clause-fault
 returns-in-Err-clause-fault g c =
     let v = c.wanted_volume-wanted.ensures in
-    unput-list _ (g.T.HostTree.Holds c.list_all_new.new.tree) _ _ _ _ _ _ c.in-Err.ensures.fault c.deref-3.ensures.value
+    unput-list _ (g.T.HostTree.Fails c.args.tree.now) (g.T.HostTree.Holds c.list_all_new.new.tree) _ _ _ _ _ _ c.in-Err.ensures.fault c.deref-3.ensures.value
     (listed-for (g.T.HostTree.Holds c.made_name.new.tree) _ _ _ _ _ _ _ _ _ c.in_ok-name.ensures.name c.list_all_new.ensures.held c.in_ok-size.ensures
     c.in_ok-items.ensures.listed v.name v.size (v.items ∙ c.deref-2.ensures.value) c.in_ok-new.ensures c.deref.ensures.value v.moment v.once)
 
@@ -28,7 +29,8 @@ returns-in-Ok-need_digests-clause-made g c =
 pub returns-clause-fault : goal.returns-clause-fault
 returns-clause-fault g c =
     let v = c.wanted_volume-wanted.ensures in
-    unverified-list _ (g.T.HostTree.Holds c.need_digests.new.tree) _ _ _ _ _ _ _ _ _ c.in-Ok.ensures.filled c.deref-3.ensures.value c.in-Err-need_digests.ensures.fault
+    unverified-list _ (g.T.HostTree.Fails c.args.tree.now) (g.T.HostTree.Holds c.need_digests.new.tree) _ _ _ _ _ _ _ _ _ c.in-Ok.ensures.filled c.deref-3.ensures.value
+    (unverified-before _ (g.T.HostTree.Fails c.args.tree.now) _ _ _ _ (λ why f. c.made_name.ensures.later why (c.list_all_new.ensures.later why f)) c.in-Err-need_digests.ensures.fault)
     c.deref-4.ensures.value
     (listed-then (g.T.HostTree.Holds c.list_all_new.new.tree) _ _ _ _ _ c.need_digests.ensures.held
     (listed-for (g.T.HostTree.Holds c.made_name.new.tree) _ _ _ _ _ _ _ _ _ c.in_ok-name.ensures.name c.list_all_new.ensures.held c.in_ok-size.ensures

@@ -30,14 +30,14 @@ returns-in-Err-clause-fault g c =
       seen = told.new.tree;
       narrows = told.ensures.narrows;
       held = told.ensures.held;
-      why = IfErr-at_err (IsUnputFrom c.args.path (range_images g.S.PlacedBytes.Holds told.result.1) (g.T.HostTree.Holds told.new.tree) c.args.order.now
+      why = IfErr-at_err (IsUnputFrom c.args.path (range_images g.S.PlacedBytes.Holds told.result.1) (g.T.HostTree.Fails c.args.tree) (g.T.HostTree.Holds told.new.tree) c.args.order.now
           c.args.image.bytes.len) c.in-Err.is told.ensures.fault;
     }
 
 pub returns-then-image-len-clause-fault : goal.returns-then-image-len-clause-fault
 returns-then-image-len-clause-fault g c =
-    for_memory g.S.PlacedBytes.Holds g.T.HostTree.Holds c.args.image c.args.tree c.args.path c.args.order.now
+    for_memory g.S.PlacedBytes.Holds g.T.HostTree.Fails g.T.HostTree.Holds c.args.image c.args.tree c.args.path c.args.order.now
 
 pub returns-in-Err-put_image-clause-fault : goal.returns-in-Err-put_image-clause-fault
 returns-in-Err-put_image-clause-fault g c =
-    for_memory g.S.PlacedBytes.Holds g.T.HostTree.Holds c.args.image c.args.tree c.args.path c.args.order.now
+    for_memory g.S.PlacedBytes.Holds g.T.HostTree.Fails g.T.HostTree.Holds c.args.image c.args.tree c.args.path c.args.order.now
