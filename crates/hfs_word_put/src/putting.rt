@@ -223,7 +223,9 @@ pub fn put_sources<'a, 'w, S: WatchedBytes + Drop, T: HostTree + Drop, W: Watch>
     }
     let WatchedRange { bytes } = image;
     let RangeBytes {
-        bytes: file, start, ..
+        bytes: file,
+        start,
+        ..
     } = bytes;
     let range = ByteRange { start, len };
     let place = ImagePlace { range, sum_at };
