@@ -1,9 +1,16 @@
 -- Faults of sources.
-use Rattle.std.proofs.Common.{◌≡◌, inl, inr, ⊎_elim, ℕ, List, [], ◌∷◌, refl, arith}
+use Rattle.std.proofs.Common.{◌≡◌, inl, inr, ⊎_elim, ℕ, zero, suc, ◌<◌, Bor, List, [], ◌∷◌, length, map, get_or, refl, arith}
 use Rattle.std.specs.Prelude.{Contains}
 use Rattle.hfs_put_sources.specs.Faults.{FailLater, IsAbsentSource, IsFaultOf, IsListingFault, IsSourceFault}
 use Rattle.hfs_put_sources.specs.Trees.{Tree}
 use Rattle.hfs_put_sources.specs.declared.fault.HostFault.{HostFault}
+
+-- the source at a place is one of them
+source-there : (sources : List (Bor (List ℕ))) (place : ℕ) (d : Bor (List ℕ)) → place < length sources
+    → Contains (map (λ (source : Bor (List ℕ)). source.now) sources) (get_or sources place d).now
+source-there [] place d lt = absurd (omega (arith, lt))
+source-there (s ∷ ss) zero d lt = (0, omega arith, refl)
+source-there (s ∷ ss) (suc n) d lt = let there = source-there ss n d (omega (arith, lt)) in (suc there.0, omega (arith, there.1), there.2)
 
 module _ (Fails : HostFault → Type 0) (Hosts : Tree → Type 0) (fault : HostFault) where
   -- that of one of them
@@ -27,3 +34,10 @@ module _ (Fails : HostFault → Type 0) (Hosts : Tree → Type 0) (fault : HostF
   listing_before Later sources later = ⊎_elim
       (λ (of : IsFaultOf Later fault). inl (λ other. later fault (of other)))
       (λ (absent : (source : List ℕ) × Contains sources source × IsAbsentSource Hosts source fault). inr absent)
+
+  -- that of the source at a place, of what was left of the tree
+  pub one_at : (Later : HostFault → Type 0) (sources : List (Bor (List ℕ))) (place : ℕ) (d : Bor (List ℕ)) → place < length sources → FailLater Later Fails
+      → IsSourceFault Later Hosts (get_or sources place d).now fault → IsListingFault Fails Hosts (map (λ (source : Bor (List ℕ)). source.now) sources) fault
+  one_at Later sources place d lt later is =
+      one_of_some (map (λ (source : Bor (List ℕ)). source.now) sources) (get_or sources place d).now (source-there sources place d lt)
+      (source_before Later (get_or sources place d).now later is)

@@ -1,6 +1,7 @@
 -- Source by source.
 use Rattle.std.proofs.Common.{map, drop, arith}
 use Rattle.std.proofs.lemmas.List.{at_drop_all, at_drop_more}
+use Rattle.hfs_put_sources.proofs.SourceFaults.{one_at}
 use Rattle.hfs_put_sources.proofs.SourceLemmas.{give-done, give-step}
 use Rattle.hfs_put_sources.proofs.sources.give_all.Goals as goal
 
@@ -16,6 +17,14 @@ loop-source-preserved g c =
       held = λ host h. c.loop-source.invariant.held host (c.in_ok-more.ensures.held host h);
       later = λ fault f. c.loop-source.invariant.later fault (c.in_ok-more.ensures.later fault f);
     }
+
+pub returns-in_err-more-clause-failed : goal.returns-in_err-more-clause-failed
+returns-in_err-more-clause-failed g c =
+    let sources = c.args.sources.now in
+    let place = c.loop-source.source-index in
+    rw c.from_residual.ensures
+    (one_at (g.T.HostTree.Fails c.args.tree.now) (g.T.HostTree.Holds c.gives.new.tree) _ (g.T.HostTree.Fails c.loop-source.tree) sources place _ c.loop-source-test.true
+    c.loop-source.invariant.later c.in_err-more.ensures.failed)
 
 pub returns-clause-items : goal.returns-clause-items
 returns-clause-items g c =
