@@ -6,7 +6,7 @@ ghost use Rattle.hfs_put_sources.specs.Told.{facts_of, path_field, told_by_row, 
 
 use crate::by_path::ByPath;
 use crate::tag_paths::path_behind;
-use crate::{HostFault, ItemRow, bag_path, item_row};
+use crate::{ItemRow, bag_path, item_row};
 use csv::{ByteRecord, ReaderBuilder};
 use hfs_put_plan::ToldFacts;
 use std::alloc::{AllocError, Global};
@@ -46,13 +46,13 @@ fn note_row(
     facts.put(path, facts_of(item))
 }
 
-/// Notes what a table of items says, with this in front of its paths. Fault: `NoMemory`.
+/// Notes what a table of items says, with this in front of its paths. Fails only when out of memory.
 pub(crate) fn note_table(
     alloc: Global,
     front: &str,
     text: &[u8],
     facts: &mut ByPath<ToldFacts>,
-) -> Result<(), HostFault>
+) -> Result<(), AllocError>
     ensures { OnOk result (Tells (told_by_table front.now text.now) facts.old facts.new) }
 {
     let reader = ReaderBuilder::new()
@@ -61,7 +61,7 @@ pub(crate) fn note_table(
         .from_reader(alloc, text);
     for row in reader.into_byte_records() {
         let Ok(row) = row else {
-            return Err(HostFault::NoMemory);
+            return Err(AllocError);
         };
         note_row(alloc, front, &row, facts)?;
     }

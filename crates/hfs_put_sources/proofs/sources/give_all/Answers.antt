@@ -1,6 +1,7 @@
 -- Source by source.
 use Rattle.std.proofs.Common.{map, drop, arith}
 use Rattle.std.proofs.lemmas.List.{at_drop_all, at_drop_more}
+use Rattle.std.proofs.lemmas.Result.{err_from_is_err_and}
 use Rattle.hfs_put_sources.proofs.SourceFaults.{one_at}
 use Rattle.hfs_put_sources.proofs.SourceLemmas.{give-done, give-step}
 use Rattle.hfs_put_sources.proofs.sources.give_all.Goals as goal
@@ -22,7 +23,8 @@ pub returns-in_err-more-clause-failed : goal.returns-in_err-more-clause-failed
 returns-in_err-more-clause-failed g c =
     let sources = c.args.sources.now in
     let place = c.loop-source.source-index in
-    rw c.from_residual.ensures
+    let told = err_from_is_err_and c.from_residual.result c.from_residual.ensures.1 in
+    rw (told.1, told.2)
     (one_at (g.T.HostTree.Fails c.args.tree.now) (g.T.HostTree.Holds c.gives.new.tree) _ (g.T.HostTree.Fails c.loop-source.tree) sources place _ c.loop-source-test.true
     c.loop-source.invariant.later c.in_err-more.ensures.failed)
 
