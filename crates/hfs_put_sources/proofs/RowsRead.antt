@@ -1,5 +1,5 @@
 -- What is told of an item comes back from its row.
-use Rattle.std.proofs.Common.{◌≡◌, ◌∙◌, sym, ap, refl, ℕ, ◌/◌, ◌%◌, ◌^◌, ◌<◌, Bool, true, false, List, [], ◌∷◌, ◌++◌, take, drop, Option, Some, codes}
+use Rattle.std.proofs.Common.{◌≡◌, ◌∙◌, ap, refl, ℕ, ◌/◌, ◌%◌, ◌^◌, ◌<◌, Bool, true, false, List, [], ◌∷◌, ◌++◌, take, drop, Option, Some, codes}
 use Rattle.std.specs.Prelude.{◌==◌, if◌then◌else◌}
 use Rattle.std.specs.List.{list_all}
 use Rattle.std.specs.Option.{option_map, option_zip}
@@ -11,7 +11,7 @@ use Rattle.hfs_texts.specs.Calendar.{day_since_1904}
 use Rattle.hfs_texts.specs.NameLaws.{is_bytes}
 use Rattle.hfs_texts.specs.Moments.{day_text, moment, time_text}
 use Rattle.hfs_table.proofs.Dates.{date_text}
-use Rattle.hfs_table.specs.Cells.{Cell, empty, word, flag, cell_text}
+use Rattle.hfs_table.specs.Cells.{Cell, flag, cell_text}
 use Rattle.hfs_table.specs.Columns.{columns, kind_word, moment_cell, of_file, of_folder}
 use Rattle.hfs_table.specs.Lines.{bag_end, bag_path, csv_fields, field_text}
 use Rattle.hfs_table.specs.declared.column.Column.{Column}

@@ -1,5 +1,5 @@
 -- Faults of sources.
-use Rattle.std.proofs.Common.{◌≡◌, inl, inr, ⊎_elim, ℕ, zero, suc, ◌<◌, Bor, List, [], ◌∷◌, length, map, get_or, refl, arith}
+use Rattle.std.proofs.Common.{inl, inr, ⊎_elim, ℕ, zero, suc, ◌<◌, Bor, List, [], ◌∷◌, length, map, get_or, refl, arith}
 use Rattle.std.specs.Prelude.{Contains}
 use Rattle.hfs_put_sources.specs.Faults.{FailLater, IsAbsentSource, IsFaultOf, IsListingFault, IsSourceFault}
 use Rattle.hfs_put_sources.specs.Trees.{Tree}
