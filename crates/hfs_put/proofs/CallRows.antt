@@ -1,5 +1,5 @@
 -- The calls of an item, one after another.
-use Rattle.std.proofs.Common.{◌≡◌, ℕ, zero, suc, ◌+◌, ◌≤◌, length, drop, List, [], ◌∷◌, Option, Some, None, Result, Ok, Err, refl, sym, ◌∙◌, ap, subst, inl, inr, arith}
+use Rattle.std.proofs.Common.{◌≡◌, ℕ, zero, suc, ◌+◌, ◌≤◌, length, drop, List, [], ◌∷◌, Option, None, Result, Ok, refl, sym, ◌∙◌, ap, subst, inl, inr, arith}
 use Rattle.std.specs.Prelude.{slice_index_or}
 use Rattle.std.specs.List.{cons_option}
 use Rattle.std.proofs.lemmas.List.{drop_all}
@@ -7,7 +7,7 @@ use Rattle.hfs_model.specs.declared.call.Call.{Call}
 use Rattle.hfs_model.specs.declared.reply.Reply.{Reply}
 use Rattle.hfs_model.specs.Volume.{Volume}
 use Rattle.hfs_put_plan.proofs.AcceptedCalls.{all-option}
-use Rattle.hfs_put_plan.specs.Accepted.{next, accepted, all_accepted}
+use Rattle.hfs_put_plan.specs.Accepted.{next, all_accepted}
 use Rattle.hfs_put_plan.specs.declared.calls.TheConstants.{MAKING_CALLS, ENDING_CALLS}
 use Rattle.hfs_put_plan.specs.declared.items.PutItem.{PutItem}
 use Rattle.hfs_put_plan.specs.Calls.{somes, making, ending}

@@ -1,5 +1,5 @@
 -- The blocks in which a volume differs from the copy on which it was mounted.
-use Rattle.std.proofs.Common.{◌≡◌, ◌⊎◌, ⊎_elim, ℕ, List, IsSome, sym, subst}
+use Rattle.std.proofs.Common.{◌≡◌, ⊎_elim, ℕ, List, IsSome, sym, subst}
 use Rattle.hfs_fields.specs.Each.{Each}
 use Rattle.hfs_fields.specs.Members.{In}
 use Rattle.hfs_fields.proofs.ElementLemmas.{each-append}

@@ -1,6 +1,5 @@
 -- Where reads fail.
-use Rattle.std.proofs.Common.{ℕ, ◌+◌, ◌≤◌, List, Option, Result, Ok, Err, inl, inr, arith}
-use Rattle.std.specs.Prelude.{OnErr}
+use Rattle.std.proofs.Common.{ℕ, ◌+◌, ◌≤◌, List, Option, inl, inr, arith}
 use Rattle.hfs_source.specs.Images.{FailsWhere}
 use Rattle.hfs_put_sources.specs.declared.fault.HostFault.{HostFault}
 use Rattle.hfs_put_sources.specs.declared.fork_run.ForkRun.{ForkRun}

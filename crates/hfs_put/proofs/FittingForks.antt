@@ -1,8 +1,7 @@
 -- What nothing is against has forks that are as large as forks are.
-use Rattle.std.proofs.Common.{◌≡◌, Bool, true, false, ◌&&◌, cond, not, Some, None, Option, refl, sym, ◌∙◌, ap}
+use Rattle.std.proofs.Common.{◌≡◌, Bool, true, false, cond, not, Some, None, Option, refl, sym, ◌∙◌}
 use Rattle.std.proofs.lemmas.Bool.{and_parts}
 use Rattle.hfs_put_plan.specs.declared.over.Placing.{Placing}
-use Rattle.hfs_put_plan.specs.declared.reasons.Findings.{Findings}
 use Rattle.hfs_put_plan.specs.declared.reasons.Why.{Why}
 use Rattle.hfs_put_plan.specs.declared.reasons.Why.TheVariants.{NotAFile, TooLarge}
 use Rattle.hfs_put_plan.specs.Why.{why_not}

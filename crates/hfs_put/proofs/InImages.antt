@@ -2,8 +2,7 @@
 use Rattle.std.proofs.Common.{◌≡◌, ◌⊎◌, ⊎_elim, inl, inr, ℕ, ◌+◌, ◌-◌, ◌≤◌, List, [], ◌∷◌, ◌++◌, length, take, drop, refl, sym, ap, ◌∙◌, arith}
 use Rattle.std.specs.Prelude.{slice_get}
 use Rattle.std.proofs.lemmas.Bool.{cases_lt}
-use Rattle.std.proofs.lemmas.List.{length-take, length-drop, length-append, take-append-drop, take-append-le, drop-append-le, drop-drop, drop-take, take-take}
-use Rattle.std.proofs.Math.Seq.{drop-append-add, take-append-add}
+use Rattle.std.proofs.lemmas.List.{length-take, length-drop, length-append, take-append-drop}
 use Rattle.hfs_put.proofs.ImageLemmas.{take-laid_at, drop-laid_at, image-laid_at}
 use Rattle.hfs_put.specs.Laid as forks
 use Rattle.hfs_put.specs.Laid.{bytes_of, laid_at}

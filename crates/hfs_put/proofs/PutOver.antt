@@ -1,5 +1,5 @@
 -- What goes out of a list that was put on a copy.
-use Rattle.std.proofs.Common.{◌≡◌, ℕ, ◌/◌, ◌<◌, List, [], ◌∷◌, length, map, Bool, true, false, cond, Option, Some, None, IsSome, is_some, unwrap_or, Result, Ok, Err, IfOk, refl, sym, ap, subst, ◌∙◌}
+use Rattle.std.proofs.Common.{◌≡◌, ℕ, ◌/◌, ◌<◌, List, [], ◌∷◌, length, map, Bool, true, false, cond, Option, Some, None, IsSome, is_some, unwrap_or, refl, sym, ap, subst, ◌∙◌}
 use Rattle.hfs_fields.specs.Each.{Each}
 use Rattle.hfs_fields.proofs.ElementLemmas.{each-mono}
 use Rattle.hfs_blocks.specs.Blocks.{block_at, block_count, length-block_at}

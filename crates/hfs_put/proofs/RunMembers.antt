@@ -1,5 +1,5 @@
 -- Which runs of forks there are.
-use Rattle.std.proofs.Common.{◌≡◌, ◌⊎◌, inl, inr, ⊎_elim, ℕ, ◌+◌, ◌*◌, Bool, true, false, cond, true≢false, eqb, List, [], ◌∷◌, ◌++◌, Option, Some, None, IsSome, refl, sym, ◌∙◌, ap, subst}
+use Rattle.std.proofs.Common.{◌≡◌, inl, inr, ⊎_elim, ℕ, ◌+◌, ◌*◌, Bool, true, false, cond, true≢false, eqb, List, [], ◌∷◌, Option, Some, None, IsSome, refl, sym, subst}
 use Rattle.std.specs.List.{cons_option, flat_map}
 use Rattle.std.specs.List.Sorted.{IsPermutation}
 use Rattle.hfs_blocks.specs.Blocks.{block_at}

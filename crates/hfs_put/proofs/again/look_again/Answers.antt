@@ -2,6 +2,7 @@
 use Rattle.std.proofs.Common.{◌≡◌, ◌∙◌, sym, ap, subst, get_or, inl, inr, arith}
 use Rattle.std.proofs.lemmas.Bool.{cases_lt}
 use Rattle.std.proofs.lemmas.List.{get_or_read}
+use Rattle.std.proofs.lemmas.Result.{err_from_is_err_and}
 use Rattle.hfs_put_sources.specs.Items.{PlannedItem}
 use Rattle.hfs_put.specs.Again.{AreUnchanged, IsUnchanged}
 use Rattle.hfs_put.proofs.UnchangedFiles.{unless_more}
@@ -29,7 +30,8 @@ returns-in_err-look_at_item-clause-failed g c =
     let items = c.args.items.now in
     let place = c.loop-item.item-index in
     let item = c.item-item.result in
-    rw c.from_residual.ensures
+    let told = err_from_is_err_and c.from_residual.result c.from_residual.ensures.1 in
+    rw (told.1, told.2)
     (unless_more (g.T.HostTree.Fails c.loop-item.tree) (g.T.HostTree.Fails c.args.tree.now) (g.T.HostTree.Holds c.look_at_item.new.tree)
     (λ host. IsUnchanged host item) (AreUnchanged items) _ c.loop-item.invariant.later
     (λ host all. subst (λ (own : PlannedItem). IsUnchanged host own)

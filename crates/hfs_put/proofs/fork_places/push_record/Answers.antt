@@ -1,13 +1,11 @@
 -- The record is that of a file of the list, or of none.
-use Rattle.std.proofs.Common.{rules, ◌≡◌, ◌<◌, ◌∙◌, ◌++◌, [], List, ℕ, Option, Some, None, Bool, true, cond, sym, ap, subst, arith}
+use Rattle.std.proofs.Common.{rules, ◌≡◌, ◌<◌, ◌∙◌, ◌++◌, Some, None, true, sym, ap, subst}
 use Rattle.std.specs.BTreeMap as tree
 use Rattle.std.specs.Ordering.{nat_cmp}
 use Rattle.hfs_blocks.specs.Blocks.{block_at}
 use Rattle.hfs_fields.specs.declared.file_record.FileRecord.{FileRecord}
 use Rattle.hfs_fields.specs.Records.{is_file, file_record_of}
-use Rattle.hfs_model.specs.declared.call.Fork.{Fork}
 use Rattle.hfs_model.specs.declared.call.Fork.TheVariants.{DataFork, ResFork}
-use Rattle.hfs_put_sources.specs.declared.fork_run.ForkRun.{ForkRun}
 use Rattle.hfs_space.specs.Extents.{block_total}
 use Rattle.hfs_volume.specs.Sharing.{file_extents}
 use Rattle.hfs_put.specs.ForkRuns.{fork_runs_of, record_runs}

@@ -4,7 +4,7 @@ use Rattle.std.proofs.lemmas.Bool.{eqb-true}
 use Rattle.std.proofs.lemmas.List.{nil_from_length}
 use Rattle.std.specs.List.{cons_option}
 use Rattle.hfs_check.specs.VolumeOf.{volume_of}
-use Rattle.hfs_put.specs.Decisions.{decision, inside}
+use Rattle.hfs_put.specs.Decisions.{decision}
 use Rattle.hfs_put.specs.PlacedSources.{decisions, destination, refused_at}
 use Rattle.hfs_put.specs.declared.decisions.Decision.{Decision}
 use Rattle.hfs_put.specs.declared.decisions.Destination.{Destination}
