@@ -7,7 +7,7 @@ use Rattle.std.specs.Io.KnownBytes.{Appends}
 use Rattle.hfs_database.specs.Taken.{TakenRow, IsBeginning}
 use Rattle.hfs_word_collect.specs.declared.fault.CollectFault.{CollectFault}
 use Rattle.hfs_word_collect.specs.declared.fault.CollectFault.TheVariants.{ReadFailed, CannotWrite, NoMemory}
-use Rattle.hfs_word_collect.specs.Looking.{IsFaultOf}
+use Rattle.hfs_word_collect.specs.Faults.{IsFaultOf}
 use Rattle.hfs_database.specs.declared.form.Form.{Form}
 use Rattle.hfs_database.specs.RowTexts.{image_text}
 use Rattle.hfs_database.specs.UnderWay.{WritesFront}

@@ -1,0 +1,25 @@
+-- A range in its own bytes, of which each read that fails is one of the image's.
+use Rattle.std.proofs.Common.{◌≡◌, ◌∙◌, length, ap, subst, sym}
+use Rattle.hfs_bag.specs.Parts.{content_of}
+use Rattle.hfs_bag.specs.Failing.{SomeFailOf}
+use Rattle.hfs_bag.specs.Parts.{LiesIn}
+use Rattle.hfs_word_collect.specs.Faults.{IsFaultOf}
+use Rattle.hfs_word_collect.proofs.FailingReads.{fault_of_sparse, part_picked, too_large}
+use Rattle.hfs_word_collect.proofs.giving_volumes.place_in.Goals as goal
+
+pub returns-in_default-clause-failed : goal.returns-in_default-clause-failed
+returns-in_default-clause-failed g c =
+    let image = g.K.PickedImage.image in
+    too_large (g.F.ImageFile.Holds c.open.new.self image × LiesIn c.args.found.now.range (content_of c.args.layout image)) c.args.layout image (g.F.ImageFile.Fails c.args.file.now)
+    (λ h. c.in_default.ensures.none (c.in_ok-source.ensures.noted image h.0) h.1)
+
+pub returns-in-Err-clause-failed : goal.returns-in-Err-clause-failed
+returns-in-Err-clause-failed g c =
+    let image = g.K.PickedImage.image in
+    let Has = g.F.ImageFile.Holds c.note.new.self image × LiesIn c.args.found.now.range (content_of c.args.layout image) in
+    let Fails = SomeFailOf Has (length image) (g.F.ImageFile.Fails c.args.file.now) in
+    subst (IsFaultOf Fails) (sym c.from.ensures)
+    (fault_of_sparse Fails c.in-Err.fault
+    (λ told. part_picked g.S.PlacedBytes.Holds g.S.PlacedBytes.Fails image c.in-Some.part c.sum_of.result.0 c.in-Some.ensures.inside c.sum_of.ensures.held
+    c.in_ok-source.source Has (g.F.ImageFile.Fails c.args.file.now) c.in-Some.ensures.source
+    (λ h. subst (λ s. g.S.PlacedBytes.Holds s image) c.source.ensures (c.note.ensures.noted image h.0)) c.in_ok-source.ensures.fails (c.in-Err.ensures.failed told)))
