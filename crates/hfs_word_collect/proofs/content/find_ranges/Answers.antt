@@ -5,13 +5,13 @@ use Rattle.hfs_word_collect.specs.Faults.{IsFaultOf}
 use Rattle.hfs_word_collect.proofs.FailingReads.{fault_of_sparse, part_picked, too_large}
 use Rattle.hfs_word_collect.proofs.content.find_ranges.Goals as goal
 
-pub returns-in_default-clause-failed : goal.returns-clause-failed
+pub returns-in_default-clause-failed : goal.returns-in_default-clause-failed
 returns-in_default-clause-failed g c =
     let image = g.K.PickedImage.image in
     too_large (g.F.ImageFile.Holds c.open.new.self image) c.args.layout image (g.F.ImageFile.Fails c.args.file.now) (λ h. c.in_default.ensures.none (c.in_ok-source.ensures.noted image h))
 
-pub returns-in-Err-clause-failed : goal.returns-in-Err-clause-failed
-returns-in-Err-clause-failed g c =
+pub returns-clause-failed : goal.returns-clause-failed
+returns-clause-failed g c =
     let image = g.K.PickedImage.image in
     let Fails = SomeFailOf (g.F.ImageFile.Holds c.note.new.self image) (length image) (g.F.ImageFile.Fails c.args.file.now) in
     subst (IsFaultOf Fails) (sym c.from.ensures)
