@@ -1,5 +1,5 @@
 -- Faults of reads that are handed on.
-use Rattle.std.proofs.Common.{◌≡◌, ◌∙◌, ℕ, ◌+◌, ◌≤◌, ◌^◌, ◌⊎◌, inl, inr, List, length, Result, Ok, Err, IsErrAnd, refl, subst, sym, arith}
+use Rattle.std.proofs.Common.{◌≡◌, ℕ, ◌+◌, ◌≤◌, ◌^◌, ◌⊎◌, inl, inr, List, length, Result, Ok, Err, IsErrAnd, refl, subst, sym, arith}
 use Rattle.std.specs.Prelude.{IfErr}
 use Rattle.std.proofs.Math.Logic.{∥∥₁_map}
 use Rattle.hfs_source.specs.Images.{AllFail, FailsWhere, OfEach}
@@ -29,6 +29,13 @@ means-of P Q (Err why) fault step is told = fault_means P Q why step (subst (IsF
 pub fault_told : {X : Type 0} (P Q : Type 0) (r : Result X CollectFault) → (P → Q) → IfErr r (IsFaultOf P) → IfErr r (IsFaultOf Q)
 fault_told P Q (Ok x) step told = tt
 fault_told P Q (Err why) step told = fault_means P Q why step told
+
+-- two things that a fault means
+pub both_told : {X : Type 0} (P Q : Type 0) (r : Result X CollectFault) → IfErr r (IsFaultOf P) → IfErr r (IsFaultOf Q) → IfErr r (IsFaultOf (P × Q))
+both_told P Q (Ok x) first second = tt
+both_told P Q (Err ReadFailed) first second = (first, second)
+both_told P Q (Err CannotWrite) first second = tt
+both_told P Q (Err NoMemory) first second = tt
 
 -- refused memory is no fault of a read
 pub fault_by_memory : {X : Type 0} (P : Type 0) (r : Result X CollectFault) → IsErrAnd r (λ x. x ≡ NoMemory) → IfErr r (IsFaultOf P)

@@ -1,6 +1,6 @@
 -- Reads of files that are held, such as those from pipes.
-use Rattle.std.proofs.Common.{◌≡◌, ℕ, ◌+◌, ◌<◌, List, length, Option, Some, None, refl, subst, sym}
-use Rattle.std.proofs.lemmas.Option.{none-some, some-injective}
+use Rattle.std.proofs.Common.{◌≡◌, ℕ, ◌+◌, ◌<◌, List, length, Option, Some, None, subst, sym}
+use Rattle.std.proofs.lemmas.Option.{none-some}
 use Rattle.std.specs.Arc.{arc_value}
 use Rattle.std.specs.Prelude.{IfSome}
 use Rattle.hfs_commands.specs.declared.opened_file.StoredFile.{StoredFile}

@@ -1,5 +1,5 @@
 -- What is given of a part of an image is given of what the part is of the picked one.
-use Rattle.std.proofs.Common.{◌≡◌, ◌++◌, ◌∷◌, ℕ, Bool, List, length, Some, None, Result, Ok, Err, ap, subst}
+use Rattle.std.proofs.Common.{◌≡◌, ◌++◌, ◌∷◌, ℕ, Bool, List, length, Some, None, Result, Ok, Err, subst}
 use Rattle.std.specs.Prelude.{IfErr, IfOk}
 use Rattle.hfs_bag.specs.Parts.{IsPartOf, PartValue}
 use Rattle.hfs_bag.proofs.Picking.{picked}
@@ -21,7 +21,7 @@ use Rattle.hfs_word_collect.specs.declared.counts.ImageCounts.{ImageCounts}
 use Rattle.hfs_word_collect.specs.declared.places.VolumePlace.{VolumePlace}
 use Rattle.hfs_word_collect.specs.Counts.{counts_by_directory, fault_counts, file_total, lost_counts, no_volumes, sound_volume, volume_counts}
 use Rattle.hfs_word_collect.specs.Items.{item_rows}
-use Rattle.hfs_word_collect.specs.Volumes.{fault_rows, lost_place, lost_rows, rows_by_directory, volume_rows, volume_values}
+use Rattle.hfs_word_collect.specs.Volumes.{fault_rows, lost_rows, rows_by_directory, volume_rows, volume_values}
 use Rattle.hfs_word_collect.proofs.VolumeCounting.{lost_refused_counted, lost_sound_counted, refused_counted, sound_counted}
 use Rattle.hfs_word_collect.proofs.VolumeGiving.{lost_given, lost_sound, refused_given, sound_given}
 

@@ -1,5 +1,5 @@
 -- Files that are lent, such as those from pipes.
-use Rattle.std.specs.Prelude.{◌≡◌, ⊤, ℕ, Option, None, Some, IfSome, IsSomeAnd}
+use Rattle.std.specs.Prelude.{◌≡◌, ℕ, Option, None, Some, IfSome, IsSomeAnd}
 use Rattle.hfs_commands.specs.declared.opened_file.StoredFile.{StoredFile}
 use Rattle.hfs_commands.specs.OpenedFiles.{stored_bytes, stored_failures}
 

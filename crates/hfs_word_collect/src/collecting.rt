@@ -54,6 +54,7 @@ impl<S: PlacedBytes + Drop, K: PickedImage, F: ImageFile<S, K>> RowSource
     ghost Fails = { λ old new. IsFaultOf (F.IsUnread new.file
         × SomeFailOf (F.Holds new.file K.image) (length K.image) (F.Fails old.file)) };
 
+    #[tactic(auto, using(crate::proofs::FailingReads::both_told))]
     fn give<T: RowTaker>(&mut self, taker: &mut T) -> Result<ImageCounts, CollectFault> {
         give_image::<S, K, F, T>(self.alloc, taker, &mut self.file, self.facts)
     }
@@ -63,7 +64,7 @@ impl<S: PlacedBytes + Drop, K: PickedImage, F: ImageFile<S, K>> RowSource
 /// holds. None if it can't be opened or not be read as far as needed: then nothing has changed, and no transaction is open. At a
 /// fault, the open database shows what it showed before; the file has all rows, or nothing in it has changed. Faults:
 /// `CannotWrite`, `NoMemory`.
-#[tactic(auto, using(crate::proofs::WrittenImages::unread_by))]
+#[tactic(auto, using(crate::proofs::WrittenImages::unread_first, crate::proofs::WrittenImages::unread_second))]
 pub fn collect_image<D: Alter + Drop, S: PlacedBytes + Drop, K: PickedImage, F: ImageFile<S, K>>(
     collection: &mut Collection<D>,
     rows: &mut ImageRows<'_, S, K, F>,

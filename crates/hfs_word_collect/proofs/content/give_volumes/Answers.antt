@@ -1,5 +1,5 @@
 -- A beginning of the next volume's rows, or all of them.
-use Rattle.std.proofs.Common.{◌≡◌, ◌∙◌, ◌+◌, ◌++◌, refl, sym, subst, arith, get_or, length}
+use Rattle.std.proofs.Common.{◌∙◌, ◌+◌, ◌++◌, refl, sym, subst, arith, length}
 use Rattle.hfs_fields.proofs.OutcomeLemmas.{on_err}
 use Rattle.hfs_bag.specs.Parts.{content_of, LieIn, LiesIn}
 use Rattle.hfs_fields.proofs.ElementLemmas.{each-at}

@@ -1,5 +1,5 @@
 -- What the whole content was found to hold.
-use Rattle.std.proofs.Common.{◌≡◌, ◌++◌, ◌∙◌, ℕ, List, length, ap, refl, subst, sym}
+use Rattle.std.proofs.Common.{◌≡◌, ◌++◌, ◌∙◌, length, ap, refl, subst, sym}
 use Rattle.hfs_fields.proofs.OutcomeLemmas.{on_err_then, on_ok, if_ok}
 use Rattle.hfs_check.specs.Faults.{fault_of}
 use Rattle.hfs_bag.specs.Parts.{IsPartOf, content_of}
@@ -11,10 +11,8 @@ use Rattle.hfs_word_collect.specs.declared.places.VolumePlace.{VolumePlace}
 use Rattle.hfs_word_collect.specs.Counts.{counts_by_directory, lost_counts}
 use Rattle.hfs_word_collect.specs.Volumes.{lost_place, lost_rows, rows_by_directory}
 use Rattle.hfs_word_collect.proofs.PartGiving.{looked_err, looked_ok, lost_long, lost_none, lost_none_told, lost_picked, lost_told}
-use Rattle.hfs_bag.specs.Failing.{SomeFail, SomeFailOf}
-use Rattle.hfs_bag.specs.Parts.{FailsInPart}
-use Rattle.hfs_word_collect.specs.Faults.{IsFaultOf}
-use Rattle.hfs_word_collect.proofs.FailingReads.{fault_by_sparse, fault_of_sparse, fault_told, part_picked, read_before, too_large}
+use Rattle.hfs_bag.specs.Failing.{SomeFailOf}
+use Rattle.hfs_word_collect.proofs.FailingReads.{fault_by_sparse, fault_told, part_picked, read_before, too_large}
 use Rattle.hfs_word_collect.proofs.giving_volumes.give_lost.Goals as goal
 
 pub returns-in-Ok-clause-held : goal.returns-in-Ok-clause-held

@@ -1,6 +1,6 @@
 -- What the range was found to hold.
-use Rattle.std.proofs.Common.{◌≡◌, ◌++◌, ◌∷◌, ℕ, List, subst, length, sym}
-use Rattle.hfs_fields.proofs.OutcomeLemmas.{on_err_then, on_ok, if_ok, on_err}
+use Rattle.std.proofs.Common.{◌≡◌, ◌++◌, subst, length, sym}
+use Rattle.hfs_fields.proofs.OutcomeLemmas.{on_err_then, on_ok, if_ok}
 use Rattle.hfs_source.specs.Ranges.{bytes_in}
 use Rattle.hfs_bag.specs.Parts.{IsPartOf, content_of}
 use Rattle.hfs_database.specs.Taken.{IsBeginning}
@@ -10,10 +10,9 @@ use Rattle.hfs_word_collect.specs.declared.counts.ImageCounts.{ImageCounts}
 use Rattle.hfs_word_collect.specs.Counts.{fault_counts, volume_counts}
 use Rattle.hfs_word_collect.specs.Volumes.{fault_rows, volume_rows}
 use Rattle.hfs_word_collect.proofs.PartGiving.{looked_err, looked_ok, refused_picked, refused_told, sound_picked, sound_told}
-use Rattle.hfs_bag.specs.Failing.{SomeFail, SomeFailOf}
-use Rattle.hfs_bag.specs.Parts.{FailsInPart, LiesIn}
-use Rattle.hfs_word_collect.specs.Faults.{IsFaultOf}
-use Rattle.hfs_word_collect.proofs.FailingReads.{fault_by_sparse, fault_means, fault_of_sparse, fault_told, part_picked, read_before, too_large}
+use Rattle.hfs_bag.specs.Failing.{SomeFailOf}
+use Rattle.hfs_bag.specs.Parts.{LiesIn}
+use Rattle.hfs_word_collect.proofs.FailingReads.{fault_by_sparse, fault_means, fault_told, part_picked, read_before, too_large}
 use Rattle.hfs_word_collect.proofs.VolumeGiving.{opened_directory}
 use Rattle.hfs_word_collect.proofs.giving_volumes.give_volume.Goals as goal
 

@@ -1,5 +1,5 @@
 -- A range in its own bytes, of which each read that fails is one of the image's.
-use Rattle.std.proofs.Common.{◌≡◌, ◌∙◌, length, ap, subst, sym}
+use Rattle.std.proofs.Common.{length, subst, sym}
 use Rattle.hfs_bag.specs.Parts.{content_of}
 use Rattle.hfs_bag.specs.Failing.{SomeFailOf}
 use Rattle.hfs_bag.specs.Parts.{LiesIn}
