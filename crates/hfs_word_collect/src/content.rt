@@ -36,8 +36,8 @@ fn give_volumes<S: PlacedBytes + Drop, K: PickedImage, F: ImageFile<S, K>, T: Ro
     ensures counted { IfOk result (λ counts. F.Holds file.new K.image
         → counts ≡ volume_counts_from ranges.now (content_of layout K.image)) }
     ensures held { OfEach (F.Holds file.new) (F.Holds file.old) }
-    ensures failed { IfErr result (IsFaultOf (SomeFailOf (F.Holds file.new K.image × LieIn ranges.now (content_of layout K.image))
-        (length K.image) (F.Fails file.old))) }
+    ensures failed { IfErr result (IsFaultOf (SomeFailOf (F.Holds file.new K.image
+        × LieIn ranges.now (content_of layout K.image)) (length K.image) (F.Fails file.old))) }
     ensures later { FailsWhere (F.Fails file.new) (F.Fails file.old) }
     ensures reference { T.reference taker.new ≡ T.reference taker.old }
     ensures place { T.place taker.new ≡ T.place taker.old }
@@ -76,8 +76,8 @@ fn give_all<S: PlacedBytes + Drop, K: PickedImage, F: ImageFile<S, K>, T: RowTak
     ensures counted { IfOk result (λ counts. F.Holds file.new K.image
         → counts ≡ all_volume_counts ranges.now (content_of layout K.image)) }
     ensures held { OfEach (F.Holds file.new) (F.Holds file.old) }
-    ensures failed { IfErr result (IsFaultOf (SomeFailOf (F.Holds file.new K.image × LieIn ranges.now (content_of layout K.image))
-        (length K.image) (F.Fails file.old))) }
+    ensures failed { IfErr result (IsFaultOf (SomeFailOf (F.Holds file.new K.image
+        × LieIn ranges.now (content_of layout K.image)) (length K.image) (F.Fails file.old))) }
     ensures later { FailsWhere (F.Fails file.new) (F.Fails file.old) }
     ensures reference { T.reference taker.new ≡ T.reference taker.old }
     ensures place { T.place taker.new ≡ T.place taker.old }

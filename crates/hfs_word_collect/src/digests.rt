@@ -85,7 +85,8 @@ fn fork_digest<S: PlacedBlocks + Drop>(
             ensures digest { IfOk result.1 (λ value. OfEach (S.Holds result.0) (λ bytes. value
                 ≡ found_digest (named_fork (entries_of (volume_of bytes)) info.now.parent info.now.name fork))) }
             ensures narrows { OfEach (S.Holds result.0) (S.Holds image) }
-            ensures failed { IfErr result.1 (IsFaultOf (SomeFail (S.Holds result.0) (S.Fails image))) }
+            ensures failed { IfErr result.1 (IsFaultOf (SomeFail (S.Holds result.0)
+                (S.Fails image))) }
             ensures later { FailsWhere (S.Fails result.0) (S.Fails image) }
         { with_digest(image, alloc, info, fork) },
     )

@@ -65,7 +65,8 @@ fn give_remaining_item<S: PlacedBlocks + Drop, T: RowTaker>(
         ≡ remains_files (image_of found.now image) i (told item.now))) }
     ensures part { OnErr result (T.given taker.new ≡ T.given taker.old) }
     ensures narrows { OfEach (S.Holds source.new.blocks) (S.Holds source.old.blocks) }
-    ensures failed { IfErr result (IsFaultOf (SomeFail (S.Holds source.new.blocks) (S.Fails source.old.blocks))) }
+    ensures failed { IfErr result (IsFaultOf (SomeFail (S.Holds source.new.blocks)
+        (S.Fails source.old.blocks))) }
     ensures later { FailsWhere (S.Fails source.new.blocks) (S.Fails source.old.blocks) }
     ensures reference { T.reference taker.new ≡ T.reference taker.old }
     ensures place { T.place taker.new ≡ T.place taker.old }
@@ -96,7 +97,8 @@ fn give_remaining<S: PlacedBlocks + Drop, T: RowTaker>(
     ensures counted { IfOk result (λ counts. OfEach (S.Holds source.new.blocks) (λ image. counts
         ≡ remains_files_from (image_of found.now image) 0 items.now)) }
     ensures narrows { OfEach (S.Holds source.new.blocks) (S.Holds source.old.blocks) }
-    ensures failed { IfErr result (IsFaultOf (SomeFail (S.Holds source.new.blocks) (S.Fails source.old.blocks))) }
+    ensures failed { IfErr result (IsFaultOf (SomeFail (S.Holds source.new.blocks)
+        (S.Fails source.old.blocks))) }
     ensures later { FailsWhere (S.Fails source.new.blocks) (S.Fails source.old.blocks) }
     ensures reference { T.reference taker.new ≡ T.reference taker.old }
     ensures place { T.place taker.new ≡ T.place taker.old }
@@ -132,7 +134,8 @@ fn give_remains<S: PlacedBlocks + Drop, T: RowTaker>(
     ensures counted { IfOk result (λ counts. OfEach (S.Holds source.new.blocks) (λ image.
         IsFoundOf finds.now limit image → counts ≡ files_by image (Some finds.now.mdb))) }
     ensures narrows { OfEach (S.Holds source.new.blocks) (S.Holds source.old.blocks) }
-    ensures failed { IfErr result (IsFaultOf (SomeFail (S.Holds source.new.blocks) (S.Fails source.old.blocks))) }
+    ensures failed { IfErr result (IsFaultOf (SomeFail (S.Holds source.new.blocks)
+        (S.Fails source.old.blocks))) }
     ensures later { FailsWhere (S.Fails source.new.blocks) (S.Fails source.old.blocks) }
     ensures reference { T.reference taker.new ≡ T.reference taker.old }
     ensures place { T.place taker.new ≡ T.place taker.old }
@@ -169,7 +172,8 @@ fn give_found<S: PlacedBlocks + Drop, T: RowTaker>(
     ensures counted { IfOk result (λ counts. OfEach (S.Holds source.new.blocks) (λ image.
         IsFoundOf finds.now limit image → counts ≡ files_by image (Some finds.now.mdb))) }
     ensures narrows { OfEach (S.Holds source.new.blocks) (S.Holds source.old.blocks) }
-    ensures failed { IfErr result (IsFaultOf (SomeFail (S.Holds source.new.blocks) (S.Fails source.old.blocks))) }
+    ensures failed { IfErr result (IsFaultOf (SomeFail (S.Holds source.new.blocks)
+        (S.Fails source.old.blocks))) }
     ensures later { FailsWhere (S.Fails source.new.blocks) (S.Fails source.old.blocks) }
     ensures reference { T.reference taker.new ≡ T.reference taker.old }
     ensures place { T.place taker.new ≡ T.place taker.old }

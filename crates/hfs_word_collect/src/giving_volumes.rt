@@ -79,7 +79,8 @@ fn give_volume<S: PlacedBytes + Drop, K: PickedImage, F: ImageFile<S, K>, T: Row
     ensures counted { IfOk result (λ counts. F.Holds file.new K.image
         → counts ≡ volume_counts (bytes_in place.now.range (content_of layout K.image))) }
     ensures held { OfEach (F.Holds file.new) (F.Holds file.old) }
-    ensures failed { IfErr result (IsFaultOf (SomeFailOf (F.Holds file.new K.image × LiesIn place.now.range (content_of layout K.image))
+    ensures failed { IfErr result (IsFaultOf (SomeFailOf (F.Holds file.new K.image
+        × LiesIn place.now.range (content_of layout K.image))
         (length K.image) (F.Fails file.old))) }
     ensures later { FailsWhere (F.Fails file.new) (F.Fails file.old) }
     ensures reference { T.reference taker.new ≡ T.reference taker.old }
@@ -135,7 +136,8 @@ fn place_in<S: PlacedBytes + Drop, K: PickedImage, F: ImageFile<S, K>>(
         → place ≡ place_in others number found.now (content_of layout K.image)) }
     ensures range { IfOk result (λ place. place.range ≡ found.now.range) }
     ensures held { OfEach (F.Holds file.new) (F.Holds file.old) }
-    ensures failed { IfErr result (IsFaultOf (SomeFailOf (F.Holds file.new K.image × LiesIn found.now.range (content_of layout K.image))
+    ensures failed { IfErr result (IsFaultOf (SomeFailOf (F.Holds file.new K.image
+        × LiesIn found.now.range (content_of layout K.image))
         (length K.image) (F.Fails file.old))) }
     ensures later { FailsWhere (F.Fails file.new) (F.Fails file.old) }
 {
@@ -172,7 +174,8 @@ pub(crate) fn give_range<S: PlacedBytes + Drop, K: PickedImage, F: ImageFile<S, 
     ensures counted { IfOk result (λ counts. F.Holds file.new K.image
         → counts ≡ range_counts found.now (content_of layout K.image)) }
     ensures held { OfEach (F.Holds file.new) (F.Holds file.old) }
-    ensures failed { IfErr result (IsFaultOf (SomeFailOf (F.Holds file.new K.image × LiesIn found.now.range (content_of layout K.image))
+    ensures failed { IfErr result (IsFaultOf (SomeFailOf (F.Holds file.new K.image
+        × LiesIn found.now.range (content_of layout K.image))
         (length K.image) (F.Fails file.old))) }
     ensures later { FailsWhere (F.Fails file.new) (F.Fails file.old) }
     ensures reference { T.reference taker.new ≡ T.reference taker.old }

@@ -106,7 +106,8 @@ fn sectors_in<S: PlacedBytes + Drop>(source: &mut S) -> Result<Sectors, CollectF
             ensures others { IfOk result.1 (λ found. OfEach (S.Holds result.0)
                 (λ file. found.others ≡ others_by found.layout file)) }
             ensures held { OfEach (S.Holds result.0) (S.Holds source) }
-            ensures failed { IfErr result.1 (IsFaultOf (SomeFail (S.Holds result.0) (S.Fails source))) }
+            ensures failed { IfErr result.1 (IsFaultOf (SomeFail (S.Holds result.0)
+                (S.Fails source))) }
             ensures later { FailsWhere (S.Fails result.0) (S.Fails source) }
         { with_sectors(source) },
     )

@@ -103,7 +103,8 @@ fn with_digest<S: PlacedBlocks + Drop>(
     ensures digest { IfOk result.1 (λ value. OfEach (S.Holds result.0.blocks) (λ image. value
         ≡ digest_value (fork_bytes image mdb.now fork.now.length fork.now.places.items))) }
     ensures narrows { OfEach (S.Holds result.0.blocks) (S.Holds source.blocks) }
-    ensures failed { IfErr result.1 (IsFaultOf (SomeFail (S.Holds result.0.blocks) (S.Fails source.blocks))) }
+    ensures failed { IfErr result.1 (IsFaultOf (SomeFail (S.Holds result.0.blocks)
+        (S.Fails source.blocks))) }
     ensures later { FailsWhere (S.Fails result.0.blocks) (S.Fails source.blocks) }
 {
     let len = source.blocks.len();
@@ -122,7 +123,8 @@ fn taken_digest<S: PlacedBlocks + Drop>(
         ≡ where_taken taken (digest_value (fork_bytes image mdb.now
         fork.now.length fork.now.places.items)))) }
     ensures narrows { OfEach (S.Holds source.new.blocks) (S.Holds source.old.blocks) }
-    ensures failed { IfErr result (IsFaultOf (SomeFail (S.Holds source.new.blocks) (S.Fails source.old.blocks))) }
+    ensures failed { IfErr result (IsFaultOf (SomeFail (S.Holds source.new.blocks)
+        (S.Fails source.old.blocks))) }
     ensures later { FailsWhere (S.Fails source.new.blocks) (S.Fails source.old.blocks) }
 {
     if !taken {
@@ -136,7 +138,8 @@ fn taken_digest<S: PlacedBlocks + Drop>(
             ensures digest { IfOk result.1 (λ value. OfEach (S.Holds result.0.blocks) (λ image. value
                 ≡ digest_value (fork_bytes image mdb fork.now.length fork.now.places.items))) }
             ensures narrows { OfEach (S.Holds result.0.blocks) (S.Holds source.blocks) }
-            ensures failed { IfErr result.1 (IsFaultOf (SomeFail (S.Holds result.0.blocks) (S.Fails source.blocks))) }
+            ensures failed { IfErr result.1 (IsFaultOf (SomeFail (S.Holds result.0.blocks)
+                (S.Fails source.blocks))) }
             ensures later { FailsWhere (S.Fails result.0.blocks) (S.Fails source.blocks) }
         { with_digest(source, alloc, &mdb, fork) },
     )
@@ -154,7 +157,8 @@ fn digest<S: PlacedBlocks + Drop>(
         ≡ said_digest taken fork.now.verdict (fork_bytes image mdb.now
         fork.now.length fork.now.places.items))) }
     ensures narrows { OfEach (S.Holds source.new.blocks) (S.Holds source.old.blocks) }
-    ensures failed { IfErr result (IsFaultOf (SomeFail (S.Holds source.new.blocks) (S.Fails source.old.blocks))) }
+    ensures failed { IfErr result (IsFaultOf (SomeFail (S.Holds source.new.blocks)
+        (S.Fails source.old.blocks))) }
     ensures later { FailsWhere (S.Fails source.new.blocks) (S.Fails source.old.blocks) }
 {
     match &fork.verdict {
@@ -176,7 +180,8 @@ fn told<S: PlacedBlocks + Drop>(
         ≡ told_by taken fork.now.verdict (fork_bytes image mdb.now
         fork.now.length fork.now.places.items))) }
     ensures narrows { OfEach (S.Holds source.new.blocks) (S.Holds source.old.blocks) }
-    ensures failed { IfErr result (IsFaultOf (SomeFail (S.Holds source.new.blocks) (S.Fails source.old.blocks))) }
+    ensures failed { IfErr result (IsFaultOf (SomeFail (S.Holds source.new.blocks)
+        (S.Fails source.old.blocks))) }
     ensures later { FailsWhere (S.Fails source.new.blocks) (S.Fails source.old.blocks) }
 {
     let digest = digest(alloc, source, mdb, fork, taken)?;
@@ -201,7 +206,8 @@ fn told_fork<S: PlacedBlocks + Drop>(
     ensures told { IfOk result (λ told. OfEach (S.Holds source.new.blocks) (λ image. told
         ≡ told_fork taken (image_of found.now image) kind (shares_at found.now.salvage.now i))) }
     ensures narrows { OfEach (S.Holds source.new.blocks) (S.Holds source.old.blocks) }
-    ensures failed { IfErr result (IsFaultOf (SomeFail (S.Holds source.new.blocks) (S.Fails source.old.blocks))) }
+    ensures failed { IfErr result (IsFaultOf (SomeFail (S.Holds source.new.blocks)
+        (S.Fails source.old.blocks))) }
     ensures later { FailsWhere (S.Fails source.new.blocks) (S.Fails source.old.blocks) }
 {
     match found.fork(alloc, i, kind)? {
@@ -232,7 +238,8 @@ pub(crate) fn told_item<S: PlacedBlocks + Drop>(
     ensures counts { IfOk result (λ item. OfEach (S.Holds source.new.blocks) (λ image.
         item.counts ≡ remains_files (image_of found.now image) i (Some info.now))) }
     ensures narrows { OfEach (S.Holds source.new.blocks) (S.Holds source.old.blocks) }
-    ensures failed { IfErr result (IsFaultOf (SomeFail (S.Holds source.new.blocks) (S.Fails source.old.blocks))) }
+    ensures failed { IfErr result (IsFaultOf (SomeFail (S.Holds source.new.blocks)
+        (S.Fails source.old.blocks))) }
     ensures later { FailsWhere (S.Fails source.new.blocks) (S.Fails source.old.blocks) }
 {
     let path = found.path(alloc, i)?;
