@@ -17,9 +17,8 @@ use Rattle.hfs_model.specs.Lawful.{Has, AreLawful, IsFolder}
 use Rattle.hfs_model.specs.Choices.{is_held, is_full}
 use Rattle.hfs_model.specs.Changes.{touched, new_item, add}
 use Rattle.hfs_model.proofs.Counts.{count_edited}
-use Rattle.hfs_model.proofs.Facts.{none_is_some}
+use Rattle.hfs_model.proofs.Facts.{none_is_some, folder_is, not_full}
 use Rattle.hfs_model.proofs.Facts.{same_some}
-use Rattle.hfs_viewers.proofs.FactLemmas.{folder_is, not_full}
 use Rattle.hfs_model.proofs.Members.{In}
 use Rattle.hfs_model.proofs.Members.{has_from_in}
 use Rattle.hfs_viewers.specs.declared.place.Place.{Place}

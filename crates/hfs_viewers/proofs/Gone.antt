@@ -22,11 +22,10 @@ use Rattle.hfs_model.proofs.KeepsCalls.{same_entry}
 use Rattle.hfs_model.specs.Lawful.{Has}
 use Rattle.hfs_model.specs.Changes.{touched, moved, change}
 use Rattle.hfs_model.proofs.Counts.{count_edited}
-use Rattle.hfs_model.proofs.Facts.{none_is_some}
+use Rattle.hfs_model.proofs.Facts.{none_is_some, not_full}
 use Rattle.hfs_model.proofs.Facts.{same_some}
 use Rattle.hfs_model.proofs.Facts.{has_entry}
 use Rattle.hfs_model.proofs.Facts.{not_refused}
-use Rattle.hfs_viewers.proofs.FactLemmas.{not_full}
 use Rattle.hfs_viewers.specs.declared.place.Place.{Place}
 use Rattle.hfs_viewers.specs.declared.row.Row.{Row}
 use Rattle.hfs_viewers.specs.declared.row.RowKind.{RowKind}

@@ -14,7 +14,6 @@ pub mod Created
 pub mod Moved
 pub mod Gone
 pub mod Above
-pub mod FactLemmas
 mod NameLemmas
 pub mod PlaceLemmas
 pub mod ShownLemmas

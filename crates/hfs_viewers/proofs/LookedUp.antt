@@ -19,8 +19,7 @@ use Rattle.hfs_model.specs.declared.codes.TheConstants.{END_OF_FILE}
 use Rattle.hfs_model.specs.declared.reply.Value.TheVariants as value
 use Rattle.hfs_model.specs.Lawful.{Has, AreLawful}
 use Rattle.hfs_model.specs.Reading.{part_of}
-use Rattle.hfs_model.proofs.Facts.{found_has}
-use Rattle.hfs_viewers.proofs.FactLemmas.{folder_is}
+use Rattle.hfs_model.proofs.Facts.{found_has, folder_is}
 use Rattle.hfs_model.specs.Replies.{info_of}
 use Rattle.hfs_model.specs.declared.reply.Info.{Info}
 use Rattle.hfs_model.specs.declared.reply.ItemKind.TheVariants as item_kind
