@@ -58,7 +58,6 @@ fn give_volumes<S: PlacedBytes + Drop, K: PickedImage, F: ImageFile<S, K>, T: Ro
 }
 
 /// Gives the rows of the volumes in these ranges of an image, or of the lost one if there are none.
-#[tactic(auto, using(crate::proofs::FailingReads::picked_told_on))]
 fn give_all<S: PlacedBytes + Drop, K: PickedImage, F: ImageFile<S, K>, T: RowTaker>(
     alloc: Global,
     taker: &mut T,

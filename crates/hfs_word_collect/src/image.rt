@@ -176,7 +176,7 @@ fn image_values(
 }
 
 /// Gives a taker the rows of an image, as [`give_image`] says.
-#[tactic(auto, using(crate::proofs::FailingReads::picked_handed_on, crate::proofs::FailingReads::picked_told_on, crate::proofs::FailingReads::fault_by_memory, crate::proofs::FailingReads::fault_by_taker))]
+#[tactic(auto, using(crate::proofs::FailingReads::picked_handed_on, crate::proofs::FailingReads::fault_by_memory, crate::proofs::FailingReads::fault_by_taker))]
 fn give_rows<S: PlacedBytes + Drop, K: PickedImage, F: ImageFile<S, K>, T: RowTaker>(
     alloc: Global,
     taker: &mut T,

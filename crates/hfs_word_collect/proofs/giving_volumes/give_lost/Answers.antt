@@ -97,11 +97,11 @@ pub returns-in_err-image-clause-failed : goal.returns-in_err-image-clause-failed
 returns-in_err-image-clause-failed g c =
     let image = g.K.PickedImage.image in
     let Has = g.F.ImageFile.Holds c.open.new.self image in
-    fault_by_sparse (SomeFailOf Has (length image) (g.F.ImageFile.Fails c.args.file.now)) c.from_residual.result c.in_err-image.field-0.0
+    fault_by_sparse (SomeFailOf Has (length image) (g.F.ImageFile.Fails c.args.file.now)) c.from_residual-in_err-image.result c.in_err-image.field-0.0
     (λ told. part_picked g.S.PlacedBytes.Holds g.S.PlacedBytes.Fails image c.in-Some.bytes c.in-Some.bytes c.in-Some.ensures.inside (λ bytes own. own) c.in_ok-source.source Has
     (g.F.ImageFile.Fails c.args.file.now) c.in-Some.ensures.source (λ h. subst (λ s. g.S.PlacedBytes.Holds s image) (sym c.in-Some.ensures.source) (c.in_ok-source.ensures.noted image h))
     c.in_ok-source.ensures.fails (c.in_err-image.ensures.failed told))
-    c.from_residual.ensures.1
+    c.from_residual-in_err-image.ensures.1
 
 pub returns-in-Err-clause-failed : goal.returns-in-Err-clause-failed
 returns-in-Err-clause-failed g c =

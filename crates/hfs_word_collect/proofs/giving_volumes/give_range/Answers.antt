@@ -43,5 +43,5 @@ returns-in_err-counts-clause-failed g c =
     let content = content_of c.args.layout image in
     let Holds = g.F.ImageFile.Holds c.give_volume.new.file image in
     picked_handed_on (Holds × LiesIn c.args.found.now.range content) (Holds × LiesIn c.in_ok-place.place.range content) (length image) (g.F.ImageFile.Fails c.place_in.new.file) (g.F.ImageFile.Fails c.args.file.now)
-    c.from_residual.result c.in_err-counts.field-0.0 (λ h. (h.0, subst (λ (range : ByteRange). LiesIn range content) (sym c.in_ok-place.ensures.range) h.1)) c.in_ok-place.ensures.later c.from_residual.ensures.1
+    c.from_residual-in_err-counts.result c.in_err-counts.field-0.0 (λ h. (h.0, subst (λ (range : ByteRange). LiesIn range content) (sym c.in_ok-place.ensures.range) h.1)) c.in_ok-place.ensures.later c.from_residual-in_err-counts.ensures.1
     c.in_err-counts.ensures.failed
