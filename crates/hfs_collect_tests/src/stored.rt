@@ -1,4 +1,5 @@
 //! Images in memory, as the programs' files are opened.
+ghost use Rattle.std.specs.Prelude.{◌+◌, ◌<◌, length};
 
 use hfs_source::{MemoryBytes, SparseFault};
 use hfs_word_collect::{ImageFacts, ImageRows, NotedFile, Reopen};
@@ -12,6 +13,8 @@ pub struct Stored<'a> {
 }
 
 impl<'a> Reopen<MemoryBytes<'a>> for Stored<'a> {
+    ghost Fails = { λ stored place count. length stored.bytes.now < place + count };
+
     fn reopen(&mut self) -> Result<MemoryBytes<'a>, SparseFault> {
         Ok(MemoryBytes { bytes: self.bytes })
     }

@@ -11,3 +11,5 @@ mod Noting
 mod PartGiving
 mod WrittenImages
 mod Comparisons
+mod FailingReads
+mod HeldFiles

@@ -1,10 +1,12 @@
 -- What is given of a part of an image is given of what the part is of the picked one.
-use Rattle.std.proofs.Common.{◌≡◌, ◌++◌, ◌∷◌, ℕ, Bool, List, length, Some, None, Result, Ok, Err, ap, subst}
+use Rattle.std.proofs.Common.{◌≡◌, ◌++◌, ◌∷◌, ℕ, Bool, List, length, Some, None, Result, Ok, Err, subst}
 use Rattle.std.specs.Prelude.{IfErr, IfOk}
 use Rattle.hfs_bag.specs.Parts.{IsPartOf, PartValue}
 use Rattle.hfs_bag.proofs.Picking.{picked}
 use Rattle.hfs_check.specs.declared.mount_fault.MountFault.{MountFault}
+use Rattle.hfs_blocks.specs.Blocks.{block_at}
 use Rattle.hfs_check.specs.Faults.{fault_of}
+use Rattle.hfs_check.specs.Parts.{mdb_in}
 use Rattle.hfs_check.specs.VolumeOf.{volume_of}
 use Rattle.hfs_fields.specs.declared.mdb.Mdb.{Mdb}
 use Rattle.hfs_remains_forks.specs.Finds.{found_directory}
@@ -18,9 +20,8 @@ use Rattle.hfs_source.specs.Images.{HasLength, OfEach}
 use Rattle.hfs_word_collect.specs.declared.counts.ImageCounts.{ImageCounts}
 use Rattle.hfs_word_collect.specs.declared.places.VolumePlace.{VolumePlace}
 use Rattle.hfs_word_collect.specs.Counts.{counts_by_directory, fault_counts, file_total, lost_counts, no_volumes, sound_volume, volume_counts}
-use Rattle.hfs_word_collect.specs.Giving.{IsDirectoryOf}
 use Rattle.hfs_word_collect.specs.Items.{item_rows}
-use Rattle.hfs_word_collect.specs.Volumes.{fault_rows, lost_place, lost_rows, rows_by_directory, volume_rows, volume_values}
+use Rattle.hfs_word_collect.specs.Volumes.{fault_rows, lost_rows, rows_by_directory, volume_rows, volume_values}
 use Rattle.hfs_word_collect.proofs.VolumeCounting.{lost_refused_counted, lost_sound_counted, refused_counted, sound_counted}
 use Rattle.hfs_word_collect.proofs.VolumeGiving.{lost_given, lost_sound, refused_given, sound_given}
 
@@ -34,7 +35,7 @@ looked_err {A = A} {B = B} r x P is p = subst (λ (o : Result A B). IfErr o P) i
 module _ {S : Type 0} (Holds : S → List ℕ → Type 0) (image wanted : List ℕ) (part : PartValue S) (h : Holds part.source image) (is : OfEach (IsPartOf Holds image part) (λ bytes. bytes ≡ wanted)) where
   -- ---- a volume
 
-  pub sound_picked : (taken : Bool) (place : VolumePlace) (mdb : Mdb) (Fact : List TakenRow → Type 0) → OfEach (IsPartOf Holds image part) HasNoFault → OfEach (IsPartOf Holds image part) (IsDirectoryOf mdb)
+  pub sound_picked : (taken : Bool) (place : VolumePlace) (mdb : Mdb) (Fact : List TakenRow → Type 0) → OfEach (IsPartOf Holds image part) HasNoFault → OfEach (IsPartOf Holds image part) (λ bytes. mdb ≡ mdb_in (block_at bytes))
       → OfEach (IsPartOf Holds image part) (λ bytes. Fact (row_of Volume (volume_values place None (Some mdb)) ∷ item_rows taken (entries_of (volume_of bytes)))) → Fact (volume_rows taken place wanted)
   sound_picked taken place mdb Fact sound directory given =
       picked Holds image wanted part (λ bytes. Fact (volume_rows taken place bytes)) h is

@@ -1,17 +1,15 @@
 -- The rows of a volume, by what its image was found to be.
-use Rattle.std.proofs.Common.{◌≡◌, ◌∙◌, ℕ, ◌≤◌, ◌<◌, Bool, true, false, List, [], ◌∷◌, ◌++◌, length, take, drop, append-nil, append_assoc, Option, Some, None, refl, ap, sym, subst, arith}
-use Rattle.std.specs.Prelude.{nat_le}
-use Rattle.std.proofs.lemmas.Bool.{leb-true}
+use Rattle.std.proofs.Common.{◌≡◌, ◌∙◌, ℕ, ◌/◌, Bool, List, [], ◌∷◌, ◌++◌, length, append-nil, append_assoc, Option, Some, None, ap, sym, subst}
 use Rattle.hfs_fields.specs.declared.mdb.Mdb.{Mdb}
-use Rattle.hfs_fields.specs.Mdb.{mdb_of}
-use Rattle.hfs_blocks.specs.Blocks.{block_at, block_count}
 use Rattle.hfs_model.specs.Children.{entries_of}
 use Rattle.hfs_check.specs.declared.mount_fault.MountFault.{MountFault}
-use Rattle.hfs_check.specs.declared.mount_fault.MountFault.TheVariants.{TooLarge, Short}
-use Rattle.hfs_check.specs.Faults.{◌or_fault◌, fault_unless, length_fault, blocks_fault, fault_of}
+use Rattle.hfs_blocks.specs.Blocks.{block_at}
+use Rattle.hfs_check.specs.Faults.{fault_of}
 use Rattle.hfs_check.specs.Parts.{mdb_in}
 use Rattle.hfs_check.specs.VolumeOf.{volume_of}
-use Rattle.hfs_source.specs.Images.{HasAt}
+use Rattle.hfs_image.specs.declared.opening.NeededVolume.{NeededVolume}
+use Rattle.hfs_image.specs.Seen.{IsOpenedBy}
+use Rattle.hfs_image.proofs.LawsProved.{gathered_is_enough}
 use Rattle.hfs_database.specs.declared.value.Table.TheVariants.{Volume}
 use Rattle.hfs_database.specs.Taken.{TakenRow, row_of, IsBeginning}
 use Rattle.hfs_remains_forks.specs.declared.finds.Finds.{Finds}
@@ -21,37 +19,23 @@ use Rattle.hfs_word_collect.specs.Items.{item_rows}
 use Rattle.hfs_word_collect.specs.Refused.{rows_found}
 use Rattle.hfs_word_collect.specs.Remains.{remains_rows_by}
 use Rattle.hfs_word_collect.specs.Volumes.{fault_rows, lost_rows, rows_by_directory, volume_rows, volume_values}
-use Rattle.hfs_word_collect.specs.Giving.{IsDirectoryOf}
 
 -- ---- the directory
 
-long_by : (n : ℕ) (rest : Option MountFault) (few enough : Bool) → nat_le n 2147483648 ≡ few → nat_le 1536 n ≡ enough
-    → (fault_unless TooLarge few or_fault fault_unless Short enough) or_fault rest ≡ None → 1536 ≤ n
-long_by n rest few true e f none = leb-true 1536 n f
-long_by n rest true false e f none = cc
-long_by n rest false false e f none = cc
-
--- an image without a fault has a master directory block
-pub long_enough : (bytes : List ℕ) → fault_of bytes ≡ None → 1536 ≤ length bytes
-unfolding fault_of length_fault
-long_enough bytes none = long_by (length bytes) (blocks_fault (block_count bytes) (block_at bytes)) (nat_le (length bytes) 2147483648) (nat_le 1536 (length bytes)) refl refl none
-
-pub short_directory : (bytes : List ℕ) (len : ℕ) (mdb : Mdb) → len < 1536 → length bytes ≡ len → IsDirectoryOf mdb bytes
-short_directory bytes len mdb short whole = λ none. absurd (omega (arith, long_enough bytes none, whole, short))
-
-pub read_directory : (bytes block : List ℕ) (mdb : Mdb) → length block ≡ 512 → HasAt 1024 block bytes → mdb ≡ mdb_of (take 162 block) → IsDirectoryOf mdb bytes
-unfolding mdb_in
-read_directory bytes block mdb size read is = λ none. is ∙ ap (λ (b : List ℕ). mdb_of (take 162 b)) (read ∙ ap (λ (n : ℕ). take n (drop 1024 bytes)) size)
+-- that of an opened volume is the image's
+pub opened_directory : (bytes : List ℕ) (volume : NeededVolume) → IsOpenedBy volume bytes → volume.sound.mdb ≡ mdb_in (block_at bytes)
+opened_directory bytes volume opened =
+    opened.directory ∙ sym ((gathered_is_enough (length bytes / 512) bytes volume.read opened.needed opened.of).held opened.sound).directory
 
 -- ---- the rows
 
 module _ (bytes : List ℕ) (taken : Bool) (place : VolumePlace) (Fact : List TakenRow → Type 0) where
   -- of a sound volume
-  pub sound_given : (mdb : Mdb) → fault_of bytes ≡ None → IsDirectoryOf mdb bytes
+  pub sound_given : (mdb : Mdb) → fault_of bytes ≡ None → mdb ≡ mdb_in (block_at bytes)
       → Fact (row_of Volume (volume_values place None (Some mdb)) ∷ item_rows taken (entries_of (volume_of bytes))) → Fact (volume_rows taken place bytes)
   unfolding volume_rows fault_rows
   sound_given mdb none is given =
-      subst Fact (ap (λ (block : Mdb). row_of Volume (volume_values place None (Some block)) ∷ item_rows taken (entries_of (volume_of bytes))) (is none)
+      subst Fact (ap (λ (block : Mdb). row_of Volume (volume_values place None (Some block)) ∷ item_rows taken (entries_of (volume_of bytes))) is
       ∙ ap (λ (fault : Option MountFault). fault_rows taken place fault bytes) (sym none)) given
 
   module _ (why : MountFault) where

@@ -1,5 +1,5 @@
 -- What is written of an image whose rows met a fault, or whose end did.
-use Rattle.std.proofs.Common.{◌≡◌, ◌∙◌, sym, ap, subst, ℕ, Bool, true, false, List, [], ◌∷◌, ◌++◌, append-nil, length, take, Option, Some, None, Result, Ok, Err, OnOk, OnErr}
+use Rattle.std.proofs.Common.{◌≡◌, ◌∙◌, sym, ap, subst, ℕ, Bool, false, List, [], append-nil, length, take, Option, None, Result, Ok, Err, OnOk, OnErr}
 use Rattle.std.proofs.Math.Logic.{∥∥₁_map}
 use Rattle.std.proofs.lemmas.Option.{none-some}
 use lib.Seq.{take-append_seam}
@@ -7,7 +7,7 @@ use Rattle.std.specs.Io.KnownBytes.{Appends}
 use Rattle.hfs_database.specs.Taken.{TakenRow, IsBeginning}
 use Rattle.hfs_word_collect.specs.declared.fault.CollectFault.{CollectFault}
 use Rattle.hfs_word_collect.specs.declared.fault.CollectFault.TheVariants.{ReadFailed, CannotWrite, NoMemory}
-use Rattle.hfs_word_collect.specs.Looking.{IsFaultOf}
+use Rattle.hfs_word_collect.specs.Faults.{IsFaultOf}
 use Rattle.hfs_database.specs.declared.form.Form.{Form}
 use Rattle.hfs_database.specs.RowTexts.{image_text}
 use Rattle.hfs_database.specs.UnderWay.{WritesFront}
@@ -21,6 +21,13 @@ pub unread_by : (Unread : Type 0) (fault : CollectFault) (told : Option RunFault
 unread_by Unread ReadFailed told is none so = so
 unread_by Unread CannotWrite told is none so = absurd (none-some run.CannotWrite (sym none ∙ is))
 unread_by Unread NoMemory told is none so = absurd (none-some run.NoMemory (sym none ∙ is))
+
+-- of the two things that are so then
+pub unread_first : (P Q : Type 0) (fault : CollectFault) (told : Option RunFault) → told ≡ image_fault fault → told ≡ None → IsFaultOf (P × Q) fault → P
+unread_first P Q fault told is none so = (unread_by (P × Q) fault told is none so).0
+
+pub unread_second : (P Q : Type 0) (fault : CollectFault) (told : Option RunFault) → told ≡ image_fault fault → told ≡ None → IsFaultOf (P × Q) fault → Q
+unread_second P Q fault told is none so = (unread_by (P × Q) fault told is none so).1
 
 -- bytes that went out, or a beginning of them
 either_front : {E : Type 0} (old new : Option (List ℕ)) (text : List ℕ) (r : Result (Unit {0}) E) → OnOk r (Appends old new text) → OnErr r (WritesFront old new text)

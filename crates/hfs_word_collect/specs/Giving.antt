@@ -1,12 +1,8 @@
 -- Rows on their way to a taker.
-use Rattle.std.specs.Prelude.{◌≡◌, ℕ, suc, Bool, true, false, List, [], ◌∷◌, ◌++◌, length, Option, None}
+use Rattle.std.specs.Prelude.{◌≡◌, ℕ, suc, Bool, true, false, List, [], ◌∷◌, ◌++◌, length}
 use Rattle.hfs_model.specs.declared.call.Fork.TheVariants.{DataFork, ResFork}
 use Rattle.hfs_model.specs.declared.reply.Info.{Info}
 use Rattle.hfs_model.specs.Volume.{Entry}
-use Rattle.hfs_fields.specs.declared.mdb.Mdb.{Mdb}
-use Rattle.hfs_blocks.specs.Blocks.{block_at}
-use Rattle.hfs_check.specs.Faults.{fault_of}
-use Rattle.hfs_check.specs.Parts.{mdb_in}
 use Rattle.hfs_items.specs.ToldRows.{ToldRow}
 use Rattle.hfs_source.specs.Images.{OfEach}
 use Rattle.hfs_model.specs.Children.{entries_of}
@@ -37,7 +33,3 @@ GoesOn taken before after rows left old new bytes =
 abbrev pub GivesNext : Bool → (List ℕ → Type 0) → ℕ → ℕ → Bool → List ToldRow → List ToldRow → List TakenRow → List TakenRow → Type 0
 GivesNext taken Holds before after true rows left old new = OfEach Holds (GoesOn taken before after rows left old new) × (length rows ≡ suc (length left))
 GivesNext taken Holds before after false rows left old new = (new ≡ old) × (rows ≡ [])
-
--- the master directory block of a sound volume
-abbrev pub IsDirectoryOf : Mdb → List ℕ → Type 0
-IsDirectoryOf mdb bytes = fault_of bytes ≡ None → mdb ≡ mdb_in (block_at bytes)

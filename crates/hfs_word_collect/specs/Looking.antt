@@ -1,11 +1,9 @@
 -- What the first opening of an image tells.
-use Rattle.std.specs.Prelude.{◌≡◌, ⊤, ℕ, Bool, List, length}
+use Rattle.std.specs.Prelude.{◌≡◌, ℕ, Bool, List, length}
 use Rattle.hfs_source.specs.declared.ranges.Layout.{Layout}
 use Rattle.hfs_source.specs.declared.ranges.Layout.TheVariants.{Plain, Raw}
 use Rattle.hfs_source.specs.Raw.{layout_of}
 use Rattle.hfs_source.specs.Sectors.{other_count}
-use Rattle.hfs_word_collect.specs.declared.fault.CollectFault.{CollectFault}
-use Rattle.hfs_word_collect.specs.declared.fault.CollectFault.TheVariants.{ReadFailed, CannotWrite, NoMemory}
 use Rattle.hfs_word_collect.specs.declared.image.Look.{Look}
 use Rattle.hfs_word_collect.specs.Values.{digest_value, where_taken}
 
@@ -19,9 +17,3 @@ pub record IsLook (taken : Bool) (look : Look) (file : List ℕ) : Type 0 where
   pub digest : look.digest ≡ where_taken taken (digest_value file)
   pub layout : look.layout ≡ layout_of file
   pub others : look.others ≡ others_by look.layout file
-
--- where only the image can't be read, that is so
-abbrev pub IsFaultOf : Type 0 → CollectFault → Type 0
-IsFaultOf Unread ReadFailed = Unread
-IsFaultOf Unread CannotWrite = ⊤
-IsFaultOf Unread NoMemory = ⊤

@@ -1,8 +1,9 @@
 //! Putting an image's rows into the database.
-ghost use Rattle.std.specs.Prelude.{◌≡◌, ◌++◌, false, IfErr, IfNone, IfOk, IfSome, OnErr};
+ghost use Rattle.std.specs.Prelude.{◌≡◌, ◌++◌, false, length, IfErr, IfNone, IfOk, IfSome, OnErr};
+ghost use Rattle.hfs_bag.specs.Failing.{SomeFailOf};
 ghost use Rattle.hfs_word_collect.specs.Counts.{image_counts};
 ghost use Rattle.hfs_word_collect.specs.Images.{image_rows};
-ghost use Rattle.hfs_word_collect.specs.Looking.{IsFaultOf};
+ghost use Rattle.hfs_word_collect.specs.Faults.{IsFaultOf};
 ghost use Rattle.hfs_word_collect.specs.Collecting.{AreRowsOf};
 ghost use Rattle.hfs_database.specs.Transactions.{LeavesAllOrNone, LeavesAsBefore, LeavesFile, PutsAllInOne};
 
@@ -50,8 +51,10 @@ impl<S: PlacedBytes + Drop, K: PickedImage, F: ImageFile<S, K>> RowSource
 
     ghost Tells = { λ old new counts. F.Holds new.file K.image → counts ≡ image_counts K.image };
 
-    ghost Fails = { λ old new. IsFaultOf (F.IsUnread new.file) };
+    ghost Fails = { λ old new. IsFaultOf (F.IsUnread new.file
+        × SomeFailOf (F.Holds new.file K.image) (length K.image) (F.Fails old.file)) };
 
+    #[tactic(auto, using(crate::proofs::FailingReads::both_told))]
     fn give<T: RowTaker>(&mut self, taker: &mut T) -> Result<ImageCounts, CollectFault> {
         give_image::<S, K, F, T>(self.alloc, taker, &mut self.file, self.facts)
     }
@@ -61,7 +64,7 @@ impl<S: PlacedBytes + Drop, K: PickedImage, F: ImageFile<S, K>> RowSource
 /// holds. None if it can't be opened or not be read as far as needed: then nothing has changed, and no transaction is open. At a
 /// fault, the open database shows what it showed before; the file has all rows, or nothing in it has changed. Faults:
 /// `CannotWrite`, `NoMemory`.
-#[tactic(auto, using(crate::proofs::WrittenImages::unread_by))]
+#[tactic(auto, using(crate::proofs::WrittenImages::unread_first, crate::proofs::WrittenImages::unread_second))]
 pub fn collect_image<D: Alter + Drop, S: PlacedBytes + Drop, K: PickedImage, F: ImageFile<S, K>>(
     collection: &mut Collection<D>,
     rows: &mut ImageRows<'_, S, K, F>,
@@ -72,6 +75,8 @@ pub fn collect_image<D: Alter + Drop, S: PlacedBytes + Drop, K: PickedImage, F: 
     ensures counted { IfOk result (λ found. IfSome found (λ counts. F.Holds rows.new.file K.image
         → counts ≡ image_counts K.image)) }
     ensures unread { IfOk result (λ found. IfNone found (F.IsUnread rows.new.file)) }
+    ensures failed { IfOk result (λ found. IfNone found (SomeFailOf
+        (F.Holds rows.new.file K.image) (length K.image) (F.Fails rows.old.file))) }
     ensures left { IfOk result (λ found. IfNone found
         (LeavesFile D.Store collection.old.conn collection.new.conn)) }
     ensures ended { IfOk result (λ found. IfNone found

@@ -1,9 +1,11 @@
 //! The rows of the volumes in an image.
-ghost use Rattle.std.specs.Prelude.{◌≡◌, ◌++◌, IfOk, OnErr, OnOk};
+ghost use Rattle.std.specs.Prelude.{◌≡◌, ◌++◌, length, IfErr, IfOk, OnErr, OnOk};
+ghost use Rattle.hfs_bag.specs.Failing.{SomeFailOf};
 ghost use Rattle.hfs_source.specs.Found.{found_by};
-ghost use Rattle.hfs_bag.specs.Parts.{content_of};
+ghost use Rattle.hfs_bag.specs.Parts.{content_of, LieIn};
 ghost use Rattle.hfs_database.specs.Taken.{IsBeginning};
-ghost use Rattle.hfs_source.specs.Images.{OfEach};
+ghost use Rattle.hfs_source.specs.Images.{FailsWhere, OfEach};
+ghost use Rattle.hfs_word_collect.specs.Faults.{IsFaultOf};
 ghost use Rattle.hfs_word_collect.specs.Counts.{all_volume_counts, volume_counts_from};
 ghost use Rattle.hfs_word_collect.specs.Volumes.{all_volume_rows, volume_rows_from};
 
@@ -34,6 +36,9 @@ fn give_volumes<S: PlacedBytes + Drop, K: PickedImage, F: ImageFile<S, K>, T: Ro
     ensures counted { IfOk result (λ counts. F.Holds file.new K.image
         → counts ≡ volume_counts_from ranges.now (content_of layout K.image)) }
     ensures held { OfEach (F.Holds file.new) (F.Holds file.old) }
+    ensures failed { IfErr result (IsFaultOf (SomeFailOf (F.Holds file.new K.image
+        × LieIn ranges.now (content_of layout K.image)) (length K.image) (F.Fails file.old))) }
+    ensures later { FailsWhere (F.Fails file.new) (F.Fails file.old) }
     ensures reference { T.reference taker.new ≡ T.reference taker.old }
     ensures place { T.place taker.new ≡ T.place taker.old }
 {
@@ -70,6 +75,9 @@ fn give_all<S: PlacedBytes + Drop, K: PickedImage, F: ImageFile<S, K>, T: RowTak
     ensures counted { IfOk result (λ counts. F.Holds file.new K.image
         → counts ≡ all_volume_counts ranges.now (content_of layout K.image)) }
     ensures held { OfEach (F.Holds file.new) (F.Holds file.old) }
+    ensures failed { IfErr result (IsFaultOf (SomeFailOf (F.Holds file.new K.image
+        × LieIn ranges.now (content_of layout K.image)) (length K.image) (F.Fails file.old))) }
+    ensures later { FailsWhere (F.Fails file.new) (F.Fails file.old) }
     ensures reference { T.reference taker.new ≡ T.reference taker.old }
     ensures place { T.place taker.new ≡ T.place taker.old }
 {
@@ -80,6 +88,7 @@ fn give_all<S: PlacedBytes + Drop, K: PickedImage, F: ImageFile<S, K>, T: RowTak
 }
 
 /// The ranges of an image in which volumes lie, from a noted opening of it.
+#[tactic(auto, using(crate::proofs::FailingReads::unopened_fault))]
 fn find_ranges<S: PlacedBytes + Drop, K: PickedImage, F: ImageFile<S, K>>(
     alloc: Global,
     file: &mut F,
@@ -88,18 +97,25 @@ fn find_ranges<S: PlacedBytes + Drop, K: PickedImage, F: ImageFile<S, K>>(
     ensures found { IfOk result (λ ranges. F.Holds file.new K.image
         → ranges.items ≡ found_by layout (content_of layout K.image)) }
     ensures held { OfEach (F.Holds file.new) (F.Holds file.old) }
+    ensures failed { IfErr result (IsFaultOf (SomeFailOf (F.Holds file.new K.image)
+        (length K.image) (F.Fails file.old))) }
+    ensures later { FailsWhere (F.Fails file.new) (F.Fails file.old) }
 {
     let source = file.open()?;
     let Some(mut part) = ImagePart::<S, K>::whole(source, layout) else {
         return Err(CollectFault::ReadFailed);
     };
-    let ranges = find_contents(alloc, &mut part, layout)?;
+    let ranges = find_contents(alloc, &mut part, layout);
     file.note(part.source());
-    Ok(ranges)
+    match ranges {
+        Ok(ranges) => Ok(ranges),
+        Err(fault) => Err(CollectFault::from(fault)),
+    }
 }
 
 /// Gives the rows of the volumes in an image, or in the user data of its raw sectors, or of the lost one if there are none.
 /// Returns how much that is.
+#[tactic(auto, using(crate::proofs::FailingReads::picked_handed_on))]
 pub(crate) fn give_content<S: PlacedBytes + Drop, K: PickedImage, F: ImageFile<S, K>, T: RowTaker>(
     alloc: Global,
     taker: &mut T,
@@ -118,6 +134,9 @@ pub(crate) fn give_content<S: PlacedBytes + Drop, K: PickedImage, F: ImageFile<S
         ≡ all_volume_counts (found_by layout (content_of layout K.image))
         (content_of layout K.image)) }
     ensures held { OfEach (F.Holds file.new) (F.Holds file.old) }
+    ensures failed { IfErr result (IsFaultOf (SomeFailOf (F.Holds file.new K.image)
+        (length K.image) (F.Fails file.old))) }
+    ensures later { FailsWhere (F.Fails file.new) (F.Fails file.old) }
     ensures reference { T.reference taker.new ≡ T.reference taker.old }
     ensures place { T.place taker.new ≡ T.place taker.old }
 {

@@ -1,11 +1,13 @@
 //! The digests of forks.
-ghost use Rattle.std.specs.Prelude.{◌≡◌, IfOk};
+ghost use Rattle.std.specs.Prelude.{◌≡◌, IfErr, IfOk};
 ghost use Rattle.hex.specs.Hex.{encode_lower};
 ghost use Rattle.hfs_image.specs.Forks.{named_fork};
-ghost use Rattle.hfs_source.specs.Images.{OfEach};
+ghost use Rattle.hfs_source.specs.Images.{FailsWhere, OfEach};
 ghost use Rattle.hfs_model.specs.Children.{entries_of};
 ghost use Rattle.hfs_check.specs.VolumeOf.{volume_of};
 ghost use Rattle.hfs_database.specs.declared.value.RowValue.TheVariants.{Text};
+ghost use Rattle.hfs_bag.specs.Failing.{SomeFail};
+ghost use Rattle.hfs_word_collect.specs.Faults.{IsFaultOf};
 ghost use Rattle.hfs_word_collect.specs.Items.{found_digest};
 ghost use Rattle.hfs_word_collect.specs.Giving.{AreDigests};
 
@@ -34,6 +36,7 @@ pub(crate) fn digest_text(alloc: Global, digest: &[u8; 32]) -> Result<RowValue, 
 }
 
 /// The image, and the digest of a file's fork in it, as its row has it.
+#[tactic(auto, using(crate::proofs::FailingReads::read_held))]
 fn with_digest<S: PlacedBlocks + Drop>(
     image: SeenImage<S>,
     alloc: Global,
@@ -43,6 +46,8 @@ fn with_digest<S: PlacedBlocks + Drop>(
     ensures digest { IfOk result.1 (λ value. OfEach (S.Holds result.0) (λ bytes. value
         ≡ found_digest (named_fork (entries_of (volume_of bytes)) info.now.parent info.now.name fork))) }
     ensures narrows { OfEach (S.Holds result.0) (S.Holds image) }
+    ensures failed { IfErr result.1 (IsFaultOf (SomeFail (S.Holds result.0) (S.Fails image))) }
+    ensures later { FailsWhere (S.Fails result.0) (S.Fails image) }
 {
     let mut digest = DigestWriter::new();
     let (dir, name) = (info.parent, info.name.bytes());
@@ -54,9 +59,9 @@ fn with_digest<S: PlacedBlocks + Drop>(
         },
         Ok(Err(_)) => (image, Ok(RowValue::Empty)),
         Err(CopyFault::Memory) => (image, Err(CollectFault::NoMemory)),
-        Err(CopyFault::ReadFailed | CopyFault::BrokenOff | CopyFault::WriteFailed) => {
-            (image, Err(CollectFault::ReadFailed))
-        }
+        Err(CopyFault::ReadFailed) => (image, Err(CollectFault::ReadFailed)),
+        Err(CopyFault::BrokenOff) => (image, Err(CollectFault::ReadFailed)),
+        Err(CopyFault::WriteFailed) => (image, Err(CollectFault::CannotWrite)),
     }
 }
 
@@ -70,6 +75,8 @@ fn fork_digest<S: PlacedBlocks + Drop>(
     ensures digest { IfOk result (λ value. OfEach (S.Holds image.new) (λ bytes. value
         ≡ found_digest (named_fork (entries_of (volume_of bytes)) info.now.parent info.now.name fork))) }
     ensures narrows { OfEach (S.Holds image.new) (S.Holds image.old) }
+    ensures failed { IfErr result (IsFaultOf (SomeFail (S.Holds image.new) (S.Fails image.old))) }
+    ensures later { FailsWhere (S.Fails image.new) (S.Fails image.old) }
 {
     replace_with(
         image,
@@ -78,11 +85,15 @@ fn fork_digest<S: PlacedBlocks + Drop>(
             ensures digest { IfOk result.1 (λ value. OfEach (S.Holds result.0) (λ bytes. value
                 ≡ found_digest (named_fork (entries_of (volume_of bytes)) info.now.parent info.now.name fork))) }
             ensures narrows { OfEach (S.Holds result.0) (S.Holds image) }
+            ensures failed { IfErr result.1 (IsFaultOf (SomeFail (S.Holds result.0)
+                (S.Fails image))) }
+            ensures later { FailsWhere (S.Fails result.0) (S.Fails image) }
         { with_digest(image, alloc, info, fork) },
     )
 }
 
 /// The digests of both forks of an item, if they are to be taken; a folder has none.
+#[tactic(auto, using(crate::proofs::FailingReads::read_handed_on))]
 pub(crate) fn fork_digests<S: PlacedBlocks + Drop>(
     alloc: Global,
     image: &mut SeenImage<S>,
@@ -92,6 +103,8 @@ pub(crate) fn fork_digests<S: PlacedBlocks + Drop>(
     ensures digests { IfOk result (λ found. OfEach (S.Holds image.new)
         (λ bytes. AreDigests taken (entries_of (volume_of bytes)) info.now found)) }
     ensures narrows { OfEach (S.Holds image.new) (S.Holds image.old) }
+    ensures failed { IfErr result (IsFaultOf (SomeFail (S.Holds image.new) (S.Fails image.old))) }
+    ensures later { FailsWhere (S.Fails image.new) (S.Fails image.old) }
 {
     if !taken || info.kind == ItemKind::Folder {
         return Ok(ForkDigests {

@@ -1,6 +1,7 @@
 //! Images by their paths.
-ghost use Rattle.std.specs.Prelude.{IfOk, IfSome, IfNone};
-ghost use Rattle.hfs_word_collect.specs.Files.{IsHeldIn, IsLentOf, IsNotHeld, IsSameAs};
+ghost use Rattle.std.specs.Prelude.{◌≡◌, IfErr, IfOk, IfSome, IfNone};
+ghost use Rattle.hfs_source.specs.Images.{AllFail, FailsWhere};
+ghost use Rattle.hfs_word_collect.specs.Files.{IsHeldIn, IsLentOf, IsNotHeld, IsSameAs, held_failures};
 
 use crate::collecting::ImageRows;
 use crate::watched::WatchedFile;
@@ -66,6 +67,7 @@ pub fn can_open_database<R: Files>(rt: &R) -> bool {
 fn again<F: Read + Seek>(file: &StoredFile<F>) -> Result<Option<StoredFile<F>>, SparseFault>
     ensures same { IfOk result (λ found. IfSome found (IsSameAs file.now)) }
     ensures none { IfOk result (λ found. IfNone found (IsNotHeld file.now)) }
+    ensures fault { IfErr result (λ fault. fault ≡ SparseFault.Memory) }
 {
     match file.again() {
         Ok(found) => Ok(found),
@@ -79,6 +81,7 @@ impl<R: Files + AllocGlobal, W> FileByPath<'_, R, W> {
         ensures lent { IfOk result (λ found. IfSome found (IsLentOf self.now.held)) }
         ensures held { IfOk result (λ found. IfSome found (IsHeldIn self.now.held)) }
         ensures none { IfOk result (λ found. IfNone found (IfSome self.now.held IsNotHeld)) }
+        ensures fault { IfErr result (λ fault. fault ≡ SparseFault.Memory) }
     {
         match &self.held {
             Some(file) => again(file),
@@ -88,9 +91,13 @@ impl<R: Files + AllocGlobal, W> FileByPath<'_, R, W> {
 
     /// The file: what is held of it, or else it is opened; something that can't be sought in is held from then on. Errors: it
     /// can't be opened or read, memory was refused.
+    #[tactic(auto, using(crate::proofs::HeldFiles::unheld_fail))]
     fn stored(&mut self) -> Result<StoredFile<R::File>, SparseFault>
         ensures lent { IfOk result (IsLentOf self.old.held) }
         ensures held { IfOk result (IsHeldIn self.new.held) }
+        ensures failed { IfErr result (λ fault. fault ≡ SparseFault.ReadFailed
+            → AllFail (held_failures self.old.held)) }
+        ensures later { FailsWhere (held_failures self.new.held) (held_failures self.old.held) }
     {
         if let Some(file) = self.lent()? {
             return Ok(file);
@@ -108,6 +115,9 @@ impl<R: Files + AllocGlobal, W> FileByPath<'_, R, W> {
 
 impl<'a, R: Files + AllocGlobal, W: Watch> Reopen<WatchedFile<'a, R::File, W>>
     for FileByPath<'a, R, W> {
+    ghost Fails = { λ file. held_failures file.held };
+
+    #[tactic(auto, using(crate::proofs::HeldFiles::lent_failures))]
     fn reopen(&mut self) -> Result<WatchedFile<'a, R::File, W>, SparseFault> {
         let file = self.stored()?;
         self.watch.began(1, 1, file.len());

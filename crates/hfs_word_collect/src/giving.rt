@@ -1,12 +1,14 @@
 //! The rows of a volume's items, one after the other.
-ghost use Rattle.std.specs.Prelude.{◌≡◌, ◌+◌, ◌++◌, [], false, IfOk, IfSome, OnErr, OnOk};
+ghost use Rattle.std.specs.Prelude.{◌≡◌, ◌+◌, ◌++◌, [], false, IfErr, IfOk, IfSome, OnErr, OnOk};
 ghost use Rattle.hfs_model.specs.Children.{entries_of};
 ghost use Rattle.hfs_check.specs.VolumeOf.{volume_of};
-ghost use Rattle.hfs_source.specs.Images.{OfEach};
+ghost use Rattle.hfs_source.specs.Images.{FailsWhere, OfEach};
 ghost use Rattle.hfs_database.specs.Taken.{IsBeginning};
 ghost use Rattle.hfs_word_collect.specs.Items.{item_rows, item_rows_from};
 ghost use Rattle.hfs_items.specs.ToldRows.{told_rows};
 ghost use Rattle.hfs_word_collect.specs.Counts.{file_number, file_total};
+ghost use Rattle.hfs_bag.specs.Failing.{SomeFail};
+ghost use Rattle.hfs_word_collect.specs.Faults.{IsFaultOf};
 ghost use Rattle.hfs_word_collect.specs.Giving.{GivesItem, GivesNext, told_row};
 
 use crate::digests::fork_digests;
@@ -51,6 +53,7 @@ impl ItemCounts {
 }
 
 /// Gives the row of the item that these names lead to.
+#[tactic(auto, using(crate::proofs::FailingReads::read_handed_on, crate::proofs::FailingReads::fault_by_memory, crate::proofs::FailingReads::fault_by_taker))]
 fn give_item<S: PlacedBlocks + Drop, T: RowTaker>(
     alloc: Global,
     taker: &mut T,
@@ -64,6 +67,8 @@ fn give_item<S: PlacedBlocks + Drop, T: RowTaker>(
         (told_row names.now info.now) (T.given taker.old) (T.given taker.new))) }
     ensures part { OnErr result (T.given taker.new ≡ T.given taker.old) }
     ensures narrows { OfEach (S.Holds image.new) (S.Holds image.old) }
+    ensures failed { IfErr result (IsFaultOf (SomeFail (S.Holds image.new) (S.Fails image.old))) }
+    ensures later { FailsWhere (S.Fails image.new) (S.Fails image.old) }
     ensures reference { T.reference taker.new ≡ T.reference taker.old }
     ensures place { T.place taker.new ≡ T.place taker.old }
 {
@@ -74,7 +79,7 @@ fn give_item<S: PlacedBlocks + Drop, T: RowTaker>(
 }
 
 /// Gives the row of the next item, and returns whether there was one.
-#[tactic(auto, using(crate::proofs::Counting::files_more, crate::proofs::Counting::files_none))]
+#[tactic(auto, using(crate::proofs::Counting::files_more, crate::proofs::Counting::files_none, crate::proofs::FailingReads::read_handed_on, crate::proofs::FailingReads::fault_by_memory))]
 fn give_next<S: PlacedBlocks + Drop, T: RowTaker>(
     alloc: Global,
     taker: &mut T,
@@ -91,6 +96,8 @@ fn give_next<S: PlacedBlocks + Drop, T: RowTaker>(
     ensures ended { IfOk result (λ more. more ≡ false → inventory.new.left ≡ []) }
     ensures part { OnErr result (T.given taker.new ≡ T.given taker.old) }
     ensures narrows { OfEach (S.Holds image.new) (S.Holds image.old) }
+    ensures failed { IfErr result (IsFaultOf (SomeFail (S.Holds image.new) (S.Fails image.old))) }
+    ensures later { FailsWhere (S.Fails image.new) (S.Fails image.old) }
     ensures reference { T.reference taker.new ≡ T.reference taker.old }
     ensures place { T.place taker.new ≡ T.place taker.old }
 {
@@ -114,7 +121,7 @@ fn give_next<S: PlacedBlocks + Drop, T: RowTaker>(
 }
 
 /// Gives the rows of all items that are left, and returns how many files are among them.
-#[tactic(auto, using(crate::proofs::Counting::files_all))]
+#[tactic(auto, using(crate::proofs::Counting::files_all, crate::proofs::FailingReads::read_handed_on))]
 fn give_inventory<S: PlacedBlocks + Drop, T: RowTaker>(
     alloc: Global,
     taker: &mut T,
@@ -129,6 +136,8 @@ fn give_inventory<S: PlacedBlocks + Drop, T: RowTaker>(
         (T.given taker.old ++ item_rows_from taken (entries_of (volume_of bytes)) 0 inventory.old.left))) }
     ensures counted { IfOk result (λ files. files ≡ file_total inventory.old.left) }
     ensures narrows { OfEach (S.Holds image.new) (S.Holds image.old) }
+    ensures failed { IfErr result (IsFaultOf (SomeFail (S.Holds image.new) (S.Fails image.old))) }
+    ensures later { FailsWhere (S.Fails image.new) (S.Fails image.old) }
     ensures reference { T.reference taker.new ≡ T.reference taker.old }
     ensures place { T.place taker.new ≡ T.place taker.old }
 {
@@ -138,7 +147,7 @@ fn give_inventory<S: PlacedBlocks + Drop, T: RowTaker>(
 }
 
 /// Gives the rows of all items of a volume, and returns how many files are among them.
-#[tactic(auto, using(crate::proofs::Counting::files_of))]
+#[tactic(auto, using(crate::proofs::Counting::files_of, crate::proofs::FailingReads::read_told_on, crate::proofs::FailingReads::fault_by_memory))]
 pub(crate) fn give_items<S: PlacedBlocks + Drop, T: RowTaker>(
     alloc: Global,
     taker: &mut T,
@@ -152,6 +161,8 @@ pub(crate) fn give_items<S: PlacedBlocks + Drop, T: RowTaker>(
     ensures counted { IfOk result (λ files. OfEach (S.Holds image.new) (λ bytes.
         files ≡ file_total (told_rows (entries_of (volume_of bytes))))) }
     ensures narrows { OfEach (S.Holds image.new) (S.Holds image.old) }
+    ensures failed { IfErr result (IsFaultOf (SomeFail (S.Holds image.new) (S.Fails image.old))) }
+    ensures later { FailsWhere (S.Fails image.new) (S.Fails image.old) }
     ensures reference { T.reference taker.new ≡ T.reference taker.old }
     ensures place { T.place taker.new ≡ T.place taker.old }
 {

@@ -1,6 +1,8 @@
 //! The rows of a refused volume, and of what remains of it.
-ghost use Rattle.std.specs.Prelude.{◌≡◌, ◌++◌, ◌*◌, [], ◌∷◌, Some, IfOk, IfSome, OnErr, OnOk};
-ghost use Rattle.hfs_source.specs.Images.{OfEach};
+ghost use Rattle.std.specs.Prelude.{◌≡◌, ◌++◌, ◌*◌, [], ◌∷◌, Some, IfErr, IfOk, IfSome, OnErr, OnOk};
+ghost use Rattle.hfs_bag.specs.Failing.{SomeFail};
+ghost use Rattle.hfs_source.specs.Images.{FailsWhere, OfEach};
+ghost use Rattle.hfs_word_collect.specs.Faults.{IsFaultOf};
 ghost use Rattle.hfs_rescue_items.specs.Found.{told};
 ghost use Rattle.hfs_database.specs.declared.value.Table.TheVariants as table;
 ghost use Rattle.hfs_database.specs.Taken.{IsBeginning, row_of};
@@ -22,10 +24,11 @@ use hfs_fields::Mdb;
 use hfs_remains::FoundRecord;
 use hfs_remains_forks::{Finds, RefusedImage, salvage_of, usual_limit};
 use hfs_rescue_items::{Found, told_of};
-use hfs_source::{BlockSource, PlacedBlocks};
+use hfs_source::{PlacedBlocks, SeenBlocks};
 use std::alloc::Global;
 
 /// Gives the row of a volume.
+#[tactic(auto, using(crate::proofs::FailingReads::fault_by_memory, crate::proofs::FailingReads::fault_by_taker))]
 pub(crate) fn give_volume_row<T: RowTaker>(
     alloc: Global,
     taker: &mut T,
@@ -36,6 +39,7 @@ pub(crate) fn give_volume_row<T: RowTaker>(
     ensures whole { OnOk result (T.given taker.new ≡ T.given taker.old
         ++ row_of table.Volume (volume_values place.now fault directory.now) ∷ []) }
     ensures part { OnErr result (T.given taker.new ≡ T.given taker.old) }
+    ensures failed { IfErr result (IsFaultOf ⊥) }
     ensures reference { T.reference taker.new ≡ T.reference taker.old }
     ensures place { T.place taker.new ≡ T.place taker.old }
 {
@@ -45,22 +49,25 @@ pub(crate) fn give_volume_row<T: RowTaker>(
 }
 
 /// Gives the row of an item that remains, with this number, and returns whether it is a file, and whether it is whole.
-#[tactic(auto, using(crate::proofs::RemainsGoing::none_told, crate::proofs::RemainsGoing::row_told, crate::proofs::Counting::none_counted, crate::proofs::Counting::row_counted))]
-fn give_remaining_item<S: BlockSource, T: RowTaker>(
+#[tactic(auto, using(crate::proofs::RemainsGoing::none_told, crate::proofs::RemainsGoing::row_told, crate::proofs::Counting::none_counted, crate::proofs::Counting::row_counted, crate::proofs::FailingReads::read_handed_on, crate::proofs::FailingReads::fault_by_taker))]
+fn give_remaining_item<S: PlacedBlocks + Drop, T: RowTaker>(
     alloc: Global,
     taker: &mut T,
-    source: &mut S,
+    source: &mut SeenBlocks<S>,
     found: &Found<'_>,
     i: usize,
     item: &FoundRecord,
     taken: bool,
 ) -> Result<FileCounts, CollectFault>
-    ensures whole { OnOk result (OfEach (S.Holds source.new) (λ image. T.given taker.new
+    ensures whole { OnOk result (OfEach (S.Holds source.new.blocks) (λ image. T.given taker.new
         ≡ T.given taker.old ++ remains_row taken (image_of found.now image) i (told item.now))) }
-    ensures counted { IfOk result (λ more. OfEach (S.Holds source.new) (λ image. more
+    ensures counted { IfOk result (λ more. OfEach (S.Holds source.new.blocks) (λ image. more
         ≡ remains_files (image_of found.now image) i (told item.now))) }
     ensures part { OnErr result (T.given taker.new ≡ T.given taker.old) }
-    ensures narrows { OfEach (S.Holds source.new) (S.Holds source.old) }
+    ensures narrows { OfEach (S.Holds source.new.blocks) (S.Holds source.old.blocks) }
+    ensures failed { IfErr result (IsFaultOf (SomeFail (S.Holds source.new.blocks)
+        (S.Fails source.old.blocks))) }
+    ensures later { FailsWhere (S.Fails source.new.blocks) (S.Fails source.old.blocks) }
     ensures reference { T.reference taker.new ≡ T.reference taker.old }
     ensures place { T.place taker.new ≡ T.place taker.old }
 {
@@ -73,22 +80,26 @@ fn give_remaining_item<S: BlockSource, T: RowTaker>(
 }
 
 /// Gives the rows of items that remain, with numbers from 0 on, and returns how many files are among them.
-fn give_remaining<S: BlockSource, T: RowTaker>(
+#[tactic(auto, using(crate::proofs::FailingReads::read_handed_on))]
+fn give_remaining<S: PlacedBlocks + Drop, T: RowTaker>(
     alloc: Global,
     taker: &mut T,
-    source: &mut S,
+    source: &mut SeenBlocks<S>,
     found: &Found<'_>,
     items: &[FoundRecord],
     taken: bool,
 ) -> Result<FileCounts, CollectFault>
-    ensures whole { OnOk result (OfEach (S.Holds source.new) (λ image. T.given taker.new
+    ensures whole { OnOk result (OfEach (S.Holds source.new.blocks) (λ image. T.given taker.new
         ≡ T.given taker.old ++ remains_rows_from taken (image_of found.now image) 0 items.now)) }
-    ensures part { OnErr result (OfEach (S.Holds source.new) (λ image. IsBeginning
+    ensures part { OnErr result (OfEach (S.Holds source.new.blocks) (λ image. IsBeginning
         (T.given taker.new) (T.given taker.old
         ++ remains_rows_from taken (image_of found.now image) 0 items.now))) }
-    ensures counted { IfOk result (λ counts. OfEach (S.Holds source.new) (λ image. counts
+    ensures counted { IfOk result (λ counts. OfEach (S.Holds source.new.blocks) (λ image. counts
         ≡ remains_files_from (image_of found.now image) 0 items.now)) }
-    ensures narrows { OfEach (S.Holds source.new) (S.Holds source.old) }
+    ensures narrows { OfEach (S.Holds source.new.blocks) (S.Holds source.old.blocks) }
+    ensures failed { IfErr result (IsFaultOf (SomeFail (S.Holds source.new.blocks)
+        (S.Fails source.old.blocks))) }
+    ensures later { FailsWhere (S.Fails source.new.blocks) (S.Fails source.old.blocks) }
     ensures reference { T.reference taker.new ≡ T.reference taker.old }
     ensures place { T.place taker.new ≡ T.place taker.old }
 {
@@ -105,23 +116,27 @@ fn give_remaining<S: BlockSource, T: RowTaker>(
 
 /// Gives the rows of what was found of a volume, and returns how many files are among them. At most `limit` bytes are taken of
 /// all forks.
-fn give_remains<S: BlockSource, T: RowTaker>(
+#[tactic(auto, using(crate::proofs::FailingReads::read_told_on, crate::proofs::FailingReads::fault_by_memory))]
+fn give_remains<S: PlacedBlocks + Drop, T: RowTaker>(
     alloc: Global,
     taker: &mut T,
-    source: &mut S,
+    source: &mut SeenBlocks<S>,
     finds: &Finds,
     limit: u64,
     taken: bool,
 ) -> Result<FileCounts, CollectFault>
-    ensures whole { OnOk result (OfEach (S.Holds source.new) (λ image.
+    ensures whole { OnOk result (OfEach (S.Holds source.new.blocks) (λ image.
         IsFoundOf finds.now limit image → T.given taker.new
         ≡ T.given taker.old ++ remains_rows_by taken image (Some finds.now.mdb))) }
-    ensures part { OnErr result (OfEach (S.Holds source.new) (λ image.
+    ensures part { OnErr result (OfEach (S.Holds source.new.blocks) (λ image.
         IsFoundOf finds.now limit image → IsBeginning (T.given taker.new)
         (T.given taker.old ++ remains_rows_by taken image (Some finds.now.mdb)))) }
-    ensures counted { IfOk result (λ counts. OfEach (S.Holds source.new) (λ image.
+    ensures counted { IfOk result (λ counts. OfEach (S.Holds source.new.blocks) (λ image.
         IsFoundOf finds.now limit image → counts ≡ files_by image (Some finds.now.mdb))) }
-    ensures narrows { OfEach (S.Holds source.new) (S.Holds source.old) }
+    ensures narrows { OfEach (S.Holds source.new.blocks) (S.Holds source.old.blocks) }
+    ensures failed { IfErr result (IsFaultOf (SomeFail (S.Holds source.new.blocks)
+        (S.Fails source.old.blocks))) }
+    ensures later { FailsWhere (S.Fails source.new.blocks) (S.Fails source.old.blocks) }
     ensures reference { T.reference taker.new ≡ T.reference taker.old }
     ensures place { T.place taker.new ≡ T.place taker.old }
 {
@@ -137,25 +152,29 @@ fn give_remains<S: BlockSource, T: RowTaker>(
 
 /// Gives the row of a refused volume of which this was found, and those of what remains of it, and returns how many files are
 /// among the latter.
-fn give_found<S: BlockSource, T: RowTaker>(
+#[tactic(auto, using(crate::proofs::FailingReads::read_told_on, crate::proofs::FailingReads::fault_means))]
+fn give_found<S: PlacedBlocks + Drop, T: RowTaker>(
     alloc: Global,
     taker: &mut T,
-    source: &mut S,
+    source: &mut SeenBlocks<S>,
     place: &VolumePlace,
     why: MountFault,
     finds: &Finds,
     limit: u64,
     taken: bool,
 ) -> Result<FileCounts, CollectFault>
-    ensures whole { OnOk result (OfEach (S.Holds source.new) (λ image.
+    ensures whole { OnOk result (OfEach (S.Holds source.new.blocks) (λ image.
         IsFoundOf finds.now limit image → T.given taker.new
         ≡ T.given taker.old ++ rows_found taken place.now why finds.now image)) }
-    ensures part { OnErr result (OfEach (S.Holds source.new) (λ image.
+    ensures part { OnErr result (OfEach (S.Holds source.new.blocks) (λ image.
         IsFoundOf finds.now limit image → IsBeginning (T.given taker.new)
         (T.given taker.old ++ rows_found taken place.now why finds.now image))) }
-    ensures counted { IfOk result (λ counts. OfEach (S.Holds source.new) (λ image.
+    ensures counted { IfOk result (λ counts. OfEach (S.Holds source.new.blocks) (λ image.
         IsFoundOf finds.now limit image → counts ≡ files_by image (Some finds.now.mdb))) }
-    ensures narrows { OfEach (S.Holds source.new) (S.Holds source.old) }
+    ensures narrows { OfEach (S.Holds source.new.blocks) (S.Holds source.old.blocks) }
+    ensures failed { IfErr result (IsFaultOf (SomeFail (S.Holds source.new.blocks)
+        (S.Fails source.old.blocks))) }
+    ensures later { FailsWhere (S.Fails source.new.blocks) (S.Fails source.old.blocks) }
     ensures reference { T.reference taker.new ≡ T.reference taker.old }
     ensures place { T.place taker.new ≡ T.place taker.old }
 {
@@ -175,7 +194,7 @@ fn limit_of<S: PlacedBlocks>(image: &RefusedImage<S>) -> u64
 }
 
 /// Gives the row of a volume that is refused, and those of what remains of it, and returns how much that is.
-pub(crate) fn give_refused<S: PlacedBlocks, T: RowTaker>(
+pub(crate) fn give_refused<S: PlacedBlocks + Drop, T: RowTaker>(
     alloc: Global,
     taker: &mut T,
     image: &mut RefusedImage<S>,
@@ -192,6 +211,9 @@ pub(crate) fn give_refused<S: PlacedBlocks, T: RowTaker>(
     ensures counted { IfOk result (λ counts. OfEach (S.Holds image.new.source.blocks)
         (λ bytes. counts ≡ fault_counts (Some image.old.why) bytes)) }
     ensures narrows { OfEach (S.Holds image.new.source.blocks) (S.Holds image.old.source.blocks) }
+    ensures failed { IfErr result (IsFaultOf (SomeFail (S.Holds image.new.source.blocks)
+        (S.Fails image.old.source.blocks))) }
+    ensures later { FailsWhere (S.Fails image.new.source.blocks) (S.Fails image.old.source.blocks) }
     ensures reference { T.reference taker.new ≡ T.reference taker.old }
     ensures place { T.place taker.new ≡ T.place taker.old }
 {
@@ -212,7 +234,7 @@ pub(crate) fn give_refused<S: PlacedBlocks, T: RowTaker>(
 
 /// Gives the row of a volume that is refused, and those of what remains of it, if it has a directory; otherwise no row. Returns
 /// how much that is.
-pub(crate) fn give_where_found<S: PlacedBlocks, T: RowTaker>(
+pub(crate) fn give_where_found<S: PlacedBlocks + Drop, T: RowTaker>(
     alloc: Global,
     taker: &mut T,
     image: &mut RefusedImage<S>,
@@ -229,6 +251,9 @@ pub(crate) fn give_where_found<S: PlacedBlocks, T: RowTaker>(
     ensures counted { IfOk result (λ counts. OfEach (S.Holds image.new.source.blocks)
         (λ bytes. counts ≡ counts_by_directory (found_directory bytes) bytes)) }
     ensures narrows { OfEach (S.Holds image.new.source.blocks) (S.Holds image.old.source.blocks) }
+    ensures failed { IfErr result (IsFaultOf (SomeFail (S.Holds image.new.source.blocks)
+        (S.Fails image.old.source.blocks))) }
+    ensures later { FailsWhere (S.Fails image.new.source.blocks) (S.Fails image.old.source.blocks) }
     ensures reference { T.reference taker.new ≡ T.reference taker.old }
     ensures place { T.place taker.new ≡ T.place taker.old }
 {

@@ -1,16 +1,17 @@
 //! The row of a volume, and those of its items.
-ghost use Rattle.std.specs.Prelude.{◌≡◌, ◌++◌, ◌∷◌, length, None, Some, IfOk, OnErr, OnOk};
+ghost use Rattle.std.specs.Prelude.{◌≡◌, ◌++◌, ◌∷◌, length, None, Some, IfErr, IfOk, OnErr, OnOk};
 ghost use Rattle.hfs_model.specs.Children.{entries_of};
 ghost use Rattle.hfs_check.specs.Faults.{fault_of};
 ghost use Rattle.hfs_check.specs.VolumeOf.{volume_of};
-ghost use Rattle.hfs_bag.specs.Parts.{content_of};
-ghost use Rattle.hfs_source.specs.Ranges.{bytes_in};
+ghost use Rattle.hfs_bag.specs.Parts.{content_of, LiesIn};
+ghost use Rattle.hfs_source.specs.Ranges.{bytes_in, found_as, range_of};
 ghost use Rattle.hfs_items.specs.ToldRows.{told_rows};
 ghost use Rattle.hfs_database.specs.declared.value.Table.TheVariants as table;
 ghost use Rattle.hfs_database.specs.Taken.{IsBeginning, row_of};
-ghost use Rattle.hfs_source.specs.Images.{OfEach};
+ghost use Rattle.hfs_source.specs.Images.{FailsWhere, OfEach};
 ghost use Rattle.hfs_word_collect.specs.Counts.{file_total, lost_counts, range_counts, volume_counts};
-ghost use Rattle.hfs_word_collect.specs.Giving.{IsDirectoryOf};
+ghost use Rattle.hfs_bag.specs.Failing.{SomeFail, SomeFailOf};
+ghost use Rattle.hfs_word_collect.specs.Faults.{IsFaultOf};
 ghost use Rattle.hfs_word_collect.specs.Items.{item_rows};
 ghost use Rattle.hfs_word_collect.specs.Volumes.{lost_place, lost_rows, place_in, range_rows, volume_rows, volume_values};
 
@@ -18,6 +19,7 @@ use crate::counts::ImageCounts;
 use crate::fault::CollectFault;
 use crate::giving::give_items;
 use crate::giving_remains::{give_refused, give_volume_row, give_where_found};
+use crate::noted::sum_of;
 use crate::places::VolumePlace;
 use crate::source::ImageFile;
 use hfs_bag::{ImagePart, PickedImage};
@@ -25,10 +27,11 @@ use hfs_database::RowTaker;
 use hfs_fields::Mdb;
 use hfs_image::SeenImage;
 use hfs_remains_forks::look;
-use hfs_source::{BlocksOf, FoundRange, Layout, PlacedBlocks, PlacedBytes, SeenBlocks, sum_told};
+use hfs_source::{BlocksOf, ByteRange, FoundRange, Layout, PlacedBlocks, PlacedBytes, SeenBlocks};
 use std::alloc::Global;
 
 /// Gives the row of a sound volume and those of its items, and returns how many files are among them.
+#[tactic(auto, using(crate::proofs::FailingReads::read_told_on))]
 fn give_sound<S: PlacedBlocks + Drop, T: RowTaker>(
     alloc: Global,
     taker: &mut T,
@@ -47,6 +50,8 @@ fn give_sound<S: PlacedBlocks + Drop, T: RowTaker>(
     ensures counted { IfOk result (λ files. OfEach (S.Holds image.new) (λ bytes.
         files ≡ file_total (told_rows (entries_of (volume_of bytes))))) }
     ensures narrows { OfEach (S.Holds image.new) (S.Holds image.old) }
+    ensures failed { IfErr result (IsFaultOf (SomeFail (S.Holds image.new) (S.Fails image.old))) }
+    ensures later { FailsWhere (S.Fails image.new) (S.Fails image.old) }
     ensures reference { T.reference taker.new ≡ T.reference taker.old }
     ensures place { T.place taker.new ≡ T.place taker.old }
 {
@@ -55,23 +60,9 @@ fn give_sound<S: PlacedBlocks + Drop, T: RowTaker>(
     give_items(alloc, taker, image, taken)
 }
 
-/// The master directory block of an image, block 2; zeros if the image is too short.
-fn directory<S: PlacedBlocks>(blocks: &mut S) -> Result<Mdb, CollectFault>
-    ensures directory { IfOk result (λ mdb. OfEach (S.Holds blocks.new) (IsDirectoryOf mdb)) }
-    ensures narrows { OfEach (S.Holds blocks.new) (S.Holds blocks.old) }
-{
-    let mut block = [0; 512];
-    if blocks.len() < 1_536 {
-        return Ok(Mdb::read(&block));
-    }
-    match blocks.read_blocks(2, &mut block) {
-        Ok(()) => Ok(Mdb::read(&block)),
-        Err(_) => Err(CollectFault::ReadFailed),
-    }
-}
-
 /// Gives the row of the volume in a range of an image, and those of its items, or of what remains of them if it is refused.
 /// Returns how much that is.
+#[tactic(auto, using(crate::proofs::FailingReads::unopened_fault))]
 fn give_volume<S: PlacedBytes + Drop, K: PickedImage, F: ImageFile<S, K>, T: RowTaker>(
     alloc: Global,
     taker: &mut T,
@@ -88,6 +79,10 @@ fn give_volume<S: PlacedBytes + Drop, K: PickedImage, F: ImageFile<S, K>, T: Row
     ensures counted { IfOk result (λ counts. F.Holds file.new K.image
         → counts ≡ volume_counts (bytes_in place.now.range (content_of layout K.image))) }
     ensures held { OfEach (F.Holds file.new) (F.Holds file.old) }
+    ensures failed { IfErr result (IsFaultOf (SomeFailOf (F.Holds file.new K.image
+        × LiesIn place.now.range (content_of layout K.image))
+        (length K.image) (F.Fails file.old))) }
+    ensures later { FailsWhere (F.Fails file.new) (F.Fails file.old) }
     ensures reference { T.reference taker.new ≡ T.reference taker.old }
     ensures place { T.place taker.new ≡ T.place taker.old }
 {
@@ -95,10 +90,10 @@ fn give_volume<S: PlacedBytes + Drop, K: PickedImage, F: ImageFile<S, K>, T: Row
     let Some(bytes) = ImagePart::<S, K>::range(source, layout, place.range) else {
         return Err(CollectFault::ReadFailed);
     };
-    let mut blocks = BlocksOf { bytes };
-    let mdb = directory(&mut blocks)?;
+    let blocks = BlocksOf { bytes };
     match look(alloc, SeenBlocks { blocks })? {
         Ok(mut image) => {
+            let mdb = image.volume().sound.mdb;
             let given = give_sound(alloc, taker, &mut image, place, &mdb, taken);
             file.note_volume(&image);
             match given {
@@ -114,8 +109,22 @@ fn give_volume<S: PlacedBytes + Drop, K: PickedImage, F: ImageFile<S, K>, T: Row
     }
 }
 
+/// What was found in an image, as it lies in its own range.
+fn alone(found: &FoundRange) -> FoundRange
+    ensures { result ≡ found_as found.now.container (range_of 0 found.now.range.len) }
+{
+    FoundRange {
+        container: found.container,
+        range: ByteRange {
+            start: 0,
+            len: found.range.len,
+        },
+    }
+}
+
 /// Where the volume with this number that was found in an image lies. All bytes of a disk copy are read, to say whether its sum
 /// is right.
+#[tactic(auto, using(crate::proofs::FailingReads::unopened_fault))]
 fn place_in<S: PlacedBytes + Drop, K: PickedImage, F: ImageFile<S, K>>(
     file: &mut F,
     layout: Layout,
@@ -127,18 +136,26 @@ fn place_in<S: PlacedBytes + Drop, K: PickedImage, F: ImageFile<S, K>>(
         → place ≡ place_in others number found.now (content_of layout K.image)) }
     ensures range { IfOk result (λ place. place.range ≡ found.now.range) }
     ensures held { OfEach (F.Holds file.new) (F.Holds file.old) }
+    ensures failed { IfErr result (IsFaultOf (SomeFailOf (F.Holds file.new K.image
+        × LiesIn found.now.range (content_of layout K.image))
+        (length K.image) (F.Fails file.old))) }
+    ensures later { FailsWhere (F.Fails file.new) (F.Fails file.old) }
 {
     let source = file.open()?;
-    let Some(mut part) = ImagePart::<S, K>::whole(source, layout) else {
+    let Some(part) = ImagePart::<S, K>::range(source, layout, found.range) else {
         return Err(CollectFault::ReadFailed);
     };
-    let sum = sum_told(&mut part, found)?;
+    let (part, sum) = sum_of(part, &alone(found));
     file.note(part.source());
-    Ok(VolumePlace::of(others, number, found, sum))
+    match sum {
+        Ok(sum) => Ok(VolumePlace::of(others, number, found, sum)),
+        Err(fault) => Err(CollectFault::from(fault)),
+    }
 }
 
 /// Gives the row of the volume in a range of an image, with this number, and those of its items, or of what remains of them if it
 /// is refused. Returns how much that is.
+#[tactic(auto, using(crate::proofs::FailingReads::picked_told_on, crate::proofs::FailingReads::picked_handed_on))]
 pub(crate) fn give_range<S: PlacedBytes + Drop, K: PickedImage, F: ImageFile<S, K>, T: RowTaker>(
     alloc: Global,
     taker: &mut T,
@@ -157,6 +174,10 @@ pub(crate) fn give_range<S: PlacedBytes + Drop, K: PickedImage, F: ImageFile<S, 
     ensures counted { IfOk result (λ counts. F.Holds file.new K.image
         → counts ≡ range_counts found.now (content_of layout K.image)) }
     ensures held { OfEach (F.Holds file.new) (F.Holds file.old) }
+    ensures failed { IfErr result (IsFaultOf (SomeFailOf (F.Holds file.new K.image
+        × LiesIn found.now.range (content_of layout K.image))
+        (length K.image) (F.Fails file.old))) }
+    ensures later { FailsWhere (F.Fails file.new) (F.Fails file.old) }
     ensures reference { T.reference taker.new ≡ T.reference taker.old }
     ensures place { T.place taker.new ≡ T.place taker.old }
 {
@@ -167,6 +188,7 @@ pub(crate) fn give_range<S: PlacedBytes + Drop, K: PickedImage, F: ImageFile<S, 
 
 /// Gives the row of the volume that is lost in an image, and those of what remains of it, if it has a directory; otherwise no
 /// row. Returns how much that is.
+#[tactic(auto, using(crate::proofs::FailingReads::unopened_fault))]
 pub(crate) fn give_lost<S: PlacedBytes + Drop, K: PickedImage, F: ImageFile<S, K>, T: RowTaker>(
     alloc: Global,
     taker: &mut T,
@@ -185,6 +207,9 @@ pub(crate) fn give_lost<S: PlacedBytes + Drop, K: PickedImage, F: ImageFile<S, K
     ensures counted { IfOk result (λ counts. F.Holds file.new K.image
         → counts ≡ lost_counts (fault_of (content_of layout K.image)) (content_of layout K.image)) }
     ensures held { OfEach (F.Holds file.new) (F.Holds file.old) }
+    ensures failed { IfErr result (IsFaultOf (SomeFailOf (F.Holds file.new K.image)
+        (length K.image) (F.Fails file.old))) }
+    ensures later { FailsWhere (F.Fails file.new) (F.Fails file.old) }
     ensures reference { T.reference taker.new ≡ T.reference taker.old }
     ensures place { T.place taker.new ≡ T.place taker.old }
 {

@@ -1,21 +1,26 @@
 //! The rows of an image.
 ghost use Rattle.std.specs.Prelude.{◌≡◌, ◌++◌, ℕ, List, length, IfErr, IfOk, OnErr, OnOk};
 ghost use Rattle.hfs_database.specs.Taken.{IsBeginning};
-ghost use Rattle.hfs_source.specs.Images.{OfEach};
+ghost use Rattle.hfs_source.specs.Images.{FailsWhere, OfEach};
+ghost use Rattle.hfs_source.specs.Raw.{layout_of};
 ghost use Rattle.hfs_word_collect.specs.Counts.{image_counts};
+ghost use Rattle.hfs_bag.specs.Failing.{SomeFail, SomeFailOf};
+ghost use Rattle.hfs_word_collect.specs.Faults.{IsFaultOf};
 ghost use Rattle.hfs_word_collect.specs.Images.{image_rows, image_values};
-ghost use Rattle.hfs_word_collect.specs.Looking.{IsFaultOf, IsLook, others_by};
+ghost use Rattle.hfs_word_collect.specs.Looking.{IsLook, others_by};
 ghost use Rattle.hfs_word_collect.specs.Values.{digest_value, where_taken};
 
 use crate::content::give_content;
 use crate::counts::ImageCounts;
 use crate::digests::digest_text;
 use crate::fault::CollectFault;
+use crate::noted::{Sectors, sectors_of};
 use crate::source::ImageFile;
 use crate::values::{push_number, push_value, push_whole_text};
+use core::mem::replace_with;
 use hfs_bag::{PickedImage, file_digest};
 use hfs_database::{RowTaker, RowValue, Table};
-use hfs_source::{Layout, PlacedBytes, count_others, layout_in};
+use hfs_source::{Layout, PlacedBytes};
 use std::alloc::{AllocError, Global};
 
 /// What is known of an image besides its bytes.
@@ -43,6 +48,7 @@ pub(crate) struct Look {
 }
 
 /// The digest of an image as its row has it, if it is to be taken.
+#[tactic(auto, using(crate::proofs::FailingReads::fault_by_memory))]
 fn digest_of<S: PlacedBytes>(
     alloc: Global,
     source: &mut S,
@@ -51,6 +57,8 @@ fn digest_of<S: PlacedBytes>(
     ensures digest { IfOk result (λ value. OfEach (S.Holds source.new)
         (λ file. value ≡ where_taken taken (digest_value file))) }
     ensures held { OfEach (S.Holds source.new) (S.Holds source.old) }
+    ensures failed { IfErr result (IsFaultOf (SomeFail (S.Holds source.new) (S.Fails source.old))) }
+    ensures later { FailsWhere (S.Fails source.new) (S.Fails source.old) }
 {
     if !taken {
         return Ok(RowValue::Empty);
@@ -61,32 +69,65 @@ fn digest_of<S: PlacedBytes>(
     }
 }
 
-/// How many sectors of an image have no user data, if they are raw; each is looked at.
-fn others_in<S: PlacedBytes>(source: &mut S, layout: Layout) -> Result<u64, CollectFault>
-    ensures others { IfOk result (λ others. OfEach (S.Holds source.new)
-        (λ file. others ≡ others_by layout file)) }
-    ensures held { OfEach (S.Holds source.new) (S.Holds source.old) }
+/// The source, how its bytes are laid out, and how many of its raw sectors have no user data.
+#[tactic(auto, using(crate::proofs::FailingReads::fault_of_sparse))]
+fn with_sectors<S: PlacedBytes>(source: S) -> (S, Result<Sectors, CollectFault>)
+    ensures layout { IfOk result.1 (λ found. OfEach (S.Holds result.0)
+        (λ file. found.layout ≡ layout_of file)) }
+    ensures others { IfOk result.1 (λ found. OfEach (S.Holds result.0)
+        (λ file. found.others ≡ others_by found.layout file)) }
+    ensures held { OfEach (S.Holds result.0) (S.Holds source) }
+    ensures failed { IfErr result.1 (IsFaultOf (SomeFail (S.Holds result.0) (S.Fails source))) }
+    ensures later { FailsWhere (S.Fails result.0) (S.Fails source) }
 {
-    match layout {
-        Layout::Plain => Ok(0),
-        Layout::Raw => match count_others(source) {
-            Ok(others) => Ok(others),
-            Err(_) => Err(CollectFault::ReadFailed),
-        },
+    let (source, told) = sectors_of(source);
+    match told {
+        Ok(sectors) => (source, Ok(sectors)),
+        Err(fault) => (source, Err(CollectFault::from(fault))),
     }
 }
 
+/// How the bytes of an image are laid out, and how many of its raw sectors have no user data; each is looked at.
+fn sectors_in<S: PlacedBytes + Drop>(source: &mut S) -> Result<Sectors, CollectFault>
+    ensures layout { IfOk result (λ found. OfEach (S.Holds source.new)
+        (λ file. found.layout ≡ layout_of file)) }
+    ensures others { IfOk result (λ found. OfEach (S.Holds source.new)
+        (λ file. found.others ≡ others_by found.layout file)) }
+    ensures held { OfEach (S.Holds source.new) (S.Holds source.old) }
+    ensures failed { IfErr result (IsFaultOf (SomeFail (S.Holds source.new) (S.Fails source.old))) }
+    ensures later { FailsWhere (S.Fails source.new) (S.Fails source.old) }
+{
+    replace_with(
+        source,
+        (),
+        |source, _|
+            ensures layout { IfOk result.1 (λ found. OfEach (S.Holds result.0)
+                (λ file. found.layout ≡ layout_of file)) }
+            ensures others { IfOk result.1 (λ found. OfEach (S.Holds result.0)
+                (λ file. found.others ≡ others_by found.layout file)) }
+            ensures held { OfEach (S.Holds result.0) (S.Holds source) }
+            ensures failed { IfErr result.1 (IsFaultOf (SomeFail (S.Holds result.0)
+                (S.Fails source))) }
+            ensures later { FailsWhere (S.Fails result.0) (S.Fails source) }
+        { with_sectors(source) },
+    )
+}
+
 /// What one opening of an image finds.
-fn look_at<S: PlacedBytes>(alloc: Global, source: &mut S, taken: bool) -> Result<Look, CollectFault>
+#[tactic(auto, using(crate::proofs::FailingReads::read_handed_on))]
+fn look_at<S: PlacedBytes + Drop>(
+    alloc: Global,
+    source: &mut S,
+    taken: bool,
+) -> Result<Look, CollectFault>
     ensures look { IfOk result (λ look. OfEach (S.Holds source.new) (IsLook taken look)) }
     ensures held { OfEach (S.Holds source.new) (S.Holds source.old) }
+    ensures failed { IfErr result (IsFaultOf (SomeFail (S.Holds source.new) (S.Fails source.old))) }
+    ensures later { FailsWhere (S.Fails source.new) (S.Fails source.old) }
 {
     let len = source.len();
     let digest = digest_of(alloc, source, taken)?;
-    let Ok(layout) = layout_in(source) else {
-        return Err(CollectFault::ReadFailed);
-    };
-    let others = others_in(source, layout)?;
+    let Sectors { layout, others } = sectors_in(source)?;
     Ok(Look {
         len,
         digest,
@@ -96,6 +137,7 @@ fn look_at<S: PlacedBytes>(alloc: Global, source: &mut S, taken: bool) -> Result
 }
 
 /// What an image is; what was read for that is noted.
+#[tactic(auto, using(crate::proofs::FailingReads::unopened_fault, crate::proofs::FailingReads::picked_of, crate::proofs::FailingReads::fault_told))]
 fn noted_look<S: PlacedBytes + Drop, K: PickedImage, F: ImageFile<S, K>>(
     alloc: Global,
     file: &mut F,
@@ -103,11 +145,14 @@ fn noted_look<S: PlacedBytes + Drop, K: PickedImage, F: ImageFile<S, K>>(
 ) -> Result<Look, CollectFault>
     ensures look { IfOk result (λ look. OfEach (F.Holds file.new) (IsLook taken look)) }
     ensures held { OfEach (F.Holds file.new) (F.Holds file.old) }
+    ensures failed { IfErr result (IsFaultOf (SomeFailOf (F.Holds file.new K.image)
+        (length K.image) (F.Fails file.old))) }
+    ensures later { FailsWhere (F.Fails file.new) (F.Fails file.old) }
 {
     let mut source = file.open()?;
-    let look = look_at(alloc, &mut source, taken)?;
+    let look = look_at(alloc, &mut source, taken);
     file.note(&source);
-    Ok(look)
+    look
 }
 
 /// The values of an image's row.
@@ -131,6 +176,7 @@ fn image_values(
 }
 
 /// Gives a taker the rows of an image, as [`give_image`] says.
+#[tactic(auto, using(crate::proofs::FailingReads::picked_handed_on, crate::proofs::FailingReads::fault_by_memory, crate::proofs::FailingReads::fault_by_taker))]
 fn give_rows<S: PlacedBytes + Drop, K: PickedImage, F: ImageFile<S, K>, T: RowTaker>(
     alloc: Global,
     taker: &mut T,
@@ -144,6 +190,9 @@ fn give_rows<S: PlacedBytes + Drop, K: PickedImage, F: ImageFile<S, K>, T: RowTa
     ensures counted { IfOk result (λ counts. F.Holds file.new K.image
         → counts ≡ image_counts K.image) }
     ensures held { OfEach (F.Holds file.new) (F.Holds file.old) }
+    ensures failed { IfErr result (IsFaultOf (SomeFailOf (F.Holds file.new K.image)
+        (length K.image) (F.Fails file.old))) }
+    ensures later { FailsWhere (F.Fails file.new) (F.Fails file.old) }
     ensures reference { T.reference taker.new ≡ T.reference taker.old }
     ensures place { T.place taker.new ≡ T.place taker.old }
 {
@@ -163,6 +212,7 @@ fn give_rows<S: PlacedBytes + Drop, K: PickedImage, F: ImageFile<S, K>, T: RowTa
 /// volume's, with those of its items, or of what remains of them if it is refused; if there is no volume, those of the lost one.
 /// At a fault, what was given is a beginning of them. This holds for every picked image consistent with the bytes read. Faults:
 /// `ReadFailed`, and then the file is given up; `CannotWrite`; `NoMemory`.
+#[tactic(auto, using(crate::proofs::FailingReads::picked_before))]
 pub fn give_image<S: PlacedBytes + Drop, K: PickedImage, F: ImageFile<S, K>, T: RowTaker>(
     alloc: Global,
     taker: &mut T,
@@ -176,7 +226,10 @@ pub fn give_image<S: PlacedBytes + Drop, K: PickedImage, F: ImageFile<S, K>, T: 
     ensures counted { IfOk result (λ counts. F.Holds file.new K.image
         → counts ≡ image_counts K.image) }
     ensures fault { IfErr result (IsFaultOf (F.IsUnread file.new)) }
+    ensures failed { IfErr result (IsFaultOf (SomeFailOf (F.Holds file.new K.image)
+        (length K.image) (F.Fails file.old))) }
     ensures held { OfEach (F.Holds file.new) (F.Holds file.old) }
+    ensures later { FailsWhere (F.Fails file.new) (F.Fails file.old) }
     ensures reference { T.reference taker.new ≡ T.reference taker.old }
     ensures place { T.place taker.new ≡ T.place taker.old }
 {

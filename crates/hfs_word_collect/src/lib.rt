@@ -18,6 +18,7 @@ mod giving_volumes;
 mod image;
 mod items;
 mod lines;
+mod noted;
 mod places;
 mod reader;
 mod remains;

@@ -1,5 +1,6 @@
 //! An image's rows as text.
-ghost use Rattle.std.specs.Prelude.{◌≡◌, ◌++◌, IfNone, IfOk, IfSome, OnErr};
+ghost use Rattle.std.specs.Prelude.{◌≡◌, ◌++◌, length, IfNone, IfOk, IfSome, OnErr};
+ghost use Rattle.hfs_bag.specs.Failing.{SomeFailOf};
 ghost use Rattle.hfs_word_collect.specs.Counts.{image_counts};
 ghost use Rattle.hfs_word_collect.specs.Images.{image_rows};
 ghost use Rattle.hfs_word_collect.specs.Writing.{WritesPart, WritesSome, WritesWhole};
@@ -26,6 +27,8 @@ pub fn write_image<W: Write + Drop, S: PlacedBytes + Drop, K: PickedImage, F: Im
     ensures counted { IfOk result (λ counts. IfSome counts (λ told. F.Holds rows.new.file K.image
         → told ≡ image_counts K.image)) }
     ensures unread { IfOk result (λ counts. IfNone counts (F.IsUnread rows.new.file)) }
+    ensures failed { IfOk result (λ counts. IfNone counts (SomeFailOf
+        (F.Holds rows.new.file K.image) (length K.image) (F.Fails rows.old.file))) }
     ensures some { IfOk result (λ counts. IfNone counts (F.Holds rows.new.file K.image →
         WritesSome (W.contents taker.old.start.value) (W.contents taker.new.writer)
         taker.old.form (taker.old.given.rows ++ image_rows rows.old.facts.now K.image))) }

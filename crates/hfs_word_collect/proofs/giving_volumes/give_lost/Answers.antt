@@ -1,5 +1,5 @@
 -- What the whole content was found to hold.
-use Rattle.std.proofs.Common.{◌≡◌, ◌++◌, ◌∙◌, ℕ, List, length, ap, refl, subst, sym}
+use Rattle.std.proofs.Common.{◌≡◌, ◌++◌, ◌∙◌, length, ap, refl, subst, sym}
 use Rattle.hfs_fields.proofs.OutcomeLemmas.{on_err_then, on_ok, if_ok}
 use Rattle.hfs_check.specs.Faults.{fault_of}
 use Rattle.hfs_bag.specs.Parts.{IsPartOf, content_of}
@@ -11,6 +11,8 @@ use Rattle.hfs_word_collect.specs.declared.places.VolumePlace.{VolumePlace}
 use Rattle.hfs_word_collect.specs.Counts.{counts_by_directory, lost_counts}
 use Rattle.hfs_word_collect.specs.Volumes.{lost_place, lost_rows, rows_by_directory}
 use Rattle.hfs_word_collect.proofs.PartGiving.{looked_err, looked_ok, lost_long, lost_none, lost_none_told, lost_picked, lost_told}
+use Rattle.hfs_bag.specs.Failing.{SomeFailOf}
+use Rattle.hfs_word_collect.proofs.FailingReads.{fault_by_sparse, fault_told, part_picked, read_before, too_large}
 use Rattle.hfs_word_collect.proofs.giving_volumes.give_lost.Goals as goal
 
 pub returns-in-Ok-clause-held : goal.returns-in-Ok-clause-held
@@ -84,3 +86,32 @@ returns-in-Err-clause-counted g c =
     lost_told g.S.PlacedBytes.Holds image content part noted (λ bytes own. c.in-Some.ensures.whole bytes ((looked_err _ _ _ c.in-Err.is c.in_ok-image.ensures.back) bytes (narrows bytes own))) c.in-Err.image.why counts
     (λ bytes own. (looked_err _ _ _ c.in-Err.is c.in_ok-image.ensures.refused).refused bytes (narrows bytes own)) given in
     if_ok _ _ _ step c.give_where_found-given.ensures.counted
+
+pub returns-in_default-clause-failed : goal.returns-in_default-clause-failed
+returns-in_default-clause-failed g c =
+    let image = g.K.PickedImage.image in
+    too_large (g.F.ImageFile.Holds c.open.new.self image) c.args.layout image (g.F.ImageFile.Fails c.args.file.now)
+    (λ h. c.in_default.ensures.none (c.in_ok-source.ensures.noted image h))
+
+pub returns-in_err-image-clause-failed : goal.returns-in_err-image-clause-failed
+returns-in_err-image-clause-failed g c =
+    let image = g.K.PickedImage.image in
+    let Has = g.F.ImageFile.Holds c.open.new.self image in
+    fault_by_sparse (SomeFailOf Has (length image) (g.F.ImageFile.Fails c.args.file.now)) c.from_residual-in_err-image.result c.in_err-image.field-0.0
+    (λ told. part_picked g.S.PlacedBytes.Holds g.S.PlacedBytes.Fails image c.in-Some.bytes c.in-Some.bytes c.in-Some.ensures.inside (λ bytes own. own) c.in_ok-source.source Has
+    (g.F.ImageFile.Fails c.args.file.now) c.in-Some.ensures.source (λ h. subst (λ s. g.S.PlacedBytes.Holds s image) (sym c.in-Some.ensures.source) (c.in_ok-source.ensures.noted image h))
+    c.in_ok-source.ensures.fails (c.in_err-image.ensures.failed told))
+    c.from_residual-in_err-image.ensures.1
+
+pub returns-in-Err-clause-failed : goal.returns-in-Err-clause-failed
+returns-in-Err-clause-failed g c =
+    let image = g.K.PickedImage.image in
+    let Has = g.F.ImageFile.Holds c.note.new.self image in
+    let new = c.give_where_found-given.new.image.source.blocks.bytes in
+    let narrows = c.give_where_found-given.ensures.narrows in
+    fault_told _ (SomeFailOf Has (length image) (g.F.ImageFile.Fails c.args.file.now)) c.give_where_found-given.result
+    (λ some. part_picked g.S.PlacedBytes.Holds g.S.PlacedBytes.Fails image c.in-Some.bytes new c.in-Some.ensures.inside
+    (λ bytes own. (looked_err _ _ _ c.in-Err.is c.in_ok-image.ensures.back) bytes (narrows bytes own)) c.in_ok-source.source Has
+    (g.F.ImageFile.Fails c.args.file.now) c.in-Some.ensures.source (λ h. subst (λ s. g.S.PlacedBytes.Holds s image) c.source.ensures (c.note.ensures.noted image h))
+    c.in_ok-source.ensures.fails (read_before _ _ _ (looked_err _ _ _ c.in-Err.is c.in_ok-image.ensures.back_later) some))
+    c.give_where_found-given.ensures.failed

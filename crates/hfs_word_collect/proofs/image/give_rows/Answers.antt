@@ -1,5 +1,5 @@
 -- The image's row, and behind it those of its volumes.
-use Rattle.std.proofs.Common.{◌≡◌, ◌++◌, ◌∷◌, [], ◌∙◌, ap}
+use Rattle.std.proofs.Common.{◌≡◌, ◌++◌, ◌∷◌, [], ◌∙◌, ap, length}
 use Rattle.hfs_fields.proofs.OutcomeLemmas.{on_err_then, on_ok, if_ok}
 use Rattle.hfs_source.specs.Found.{found_by}
 use Rattle.hfs_bag.specs.Parts.{content_of}
@@ -9,6 +9,7 @@ use Rattle.hfs_word_collect.specs.declared.counts.ImageCounts.{ImageCounts}
 use Rattle.hfs_word_collect.specs.Counts.{all_volume_counts, image_counts}
 use Rattle.hfs_word_collect.specs.Images.{image_rows}
 use Rattle.hfs_word_collect.specs.Volumes.{all_volume_rows}
+use Rattle.hfs_word_collect.proofs.FailingReads.{picked_told_on}
 use Rattle.hfs_word_collect.proofs.ImageGiving.{image_counted, image_given}
 use Rattle.hfs_word_collect.proofs.image.give_rows.Goals as goal
 
@@ -55,3 +56,10 @@ returns-clause-counted g c =
     let step : (counts : ImageCounts) → (Holds → counts ≡ all_volume_counts (found_by look.layout content) content) → (Holds → counts ≡ image_counts image) =
     λ counts given h. image_counted image look.layout counts (c.in_ok-look.ensures.look image (c.give_content.ensures.held image h)).layout (given h) in
     if_ok _ _ _ step c.give_content.ensures.counted
+
+pub returns-clause-failed : goal.returns-clause-failed
+returns-clause-failed g c =
+    let image = g.K.PickedImage.image in
+    let Holds = g.F.ImageFile.Holds c.give_content.new.file image in
+    picked_told_on Holds Holds (length image) (g.F.ImageFile.Fails c.noted_look.new.file) (g.F.ImageFile.Fails c.args.file.now) c.give_content.result (λ h. h) c.in_ok-look.ensures.later
+    c.give_content.ensures.failed
