@@ -27,13 +27,13 @@ use std::io::Write;
 
 /// One of both forks of a file, as the catalog records it.
 #[derive(Clone, Copy)]
-pub(crate) struct RecordedFork<'a> {
+pub struct RecordedFork<'a> {
     /// The file's ID.
-    pub(crate) file: u32,
+    pub file: u32,
     /// Which of both forks it is.
-    pub(crate) kind: ForkKind,
+    pub kind: ForkKind,
     /// How long it is, and its first extents.
-    pub(crate) fields: &'a ForkRecord,
+    pub fields: &'a ForkRecord,
 }
 
 /// A fork as a call names it.
