@@ -10,6 +10,7 @@ mod fork_writing;
 mod forks;
 mod found;
 mod items;
+mod kinds;
 mod laws;
 mod lines;
 mod looking;
