@@ -1,5 +1,5 @@
 //! The bag of an image, given to any shelf.
-ghost use Rattle.std.specs.Prelude.{◌≡◌, ◌++◌, IfErr, IfOk, OnErr, OnOk, string_bytes};
+ghost use Rattle.std.specs.Prelude.{◌≡◌, ◌++◌, Bool, IfErr, IfOk, OnErr, OnOk, string_bytes};
 ghost use Rattle.std.specs.Option.{option_map};
 ghost use Rattle.hfs_bag.specs.Sums.{IsSumOf};
 ghost use Rattle.hfs_check.specs.Report.{report_of};
@@ -102,6 +102,17 @@ fn told_of<S: PlacedBlocks>(
     })
 }
 
+/// What a bag says about an image besides its items, and the words that ask for it.
+#[derive(Clone, Copy)]
+struct ImageFacts<'a> {
+    words: &'a TakeWords<'a>,
+    /// How many bytes the image has.
+    len: u64,
+    /// Where it lies in its file, if it was looked for there.
+    line: Option<&'a str>,
+    told: &'a Told,
+}
+
 /// Gives a shelf the bag of these items of an image, with what it says about the image.
 fn give_items<R: Threads, S: PlacedBlocks + Drop + Send, T: Shelf, W: Watch>(
     threads: &R,
@@ -109,22 +120,21 @@ fn give_items<R: Threads, S: PlacedBlocks + Drop + Send, T: Shelf, W: Watch>(
     shelf: &mut T,
     watched: &mut WatchedItems<'_, ImageItems<S>, W>,
     beside: &mut Option<SeenBlocks<S>>,
-    told: Told,
-    line: Option<&str>,
-    words: &TakeWords<'_>,
-    len: u64,
-    is_made: bool,
+    about: &ImageFacts<'_>,
 ) -> Result<BagSums, BagFault>
-    requires len { OfEach (S.Holds watched.old.items.source.image) (HasLength len) }
+    requires len { OfEach (S.Holds watched.old.items.source.image) (HasLength about.now.len) }
     requires root { OfEach (S.Holds watched.old.items.source.image)
         (λ bytes. BeginsWith watched.old.items.root (told_rows (entries_in bytes))) }
-    requires told { OfEach (S.Holds watched.old.items.source.image) (IsToldOf words.now is_made told) }
+    requires told { (is_made : Bool) × OfEach (S.Holds watched.old.items.source.image)
+        (IsToldOf about.now.words.now is_made about.now.told.now) }
     requires planned { OfEach (S.Holds watched.old.items.source.image)
-        (IsPlanned beside.old words.now.is_digested told.digest) }
+        (IsPlanned beside.old about.now.words.now.is_digested about.now.told.now.digest) }
     ensures whole { OnOk result (OfEach (HoldsBoth S.Holds watched.new.items.source.image beside.new)
-        (OfBag (text_in line.entry) words.now (λ bag. T.given shelf.new ≡ T.given shelf.old ++ bag))) }
+        (OfBag (text_in about.now.line) about.now.words.now
+        (λ bag. T.given shelf.new ≡ T.given shelf.old ++ bag))) }
     ensures part { OnErr result (OfEach (HoldsBoth S.Holds watched.new.items.source.image beside.new)
-        (OfBag (text_in line.entry) words.now (λ bag. IsBeginning (T.given shelf.new) (T.given shelf.old ++ bag)))) }
+        (OfBag (text_in about.now.line) about.now.words.now
+        (λ bag. IsBeginning (T.given shelf.new) (T.given shelf.old ++ bag)))) }
     ensures sums { IfOk result (λ sums. OfEach (S.Holds watched.new.items.source.image)
         (λ bytes. IsSumOf sums (bag_items (entries_in bytes)))) }
     ensures fault { IfErr result (IsFillFault (T.Fails (T.place shelf.old)) (S.Holds watched.new.items.source.image)) }
@@ -132,31 +142,26 @@ fn give_items<R: Threads, S: PlacedBlocks + Drop + Send, T: Shelf, W: Watch>(
     ensures narrows { OfEach (S.Holds watched.new.items.source.image) (S.Holds watched.old.items.source.image) }
 {
     let identifier = plain_name(alloc, watched.items.root.name.bytes())?;
-    let Told {
-        name,
-        report,
-        digest,
-    } = told;
-    let is_digested = words.is_digested;
+    let (words, told) = (about.words, about.told);
     let first = give_first(
         threads,
         alloc,
         shelf,
         watched,
-        digest,
+        told.digest,
         beside,
-        len,
-        is_digested,
+        about.len,
+        words.is_digested,
     )?;
     let facts = BagFacts {
         identifier: identifier.as_str(),
         program: words.program,
-        image: name.as_str(),
-        volume: line,
+        image: told.name.as_str(),
+        volume: about.line,
         directory: None,
-        bytes: len,
+        bytes: about.len,
         digest: first.1,
-        report: report.as_str(),
+        report: told.report.as_str(),
     };
     let sums = give_tag_files(alloc, shelf, watched, &facts, &first.0)?;
     Ok(sums)
@@ -235,18 +240,13 @@ pub fn give_image<R: Threads, S: PlacedBlocks + Drop + Send, T: Shelf, W: Watch>
     };
     let line = text_in(&volume);
     let mut watched = WatchedItems::new(items, watch, item_count(&report));
-    let sums = give_items(
-        threads,
-        alloc,
-        shelf,
-        &mut watched,
-        &mut beside,
-        told,
-        line,
+    let about = ImageFacts {
         words,
         len,
-        is_made,
-    );
+        line,
+        told: &told,
+    };
+    let sums = give_items(threads, alloc, shelf, &mut watched, &mut beside, &about);
     GivenBag {
         sums,
         image: watched.into_items().into_image(),

@@ -34,8 +34,11 @@ give_items-sums-requires-clause-root g c κs within = λ image h.
     (c.in-Ok-new.ensures.root image (subst (λ s. g.S.PlacedBlocks.Holds s image) (ap (λ (items : ImageItems g.row.S.Denot). items.source.image) c.new-watched.ensures ∙ c.in-Ok-new.ensures.image) h))
 
 pub give_items-sums-requires-clause-told : goal.give_items-sums-requires-clause-told
-give_items-sums-requires-clause-told g c κs within = λ image h.
-    c.in-Ok.ensures.told image (subst (λ s. g.S.PlacedBlocks.Holds s image) (ap (λ (items : ImageItems g.row.S.Denot). items.source.image) c.new-watched.ensures ∙ c.in-Ok-new.ensures.image) h)
+give_items-sums-requires-clause-told g c κs within = (
+  _,
+  λ image h.
+      c.in-Ok.ensures.told image (subst (λ s. g.S.PlacedBlocks.Holds s image) (ap (λ (items : ImageItems g.row.S.Denot). items.source.image) c.new-watched.ensures ∙ c.in-Ok-new.ensures.image) h),
+)
 
 pub give_items-sums-requires-clause-planned : goal.give_items-sums-requires-clause-planned
 give_items-sums-requires-clause-planned g c κs within = λ image h.
