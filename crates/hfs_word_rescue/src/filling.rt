@@ -39,38 +39,49 @@ struct GivenFound<S: PlacedBlocks> {
     source: SeenBlocks<S>,
 }
 
-/// Gives a shelf the bag of what was found of an image of `len` bytes, with what it says about the image.
+/// What was found of an image, what a bag says about it besides, and the words that ask for it.
+#[derive(Clone, Copy)]
+struct FoundImage<'a> {
+    words: &'a BagWords<'a>,
+    /// How many bytes the image has.
+    len: u64,
+    /// Where the volume lies in its file, if it was looked for there.
+    line: Option<&'a str>,
+    found: &'a Found<'a>,
+    told: &'a Told,
+}
+
+/// Gives a shelf the bag of what was found of an image, with what it says about the image.
 fn give_found<S: PlacedBlocks + Drop, T: Shelf, W: Watch>(
     alloc: Global,
     shelf: &mut T,
     source: SeenBlocks<S>,
-    len: u64,
-    line: Option<&str>,
-    found: &Found<'_>,
-    told: &Told,
-    words: &BagWords<'_>,
+    image: &FoundImage<'_>,
     watch: &W,
 ) -> GivenFound<S>
-    requires found { EachKnown (S.Holds source.blocks) (λ known. OfKnown known len
-        (λ image. IsFoundOf image (limit_of words.now.words image) found.now)) }
-    requires told { EachKnown (S.Holds source.blocks)
-        (λ known. IsToldOf known len found.now.mdb.now words.now told.now) }
+    requires found { EachKnown (S.Holds source.blocks) (λ known. OfKnown known image.now.len
+        (λ bytes. IsFoundOf bytes (limit_of image.now.words.now.words bytes) image.now.found.now)) }
+    requires told { EachKnown (S.Holds source.blocks) (λ known. IsToldOf known image.now.len
+        image.now.found.now.mdb.now image.now.words.now image.now.told.now) }
     ensures whole { OnOk result.came (EachKnown (S.Holds result.source.blocks)
-        (λ known. OfKnownBag known len (text_in line.entry) words.now (λ bag. T.given shelf.new ≡ T.given shelf.old ++ bag))) }
+        (λ known. OfKnownBag known image.now.len (text_in image.now.line) image.now.words.now
+        (λ bag. T.given shelf.new ≡ T.given shelf.old ++ bag))) }
     ensures part { OnErr result.came (EachKnown (S.Holds result.source.blocks)
-        (λ known. OfKnownBag known len (text_in line.entry) words.now (λ bag. IsBeginning (T.given shelf.new) (T.given shelf.old ++ bag)))) }
+        (λ known. OfKnownBag known image.now.len (text_in image.now.line) image.now.words.now
+        (λ bag. IsBeginning (T.given shelf.new) (T.given shelf.old ++ bag)))) }
     ensures fault { IfErr result.came (IsUnfilled (T.Fails (T.place shelf.old))
-        (S.Holds result.source.blocks) len (text_in line.entry) words.now) }
+        (S.Holds result.source.blocks) image.now.len (text_in image.now.line) image.now.words.now) }
     ensures place { T.place shelf.new ≡ T.place shelf.old }
     ensures narrows { OfEach (S.Holds result.source.blocks) (S.Holds source.blocks) }
 {
+    let (found, told) = (image.found, image.told);
     let facts = BagFacts {
         identifier: told.identifier.as_str(),
-        program: words.program,
+        program: image.words.program,
         image: told.name.as_str(),
-        volume: line,
+        volume: image.line,
         directory: text_in(&told.directory),
-        bytes: len,
+        bytes: image.len,
         digest: told.digest,
         report: told.report.as_str(),
     };
@@ -142,9 +153,14 @@ pub fn give_remains<S: PlacedBlocks + Drop, T: Shelf, W: Watch>(
         Err(fault) => return not_given(fault, source),
     };
     let line = text_in(&line);
-    let GivenFound { came, source } = give_found(
-        alloc, shelf, source, len, line, &found, &told, words, watch,
-    );
+    let filled = FoundImage {
+        words,
+        len,
+        line,
+        found: &found,
+        told: &told,
+    };
+    let GivenFound { came, source } = give_found(alloc, shelf, source, &filled, watch);
     GivenRemains {
         answer: answered(came, answer),
         source,
