@@ -6,7 +6,6 @@ use Rattle.std.specs.Option.{option_and_then, option_map, option_or, option_to_l
 use Rattle.std.proofs.lemmas.Bool.{leb-true}
 use Rattle.hfs_fields.specs.Mdb.{bytes_at}
 use Rattle.hfs_fields.specs.Numbers.{number_at}
-use Rattle.hfs_fields.specs.Each.{Each}
 use Rattle.hfs_fields.proofs.ElementLemmas.{each-append}
 use Rattle.hfs_source.specs.declared.ranges.ByteRange.{ByteRange}
 use Rattle.hfs_source.specs.declared.ranges.Container.{Container}
@@ -19,11 +18,7 @@ use Rattle.hfs_source.specs.DiskCopy.{data_length, disk_copy_in, disk_copy_of, i
 use Rattle.hfs_source.specs.MacBinary.{data_fork_behind, data_fork_in, data_fork_of, filled, found_in_fork, is_macbinary_head, macbinary_in}
 use Rattle.hfs_source.specs.PartitionMap.{cut_at, entries_in, entry_count, is_hfs_entry, map_block_in, partition_of, partitions_among, partitions_in, partitions_of_map}
 use Rattle.hfs_source.specs.Found.{as_raw, each_once, found_by, found_in, found_raw_in, is_same_range, looked_for, looked_for_raw, with_new}
-use Rattle.hfs_bag.specs.Parts.{LiesIn}
-
--- each of these ranges lies there
-abbrev pub LieIn : List FoundRange → List ℕ → Type 0
-LieIn ranges content = Each (λ found. LiesIn found.range content) ranges
+use Rattle.hfs_bag.specs.Parts.{LieIn, LiesIn}
 
 -- ---- one place after the other
 

@@ -10,13 +10,8 @@ use Rattle.hfs_source.specs.Reading.{IsDataOfOne}
 use Rattle.hfs_source.specs.Sectors.{sector_count, user_data_of}
 use Rattle.hfs_source.proofs.DataLemmas.{length-user_data_of}
 use Rattle.hfs_source.specs.Images.{HasAt, HasLength, OfEach, ReachesTo}
-use Rattle.hfs_bag.specs.Failing.{SomeFail}
+use Rattle.hfs_bag.specs.Failing.{SomeFail, SomeFailOf}
 use Rattle.hfs_bag.specs.Parts.{FailsInContent, FailsInPart, IsInside, IsPartOf, PartValue, content_of}
-
--- of an image of so many bytes that is picked, and that may have what was read: a read of some of its bytes may fail, or it has 2^63 bytes or
--- more, as no file has
-abbrev pub SomeFailOf : Type 0 → ℕ → (ℕ → ℕ → Type 0) → Type 0
-SomeFailOf Has len Fails = ∥ (((place : ℕ) × (count : ℕ) × (Has → place + count ≤ len) × Fails place count) ⊎ (Has → 2 ^ 63 ≤ len)) ∥₁
 
 -- how many bytes of user data there are
 pub raw_long : (file : List ℕ) (len result : ℕ) → length file ≡ len → result ≡ len / 2352 * 2048 → length (user_data_of file) ≡ result

@@ -1,7 +1,9 @@
 -- Parts of an image that is picked.
 use Rattle.std.specs.Prelude.{◌≡◌, ℕ, ◌+◌, ◌<◌, ◌≤◌, ◌^◌, ◌⊎◌, List, length}
 use Rattle.hfs_source.specs.declared.ranges.Layout.{Layout}
+use Rattle.hfs_fields.specs.Each.{Each}
 use Rattle.hfs_source.specs.declared.ranges.ByteRange.{ByteRange}
+use Rattle.hfs_source.specs.declared.ranges.FoundRange.{FoundRange}
 use Rattle.hfs_source.specs.declared.ranges.Layout.TheVariants.{Plain, Raw}
 use Rattle.hfs_source.specs.Reading.{FailsInSector}
 use Rattle.hfs_source.specs.Ranges.{bytes_in, range_of}
@@ -32,6 +34,10 @@ pub record IsPartOf {S : Type 0} (Holds : S → List ℕ → Type 0) (image : Li
 -- the bytes of the range, if it has any, are in the content
 abbrev pub LiesIn : ByteRange → List ℕ → Type 0
 LiesIn range content = 1 ≤ range.len → range.start + range.len ≤ length content
+
+-- each of these ranges lies there
+abbrev pub LieIn : List FoundRange → List ℕ → Type 0
+LieIn ranges content = Each (λ found. LiesIn found.range content) ranges
 
 -- where a read of the content may fail: of raw sectors, where that of a sector may fail in which some of it is
 abbrev pub FailsInContent : Layout → (ℕ → ℕ → Type 0) → ℕ → ℕ → Type 0

@@ -17,44 +17,6 @@ pub record RiseTo (bytes : List ℕ) (i least : ℕ) : Type 0 where
   pub rises : (k : ℕ) → k + 1 < i → offset_of bytes k ≤ offset_of bytes (k + 1)
   pub least_low : 14 ≤ least
 
-pub rise-none : (bytes : List ℕ) → RiseTo bytes 0 14
-rise-none bytes =
-    record {
-      begun = λ _. refl;
-      last = λ k e. absurd (omega (arith, e));
-      low = λ k lt. absurd (omega (arith, lt));
-      most = λ k lt. absurd (omega (arith, lt));
-      rises = λ k lt. absurd (omega (arith, lt));
-      least_low = omega arith;
-    }
-
-pub rise-more : (bytes : List ℕ) (i least : ℕ) → RiseTo bytes i least → least ≤ offset_of bytes i → RiseTo bytes (i + 1) (offset_of bytes i)
-rise-more bytes i least is le =
-    let own = is.least_low in
-    record {
-      begun = λ e. absurd (omega (arith, e));
-      last = λ k e. (let same : i ≡ k = omega (arith, e) in ap (offset_of bytes) same);
-      low = λ k lt.
-          elim (cases_eq k i) [
-            | inl e ↦ (let P : ℕ → Type 0 = λ n. 14 ≤ offset_of bytes n in subst P (sym e) (omega (arith, own, le)))
-            | inr d ↦ is.low k (omega (arith, lt, d))
-          ];
-      most = λ k lt.
-          elim (cases_eq k i) [
-            | inl e ↦ (let P : ℕ → Type 0 = λ n. offset_of bytes n ≤ offset_of bytes i in subst P (sym e) (omega arith))
-            | inr d ↦ (let before = is.most k (omega (arith, lt, d)) in omega (arith, before, le))
-          ];
-      rises = λ k lt.
-          elim (cases_eq (k + 1) i) [
-            | inl e ↦ (
-                let before = is.most k (omega (arith, e)) in
-                let P : ℕ → Type 0 = λ n. offset_of bytes k ≤ offset_of bytes n in
-                subst P (sym e) (omega (arith, before, le)))
-            | inr d ↦ is.rises k (omega (arith, lt, d))
-          ];
-      least_low = omega (arith, own, le);
-    }
-
 -- offsets that rise up to the end and leave room for their row
 pub risen-in_order : (bytes : List ℕ) (i least : ℕ) → count_of bytes ≤ 248 → i ≡ count_of bytes + 1 → RiseTo bytes i least
     → least ≤ 510 - 2 * count_of bytes → (are_inside bytes && are_rising bytes) ≡ true

@@ -138,9 +138,6 @@ module _ (old new : Store) (at entry bit n : ℕ) (b : Bool) (p : IsPlaced old a
         let e = long-part in
         ap (λ (bs : List ℕ). bit_of bs n) bytes-new ∙ bits-here before w.part behind bit n (omega arith) p.number ∙ w.here
 
-    bit-was : bit_of (map_bytes old) n ≡ bit_of (part_in old at) bit
-    bit-was = ap (λ (bs : List ℕ). bit_of bs n) bytes-old ∙ bits-here before (part_in old at) behind bit n p.within p.number
-
     bit-other : (k : ℕ) → k ≢ n → bit_of (map_bytes new) k ≡ bit_of (map_bytes old) k
     bit-other k ne =
         ap (λ (bs : List ℕ). bit_of bs k) bytes-new

@@ -6,8 +6,3 @@ use Rattle.hfs_btree_edits.specs.Conditions.{IsThere, IsNoLonger}
 pub no_longer-there : (body : List ℕ) (o : Option (List ℕ)) → IsNoLonger body o → IsThere o
 no_longer-there body None h = h
 no_longer-there body (Some old) h = tt
-
--- the empty body is no longer than any that is there
-pub there-no_longer : (o : Option (List ℕ)) → IsThere o → IsNoLonger [] o
-there-no_longer None h = h
-there-no_longer (Some old) h = omega arith

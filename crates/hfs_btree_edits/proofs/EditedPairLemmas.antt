@@ -23,10 +23,6 @@ module _ {K : Type 0} (cmp : Order K) (total : IsTotalOrder cmp) where
   rises-before [] p ys h = tt
   rises-before (x ∷ xs) p ys h = ((each-right _ xs (p ∷ ys) h.0).0, rises-before xs p ys h.1)
 
-  pub rises-behind : (xs : Pairs K) (p : K × List ℕ) (ys : Pairs K) → Rises cmp (xs ++ p ∷ ys) → IsBelow cmp p.0 ys
-  rises-behind [] p ys h = h.0
-  rises-behind (x ∷ xs) p ys h = rises-behind xs p ys h.1
-
   -- a list stays rising where a pair is taken out
   pub rises-without : (xs : Pairs K) (p : K × List ℕ) (ys : Pairs K) → Rises cmp (xs ++ p ∷ ys) → Rises cmp (xs ++ ys)
   rises-without [] p ys h = h.1

@@ -33,11 +33,6 @@ placed-mark nodes at entry bit n p lt =
     marked-here nodes n lt ∙ ap (λ (bs : List ℕ). bit_of bs n) (map-split nodes p.done p.rest at p.split)
     ∙ bits-here _ (part_in nodes at) _ bit n p.within p.number ∙ ap (λ (i : ℕ). bit_of (record_in nodes at i) bit) (sym p.which)
 
-pub placed-bit : (nodes : Store) (at entry bit n : ℕ) → IsPlaced nodes at entry bit n → bit < 8 * length (record_in nodes at entry)
-placed-bit nodes at entry bit n p =
-    let P : ℕ → Type 0 = λ i. bit < 8 * length (record_in nodes at i) in
-    subst P (sym p.which) p.within
-
 -- what is marked is one of the tree's nodes
 pub marked-within : (nodes : Store) (n : ℕ) → IsMarked nodes n → n < (header_in nodes).nodes
 marked-within nodes n h =

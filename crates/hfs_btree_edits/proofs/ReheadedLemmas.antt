@@ -65,11 +65,6 @@ module _ {K : Type 0} (g : Ghosts K) (old new : Store) (d : IsRecounted g old ne
       let P : List Spot → Type 0 = λ ss. Each (λ s. AreKeysInOrder g new s.above s.n) ss in
       subst P (sym turn-is) (keyed-unchanged g old new (depth_of old) (root_level old) same h)
 
-  pub recounted-exact : IsExact g old → IsExact g new
-  recounted-exact h =
-      let P : List Spot → Type 0 = λ ss. Each (λ s. AreKeysExact g new s.above s.n) ss in
-      subst P (sym turn-is) (exact-unchanged g old new (depth_of old) (root_level old) same h)
-
   pub recounted-stray : (m : ℕ) → IsStray g new m ↔ IsStray g old m
   recounted-stray m =
       let P : List ℕ → Type 0 = λ ns. Each (IsOther m) ns in (

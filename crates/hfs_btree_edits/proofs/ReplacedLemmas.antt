@@ -21,7 +21,6 @@ use Rattle.hfs_btree.specs.Search.{leaf_for}
 use Rattle.hfs_btree.proofs.SearchLemmas.{IsLeafFor}
 use Rattle.hfs_btree_edits.specs.Edits.{HasReplaced, with_replaced}
 use Rattle.hfs_btree_edits.specs.Conditions.{IsNoLonger, IsThere}
-use Rattle.hfs_btree_edits.proofs.ConditionLemmas.{no_longer-there}
 use Rattle.hfs_btree.specs.Laid.{IsClear}
 use Rattle.hfs_btree.specs.Tree.{key_at}
 use Rattle.hfs_btree_edits.specs.KeptKeys.{EachKey}
@@ -369,9 +368,6 @@ module _ {K : Type 0} (g : Ghosts K) (total : IsTotalOrder g.compare) (old : Sto
   replaced-no_longer =
       let P : Option (List ℕ) → Type 0 = λ o. IsNoLonger body o in
       subst P (sym (found-body g total old key sound (none-there g old key body there) n goal bytes read)) there
-
-  pub replaced-there : IsThere (lookup g.compare key (map (pair_of g) (records_of (node_of bytes))))
-  replaced-there = no_longer-there body _ replaced-no_longer
 
   module _ (v : Node) (decodes : node_of bytes ≡ Ok v) (place : ℕ) (within : place < length (records_of (node_of bytes)))
       (equal : g.compare key (g.leaf_key (get_or (records_of (node_of bytes)) place [])) ≡ Equal) (made : List ℕ) where

@@ -48,6 +48,3 @@ pub some-records : (nodes : Store) (n : ℕ) (v : Node) → node_in nodes n ≡ 
 some-records nodes n v is long =
     let P : List (List ℕ) → Type 0 = λ xs. 30 ≤ length (get_or xs 0 []) in
     some-of v.records (subst P (ap records_of is) long)
-
-pub backward-put : (n left : ℕ) (node : Node) (old new : Store) → node_in old n ≡ Ok node → HasStored n (record node { backward = left }) old new → HasBackward n left old new
-backward-put n left node old new was stored = record { node = node; was = was; stored = stored }

@@ -1,8 +1,8 @@
 -- Lists of bytes, and what is read of them.
-use Rattle.std.proofs.Common.{◌≡◌, ℕ, zero, suc, ◌+◌, ◌-◌, ◌*◌, ◌^◌, ◌<◌, ◌≤◌, Bool, true, false, if◌then◌else◌, List, [], ◌∷◌, drop, take, length, length-take, replicate, sym, subst, arith}
-use Rattle.std.specs.Prelude.{nat_le, Result, Ok, Err}
-use Rattle.std.specs.List.{range_with_len}
-use Rattle.std.proofs.lemmas.Bool.{and_parts, leb-true}
+use Rattle.std.proofs.Common.{◌≡◌, ℕ, zero, suc, ◌+◌, ◌-◌, ◌*◌, ◌^◌, ◌<◌, ◌≤◌, Bool, true, false, if◌then◌else◌, List, [], ◌∷◌, drop, take, length, length-take, replicate, refl, sym, subst, arith}
+use Rattle.std.specs.Prelude.{nat_le, nat_lt, Result, Ok, Err}
+use Rattle.std.specs.List.{list_all, range_with_len}
+use Rattle.std.proofs.lemmas.Bool.{and_from, and_parts, leb-true, lt-ltb, ltb-true}
 use Rattle.std.proofs.lemmas.List.{get_or-drop}
 use Rattle.byteorder.specs.Numbers.{big_from-lt}
 use Rattle.hfs_fields.specs.Keys.{cat_key_of, cat_body_start, is_cat_key, is_cat_leaf, key_len, name_at, name_len}
@@ -34,6 +34,17 @@ no-bytes k = omega arith
 pub cons-bytes : (x : ℕ) (xs : List ℕ) → x < 256 → AreBytes xs → AreBytes (x ∷ xs)
 cons-bytes x xs first are zero = first
 cons-bytes x xs first are (suc k) = are k
+
+-- bytes, one by one, pass a test of each, and the other way round
+pub bytes-pass : (xs : List ℕ) → AreBytes xs → list_all (λ x. nat_lt x 256) xs ≡ true
+bytes-pass [] are = refl
+bytes-pass (x ∷ xs) are = and_from (nat_lt x 256) (list_all (λ x. nat_lt x 256) xs) (lt-ltb x 256 (are 0)) (bytes-pass xs (λ k. are (suc k)))
+
+pub pass-bytes : (xs : List ℕ) → list_all (λ x. nat_lt x 256) xs ≡ true → AreBytes xs
+pass-bytes [] is = no-bytes
+pass-bytes (x ∷ xs) is =
+    let parts = and_parts (nat_lt x 256) (list_all (λ x. nat_lt x 256) xs) is in
+    cons-bytes x xs (ltb-true x 256 parts.0) (pass-bytes xs parts.1)
 
 pub take-bytes : (n : ℕ) (xs : List ℕ) → AreBytes xs → AreBytes (take n xs)
 take-bytes zero xs are = no-bytes

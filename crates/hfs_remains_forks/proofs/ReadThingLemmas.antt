@@ -1,9 +1,9 @@
 -- Things that are read from bytes.
 use Rattle.std.proofs.Common.{◌≡◌, ◌⊎◌, ℕ, zero, suc, ◌+◌, ◌^◌, ◌<◌, ◌≤◌, Bool, true, false, ◌&&◌, ◌||◌, ◌==◌, not, if◌then◌else◌, List, [], ◌∷◌, ◌++◌, map, take, length, length-append, Option, Some, None, refl, sym, ap, subst, ◌∙◌, arith, inl, inr}
-use Rattle.std.specs.Prelude.{count_by, nat_lt}
+use Rattle.std.specs.Prelude.{count_by}
 use Rattle.std.specs.List.{range_with_len}
 use Rattle.std.specs.Option.{is_some, option_map_or, option_or, option_to_list, unwrap_or}
-use Rattle.std.proofs.lemmas.Bool.{and_from, and_parts, cases_eq, eq-eqb, leb-true, lt-ltb, ltb-true, ne_eqb}
+use Rattle.std.proofs.lemmas.Bool.{and_parts, cases_eq, eq-eqb, leb-true, ne_eqb}
 use Rattle.std.proofs.lemmas.List.FromFn.{length-range_with_len}
 use Rattle.std.proofs.lemmas.List.Sums.{count_by-le-length}
 use Rattle.hfs_fields.specs.Keys.{name_len}
@@ -19,7 +19,7 @@ use Rattle.hfs_remains.specs.Directory.{mdb_at}
 use Rattle.hfs_remains.specs.Items.{items_of}
 use Rattle.hfs_remains.specs.Remains.{remaining_records}
 use Rattle.hfs_remains.specs.declared.catalog.FoundRecord.{FoundRecord}
-use Rattle.hfs_remains.proofs.ByteLemmas.{block-bytes, cons-bytes, name-bytes, name-short, no-bytes, number-small, take-bytes}
+use Rattle.hfs_remains.proofs.ByteLemmas.{block-bytes, bytes-pass, name-bytes, name-short, number-small, pass-bytes, take-bytes}
 use Rattle.hfs_remains.proofs.CountLemmas.{less-one, one, count-cons, without}
 use Rattle.hfs_remains.specs.Laws.{AreBytes, IsReadDirectory, IsReadRecord}
 use Rattle.hfs_remains.proofs.LawsProved.{directories_are_read, items_are_counted, records_are_read, sound_catalog_is_found, sound_items_are_found}
@@ -32,18 +32,6 @@ use Rattle.hfs_remains_places.specs.Laws.{AreThings, IsThing}
 use Rattle.hfs_remains_forks.specs.Records.{folder_number, named_by, names_folder, naming, namings_of, thing_of}
 use Rattle.hfs_remains_forks.specs.Laws.{FoundAreThings, SoundAreThings}
 use Rattle.hfs_remains_forks.proofs.SoundThingLemmas.{things-are}
-
--- ---- bytes, one by one and as a test of a list
-
-bytes-pass : (xs : List ℕ) → AreBytes xs → is_bytes xs ≡ true
-bytes-pass [] are = refl
-bytes-pass (x ∷ xs) are = and_from (nat_lt x 256) (is_bytes xs) (lt-ltb x 256 (are 0)) (bytes-pass xs (λ k. are (suc k)))
-
-pass-bytes : (xs : List ℕ) → is_bytes xs ≡ true → AreBytes xs
-pass-bytes [] is = no-bytes
-pass-bytes (x ∷ xs) is =
-    let parts = and_parts (nat_lt x 256) (is_bytes xs) is in
-    cons-bytes x xs (ltb-true x 256 parts.0) (pass-bytes xs parts.1)
 
 -- ---- one thing
 

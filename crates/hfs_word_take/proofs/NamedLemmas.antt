@@ -1,7 +1,6 @@
 -- The items of a sound image of bytes are called by bytes.
-use Rattle.std.proofs.Common.{◌≡◌, inl, inr, ℕ, suc, true, List, [], ◌∷◌, map, false, refl, sym, ap, subst, ◌∙◌}
-use Rattle.std.specs.Prelude.{IsTrue, nat_lt}
-use Rattle.std.proofs.lemmas.Bool.{and_from, and_parts, lt-ltb, ltb-true}
+use Rattle.std.proofs.Common.{◌≡◌, inl, inr, ℕ, true, List, [], ◌∷◌, map, false, refl, sym, ap, subst, ◌∙◌}
+use Rattle.std.specs.Prelude.{IsTrue}
 use Rattle.hfs_blocks.specs.Blocks.{block_at, block_count}
 use Rattle.hfs_catalog.specs.Records.{Record, Catalog}
 use Rattle.hfs_catalog.proofs.Held.{has_record, item_name}
@@ -14,24 +13,12 @@ use Rattle.hfs_texts.specs.NameLaws.{is_bytes}
 use Rattle.hfs_remains.specs.declared.catalog.FoundRecord.{FoundRecord}
 use Rattle.hfs_remains.specs.CatalogRecords.{found}
 use Rattle.hfs_remains.specs.Laws.{AreBytes, IsReadRecord}
-use Rattle.hfs_remains.proofs.ByteLemmas.{block-bytes, cons-bytes, no-bytes}
+use Rattle.hfs_remains.proofs.ByteLemmas.{block-bytes, bytes-pass, pass-bytes}
 use Rattle.hfs_remains.proofs.LawsProved.{records_are_read, sound_catalog_is_found}
 use Rattle.hfs_fields.specs.Each.{Each}
 use Rattle.hfs_fields.specs.Members.{In}
 use Rattle.hfs_word_take.specs.Laws.{AreNamed, SoundItemsArePlaced, SoundPathsAreTold}
 use Rattle.hfs_word_take.proofs.PlacedItemLemmas.{bag-paths-told, items-placed}
-
--- ---- bytes, one by one and as a test of a list
-
-bytes-pass : (xs : List ℕ) → AreBytes xs → is_bytes xs ≡ true
-bytes-pass [] are = refl
-bytes-pass (x ∷ xs) are = and_from (nat_lt x 256) (is_bytes xs) (lt-ltb x 256 (are 0)) (bytes-pass xs (λ k. are (suc k)))
-
-pass-bytes : (xs : List ℕ) → is_bytes xs ≡ true → AreBytes xs
-pass-bytes [] is = no-bytes
-pass-bytes (x ∷ xs) is =
-    let parts = and_parts (nat_lt x 256) (is_bytes xs) is in
-    cons-bytes x xs (ltb-true x 256 parts.0) (pass-bytes xs parts.1)
 
 -- what holds of all records that are found holds of each of the catalog's
 of-each : (P : FoundRecord → Type 0) (catalog : Catalog) (r : Record) → Each P (map (found false) catalog) → In r catalog → P (found false r)
