@@ -27,13 +27,13 @@ use std::io::Write;
 
 /// One of both forks of a file, as the catalog records it.
 #[derive(Clone, Copy)]
-pub struct RecordedFork<'a> {
+pub(crate) struct RecordedFork<'a> {
     /// The file's ID.
-    pub file: u32,
+    pub(crate) file: u32,
     /// Which of both forks it is.
-    pub kind: ForkKind,
+    pub(crate) kind: ForkKind,
     /// How long it is, and its first extents.
-    pub fields: &'a ForkRecord,
+    pub(crate) fields: &'a ForkRecord,
 }
 
 /// A fork as a call names it.

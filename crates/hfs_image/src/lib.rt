@@ -19,7 +19,6 @@ mod tree_nodes;
 mod whole_files;
 
 pub use crate::fork_runs::{FileRuns, ForkRuns};
-pub use crate::forks::RecordedFork;
 pub use crate::gathering::gather_needed;
 pub use crate::laws::{marked_nodes_decide, needed_is_enough, needed_of_images};
 pub use crate::listing::catalog_records;

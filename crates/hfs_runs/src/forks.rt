@@ -18,8 +18,7 @@ use crate::naming::{named_by, read_forks};
 use hfs_blocks::Run;
 use hfs_btree::RunNodes;
 use hfs_copy::WorkingVolume;
-use hfs_fields::FileRecord;
-use hfs_image::RecordedFork;
+use hfs_fields::{FileRecord, ForkRecord};
 use hfs_items::file_named;
 use hfs_model::{Call, Reply};
 use hfs_scripts::{Script, ScriptLine};
@@ -33,15 +32,16 @@ fn push_fork(
     alloc: Global,
     runs: &mut Vec<Run>,
     working: &WorkingVolume,
-    fork: &RecordedFork<'_>,
+    file: u32,
+    kind: ForkKind,
+    fork: &ForkRecord,
 ) -> Result<(), AllocError>
     requires sound { AreBlocksSound working.now.count (sparse working.now.read) }
     requires directory { working.now.sound.mdb ≡ mdb_in (sparse working.now.read) }
     requires trees { HasTrees working.now.count (sparse working.now.read) working.now.sound.trees }
-    requires fork { IsForkIn (sparse working.now.read) fork.now.file fork.now.kind
-        fork.now.fields.now }
-    ensures { OnOk result (GainsRuns (fork_blocks (sparse working.now.read) fork.now.file
-        fork.now.kind fork.now.fields.now) working.now.count runs.old.items runs.new.items) }
+    requires fork { IsForkIn (sparse working.now.read) file kind fork.now }
+    ensures { OnOk result (GainsRuns (fork_blocks (sparse working.now.read) file kind fork.now)
+        working.now.count runs.old.items runs.new.items) }
 {
     let count = working.count;
     let blocks = working.read.volume(count);
@@ -49,7 +49,7 @@ fn push_fork(
         blocks: &blocks,
         runs: &working.sound.trees.extents,
     };
-    let extents = fork_extents(alloc, &nodes, fork.file, fork.kind, &fork.fields.extents)?;
+    let extents = fork_extents(alloc, &nodes, file, kind, &fork.extents)?;
     push_extents(runs, &working.sound.mdb, &extents)
 }
 
@@ -72,18 +72,9 @@ fn push_file(
         (AreAmong (file_blocks (sparse working.now.read) file.now)
         (blocks_of_runs runs.new.items)) }
 {
-    let data = RecordedFork {
-        file: file.id,
-        kind: ForkKind::Data,
-        fields: &file.data,
-    };
-    push_fork(alloc, runs, working, &data)?;
-    let resource = RecordedFork {
-        file: file.id,
-        kind: ForkKind::Resource,
-        fields: &file.resource,
-    };
-    push_fork(alloc, runs, working, &resource)
+    let id = file.id;
+    push_fork(alloc, runs, working, id, ForkKind::Data, &file.data)?;
+    push_fork(alloc, runs, working, id, ForkKind::Resource, &file.resource)
 }
 
 /// The record of the folder's file of that name, or the reply that refuses it.
@@ -94,8 +85,9 @@ fn find_file(working: &WorkingVolume, dir: u32, name: &[u8]) -> Result<FileRecor
     ensures file { IfOk result (IsFileOf (catalog_in (sparse working.now.read))) }
     ensures forks { IfOk result (λ file. AreForksIn (sparse working.now.read) file) }
 {
+    let count = working.count;
     let nodes = RunNodes {
-        blocks: &working.read.volume(working.count),
+        blocks: &working.read.volume(count),
         runs: &working.sound.trees.catalog,
     };
     file_named(&nodes, dir, name)
