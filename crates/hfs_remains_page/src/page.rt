@@ -17,9 +17,8 @@ use std::io::Write;
 
 /// Writes the page of what was found of an image that is refused: its fault in words and what that means, what is known of the
 /// disk, a row for each item with the verdict on each fork, and a picture of the blocks of the trees and forks that were found.
-/// Besides what was found, what comes after the items, and
-/// some 60 bytes an item, 65,536 bytes and a row are in memory. Faults: memory was refused, or the writer failed; then only the
-/// beginning of the page may have been written.
+/// Besides what was found, what comes after the items, and some 60 bytes an item, 65,536 bytes and a row are in memory. Faults:
+/// memory was refused, or the writer failed; then only the beginning of the page may have been written.
 pub fn write_remains_page<W: Write>(
     alloc: Global,
     texts: &RemainsTexts<'_>,

@@ -15,7 +15,7 @@ ghost use Rattle.hfs_word_take.specs.Planned.{IsPlanned};
 ghost use Rattle.hfs_word_take.specs.Told.{IsToldOf};
 
 use crate::ImageItems;
-use crate::beside::{digest_at_once, give_first, plan_digest};
+use crate::beside::{DigestPlan, digest_at_once, give_first, plan_digest};
 use crate::facts::{image_name, plain_name, report_text};
 use crate::image::TakenImage;
 use crate::words::TakeWords;
@@ -143,16 +143,12 @@ fn give_items<R: Threads, S: PlacedBlocks + Drop + Send, T: Shelf, W: Watch>(
 {
     let identifier = plain_name(alloc, watched.items.root.name.bytes())?;
     let (words, told) = (about.words, about.told);
-    let first = give_first(
-        threads,
-        alloc,
-        shelf,
-        watched,
-        told.digest,
-        beside,
-        about.len,
-        words.is_digested,
-    )?;
+    let plan = DigestPlan {
+        told: told.digest,
+        len: about.len,
+        is_digested: words.is_digested,
+    };
+    let first = give_first(threads, alloc, shelf, watched, beside, &plan)?;
     let facts = BagFacts {
         identifier: identifier.as_str(),
         program: words.program,
