@@ -102,10 +102,9 @@ fn told_of<S: PlacedBlocks>(
     })
 }
 
-/// What a bag says about an image besides its items, and the words that ask for it.
+/// What a bag says about an image besides its items.
 #[derive(Clone, Copy)]
 struct ImageFacts<'a> {
-    words: &'a TakeWords<'a>,
     /// How many bytes the image has.
     len: u64,
     /// Where it lies in its file, if it was looked for there.
@@ -120,20 +119,21 @@ fn give_items<R: Threads, S: PlacedBlocks + Drop + Send, T: Shelf, W: Watch>(
     shelf: &mut T,
     watched: &mut WatchedItems<'_, ImageItems<S>, W>,
     beside: &mut Option<SeenBlocks<S>>,
+    words: &TakeWords<'_>,
     about: &ImageFacts<'_>,
 ) -> Result<BagSums, BagFault>
     requires len { OfEach (S.Holds watched.old.items.source.image) (HasLength about.now.len) }
     requires root { OfEach (S.Holds watched.old.items.source.image)
         (λ bytes. BeginsWith watched.old.items.root (told_rows (entries_in bytes))) }
     requires told { (is_made : Bool) × OfEach (S.Holds watched.old.items.source.image)
-        (IsToldOf about.now.words.now is_made about.now.told.now) }
+        (IsToldOf words.now is_made about.now.told.now) }
     requires planned { OfEach (S.Holds watched.old.items.source.image)
-        (IsPlanned beside.old about.now.words.now.is_digested about.now.told.now.digest) }
+        (IsPlanned beside.old words.now.is_digested about.now.told.now.digest) }
     ensures whole { OnOk result (OfEach (HoldsBoth S.Holds watched.new.items.source.image beside.new)
-        (OfBag (text_in about.now.line) about.now.words.now
+        (OfBag (text_in about.now.line) words.now
         (λ bag. T.given shelf.new ≡ T.given shelf.old ++ bag))) }
     ensures part { OnErr result (OfEach (HoldsBoth S.Holds watched.new.items.source.image beside.new)
-        (OfBag (text_in about.now.line) about.now.words.now
+        (OfBag (text_in about.now.line) words.now
         (λ bag. IsBeginning (T.given shelf.new) (T.given shelf.old ++ bag)))) }
     ensures sums { IfOk result (λ sums. OfEach (S.Holds watched.new.items.source.image)
         (λ bytes. IsSumOf sums (bag_items (entries_in bytes)))) }
@@ -142,7 +142,7 @@ fn give_items<R: Threads, S: PlacedBlocks + Drop + Send, T: Shelf, W: Watch>(
     ensures narrows { OfEach (S.Holds watched.new.items.source.image) (S.Holds watched.old.items.source.image) }
 {
     let identifier = plain_name(alloc, watched.items.root.name.bytes())?;
-    let (words, told) = (about.words, about.told);
+    let told = about.told;
     let plan = DigestPlan {
         told: told.digest,
         len: about.len,
@@ -236,13 +236,17 @@ pub fn give_image<R: Threads, S: PlacedBlocks + Drop + Send, T: Shelf, W: Watch>
     };
     let line = text_in(&volume);
     let mut watched = WatchedItems::new(items, watch, item_count(&report));
-    let about = ImageFacts {
+    let told = &told;
+    let about = ImageFacts { len, line, told };
+    let sums = give_items(
+        threads,
+        alloc,
+        shelf,
+        &mut watched,
+        &mut beside,
         words,
-        len,
-        line,
-        told: &told,
-    };
-    let sums = give_items(threads, alloc, shelf, &mut watched, &mut beside, &about);
+        &about,
+    );
     GivenBag {
         sums,
         image: watched.into_items().into_image(),
