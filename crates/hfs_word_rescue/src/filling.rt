@@ -39,15 +39,13 @@ struct GivenFound<S: PlacedBlocks> {
     source: SeenBlocks<S>,
 }
 
-/// What was found of an image, what a bag says about it besides, and the words that ask for it.
+/// What a bag says about an image besides what was found of it.
 #[derive(Clone, Copy)]
-struct FoundImage<'a> {
-    words: &'a BagWords<'a>,
+struct ImageFacts<'a> {
     /// How many bytes the image has.
     len: u64,
     /// Where the volume lies in its file, if it was looked for there.
     line: Option<&'a str>,
-    found: &'a Found<'a>,
     told: &'a Told,
 }
 
@@ -56,32 +54,34 @@ fn give_found<S: PlacedBlocks + Drop, T: Shelf, W: Watch>(
     alloc: Global,
     shelf: &mut T,
     source: SeenBlocks<S>,
-    image: &FoundImage<'_>,
+    found: &Found<'_>,
+    words: &BagWords<'_>,
+    about: &ImageFacts<'_>,
     watch: &W,
 ) -> GivenFound<S>
-    requires found { EachKnown (S.Holds source.blocks) (λ known. OfKnown known image.now.len
-        (λ bytes. IsFoundOf bytes (limit_of image.now.words.now.words bytes) image.now.found.now)) }
-    requires told { EachKnown (S.Holds source.blocks) (λ known. IsToldOf known image.now.len
-        image.now.found.now.mdb.now image.now.words.now image.now.told.now) }
+    requires found { EachKnown (S.Holds source.blocks) (λ known. OfKnown known about.now.len
+        (λ bytes. IsFoundOf bytes (limit_of words.now.words bytes) found.now)) }
+    requires told { EachKnown (S.Holds source.blocks) (λ known. IsToldOf known about.now.len
+        found.now.mdb.now words.now about.now.told.now) }
     ensures whole { OnOk result.came (EachKnown (S.Holds result.source.blocks)
-        (λ known. OfKnownBag known image.now.len (text_in image.now.line) image.now.words.now
+        (λ known. OfKnownBag known about.now.len (text_in about.now.line) words.now
         (λ bag. T.given shelf.new ≡ T.given shelf.old ++ bag))) }
     ensures part { OnErr result.came (EachKnown (S.Holds result.source.blocks)
-        (λ known. OfKnownBag known image.now.len (text_in image.now.line) image.now.words.now
+        (λ known. OfKnownBag known about.now.len (text_in about.now.line) words.now
         (λ bag. IsBeginning (T.given shelf.new) (T.given shelf.old ++ bag)))) }
     ensures fault { IfErr result.came (IsUnfilled (T.Fails (T.place shelf.old))
-        (S.Holds result.source.blocks) image.now.len (text_in image.now.line) image.now.words.now) }
+        (S.Holds result.source.blocks) about.now.len (text_in about.now.line) words.now) }
     ensures place { T.place shelf.new ≡ T.place shelf.old }
     ensures narrows { OfEach (S.Holds result.source.blocks) (S.Holds source.blocks) }
 {
-    let (found, told) = (image.found, image.told);
+    let told = about.told;
     let facts = BagFacts {
         identifier: told.identifier.as_str(),
-        program: image.words.program,
+        program: words.program,
         image: told.name.as_str(),
-        volume: image.line,
+        volume: about.line,
         directory: text_in(&told.directory),
-        bytes: image.len,
+        bytes: about.len,
         digest: told.digest,
         report: told.report.as_str(),
     };
@@ -153,14 +153,11 @@ pub fn give_remains<S: PlacedBlocks + Drop, T: Shelf, W: Watch>(
         Err(fault) => return not_given(fault, source),
     };
     let line = text_in(&line);
-    let filled = FoundImage {
-        words,
-        len,
-        line,
-        found: &found,
-        told: &told,
-    };
-    let GivenFound { came, source } = give_found(alloc, shelf, source, &filled, watch);
+    let told = &told;
+    let about = ImageFacts { len, line, told };
+    let GivenFound { came, source } = give_found(
+        alloc, shelf, source, &found, words, &about, watch,
+    );
     GivenRemains {
         answer: answered(came, answer),
         source,
