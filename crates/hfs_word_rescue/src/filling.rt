@@ -40,13 +40,13 @@ struct GivenFound<S: PlacedBlocks> {
 }
 
 /// What a bag says about an image besides what was found of it.
-#[derive(Clone, Copy)]
-struct ImageFacts<'a> {
+#[derive(Drop)]
+struct ImageFacts {
     /// How many bytes the image has.
     len: u64,
     /// Where the volume lies in its file, if it was looked for there.
-    line: Option<&'a str>,
-    told: &'a Told,
+    line: Option<String>,
+    told: Told,
 }
 
 /// Gives a shelf the bag of what was found of an image, with what it says about the image.
@@ -56,30 +56,30 @@ fn give_found<S: PlacedBlocks + Drop, T: Shelf, W: Watch>(
     source: SeenBlocks<S>,
     found: &Found<'_>,
     words: &BagWords<'_>,
-    about: &ImageFacts<'_>,
+    about: &ImageFacts,
     watch: &W,
 ) -> GivenFound<S>
     requires found { EachKnown (S.Holds source.blocks) (λ known. OfKnown known about.now.len
         (λ bytes. IsFoundOf bytes (limit_of words.now.words bytes) found.now)) }
     requires told { EachKnown (S.Holds source.blocks) (λ known. IsToldOf known about.now.len
-        found.now.mdb.now words.now about.now.told.now) }
+        found.now.mdb.now words.now about.now.told) }
     ensures whole { OnOk result.came (EachKnown (S.Holds result.source.blocks)
-        (λ known. OfKnownBag known about.now.len (text_in about.now.line) words.now
+        (λ known. OfKnownBag known about.now.len (option_map string_bytes about.now.line) words.now
         (λ bag. T.given shelf.new ≡ T.given shelf.old ++ bag))) }
     ensures part { OnErr result.came (EachKnown (S.Holds result.source.blocks)
-        (λ known. OfKnownBag known about.now.len (text_in about.now.line) words.now
+        (λ known. OfKnownBag known about.now.len (option_map string_bytes about.now.line) words.now
         (λ bag. IsBeginning (T.given shelf.new) (T.given shelf.old ++ bag)))) }
     ensures fault { IfErr result.came (IsUnfilled (T.Fails (T.place shelf.old))
-        (S.Holds result.source.blocks) about.now.len (text_in about.now.line) words.now) }
+        (S.Holds result.source.blocks) about.now.len (option_map string_bytes about.now.line) words.now) }
     ensures place { T.place shelf.new ≡ T.place shelf.old }
     ensures narrows { OfEach (S.Holds result.source.blocks) (S.Holds source.blocks) }
 {
-    let told = about.told;
+    let told = &about.told;
     let facts = BagFacts {
         identifier: told.identifier.as_str(),
         program: words.program,
         image: told.name.as_str(),
-        volume: about.line,
+        volume: text_in(&about.line),
         directory: text_in(&told.directory),
         bytes: about.len,
         digest: told.digest,
@@ -152,8 +152,6 @@ pub fn give_remains<S: PlacedBlocks + Drop, T: Shelf, W: Watch>(
         Ok(told) => told,
         Err(fault) => return not_given(fault, source),
     };
-    let line = text_in(&line);
-    let told = &told;
     let about = ImageFacts { len, line, told };
     let GivenFound { came, source } = give_found(
         alloc, shelf, source, &found, words, &about, watch,

@@ -103,64 +103,13 @@ fn told_of<S: PlacedBlocks>(
 }
 
 /// What a bag says about an image besides its items.
-#[derive(Clone, Copy)]
-struct ImageFacts<'a> {
+#[derive(Drop)]
+struct ImageFacts {
     /// How many bytes the image has.
     len: u64,
     /// Where it lies in its file, if it was looked for there.
-    line: Option<&'a str>,
-    told: &'a Told,
-}
-
-/// Gives a shelf the bag of these items of an image, with what it says about the image.
-fn give_items<R: Threads, S: PlacedBlocks + Drop + Send, T: Shelf, W: Watch>(
-    threads: &R,
-    alloc: Global,
-    shelf: &mut T,
-    watched: &mut WatchedItems<'_, ImageItems<S>, W>,
-    beside: &mut Option<SeenBlocks<S>>,
-    words: &TakeWords<'_>,
-    about: &ImageFacts<'_>,
-) -> Result<BagSums, BagFault>
-    requires len { OfEach (S.Holds watched.old.items.source.image) (HasLength about.now.len) }
-    requires root { OfEach (S.Holds watched.old.items.source.image)
-        (λ bytes. BeginsWith watched.old.items.root (told_rows (entries_in bytes))) }
-    requires told { (is_made : Bool) × OfEach (S.Holds watched.old.items.source.image)
-        (IsToldOf words.now is_made about.now.told.now) }
-    requires planned { OfEach (S.Holds watched.old.items.source.image)
-        (IsPlanned beside.old words.now.is_digested about.now.told.now.digest) }
-    ensures whole { OnOk result (OfEach (HoldsBoth S.Holds watched.new.items.source.image beside.new)
-        (OfBag (text_in about.now.line) words.now
-        (λ bag. T.given shelf.new ≡ T.given shelf.old ++ bag))) }
-    ensures part { OnErr result (OfEach (HoldsBoth S.Holds watched.new.items.source.image beside.new)
-        (OfBag (text_in about.now.line) words.now
-        (λ bag. IsBeginning (T.given shelf.new) (T.given shelf.old ++ bag)))) }
-    ensures sums { IfOk result (λ sums. OfEach (S.Holds watched.new.items.source.image)
-        (λ bytes. IsSumOf sums (bag_items (entries_in bytes)))) }
-    ensures fault { IfErr result (IsFillFault (T.Fails (T.place shelf.old)) (S.Holds watched.new.items.source.image)) }
-    ensures place { T.place shelf.new ≡ T.place shelf.old }
-    ensures narrows { OfEach (S.Holds watched.new.items.source.image) (S.Holds watched.old.items.source.image) }
-{
-    let identifier = plain_name(alloc, watched.items.root.name.bytes())?;
-    let told = about.told;
-    let plan = DigestPlan {
-        told: told.digest,
-        len: about.len,
-        is_digested: words.is_digested,
-    };
-    let first = give_first(threads, alloc, shelf, watched, beside, &plan)?;
-    let facts = BagFacts {
-        identifier: identifier.as_str(),
-        program: words.program,
-        image: told.name.as_str(),
-        volume: about.line,
-        directory: None,
-        bytes: about.len,
-        digest: first.1,
-        report: told.report.as_str(),
-    };
-    let sums = give_tag_files(alloc, shelf, watched, &facts, &first.0)?;
-    Ok(sums)
+    volume: Option<String>,
+    told: Told,
 }
 
 /// A text, if there is one.
@@ -171,6 +120,58 @@ fn text_in(text: &Option<String>) -> Option<&str>
         Some(text) => Some(text.as_str()),
         None => None,
     }
+}
+
+/// Gives a shelf the bag of these items of an image, with what it says about the image.
+fn give_items<R: Threads, S: PlacedBlocks + Drop + Send, T: Shelf, W: Watch>(
+    threads: &R,
+    alloc: Global,
+    shelf: &mut T,
+    watched: &mut WatchedItems<'_, ImageItems<S>, W>,
+    beside: &mut Option<SeenBlocks<S>>,
+    words: &TakeWords<'_>,
+    about: &ImageFacts,
+) -> Result<BagSums, BagFault>
+    requires len { OfEach (S.Holds watched.old.items.source.image) (HasLength about.now.len) }
+    requires root { OfEach (S.Holds watched.old.items.source.image)
+        (λ bytes. BeginsWith watched.old.items.root (told_rows (entries_in bytes))) }
+    requires told { (is_made : Bool) × OfEach (S.Holds watched.old.items.source.image)
+        (IsToldOf words.now is_made about.now.told) }
+    requires planned { OfEach (S.Holds watched.old.items.source.image)
+        (IsPlanned beside.old words.now.is_digested about.now.told.digest) }
+    ensures whole { OnOk result (OfEach (HoldsBoth S.Holds watched.new.items.source.image beside.new)
+        (OfBag (option_map string_bytes about.now.volume) words.now
+        (λ bag. T.given shelf.new ≡ T.given shelf.old ++ bag))) }
+    ensures part { OnErr result (OfEach (HoldsBoth S.Holds watched.new.items.source.image beside.new)
+        (OfBag (option_map string_bytes about.now.volume) words.now
+        (λ bag. IsBeginning (T.given shelf.new) (T.given shelf.old ++ bag)))) }
+    ensures sums { IfOk result (λ sums. OfEach (S.Holds watched.new.items.source.image)
+        (λ bytes. IsSumOf sums (bag_items (entries_in bytes)))) }
+    ensures fault { IfErr result (IsFillFault (T.Fails (T.place shelf.old)) (S.Holds watched.new.items.source.image)) }
+    ensures place { T.place shelf.new ≡ T.place shelf.old }
+    ensures narrows { OfEach (S.Holds watched.new.items.source.image) (S.Holds watched.old.items.source.image) }
+{
+    let identifier = plain_name(alloc, watched.items.root.name.bytes())?;
+    let told = &about.told;
+    let plan = DigestPlan {
+        told: told.digest,
+        len: about.len,
+        is_digested: words.is_digested,
+    };
+    let first = give_first(threads, alloc, shelf, watched, beside, &plan)?;
+    let directory = None;
+    let facts = BagFacts {
+        identifier: identifier.as_str(),
+        program: words.program,
+        image: told.name.as_str(),
+        volume: text_in(&about.volume),
+        directory,
+        bytes: about.len,
+        digest: first.1,
+        report: told.report.as_str(),
+    };
+    let sums = give_tag_files(alloc, shelf, watched, &facts, &first.0)?;
+    Ok(sums)
 }
 
 /// The result of giving the bag of an image, and what it was read from.
@@ -234,10 +235,8 @@ pub fn give_image<R: Threads, S: PlacedBlocks + Drop + Send, T: Shelf, W: Watch>
             };
         }
     };
-    let line = text_in(&volume);
     let mut watched = WatchedItems::new(items, watch, item_count(&report));
-    let told = &told;
-    let about = ImageFacts { len, line, told };
+    let about = ImageFacts { len, volume, told };
     let sums = give_items(
         threads,
         alloc,

@@ -52,9 +52,7 @@ returns-clause-whole g c =
     let now = g.T.Shelf.given given.new.shelf in
     let Holds = g.S.PlacedBlocks.Holds in
     subst (λ s. OnOk given.result (OfEach (HoldsBoth Holds s given.new.beside)
-    (OfBag (option_map (string_bytes {Z = Global}) c.args.image.volume) c.args.words.now (λ (bag : List ShelfEntry). now ≡ before ++ bag)))) (sym (c.into_image.ensures ∙ ap (λ (items : ImageItems g.row.S.Denot). items.source.image) c.into_items.ensures))
-    (subst (λ l. OnOk given.result (OfEach (HoldsBoth Holds given.new.watched.items.source.image given.new.beside)
-    (OfBag l c.args.words.now (λ (bag : List ShelfEntry). now ≡ before ++ bag)))) c.text_in-line.ensures given.ensures.whole)
+    (OfBag (option_map (string_bytes {Z = Global}) c.args.image.volume) c.args.words.now (λ (bag : List ShelfEntry). now ≡ before ++ bag)))) (sym (c.into_image.ensures ∙ ap (λ (items : ImageItems g.row.S.Denot). items.source.image) c.into_items.ensures)) given.ensures.whole
 
 pub returns-clause-part : goal.returns-clause-part
 returns-clause-part g c =
@@ -63,9 +61,7 @@ returns-clause-part g c =
     let now = g.T.Shelf.given given.new.shelf in
     let Holds = g.S.PlacedBlocks.Holds in
     subst (λ s. OnErr given.result (OfEach (HoldsBoth Holds s given.new.beside)
-    (OfBag (option_map (string_bytes {Z = Global}) c.args.image.volume) c.args.words.now (λ (bag : List ShelfEntry). IsBeginning now (before ++ bag))))) (sym (c.into_image.ensures ∙ ap (λ (items : ImageItems g.row.S.Denot). items.source.image) c.into_items.ensures))
-    (subst (λ l. OnErr given.result (OfEach (HoldsBoth Holds given.new.watched.items.source.image given.new.beside)
-    (OfBag l c.args.words.now (λ (bag : List ShelfEntry). IsBeginning now (before ++ bag))))) c.text_in-line.ensures given.ensures.part)
+    (OfBag (option_map (string_bytes {Z = Global}) c.args.image.volume) c.args.words.now (λ (bag : List ShelfEntry). IsBeginning now (before ++ bag))))) (sym (c.into_image.ensures ∙ ap (λ (items : ImageItems g.row.S.Denot). items.source.image) c.into_items.ensures)) given.ensures.part
 
 pub returns-clause-sums : goal.returns-clause-sums
 returns-clause-sums g c =
