@@ -12,7 +12,7 @@ use crate::choosing;
 use crate::placed::PlacedItem;
 use hfs_blocks::{Blocks, Patch, Run};
 use hfs_btree::RunNodes;
-use hfs_call_patches::{Change, ForkVolume, FoundFile};
+use hfs_call_patches::{Change, FoundFile, MountedBlocks};
 use hfs_fields::Mdb;
 use hfs_model::{Value, Want};
 use std::marker::Model;
@@ -29,7 +29,7 @@ pub enum Refusal {
 /// A sound volume that calls change. Contracts see its blocks.
 #[derive(Drop)]
 pub struct Editing<'a, B: Blocks> {
-    pub(crate) volume: ForkVolume<'a, B>,
+    pub(crate) volume: MountedBlocks<'a, B>,
 }
 
 impl<'a, B: Blocks> Model for Editing<'a, B> {
@@ -54,7 +54,7 @@ impl<'a, B: Blocks> Editing<'a, B> {
         ensures { result ≡ blocks.now }
     {
         Editing {
-            volume: ForkVolume {
+            volume: MountedBlocks {
                 blocks,
                 mdb,
                 extents,

@@ -6,7 +6,7 @@ use crate::Change;
 use crate::choosing::{FoundFile, to_set_eof, to_write_fork};
 use crate::records::fork_of;
 use crate::resizing::resize;
-use crate::volume::{ForkRefusal, ForkVolume, Resizing};
+use crate::volume::{ForkRefusal, MountedBlocks, Resizing};
 use hfs_blocks::Blocks;
 use hfs_model::Fork;
 use std::alloc::{AllocError, Global};
@@ -31,7 +31,7 @@ pub struct ForkWrite<'a> {
 /// Source: Inside Macintosh: Files, chapter 2, 'Manipulating File Forks' and 'Extents overflow file'.
 pub fn set_eof<B: Blocks>(
     alloc: Global,
-    volume: &ForkVolume<'_, B>,
+    volume: &MountedBlocks<'_, B>,
     found: Result<FoundFile, i16>,
     fork: Fork,
     length: u32,
@@ -66,7 +66,7 @@ pub fn set_eof<B: Blocks>(
 /// for SetEof.
 pub fn write_fork<B: Blocks>(
     alloc: Global,
-    volume: &ForkVolume<'_, B>,
+    volume: &MountedBlocks<'_, B>,
     found: Result<FoundFile, i16>,
     write: &ForkWrite<'_>,
     now: u32,

@@ -12,7 +12,7 @@ use crate::catalog_patch::{close_catalog, open_catalog};
 use crate::change::Change;
 use crate::new_counts::{with_file, with_folder};
 use crate::new_items::{FoundPlace, put_file, put_folder};
-use crate::volume::ForkVolume;
+use crate::volume::MountedBlocks;
 use hfs_blocks::Blocks;
 use hfs_model::Value;
 use std::alloc::{AllocError, Global};
@@ -20,7 +20,7 @@ use std::alloc::{AllocError, Global};
 /// What a new file makes of a volume. Fails only when out of memory.
 pub fn add_new_file<B: Blocks>(
     alloc: Global,
-    volume: &ForkVolume<'_, B>,
+    volume: &MountedBlocks<'_, B>,
     dir: u32,
     found: &FoundPlace,
     now: u32,
@@ -48,7 +48,7 @@ pub fn add_new_file<B: Blocks>(
 /// What a new folder makes of a volume. Fails only when out of memory.
 pub fn add_new_folder<B: Blocks>(
     alloc: Global,
-    volume: &ForkVolume<'_, B>,
+    volume: &MountedBlocks<'_, B>,
     dir: u32,
     found: &FoundPlace,
     now: u32,

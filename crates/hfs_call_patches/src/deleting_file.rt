@@ -16,7 +16,7 @@ ghost use Rattle.hfs_call_patches.specs.CallChanges.{Makes};
 use crate::counts::put_counts;
 use crate::dropping::{ParentFolder, drop_from_folder};
 use crate::valences::FolderPlace;
-use crate::volume::ForkVolume;
+use crate::volume::MountedBlocks;
 use hfs_blocks::{Blocks, Patch, Run};
 use hfs_btree::RunNodes;
 use hfs_btree_edits::PatchNodes;
@@ -130,7 +130,7 @@ fn drop_item_over<B: Blocks>(
 /// when out of memory.
 pub fn patch_delete_file<B: Blocks>(
     alloc: Global,
-    volume: &ForkVolume<'_, B>,
+    volume: &MountedBlocks<'_, B>,
     key: &CatKey,
     file: &FileRecord,
     parent: &ParentFolder,

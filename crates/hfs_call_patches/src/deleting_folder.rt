@@ -12,7 +12,7 @@ ghost use Rattle.hfs_call_patches.specs.Patches.{GivesFolderDeletion};
 use crate::catalog_patch::{close_catalog, open_catalog};
 use crate::dropping::{ParentFolder, drop_from_folder};
 use crate::valences::FolderPlace;
-use crate::volume::ForkVolume;
+use crate::volume::MountedBlocks;
 use hfs_blocks::{Blocks, Patch};
 use hfs_fields::{CatKey, DirRecord, Mdb};
 use std::alloc::{AllocError, Global};
@@ -33,7 +33,7 @@ pub fn without_folder(mdb: &Mdb, dir: u32, now: u32) -> Mdb
 /// The patch that deletes a folder, with this key and this record, from its parent. Fails only when out of memory.
 pub fn patch_delete_folder<B: Blocks>(
     alloc: Global,
-    volume: &ForkVolume<'_, B>,
+    volume: &MountedBlocks<'_, B>,
     key: &CatKey,
     folder: &DirRecord,
     parent: &ParentFolder,

@@ -15,7 +15,7 @@ ghost use Rattle.hfs_call_patches.specs.SettingPatches.{CreatesFileId, DeletesFi
 use crate::catalog_patch::{close_catalog, open_catalog};
 use crate::file_threads::{add_file_thread, drop_file_thread};
 use crate::settings::at_time;
-use crate::volume::ForkVolume;
+use crate::volume::MountedBlocks;
 use hfs_blocks::{Blocks, Patch};
 use hfs_fields::{CatKey, FileRecord};
 use std::alloc::{AllocError, Global};
@@ -24,7 +24,7 @@ use std::alloc::{AllocError, Global};
 /// memory.
 pub fn patch_create_file_id<B: Blocks>(
     alloc: Global,
-    volume: &ForkVolume<'_, B>,
+    volume: &MountedBlocks<'_, B>,
     key: &CatKey,
     file: &FileRecord,
     now: u32,
@@ -59,7 +59,7 @@ pub fn patch_create_file_id<B: Blocks>(
 /// memory.
 pub fn patch_delete_file_id<B: Blocks>(
     alloc: Global,
-    volume: &ForkVolume<'_, B>,
+    volume: &MountedBlocks<'_, B>,
     key: &CatKey,
     file: &FileRecord,
     now: u32,

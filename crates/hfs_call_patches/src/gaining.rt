@@ -18,7 +18,7 @@ use crate::bits::claim_over;
 use crate::overflow::lengthen_over;
 use crate::records::{fork_of, kind_of};
 use crate::settling::settle_fork;
-use crate::volume::{ForkVolume, Overlay, Resizing, Settled};
+use crate::volume::{MountedBlocks, Overlay, Resizing, Settled};
 use hfs_blocks::Blocks;
 use hfs_btree_edits::PatchNodes;
 use hfs_fields::Extent;
@@ -40,7 +40,7 @@ fn nodes_wanted(nodes: NodesWanted) -> Want
 /// to the fork; or the lack of nodes. The patch lies over blocks that differ from the volume's only in those of the fork.
 pub(crate) fn gain<B: Blocks, Z: Blocks>(
     alloc: Global,
-    volume: &ForkVolume<'_, B>,
+    volume: &MountedBlocks<'_, B>,
     overlay: Overlay<'_, Z>,
     resizing: &Resizing<'_>,
     block_size: BlockSize,

@@ -11,7 +11,7 @@ use crate::Change;
 use crate::gaining::gain;
 use crate::laying::{Laid, Laying, lay_fork};
 use crate::room::find_growing;
-use crate::volume::{ForkVolume, Overlay, Resizing, fork_change};
+use crate::volume::{MountedBlocks, Overlay, Resizing, fork_change};
 use hfs_blocks::Blocks;
 use hfs_fields::Extent;
 use hfs_model::{BlockSize, Want};
@@ -33,7 +33,7 @@ fn zeros_end(block_size: BlockSize, wanted: u32, from: u32, length: u32) -> u32
 /// nodes. Fails only when out of memory.
 pub(crate) fn grow<B: Blocks>(
     alloc: Global,
-    volume: &ForkVolume<'_, B>,
+    volume: &MountedBlocks<'_, B>,
     resizing: &Resizing<'_>,
     block_size: BlockSize,
     was: Vec<Extent>,

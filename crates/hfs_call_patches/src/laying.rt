@@ -13,7 +13,7 @@ ghost use Rattle.hfs_call_patches.specs.Laying.{LaysOver, LaysBoth};
 ghost use Rattle.hfs_space.specs.Clearing.{patched};
 ghost use Rattle.hfs_space.specs.Zeros.{AreAmong};
 
-use crate::volume::ForkVolume;
+use crate::volume::MountedBlocks;
 use crate::written::written_runs;
 use hfs_blocks::{Blocks, Patch, Run};
 use hfs_fields::Extent;
@@ -40,7 +40,7 @@ pub(crate) struct Laid {
 /// Lays them over the blocks of a fork with these extents. No other byte changes. Fails only when out of memory.
 fn lay<B: Blocks>(
     alloc: Global,
-    volume: &ForkVolume<'_, B>,
+    volume: &MountedBlocks<'_, B>,
     extents: &[Extent],
     laying: &Laying<'_>,
 ) -> Result<Cleared, AllocError>
@@ -85,7 +85,7 @@ fn lay<B: Blocks>(
 /// The same, with the runs of the blocks from the first to the last that has one of the zeros or of the bytes.
 pub(crate) fn lay_fork<B: Blocks>(
     alloc: Global,
-    volume: &ForkVolume<'_, B>,
+    volume: &MountedBlocks<'_, B>,
     extents: &[Extent],
     laying: &Laying<'_>,
 ) -> Result<Laid, AllocError>

@@ -64,4 +64,4 @@ pub use settings::{
     patch_set_lock,
 };
 pub use valences::FolderPlace;
-pub use volume::{ForkRefusal, ForkVolume};
+pub use volume::{ForkRefusal, MountedBlocks};

@@ -16,7 +16,7 @@ use crate::overflow::shorten_over;
 use crate::records::{fork_of, kind_of};
 use crate::room::block_count;
 use crate::settling::settle_fork;
-use crate::volume::{ForkVolume, Overlay, Resizing, Settled};
+use crate::volume::{MountedBlocks, Overlay, Resizing, Settled};
 use hfs_blocks::Blocks;
 use hfs_btree_edits::PatchNodes;
 use hfs_fields::{Extent, Mdb};
@@ -37,7 +37,7 @@ fn free_with(mdb: &Mdb, lost: &[Extent]) -> u16
 /// Fails only when out of memory.
 pub(crate) fn lose<B: Blocks, Z: Blocks>(
     alloc: Global,
-    volume: &ForkVolume<'_, B>,
+    volume: &MountedBlocks<'_, B>,
     overlay: Overlay<'_, Z>,
     resizing: &Resizing<'_>,
     block_size: BlockSize,

@@ -12,7 +12,7 @@ ghost use Rattle.hfs_call_patches.specs.Patches.{Patches};
 use crate::catalog_patch::close_catalog;
 use crate::rekeying::{Rekeying, open_rekeyed};
 use crate::valences::{FolderPlace, set_valences};
-use crate::volume::ForkVolume;
+use crate::volume::MountedBlocks;
 use hfs_blocks::{Blocks, Patch};
 use hfs_fields::Mdb;
 use std::alloc::{AllocError, Global};
@@ -53,7 +53,7 @@ pub fn counts_moved(mdb: &Mdb, moving: &Moving, now: u32) -> Mdb
 /// The patch that moves an item to another folder. Fails only when out of memory.
 pub fn patch_move<B: Blocks>(
     alloc: Global,
-    volume: &ForkVolume<'_, B>,
+    volume: &MountedBlocks<'_, B>,
     moving: &Moving,
     now: u32,
 ) -> Result<Patch, AllocError>

@@ -12,7 +12,7 @@ ghost use Rattle.hfs_call_patches.specs.Settings.{HasSetItem, IsOfKindUnder};
 ghost use Rattle.hfs_call_patches.specs.Patches.{GivesPatch};
 
 use crate::catalog_patch::{close_catalog, open_catalog};
-use crate::volume::ForkVolume;
+use crate::volume::MountedBlocks;
 use hfs_blocks::{Blocks, Patch};
 use hfs_btree_edits::RecordPlace;
 use hfs_catalog::ItemRecord;
@@ -24,7 +24,7 @@ use std::alloc::{AllocError, Global};
 /// counts into the master directory block. It has that block and one node. Fails only when out of memory.
 pub(crate) fn patch_record<B: Blocks>(
     alloc: Global,
-    volume: &ForkVolume<'_, B>,
+    volume: &MountedBlocks<'_, B>,
     key: &CatKey,
     place: &RecordPlace,
     item: &ItemRecord,

@@ -12,14 +12,14 @@ ghost use Rattle.hfs_call_patches.specs.Patches.{Patches};
 use crate::catalog_patch::close_catalog;
 use crate::rekeying::{Rekeying, open_rekeyed};
 use crate::settings::at_time;
-use crate::volume::ForkVolume;
+use crate::volume::MountedBlocks;
 use hfs_blocks::{Blocks, Patch};
 use std::alloc::{AllocError, Global};
 
 /// The patch that puts the item that Rename chooses under its new name. Fails only when out of memory.
 pub fn patch_rename<B: Blocks>(
     alloc: Global,
-    volume: &ForkVolume<'_, B>,
+    volume: &MountedBlocks<'_, B>,
     item: &Rekeying,
     now: u32,
 ) -> Result<Patch, AllocError>

@@ -9,7 +9,7 @@ use crate::growing::grow;
 use crate::records::volume_blocks;
 use crate::room::block_count;
 use crate::shrinking::shrink;
-use crate::volume::{ForkVolume, Resizing};
+use crate::volume::{MountedBlocks, Resizing};
 use hfs_blocks::Blocks;
 use hfs_model::{BlockSize, Want};
 use std::alloc::{AllocError, Global};
@@ -17,7 +17,7 @@ use std::alloc::{AllocError, Global};
 /// What is made of the volume, or the lack of blocks or nodes. Fails only when out of memory.
 pub(crate) fn resize<B: Blocks>(
     alloc: Global,
-    volume: &ForkVolume<'_, B>,
+    volume: &MountedBlocks<'_, B>,
     resizing: &Resizing<'_>,
 ) -> Result<Result<Change, Want>, AllocError>
     requires volume { IsForkVolumeIn B.total B.blocks volume.now.blocks.now

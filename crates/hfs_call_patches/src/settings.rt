@@ -14,7 +14,7 @@ ghost use Rattle.hfs_call_patches.specs.SettingPatches.{SetsFInfo, SetsFileInfo,
 
 use crate::choosing::FoundFile;
 use crate::recorded::patch_record;
-use crate::volume::ForkVolume;
+use crate::volume::MountedBlocks;
 use hfs_blocks::{Blocks, Patch};
 use hfs_btree_edits::RecordPlace;
 use hfs_catalog::ItemRecord;
@@ -65,7 +65,7 @@ pub(crate) fn at_time(mdb: &Mdb, now: u32) -> Mdb
 /// The patch that gives the file that SetFInfo chooses new first Finder bytes. Fails only when out of memory.
 pub fn patch_set_f_info<B: Blocks>(
     alloc: Global,
-    volume: &ForkVolume<'_, B>,
+    volume: &MountedBlocks<'_, B>,
     found: &FoundFile,
     info: &[u8; 16],
     now: u32,
@@ -101,7 +101,7 @@ pub fn patch_set_f_info<B: Blocks>(
 /// The patch that gives the file that SetCatInfo chooses new dates and Finder bytes. Fails only when out of memory.
 pub fn patch_set_file_info<B: Blocks>(
     alloc: Global,
-    volume: &ForkVolume<'_, B>,
+    volume: &MountedBlocks<'_, B>,
     found: &FoundFile,
     settings: &ItemSettings,
     now: u32,
@@ -142,7 +142,7 @@ pub fn patch_set_file_info<B: Blocks>(
 /// The patch that gives the folder that SetCatInfo chooses new dates and Finder bytes. Fails only when out of memory.
 pub fn patch_set_folder_info<B: Blocks>(
     alloc: Global,
-    volume: &ForkVolume<'_, B>,
+    volume: &MountedBlocks<'_, B>,
     found: &FoundFolder,
     settings: &ItemSettings,
     now: u32,
@@ -183,7 +183,7 @@ pub fn patch_set_folder_info<B: Blocks>(
 /// The patch that locks or unlocks the file that SetFLock chooses. Fails only when out of memory.
 pub fn patch_set_lock<B: Blocks>(
     alloc: Global,
-    volume: &ForkVolume<'_, B>,
+    volume: &MountedBlocks<'_, B>,
     found: &FoundFile,
     locked: bool,
     now: u32,

@@ -18,7 +18,7 @@ use crate::choosing::FoundFile;
 use crate::put_counts;
 use crate::recorded_forks::set_file_over;
 use crate::records::{counts_with, file_with};
-use crate::volume::{ForkVolume, Overlay, Resizing, Settled};
+use crate::volume::{MountedBlocks, Overlay, Resizing, Settled};
 use hfs_blocks::{Blocks, Patch};
 use hfs_btree_edits::PatchNodes;
 use hfs_fields::{Extent, FileRecord, Mdb};
@@ -57,7 +57,7 @@ fn settle<B: Blocks, Z: Blocks>(
 /// blocks. Fails only when out of memory.
 pub(crate) fn settle_fork<B: Blocks, Z: Blocks>(
     alloc: Global,
-    volume: &ForkVolume<'_, B>,
+    volume: &MountedBlocks<'_, B>,
     overlay: Overlay<'_, Z>,
     resizing: &Resizing<'_>,
     block_size: BlockSize,

@@ -9,7 +9,7 @@ ghost use Rattle.hfs_space.specs.Extents.{block_total};
 use crate::Change;
 use crate::laying::{Laid, Laying, lay_fork};
 use crate::losing::lose;
-use crate::volume::{ForkVolume, Overlay, Resizing, fork_change};
+use crate::volume::{MountedBlocks, Overlay, Resizing, fork_change};
 use hfs_blocks::Blocks;
 use hfs_fields::Extent;
 use hfs_model::BlockSize;
@@ -20,7 +20,7 @@ use std::alloc::{AllocError, Global};
 /// only when out of memory.
 pub(crate) fn shrink<B: Blocks>(
     alloc: Global,
-    volume: &ForkVolume<'_, B>,
+    volume: &MountedBlocks<'_, B>,
     resizing: &Resizing<'_>,
     block_size: BlockSize,
     was: Vec<Extent>,

@@ -12,7 +12,7 @@ use hfs_space::ZeroRuns;
 
 /// A sound volume's blocks, with what mounting found out about them.
 #[derive(Drop)]
-pub struct ForkVolume<'a, B: Blocks> {
+pub struct MountedBlocks<'a, B: Blocks> {
     pub blocks: &'a B,
     /// The master directory block.
     pub mdb: &'a Mdb,

@@ -10,7 +10,7 @@ ghost use Rattle.hfs_call_patches.specs.Laid.{AreWritten};
 ghost use Rattle.hfs_call_patches.specs.Written as spec;
 
 use crate::laying::Laying;
-use crate::volume::ForkVolume;
+use crate::volume::MountedBlocks;
 use hfs_blocks::{Blocks, Run};
 use hfs_fields::Extent;
 use hfs_space::{runs_from, tree_runs};
@@ -39,7 +39,7 @@ fn last_written(from: u32, end: u32, offset: u32, count: u32) -> u32
 /// Fails only when out of memory.
 pub(crate) fn written_runs<B: Blocks>(
     alloc: Global,
-    volume: &ForkVolume<'_, B>,
+    volume: &MountedBlocks<'_, B>,
     extents: &[Extent],
     laying: &Laying<'_>,
 ) -> Result<Vec<Run>, AllocError>
