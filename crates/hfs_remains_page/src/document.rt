@@ -9,7 +9,7 @@ ghost use Rattle.hfs_remains_page.specs.Pages as spec;
 
 use crate::facts::{push_facts, push_fault};
 use crate::pictures::{TreeFiles, cells_of, holdings_of, push_picture};
-use crate::remains_texts::RemainsTexts;
+use crate::remains_texts::{FaultTexts, RemainsTexts};
 use hfs_page::{Cell, Holding, push_bytes, push_extents, push_head, push_shown, push_version};
 use hfs_remains::FoundRecord;
 use hfs_rescue_items::{Found, FoundSums, field_name, sums_of};
@@ -54,17 +54,16 @@ fn push_front(
     alloc: Global,
     page: &mut Vec<u8>,
     texts: &RemainsTexts<'_>,
-    refusal: &[u8],
-    meaning: &[u8],
+    fault: &FaultTexts<'_>,
     found: &Found<'_>,
     sums: &FoundSums,
 ) -> Result<(), AllocError>
     requires { AreSums found.now sums.now }
     ensures { OnOk result (Gains page.old page.new
-        (spec.front_text texts.now refusal.now meaning.now found.now)) }
+        (spec.front_text texts.now fault.now.refusal.now fault.now.meaning.now found.now)) }
 {
     push_named_head(alloc, page, texts, found)?;
-    push_fault(page, refusal, meaning)?;
+    push_fault(page, fault)?;
     push_facts(alloc, page, &texts.page.image, found, sums)?;
     push_bytes(page, texts.columns)?;
     push_bytes(page, b"<ul id=\"items\">\n")
@@ -74,16 +73,15 @@ fn push_front(
 pub(crate) fn front(
     alloc: Global,
     texts: &RemainsTexts<'_>,
-    refusal: &[u8],
-    meaning: &[u8],
+    fault: &FaultTexts<'_>,
     found: &Found<'_>,
 ) -> Result<Vec<u8>, AllocError>
     ensures { IfOk result (λ text. text.items
-        ≡ spec.front_text texts.now refusal.now meaning.now found.now) }
+        ≡ spec.front_text texts.now fault.now.refusal.now fault.now.meaning.now found.now) }
 {
     let sums = sums_of(alloc, found)?;
     let mut page = Vec::new(alloc);
-    push_front(alloc, &mut page, texts, refusal, meaning, found, &sums)?;
+    push_front(alloc, &mut page, texts, fault, found, &sums)?;
     Ok(page)
 }
 

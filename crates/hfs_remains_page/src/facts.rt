@@ -5,6 +5,7 @@ ghost use Rattle.hfs_page.specs.Pieces.{Gains};
 ghost use Rattle.hfs_rescue_items.specs.Sums.{AreSums};
 ghost use Rattle.hfs_remains_page.specs.Facts as spec;
 
+use crate::remains_texts::FaultTexts;
 use hfs_fields::Mdb;
 use hfs_page::{
     PageImage, push_bytes, push_count_row, push_dates, push_escaped, push_image_rows,
@@ -15,17 +16,14 @@ use std::alloc::{AllocError, Global};
 
 /// Appends the fault in words, and what it means.
 #[tactic(auto, unfolding(crate::specs::Facts::fault_text))]
-pub(crate) fn push_fault(
-    page: &mut Vec<u8>,
-    refusal: &[u8],
-    meaning: &[u8],
-) -> Result<(), AllocError>
-    ensures { OnOk result (Gains page.old page.new (spec.fault_text refusal.now meaning.now)) }
+pub(crate) fn push_fault(page: &mut Vec<u8>, fault: &FaultTexts<'_>) -> Result<(), AllocError>
+    ensures { OnOk result (Gains page.old page.new
+        (spec.fault_text fault.now.refusal.now fault.now.meaning.now)) }
 {
     push_bytes(page, b"<p>")?;
-    push_escaped(page, refusal)?;
+    push_escaped(page, fault.refusal)?;
     push_bytes(page, b"</p>\n<p>")?;
-    push_escaped(page, meaning)?;
+    push_escaped(page, fault.meaning)?;
     push_bytes(page, b"</p>\n")
 }
 

@@ -2,16 +2,21 @@
 //! and a picture of the blocks in use.
 #![tactic(auto)]
 
+mod added_rows;
 mod document;
 mod dress;
 mod facts;
+mod file_rows;
+mod folder_rows;
 mod laws;
+mod linked_items;
 mod lists;
 mod numbers;
 mod page;
 mod pictures;
 mod pieces;
 mod remains_texts;
+mod row_parts;
 mod rows;
 mod steps;
 mod trees;
@@ -22,4 +27,5 @@ mod writing;
 pub use dress::found_texts;
 pub use laws::{remains_pages_nest, things_stand_once};
 pub use page::write_remains_page;
-pub use remains_texts::RemainsTexts;
+pub use pictures::TreeFiles;
+pub use remains_texts::{FaultTexts, RemainsTexts};

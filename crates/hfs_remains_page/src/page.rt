@@ -5,8 +5,9 @@ ghost use Rattle.hfs_texts.specs.Writing.{AppendsFront};
 ghost use Rattle.hfs_remains_page.specs.Pages.{remains_page};
 
 use crate::document::{back, front};
+use crate::linked_items::LinkedItems;
 use crate::pictures::TreeFiles;
-use crate::remains_texts::RemainsTexts;
+use crate::remains_texts::{FaultTexts, RemainsTexts};
 use crate::walks::tree_order;
 use crate::writing::write_rows;
 use hfs_page::{PageFault, put_piece};
@@ -16,32 +17,25 @@ use std::io::Write;
 
 /// Writes the page of what was found of an image that is refused: its fault in words and what that means, what is known of the
 /// disk, a row for each item with the verdict on each fork, and a picture of the blocks of the trees and forks that were found.
-/// `extents_file` and `catalog_file` have the blocks of the trees' files. Besides what was found, what comes after the items, and
-/// some 60 bytes an item, 65,536 bytes and a row are in memory. Faults: memory was refused, or the writer failed; then only the
-/// beginning of the page may have been written.
+/// Besides what was found, what comes after the items, and some 60 bytes an item, 65,536 bytes and a row are in memory. Faults:
+/// memory was refused, or the writer failed; then only the beginning of the page may have been written.
 pub fn write_remains_page<W: Write>(
     alloc: Global,
     texts: &RemainsTexts<'_>,
-    refusal: &[u8],
-    meaning: &[u8],
+    fault: &FaultTexts<'_>,
     found: &Found<'_>,
-    extents_file: &[Option<u16>],
-    catalog_file: &[Option<u16>],
+    files: TreeFiles<'_>,
     writer: &mut W,
 ) -> Result<(), PageFault>
-    requires extents { extents_file.now ≡ found.now.salvage.now.trees.extents_file.now }
-    requires catalog { catalog_file.now ≡ found.now.salvage.now.trees.catalog_file.now }
+    requires extents { files.extents.now ≡ found.now.salvage.now.trees.extents_file.now }
+    requires catalog { files.catalog.now ≡ found.now.salvage.now.trees.catalog_file.now }
     ensures written { OnOk result (Appends (W.contents writer.old) (W.contents writer.new)
-        (remains_page texts.now refusal.now meaning.now found.now)) }
+        (remains_page texts.now fault.now.refusal.now fault.now.meaning.now found.now)) }
     ensures part { OnErr result (AppendsFront (W.contents writer.old) (W.contents writer.new)
-        (remains_page texts.now refusal.now meaning.now found.now)) }
+        (remains_page texts.now fault.now.refusal.now fault.now.meaning.now found.now)) }
 {
-    let Ok(front) = front(alloc, texts, refusal, meaning, found) else {
+    let Ok(front) = front(alloc, texts, fault, found) else {
         return Err(PageFault::Memory);
-    };
-    let files = TreeFiles {
-        extents: extents_file,
-        catalog: catalog_file,
     };
     let Ok(back) = back(alloc, texts, found, files) else {
         return Err(PageFault::Memory);
@@ -49,8 +43,12 @@ pub fn write_remains_page<W: Write>(
     let Ok(steps) = tree_order(alloc, found) else {
         return Err(PageFault::Memory);
     };
+    let items = LinkedItems {
+        base: texts.page.image.base,
+        found,
+    };
     put_piece(writer, &front)?;
-    write_rows(alloc, writer, texts.page.image.base, found, &steps)?;
+    write_rows(alloc, writer, &items, &steps)?;
     put_piece(writer, &back)?;
     Ok(())
 }

@@ -23,10 +23,10 @@ use std::alloc::{AllocError, Global};
 const COLUMNS: usize = 64;
 
 /// The allocation blocks of both trees' files, with None in place of each that is missing.
-#[derive(Clone, Copy)]
-pub(crate) struct TreeFiles<'a> {
-    pub(crate) extents: &'a [Option<u16>],
-    pub(crate) catalog: &'a [Option<u16>],
+#[derive(Clone, Copy, Drop)]
+pub struct TreeFiles<'a> {
+    pub extents: &'a [Option<u16>],
+    pub catalog: &'a [Option<u16>],
 }
 
 /// Adds the blocks of a tree's file.

@@ -14,3 +14,12 @@ pub struct RemainsTexts<'a> {
     /// After the picture: what its squares mean.
     pub legend: &'a [u8],
 }
+
+/// Why a disk is refused.
+#[derive(Clone, Copy, Drop)]
+pub struct FaultTexts<'a> {
+    /// Its fault in words.
+    pub refusal: &'a [u8],
+    /// What that means.
+    pub meaning: &'a [u8],
+}

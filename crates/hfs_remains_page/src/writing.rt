@@ -6,10 +6,10 @@ ghost use Rattle.hfs_texts.specs.Writing.{AppendsFront};
 ghost use Rattle.hfs_remains_page.specs.Gathers.{Gathers};
 ghost use Rattle.hfs_remains_page.specs.Rows as spec;
 
+use crate::linked_items::LinkedItems;
 use crate::rows::{open_behind, push_row};
 use crate::steps::Step;
 use hfs_page::{PageFault, push_closings, put_piece};
-use hfs_rescue_items::Found;
 use std::alloc::Global;
 use std::io::Write;
 
@@ -34,17 +34,17 @@ fn gather_row<W: Write>(
     alloc: Global,
     writer: &mut W,
     text: &mut Vec<u8>,
-    base: Option<&[u8]>,
-    found: &Found<'_>,
+    items: &LinkedItems<'_>,
     opened: usize,
     step: Step,
 ) -> Result<(), PageFault>
-    ensures gathered { OnOk result (Gathers (spec.row_text base.entry found.now opened step)
-        text.old.items text.new.items (W.contents writer.old) (W.contents writer.new)) }
+    ensures gathered { OnOk result (Gathers
+        (spec.row_text items.now.base items.now.found.now opened step) text.old.items text.new.items
+        (W.contents writer.old) (W.contents writer.new)) }
     ensures part { OnErr result (AppendsFront (W.contents writer.old) (W.contents writer.new)
-        (text.old.items ++ spec.row_text base.entry found.now opened step)) }
+        (text.old.items ++ spec.row_text items.now.base items.now.found.now opened step)) }
 {
-    let Ok(()) = push_row(alloc, text, base, found, opened, step) else {
+    let Ok(()) = push_row(alloc, text, items, opened, step) else {
         return Err(PageFault::Memory);
     };
     if text.len() < PIECE {
@@ -72,21 +72,20 @@ fn put_ends<W: Write>(writer: &mut W, text: &mut Vec<u8>, opened: usize) -> Resu
 pub(crate) fn write_rows<W: Write>(
     alloc: Global,
     writer: &mut W,
-    base: Option<&[u8]>,
-    found: &Found<'_>,
+    items: &LinkedItems<'_>,
     steps: &[Step],
 ) -> Result<(), PageFault>
     ensures written { OnOk result (Appends (W.contents writer.old) (W.contents writer.new)
-        (spec.rows_text base.entry found.now 0 steps.now)) }
+        (spec.rows_text items.now.base items.now.found.now 0 steps.now)) }
     ensures part { OnErr result (AppendsFront (W.contents writer.old) (W.contents writer.new)
-        (spec.rows_text base.entry found.now 0 steps.now)) }
+        (spec.rows_text items.now.base items.now.found.now 0 steps.now)) }
 {
     let mut text = Vec::new(alloc);
     let mut opened = 0;
     for i in 0..steps.len() {
         let step = steps[i];
-        gather_row(alloc, writer, &mut text, base, found, opened, step)?;
-        opened = open_behind(found, opened, step);
+        gather_row(alloc, writer, &mut text, items, opened, step)?;
+        opened = open_behind(items.found, opened, step);
     }
     put_ends(writer, &mut text, opened)
 }

@@ -39,38 +39,49 @@ struct GivenFound<S: PlacedBlocks> {
     source: SeenBlocks<S>,
 }
 
-/// Gives a shelf the bag of what was found of an image of `len` bytes, with what it says about the image.
+/// What a bag says about an image besides what was found of it.
+#[derive(Drop)]
+struct ImageFacts {
+    /// How many bytes the image has.
+    len: u64,
+    /// Where the volume lies in its file, if it was looked for there.
+    line: Option<String>,
+    told: Told,
+}
+
+/// Gives a shelf the bag of what was found of an image, with what it says about the image.
 fn give_found<S: PlacedBlocks + Drop, T: Shelf, W: Watch>(
     alloc: Global,
     shelf: &mut T,
     source: SeenBlocks<S>,
-    len: u64,
-    line: Option<&str>,
     found: &Found<'_>,
-    told: &Told,
     words: &BagWords<'_>,
+    about: &ImageFacts,
     watch: &W,
 ) -> GivenFound<S>
-    requires found { EachKnown (S.Holds source.blocks) (λ known. OfKnown known len
-        (λ image. IsFoundOf image (limit_of words.now.words image) found.now)) }
-    requires told { EachKnown (S.Holds source.blocks)
-        (λ known. IsToldOf known len found.now.mdb.now words.now told.now) }
+    requires found { EachKnown (S.Holds source.blocks) (λ known. OfKnown known about.now.len
+        (λ bytes. IsFoundOf bytes (limit_of words.now.words bytes) found.now)) }
+    requires told { EachKnown (S.Holds source.blocks) (λ known. IsToldOf known about.now.len
+        found.now.mdb.now words.now about.now.told) }
     ensures whole { OnOk result.came (EachKnown (S.Holds result.source.blocks)
-        (λ known. OfKnownBag known len (text_in line.entry) words.now (λ bag. T.given shelf.new ≡ T.given shelf.old ++ bag))) }
+        (λ known. OfKnownBag known about.now.len (option_map string_bytes about.now.line) words.now
+        (λ bag. T.given shelf.new ≡ T.given shelf.old ++ bag))) }
     ensures part { OnErr result.came (EachKnown (S.Holds result.source.blocks)
-        (λ known. OfKnownBag known len (text_in line.entry) words.now (λ bag. IsBeginning (T.given shelf.new) (T.given shelf.old ++ bag)))) }
+        (λ known. OfKnownBag known about.now.len (option_map string_bytes about.now.line) words.now
+        (λ bag. IsBeginning (T.given shelf.new) (T.given shelf.old ++ bag)))) }
     ensures fault { IfErr result.came (IsUnfilled (T.Fails (T.place shelf.old))
-        (S.Holds result.source.blocks) len (text_in line.entry) words.now) }
+        (S.Holds result.source.blocks) about.now.len (option_map string_bytes about.now.line) words.now) }
     ensures place { T.place shelf.new ≡ T.place shelf.old }
     ensures narrows { OfEach (S.Holds result.source.blocks) (S.Holds source.blocks) }
 {
+    let told = &about.told;
     let facts = BagFacts {
         identifier: told.identifier.as_str(),
         program: words.program,
         image: told.name.as_str(),
-        volume: line,
+        volume: text_in(&about.line),
         directory: text_in(&told.directory),
-        bytes: len,
+        bytes: about.len,
         digest: told.digest,
         report: told.report.as_str(),
     };
@@ -141,9 +152,9 @@ pub fn give_remains<S: PlacedBlocks + Drop, T: Shelf, W: Watch>(
         Ok(told) => told,
         Err(fault) => return not_given(fault, source),
     };
-    let line = text_in(&line);
+    let about = ImageFacts { len, line, told };
     let GivenFound { came, source } = give_found(
-        alloc, shelf, source, len, line, &found, &told, words, watch,
+        alloc, shelf, source, &found, words, &about, watch,
     );
     GivenRemains {
         answer: answered(came, answer),

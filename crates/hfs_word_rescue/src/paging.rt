@@ -17,7 +17,7 @@ use hfs_check::{MountFault, push_meaning};
 use hfs_commands::{Fault, Refusal};
 use hfs_page::PageFault;
 use hfs_remains_forks::{Finds, salvage_of};
-use hfs_remains_page::{RemainsTexts, write_remains_page};
+use hfs_remains_page::{FaultTexts, RemainsTexts, TreeFiles, write_remains_page};
 use hfs_rescue_items::Found;
 use hfs_source::PlacedBlocks;
 use hfs_texts::Show;
@@ -64,16 +64,15 @@ fn put_page<W: Write>(
     let Ok(meaning) = meaning(alloc, why) else {
         return Err(PageFault::Memory);
     };
-    write_remains_page(
-        alloc,
-        texts,
-        refusal.as_bytes(),
-        meaning.as_bytes(),
-        found,
-        &finds.extents_file,
-        &finds.catalog_file,
-        writer,
-    )
+    let fault = FaultTexts {
+        refusal: refusal.as_bytes(),
+        meaning: meaning.as_bytes(),
+    };
+    let files = TreeFiles {
+        extents: &finds.extents_file,
+        catalog: &finds.catalog_file,
+    };
+    write_remains_page(alloc, texts, &fault, found, files, writer)
 }
 
 /// The fault for a page that wasn't written.

@@ -93,6 +93,17 @@ fn give_beside<R: Threads, D: ImageBlocks + Send, T: Shelf, B: BagSource>(
     Ok((given, digest))
 }
 
+/// What is known of the digest of an image before the payload is given.
+#[derive(Clone, Copy)]
+pub(crate) struct DigestPlan {
+    /// The digest, if it was made first.
+    pub(crate) told: Option<[u8; 32]>,
+    /// How many bytes the image has.
+    pub(crate) len: u64,
+    /// Whether the digest is asked for.
+    pub(crate) is_digested: bool,
+}
+
 /// Gives the payload of a bag, and also returns the image's digest: the one that was made first, or the one that is made
 /// meanwhile from the second opening. Faults: those of the payload, then those of the digest.
 #[tactic(auto, using(crate::proofs::DigestLemmas::planned_made))]
@@ -101,12 +112,11 @@ pub(crate) fn give_first<R: Threads, S: PlacedBlocks + Send, T: Shelf, B: BagSou
     alloc: Global,
     shelf: &mut T,
     items: &mut B,
-    told: Option<[u8; 32]>,
     beside: &mut Option<SeenBlocks<S>>,
-    len: u64,
-    is_digested: bool,
+    plan: &DigestPlan,
 ) -> Result<(GivenPayload, Option<[u8; 32]>), BagFault>
-    requires { OfEach (B.Holds items.old) (IsPlanned beside.old is_digested told) }
+    requires { OfEach (B.Holds items.old)
+        (IsPlanned beside.old plan.now.is_digested plan.now.told) }
     ensures whole { OnOk result (OfEach (B.Holds items.new)
         (λ bytes. T.given shelf.new ≡ T.given shelf.old ++ payload (B.state items.old bytes).all)) }
     ensures part { OnErr result (OfEach (B.Holds items.new)
@@ -116,7 +126,8 @@ pub(crate) fn give_first<R: Threads, S: PlacedBlocks + Send, T: Shelf, B: BagSou
     ensures kept { OnOk result (OfEach (B.Holds items.new)
         (λ bytes. KeepsItems (B.state items.old bytes) (B.state items.new bytes))) }
     ensures digest { IfOk result (λ made. OfEach (B.Holds items.new)
-        (λ bytes. HoldsBeside S.Holds beside.new bytes → length bytes ≡ len → made.1 ≡ digest_told is_digested bytes)) }
+        (λ bytes. HoldsBeside S.Holds beside.new bytes → length bytes ≡ plan.now.len
+        → made.1 ≡ digest_told plan.now.is_digested bytes)) }
     ensures fault { IfErr result (IsPayloadFault (λ _. ⊤) (T.Fails (T.place shelf.old))
         (B.Holds items.new) (B.state items.old)) }
     ensures place { T.place shelf.new ≡ T.place shelf.old }
@@ -125,9 +136,10 @@ pub(crate) fn give_first<R: Threads, S: PlacedBlocks + Send, T: Shelf, B: BagSou
     match beside {
         None => {
             let given = give_payload(alloc, shelf, items)?;
-            Ok((given, told))
+            Ok((given, plan.told))
         }
         Some(source) => {
+            let len = plan.len;
             let made = give_beside(threads, alloc, shelf, items, source, len)?;
             Ok((made.0, Some(made.1)))
         }

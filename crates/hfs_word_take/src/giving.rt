@@ -1,5 +1,5 @@
 //! The bag of an image, given to any shelf.
-ghost use Rattle.std.specs.Prelude.{◌≡◌, ◌++◌, IfErr, IfOk, OnErr, OnOk, string_bytes};
+ghost use Rattle.std.specs.Prelude.{◌≡◌, ◌++◌, Bool, IfErr, IfOk, OnErr, OnOk, string_bytes};
 ghost use Rattle.std.specs.Option.{option_map};
 ghost use Rattle.hfs_bag.specs.Sums.{IsSumOf};
 ghost use Rattle.hfs_check.specs.Report.{report_of};
@@ -15,7 +15,7 @@ ghost use Rattle.hfs_word_take.specs.Planned.{IsPlanned};
 ghost use Rattle.hfs_word_take.specs.Told.{IsToldOf};
 
 use crate::ImageItems;
-use crate::beside::{digest_at_once, give_first, plan_digest};
+use crate::beside::{DigestPlan, digest_at_once, give_first, plan_digest};
 use crate::facts::{image_name, plain_name, report_text};
 use crate::image::TakenImage;
 use crate::words::TakeWords;
@@ -102,64 +102,14 @@ fn told_of<S: PlacedBlocks>(
     })
 }
 
-/// Gives a shelf the bag of these items of an image, with what it says about the image.
-fn give_items<R: Threads, S: PlacedBlocks + Drop + Send, T: Shelf, W: Watch>(
-    threads: &R,
-    alloc: Global,
-    shelf: &mut T,
-    watched: &mut WatchedItems<'_, ImageItems<S>, W>,
-    beside: &mut Option<SeenBlocks<S>>,
-    told: Told,
-    line: Option<&str>,
-    words: &TakeWords<'_>,
+/// What a bag says about an image besides its items.
+#[derive(Drop)]
+struct ImageFacts {
+    /// How many bytes the image has.
     len: u64,
-    is_made: bool,
-) -> Result<BagSums, BagFault>
-    requires len { OfEach (S.Holds watched.old.items.source.image) (HasLength len) }
-    requires root { OfEach (S.Holds watched.old.items.source.image)
-        (λ bytes. BeginsWith watched.old.items.root (told_rows (entries_in bytes))) }
-    requires told { OfEach (S.Holds watched.old.items.source.image) (IsToldOf words.now is_made told) }
-    requires planned { OfEach (S.Holds watched.old.items.source.image)
-        (IsPlanned beside.old words.now.is_digested told.digest) }
-    ensures whole { OnOk result (OfEach (HoldsBoth S.Holds watched.new.items.source.image beside.new)
-        (OfBag (text_in line.entry) words.now (λ bag. T.given shelf.new ≡ T.given shelf.old ++ bag))) }
-    ensures part { OnErr result (OfEach (HoldsBoth S.Holds watched.new.items.source.image beside.new)
-        (OfBag (text_in line.entry) words.now (λ bag. IsBeginning (T.given shelf.new) (T.given shelf.old ++ bag)))) }
-    ensures sums { IfOk result (λ sums. OfEach (S.Holds watched.new.items.source.image)
-        (λ bytes. IsSumOf sums (bag_items (entries_in bytes)))) }
-    ensures fault { IfErr result (IsFillFault (T.Fails (T.place shelf.old)) (S.Holds watched.new.items.source.image)) }
-    ensures place { T.place shelf.new ≡ T.place shelf.old }
-    ensures narrows { OfEach (S.Holds watched.new.items.source.image) (S.Holds watched.old.items.source.image) }
-{
-    let identifier = plain_name(alloc, watched.items.root.name.bytes())?;
-    let Told {
-        name,
-        report,
-        digest,
-    } = told;
-    let is_digested = words.is_digested;
-    let first = give_first(
-        threads,
-        alloc,
-        shelf,
-        watched,
-        digest,
-        beside,
-        len,
-        is_digested,
-    )?;
-    let facts = BagFacts {
-        identifier: identifier.as_str(),
-        program: words.program,
-        image: name.as_str(),
-        volume: line,
-        directory: None,
-        bytes: len,
-        digest: first.1,
-        report: report.as_str(),
-    };
-    let sums = give_tag_files(alloc, shelf, watched, &facts, &first.0)?;
-    Ok(sums)
+    /// Where it lies in its file, if it was looked for there.
+    volume: Option<String>,
+    told: Told,
 }
 
 /// A text, if there is one.
@@ -170,6 +120,58 @@ fn text_in(text: &Option<String>) -> Option<&str>
         Some(text) => Some(text.as_str()),
         None => None,
     }
+}
+
+/// Gives a shelf the bag of these items of an image, with what it says about the image.
+fn give_items<R: Threads, S: PlacedBlocks + Drop + Send, T: Shelf, W: Watch>(
+    threads: &R,
+    alloc: Global,
+    shelf: &mut T,
+    watched: &mut WatchedItems<'_, ImageItems<S>, W>,
+    beside: &mut Option<SeenBlocks<S>>,
+    words: &TakeWords<'_>,
+    about: &ImageFacts,
+) -> Result<BagSums, BagFault>
+    requires len { OfEach (S.Holds watched.old.items.source.image) (HasLength about.now.len) }
+    requires root { OfEach (S.Holds watched.old.items.source.image)
+        (λ bytes. BeginsWith watched.old.items.root (told_rows (entries_in bytes))) }
+    requires told { (is_made : Bool) × OfEach (S.Holds watched.old.items.source.image)
+        (IsToldOf words.now is_made about.now.told) }
+    requires planned { OfEach (S.Holds watched.old.items.source.image)
+        (IsPlanned beside.old words.now.is_digested about.now.told.digest) }
+    ensures whole { OnOk result (OfEach (HoldsBoth S.Holds watched.new.items.source.image beside.new)
+        (OfBag (option_map string_bytes about.now.volume) words.now
+        (λ bag. T.given shelf.new ≡ T.given shelf.old ++ bag))) }
+    ensures part { OnErr result (OfEach (HoldsBoth S.Holds watched.new.items.source.image beside.new)
+        (OfBag (option_map string_bytes about.now.volume) words.now
+        (λ bag. IsBeginning (T.given shelf.new) (T.given shelf.old ++ bag)))) }
+    ensures sums { IfOk result (λ sums. OfEach (S.Holds watched.new.items.source.image)
+        (λ bytes. IsSumOf sums (bag_items (entries_in bytes)))) }
+    ensures fault { IfErr result (IsFillFault (T.Fails (T.place shelf.old)) (S.Holds watched.new.items.source.image)) }
+    ensures place { T.place shelf.new ≡ T.place shelf.old }
+    ensures narrows { OfEach (S.Holds watched.new.items.source.image) (S.Holds watched.old.items.source.image) }
+{
+    let identifier = plain_name(alloc, watched.items.root.name.bytes())?;
+    let told = &about.told;
+    let plan = DigestPlan {
+        told: told.digest,
+        len: about.len,
+        is_digested: words.is_digested,
+    };
+    let first = give_first(threads, alloc, shelf, watched, beside, &plan)?;
+    let directory = None;
+    let facts = BagFacts {
+        identifier: identifier.as_str(),
+        program: words.program,
+        image: told.name.as_str(),
+        volume: text_in(&about.volume),
+        directory,
+        bytes: about.len,
+        digest: first.1,
+        report: told.report.as_str(),
+    };
+    let sums = give_tag_files(alloc, shelf, watched, &facts, &first.0)?;
+    Ok(sums)
 }
 
 /// The result of giving the bag of an image, and what it was read from.
@@ -233,19 +235,16 @@ pub fn give_image<R: Threads, S: PlacedBlocks + Drop + Send, T: Shelf, W: Watch>
             };
         }
     };
-    let line = text_in(&volume);
     let mut watched = WatchedItems::new(items, watch, item_count(&report));
+    let about = ImageFacts { len, volume, told };
     let sums = give_items(
         threads,
         alloc,
         shelf,
         &mut watched,
         &mut beside,
-        told,
-        line,
         words,
-        len,
-        is_made,
+        &about,
     );
     GivenBag {
         sums,

@@ -1,12 +1,9 @@
 -- What is given and told of what was found is given and told of each image that holds.
-use Rattle.std.proofs.Common.{◌≡◌, ℕ, List, ◌++◌, Global, Option, Some, subst}
+use Rattle.std.proofs.Common.{ℕ, List, Global, Some}
 use Rattle.std.specs.Prelude.{string_bytes}
 use Rattle.std.specs.Option.{option_map}
-use Rattle.hfs_fields.proofs.OutcomeLemmas.{on_err_then, on_ok, if_err}
-use Rattle.hfs_bag.specs.Entries.{IsBeginning, ShelfEntry}
 use Rattle.hfs_source.specs.Seen.{EachKnown}
 use Rattle.hfs_word_rescue.specs.Answers.{IsKnownAnswer}
-use Rattle.hfs_word_rescue.specs.Bags.{IsUnfilled, OfKnownBag}
 use Rattle.hfs_word_rescue.proofs.BagLemmas.{answer_known, found_known, none_given, told_answer, told_err, told_fault, told_ok}
 use Rattle.hfs_word_rescue.proofs.filling.give_remains.Goals as goal
 
@@ -34,26 +31,15 @@ give_found-came-requires-clause-found g c = λ bytes h.
 
 pub returns-clause-whole : goal.returns-clause-whole
 returns-clause-whole g c =
-    let before = g.T.Shelf.given c.args.shelf.now in
-    let now = g.T.Shelf.given c.give_found-came.new.shelf in
-    told_ok c.give_found-came.result.came c.in-Ok-of.answer c.answered.result c.answered.ensures _
-    (on_ok _ _ (EachKnown (g.S.PlacedBlocks.Holds c.give_found-came.result.source.blocks) (λ known. OfKnownBag known c.args.image.len (option_map (string_bytes {Z = Global}) c.args.image.line) c.args.words.now (λ (bag : List ShelfEntry). now ≡ before ++ bag))) (λ whole image h. subst (λ (line : Option (List ℕ)). OfKnownBag (Some image) c.args.image.len line c.args.words.now (λ (bag : List ShelfEntry). now ≡ before ++ bag))
-    c.text_in-line.ensures (whole image h)) c.give_found-came.ensures.whole)
+    told_ok c.give_found-came.result.came c.in-Ok-of.answer c.answered.result c.answered.ensures _ c.give_found-came.ensures.whole
 
 pub returns-clause-part : goal.returns-clause-part
 returns-clause-part g c =
-    let before = g.T.Shelf.given c.args.shelf.now in
-    let now = g.T.Shelf.given c.give_found-came.new.shelf in
-    told_err c.give_found-came.result.came c.in-Ok-of.answer c.answered.result c.answered.ensures _
-    (on_err_then _ _ (EachKnown (g.S.PlacedBlocks.Holds c.give_found-came.result.source.blocks) (λ known. OfKnownBag known c.args.image.len (option_map (string_bytes {Z = Global}) c.args.image.line) c.args.words.now (λ (bag : List ShelfEntry). IsBeginning now (before ++ bag)))) (λ part image h. subst (λ (line : Option (List ℕ)). OfKnownBag (Some image) c.args.image.len line c.args.words.now (λ (bag : List ShelfEntry). IsBeginning now (before ++ bag)))
-    c.text_in-line.ensures (part image h)) c.give_found-came.ensures.part)
+    told_err c.give_found-came.result.came c.in-Ok-of.answer c.answered.result c.answered.ensures _ c.give_found-came.ensures.part
 
 pub returns-clause-fault : goal.returns-clause-fault
 returns-clause-fault g c =
-    let Shelf = g.T.Shelf.Fails (g.T.Shelf.place c.args.shelf.now) in
-    told_fault c.give_found-came.result.came c.in-Ok-of.answer c.answered.result c.answered.ensures _
-    (if_err c.give_found-came.result.came _ _ (λ why is. subst (λ (line : Option (List ℕ)). IsUnfilled Shelf (g.S.PlacedBlocks.Holds c.give_found-came.result.source.blocks) c.args.image.len line c.args.words.now why)
-    c.text_in-line.ensures is) c.give_found-came.ensures.fault)
+    told_fault c.give_found-came.result.came c.in-Ok-of.answer c.answered.result c.answered.ensures _ c.give_found-came.ensures.fault
 
 pub returns-clause-answer : goal.returns-clause-answer
 returns-clause-answer g c =

@@ -34,8 +34,11 @@ give_items-sums-requires-clause-root g c κs within = λ image h.
     (c.in-Ok-new.ensures.root image (subst (λ s. g.S.PlacedBlocks.Holds s image) (ap (λ (items : ImageItems g.row.S.Denot). items.source.image) c.new-watched.ensures ∙ c.in-Ok-new.ensures.image) h))
 
 pub give_items-sums-requires-clause-told : goal.give_items-sums-requires-clause-told
-give_items-sums-requires-clause-told g c κs within = λ image h.
-    c.in-Ok.ensures.told image (subst (λ s. g.S.PlacedBlocks.Holds s image) (ap (λ (items : ImageItems g.row.S.Denot). items.source.image) c.new-watched.ensures ∙ c.in-Ok-new.ensures.image) h)
+give_items-sums-requires-clause-told g c κs within = (
+  _,
+  λ image h.
+      c.in-Ok.ensures.told image (subst (λ s. g.S.PlacedBlocks.Holds s image) (ap (λ (items : ImageItems g.row.S.Denot). items.source.image) c.new-watched.ensures ∙ c.in-Ok-new.ensures.image) h),
+)
 
 pub give_items-sums-requires-clause-planned : goal.give_items-sums-requires-clause-planned
 give_items-sums-requires-clause-planned g c κs within = λ image h.
@@ -49,9 +52,7 @@ returns-clause-whole g c =
     let now = g.T.Shelf.given given.new.shelf in
     let Holds = g.S.PlacedBlocks.Holds in
     subst (λ s. OnOk given.result (OfEach (HoldsBoth Holds s given.new.beside)
-    (OfBag (option_map (string_bytes {Z = Global}) c.args.image.volume) c.args.words.now (λ (bag : List ShelfEntry). now ≡ before ++ bag)))) (sym (c.into_image.ensures ∙ ap (λ (items : ImageItems g.row.S.Denot). items.source.image) c.into_items.ensures))
-    (subst (λ l. OnOk given.result (OfEach (HoldsBoth Holds given.new.watched.items.source.image given.new.beside)
-    (OfBag l c.args.words.now (λ (bag : List ShelfEntry). now ≡ before ++ bag)))) c.text_in-line.ensures given.ensures.whole)
+    (OfBag (option_map (string_bytes {Z = Global}) c.args.image.volume) c.args.words.now (λ (bag : List ShelfEntry). now ≡ before ++ bag)))) (sym (c.into_image.ensures ∙ ap (λ (items : ImageItems g.row.S.Denot). items.source.image) c.into_items.ensures)) given.ensures.whole
 
 pub returns-clause-part : goal.returns-clause-part
 returns-clause-part g c =
@@ -60,9 +61,7 @@ returns-clause-part g c =
     let now = g.T.Shelf.given given.new.shelf in
     let Holds = g.S.PlacedBlocks.Holds in
     subst (λ s. OnErr given.result (OfEach (HoldsBoth Holds s given.new.beside)
-    (OfBag (option_map (string_bytes {Z = Global}) c.args.image.volume) c.args.words.now (λ (bag : List ShelfEntry). IsBeginning now (before ++ bag))))) (sym (c.into_image.ensures ∙ ap (λ (items : ImageItems g.row.S.Denot). items.source.image) c.into_items.ensures))
-    (subst (λ l. OnErr given.result (OfEach (HoldsBoth Holds given.new.watched.items.source.image given.new.beside)
-    (OfBag l c.args.words.now (λ (bag : List ShelfEntry). IsBeginning now (before ++ bag))))) c.text_in-line.ensures given.ensures.part)
+    (OfBag (option_map (string_bytes {Z = Global}) c.args.image.volume) c.args.words.now (λ (bag : List ShelfEntry). IsBeginning now (before ++ bag))))) (sym (c.into_image.ensures ∙ ap (λ (items : ImageItems g.row.S.Denot). items.source.image) c.into_items.ensures)) given.ensures.part
 
 pub returns-clause-sums : goal.returns-clause-sums
 returns-clause-sums g c =

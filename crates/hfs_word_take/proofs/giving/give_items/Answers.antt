@@ -1,6 +1,7 @@
 -- What is given is the bag of each image that holds.
-use Rattle.std.proofs.Common.{◌≡◌, List, ◌++◌, None, ap, refl, sym, subst, rules, ◌∙◌}
-use Rattle.std.specs.Prelude.{⊤}
+use Rattle.std.proofs.Common.{◌≡◌, List, ◌++◌, None, Global, ap, refl, sym, subst, rules, ◌∙◌}
+use Rattle.std.specs.Prelude.{⊤, string_bytes}
+use Rattle.std.specs.Option.{option_map}
 use Rattle.hfs_bag.proofs.FaultLemmas.{any-source, larger}
 use Rattle.hfs_bag.proofs.Growing.{each_err}
 use Rattle.hfs_bag.proofs.HalfLemmas.{bag_part, bag_whole}
@@ -11,7 +12,6 @@ use Rattle.hfs_bag.specs.Sums.{IsSumOf}
 use Rattle.hfs_word_take.specs.Sources.{source_of}
 use Rattle.hfs_texts.specs.PlainTexts.{plain_text}
 use Rattle.hfs_bag.specs.Entries.{IsBeginning, ShelfEntry}
-use Rattle.hfs_word_take.specs.Bags.{text_in}
 use Rattle.hfs_word_take.specs.Digests.{HoldsBoth}
 use Rattle.hfs_word_take.specs.TakeFaults.{IsFillFault}
 use Rattle.hfs_word_take.proofs.BagLemmas.{nothing_given, of_facts, payload_part}
@@ -20,11 +20,11 @@ use Rattle.hfs_word_take.proofs.giving.give_items.Goals as goal
 
 pub returns-in_err-identifier-clause-part : goal.returns-in_err-identifier-clause-part
 returns-in_err-identifier-clause-part g c = each_err _ (HoldsBoth g.S.PlacedBlocks.Holds c.args.watched.now.items.source.image c.args.beside.now)
-    (λ image h. nothing_given image (text_in c.args.line) c.args.words.now (g.T.Shelf.given c.args.shelf.now))
+    (λ image h. nothing_given image (option_map (string_bytes {Z = Global}) c.args.about.now.volume) c.args.words.now (g.T.Shelf.given c.args.shelf.now))
 
 pub returns-in_err-first-clause-part : goal.returns-in_err-first-clause-part
 returns-in_err-first-clause-part g c = each_err _ (HoldsBoth g.S.PlacedBlocks.Holds c.give_first.new.items.items.source.image c.give_first.new.beside)
-    (λ image h. payload_part image (text_in c.args.line) c.args.words.now (g.T.Shelf.given c.args.shelf.now) (g.T.Shelf.given c.give_first.new.shelf)
+    (λ image h. payload_part image (option_map (string_bytes {Z = Global}) c.args.about.now.volume) c.args.words.now (g.T.Shelf.given c.args.shelf.now) (g.T.Shelf.given c.give_first.new.shelf)
     (c.in_err-first.ensures.part image h.0))
 
 pub give_tag_files-requires : goal.give_tag_files-requires
@@ -34,7 +34,7 @@ give_tag_files-requires g c = λ image h.
 pub returns-in_err-sums-clause-part : goal.returns-in_err-sums-clause-part
 returns-in_err-sums-clause-part g c = each_err _ (HoldsBoth g.S.PlacedBlocks.Holds c.give_tag_files.new.source.items.source.image c.give_first.new.beside) (λ image h.
     let items = c.args.watched.now.items in
-    let told = c.args.told in
+    let told = c.args.about.now.told in
     let after = c.give_first.new.items.items in
     let before = g.T.Shelf.given c.args.shelf.now in
     let first = g.T.Shelf.given c.give_first.new.shelf in
@@ -45,17 +45,17 @@ returns-in_err-sums-clause-part g c = each_err _ (HoldsBoth g.S.PlacedBlocks.Hol
       identifier = c.as_str.result;
       program = c.args.words.now.program;
       image = c.as_str-2.result;
-      volume = c.args.line;
+      volume = c.text_in.result;
       directory = None;
-      bytes = c.args.len;
+      bytes = c.args.about.now.len;
       digest = c.in_ok-first.first.1;
       report = c.as_str-3.result;
     } in
-    let tells = tells_of image c.args.len (text_in c.args.line) c.args.words.now facts items.root (c.requires.root image old) (c.requires.len image old)
-    (c.as_str.ensures.value ∙ c.in_ok-identifier.ensures ∙ ap plain_text c.bytes.ensures.bytes) refl (c.as_str-2.ensures.value ∙ (c.requires.told image old).name_is) refl refl refl
+    let tells = tells_of image c.args.about.now.len (option_map (string_bytes {Z = Global}) c.args.about.now.volume) c.args.words.now facts items.root (c.requires.root image old) (c.requires.len image old)
+    (c.as_str.ensures.value ∙ c.in_ok-identifier.ensures ∙ ap plain_text c.bytes.ensures.bytes) refl (c.as_str-2.ensures.value ∙ (c.requires.told.1 image old).name_is) c.text_in.ensures refl refl
     (c.in_ok-first.ensures.digest image was h.1 (c.requires.len image old))
-    (c.as_str-3.ensures.value ∙ (c.requires.told image old).report_is) in
-    of_facts image (text_in c.args.line) c.args.words.now facts (λ (bag : List ShelfEntry). IsBeginning now (before ++ bag)) tells
+    (c.as_str-3.ensures.value ∙ (c.requires.told.1 image old).report_is) in
+    of_facts image (option_map (string_bytes {Z = Global}) c.args.about.now.volume) c.args.words.now facts (λ (bag : List ShelfEntry). IsBeginning now (before ++ bag)) tells
     (bag_part before first now (source_of items.rows.left items.came items.reading image) (source_of after.rows.left after.came after.reading image) facts
     (c.in_ok-first.ensures.kept image was) (c.in_ok-first.ensures.whole image was) (c.in_err-sums.ensures.part image h.0)))
 
@@ -72,17 +72,17 @@ returns-clause-whole g c = λ image h.
       identifier = c.as_str.result;
       program = c.args.words.now.program;
       image = c.as_str-2.result;
-      volume = c.args.line;
+      volume = c.text_in.result;
       directory = None;
-      bytes = c.args.len;
+      bytes = c.args.about.now.len;
       digest = c.in_ok-first.first.1;
       report = c.as_str-3.result;
     } in
-    let tells = tells_of image c.args.len (text_in c.args.line) c.args.words.now facts items.root (c.requires.root image old) (c.requires.len image old)
-    (c.as_str.ensures.value ∙ c.in_ok-identifier.ensures ∙ ap plain_text c.bytes.ensures.bytes) refl (c.as_str-2.ensures.value ∙ (c.requires.told image old).name_is) refl refl refl
+    let tells = tells_of image c.args.about.now.len (option_map (string_bytes {Z = Global}) c.args.about.now.volume) c.args.words.now facts items.root (c.requires.root image old) (c.requires.len image old)
+    (c.as_str.ensures.value ∙ c.in_ok-identifier.ensures ∙ ap plain_text c.bytes.ensures.bytes) refl (c.as_str-2.ensures.value ∙ (c.requires.told.1 image old).name_is) c.text_in.ensures refl refl
     (c.in_ok-first.ensures.digest image was h.1 (c.requires.len image old))
-    (c.as_str-3.ensures.value ∙ (c.requires.told image old).report_is) in
-    of_facts image (text_in c.args.line) c.args.words.now facts (λ (bag : List ShelfEntry). now ≡ before ++ bag) tells
+    (c.as_str-3.ensures.value ∙ (c.requires.told.1 image old).report_is) in
+    of_facts image (option_map (string_bytes {Z = Global}) c.args.about.now.volume) c.args.words.now facts (λ (bag : List ShelfEntry). now ≡ before ++ bag) tells
     (bag_whole before first now (source_of items.rows.left items.came items.reading image) (source_of after.rows.left after.came after.reading image) facts
     (c.in_ok-first.ensures.kept image was) (c.in_ok-first.ensures.whole image was) (c.in_ok-sums.ensures.whole image h.0))
 

@@ -3,7 +3,7 @@ use Rattle.std.proofs.Common.{◌++◌}
 use Rattle.std.specs.Prelude.{codes}
 use Rattle.hfs_page.specs.Texts.{date_text}
 use Rattle.hfs_page.proofs.Joins.{joined, joined-ok}
-use Rattle.hfs_remains_page.proofs.rows.push_dated.Goals as goal
+use Rattle.hfs_remains_page.proofs.row_parts.push_dated.Goals as goal
 
 pub returns : goal.returns
 returns c =
