@@ -64,7 +64,7 @@ module _ (Hosts : Tree → Type 0) (order : MakeOrder) (items : List PlannedItem
   abbrev placed : PlacedList
   placed = put.done.list
 
-  is-list : IsPutList put.copy placed.target order.now items placed.places.items list.blocks.patch list.blocks.runs.items list.blocks.ids.items
+  abbrev is-list : IsPutList put.copy placed.target order.now items placed.places.items list.blocks.patch list.blocks.runs.items list.blocks.ids.items
   is-list = record { replace = false; placed = put.done.placed.places; current = put.current; over = put.done.over }
 
   own : bytes_in (own_place planned).range image ≡ image

@@ -50,7 +50,7 @@ module _ (Files : List ℕ → Type 0) (Hosts : Tree → Type 0) (order : PutOrd
   abbrev list : PlacedList
   list = from.done.done.list
 
-  is-list : IsPutList from.copy list.target order.now items list.places.items put.patch put.runs.items put.ids.items
+  abbrev is-list : IsPutList from.copy list.target order.now items list.places.items put.patch put.runs.items put.ids.items
   is-list = record { replace = order.replace; placed = from.done.done.placed.places; current = from.done.current; over = from.done.done.over }
 
   is-image : (file : List ℕ) → Files file → LiesIn place.range file → IsSumBefore place.sum_at place.range.start → IsImageOf from.copy place file
