@@ -1,8 +1,21 @@
 -- What was listed for the volume that is wanted, of the trees as they were left.
-use Rattle.std.proofs.Common.{◌∙◌}
+use Rattle.std.proofs.Common.{◌∙◌, inl, inr}
+use Rattle.std.proofs.lemmas.Result.{err_from_is_err_and}
 use Rattle.hfs_word_make.proofs.MadeLists.{listed-for, listed-then, made-list, unput-list, unverified-list}
-use Rattle.hfs_word_put.proofs.Unread.{unverified-before}
+use Rattle.hfs_word_put.proofs.Unread.{unlisted_before, unverified-before}
 use Rattle.hfs_word_make.proofs.making.make_list.Goals as goal
+
+pub returns-in_err-items-clause-fault : goal.returns-in_err-items-clause-fault
+returns-in_err-items-clause-fault g c =
+    let told = err_from_is_err_and c.from_residual-in_err-items.result c.from_residual-in_err-items.ensures.1 in
+    rw (told.1, told.2)
+    (inr (inr (inl (record {
+      name = c.in_ok-name.name;
+      named = λ host h. c.in_ok-name.ensures.name host (c.list_all_new.ensures.held host h);
+      size = c.in_ok-size.size;
+      sized = c.in_ok-size.ensures;
+      unread = unlisted_before (g.T.HostTree.Fails c.made_name.new.tree) (g.T.HostTree.Fails c.args.tree.now) _ _ _ c.made_name.ensures.later c.in_err-items.ensures.fault;
+    }))))
 
 pub returns-in-Err-clause-fault : goal.returns-in-Err-clause-fault
 returns-in-Err-clause-fault g c =
