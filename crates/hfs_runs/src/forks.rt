@@ -17,7 +17,6 @@ use crate::extents::push_extents;
 use crate::naming::{named_by, read_forks};
 use hfs_blocks::Run;
 use hfs_btree::RunNodes;
-use hfs_check::SoundVolume;
 use hfs_copy::WorkingVolume;
 use hfs_fields::{FileRecord, ForkRecord};
 use hfs_items::file_named;
@@ -32,27 +31,26 @@ use std::alloc::{AllocError, Global};
 fn push_fork(
     alloc: Global,
     runs: &mut Vec<Run>,
-    read: &SparseBlocks,
-    count: u32,
-    sound: &SoundVolume,
+    working: &WorkingVolume,
     file: u32,
     kind: ForkKind,
     fork: &ForkRecord,
 ) -> Result<(), AllocError>
-    requires sound { AreBlocksSound count (sparse read.now) }
-    requires directory { sound.now.mdb ≡ mdb_in (sparse read.now) }
-    requires trees { HasTrees count (sparse read.now) sound.now.trees }
-    requires fork { IsForkIn (sparse read.now) file kind fork.now }
-    ensures { OnOk result (GainsRuns (fork_blocks (sparse read.now) file kind fork.now) count
-        runs.old.items runs.new.items) }
+    requires sound { AreBlocksSound working.now.count (sparse working.now.read) }
+    requires directory { working.now.sound.mdb ≡ mdb_in (sparse working.now.read) }
+    requires trees { HasTrees working.now.count (sparse working.now.read) working.now.sound.trees }
+    requires fork { IsForkIn (sparse working.now.read) file kind fork.now }
+    ensures { OnOk result (GainsRuns (fork_blocks (sparse working.now.read) file kind fork.now)
+        working.now.count runs.old.items runs.new.items) }
 {
-    let blocks = read.volume(count);
+    let count = working.count;
+    let blocks = working.read.volume(count);
     let nodes = RunNodes {
         blocks: &blocks,
-        runs: &sound.trees.extents,
+        runs: &working.sound.trees.extents,
     };
     let extents = fork_extents(alloc, &nodes, file, kind, &fork.extents)?;
-    push_extents(runs, &sound.mdb, &extents)
+    push_extents(runs, &working.sound.mdb, &extents)
 }
 
 /// Appends where both forks of a file lie.
@@ -60,52 +58,37 @@ fn push_fork(
 fn push_file(
     alloc: Global,
     runs: &mut Vec<Run>,
-    read: &SparseBlocks,
-    count: u32,
-    sound: &SoundVolume,
+    working: &WorkingVolume,
     file: &FileRecord,
 ) -> Result<(), AllocError>
-    requires sound { AreBlocksSound count (sparse read.now) }
-    requires directory { sound.now.mdb ≡ mdb_in (sparse read.now) }
-    requires trees { HasTrees count (sparse read.now) sound.now.trees }
-    requires forks { AreForksIn (sparse read.now) file.now }
-    ensures within { OnOk result (LieIn count runs.old.items → LieIn count runs.new.items) }
+    requires sound { AreBlocksSound working.now.count (sparse working.now.read) }
+    requires directory { working.now.sound.mdb ≡ mdb_in (sparse working.now.read) }
+    requires trees { HasTrees working.now.count (sparse working.now.read) working.now.sound.trees }
+    requires forks { AreForksIn (sparse working.now.read) file.now }
+    ensures within { OnOk result (LieIn working.now.count runs.old.items
+        → LieIn working.now.count runs.new.items) }
     ensures gained { OnOk result (GainForks runs.old.items runs.new.items) }
     ensures forks { OnOk result
-        (AreAmong (file_blocks (sparse read.now) file.now) (blocks_of_runs runs.new.items)) }
+        (AreAmong (file_blocks (sparse working.now.read) file.now)
+        (blocks_of_runs runs.new.items)) }
 {
     let id = file.id;
-    push_fork(
-        alloc,
-        runs,
-        read,
-        count,
-        sound,
-        id,
-        ForkKind::Data,
-        &file.data,
-    )?;
-    let kind = ForkKind::Resource;
-    push_fork(alloc, runs, read, count, sound, id, kind, &file.resource)
+    push_fork(alloc, runs, working, id, ForkKind::Data, &file.data)?;
+    push_fork(alloc, runs, working, id, ForkKind::Resource, &file.resource)
 }
 
 /// The record of the folder's file of that name, or the reply that refuses it.
-fn find_file(
-    read: &SparseBlocks,
-    count: u32,
-    sound: &SoundVolume,
-    dir: u32,
-    name: &[u8],
-) -> Result<FileRecord, Reply>
-    requires sound { AreBlocksSound count (sparse read.now) }
-    requires trees { HasTrees count (sparse read.now) sound.now.trees }
-    ensures found { result ≡ told.file_named (catalog_in (sparse read.now)) dir name.now }
-    ensures file { IfOk result (IsFileOf (catalog_in (sparse read.now))) }
-    ensures forks { IfOk result (λ file. AreForksIn (sparse read.now) file) }
+fn find_file(working: &WorkingVolume, dir: u32, name: &[u8]) -> Result<FileRecord, Reply>
+    requires sound { AreBlocksSound working.now.count (sparse working.now.read) }
+    requires trees { HasTrees working.now.count (sparse working.now.read) working.now.sound.trees }
+    ensures found { result ≡ told.file_named (catalog_in (sparse working.now.read)) dir name.now }
+    ensures file { IfOk result (IsFileOf (catalog_in (sparse working.now.read))) }
+    ensures forks { IfOk result (λ file. AreForksIn (sparse working.now.read) file) }
 {
+    let count = working.count;
     let nodes = RunNodes {
-        blocks: &read.volume(count),
-        runs: &sound.trees.catalog,
+        blocks: &working.read.volume(count),
+        runs: &working.sound.trees.catalog,
     };
     file_named(&nodes, dir, name)
 }
@@ -115,27 +98,27 @@ fn push_once(
     alloc: Global,
     runs: &mut Vec<Run>,
     ids: &mut IndexMap<u32, ()>,
-    read: &SparseBlocks,
-    count: u32,
-    sound: &SoundVolume,
+    working: &WorkingVolume,
     file: &FileRecord,
 ) -> Result<(), AllocError>
-    requires sound { AreBlocksSound count (sparse read.now) }
-    requires directory { sound.now.mdb ≡ mdb_in (sparse read.now) }
-    requires trees { HasTrees count (sparse read.now) sound.now.trees }
-    requires file { IsFileOf (catalog_in (sparse read.now)) file.now }
-    requires forks { AreForksIn (sparse read.now) file.now }
-    requires met { HaveMet (sparse read.now) ids.old.entries runs.old.items }
-    ensures within { OnOk result (LieIn count runs.old.items → LieIn count runs.new.items) }
+    requires sound { AreBlocksSound working.now.count (sparse working.now.read) }
+    requires directory { working.now.sound.mdb ≡ mdb_in (sparse working.now.read) }
+    requires trees { HasTrees working.now.count (sparse working.now.read) working.now.sound.trees }
+    requires file { IsFileOf (catalog_in (sparse working.now.read)) file.now }
+    requires forks { AreForksIn (sparse working.now.read) file.now }
+    requires met { HaveMet (sparse working.now.read) ids.old.entries runs.old.items }
+    ensures within { OnOk result (LieIn working.now.count runs.old.items
+        → LieIn working.now.count runs.new.items) }
     ensures gained { OnOk result (GainForks runs.old.items runs.new.items) }
     ensures forks { OnOk result
-        (AreAmong (file_blocks (sparse read.now) file.now) (blocks_of_runs runs.new.items)) }
-    ensures met { OnOk result (HaveMet (sparse read.now) ids.new.entries runs.new.items) }
+        (AreAmong (file_blocks (sparse working.now.read) file.now)
+        (blocks_of_runs runs.new.items)) }
+    ensures met { OnOk result (HaveMet (sparse working.now.read) ids.new.entries runs.new.items) }
 {
     if ids.contains_key(&file.id) {
         return Ok(());
     }
-    push_file(alloc, runs, read, count, sound, file)?;
+    push_file(alloc, runs, working, file)?;
     ids.insert(file.id, ())?;
     Ok(())
 }
@@ -145,26 +128,26 @@ fn push_named(
     alloc: Global,
     runs: &mut Vec<Run>,
     ids: &mut IndexMap<u32, ()>,
-    read: &SparseBlocks,
-    count: u32,
-    sound: &SoundVolume,
+    working: &WorkingVolume,
     call: &Call,
 ) -> Result<(), AllocError>
-    requires sound { AreBlocksSound count (sparse read.now) }
-    requires directory { sound.now.mdb ≡ mdb_in (sparse read.now) }
-    requires trees { HasTrees count (sparse read.now) sound.now.trees }
-    requires met { HaveMet (sparse read.now) ids.old.entries runs.old.items }
-    ensures within { OnOk result (LieIn count runs.old.items → LieIn count runs.new.items) }
+    requires sound { AreBlocksSound working.now.count (sparse working.now.read) }
+    requires directory { working.now.sound.mdb ≡ mdb_in (sparse working.now.read) }
+    requires trees { HasTrees working.now.count (sparse working.now.read) working.now.sound.trees }
+    requires met { HaveMet (sparse working.now.read) ids.old.entries runs.old.items }
+    ensures within { OnOk result (LieIn working.now.count runs.old.items
+        → LieIn working.now.count runs.new.items) }
     ensures gained { OnOk result (GainForks runs.old.items runs.new.items) }
-    ensures forks { OnOk result (OfNamed (catalog_in (sparse read.now)) (λ file.
-        AreAmong (file_blocks (sparse read.now) file) (blocks_of_runs runs.new.items)) call.now) }
-    ensures met { OnOk result (HaveMet (sparse read.now) ids.new.entries runs.new.items) }
+    ensures forks { OnOk result (OfNamed (catalog_in (sparse working.now.read)) (λ file.
+        AreAmong (file_blocks (sparse working.now.read) file)
+        (blocks_of_runs runs.new.items)) call.now) }
+    ensures met { OnOk result (HaveMet (sparse working.now.read) ids.new.entries runs.new.items) }
 {
     let Some((dir, name)) = named_by(call) else {
         return Ok(());
     };
-    match find_file(read, count, sound, dir, name) {
-        Ok(file) => push_once(alloc, runs, ids, read, count, sound, &file),
+    match find_file(working, dir, name) {
+        Ok(file) => push_once(alloc, runs, ids, working, &file),
         Err(_reply) => Ok(()),
     }
 }
@@ -172,22 +155,20 @@ fn push_named(
 /// Where the forks lie of the files that these lines name, once for each file.
 fn named_forks(
     alloc: Global,
-    read: &SparseBlocks,
-    count: u32,
-    sound: &SoundVolume,
+    working: &WorkingVolume,
     lines: &[ScriptLine],
 ) -> Result<Vec<Run>, AllocError>
-    requires sound { AreBlocksSound count (sparse read.now) }
-    requires directory { sound.now.mdb ≡ mdb_in (sparse read.now) }
-    requires trees { HasTrees count (sparse read.now) sound.now.trees }
-    ensures within { IfOk result (λ runs. LieIn count runs.items) }
+    requires sound { AreBlocksSound working.now.count (sparse working.now.read) }
+    requires directory { working.now.sound.mdb ≡ mdb_in (sparse working.now.read) }
+    requires trees { HasTrees working.now.count (sparse working.now.read) working.now.sound.trees }
+    ensures within { IfOk result (λ runs. LieIn working.now.count runs.items) }
     ensures forks { IfOk result (λ runs.
-        HaveNamedForks (sparse read.now) lines.now (blocks_of_runs runs.items)) }
+        HaveNamedForks (sparse working.now.read) lines.now (blocks_of_runs runs.items)) }
 {
     let mut runs = Vec::new(alloc);
     let mut ids = IndexMap::new(alloc);
     for line in lines {
-        push_named(alloc, &mut runs, &mut ids, read, count, sound, &line.call)?;
+        push_named(alloc, &mut runs, &mut ids, working, &line.call)?;
     }
     Ok(runs)
 }
@@ -239,9 +220,8 @@ pub fn fetch_named_forks<S: BlockSource>(
     if !read_forks(lines) {
         return Ok(());
     }
-    let (read, count, sound) = (&working.read, working.count, &working.sound);
-    let Ok(runs) = named_forks(alloc, read, count, sound, lines) else {
+    let Ok(runs) = named_forks(alloc, working, lines) else {
         return Err(SparseFault::Memory);
     };
-    fetch_forks(source, &mut working.read, count, &runs)
+    fetch_forks(source, &mut working.read, working.count, &runs)
 }

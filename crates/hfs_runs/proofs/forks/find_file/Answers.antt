@@ -13,17 +13,17 @@ use Rattle.hfs_runs.proofs.forks.find_file.Goals as goal
 pub file_named-requires : goal.file_named-requires
 file_named-requires c =
     subst told.IsCatalog (sym ((λ i. nodes_in (sparse (c.volume.ensures.read i)) (c.deref.ensures.value i)) ∙ c.requires.trees.catalog.same))
-    (catalog_answers-sound c.args.count (sparse c.args.read.now) c.requires.sound)
+    (catalog_answers-sound c.args.working.now.count (sparse c.args.working.now.read) c.requires.sound)
 
 pub returns-clause-found : goal.returns-clause-found
 returns-clause-found c =
     c.file_named.ensures
-    ∙ by_nodes (λ catalog. told.file_named catalog c.args.dir c.args.name.now) (sparse c.args.read.now) _
+    ∙ by_nodes (λ catalog. told.file_named catalog c.args.dir c.args.name.now) (sparse c.args.working.now.read) _
     ((λ i. nodes_in (sparse (c.volume.ensures.read i)) (c.deref.ensures.value i)) ∙ c.requires.trees.catalog.same)
 
 pub returns-clause-forks : goal.returns-clause-forks
 returns-clause-forks c =
-    forks-found c.args.count (sparse c.args.read.now) c.requires.sound c.args.dir c.args.name.now c.file_named.result (returns-clause-found c)
+    forks-found c.args.working.now.count (sparse c.args.working.now.read) c.requires.sound c.args.dir c.args.name.now c.file_named.result (returns-clause-found c)
 
 pub returns-clause-file : goal.returns-clause-file
-returns-clause-file c = file-is (catalog_in (sparse c.args.read.now)) c.args.dir c.args.name.now c.file_named.result (returns-clause-found c)
+returns-clause-file c = file-is (catalog_in (sparse c.args.working.now.read)) c.args.dir c.args.name.now c.file_named.result (returns-clause-found c)

@@ -11,10 +11,10 @@ use Rattle.hfs_runs.proofs.forks.named_forks.Goals as goal
 pub loop-line-preserved : goal.loop-line-preserved
 loop-line-preserved c = record {
   within = c.in_ok-push_named.ensures.within c.loop-line.invariant.within;
-  named = named-next (sparse c.args.read.now) c.args.lines.now c.loop-line.line-index c.line-item.result c.loop-line.runs.items c.push_named.new.runs.items
+  named = named-next (sparse c.args.working.now.read) c.args.lines.now c.loop-line.line-index c.line-item.result c.loop-line.runs.items c.push_named.new.runs.items
       c.loop-line-test.true c.in_ok-push_named.ensures.gained c.loop-line.invariant.named
-      (subst (λ (line : ScriptLine). OfNamed (catalog_in (sparse c.args.read.now))
-      (λ (file : FileRecord). AreAmong (file_blocks (sparse c.args.read.now) file) (blocks_of_runs c.push_named.new.runs.items)) line.call) c.line-item.is
+      (subst (λ (line : ScriptLine). OfNamed (catalog_in (sparse c.args.working.now.read))
+      (λ (file : FileRecord). AreAmong (file_blocks (sparse c.args.working.now.read) file) (blocks_of_runs c.push_named.new.runs.items)) line.call) c.line-item.is
       c.in_ok-push_named.ensures.forks);
   met = c.in_ok-push_named.ensures.met;
 }

@@ -7,7 +7,7 @@ use Rattle.hfs_runs.proofs.forks.named_forks.Given as goal
 
 abbrev pub invariant-loop-line : goal.invariant-loop-line
 invariant-loop-line l = record {
-  within : LieIn l.count l.runs.items;
-  named : HaveNamedForks (sparse l.read) (take l.line-index l.lines) (blocks_of_runs l.runs.items);
-  met : HaveMet (sparse l.read) l.ids.entries l.runs.items;
+  within : LieIn l.working.count l.runs.items;
+  named : HaveNamedForks (sparse l.working.read) (take l.line-index l.lines) (blocks_of_runs l.runs.items);
+  met : HaveMet (sparse l.working.read) l.ids.entries l.runs.items;
 }
