@@ -8,6 +8,7 @@ use Rattle.hfs_btree.specs.Tree.{Store, records_in, Spot, spots, turn, last_leve
 use Rattle.hfs_btree.specs.Header.{record_in, chain_from}
 use Rattle.hfs_btree_checks.specs.Shape.{first_fault, is_map_node, is_own, is_right, turn_fault}
 use Rattle.hfs_btree_checks.specs.declared.fault.TreeFault.{TreeFault}
+use Rattle.hfs_btree_checks.specs.declared.shape_node.Spot as code
 use Rattle.hfs_btree_checks.specs.declared.fault.TreeFault.TheVariants.{At, Memory}
 
 -- the node was met, by the vector that has a mark for each node
@@ -78,8 +79,8 @@ OwnAreMet nodes met = (n : ℕ) → is_met met n ≡ is_own nodes n
 -- ---- the levels
 
 -- node n between these neighbours, so many levels above the leaves
-abbrev pub spot_of : ℕ → ℕ → ℕ → ℕ → Spot
-spot_of left n right above = record { left = left; n = n; right = right; above = above }
+abbrev pub spot_of : code.Spot → Spot
+spot_of spot = record { left = spot.left; n = spot.n; right = spot.right; above = spot.above }
 
 -- the node is right at its place, and was not met before
 abbrev pub is_new_and_right : {K : Type 0} → Ghosts K → Store → Vec Bool Global → Spot → Bool

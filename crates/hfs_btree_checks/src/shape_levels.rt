@@ -8,7 +8,7 @@ ghost use Rattle.hfs_btree_checks.specs.ShapeSteps.{IsFault, IsLevelFault, Passe
 
 use crate::fault::TreeFault;
 use crate::shape_map::MappedNodes;
-use crate::shape_node::visit_node;
+use crate::shape_node::{Spot, visit_node};
 use hfs_btree::{Key, Nodes};
 use std::alloc::Global;
 
@@ -54,7 +54,13 @@ fn check_level<K: Key, N: Nodes>(
     for i in 0..level.len() {
         let n = level[i];
         let right = node_after(level, i);
-        let count = visit_node::<K, N>(tree, left, n, right, above, met, &mut next)?;
+        let spot = Spot {
+            left,
+            n,
+            right,
+            above,
+        };
+        let count = visit_node::<K, N>(tree, spot, met, &mut next)?;
         records = records.saturating_add(count);
         left = n;
     }

@@ -46,17 +46,26 @@ fn is_kind_above(kind: NodeKind, above: u16) -> bool
     }
 }
 
-/// Whether a node is what its place requires: between these neighbours, 0 at the ends, `above` levels above the leaves.
+/// Where a level has node `n`: between these neighbours, 0 at the ends, `above` levels above the leaves.
+#[derive(Clone, Copy)]
+pub(crate) struct Spot {
+    pub left: u32,
+    pub n: u32,
+    pub right: u32,
+    pub above: u16,
+}
+
+/// Whether a node is what its place requires.
 #[tactic(auto, unfolding(crate::specs::Shape::is_node_at))]
-fn is_at_place<K: Key>(node: &NodeView, left: u32, n: u32, right: u32, above: u16) -> bool
-    ensures { result ≡ is_node_at K.Key (spot_of left n right above) node.now }
+fn is_at_place<K: Key>(node: &NodeView, spot: Spot) -> bool
+    ensures { result ≡ is_node_at K.Key (spot_of spot) node.now }
 {
-    is_kind_above(node.kind(), above)
-        && u32::from(node.height()) == u32::from(above) + 1
+    is_kind_above(node.kind(), spot.above)
+        && u32::from(node.height()) == u32::from(spot.above) + 1
         && !node.is_empty()
-        && node.backward() == left
-        && node.forward() == right
-        && all_read::<K>(node, above)
+        && node.backward() == spot.left
+        && node.forward() == spot.right
+        && all_read::<K>(node, spot.above)
 }
 
 /// Adds the children that an index node names.
@@ -71,29 +80,26 @@ pub(crate) fn push_children<K: Key>(node: &NodeView, next: &mut Vec<u32>) -> Res
     Ok(())
 }
 
-/// Checks node `n` of a level at its place; `met` has a mark for each node that was met before. If it is right, marks it as met,
+/// Checks a node of a level at its place; `met` has a mark for each node that was met before. If it is right, marks it as met,
 /// appends the children that it names to `next` if it is above the leaves, and returns the number of its records.
 #[tactic(auto, unfolding(crate::specs::Shape::is_right))]
 pub(crate) fn visit_node<K: Key, N: Nodes>(
     tree: &MappedNodes<'_, N>,
-    left: u32,
-    n: u32,
-    right: u32,
-    above: u16,
+    spot: Spot,
     met: &mut Vec<bool>,
     next: &mut Vec<u32>,
 ) -> Result<usize, TreeFault>
     requires { vec_len met.old ≡ tree.now.count }
     ensures wrong { IfErr result (IsWrongAt
-        (is_new_and_right K.Key (N.nodes tree.now.nodes.now) met.old
-        (spot_of left n right above)) n) }
+        (is_new_and_right K.Key (N.nodes tree.now.nodes.now) met.old (spot_of spot)) spot.n) }
     ensures right { OnOk result (is_new_and_right K.Key (N.nodes tree.now.nodes.now) met.old
-        (spot_of left n right above) ≡ true) }
-    ensures marked { OnOk result (met.new.items ≡ slice_set met.old.items n true) }
+        (spot_of spot) ≡ true) }
+    ensures marked { OnOk result (met.new.items ≡ slice_set met.old.items spot.n true) }
     ensures below { OnOk result
-        (AddsBelow K.Key (N.nodes tree.now.nodes.now) above n next.old next.new) }
-    ensures records { IfOk result (λ len. len ≡ record_count (N.nodes tree.now.nodes.now) n) }
+        (AddsBelow K.Key (N.nodes tree.now.nodes.now) spot.above spot.n next.old next.new) }
+    ensures records { IfOk result (λ len. len ≡ record_count (N.nodes tree.now.nodes.now) spot.n) }
 {
+    let Spot { n, above, .. } = spot;
     if n == 0 || n >= tree.count || met[n as usize] || !tree.is_marked(n) {
         return Err(TreeFault::At(n));
     }
@@ -102,7 +108,7 @@ pub(crate) fn visit_node<K: Key, N: Nodes>(
     let Ok(node) = view(&bytes) else {
         return Err(TreeFault::At(n));
     };
-    if !is_at_place::<K>(&node, left, n, right, above) {
+    if !is_at_place::<K>(&node, spot) {
         return Err(TreeFault::At(n));
     }
     if above > 0 {

@@ -27,30 +27,42 @@ fn level_len<K: Key>(len: usize, above: u16) -> usize
     }
 }
 
-/// Cuts the child that a record of index node `parent` names, which is `above` levels above the leaves: its second part goes to
-/// node `m`, a stray one, and a new record after that one names it. The part on the way to the key has room for a record of `len`
-/// bytes.
+/// A record of an index node: the node, the record's place in it, and how many levels above the leaves the child is that it names.
+#[derive(Clone, Copy)]
+struct Branch {
+    parent: u32,
+    place: usize,
+    above: u16,
+}
+
+/// Cuts the child that a record of an index node names: its second part goes to node `m`, a stray one, and a new record after that
+/// one names it. The part on the way to the key has room for a record of `len` bytes.
 fn cut_child<K: Key, S: NodesMut>(
     alloc: Global,
     nodes: &mut S,
     key: &K,
     len: usize,
-    parent: u32,
-    place: usize,
-    above: u16,
+    branch: Branch,
     m: u32,
 ) -> Result<(), AllocError>
     requires sound { IsSound K.Key (S.nodes nodes.old) }
-    requires branch { IsBranch K.Key (S.nodes nodes.old) above parent place }
+    requires branch { IsBranch K.Key (S.nodes nodes.old)
+        branch.above branch.parent branch.place }
     requires stray { IsStray K.Key (S.nodes nodes.old) m }
     requires within { m < length (S.nodes nodes.old) }
-    requires over { IsChildCuttable K.Key (S.nodes nodes.old) parent place }
-    requires room { HasRoom (S.nodes nodes.old) (K.INDEX_KEY_LEN + 5) parent }
+    requires over { IsChildCuttable K.Key (S.nodes nodes.old) branch.parent branch.place }
+    requires room { HasRoom (S.nodes nodes.old) (K.INDEX_KEY_LEN + 5) branch.parent }
     requires short { len ≤ 140 }
-    ensures cut { Edits result (IsChildCut K.Key key.now len above parent place m)
+    ensures cut { Edits result
+        (IsChildCut K.Key key.now len branch.above branch.parent branch.place m)
         S.nodes nodes.old nodes.new }
     ensures kept { OnOk result (S.kept nodes.new ≡ S.kept nodes.old) }
 {
+    let Branch {
+        parent,
+        place,
+        above,
+    } = branch;
     let n = child_named::<K, S>(nodes, parent, place);
     let half = cut_place(nodes, n, key, above, len);
     let entry = half_entry::<K, S>(alloc, nodes, n, half, above, m)?;
@@ -83,7 +95,12 @@ pub(crate) fn cut_level<K: Key, S: NodesMut>(
     let mut bytes = [0; 512];
     let parent = node_at(nodes, &header, key, above + 1, &mut bytes);
     let place = place_in_index(&bytes, key);
-    cut_child(alloc, nodes, key, len, parent, place, above, m)
+    let branch = Branch {
+        parent,
+        place,
+        above,
+    };
+    cut_child(alloc, nodes, key, len, branch, m)
 }
 
 /// Cuts the nodes on the way to a key that are below level `full` and not below level `least`, counted from the leaves, from the

@@ -27,7 +27,7 @@ use Rattle.hfs_record_edits.specs.Laws.{CatalogEditsAreSteps}
 use Rattle.hfs_record_edits.specs.OnBlocks.{at_time}
 use Rattle.hfs_record_edits.specs.SettingLaws.{MakesAt, lock_call}
 use Rattle.hfs_call_patches.specs.declared.change.Change.{Change}
-use Rattle.hfs_call_patches.specs.declared.settings.ItemSettings.{ItemSettings}
+use Rattle.hfs_model.specs.declared.settings.ItemSettings.{ItemSettings}
 use Rattle.hfs_call_patches.specs.Settings.{IsFileChoice, IsFolderChoice, set_cat_info_call}
 use Rattle.hfs_call_edits.specs.Edits.{IsEditing, IsEditOf, HasNodes, wants_nodes}
 

@@ -8,8 +8,8 @@ ghost use Rattle.hfs_call_patches.specs.CallChanges.{Makes};
 
 use crate::editing::{Editing, Refusal};
 use hfs_blocks::Blocks;
-use hfs_call_patches::{Change, ForkWrite, ItemSettings};
-use hfs_model::Call;
+use hfs_call_patches::{Change, ForkWrite};
+use hfs_model::{Call, ItemSettings};
 use std::alloc::{AllocError, Global};
 
 /// Whether the call writes a fork.

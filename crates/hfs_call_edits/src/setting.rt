@@ -9,10 +9,11 @@ ghost use Rattle.hfs_call_patches.specs.CallChanges.{Makes};
 use crate::editing::{Editing, Refusal};
 use hfs_blocks::Blocks;
 use hfs_call_patches::{
-    Change, FoundFile, FoundFolder, ItemSettings, patch_set_f_info, patch_set_file_info,
-    patch_set_folder_info, patch_set_lock,
+    Change, FoundFile, FoundFolder, patch_set_f_info, patch_set_file_info, patch_set_folder_info,
+    patch_set_lock,
 };
 use hfs_catalog::ItemRecord;
+use hfs_model::ItemSettings;
 use std::alloc::{AllocError, Global};
 
 impl<B: Blocks> Editing<'_, B> {

@@ -14,7 +14,7 @@ use Rattle.hfs_check.specs.Parts.{Blocks, mdb_in, catalog_in}
 use Rattle.hfs_check.specs.Sound.{AreBlocksSound}
 use Rattle.hfs_record_edits.specs.OnBlocks.{at_time, HasTree}
 use Rattle.hfs_record_edits.proofs.SettingLaws.{HasSetBody, HasSetFile, HasSetFolder, with_info, with_told, with_told_folder, with_lock_bit, SetFInfoMakes, SetFileInfoMakes, SetFolderInfoMakes, SetLockMakes}
-use Rattle.hfs_call_patches.specs.declared.settings.ItemSettings.{ItemSettings}
+use Rattle.hfs_model.specs.declared.settings.ItemSettings.{ItemSettings}
 use Rattle.hfs_call_patches.specs.Settings.{HasSetRecord, MakesSetFInfo, MakesSetFileInfo, MakesSetFolderInfo, MakesSetLock}
 
 module _ (total now : ℕ) (mdb counts : Mdb) (key : CatKey) (old new : Blocks) (h : AreBlocksSound total old) (own : mdb ≡ mdb_in old) (at : counts ≡ at_time now mdb) where

@@ -5,7 +5,7 @@ use Rattle.hfs_fields.specs.declared.dir_record.DirRecord.{DirRecord}
 use Rattle.hfs_fields.specs.declared.file_record.FileRecord.{FileRecord}
 use Rattle.hfs_blocks.specs.Layers.{Numbered}
 use Rattle.hfs_check.specs.Parts.{Blocks}
-use Rattle.hfs_call_patches.specs.declared.settings.ItemSettings.{ItemSettings}
+use Rattle.hfs_model.specs.declared.settings.ItemSettings.{ItemSettings}
 use Rattle.hfs_call_patches.specs.FileIds.{MakesCreateFileId, MakesDeleteFileId}
 use Rattle.hfs_call_patches.specs.Patches.{GivesPatch}
 use Rattle.hfs_call_patches.specs.Settings.{MakesSetFInfo, MakesSetFileInfo, MakesSetFolderInfo, MakesSetLock}

@@ -22,7 +22,7 @@ use Rattle.hfs_record_edits.specs.SettingLaws.{IsChoice, MakesAt, lock_call}
 use Rattle.hfs_model.specs.declared.call.Call.TheVariants as call
 use Rattle.hfs_model.specs.Choices.{file_to_change, to_set_f_info, to_set_cat_info}
 use Rattle.hfs_check.specs.VolumeOf.{volume_in}
-use Rattle.hfs_call_patches.specs.declared.settings.ItemSettings.{ItemSettings}
+use Rattle.hfs_model.specs.declared.settings.ItemSettings.{ItemSettings}
 
 -- the body is there, and passes
 abbrev pub IsBody : (List ℕ → Bool) → Option (List ℕ) → Type 0

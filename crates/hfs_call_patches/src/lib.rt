@@ -60,8 +60,7 @@ pub use new_items::{FoundPlace, NewPlace};
 pub use rekeying::Rekeying;
 pub use renaming::patch_rename;
 pub use settings::{
-    FoundFolder, ItemSettings, patch_set_f_info, patch_set_file_info, patch_set_folder_info,
-    patch_set_lock,
+    FoundFolder, patch_set_f_info, patch_set_file_info, patch_set_folder_info, patch_set_lock,
 };
 pub use valences::FolderPlace;
 pub use volume::{ForkRefusal, MountedBlocks};

@@ -19,6 +19,7 @@ use hfs_blocks::{Blocks, Patch};
 use hfs_btree_edits::RecordPlace;
 use hfs_catalog::ItemRecord;
 use hfs_fields::{CatKey, DirRecord, FileRecord, Mdb};
+use hfs_model::ItemSettings;
 use std::alloc::{AllocError, Global};
 
 /// A folder of the catalog, and where its record is.
@@ -30,15 +31,6 @@ pub struct FoundFolder {
     pub folder: DirRecord,
     /// The place of its record in the catalog.
     pub place: RecordPlace,
-}
-
-/// What SetCatInfo sets: three dates, in seconds since midnight, 1 January 1904, and all Finder bytes.
-#[derive(Clone, Copy)]
-pub struct ItemSettings {
-    pub created: u32,
-    pub modified: u32,
-    pub backup: u32,
-    pub info: [u8; 32],
 }
 
 /// The two halves of the Finder bytes.

@@ -31,6 +31,10 @@ mod root_leaf;
 mod size;
 #[cfg(test)]
 mod tests;
+#[cfg(test)]
+mod tests_of_faults;
+#[cfg(test)]
+mod tests_of_trees;
 mod tree_header;
 mod typed_size;
 mod volume_name;

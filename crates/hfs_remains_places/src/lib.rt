@@ -10,6 +10,7 @@ mod names;
 mod numbers;
 mod paths;
 mod places;
+mod placing;
 mod remains_rows;
 mod row_sets;
 mod things;

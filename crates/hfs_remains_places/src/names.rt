@@ -7,7 +7,7 @@ use hfs_fields::Name;
 use std::alloc::{AllocError, Global};
 
 /// The most steps of a chain that has an end.
-const STEPS: u64 = 4_294_967_296;
+pub(crate) const STEPS: u64 = 4_294_967_296;
 
 /// Whether a path below the payload leads to what is old or lost.
 #[tactic(auto, using(std::proofs::lemmas::Str::Pattern::starts_text), unfolding(crate::specs::Names::lies_apart))]

@@ -2,10 +2,12 @@
 //! describes the language.
 #![tactic(auto)]
 
+mod argument_lists;
 mod arguments;
 mod calls;
 mod fault;
 mod fields;
+mod fork_calls;
 mod lines;
 mod numbers;
 mod reading;

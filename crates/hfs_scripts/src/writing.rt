@@ -6,7 +6,8 @@ ghost use Rattle.hfs_scripts.specs.Readable.{IsReadable, IsWritten};
 ghost use Rattle.hfs_scripts.specs.Scripts.{script_of};
 ghost use Rattle.hfs_scripts.specs.Texts.{caller_text, tabbed, line_text, fed, script_text, IsTextFaultOf};
 
-use crate::arguments::{argument_fields, number_field};
+use crate::argument_lists::number_field;
+use crate::arguments::argument_fields;
 use crate::fault::TextFault;
 use crate::lines::{Caller, ScriptLine};
 use crate::reading::MAX_BYTES;

@@ -1,6 +1,6 @@
 //! Writing the bytes of blocks while they are read.
 ghost use Rattle.std.specs.Prelude.{◌≡◌, ◌≢◌, ◌-◌, ◌*◌, ◌+◌, ◌<◌, ◌≤◌, Err, IfOk, OnErr, OnOk, length};
-ghost use Rattle.std.specs.List.{flat_map, range_with_len};
+ghost use Rattle.std.specs.List.{flat_map};
 ghost use Rattle.hfs_blocks.specs.Blocks.{run_of, AreRunsWithin};
 ghost use Rattle.hfs_source.specs.Images.{OfEach};
 ghost use Rattle.hfs_source.specs.Seen.{EachKnown};
@@ -28,37 +28,36 @@ pub enum CopyFault {
 /// The most blocks that are read at once.
 const MOST_AT_ONCE: u32 = 128;
 
-/// Writes as many of the first `left` bytes as are in `count` blocks from number `first` on, and returns how many of them are
-/// left. At first there were `all`.
+/// Writes as many of the first `left` bytes as are in the blocks of a piece of a run, and returns how many of them are left. At
+/// first there were `all`.
 fn copy_piece<S: BlockSource, W: Write>(
     source: &mut S,
-    first: u32,
-    count: u32,
+    piece: Run,
     left: u32,
     all: u32,
     buffer: &mut [u8],
     writer: &mut W,
 ) -> Result<u32, CopyFault>
-    requires room { 512 * count ≤ length buffer.old }
-    ensures left { IfOk result (λ after. after ≡ left - 512 * count) }
+    requires room { 512 * piece.count ≤ length buffer.old }
+    ensures left { IfOk result (λ after. after ≡ left - 512 * piece.count) }
     ensures written { OnOk result (WritesBlocks (S.image source.old) (W.contents writer.old)
-        (W.contents writer.new) (range_with_len first count) left) }
+        (W.contents writer.new) (run_of piece) left) }
     ensures part { OnErr result (WritesSome (S.image source.old) (W.contents writer.old)
-        (W.contents writer.new) (range_with_len first count) left) }
+        (W.contents writer.new) (run_of piece) left) }
     ensures none { result ≡ Err CopyFault.ReadFailed → writer.new ≡ writer.old }
     ensures begun { result ≡ Err CopyFault.ReadFailed → left ≡ all }
     ensures memory { result ≢ Err CopyFault.Memory }
     ensures room { length buffer.new ≡ length buffer.old }
     ensures image { S.image source.new ≡ S.image source.old }
     ensures each { OnOk result (EachKnown (S.Holds source.new) (λ known. WritesBlocks known
-        (W.contents writer.old) (W.contents writer.new) (range_with_len first count) left)) }
+        (W.contents writer.old) (W.contents writer.new) (run_of piece) left)) }
     ensures each_part { OnErr result (EachKnown (S.Holds source.new) (λ known. WritesSome known
-        (W.contents writer.old) (W.contents writer.new) (range_with_len first count) left)) }
+        (W.contents writer.old) (W.contents writer.new) (run_of piece) left)) }
     ensures narrows { OfEach (S.Holds source.new) (S.Holds source.old) }
 {
-    let len = count as usize * 512;
-    let piece = &mut buffer[..len];
-    let Ok(()) = source.read_blocks(first, piece) else {
+    let len = piece.count as usize * 512;
+    let bytes = &mut buffer[..len];
+    let Ok(()) = source.read_blocks(piece.first, bytes) else {
         return Err(if left == all {
             CopyFault::ReadFailed
         } else {
@@ -66,7 +65,7 @@ fn copy_piece<S: BlockSource, W: Write>(
         });
     };
     let most = len.min(left as usize);
-    let Ok(()) = put(writer, &piece[..most]) else {
+    let Ok(()) = put(writer, &bytes[..most]) else {
         return Err(CopyFault::WriteFailed);
     };
     Ok(left - most as u32)
@@ -108,7 +107,12 @@ fn copy_run<S: BlockSource, W: Write>(
     while behind > 0 {
         let count = behind.min(MOST_AT_ONCE);
         let first = run.first + (run.count - behind);
-        rest = copy_piece(source, first, count, rest, all, buffer, writer)?;
+        let piece = Run {
+            first,
+            count,
+            before: 0,
+        };
+        rest = copy_piece(source, piece, rest, all, buffer, writer)?;
         behind -= count;
     }
     Ok(rest)

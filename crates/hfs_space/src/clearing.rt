@@ -55,33 +55,47 @@ fn whole_blocks<B: Blocks>(
     Ok(ZeroRuns::of(whole))
 }
 
-/// A patch with zeros over the fork's bytes from `offset` on, `front` of them, and over those from `back` up to `end`.
+/// The bytes of a fork that are zeros, but for whole blocks: `front` bytes from `offset` on, and those from `back` up to `end`.
+#[derive(Clone, Copy)]
+struct ZeroEnds {
+    offset: u32,
+    front: u32,
+    back: u32,
+    end: u32,
+}
+
+/// A patch with zeros over these bytes of the fork.
 fn two_parts<B: Blocks>(
     alloc: Global,
     blocks: &B,
     mdb: &Mdb,
     extents: &[Extent],
-    offset: u32,
-    front: u32,
-    back: u32,
-    end: u32,
+    zeros_at: ZeroEnds,
 ) -> Result<Patch, AllocError>
     requires area { HasArea mdb.now (B.total blocks.now) }
     requires extents { AreExtentsWithin mdb.now.allocation_blocks extents.now }
     requires once { (b : ℕ) → owners (extent_blocks extents.now) b ≤ 1 }
-    requires front { offset + front ≤ end }
-    requires from { offset ≤ back }
-    requires back { back ≤ end }
-    requires fits { end ≤ 512 * length (block_numbers mdb.now extents.now) }
-    requires small { end < 2 ^ 32 }
+    requires front { zeros_at.offset + zeros_at.front ≤ zeros_at.end }
+    requires from { zeros_at.offset ≤ zeros_at.back }
+    requires back { zeros_at.back ≤ zeros_at.end }
+    requires fits { zeros_at.end ≤ 512 * length (block_numbers mdb.now extents.now) }
+    requires small { zeros_at.end < 2 ^ 32 }
     ensures written { IfOk result (λ patch.
         all_bytes (over (changes patch) (B.blocks blocks.now)) mdb.now extents.now
-        ≡ with_part back (zeros (end - back)) (with_part offset (zeros front)
+        ≡ with_part zeros_at.back (zeros (zeros_at.end - zeros_at.back))
+        (with_part zeros_at.offset (zeros zeros_at.front)
         (all_bytes (B.blocks blocks.now) mdb.now extents.now))) }
-    ensures beside { IfOk result (λ patch. KeepOthers mdb.now extents.now offset (end - offset)
+    ensures beside { IfOk result (λ patch. KeepOthers mdb.now extents.now
+        zeros_at.offset (zeros_at.end - zeros_at.offset)
         (B.blocks blocks.now) (over (changes patch) (B.blocks blocks.now))) }
     ensures within { IfOk result (λ patch. AreWithin (changes patch) (B.total blocks.now)) }
 {
+    let ZeroEnds {
+        offset,
+        front,
+        back,
+        end,
+    } = zeros_at;
     let mut patch = Patch::new(alloc);
     clear_part(alloc, blocks, &mut patch, mdb, extents, offset, front)?;
     clear_part(alloc, blocks, &mut patch, mdb, extents, back, end - back)?;
@@ -125,15 +139,12 @@ pub fn clear_fork<B: Blocks>(
     let front = count.min((512 - offset % 512) % 512);
     let back = (offset + front).max(last * 512);
     let zeros = whole_blocks(alloc, blocks, mdb, extents, first, last)?;
-    let patch = two_parts(
-        alloc,
-        &zeros.over(blocks),
-        mdb,
-        extents,
+    let zeros_at = ZeroEnds {
         offset,
         front,
         back,
         end,
-    )?;
+    };
+    let patch = two_parts(alloc, &zeros.over(blocks), mdb, extents, zeros_at)?;
     Ok(Cleared { zeros, patch })
 }

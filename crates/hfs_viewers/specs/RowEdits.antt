@@ -9,6 +9,7 @@ use Rattle.hfs_model.specs.declared.item.Kind.{Kind}
 use Rattle.hfs_model.specs.ForkCalls.{set_eof, write_fork}
 use Rattle.hfs_model.specs.declared.call.Fork.{Fork}
 use Rattle.hfs_model.specs.Changes.{cat_move, create, rename, set_cat_info}
+use Rattle.hfs_model.specs.declared.settings.ItemSettings.{ItemSettings}
 use Rattle.hfs_model.specs.Children.{is_folder, child_named, valence}
 use Rattle.hfs_model.specs.Volume.{Volume, Items, Entry}
 use Rattle.hfs_model.specs.FileIds.{with_thread_bit}
@@ -32,8 +33,8 @@ abbrev pub with_finder : List ℕ → Row → Row
 with_finder info r = record r { finder = info ++ drop 16 r.finder }
 
 -- with these dates and Finder bytes
-abbrev pub with_info : ℕ → ℕ → ℕ → List ℕ → Row → Row
-with_info created modified backup info r = record r { created = created; modified = modified; backup = backup; finder = info }
+abbrev pub with_info : ItemSettings → Row → Row
+with_info set r = record r { created = set.created; modified = set.modified; backup = set.backup; finder = set.info }
 
 abbrev pub kind_locked : Bool → RowKind → RowKind
 kind_locked locked (Folder kept children) = Folder kept children
@@ -72,8 +73,8 @@ pub record Leaves (t : Table) (v : Volume) : Type 0 where
   pub volume : volume_of t ≡ v
 
 -- the dates and the Finder bytes of the folder's item of that name are set
-abbrev pub SetsCatInfo : ℕ → List ℕ → ℕ → ℕ → ℕ → List ℕ → ℕ → Table → Table → Type 0
-SetsCatInfo dir name created modified backup info now old new = Leaves new (set_cat_info (volume_of old) dir name created modified backup info now).0
+abbrev pub SetsCatInfo : ℕ → List ℕ → ItemSettings → ℕ → Table → Table → Type 0
+SetsCatInfo dir name set now old new = Leaves new (set_cat_info (volume_of old) dir name set.created set.modified set.backup set.info now).0
 
 -- the fork of the folder's file of that name is its first bytes
 abbrev pub SetsEof : ℕ → List ℕ → Fork → ℕ → ℕ → Table → Table → Type 0

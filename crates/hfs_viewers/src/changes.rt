@@ -15,7 +15,7 @@ use crate::row::RowKind;
 use crate::table::Table;
 use crate::writing_forks::{ForkEdit, edit_fork};
 use hfs_fields::Name;
-use hfs_model::{Call, Fork, SharedBytes, reading_leaves};
+use hfs_model::{Call, Fork, ItemSettings, SharedBytes, reading_leaves};
 use std::alloc::{AllocError, Global};
 
 impl Table {
@@ -33,24 +33,15 @@ impl Table {
     }
 
     /// Sets the dates and the Finder bytes of an item.
-    pub fn set_cat_info(
-        &mut self,
-        dir: u32,
-        name: &[u8],
-        created: u32,
-        modified: u32,
-        backup: u32,
-        info: [u8; 32],
-        now: u32,
-    )
+    pub fn set_cat_info(&mut self, dir: u32, name: &[u8], settings: &ItemSettings, now: u32)
         requires { IsTable self.old }
-        ensures { SetsCatInfo dir name.now created modified backup info now self.old self.new }
+        ensures { SetsCatInfo dir name.now settings.now now self.old self.new }
     {
         let id = match self.to_set_cat_info(dir, name) {
             Ok(found) => found.id,
             Err(_) => return,
         };
-        edits::set_info(&mut self.by_id, id, created, modified, backup, info);
+        edits::set_info(&mut self.by_id, id, settings);
         self.changed = now;
     }
 
@@ -243,8 +234,13 @@ impl Table {
                 info,
                 now,
             } => {
-                let name = name.as_slice();
-                self.set_cat_info(*dir, name, *created, *modified, *backup, *info, *now);
+                let settings = ItemSettings {
+                    created: *created,
+                    modified: *modified,
+                    backup: *backup,
+                    info: *info,
+                };
+                self.set_cat_info(*dir, name.as_slice(), &settings, *now);
             }
             Call::SetFLock { dir, name, now } => self.set_lock(true, *dir, name.as_slice(), *now),
             Call::RstFLock { dir, name, now } => self.set_lock(false, *dir, name.as_slice(), *now),

@@ -1,33 +1,32 @@
 //! What a change chooses first: an item, an ID, or the code that refuses it.
-ghost use Rattle.std.specs.Prelude.{◌≡◌, length, true, IsTrue, IfOk, OnOk};
+
+ghost use Rattle.std.specs.Prelude.{◌≡◌, length, IsTrue, IfOk, OnOk};
 ghost use Rattle.hfs_fields.specs.Names.{is_item_name};
-ghost use Rattle.hfs_model.specs.Choices.{is_locked, lock_code, child_to_change, file_to_change, to_set_f_info, to_set_cat_info, to_create, to_delete, to_rename, to_move, is_busy, is_full, is_held, is_taken, lies_in};
-ghost use Rattle.hfs_model.specs.Children.{is_folder};
+ghost use Rattle.hfs_model.specs.Choices.{is_locked, lock_code, child_to_change, file_to_change, to_set_f_info, to_set_cat_info, to_delete, is_busy};
 ghost use Rattle.hfs_model.specs.FileIds.{file_of_id, to_create_file_id, to_delete_file_id};
 ghost use Rattle.hfs_model.specs.ForkCalls.{to_set_eof, to_write_fork};
 ghost use Rattle.hfs_model.specs.Forks.{fork_bytes};
 ghost use Rattle.hfs_viewers.specs.ForkParts.{MayWrite};
-ghost use Rattle.hfs_viewers.specs.RowEdits.{Chooses, chosen_of, IsFound, MayAdd};
-ghost use Rattle.hfs_viewers.specs.Tables.{kind_of, volume_of, IsTable, table_entries, row_entry, IsKindIn, moves_into_itself};
+ghost use Rattle.hfs_viewers.specs.RowEdits.{Chooses, chosen_of, IsFound};
+ghost use Rattle.hfs_viewers.specs.Tables.{kind_of, volume_of, IsTable, table_entries, row_entry, IsKindIn};
 
 use crate::row::{Row, RowKind};
 use crate::table::{Found, Table};
 use hfs_fields::Name;
 use hfs_model::{
-    BAD_MOVE, BAD_NAME, BUSY, DUPLICATE, END_OF_FILE, FILE_ID_EXISTS, FILE_ID_NOT_FOUND,
-    FILE_LOCKED, FOLDER_FULL, Fork, HARDWARE_LOCKED, NOT_A_FILE, NOT_A_FOLDER, NOT_FOUND,
-    PARAMETER, SOFTWARE_LOCKED,
+    BAD_NAME, BUSY, END_OF_FILE, FILE_ID_EXISTS, FILE_ID_NOT_FOUND, FILE_LOCKED, Fork,
+    HARDWARE_LOCKED, NOT_A_FILE, NOT_A_FOLDER, NOT_FOUND, PARAMETER, SOFTWARE_LOCKED,
 };
 
 impl Table {
-    fn is_locked(&self) -> bool
+    pub(crate) fn is_locked(&self) -> bool
         ensures { result ≡ is_locked (volume_of self.now) }
     {
         self.hardware_locked || self.software_locked
     }
 
     /// The code of a locked volume.
-    fn lock_code(&self) -> i16
+    pub(crate) fn lock_code(&self) -> i16
         ensures { result ≡ lock_code (volume_of self.now) }
     {
         if self.hardware_locked {
@@ -245,159 +244,5 @@ impl Table {
             RowKind::File(file) if file.locked => Err(FILE_LOCKED),
             _ => Ok(found),
         }
-    }
-
-    /// Whether another item of the folder has that name.
-    fn is_taken(&self, dir: u32, name: &Name, id: u32) -> bool
-        requires { IsTable self.now }
-        ensures { result ≡ is_taken (table_entries self.now) dir name.now id }
-    {
-        match self.child(dir, name) {
-            None => false,
-            Some(found) => found.id != id,
-        }
-    }
-
-    #[tactic(auto, unfolding(hfs_model::specs::Choices::to_rename, hfs_model::specs::Choices::to_set_cat_info))]
-    pub(crate) fn to_rename(&self, dir: u32, name: &[u8], new_name: &[u8]) -> Result<Found<'_>, i16>
-        requires { IsTable self.now }
-        ensures choice { Chooses self.now (λ v. to_rename v dir name.now new_name.now) result }
-        ensures found { IfOk result (IsFound self.now) }
-        ensures named { OnOk result (IsTrue (is_item_name new_name.now)) }
-    {
-        if self.is_locked() {
-            return Err(self.lock_code());
-        }
-        let Some(new_name) = Name::new(new_name) else {
-            return Err(BAD_NAME);
-        };
-        let found = match self.to_set_cat_info(dir, name) {
-            Ok(found) => found,
-            Err(code) => return Err(code),
-        };
-        if self.is_taken(dir, &new_name, found.id) {
-            return Err(DUPLICATE);
-        }
-        Ok(found)
-    }
-
-    /// Whether `up` is at most `steps` parents up from `dir`.
-    fn lies_in(&self, steps: usize, dir: u32, up: u32) -> bool
-        requires { IsTable self.now }
-        ensures { result ≡ lies_in (table_entries self.now) steps dir up }
-    {
-        let mut at = dir;
-        let mut left = steps;
-        while at != up {
-            if left == 0 {
-                return false;
-            }
-            let Some(row) = self.row(at) else {
-                return false;
-            };
-            at = row.parent;
-            left -= 1;
-        }
-        true
-    }
-
-    /// The number of items.
-    fn item_count(&self) -> usize
-        requires { IsTable self.now }
-        ensures { result ≡ length (table_entries self.now) }
-    {
-        self.by_id.len()
-    }
-
-    /// Whether moving the item there would put it into itself.
-    #[tactic(auto, unfolding(hfs_model::specs::Choices::is_bad_move))]
-    fn is_bad_move(&self, id: u32, row: &Row, dir: u32) -> bool
-        requires { IsTable self.now }
-        ensures { result ≡ moves_into_itself self.now id row.now dir }
-    {
-        match &row.kind {
-            RowKind::Folder { .. } => self.lies_in(self.item_count(), dir, id),
-            RowKind::File(_) => false,
-        }
-    }
-
-    #[tactic(auto, unfolding(hfs_model::specs::Choices::to_move))]
-    pub(crate) fn to_move(&self, dir: u32, name: &[u8], new_dir: u32) -> Result<Found<'_>, i16>
-        requires { IsTable self.now }
-        ensures choice { Chooses self.now (λ v. to_move v dir name.now new_dir) result }
-        ensures found { IfOk result (IsFound self.now) }
-    {
-        let found = match self.child_to_change(dir, name) {
-            Ok(found) => found,
-            Err(code) => return Err(code),
-        };
-        if !self.is_folder(new_dir) {
-            return Err(NOT_A_FOLDER);
-        }
-        if self.is_bad_move(found.id, found.row, new_dir) {
-            return Err(BAD_MOVE);
-        }
-        let Some(name) = Name::new(name) else {
-            unreachable!()
-        };
-        if self.is_held(new_dir, &name) {
-            return Err(DUPLICATE);
-        }
-        if self.is_full(new_dir) {
-            return Err(FOLDER_FULL);
-        }
-        Ok(found)
-    }
-
-    /// Whether the folder with that ID has no room for another child.
-    #[tactic(auto, unfolding(hfs_model::specs::Choices::is_full))]
-    fn is_full(&self, dir: u32) -> bool
-        requires table { IsTable self.now }
-        requires folder { is_folder (table_entries self.now) dir ≡ true }
-        ensures { result ≡ is_full (table_entries self.now) dir }
-    {
-        match self.row(dir) {
-            Some(row) => match &row.kind {
-                RowKind::Folder { children, .. } => *children >= 65535,
-                RowKind::File(_) => unreachable!(),
-            },
-            None => unreachable!(),
-        }
-    }
-
-    /// Whether the folder holds an item of that name.
-    #[tactic(auto, unfolding(hfs_model::specs::Choices::is_held))]
-    fn is_held(&self, dir: u32, name: &Name) -> bool
-        requires { IsTable self.now }
-        ensures { result ≡ is_held (table_entries self.now) dir name.now }
-    {
-        self.child(dir, name).is_some()
-    }
-
-    /// The ID that a new item gets.
-    #[tactic(auto, unfolding(hfs_model::specs::Choices::to_create), using(crate::proofs::Created::not_held, crate::proofs::Created::has_room))]
-    pub(crate) fn to_create(&self, dir: u32, name: &[u8]) -> Result<u32, i16>
-        requires { IsTable self.now }
-        ensures choice { to_create (volume_of self.now) dir name.now ≡ result }
-        ensures may { OnOk result (MayAdd self.now dir name.now) }
-        ensures id { IfOk result (λ id. id ≡ self.now.next_id) }
-        ensures named { OnOk result (IsTrue (is_item_name name.now)) }
-    {
-        if self.is_locked() {
-            return Err(self.lock_code());
-        }
-        let Some(name) = Name::new(name) else {
-            return Err(BAD_NAME);
-        };
-        if !self.is_folder(dir) {
-            return Err(NOT_A_FOLDER);
-        }
-        if self.is_held(dir, &name) {
-            return Err(DUPLICATE);
-        }
-        if self.is_full(dir) || self.next_id == 4294967295 {
-            return Err(FOLDER_FULL);
-        }
-        Ok(self.next_id)
     }
 }

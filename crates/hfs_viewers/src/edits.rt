@@ -15,6 +15,7 @@ use crate::extents::Extents;
 use crate::place::Place;
 use crate::row::{Row, RowFile, RowFork, RowKind};
 use hfs_fields::{FileFlags, Name};
+use hfs_model::ItemSettings;
 use std::alloc::{AllocError, Global};
 use std::collections::BTreeMap;
 
@@ -28,21 +29,14 @@ pub fn set_finder(rows: &mut BTreeMap<u32, Row>, id: u32, info: &[u8; 16])
 }
 
 /// Sets a row's dates and Finder bytes.
-pub fn set_info(
-    rows: &mut BTreeMap<u32, Row>,
-    id: u32,
-    created: u32,
-    modified: u32,
-    backup: u32,
-    info: [u8; 32],
-)
-    ensures { Writes (with_info created modified backup info) id rows.old rows.new }
+pub fn set_info(rows: &mut BTreeMap<u32, Row>, id: u32, settings: &ItemSettings)
+    ensures { Writes (with_info settings.now) id rows.old rows.new }
 {
     if let Some(row) = rows.get_mut(&id) {
-        row.created = created;
-        row.modified = modified;
-        row.backup = backup;
-        row.finder = info;
+        row.created = settings.created;
+        row.modified = settings.modified;
+        row.backup = settings.backup;
+        row.finder = settings.info;
     }
 }
 

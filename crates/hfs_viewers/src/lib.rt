@@ -24,10 +24,12 @@ mod opening;
 mod piece;
 mod piece_list;
 mod place;
+mod place_choices;
 mod reading;
 mod row;
 mod rows;
 mod table;
+mod table_forks;
 mod threads;
 mod writing_forks;
 

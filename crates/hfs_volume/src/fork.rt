@@ -31,6 +31,14 @@ fn part_reply(bytes: Vec<u8>, length: u32, offset: u32, count: u32) -> Reply
     }
 }
 
+/// One of a file's forks: the file's ID, which of its forks, and what the file's record says about it.
+#[derive(Clone, Copy)]
+pub(crate) struct FileFork {
+    pub file: u32,
+    pub kind: ForkKind,
+    pub record: ForkRecord,
+}
+
 /// At most `count` bytes of a file's fork, starting at an offset, with -39 if the fork ends before `count` of them. Reads only
 /// the blocks that have one of these bytes. Fails only when out of memory.
 pub(crate) fn read_part<B: Blocks, N: Nodes>(
@@ -38,23 +46,24 @@ pub(crate) fn read_part<B: Blocks, N: Nodes>(
     blocks: &B,
     mdb: &Mdb,
     tree: &N,
-    file: u32,
-    kind: ForkKind,
-    fork: &ForkRecord,
+    fork: &FileFork,
     offset: u32,
     count: u32,
 ) -> Result<Reply, AllocError>
     requires area { HasArea mdb.now (B.total blocks.now) }
     requires whole_size { mdb.now.allocation_block_size % 512 ≡ 0 }
     requires tree { IsExtentsTree (N.nodes tree.now) }
-    requires fork { IsForkOf mdb.now (N.nodes tree.now) file kind fork.now }
+    requires fork { IsForkOf mdb.now (N.nodes tree.now)
+        fork.now.file fork.now.kind fork.now.record }
     ensures { IfOk result (λ reply. reply ≡ part_of
-        (bytes_of_fork (B.blocks blocks.now) mdb.now (N.nodes tree.now) file kind fork.now)
+        (bytes_of_fork (B.blocks blocks.now) mdb.now (N.nodes tree.now)
+        fork.now.file fork.now.kind fork.now.record)
         offset count) }
 {
-    let extents = fork_extents(alloc, tree, file, kind, &fork.extents)?;
-    let bytes = read_fork(alloc, blocks, mdb, &extents, fork.length, offset, count)?;
-    Ok(part_reply(bytes, fork.length, offset, count))
+    let record = &fork.record;
+    let extents = fork_extents(alloc, tree, fork.file, fork.kind, &record.extents)?;
+    let bytes = read_fork(alloc, blocks, mdb, &extents, record.length, offset, count)?;
+    Ok(part_reply(bytes, record.length, offset, count))
 }
 
 /// What a file's record says about one of its forks.

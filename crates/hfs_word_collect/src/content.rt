@@ -12,6 +12,7 @@ ghost use Rattle.hfs_word_collect.specs.Volumes.{all_volume_rows, volume_rows_fr
 use crate::counts::ImageCounts;
 use crate::fault::CollectFault;
 use crate::giving_volumes::{give_lost, give_range};
+use crate::places::FoundVolume;
 use crate::source::ImageFile;
 use hfs_bag::{ImagePart, PickedImage, find_contents};
 use hfs_database::RowTaker;
@@ -44,11 +45,12 @@ fn give_volumes<S: PlacedBytes + Drop, K: PickedImage, F: ImageFile<S, K>, T: Ro
 {
     let mut counts = ImageCounts::none();
     for i in 0..ranges.len() {
-        let number = i as u64 + 1;
-        let found = &ranges[i];
-        let more = give_range::<S, K, F, T>(
-            alloc, taker, file, layout, others, number, found, taken,
-        )?;
+        let volume = FoundVolume {
+            number: i as u64 + 1,
+            others,
+            found: ranges[i],
+        };
+        let more = give_range::<S, K, F, T>(alloc, taker, file, layout, volume, taken)?;
         let Some(sum) = counts.with(more) else {
             return Err(CollectFault::NoMemory);
         };

@@ -150,27 +150,37 @@ fn give_remains<S: PlacedBlocks + Drop, T: RowTaker>(
     give_remaining(alloc, taker, source, &found, &finds.items, taken)
 }
 
-/// Gives the row of a refused volume of which this was found, and those of what remains of it, and returns how many files are
-/// among the latter.
+/// What is known of a refused volume of which something was found.
+#[derive(Drop)]
+struct FoundRemains<'a> {
+    /// Why it is refused.
+    why: MountFault,
+    finds: &'a Finds,
+    /// How many bytes may be taken of all forks.
+    limit: u64,
+}
+
+/// Gives the row of a refused volume of which something was found, and those of what remains of it, and returns how many files
+/// are among the latter.
 #[tactic(auto, using(crate::proofs::FailingReads::read_told_on, crate::proofs::FailingReads::fault_means))]
 fn give_found<S: PlacedBlocks + Drop, T: RowTaker>(
     alloc: Global,
     taker: &mut T,
     source: &mut SeenBlocks<S>,
     place: &VolumePlace,
-    why: MountFault,
-    finds: &Finds,
-    limit: u64,
+    remains: &FoundRemains<'_>,
     taken: bool,
 ) -> Result<FileCounts, CollectFault>
     ensures whole { OnOk result (OfEach (S.Holds source.new.blocks) (λ image.
-        IsFoundOf finds.now limit image → T.given taker.new
-        ≡ T.given taker.old ++ rows_found taken place.now why finds.now image)) }
+        IsFoundOf remains.now.finds.now remains.now.limit image → T.given taker.new
+        ≡ T.given taker.old ++ rows_found taken place.now remains.now.why
+        remains.now.finds.now image)) }
     ensures part { OnErr result (OfEach (S.Holds source.new.blocks) (λ image.
-        IsFoundOf finds.now limit image → IsBeginning (T.given taker.new)
-        (T.given taker.old ++ rows_found taken place.now why finds.now image))) }
+        IsFoundOf remains.now.finds.now remains.now.limit image → IsBeginning (T.given taker.new)
+        (T.given taker.old ++ rows_found taken place.now remains.now.why
+        remains.now.finds.now image))) }
     ensures counted { IfOk result (λ counts. OfEach (S.Holds source.new.blocks) (λ image.
-        IsFoundOf finds.now limit image → counts ≡ files_by image (Some finds.now.mdb))) }
+        IsFoundOf remains.now.finds.now remains.now.limit image → counts ≡ files_by image (Some remains.now.finds.now.mdb))) }
     ensures narrows { OfEach (S.Holds source.new.blocks) (S.Holds source.old.blocks) }
     ensures failed { IfErr result (IsFaultOf (SomeFail (S.Holds source.new.blocks)
         (S.Fails source.old.blocks))) }
@@ -178,9 +188,9 @@ fn give_found<S: PlacedBlocks + Drop, T: RowTaker>(
     ensures reference { T.reference taker.new ≡ T.reference taker.old }
     ensures place { T.place taker.new ≡ T.place taker.old }
 {
-    let directory = Some(finds.mdb);
-    give_volume_row(alloc, taker, place, Some(why), &directory)?;
-    give_remains(alloc, taker, source, finds, limit, taken)
+    let directory = Some(remains.finds.mdb);
+    give_volume_row(alloc, taker, place, Some(remains.why), &directory)?;
+    give_remains(alloc, taker, source, remains.finds, remains.limit, taken)
 }
 
 /// How many bytes are taken of a refused image's forks by default: none if nothing is found of it.
@@ -222,7 +232,8 @@ pub(crate) fn give_refused<S: PlacedBlocks + Drop, T: RowTaker>(
     let (source, found) = (&mut image.source, &image.found);
     match found {
         Some(finds) => {
-            let counts = give_found(alloc, taker, source, place, why, finds, limit, taken)?;
+            let remains = FoundRemains { why, finds, limit };
+            let counts = give_found(alloc, taker, source, place, &remains, taken)?;
             Ok(ImageCounts::refused(counts))
         }
         None => {
@@ -262,7 +273,8 @@ pub(crate) fn give_where_found<S: PlacedBlocks + Drop, T: RowTaker>(
     let (source, found) = (&mut image.source, &image.found);
     match found {
         Some(finds) => {
-            let counts = give_found(alloc, taker, source, place, why, finds, limit, taken)?;
+            let remains = FoundRemains { why, finds, limit };
+            let counts = give_found(alloc, taker, source, place, &remains, taken)?;
             Ok(ImageCounts::refused(counts))
         }
         None => Ok(ImageCounts::none()),

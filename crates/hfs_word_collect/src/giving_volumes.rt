@@ -20,7 +20,7 @@ use crate::fault::CollectFault;
 use crate::giving::give_items;
 use crate::giving_remains::{give_refused, give_volume_row, give_where_found};
 use crate::noted::sum_of;
-use crate::places::VolumePlace;
+use crate::places::{FoundVolume, VolumePlace};
 use crate::source::ImageFile;
 use hfs_bag::{ImagePart, PickedImage};
 use hfs_database::RowTaker;
@@ -122,33 +122,30 @@ fn alone(found: &FoundRange) -> FoundRange
     }
 }
 
-/// Where the volume with this number that was found in an image lies. All bytes of a disk copy are read, to say whether its sum
-/// is right.
-#[tactic(auto, using(crate::proofs::FailingReads::unopened_fault))]
+/// Where a volume that was found in an image lies. All bytes of a disk copy are read, to say whether its sum is right.
 fn place_in<S: PlacedBytes + Drop, K: PickedImage, F: ImageFile<S, K>>(
     file: &mut F,
     layout: Layout,
-    others: u64,
-    number: u64,
-    found: &FoundRange,
+    volume: FoundVolume,
 ) -> Result<VolumePlace, CollectFault>
     ensures place { IfOk result (λ place. F.Holds file.new K.image
-        → place ≡ place_in others number found.now (content_of layout K.image)) }
-    ensures range { IfOk result (λ place. place.range ≡ found.now.range) }
+        → place ≡ place_in volume.others volume.number volume.found
+        (content_of layout K.image)) }
+    ensures range { IfOk result (λ place. place.range ≡ volume.found.range) }
     ensures held { OfEach (F.Holds file.new) (F.Holds file.old) }
     ensures failed { IfErr result (IsFaultOf (SomeFailOf (F.Holds file.new K.image
-        × LiesIn found.now.range (content_of layout K.image))
+        × LiesIn volume.found.range (content_of layout K.image))
         (length K.image) (F.Fails file.old))) }
     ensures later { FailsWhere (F.Fails file.new) (F.Fails file.old) }
 {
     let source = file.open()?;
-    let Some(part) = ImagePart::<S, K>::range(source, layout, found.range) else {
+    let Some(part) = ImagePart::<S, K>::range(source, layout, volume.found.range) else {
         return Err(CollectFault::ReadFailed);
     };
-    let (part, sum) = sum_of(part, &alone(found));
+    let (part, sum) = sum_of(part, &alone(&volume.found));
     file.note(part.source());
     match sum {
-        Ok(sum) => Ok(VolumePlace::of(others, number, found, sum)),
+        Ok(sum) => Ok(VolumePlace::of(volume.others, volume.number, &volume.found, sum)),
         Err(fault) => Err(CollectFault::from(fault)),
     }
 }
@@ -161,27 +158,27 @@ pub(crate) fn give_range<S: PlacedBytes + Drop, K: PickedImage, F: ImageFile<S, 
     taker: &mut T,
     file: &mut F,
     layout: Layout,
-    others: u64,
-    number: u64,
-    found: &FoundRange,
+    volume: FoundVolume,
     taken: bool,
 ) -> Result<ImageCounts, CollectFault>
     ensures whole { OnOk result (F.Holds file.new K.image → T.given taker.new ≡ T.given taker.old
-        ++ range_rows taken others number found.now (content_of layout K.image)) }
+        ++ range_rows taken volume.others volume.number volume.found
+        (content_of layout K.image)) }
     ensures part { OnErr result (F.Holds file.new K.image → IsBeginning (T.given taker.new)
         (T.given taker.old
-        ++ range_rows taken others number found.now (content_of layout K.image))) }
+        ++ range_rows taken volume.others volume.number volume.found
+        (content_of layout K.image))) }
     ensures counted { IfOk result (λ counts. F.Holds file.new K.image
-        → counts ≡ range_counts found.now (content_of layout K.image)) }
+        → counts ≡ range_counts volume.found (content_of layout K.image)) }
     ensures held { OfEach (F.Holds file.new) (F.Holds file.old) }
     ensures failed { IfErr result (IsFaultOf (SomeFailOf (F.Holds file.new K.image
-        × LiesIn found.now.range (content_of layout K.image))
+        × LiesIn volume.found.range (content_of layout K.image))
         (length K.image) (F.Fails file.old))) }
     ensures later { FailsWhere (F.Fails file.new) (F.Fails file.old) }
     ensures reference { T.reference taker.new ≡ T.reference taker.old }
     ensures place { T.place taker.new ≡ T.place taker.old }
 {
-    let place = place_in::<S, K, F>(file, layout, others, number, found)?;
+    let place = place_in::<S, K, F>(file, layout, volume)?;
     let counts = give_volume::<S, K, F, T>(alloc, taker, file, layout, &place, taken)?;
     Ok(counts.lying(place.way))
 }

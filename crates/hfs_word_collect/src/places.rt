@@ -26,6 +26,16 @@ pub(crate) struct VolumePlace {
     pub(crate) range: ByteRange,
 }
 
+/// A volume that was found in a file, before it is known whether its sum is right.
+#[derive(Clone, Copy)]
+pub(crate) struct FoundVolume {
+    /// Its number, counted from 1.
+    pub(crate) number: u64,
+    /// How many sectors of its image have no user data, if they are raw CD sectors; else 0.
+    pub(crate) others: u64,
+    pub(crate) found: FoundRange,
+}
+
 /// How a volume that was found lies in its file, given whether its sum is right.
 fn way_of(container: Container, sum: Option<bool>) -> Way
     ensures { result ≡ way_of container sum }

@@ -10,8 +10,8 @@ pub returns-clause-written : goal.returns-clause-written
 returns-clause-written g c =
     let below = g.B.Blocks.blocks c.args.blocks.now in
     let none = ap (λ (p : Numbered). all_bytes (over (changes p) below) c.args.mdb.now c.args.extents.now) c.new-patch.ensures in
-    let first = c.in_ok-clear_part.ensures.written ∙ ap (λ bytes. with_part c.args.offset (zeros c.args.front) bytes) none in
-    c.in_ok-clear_part-2.ensures.written ∙ ap (λ bytes. with_part c.args.back (zeros (c.args.end - c.args.back)) bytes) first
+    let first = c.in_ok-clear_part.ensures.written ∙ ap (λ bytes. with_part c.args.zeros_at.offset (zeros c.args.zeros_at.front) bytes) none in
+    c.in_ok-clear_part-2.ensures.written ∙ ap (λ bytes. with_part c.args.zeros_at.back (zeros (c.args.zeros_at.end - c.args.zeros_at.back)) bytes) first
 
 pub returns-clause-within : goal.returns-clause-within
 returns-clause-within g c =

@@ -17,7 +17,7 @@ returns-in_err-counts-clause-part g c =
     let content = content_of c.args.layout image in
     let old = g.T.RowTaker.given c.args.taker.now in
     let new = g.T.RowTaker.given c.give_volume.new.taker in
-    let part : g.F.ImageFile.Holds c.give_volume.new.file image → IsBeginning new (old ++ range_rows c.args.taken c.args.others c.args.number c.args.found.now content) =
+    let part : g.F.ImageFile.Holds c.give_volume.new.file image → IsBeginning new (old ++ range_rows c.args.taken c.args.volume.others c.args.volume.number c.args.volume.found content) =
     λ h. subst (λ (p : VolumePlace). IsBeginning new (old ++ volume_rows c.args.taken p (bytes_in p.range content))) (c.in_ok-place.ensures.place (c.in_err-counts.ensures.held image h))
     (c.in_err-counts.ensures.part h) in
     on_err _ _ part
@@ -42,6 +42,6 @@ returns-in_err-counts-clause-failed g c =
     let image = g.K.PickedImage.image in
     let content = content_of c.args.layout image in
     let Holds = g.F.ImageFile.Holds c.give_volume.new.file image in
-    picked_handed_on (Holds × LiesIn c.args.found.now.range content) (Holds × LiesIn c.in_ok-place.place.range content) (length image) (g.F.ImageFile.Fails c.place_in.new.file) (g.F.ImageFile.Fails c.args.file.now)
+    picked_handed_on (Holds × LiesIn c.args.volume.found.range content) (Holds × LiesIn c.in_ok-place.place.range content) (length image) (g.F.ImageFile.Fails c.place_in.new.file) (g.F.ImageFile.Fails c.args.file.now)
     c.from_residual-in_err-counts.result c.in_err-counts.field-0.0 (λ h. (h.0, subst (λ (range : ByteRange). LiesIn range content) (sym c.in_ok-place.ensures.range) h.1)) c.in_ok-place.ensures.later c.from_residual-in_err-counts.ensures.1
     c.in_err-counts.ensures.failed

@@ -9,7 +9,7 @@ use Rattle.hfs_bag.specs.Failing.{SomeFailOf}
 use Rattle.hfs_bag.proofs.Picking.{picked}
 use Rattle.hfs_word_collect.specs.Faults.{IsFaultOf}
 use Rattle.hfs_word_collect.specs.Volumes.{place_of}
-use Rattle.hfs_word_collect.proofs.FailingReads.{fault_of_sparse, part_picked, too_large}
+use Rattle.hfs_word_collect.proofs.FailingReads.{fault_of_sparse, part_picked, too_large, unopened_fault}
 use Rattle.hfs_word_collect.proofs.PartGiving.{looked_err, looked_ok}
 use Rattle.hfs_word_collect.proofs.giving_volumes.place_in.Goals as goal
 
@@ -21,27 +21,33 @@ own-sum found content sum is = is ∙ ap (sum_told found.container) (take-take f
 pub returns-in-Ok-clause-place : goal.returns-in-Ok-clause-place
 returns-in-Ok-clause-place g c = λ h.
     let image = g.K.PickedImage.image in
-    let found = c.args.found.now in
+    let found = c.args.volume.found in
     let content = content_of c.args.layout image in
     let own = bytes_in found.range content in
     c.of.ensures
-    ∙ ap (place_of c.args.others c.args.number found)
+    ∙ ap (place_of c.args.volume.others c.args.volume.number found)
     (own-sum found content c.in-Ok.sum
     (subst (λ (f : FoundRange). c.in-Ok.sum ≡ sum_told f.container (bytes_in f.range own)) c.alone.ensures
     (picked g.S.PlacedBytes.Holds image own c.sum_of-part.result.0 (λ bytes. c.in-Ok.sum ≡ sum_told c.alone.result.container (bytes_in c.alone.result.range bytes))
     (subst (λ s. g.S.PlacedBytes.Holds s image) c.source.ensures (c.note.ensures.noted image h))
     (λ bytes is. c.in-Some.ensures.range bytes (c.sum_of-part.ensures.held bytes is)) (looked_ok _ _ _ c.in-Ok.is c.sum_of-part.ensures.told))))
 
+pub returns-in_err-source-clause-failed : goal.returns-in_err-source-clause-failed
+returns-in_err-source-clause-failed g c =
+    let image = g.K.PickedImage.image in
+    unopened_fault (g.F.ImageFile.Holds c.open.new.self image × LiesIn c.args.volume.found.range (content_of c.args.layout image)) (length image) (g.F.ImageFile.Fails c.args.file.now)
+    c.from_residual.result c.in_err-source.field-0.0 c.in_err-source.ensures.failed c.from_residual.ensures.1
+
 pub returns-in_default-clause-failed : goal.returns-in_default-clause-failed
 returns-in_default-clause-failed g c =
     let image = g.K.PickedImage.image in
-    too_large (g.F.ImageFile.Holds c.open.new.self image × LiesIn c.args.found.now.range (content_of c.args.layout image)) c.args.layout image (g.F.ImageFile.Fails c.args.file.now)
+    too_large (g.F.ImageFile.Holds c.open.new.self image × LiesIn c.args.volume.found.range (content_of c.args.layout image)) c.args.layout image (g.F.ImageFile.Fails c.args.file.now)
     (λ h. c.in_default.ensures.none (c.in_ok-source.ensures.noted image h.0) h.1)
 
 pub returns-clause-failed : goal.returns-clause-failed
 returns-clause-failed g c =
     let image = g.K.PickedImage.image in
-    let Has = g.F.ImageFile.Holds c.note.new.self image × LiesIn c.args.found.now.range (content_of c.args.layout image) in
+    let Has = g.F.ImageFile.Holds c.note.new.self image × LiesIn c.args.volume.found.range (content_of c.args.layout image) in
     let Fails = SomeFailOf Has (length image) (g.F.ImageFile.Fails c.args.file.now) in
     subst (IsFaultOf Fails) (sym c.from.ensures)
     (fault_of_sparse Fails c.in-Err.fault

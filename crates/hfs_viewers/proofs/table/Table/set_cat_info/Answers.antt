@@ -12,6 +12,6 @@ returns-in-Err c = refused c.args.self.now _ c.to_set_cat_info.result c.in-Err.f
 pub returns : goal.returns
 unfolding set_cat_info
 returns c =
-    written c.args.self.now c.requires c.set_info.new.rows (with_info c.args.created c.args.modified c.args.backup c.args.info)
-    (λ (i : Item). record i { created = c.args.created; modified = c.args.modified; backup = c.args.backup; finder = c.args.info }) _ c.to_set_cat_info.result c.in-Ok.found c.args.now
+    written c.args.self.now c.requires c.set_info.new.rows (with_info c.args.settings.now)
+    (λ (i : Item). record i { created = c.args.settings.now.created; modified = c.args.settings.now.modified; backup = c.args.settings.now.backup; finder = c.args.settings.now.info }) _ c.to_set_cat_info.result c.in-Ok.found c.args.now
     c.to_set_cat_info.ensures.choice c.in-Ok.is c.in-Ok.ensures.found c.set_info.ensures (λ x. refl) (λ i. refl) (λ i. refl) (λ items q x h. h)

@@ -1,6 +1,6 @@
 -- No path is there.
 use Rattle.std.proofs.Common.{◌≡◌, ℕ, ◌≤◌, ◌-◌, None, length, slice_index_or}
-use Rattle.hfs_remains_places.proofs.paths.no_paths.Given as goal
+use Rattle.hfs_remains_places.proofs.placing.no_paths.Given as goal
 
 abbrev pub invariant-loop-paths : goal.invariant-loop-paths
 invariant-loop-paths l = record {
