@@ -1,13 +1,14 @@
 #!/usr/bin/env python3
-"""Runs `rt ci`, the kit's own gate, and keeps what it passes, as later kits do by themselves (where `rt` has `share_work`, it is `rt ci`).
+"""Runs `rt ci`, the kit's own gate, with several jobs for a proof that many others wait for: the chain of crates is long, and with a job
+each most processors are idle at its end. What passes is kept, so that it isn't proved again on this machine. Later kits keep it by
+themselves (where `rt` has `share_work`).
 
 Kit 13b begins from nothing each time, and takes a library's sum anew for each way through crates.txt that leads to it: 1.6 million
 sums here, some three hours, whatever is proved. Here each sum is taken once, as nothing may be edited while a gate runs, and a proof
 that passed on this machine isn't done again while all that it is made from is the same: the kit, HANDLES, the crate's line and files,
 and each library below it, sources and built form. What is kept lies in ${XDG_CACHE_HOME:-$HOME/.cache}/foyersage/proved by hard
 links, two results of each proof at most; nothing is kept where that folder can't be written or 15 GB aren't free. Programs and tests
-run each time. --anew takes nothing from there. A proof that many others wait for runs with several jobs: the chain of crates is long,
-and with a job each most processors are idle at its end. It uses names of the kit's own scripts (rt and rtlib), which may change.
+run each time. --anew takes nothing that was kept. It uses names of the kit's own scripts (rt and rtlib), which may change.
 
 scripts/ci.py [--anew]
 """
@@ -131,7 +132,7 @@ def in_lanes(tasks):
                 idle = lanes - sum(jobs for _, jobs in running.values())
                 if idle < 1:
                     break
-                jobs = 1 if key[1] == "edits" else min(MOST_JOBS, max(1, -(-lanes * behind[key] // lines), idle // (len(ready) - at)))
+                jobs = 1 if key[1] not in ("proof", "tests") else min(MOST_JOBS, max(1, -(-lanes * behind[key] // lines), idle // (len(ready) - at)))
                 left.remove(key)
                 running[pool.submit(tasks[key][3], given, jobs)] = key, jobs
             for it in wait(running, return_when=FIRST_COMPLETED).done:
@@ -141,8 +142,9 @@ def in_lanes(tasks):
 
 def main(*words):
     rt = load_rt()
+    rt.in_lanes = in_lanes
     if hasattr(rt, "share_work"):
-        os.execvp("rt", ["rt", "ci", *words])
+        return rt.main(["ci", *words])
     kept, prove = Kept("--anew" in words), rt.Crate.ci
     rt.rtlib.Crate.stamp = functools.lru_cache(None)(rt.rtlib.Crate.stamp)
     below = functools.lru_cache(None)(rt.rtlib.Crate.below)
@@ -158,7 +160,7 @@ def main(*words):
             kept.keep(crate, tests, key)
         return status
 
-    rt.Crate.ci, rt.in_lanes = ci, in_lanes
+    rt.Crate.ci = ci
     return rt.main(["ci"])
 
 
