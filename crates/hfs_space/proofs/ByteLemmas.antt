@@ -1,12 +1,12 @@
 -- Blocks whose bits stand in one byte of the bitmap.
-use Rattle.std.proofs.Common.{◌≡◌, ℕ, ◌+◌, ◌-◌, ◌/◌, ◌%◌, ◌<◌, ◌≤◌, Bool, true, false, List, inl, inr, sym, ap, ◌∙◌, arith}
+use Rattle.std.proofs.Common.{◌≡◌, ℕ, ◌+◌, ◌-◌, ◌*◌, ◌/◌, ◌%◌, ◌<◌, ◌≤◌, Bool, true, false, List, inl, inr, sym, ap, ◌∙◌, arith}
 use Rattle.std.specs.Prelude.{slice_index, ◌||◌, ◌==◌, nat_lt}
 use Rattle.std.specs.Int.{bit_at}
 use Rattle.std.proofs.lemmas.Nat.Bits.{bit_at-zero, bit_at_ones}
 use Rattle.std.proofs.lemmas.Bool.{and_from, lt-ltb, cases_lt, true≢false}
 use Rattle.hfs_fields.specs.declared.extent.Extent.{Extent}
 use Rattle.hfs_space.specs.Bitmap.{is_marked, is_used}
-use Rattle.hfs_space.specs.FreeRuns.{is_in, is_taken, meets}
+use Rattle.hfs_space.specs.FreeRuns.{AreFull, is_in, is_taken, meets}
 use Rattle.hfs_space.proofs.Counted.{is_in-outside}
 
 module _ (blocks : ℕ → List ℕ) (start first : ℕ) (bytes : List ℕ) (whole : first % 8 ≡ 0) (here : bytes ≡ blocks (start + first / 4096)) where
@@ -33,6 +33,16 @@ module _ (blocks : ℕ → List ℕ) (start first : ℕ) (bytes : List ℕ) (who
       bit-here k low high
       ∙ ap (λ b. bit_at b (7 - k % 4096 % 8) == 1) none
       ∙ ap (λ (x : ℕ). x == 1) (bit_at-zero (7 - k % 4096 % 8))
+
+-- the blocks of the first bytes of a block of the bitmap, if each of these is full
+pub bytes-used : (blocks : ℕ → List ℕ) (start first : ℕ) (bytes : List ℕ) → first % 4096 ≡ 0 → bytes ≡ blocks (start + first / 4096) → (count : ℕ) → count ≤ 512 → AreFull bytes count
+    → (k : ℕ) → first ≤ k → k < first + count * 8 → is_used blocks start k ≡ true
+bytes-used blocks start first bytes whole here count few full k low high =
+    let at = first + (k - first) / 8 * 8 in
+    let same : start + first / 4096 ≡ start + at / 4096 = omega (arith, whole, low, high, few) in
+    let place : at % 4096 / 8 ≡ (k - first) / 8 = omega (arith, whole, low, high, few) in
+    byte-used blocks start at bytes (omega (arith, whole)) (here ∙ ap blocks same) (ap (λ p. slice_index bytes p) place ∙ full ((k - first) / 8) (omega (arith, low, high))) k (omega (arith, low))
+    (omega (arith, low))
 
 pub taken-used : (used : ℕ → Bool) (e : Extent) (k : ℕ) → used k ≡ true → is_taken used e k ≡ true
 taken-used used e k is = ap (λ t. t || is_in e k) is

@@ -36,14 +36,19 @@ searched-bit used n count i free h few low true is next next-is =
 searched-bit used n count i free h few low false is next next-is =
     subst (λ k. IsSearched used n count (i + 1) k) (sym next-is) (h.0, running-free used n i free h.0 h.1 (sym is), h.2)
 
+pub searched-useds : (used : ℕ → Bool) (n count i free more : ℕ) → IsSearched used n count i free → free < count → i + more + 1 ≤ n → ((k : ℕ) → i ≤ k → k < i + more + 1 → used k ≡ true)
+    → IsSearched used n count (i + more + 1) 0
+searched-useds used n count i free more h few within all = (
+  h.0 ++ run_before i free,
+  running-useds used n i free h.0 more h.1 (omega (arith, within)) all,
+  All-append (IsShort count) h.0 (run_before i free) h.2 (short-before i free count few),
+)
+
 pub searched-used : (used : ℕ → Bool) (n count i free : ℕ) → IsSearched used n count i free → free < count → i + 8 ≤ n → ((k : ℕ) → i ≤ k → k < i + 8 → used k ≡ true)
     → IsSearched used n count (i + 8) 0
 searched-used used n count i free h few within all =
-    let next = running-useds used n i free h.0 7 h.1 (omega (arith, within)) (λ k low high. all k low (omega (arith, high))) in (
-      h.0 ++ run_before i free,
-      subst (λ k. IsRunning used n k 0 (h.0 ++ run_before i free)) (let e : i + 7 + 1 ≡ i + 8 = omega arith in e) next,
-      All-append (IsShort count) h.0 (run_before i free) h.2 (short-before i free count few),
-    )
+    subst (λ k. IsSearched used n count k 0) (let e : i + 7 + 1 ≡ i + 8 = omega arith in e)
+    (searched-useds used n count i free 7 h few (omega (arith, within)) (λ k low high. all k low (omega (arith, high))))
 
 pub searched-free : (used : ℕ → Bool) (n count i free : ℕ) → IsSearched used n count i free → ((k : ℕ) → i ≤ k → k < i + 8 → used k ≡ false) → IsSearched used n count (i + 8) (free + 8)
 searched-free used n count i free h none = (h.0, running-frees used n i free h.0 8 h.1 none, h.2)

@@ -1,5 +1,5 @@
 -- Runs of free allocation blocks. Blocks here are allocation blocks, counted from 0; `used` says which are in use.
-use Rattle.std.specs.Prelude.{◌≡◌, ℕ, ◌+◌, ◌-◌, ◌<◌, ◌≤◌, Bool, true, not, ◌&&◌, ◌||◌, ◌==◌, nat_le, nat_lt, if◌then◌else◌, List, [], ◌∷◌, ◌++◌, filter}
+use Rattle.std.specs.Prelude.{◌≡◌, ℕ, ◌+◌, ◌-◌, ◌<◌, ◌≤◌, Bool, true, not, ◌&&◌, ◌||◌, ◌==◌, nat_le, nat_lt, if◌then◌else◌, List, [], ◌∷◌, ◌++◌, filter, slice_index}
 use Rattle.std.specs.List.{All, range_with_len}
 use Rattle.hfs_fields.specs.declared.extent.Extent.{Extent}
 use Rattle.hfs_space.specs.Extents.{extent_blocks}
@@ -31,6 +31,10 @@ is_taken used e b = used b || is_in e b
 -- one of the eight blocks from `first` on may be the extent's
 abbrev pub meets : Extent → ℕ → Bool
 meets e first = nat_lt e.first (first + 8) && nat_lt first (e.first + e.count)
+
+-- each of the first `count` bytes of a block of the bitmap says of eight blocks that they are in use
+abbrev pub AreFull : List ℕ → ℕ → Type 0
+AreFull bytes count = (k : ℕ) → k < count → slice_index bytes k ≡ 255
 
 -- the run of `count` blocks directly before a block, if it has one
 abbrev pub run_before : ℕ → ℕ → List Extent

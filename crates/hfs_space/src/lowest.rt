@@ -7,7 +7,7 @@ ghost use Rattle.hfs_space.specs.FreeRuns as spec;
 
 use crate::Bitmap;
 use crate::free_run_lists::{is_taken, meets};
-use crate::rows::{BITS, turn_to};
+use crate::rows::BITS;
 use hfs_blocks::Blocks;
 use hfs_fields::Extent;
 
@@ -109,6 +109,62 @@ fn walk_byte<B: Blocks>(
     walk_bits(bitmap, bytes, taken, count, walked)
 }
 
+/// How many bytes in a row, at the beginning of a block of the bitmap and of at most so many, have no free block.
+fn full_bytes(bytes: &[u8; 512], most: u16) -> u16
+    requires { most ≤ 512 }
+    ensures within { result ≤ most }
+    ensures full { spec.AreFull bytes.now result }
+{
+    for i in 0..most {
+        if bytes[usize::from(i)] != 0xFF {
+            return i;
+        }
+    }
+    most
+}
+
+/// Goes through the blocks of a block of the bitmap, until `count` or more are free in a row: first at once through those before
+/// the first byte with a free one.
+fn walk_block<B: Blocks>(
+    bitmap: &Bitmap<'_, B>,
+    bytes: &[u8; 512],
+    taken: Extent,
+    count: u32,
+    walked: Walked,
+) -> Walked
+    requires whole { walked.end % 4096 ≡ 0 }
+    requires within { walked.end < bitmap.now.count }
+    requires here { bytes.now ≡ B.blocks bitmap.now.blocks.now
+        (bitmap.now.start + walked.end / 4096) }
+    requires few { walked.free < count }
+    requires searched { spec.IsSearched (spec.is_taken
+        (bits.is_used (B.blocks bitmap.now.blocks.now) bitmap.now.start) taken)
+        bitmap.now.count count walked.end walked.free }
+    ensures searched { spec.IsSearched (spec.is_taken
+        (bits.is_used (B.blocks bitmap.now.blocks.now) bitmap.now.start) taken)
+        bitmap.now.count count result.end result.free }
+    ensures within { result.end ≤ bitmap.now.count }
+    ensures all { result.free < count → result.end ≡ min bitmap.now.count (walked.end + 4096) }
+{
+    let most = (bitmap.count - walked.end).min(BITS);
+    let full = full_bytes(bytes, most / 8);
+    let mut passed = walked;
+    if full > 0 {
+        passed = Walked {
+            end: walked.end + full * 8,
+            free: 0,
+        };
+    }
+    let end = walked.end + most;
+    while passed.end < end {
+        passed = walk_byte(bitmap, bytes, taken, count, passed);
+        if u32::from(passed.free) >= count {
+            return passed;
+        }
+    }
+    passed
+}
+
 /// The first `count` blocks of the lowest run that has so many of the blocks that are free and aren't the extent's. The blocks that
 /// follow it aren't looked at.
 pub(crate) fn lowest_run<B: Blocks>(
@@ -124,9 +180,11 @@ pub(crate) fn lowest_run<B: Blocks>(
     }
     let mut walked = Walked { end: 0, free: 0 };
     let mut bytes = [0; 512];
-    for byte in 0..bitmap.count.div_ceil(8) {
-        turn_to(bitmap, 0, byte * 8, &mut bytes);
-        walked = walk_byte(bitmap, &bytes, taken, count, walked);
+    for block in 0..bitmap.count.div_ceil(BITS) {
+        bitmap
+            .blocks
+            .block(u32::from(bitmap.start) + u32::from(block), &mut bytes);
+        walked = walk_block(bitmap, &bytes, taken, count, walked);
         if u32::from(walked.free) >= count {
             return Some(Extent {
                 first: walked.end - walked.free,
