@@ -8,7 +8,7 @@ use Rattle.std.proofs.lemmas.List.Sums.{sum_by-cons}
 use Rattle.hfs_fields.specs.declared.extent.Extent.{Extent}
 use Rattle.hfs_space.specs.Extents.{block_total}
 use Rattle.hfs_space.specs.Choice.{AreBeside, IsLowest, free_count, some_of}
-use Rattle.hfs_space.specs.Pieces.{first_blocks, first_of, first_with, AreOfLongest, AreOfRuns}
+use Rattle.hfs_space.specs.Pieces.{first_blocks, first_with, AreOfLongest, AreOfRuns}
 use Rattle.hfs_space.specs.FreeRuns.{AreFreeRuns, IsRunning, IsSearched, run_before, is_taken}
 use Rattle.hfs_space.proofs.Chosen.{runs-total}
 use Rattle.hfs_space.proofs.Running.{running-free, running-used, running-frees, running-useds, running-all, running-none}

@@ -1,5 +1,5 @@
 -- The blocks so far are searched, and too few are free before the next one.
-use Rattle.std.proofs.Common.{◌≡◌, ◌+◌, ◌-◌, ◌/◌, ◌%◌, ◌<◌, ◌≤◌}
+use Rattle.std.proofs.Common.{◌≡◌, ◌-◌, ◌%◌, ◌<◌, ◌≤◌}
 use Rattle.hfs_space.specs.Bitmap.{is_used}
 use Rattle.hfs_space.specs.FreeRuns.{IsSearched, is_taken}
 use Rattle.hfs_space.proofs.lowest.walk_block.Given as goal
